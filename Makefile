@@ -70,12 +70,12 @@ LIBRARY ?= crates/fmp_c/out/libfmp_c.a
 GLUE ?= $(shell dirname "$$(dirname "$$(readlink -f "$$(command -v rt)")")")/c/liblibc_c.a
 C_ROOM ?= crates/fmp_c/out/c
 ARCHIVE = $(C_ROOM)/libfmp.a
-PORT = $(C_ROOM)/virtual.o $(C_ROOM)/coroutine.o
+PORT = $(patsubst port/%.c,$(C_ROOM)/%.o,$(wildcard port/*.c))
 
 .PHONY: library
 library: $(ARCHIVE)
 
-$(C_ROOM)/%.o: port/%.c port/coroutine.h $(wildcard port/include/*.h)
+$(C_ROOM)/%.o: port/%.c $(wildcard port/*.h port/include/*.h)
 	@mkdir -p $(C_ROOM)
 	@$(CC) -std=c11 -O2 -Iport/include -c $< -o $@
 
@@ -93,6 +93,7 @@ $(call $(1),644,$(ARCHIVE),lib/libfmp.a)
 $(call $(1),644,port/fmp.pc.in,lib/pkgconfig/fmp.pc)
 $(call $(1),644,port/include/fmp.h,include/fmp/fmp.h)
 $(call $(1),644,port/include/kernel.h,include/fmp/kernel.h)
+$(call $(1),644,port/include/program.h,include/fmp/program.h)
 $(call $(1),644,port/include/virtual.h,include/fmp/virtual.h)
 $(call $(1),644,docs/man/fmp.h.3,share/man/man3/fmp.h.3)
 endef

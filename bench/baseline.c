@@ -33,6 +33,7 @@ static struct queue ready[PRIORITIES];
 static unsigned ready_bits;
 static struct semaphore semaphores[2] = { { .most = 1 }, { .most = 1 } };
 static struct task tasks[2], *running;
+static struct coroutine outside;
 static int is_locked, holds_dispatch;
 static long made, count;
 
@@ -188,7 +189,7 @@ int main(int argc, char **argv)
             has_begun[at] = 1;
             coroutine_begin(&running->coroutine, bodies[at]);
         }
-        coroutine_enter(&running->coroutine);
+        coroutine_enter(&outside, &running->coroutine);
     }
     return 0;
 }

@@ -20,37 +20,44 @@
 #ifdef FMP_ADDRESS_SANITIZER
 #include <sanitizer/asan_interface.h>
 #include <sanitizer/common_interface_defs.h>
-static const void *outer_stack;
-static size_t outer_size;
-static void *outer_poisoned;
 
-static void arrive(void *poisoned, const void **from, size_t *size)
+/* In a coroutine: the stack that the thread came from is that of the thread. */
+static void arrive_inside(struct coroutine *it, void *poisoned)
 {
-    __sanitizer_finish_switch_fiber(poisoned, from, size);
+    const void *stack;
+    __sanitizer_finish_switch_fiber(poisoned, &stack, &it->outside->size);
+    it->outside->stack = stack;
 }
 
-static void depart(void **poisoned, const void *to, size_t size)
+static void arrive_outside(struct coroutine *outside)
 {
-    __sanitizer_start_switch_fiber(poisoned, to, size);
+    __sanitizer_finish_switch_fiber(outside->poisoned, NULL, NULL);
 }
 
-static void renew(void *stack, size_t size)
+static void depart(struct coroutine *from, const struct coroutine *to)
 {
-    __asan_unpoison_memory_region(stack, size);
+    __sanitizer_start_switch_fiber(&from->poisoned, to->stack, to->size);
+}
+
+static void renew(const struct coroutine *it)
+{
+    __asan_unpoison_memory_region(it->stack, it->size);
 }
 #else
-#define arrive(poisoned, from, size) ((void)0)
-#define depart(poisoned, to, size) ((void)0)
-#define renew(stack, size) ((void)0)
+#define arrive_inside(it, poisoned) ((void)0)
+#define arrive_outside(outside) ((void)0)
+#define depart(from, to) ((void)0)
+#define renew(it) ((void)0)
 #endif
 
-static void *outer_place;           /* where the driver goes on */
-static void (*next_entry)(void);    /* what the coroutine that is entered for the first time runs */
+static _Thread_local struct coroutine *entered;     /* by this thread, last */
 
+/* What a coroutine begins with. */
 static void first(void)
 {
-    arrive(NULL, &outer_stack, &outer_size);
-    next_entry();
+    struct coroutine *it = entered;
+    arrive_inside(it, NULL);
+    it->entry();
     abort();
 }
 
@@ -83,7 +90,7 @@ __asm__(".text\n"
 /* A stack that goes on at `first` as if it had been called: its pointer is then 8 off a multiple of 16. */
 static void prepare(struct coroutine *it)
 {
-    uintptr_t *top = (uintptr_t *)(void *)(it->stack + it->size);
+    uintptr_t *top = (uintptr_t *)((uintptr_t)it->stack + it->size);
     top[-1] = 0;
     top[-2] = (uintptr_t)first;
     for (int at = 3; at <= 8; at++) {
@@ -92,50 +99,28 @@ static void prepare(struct coroutine *it)
     it->place = top - 8;
 }
 
-static bool take_place(struct coroutine *it)
-{
-    (void)it;
-    return true;
-}
-
-static void drop_place(struct coroutine *it)
-{
-    it->place = NULL;
-}
-
 #else
 
 #include <ucontext.h>
 
+/* The context of who goes is on its stack, which stays as it is until it comes back. */
 static void fmp_switch(void **from, void *to)
 {
-    static ucontext_t outer;
-    if (from == &outer_place) {
-        *from = &outer;
-    }
-    swapcontext(*from, to);
+    ucontext_t here;
+    *from = &here;
+    swapcontext(&here, to);
 }
 
-static bool take_place(struct coroutine *it)
-{
-    it->place = malloc(sizeof(ucontext_t));
-    return it->place != NULL;
-}
-
+/* The context that it begins with is at the top of its stack. */
 static void prepare(struct coroutine *it)
 {
-    ucontext_t *context = it->place;
+    ucontext_t *context = (ucontext_t *)(((uintptr_t)it->stack + it->size - sizeof *context) / 64 * 64);
     getcontext(context);
-    context->uc_stack.ss_sp = it->stack;
-    context->uc_stack.ss_size = it->size;
+    context->uc_stack.ss_sp = (void *)(uintptr_t)it->stack;
+    context->uc_stack.ss_size = (uintptr_t)context - (uintptr_t)it->stack;
     context->uc_link = NULL;
     makecontext(context, first, 0);
-}
-
-static void drop_place(struct coroutine *it)
-{
-    free(it->place);
-    it->place = NULL;
+    it->place = context;
 }
 
 #endif
@@ -146,7 +131,7 @@ static size_t page_size(void)
 }
 
 /* A stack in whole pages, with a page below it that none may touch. */
-static bool take_stack(struct coroutine *it, size_t size)
+bool coroutine_take(struct coroutine *it, size_t size)
 {
     size_t page = page_size();
     size = (size + page - 1) / page * page;
@@ -163,46 +148,40 @@ static bool take_stack(struct coroutine *it, size_t size)
     return true;
 }
 
-bool coroutine_take(struct coroutine *it, size_t size)
-{
-    if (!take_place(it)) {
-        return false;
-    }
-    if (!take_stack(it, size)) {
-        drop_place(it);
-        return false;
-    }
-    return true;
-}
-
 void coroutine_begin(struct coroutine *it, void (*entry)(void))
 {
-    renew(it->stack, it->size);
-    it->poisoned = NULL;
+    renew(it);
+    it->entry = entry;
     prepare(it);
-    next_entry = entry;
 }
 
-void coroutine_enter(struct coroutine *it)
+void coroutine_enter(struct coroutine *outside, struct coroutine *it)
 {
-    depart(&outer_poisoned, it->stack, it->size);
-    fmp_switch(&outer_place, it->place);
-    arrive(outer_poisoned, NULL, NULL);
+    it->outside = outside;
+    entered = it;
+    depart(outside, it);
+    fmp_switch(&outside->place, it->place);
+    arrive_outside(outside);
 }
 
 void coroutine_leave(struct coroutine *it)
 {
-    depart(&it->poisoned, outer_stack, outer_size);
-    fmp_switch(&it->place, outer_place);
-    arrive(it->poisoned, &outer_stack, &outer_size);
+    depart(it, it->outside);
+    fmp_switch(&it->place, it->outside->place);
+    arrive_inside(it, it->poisoned);
+}
+
+bool coroutine_overflows(const struct coroutine *it, const void *address)
+{
+    uintptr_t low = (uintptr_t)it->stack, at = (uintptr_t)address;
+    return it->stack != NULL && low - page_size() <= at && at < low;
 }
 
 void coroutine_free(struct coroutine *it)
 {
     if (it->stack != NULL) {
-        renew(it->stack, it->size);
-        munmap(it->stack - page_size(), it->size + page_size());
-        drop_place(it);
+        renew(it);
+        munmap((void *)((uintptr_t)it->stack - page_size()), it->size + page_size());
         it->stack = NULL;
     }
 }

@@ -1,13 +1,16 @@
-/* coroutine.h: functions with stacks of their own, which one thread enters and which leave to it. */
+/* coroutine.h: functions with stacks of their own, which threads enter and which leave to the thread that they are in. */
 #ifndef FMP_COROUTINE_H
 #define FMP_COROUTINE_H
 
 #include <stdbool.h>
 #include <stddef.h>
 
+/* A coroutine, or what a thread keeps of itself while it is in one. It begins as zeros. */
 struct coroutine {
     void *place;                /* where it goes on: its stack pointer, or its context */
-    unsigned char *stack;       /* NULL while it has none */
+    void (*entry)(void);
+    struct coroutine *outside;  /* of the thread that is in it */
+    const unsigned char *stack; /* NULL while it has none */
     size_t size;
     void *poisoned;             /* what a sanitizer keeps of its stack */
 };
@@ -15,14 +18,17 @@ struct coroutine {
 /* Takes a stack of at least this many bytes for it, which has none. False if memory runs out. */
 bool coroutine_take(struct coroutine *, size_t size);
 
-/* Lets it begin with this function, on its stack, which is empty then. It is entered before another one begins. */
+/* Lets it begin with this function, on its stack, which is empty then. */
 void coroutine_begin(struct coroutine *, void (*entry)(void));
 
-/* Goes on with it until it leaves. */
-void coroutine_enter(struct coroutine *);
+/* The thread keeps its own place outside, and goes on with the coroutine until it leaves. */
+void coroutine_enter(struct coroutine *outside, struct coroutine *);
 
-/* Goes back to where it was entered. Returns when it is entered again. */
+/* Goes back to where it was entered. Returns when it is entered again, by whichever thread. */
 void coroutine_leave(struct coroutine *);
+
+/* Whether an address is in the page below its stack, which none may touch. */
+bool coroutine_overflows(const struct coroutine *, const void *address);
 
 /* Gives its stack back, if it has one. */
 void coroutine_free(struct coroutine *);

@@ -58,9 +58,9 @@ compiled() {
         "$@" $strict -c "$source" -o "$kind/$(basename "$source" .c).o" 2> errors ||
             verdict "$kind: $(basename "$source")" "it does not compile: $(head -c 300 errors)"
     done
-    ar rc "$kind/libport.a" "$kind/virtual.o" "$kind/coroutine.o" "$kind/replaying.o"
+    ar rc "$kind/libport.a" "$kind/system.o" "$kind/virtual.o" "$kind/coroutine.o" "$kind/replaying.o"
     for object in "$kind"/*.o; do
-        case $object in */virtual.o | */coroutine.o | */replaying.o) continue ;; esac
+        case $object in */system.o | */virtual.o | */coroutine.o | */replaying.o) continue ;; esac
         "$@" "$object" "$kind/libport.a" "$library" "$glue" -o "${object%.o}" 2> errors ||
             verdict "$kind: $(basename "$object")" "it does not link: $(head -c 300 errors)"
     done

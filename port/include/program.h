@@ -1,0 +1,59 @@
+/* program.h: programs of C tasks and handlers, which virtual.h runs in virtual time, and live.h in real time. */
+#ifndef FMP_PROGRAM_H
+#define FMP_PROGRAM_H
+
+#include <stddef.h>
+#include <stdint.h>
+#include <stdio.h>
+
+#ifdef __cplusplus
+extern "C" {
+#endif
+
+/* A body that the configuration names, and its function. */
+struct fmp_body {
+    const char *name;
+    void (*run)(intptr_t exinf);
+};
+
+struct fmp_program {
+    const struct fmp_body *bodies;
+    size_t count;
+    unsigned long polls;    /* in virtual time: after how many in one step a body keeps its place; 0: 1,000,000 */
+};
+
+enum fmp_opened {
+    FMP_OPENED,
+    FMP_CONFIGURATION_REFUSED,
+    FMP_BODY_MISSING,
+    FMP_MEMORY_OUT,
+    FMP_ALREADY_OPEN
+};
+
+/*
+ * The system of a configuration after setup. The trace goes to `trace`; NULL: none is printed. `messages` is told what
+ * is wrong with the configuration, and each body that it names for which there is no function. One system is open at a
+ * time.
+ *
+ * All memory is taken here. A task has a stack of the size that the configuration gives it and 64 KB more, for the
+ * library and the C library, and the handlers of a processor one of 64 KB. A task or a handler that overflows its stack
+ * ends the program.
+ */
+enum fmp_opened fmp_open(const char *text, size_t length, const struct fmp_program *, FILE *trace, FILE *messages);
+
+/*
+ * From now on each event that is done is written there, a line for each, with the call that was handed in; NULL: no
+ * longer. Whole lines are written at a time: all are written at the next fmp_record, and at fmp_close.
+ */
+void fmp_record(FILE *recording);
+
+/* The states of the tasks, a line for each, as at the end of a simulation. */
+void fmp_print_states(FILE *);
+
+void fmp_close(void);
+
+#ifdef __cplusplus
+}
+#endif
+
+#endif

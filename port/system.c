@@ -1,0 +1,470 @@
+/* system.c: the system at hand, its bodies and their events. */
+#include "system.h"
+
+#include "kernel.h"
+
+#include <stdlib.h>
+#include <string.h>
+
+enum { PROCESSORS = 8, TASKS = 255, CYCLICS = 255, INTERRUPTS = 32, SERVICES = 59 };
+enum { LINE_ROOM = 128, LINES_ROOM = 64 << 10, EVENT_ROOM = 66432, SPARE_STACK = 64 << 10 };
+
+static const unsigned long USUAL_POLLS = 1000000;
+
+typedef void (*body_function)(intptr_t);
+
+fmp_system system_kernel = FMP_BLANK;
+uint32_t system_processors;
+unsigned long system_polls;
+const struct driver *system_driver;
+
+static struct flow tasks[TASKS];                        /* by numbers from 1 on, each one place lower */
+static struct flow handlers[PROCESSORS];
+static body_function cyclics[CYCLICS];
+static body_function interrupts[INTERRUPTS];
+static FILE *trace_file;                                /* NULL where nothing is printed */
+static FILE *recording_file;                            /* NULL where nothing is recorded */
+static uint8_t recorded[LINES_ROOM];                    /* whole lines that are not written yet */
+static size_t recorded_length;
+
+/* What the last event of each processor did. Those of `known`, by bits, still say who acts there. */
+static fmp_outcome last[PROCESSORS];
+static uint32_t known;
+
+/* Bodies. */
+
+static _Thread_local struct flow *running;              /* NULL outside bodies */
+
+/* A body may go on in another thread than before: where `running` is may not be kept over a call of it. */
+__attribute__((noinline)) static struct flow *inside(void)
+{
+    return running;
+}
+
+bool system_inside(void)
+{
+    return inside() != NULL;
+}
+
+_Noreturn static void leave_for_good(struct flow *me, enum wish wish)
+{
+    me->wish = wish;
+    system_driver->ask(me);
+    abort();
+}
+
+static void begin(void)
+{
+    struct flow *me = inside();
+    me->run(me->told.value);
+    leave_for_good(me, ENDS);
+}
+
+void system_enter(struct coroutine *outside, struct flow *flow)
+{
+    if (!flow->has_begun) {
+        coroutine_begin(&flow->coroutine, begin);
+        flow->has_begun = true;
+    }
+    running = flow;
+    coroutine_enter(outside, &flow->coroutine);
+    running = NULL;
+}
+
+ER fmp_service(uint8_t service, int32_t a, int32_t b, int32_t c, int32_t d, int32_t *value)
+{
+    struct flow *me = inside();
+    if (me == NULL) {
+        return E_CTX;
+    }
+    if (service == 0 || service > SERVICES) {
+        return E_RSFN;
+    }
+    me->service = service;
+    me->arguments[0] = a;
+    me->arguments[1] = b;
+    me->arguments[2] = c;
+    me->arguments[3] = d;
+    me->wish = CALLS;
+    system_driver->ask(me);
+    if (me->told.has_value) {
+        *value = me->told.value;
+    }
+    return me->told.code;
+}
+
+void fmp_stop(uint8_t fault)
+{
+    struct flow *me = inside();
+    if (me == NULL || fault < FMP_OVERFLOW || fault > FMP_INDEX) {
+        abort();
+    }
+    me->fault = fault;
+    leave_for_good(me, FAULTS);
+}
+
+void fmp_poll(void)
+{
+    struct flow *me = inside();
+    if (me != NULL) {
+        system_driver->poll(me);
+    }
+}
+
+/* Events. */
+
+static void print_lines(void)
+{
+    static uint8_t room[EVENT_ROOM];
+    if (trace_file == NULL) {
+        return;
+    }
+    fwrite(room, 1, fmp_print(&system_kernel, room, sizeof room), trace_file);
+}
+
+/* A body starts anew. What it was before is forgotten, and its stack is used again. */
+static void start(struct flow *flow)
+{
+    flow->has_begun = false;
+    flow->wish = GOES_ON;
+}
+
+static void begin_handler(const fmp_trace_line *line)
+{
+    struct flow *handler = &handlers[line->processor - 1];
+    handler->run = line->who == FMP_INTERRUPT ? interrupts[line->number - 1] : cyclics[line->number - 1];
+    start(handler);
+}
+
+static void follow_line(const fmp_trace_line *line)
+{
+    if (line->kind == FMP_LINE_STARTS) {
+        start(&tasks[line->number - 1]);
+    } else if (line->kind == FMP_LINE_BEGIN) {
+        begin_handler(line);
+    }
+}
+
+/* The bodies that start and the handlers that begin, as the lines of the last event say. */
+static void follow_lines(void)
+{
+    fmp_event_counts counts;
+    fmp_counts(&system_kernel, &counts);
+    for (size_t place = 0; place < counts.lines; place++) {
+        fmp_trace_line line;
+        fmp_line(&system_kernel, place, &line);
+        follow_line(&line);
+    }
+}
+
+void system_flush(void)
+{
+    if (recording_file != NULL) {
+        fwrite(recorded, 1, recorded_length, recording_file);
+        fflush(recording_file);
+    }
+    recorded_length = 0;
+}
+
+/* The recording: a line for each event that was done, with the call that was handed in. */
+static void record_event(void)
+{
+    if (recording_file == NULL) {
+        return;
+    }
+    if (recorded_length + LINE_ROOM > sizeof recorded) {
+        system_flush();
+    }
+    recorded_length += fmp_recorded(&system_kernel, recorded + recorded_length, LINE_ROOM);
+}
+
+void fmp_record(FILE *recording)
+{
+    system_flush();
+    recording_file = recording;
+}
+
+/* What follows an event that was done: its lines tell where others act now, but for its own processor. */
+static void finish(uint32_t changes)
+{
+    record_event();
+    known &= ~changes;
+    if (changes & (FMP_TASK_STARTS | FMP_HANDLER_BEGINS)) {
+        follow_lines();
+    }
+    print_lines();
+}
+
+static uint32_t bit_of(uint8_t p)
+{
+    return 1u << (p - 1);
+}
+
+const fmp_actor *system_acting(uint8_t p)
+{
+    if ((known & bit_of(p)) == 0) {
+        fmp_acting(&system_kernel, p, &last[p - 1].acting);
+        known |= bit_of(p);
+    }
+    return &last[p - 1].acting;
+}
+
+struct flow *system_flow(const fmp_actor *actor, uint8_t p)
+{
+    return actor->who == FMP_TASK ? &tasks[actor->number - 1] : &handlers[p - 1];
+}
+
+static uint32_t event_of(uint8_t p, const struct flow *flow)
+{
+    const int32_t *with = flow->arguments;
+    fmp_outcome *outcome = &last[p - 1];
+    switch (flow->wish) {
+    case CALLS:
+        return fmp_call(&system_kernel, p, flow->service, with[0], with[1], with[2], with[3], outcome);
+    case ENDS:
+        return fmp_end(&system_kernel, p, outcome);
+    case FAULTS:
+        return fmp_fault(&system_kernel, p, flow->fault, outcome);
+    case GOES_ON:
+    case KEEPS_ITS_PLACE:
+        break;
+    }
+    return FMP_KEPT;
+}
+
+uint32_t system_hand_in(uint8_t p, struct flow *flow, uint32_t *changes)
+{
+    uint32_t answer = event_of(p, flow);
+    if (answer == FMP_DONE) {
+        flow->wish = GOES_ON;
+        *changes = last[p - 1].changes;
+        finish(*changes);
+        known |= bit_of(p);
+    } else if (answer == FMP_KEPT) {
+        flow->wish = GOES_ON;
+    }
+    return answer;
+}
+
+static uint32_t finished(uint32_t answer, const fmp_outcome *outcome, uint32_t *changes)
+{
+    if (answer == FMP_DONE) {
+        *changes = outcome->changes;
+        finish(outcome->changes);
+    }
+    return answer;
+}
+
+uint32_t system_tick(uint32_t *changes)
+{
+    fmp_outcome outcome = { .changes = 0 };
+    return finished(fmp_tick(&system_kernel, &outcome), &outcome, changes);
+}
+
+uint32_t system_interrupt(uint8_t number, uint32_t *changes)
+{
+    fmp_outcome outcome = { .changes = 0 };
+    return finished(fmp_int(&system_kernel, number, &outcome), &outcome, changes);
+}
+
+/* Opening and closing. */
+
+static body_function function_of(const struct fmp_program *program, const char *name)
+{
+    for (size_t at = 0; at < program->count; at++) {
+        if (strcmp(program->bodies[at].name, name) == 0) {
+            return program->bodies[at].run;
+        }
+    }
+    return NULL;
+}
+
+/* The function of the body of a task or of a handler. Says its name where there is none. */
+static body_function find(const struct fmp_program *program, uint32_t kind, size_t number, FILE *messages)
+{
+    char name[NAME_ROOM] = { 0 };
+    fmp_body(&system_kernel, kind, number, (uint8_t *)name, NAME_ROOM - 1);
+    body_function run = function_of(program, name);
+    if (run == NULL) {
+        fprintf(messages, "fmp: there is no function for the body %s\n", name);
+    }
+    return run;
+}
+
+static bool find_all(const struct fmp_program *program, FILE *messages)
+{
+    bool all = true;
+    for (size_t task = 1; task <= fmp_count(&system_kernel, FMP_TASKS); task++) {
+        all &= (tasks[task - 1].run = find(program, FMP_TASKS, task, messages)) != NULL;
+    }
+    for (size_t cyclic = 1; cyclic <= fmp_count(&system_kernel, FMP_CYCLICS); cyclic++) {
+        all &= (cyclics[cyclic - 1] = find(program, FMP_CYCLICS, cyclic, messages)) != NULL;
+    }
+    for (size_t at = 1; at <= fmp_count(&system_kernel, FMP_INTERRUPTS); at++) {
+        uint32_t number = fmp_detail(&system_kernel, FMP_INTERRUPTS, at);
+        all &= (interrupts[number - 1] = find(program, FMP_INTERRUPTS, at, messages)) != NULL;
+    }
+    return all;
+}
+
+static bool take_stack(struct flow *flow, size_t size, FILE *messages)
+{
+    if (!coroutine_take(&flow->coroutine, size)) {
+        fprintf(messages, "fmp: out of memory for the stack of %s\n", flow->name);
+        return false;
+    }
+    return true;
+}
+
+/* A stack for each task and for the handlers of each processor. What C functions call has room in the spare part. */
+static bool take_stacks(FILE *messages)
+{
+    for (size_t task = 1; task <= fmp_count(&system_kernel, FMP_TASKS); task++) {
+        struct flow *flow = &tasks[task - 1];
+        fmp_name(&system_kernel, FMP_TASKS, task, (uint8_t *)flow->name, NAME_ROOM - 1);
+        if (!take_stack(flow, fmp_detail(&system_kernel, FMP_TASKS, task) + SPARE_STACK, messages)) {
+            return false;
+        }
+    }
+    for (uint32_t p = 1; p <= system_processors; p++) {
+        struct flow *flow = &handlers[p - 1];
+        snprintf(flow->name, NAME_ROOM, "the handlers of processor %u", (unsigned)p);
+        if (!take_stack(flow, SPARE_STACK, messages)) {
+            return false;
+        }
+    }
+    return true;
+}
+
+static enum fmp_opened make(const char *text, size_t length, FILE *messages)
+{
+    fmp_refusal why = { 0, 0, 0 };
+    switch (fmp_new((const uint8_t *)text, length, &system_kernel, &why)) {
+    case FMP_MADE:
+        return FMP_OPENED;
+    case FMP_REFUSED:
+        fprintf(messages, "cfg:%lu: B%lu", (unsigned long)why.line, (unsigned long)why.kind);
+        fprintf(messages, why.code != 0 ? " %ld\n" : "\n", (long)why.code);
+        return FMP_CONFIGURATION_REFUSED;
+    case FMP_HOLDS_ONE:
+        fputs("fmp: another system is open\n", messages);
+        return FMP_ALREADY_OPEN;
+    default:
+        fputs("fmp: out of memory\n", messages);
+        return FMP_MEMORY_OUT;
+    }
+}
+
+/* The functions and the stacks of the bodies of the system at hand. */
+static enum fmp_opened equip(const struct fmp_program *program, FILE *messages)
+{
+    fmp_event_counts counts = { 0, 0, 0, 0 };
+    fmp_counts(&system_kernel, &counts);
+    system_processors = counts.processors;
+    system_polls = program->polls != 0 ? program->polls : USUAL_POLLS;
+    known = 0;
+    if (!find_all(program, messages)) {
+        return FMP_BODY_MISSING;
+    }
+    return take_stacks(messages) ? FMP_OPENED : FMP_MEMORY_OUT;
+}
+
+enum fmp_opened fmp_open(const char *text, size_t length, const struct fmp_program *program, FILE *trace,
+                         FILE *messages)
+{
+    enum fmp_opened opened = make(text, length, messages);
+    if (opened != FMP_OPENED) {
+        return opened;
+    }
+    opened = equip(program, messages);
+    if (opened != FMP_OPENED) {
+        fmp_close();
+        return opened;
+    }
+    trace_file = trace;
+    follow_lines();
+    print_lines();
+    return FMP_OPENED;
+}
+
+static void forget(struct flow *flow)
+{
+    coroutine_free(&flow->coroutine);
+    memset(flow, 0, sizeof *flow);
+}
+
+void fmp_close(void)
+{
+    fmp_record(NULL);
+    for (size_t at = 0; at < TASKS; at++) {
+        forget(&tasks[at]);
+    }
+    for (size_t at = 0; at < PROCESSORS; at++) {
+        forget(&handlers[at]);
+    }
+    fmp_free(&system_kernel);
+}
+
+void fmp_print_states(FILE *out)
+{
+    static const char *const words[] = {
+        "", "RUNNING", "READY", "WAITING", "SUSPENDED", "WAITING-SUSPENDED", "DORMANT"
+    };
+    for (size_t task = 1; task <= fmp_count(&system_kernel, FMP_TASKS); task++) {
+        fmp_task_state state = { 0, 0, 0 };
+        fmp_state(&system_kernel, (uint8_t)task, &state);
+        fprintf(out, "%s %s p%lu %lu\n", tasks[task - 1].name, words[state.word], (unsigned long)state.processor,
+                (unsigned long)state.priority);
+    }
+}
+
+const struct flow *system_overflowing(const void *address)
+{
+    for (size_t at = 0; at < TASKS; at++) {
+        if (coroutine_overflows(&tasks[at].coroutine, address)) {
+            return &tasks[at];
+        }
+    }
+    for (size_t at = 0; at < PROCESSORS; at++) {
+        if (coroutine_overflows(&handlers[at].coroutine, address)) {
+            return &handlers[at];
+        }
+    }
+    return NULL;
+}
+
+/* Files. */
+
+static char *read_all(FILE *file, size_t *length)
+{
+    char *text = NULL;
+    size_t room = 0;
+    *length = 0;
+    do {
+        room = room * 2 + 4096;
+        char *more = realloc(text, room);
+        if (more == NULL) {
+            break;
+        }
+        text = more;
+        *length += fread(text + *length, 1, room - *length, file);
+    } while (*length == room);
+    if (*length == room || ferror(file)) {
+        free(text);
+        return NULL;
+    }
+    return text;
+}
+
+char *system_text(const char *path, size_t *length)
+{
+    FILE *file = fopen(path, "rb");
+    char *text = file != NULL ? read_all(file, length) : NULL;
+    if (text == NULL) {
+        fprintf(stderr, "file: %s\n", path);
+    }
+    if (file != NULL) {
+        fclose(file);
+    }
+    return text;
+}

@@ -1,0 +1,69 @@
+/* system.h: the system at hand, its bodies and their events: what virtual time and real time have in common. */
+#ifndef FMP_SYSTEM_H
+#define FMP_SYSTEM_H
+
+#include "coroutine.h"
+#include "fmp.h"
+#include "program.h"
+
+#include <stdbool.h>
+#include <stddef.h>
+#include <stdint.h>
+
+enum { NAME_ROOM = 32 };
+
+/* What a body that was left asks for. */
+enum wish { GOES_ON, CALLS, ENDS, FAULTS, KEEPS_ITS_PLACE };
+
+/* A body that runs: that of a task, or of the handler of a processor. */
+struct flow {
+    struct coroutine coroutine;
+    void (*run)(intptr_t exinf);
+    bool has_begun;
+    enum wish wish;
+    uint8_t service;            /* of its call */
+    uint8_t fault;
+    int32_t arguments[4];
+    fmp_actor told;             /* what it was told, when it goes on */
+    char name[NAME_ROOM];
+};
+
+/* What a port does for a body. Each returns when the body goes on. */
+struct driver {
+    void (*ask)(struct flow *);     /* it has a wish, and was told the reply when it goes on */
+    void (*poll)(struct flow *);
+};
+
+extern fmp_system system_kernel;
+extern uint32_t system_processors;
+extern unsigned long system_polls;              /* of the program */
+extern const struct driver *system_driver;      /* while bodies go on */
+
+/* Whether the invoking thread is in a body. */
+bool system_inside(void);
+
+/* Who acts on a processor, and what it was told last; and its body. */
+const fmp_actor *system_acting(uint8_t p);
+struct flow *system_flow(const fmp_actor *, uint8_t p);
+
+/* The thread goes on with a body until it leaves its coroutine. */
+void system_enter(struct coroutine *outside, struct flow *);
+
+/*
+ * An event: enum fmp_answer. Where it was done, it is recorded, its bodies start and its lines are printed; and
+ * `changes` is that of its outcome. The first one hands in what the body that acts on a processor wishes.
+ */
+uint32_t system_hand_in(uint8_t p, struct flow *, uint32_t *changes);
+uint32_t system_tick(uint32_t *changes);
+uint32_t system_interrupt(uint8_t number, uint32_t *changes);
+
+/* Writes what is recorded. */
+void system_flush(void);
+
+/* The body whose stack an address would be on if it were larger, or NULL. */
+const struct flow *system_overflowing(const void *address);
+
+/* The text of a file, which is to be freed. NULL if it cannot be read, after a message. */
+char *system_text(const char *path, size_t *length);
+
+#endif
