@@ -65,7 +65,7 @@ $(VIEW):
 	$(call missing,$@,crates/fmp_view)
 
 # The library for C: the proved part, which the gate makes, and `rt lib` in its folder; the allocator's glue of the
-# toolchain; and the port for virtual time, in one archive.
+# toolchain; and the ports for virtual and for real time, in one archive.
 LIBRARY ?= crates/fmp_c/out/libfmp_c.a
 GLUE ?= $(shell dirname "$$(dirname "$$(readlink -f "$$(command -v rt)")")")/c/liblibc_c.a
 C_ROOM ?= crates/fmp_c/out/c
@@ -77,7 +77,7 @@ library: $(ARCHIVE)
 
 $(C_ROOM)/%.o: port/%.c $(wildcard port/*.h port/include/*.h)
 	@mkdir -p $(C_ROOM)
-	@$(CC) -std=c11 -O2 -Iport/include -c $< -o $@
+	@$(CC) -std=c11 -O2 -pthread -Iport/include -c $< -o $@
 
 $(ARCHIVE): $(LIBRARY) $(PORT)
 	@rm -f $@
@@ -95,6 +95,7 @@ $(call $(1),644,port/include/fmp.h,include/fmp/fmp.h)
 $(call $(1),644,port/include/kernel.h,include/fmp/kernel.h)
 $(call $(1),644,port/include/program.h,include/fmp/program.h)
 $(call $(1),644,port/include/virtual.h,include/fmp/virtual.h)
+$(call $(1),644,port/include/live.h,include/fmp/live.h)
 $(call $(1),644,docs/man/fmp.h.3,share/man/man3/fmp.h.3)
 endef
 

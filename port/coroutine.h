@@ -1,4 +1,4 @@
-/* coroutine.h: functions with stacks of their own, which threads enter and which leave to the thread that they are in. */
+/* coroutine.h: functions with stacks of their own, which threads enter and which leave to the thread they are in. */
 #ifndef FMP_COROUTINE_H
 #define FMP_COROUTINE_H
 

@@ -1,8 +1,9 @@
 #!/bin/sh
-# Compiles C programs with the library for C and the port for virtual time, and runs them: the examples, to the byte of
-# their traces, and their recordings, replayed; what is answered to a mistake; random calls and random C tasks beside
-# the model of the kernel. It does so with two compilers, with the sanitizers of one, with valgrind, and with the
-# library as `make install` copies it. It names what is not on the machine.
+# Compiles C programs with the library for C and its ports, and runs them: the examples, to the byte of their traces,
+# and their recordings, replayed; what is answered to a mistake; random calls and random C tasks beside the model of the
+# kernel; and examples and random C tasks in real time, whose recordings give their traces again. It does so with two
+# compilers, with the sanitizers of one, with valgrind, and with the library as `make install` copies it. It names what
+# is not on the machine.
 #
 #   checks/port/port.sh [LIBRARY [COUNT]]
 #
@@ -58,10 +59,14 @@ compiled() {
         "$@" $strict -c "$source" -o "$kind/$(basename "$source" .c).o" 2> errors ||
             verdict "$kind: $(basename "$source")" "it does not compile: $(head -c 300 errors)"
     done
-    ar rc "$kind/libport.a" "$kind/system.o" "$kind/virtual.o" "$kind/coroutine.o" "$kind/replaying.o"
+    parts="system coroutine virtual live replaying"
+    for part in $parts; do
+        ar rc "$kind/libport.a" "$kind/$part.o"
+    done
     for object in "$kind"/*.o; do
-        case $object in */system.o | */virtual.o | */coroutine.o | */replaying.o) continue ;; esac
-        "$@" "$object" "$kind/libport.a" "$library" "$glue" -o "${object%.o}" 2> errors ||
+        name=$(basename "$object" .o)
+        case " $parts " in *" $name "*) continue ;; esac
+        "$@" "$object" "$kind/libport.a" "$library" "$glue" -pthread -o "${object%.o}" 2> errors ||
             verdict "$kind: $(basename "$object")" "it does not link: $(head -c 300 errors)"
     done
 }
@@ -93,6 +98,51 @@ replays() {
         cmp -s "$example.trace" output || problem="$problem, its recording gives another trace"
         verdict "$kind: $name, replayed" "$problem"
     done
+}
+
+# real KIND COUNT: runs in real time, which are over for each reason, and those of random systems; and the
+# examples. Each recording gives the trace and the states again.
+real() {
+    kind=$1
+    problem=
+    "$kind/real" ends > output 2>&1 || problem="status $?: $(head -c 300 output)"
+    verdict "$kind: the ends of runs" "$problem"
+    problem=
+    python3 "$root/checks/port/real.py" "$PWD/$kind/real" "$2" > output 2>&1 ||
+        problem="status $?: $(head -c 300 output)"
+    verdict "$kind: random systems in real time" "$problem"
+    [ -n "$problem" ] || cat output
+    for object in "$kind"/live-*; do
+        name=${object#"$kind/live-"}
+        problem=
+        "$object" "$root/examples/$name.cfg" 200000 20 "$name.calls" > trace 2> errors || problem="status $?"
+        plain/replay "$root/examples/$name.cfg" "$name.calls" > output 2>> errors || problem="$problem, no replay"
+        cmp -s trace output || problem="$problem, its recording gives another trace"
+        [ ! -s errors ] || problem="$problem, it says: $(head -c 300 errors)"
+        verdict "$kind: $name in real time" "$problem"
+    done
+}
+
+# performed KIND COMPILER FLAG..: the examples that are compiled, for real time.
+performed() {
+    kind=$1
+    shift
+    for source in "$root"/examples/c/*.c; do
+        name=$(basename "$source" .c)
+        "$@" -std=c11 -g -Dfmp_simulate=fmp_perform -I"$root/port/include" "$source" "$kind/libport.a" "$library" \
+            "$glue" -pthread -o "$kind/live-$name" 2> errors ||
+            verdict "$kind: $name" "it does not link: $(head -c 300 errors)"
+    done
+}
+
+# A stack that overflows is found, and its task is named.
+overflows() {
+    problem=
+    status=0
+    plain/real overflow > output 2>&1 || status=$?
+    [ $status = 3 ] || problem="status $status"
+    [ "$(cat output)" = "fmp: the stack overflows of MAIN" ] || problem="$problem, it says: $(head -c 300 output)"
+    verdict "a stack that overflows" "$problem"
 }
 
 # mistakes KIND COMMAND..: what no model knows.
@@ -158,7 +208,7 @@ installed() {
 
 # The headers are those of C++ too.
 headers() {
-    printf '#include "%s"\n' fmp.h kernel.h virtual.h > headers.cc
+    printf '#include "%s"\n' fmp.h kernel.h virtual.h live.h > headers.cc
     problem=
     "$1" -std=c++11 -Wall -Wextra -Wpedantic -Werror -I"$root/port/include" -c headers.cc -o headers.o 2> errors ||
         problem=$(head -c 300 errors)
@@ -173,6 +223,9 @@ random plain "$count" 1
 forms "$cc"
 missing_bodies
 installed
+performed plain "$cc" -O2
+real plain 40
+overflows
 
 compiled contexts "$cc" -O2 -DFMP_UCONTEXT
 examples contexts
@@ -197,13 +250,26 @@ fi
 
 echo 'int main(void) { return 0; }' > empty.c
 if "$cc" -fsanitize=address,undefined empty.c -o empty 2> errors && ./empty; then
-    compiled sanitized "$cc" -O1 -fsanitize=address,undefined -fno-sanitize-recover=all
+    sanitizers="-O1 -fsanitize=address,undefined -fno-sanitize-recover=all"
+    # shellcheck disable=SC2086
+    compiled sanitized "$cc" $sanitizers
+    # shellcheck disable=SC2086
+    performed sanitized "$cc" $sanitizers
+    real sanitized 10
     examples sanitized
     replays sanitized
     mistakes sanitized
     random sanitized $((count / 20 + 1)) 1000001
 else
     echo "$script: there are no sanitizers"
+fi
+
+if "$cc" -fsanitize=thread empty.c -o empty 2> errors && ./empty; then
+    compiled threads "$cc" -O1 -fsanitize=thread
+    performed threads "$cc" -O1 -fsanitize=thread
+    real threads 10
+else
+    echo "$script: there is no sanitizer of threads"
 fi
 
 if command -v valgrind > /dev/null; then

@@ -1,0 +1,61 @@
+/*
+ * live.h: C tasks in real time. Each processor is a thread, and so is the clock; interrupts come from anywhere. Tasks
+ * and handlers are functions with stacks of their own, which the thread of their processor runs.
+ */
+#ifndef FMP_LIVE_H
+#define FMP_LIVE_H
+
+#include "program.h"
+
+#include <stdint.h>
+
+#ifdef __cplusplus
+extern "C" {
+#endif
+
+/* Why a run is over. */
+enum fmp_over {
+    FMP_NOT_OVER,
+    FMP_ALL_DORMANT,        /* all tasks are dormant, and there are no cyclic and no interrupt handlers */
+    FMP_TICKS_OVER,         /* the clock has made its ticks */
+    FMP_HALTED,             /* by fmp_halt, SIGINT or SIGTERM */
+    FMP_EVENTS_FULL,        /* the kernel takes no more events */
+    FMP_NO_THREAD,          /* a thread could not be made; a message names it */
+    FMP_NOT_OPEN            /* no system is open, or it runs */
+};
+
+/*
+ * Runs the open system until it is over: never FMP_NOT_OVER. The clock ticks each so many nanoseconds (0: never), and
+ * so many times (0: without end). Ticks that a slow machine misses come late, not never. What was recorded is written
+ * then. A system that is over can be run again, also in virtual time: it goes on from there.
+ *
+ * A task that another one replaces on its processor goes on to compute until its next call, poll or end. It makes
+ * that once the kernel runs it again. A body that does none of these keeps its processor, and the run from its end.
+ *
+ * SIGINT and SIGTERM end the run where the program leaves them as they were. Its signal handlers run in the thread
+ * that invoked fmp_run, or in threads of its own, never in a task.
+ *
+ * A stack that overflows into the page below it ends the program with status 3, after a message that names the task.
+ */
+enum fmp_over fmp_run(long nanoseconds, unsigned long ticks, FILE *messages);
+
+/* Requests an interrupt, 1 to 32; any other number does nothing. From any thread, body or signal handler. */
+void fmp_raise(int number);
+
+/* Ends the run, or the next one at its start. From any thread, body or signal handler. */
+void fmp_halt(void);
+
+/* The due time of the last tick: nanoseconds of CLOCK_MONOTONIC. */
+int64_t fmp_tick_due(void);
+
+/*
+ * The whole of it: PROGRAM CFG NANOSECONDS TICKS [RECORDING] prints the trace and the states at the end, and writes
+ * the recording. The exit status.
+ */
+int fmp_perform(int argc, char **argv, const struct fmp_program *);
+
+#ifdef __cplusplus
+}
+#endif
+
+#endif

@@ -1,0 +1,607 @@
+/*
+ * live.c: C tasks in real time, over the kernel of fmp.h.
+ *
+ * One lock orders all events. The thread of a processor has it, but while it waits and while it is in a body. A body
+ * takes it for its call, and leaves with it if it does not go on at once: so no thread enters a body that another one
+ * has not left.
+ */
+#define _GNU_SOURCE
+#include "live.h"
+
+#include "system.h"
+
+#include <errno.h>
+#include <pthread.h>
+#include <semaphore.h>
+#include <signal.h>
+#include <stdalign.h>
+#include <stdatomic.h>
+#include <stdlib.h>
+#include <string.h>
+#include <time.h>
+#include <unistd.h>
+#ifdef __linux__
+#include <sys/prctl.h>
+#endif
+
+enum { PROCESSORS = 8, INTERRUPTS = 32, SIGNAL_STACK = 32 << 10, OVERFLOW_STATUS = 3, FLUSH_ATTEMPTS = 1000000 };
+enum { LOCK_ATTEMPTS = 64, MOST_PAUSES = 128, LEAST_PATIENCE = 32, MOST_PATIENCE = 1024 };
+enum { NANOSECONDS = 1000000000 };
+
+struct processor {
+    alignas(64) atomic_bool news;   /* others have changed who acts here, or the run is over */
+    uint8_t number;
+    bool asleep;                    /* it waits for a signal of `wake` */
+    unsigned patience;              /* how often it looks for news before it sleeps */
+    pthread_cond_t wake;
+    pthread_t thread;
+    struct coroutine outside;       /* of bodies */
+    unsigned char signal_stack[SIGNAL_STACK];
+};
+
+static struct processor processors[PROCESSORS];
+static pthread_mutex_t lock = PTHREAD_MUTEX_INITIALIZER;
+
+/* Under the lock. */
+static enum fmp_over over;
+static uint32_t spinning;           /* the processors that wait for a spin lock, by bits */
+static bool ends_dormant;           /* nothing comes from outside once all tasks are dormant */
+static size_t task_count;
+static size_t awake;                /* a task that was not dormant last, from 0 */
+static unsigned long ticks_left;    /* 0: without end */
+
+static long tick_length;
+static unsigned most_patience;
+static atomic_llong tick_due;
+static sem_t requests;              /* there are requested interrupts, or the run is to be over */
+static sem_t clock_end;             /* the run is over */
+static atomic_bool takes_requests;
+static atomic_uint requested;       /* interrupts, by bits */
+static atomic_bool halted;
+
+/* The processor of the invoking thread. A body may go on in another thread: where it is may not be kept over a call. */
+static _Thread_local struct processor *of_thread;
+
+__attribute__((noinline)) static struct processor *here(void)
+{
+    return of_thread;
+}
+
+/* Waiting. */
+
+static void relax(void)
+{
+#if defined(__x86_64__) || defined(__i386__)
+    __builtin_ia32_pause();
+#endif
+}
+
+static void take_lock(void)
+{
+    for (int attempt = 0, pauses = 1; most_patience > 0 && attempt < LOCK_ATTEMPTS; attempt++) {
+        if (pthread_mutex_trylock(&lock) == 0) {
+            return;
+        }
+        for (int pause = 0; pause < pauses; pause++) {
+            relax();
+        }
+        pauses = pauses < MOST_PAUSES ? pauses * 2 : pauses;
+    }
+    pthread_mutex_lock(&lock);
+}
+
+static void release_lock(void)
+{
+    pthread_mutex_unlock(&lock);
+}
+
+/* Looks for news without the lock for a while, the longer the more often that found some, and sleeps then. */
+static void await_news(struct processor *me)
+{
+    unsigned looks = 0;
+    release_lock();
+    while (looks < me->patience && !atomic_load_explicit(&me->news, memory_order_relaxed)) {
+        looks++;
+        relax();
+    }
+    bool found = looks < me->patience;
+    unsigned patience = found ? me->patience * 2 : me->patience / 2;
+    me->patience = patience > most_patience ? most_patience : patience < LEAST_PATIENCE ? LEAST_PATIENCE : patience;
+    take_lock();
+    me->asleep = true;
+    while (!atomic_load_explicit(&me->news, memory_order_relaxed)) {
+        pthread_cond_wait(&me->wake, &lock);
+    }
+    me->asleep = false;
+}
+
+static void tell(struct processor *it)
+{
+    atomic_store_explicit(&it->news, true, memory_order_relaxed);
+    if (it->asleep) {
+        pthread_cond_signal(&it->wake);
+    }
+}
+
+static void tell_all(uint32_t bits)
+{
+    for (uint32_t at = 0; at < system_processors; at++) {
+        if (bits >> at & 1) {
+            tell(&processors[at]);
+        }
+    }
+}
+
+static void end_run(enum fmp_over why)
+{
+    if (over == FMP_NOT_OVER) {
+        over = why;
+        tell_all(UINT32_MAX);
+    }
+}
+
+/* Events. */
+
+/* What follows an event: those of whom its changes tell hear of it, but its own processor. */
+static void heard(uint32_t answer, uint32_t changes, uint32_t own)
+{
+    if (answer == FMP_DONE) {
+        tell_all((changes | spinning) & ~own);
+    } else if (answer == FMP_FULL) {
+        end_run(FMP_EVENTS_FULL);
+    }
+}
+
+static uint32_t bit_of(const struct processor *it)
+{
+    return 1u << (it->number - 1);
+}
+
+static uint32_t hand_in(struct processor *me, struct flow *flow)
+{
+    uint32_t changes = 0;
+    uint32_t answer = system_hand_in(me->number, flow, &changes);
+    heard(answer, changes, bit_of(me));
+    return answer;
+}
+
+/* Who acts on a processor as far as all news say. */
+static const fmp_actor *acting(struct processor *me)
+{
+    atomic_store_explicit(&me->news, false, memory_order_relaxed);
+    return system_acting(me->number);
+}
+
+static bool acts(struct processor *me, const struct flow *flow)
+{
+    const fmp_actor *actor = acting(me);
+    return over == FMP_NOT_OVER && actor->who != FMP_NOBODY && system_flow(actor, me->number) == flow;
+}
+
+/* Bodies. */
+
+/* Hands in what a body wishes. Where a spin lock is held, it waits for the next event, before which it has no effect. */
+static void carry_out(struct processor *me, struct flow *flow)
+{
+    if (hand_in(me, flow) == FMP_NOTHING) {
+        spinning |= bit_of(me);
+        await_news(me);
+        spinning &= ~bit_of(me);
+    }
+}
+
+/* Whether a body that calls goes on at once. One that starts anew does not. */
+static bool goes_on(struct processor *me, struct flow *flow)
+{
+    while (flow->wish == CALLS && acts(me, flow)) {
+        carry_out(me, flow);
+    }
+    if (flow->wish != GOES_ON || !acts(me, flow)) {
+        return false;
+    }
+    flow->told = *system_acting(me->number);
+    return flow->told.told == FMP_REPLIED;
+}
+
+static void ask(struct flow *flow)
+{
+    struct processor *me = here();
+    take_lock();
+    if (goes_on(me, flow)) {
+        release_lock();
+    } else {
+        coroutine_leave(&flow->coroutine);
+    }
+}
+
+static void poll(struct flow *flow)
+{
+    struct processor *me = here();
+    if (!atomic_load_explicit(&me->news, memory_order_relaxed)) {
+        return;
+    }
+    take_lock();
+    if (acts(me, flow)) {
+        release_lock();
+    } else {
+        coroutine_leave(&flow->coroutine);
+    }
+}
+
+static const struct driver in_real_time = { .ask = ask, .poll = poll };
+
+/* Goes on with a body until it leaves, with the lock. */
+static void enter(struct processor *me, struct flow *flow, const fmp_actor *actor)
+{
+    flow->told = *actor;
+    release_lock();
+    system_enter(&me->outside, flow);
+}
+
+static bool all_dormant(void)
+{
+    for (size_t looked = 0; looked < task_count; looked++) {
+        fmp_task_state state = { 0, 0, 0 };
+        fmp_state(&system_kernel, (uint8_t)(awake + 1), &state);
+        if (state.word != FMP_DORMANT) {
+            return false;
+        }
+        awake = (awake + 1) % task_count;
+    }
+    return true;
+}
+
+static void idle(struct processor *me)
+{
+    if (ends_dormant && all_dormant()) {
+        end_run(FMP_ALL_DORMANT);
+    } else {
+        await_news(me);
+    }
+}
+
+/* Threads. */
+
+static void *run_processor(void *argument)
+{
+    struct processor *me = argument;
+    stack_t kept, own = { .ss_sp = me->signal_stack, .ss_size = sizeof me->signal_stack };
+    sigaltstack(&own, &kept);
+    of_thread = me;
+    take_lock();
+    while (over == FMP_NOT_OVER) {
+        const fmp_actor *actor = acting(me);
+        struct flow *flow = system_flow(actor, me->number);
+        if (actor->who == FMP_NOBODY) {
+            idle(me);
+        } else if (flow->wish != GOES_ON) {
+            carry_out(me, flow);
+        } else {
+            enter(me, flow, actor);
+        }
+    }
+    release_lock();
+    sigaltstack(&kept, NULL);
+    return NULL;
+}
+
+/* A tick. Whether the clock goes on. */
+static bool tick(int64_t due)
+{
+    uint32_t changes = 0;
+    take_lock();
+    if (over == FMP_NOT_OVER) {
+        atomic_store(&tick_due, due);
+        uint32_t answer = system_tick(&changes);
+        heard(answer, changes, 0);
+        if (ticks_left > 0 && --ticks_left == 0) {
+            end_run(FMP_TICKS_OVER);
+        }
+    }
+    bool goes_on = over == FMP_NOT_OVER;
+    release_lock();
+    return goes_on;
+}
+
+/* Sleeps until a time. Whether the run was not over before. */
+static bool sleep_until(const struct timespec *due)
+{
+    while (sem_clockwait(&clock_end, CLOCK_MONOTONIC, due) != 0) {
+        if (errno == ETIMEDOUT) {
+            return true;
+        }
+    }
+    return false;
+}
+
+static void *run_clock(void *unused)
+{
+    struct timespec due;
+#ifdef __linux__
+    prctl(PR_SET_TIMERSLACK, 1, 0, 0, 0);       /* it sleeps up to 50 microseconds longer else */
+#endif
+    clock_gettime(CLOCK_MONOTONIC, &due);
+    do {
+        due.tv_sec += tick_length / NANOSECONDS;
+        due.tv_nsec += tick_length % NANOSECONDS;
+        if (due.tv_nsec >= NANOSECONDS) {
+            due.tv_sec++;
+            due.tv_nsec -= NANOSECONDS;
+        }
+    } while (sleep_until(&due) && tick((int64_t)due.tv_sec * NANOSECONDS + due.tv_nsec));
+    return unused;
+}
+
+/* The interrupts that were requested. Whether more are to come. */
+static bool interrupt(void)
+{
+    take_lock();
+    if (atomic_load(&halted)) {
+        end_run(FMP_HALTED);
+    }
+    bool goes_on = over == FMP_NOT_OVER;
+    uint32_t bits = goes_on ? atomic_exchange(&requested, 0) : 0;
+    for (uint8_t number = 1; number <= INTERRUPTS; number++) {
+        uint32_t changes = 0;
+        if (bits >> (number - 1) & 1) {
+            uint32_t answer = system_interrupt(number, &changes);
+            heard(answer, changes, 0);
+        }
+    }
+    release_lock();
+    return goes_on;
+}
+
+static void *run_interrupts(void *unused)
+{
+    do {
+        while (sem_wait(&requests) != 0) {
+        }
+    } while (interrupt());
+    return unused;
+}
+
+static void post_request(void)
+{
+    int kept = errno;
+    if (atomic_load(&takes_requests)) {
+        sem_post(&requests);
+    }
+    errno = kept;
+}
+
+void fmp_raise(int number)
+{
+    if (number >= 1 && number <= INTERRUPTS && atomic_fetch_or(&requested, 1u << (number - 1)) == 0) {
+        post_request();
+    }
+}
+
+void fmp_halt(void)
+{
+    atomic_store(&halted, true);
+    post_request();
+}
+
+int64_t fmp_tick_due(void)
+{
+    return atomic_load(&tick_due);
+}
+
+/* Signals. */
+
+static const int ending[] = { SIGINT, SIGTERM };
+enum { ENDING = sizeof ending / sizeof *ending };
+
+static struct sigaction kept_ending[ENDING], kept_overflow;
+
+static void on_ending(int number)
+{
+    (void)number;
+    fmp_halt();
+}
+
+static void say(const char *text)
+{
+    ssize_t written = write(STDERR_FILENO, text, strlen(text));
+    (void)written;
+}
+
+/* A body has no more stack: the program ends. Any other access to no memory comes again, as if this was not here. */
+static void on_overflow(int number, siginfo_t *about, void *context)
+{
+    (void)context;
+    const struct flow *flow = system_overflowing(about->si_addr);
+    if (flow == NULL) {
+        sigaction(number, &kept_overflow, NULL);
+        return;
+    }
+    say("fmp: the stack overflows of ");
+    say(flow->name);
+    say("\n");
+    for (int attempt = 0; attempt < FLUSH_ATTEMPTS; attempt++) {
+        if (pthread_mutex_trylock(&lock) == 0) {
+            system_flush();
+            break;
+        }
+    }
+    _exit(OVERFLOW_STATUS);
+}
+
+static void take_signals(void)
+{
+    struct sigaction overflow = { .sa_sigaction = on_overflow, .sa_flags = SA_SIGINFO | SA_ONSTACK };
+    sigaction(SIGSEGV, &overflow, &kept_overflow);
+    for (int at = 0; at < ENDING; at++) {
+        struct sigaction end = { .sa_handler = on_ending, .sa_flags = (int)(SA_RESETHAND | SA_RESTART) };
+        sigaction(ending[at], NULL, &kept_ending[at]);
+        if (kept_ending[at].sa_handler == SIG_DFL) {
+            sigaction(ending[at], &end, NULL);
+        }
+    }
+}
+
+static void give_signals_back(void)
+{
+    sigaction(SIGSEGV, &kept_overflow, NULL);
+    for (int at = 0; at < ENDING; at++) {
+        sigaction(ending[at], &kept_ending[at], NULL);
+    }
+}
+
+/* The signals that threads of a run leave to others. */
+static void block_signals(sigset_t *kept)
+{
+    static const int own[] = { SIGSEGV, SIGBUS, SIGFPE, SIGILL, SIGTRAP, SIGABRT };
+    sigset_t others;
+    sigfillset(&others);
+    for (size_t at = 0; at < sizeof own / sizeof *own; at++) {
+        sigdelset(&others, own[at]);
+    }
+    pthread_sigmask(SIG_SETMASK, &others, kept);
+}
+
+/* Runs. */
+
+static void prepare(long nanoseconds, unsigned long ticks)
+{
+    static bool has_requests;       /* late ones may come at any time: it is never destroyed */
+    if (!has_requests) {
+        sem_init(&requests, 0, 0);
+        has_requests = true;
+    }
+    sem_init(&clock_end, 0, 0);
+    over = FMP_NOT_OVER;
+    spinning = 0;
+    task_count = fmp_count(&system_kernel, FMP_TASKS);
+    awake = 0;
+    ends_dormant = fmp_count(&system_kernel, FMP_CYCLICS) == 0 && fmp_count(&system_kernel, FMP_INTERRUPTS) == 0;
+    tick_length = nanoseconds;
+    ticks_left = ticks;
+    most_patience = sysconf(_SC_NPROCESSORS_ONLN) > (long)system_processors - 1 ? MOST_PATIENCE : 0;
+    for (uint32_t at = 0; at < system_processors; at++) {
+        struct processor *it = &processors[at];
+        it->number = (uint8_t)(at + 1);
+        it->patience = most_patience;
+        it->asleep = false;
+        atomic_store(&it->news, false);
+        pthread_cond_init(&it->wake, NULL);
+    }
+    system_driver = &in_real_time;
+}
+
+/* Makes a thread, unless an earlier one could not be made. */
+static bool start(pthread_t *thread, void *(*run)(void *), void *argument, const char *what, FILE *messages)
+{
+    if (over == FMP_NOT_OVER && pthread_create(thread, NULL, run, argument) == 0) {
+        return true;
+    }
+    if (over == FMP_NOT_OVER) {
+        fprintf(messages, "fmp: there is no thread for %s\n", what);
+        end_run(FMP_NO_THREAD);
+    }
+    return false;
+}
+
+/* All threads of a run, until it is over. None does anything before all are there. */
+static void run_threads(FILE *messages)
+{
+    pthread_t clock_thread, interrupt_thread;
+    uint32_t count = 0;
+    sigset_t kept;
+    block_signals(&kept);
+    take_lock();
+    bool has_interrupts = start(&interrupt_thread, run_interrupts, NULL, "interrupts", messages);
+    for (; count < system_processors; count++) {
+        char what[NAME_ROOM];
+        snprintf(what, sizeof what, "processor %u", (unsigned)count + 1);
+        if (!start(&processors[count].thread, run_processor, &processors[count], what, messages)) {
+            break;
+        }
+    }
+    bool has_clock = tick_length > 0 && start(&clock_thread, run_clock, NULL, "the clock", messages);
+    release_lock();
+    pthread_sigmask(SIG_SETMASK, &kept, NULL);
+    while (count > 0) {
+        pthread_join(processors[--count].thread, NULL);
+    }
+    if (has_clock) {
+        sem_post(&clock_end);
+        pthread_join(clock_thread, NULL);
+    }
+    if (has_interrupts) {
+        post_request();
+        pthread_join(interrupt_thread, NULL);
+    }
+}
+
+enum fmp_over fmp_run(long nanoseconds, unsigned long ticks, FILE *messages)
+{
+    if (system_kernel.at == NULL || atomic_load(&takes_requests)) {
+        return FMP_NOT_OPEN;
+    }
+    prepare(nanoseconds, ticks);
+    atomic_store(&takes_requests, true);
+    post_request();
+    take_signals();
+    run_threads(messages);
+    give_signals_back();
+    atomic_store(&takes_requests, false);
+    atomic_store(&halted, false);
+    for (uint32_t at = 0; at < system_processors; at++) {
+        pthread_cond_destroy(&processors[at].wake);
+    }
+    system_flush();
+    return over;
+}
+
+/* The whole of it. */
+
+/* A count of so many decimal digits, or -1. */
+static long count_of(const char *word)
+{
+    char *end;
+    long count = strtol(word, &end, 10);
+    return *word >= '0' && *word <= '9' && *end == '\0' && end - word <= 18 ? count : -1;
+}
+
+/* A run of the system of a text. The exit status. */
+static int perform(const char *text, size_t length, long nanoseconds, long ticks, const struct fmp_program *program,
+                   FILE *recording)
+{
+    if (fmp_open(text, length, program, stdout, stderr) != FMP_OPENED) {
+        return 1;
+    }
+    fmp_record(recording);
+    enum fmp_over why = fmp_run(nanoseconds, (unsigned long)ticks, stderr);
+    if (why == FMP_EVENTS_FULL) {
+        fputs("fmp: the kernel takes no more events\n", stderr);
+    }
+    fmp_print_states(stdout);
+    fmp_close();
+    return why == FMP_NO_THREAD ? 3 : why == FMP_EVENTS_FULL;
+}
+
+int fmp_perform(int argc, char **argv, const struct fmp_program *program)
+{
+    long nanoseconds = argc > 2 ? count_of(argv[2]) : -1;
+    long ticks = argc > 3 ? count_of(argv[3]) : -1;
+    if (argc > 5 || nanoseconds < 0 || ticks < 0) {
+        fprintf(stderr, "usage: %s CFG NANOSECONDS TICKS [RECORDING]\n", argc > 0 ? argv[0] : "perform");
+        return 2;
+    }
+    FILE *recording = argc == 5 ? fopen(argv[4], "w") : NULL;
+    if (argc == 5 && recording == NULL) {
+        fprintf(stderr, "file: %s\n", argv[4]);
+        return 3;
+    }
+    size_t length;
+    char *text = system_text(argv[1], &length);
+    int status = text != NULL ? perform(text, length, nanoseconds, ticks, program, recording) : 3;
+    if (recording != NULL && fclose(recording) != 0) {
+        fprintf(stderr, "file: %s\n", argv[4]);
+        status = 3;
+    }
+    free(text);
+    return status;
+}
