@@ -292,6 +292,7 @@ static void set_alarm(long microseconds)
 
 static int run_ends(void)
 {
+    signal(SIGINT, SIG_DFL);    /* a shell that starts a program in the background lets it ignore SIGINT */
     expect(fmp_run(0, 0, stderr) == FMP_NOT_OPEN, "without a system no run begins");
     expect(run_few(return_at_once, false, 0, 0) == FMP_ALL_DORMANT, "a run is over when all tasks are dormant");
     expect(close_system() == 1, "it did one event");

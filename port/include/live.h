@@ -32,8 +32,9 @@ enum fmp_over {
  * A task that another one replaces on its processor goes on to compute until its next call, poll or end. It makes
  * that once the kernel runs it again. A body that does none of these keeps its processor, and the run from its end.
  *
- * SIGINT and SIGTERM end the run where the program leaves them as they were. Its signal handlers run in the thread
- * that invoked fmp_run, or in threads of its own, never in a task.
+ * SIGINT and SIGTERM end the run, unless the program has handlers of its own for them, or ignores them, as one that a
+ * shell starts in the background ignores SIGINT. Signal handlers of the program run in the thread that invoked fmp_run,
+ * or in threads of its own, never in a task.
  *
  * A stack that overflows into the page below it ends the program with status 3, after a message that names the task.
  */
