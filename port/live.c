@@ -8,6 +8,8 @@
 #define _GNU_SOURCE
 #include "live.h"
 
+#include "recording.h"
+#include "signals.h"
 #include "system.h"
 
 #include <errno.h>
@@ -19,19 +21,21 @@
 #include <stdlib.h>
 #include <string.h>
 #include <time.h>
+#include <ucontext.h>
 #include <unistd.h>
 #ifdef __linux__
 #include <sys/prctl.h>
 #endif
 
-enum { PROCESSORS = 8, INTERRUPTS = 32, SIGNAL_STACK = 32 << 10, OVERFLOW_STATUS = 3, FLUSH_ATTEMPTS = 1000000 };
+enum { PROCESSORS = 8, INTERRUPTS = 32, SIGNAL_STACK = 32 << 10, FLUSH_ATTEMPTS = 1000000 };
 enum { LOCK_ATTEMPTS = 64, MOST_PAUSES = 128, LEAST_PATIENCE = 32, MOST_PATIENCE = 1024 };
 enum { NANOSECONDS = 1000000000 };
 
 struct processor {
     alignas(64) atomic_bool news;   /* others have changed who acts here, or the run is over */
     uint8_t number;
-    bool asleep;                    /* it waits for a signal of `wake` */
+    bool asleep;                    /* it waits for `wake` */
+    bool inside;                    /* it is in a body */
     unsigned patience;              /* how often it looks for news before it sleeps */
     pthread_cond_t wake;
     pthread_t thread;
@@ -50,6 +54,7 @@ static size_t task_count;
 static size_t awake;                /* a task that was not dormant last, from 0 */
 static unsigned long ticks_left;    /* 0: without end */
 
+static bool by_signals;             /* bodies may be interrupted at any instruction */
 static long tick_length;
 static unsigned most_patience;
 static atomic_llong tick_due;
@@ -65,6 +70,25 @@ static _Thread_local struct processor *of_thread;
 __attribute__((noinline)) static struct processor *here(void)
 {
     return of_thread;
+}
+
+/*
+ * Whether the thread is in the port: a signal does not interrupt it then. On x86-64 one instruction writes it: a body
+ * that a signal moves to another thread never writes that of the thread that it has left.
+ */
+static _Thread_local volatile sig_atomic_t in_port __attribute__((tls_model("initial-exec")));
+
+static void enter_port(void)
+{
+    in_port = 1;
+    atomic_signal_fence(memory_order_seq_cst);
+}
+
+static void leave_port(void)
+{
+    atomic_signal_fence(memory_order_seq_cst);
+    in_port = 0;
+    atomic_signal_fence(memory_order_seq_cst);
 }
 
 /* Waiting. */
@@ -95,12 +119,17 @@ static void release_lock(void)
     pthread_mutex_unlock(&lock);
 }
 
+static bool has_news(struct processor *it)
+{
+    return atomic_load_explicit(&it->news, memory_order_relaxed);
+}
+
 /* Looks for news without the lock for a while, the longer the more often that found some, and sleeps then. */
 static void await_news(struct processor *me)
 {
     unsigned looks = 0;
     release_lock();
-    while (looks < me->patience && !atomic_load_explicit(&me->news, memory_order_relaxed)) {
+    while (looks < me->patience && !has_news(me)) {
         looks++;
         relax();
     }
@@ -109,7 +138,7 @@ static void await_news(struct processor *me)
     me->patience = patience > most_patience ? most_patience : patience < LEAST_PATIENCE ? LEAST_PATIENCE : patience;
     take_lock();
     me->asleep = true;
-    while (!atomic_load_explicit(&me->news, memory_order_relaxed)) {
+    while (!has_news(me)) {
         pthread_cond_wait(&me->wake, &lock);
     }
     me->asleep = false;
@@ -120,6 +149,8 @@ static void tell(struct processor *it)
     atomic_store_explicit(&it->news, true, memory_order_relaxed);
     if (it->asleep) {
         pthread_cond_signal(&it->wake);
+    } else if (by_signals && it->inside) {
+        pthread_kill(it->thread, SIGNAL_OF_PREEMPTION);
     }
 }
 
@@ -199,44 +230,112 @@ static bool goes_on(struct processor *me, struct flow *flow)
     if (flow->wish != GOES_ON || !acts(me, flow)) {
         return false;
     }
-    flow->told = *system_acting(me->number);
-    return flow->told.told == FMP_REPLIED;
+    flow->reply = *system_acting(me->number);
+    return flow->reply.told == FMP_REPLIED;
 }
 
-static void ask(struct flow *flow)
+/* A body that is not who acts on its processor leaves it. If others act there meanwhile, it does so again. */
+static void give_way(struct flow *flow)
 {
-    struct processor *me = here();
+    do {
+        enter_port();
+        take_lock();
+        if (acts(here(), flow)) {
+            release_lock();
+        } else {
+            coroutine_leave(&flow->coroutine);
+        }
+        leave_port();
+    } while (by_signals && has_news(here()));
+}
+
+static void begin(struct flow *flow)
+{
+    leave_port();
+    if (by_signals && has_news(here())) {
+        give_way(flow);
+    }
+}
+
+static void ask(struct flow *flow, enum wish wish)
+{
+    enter_port();
+    flow->wish = wish;
     take_lock();
-    if (goes_on(me, flow)) {
+    if (goes_on(here(), flow)) {
         release_lock();
     } else {
         coroutine_leave(&flow->coroutine);
     }
+    begin(flow);
 }
 
 static void poll(struct flow *flow)
 {
-    struct processor *me = here();
-    if (!atomic_load_explicit(&me->news, memory_order_relaxed)) {
-        return;
-    }
-    take_lock();
-    if (acts(me, flow)) {
-        release_lock();
-    } else {
-        coroutine_leave(&flow->coroutine);
+    if (has_news(here())) {
+        give_way(flow);
     }
 }
 
-static const struct driver in_real_time = { .ask = ask, .poll = poll };
+static const struct driver in_real_time = { .begin = begin, .ask = ask, .poll = poll };
 
 /* Goes on with a body until it leaves, with the lock. */
 static void enter(struct processor *me, struct flow *flow, const fmp_actor *actor)
 {
-    flow->told = *actor;
+    flow->reply = *actor;
+    flow->told = &flow->reply;
+    me->inside = true;
     release_lock();
     system_enter(&me->outside, flow);
+    me->inside = false;
 }
+
+/* Preemption by signals. The place of errno is that of a thread. */
+
+__attribute__((noinline)) static int error(void)
+{
+    return errno;
+}
+
+__attribute__((noinline)) static void set_error(int number)
+{
+    errno = number;
+}
+
+/* A body that is interrupted polls. When it goes on, its thread keeps the stack for signals that it has. */
+static void on_preemption(int number, siginfo_t *about, void *context)
+{
+    ucontext_t *interrupted = context;
+    struct flow *flow = system_inside();
+    (void)number;
+    (void)about;
+    if (flow != NULL && !in_port && has_news(here())) {
+        int kept = error();
+        give_way(flow);
+        set_error(kept);
+        interrupted->uc_stack.ss_sp = here()->signal_stack;
+    }
+}
+
+/* FMP_PREEMPT=signal asks for it. False if there is none on this machine, after a message. */
+static bool choose_preemption(FILE *messages)
+{
+    const char *how = getenv("FMP_PREEMPT");
+    by_signals = how != NULL && strcmp(how, "signal") == 0;
+#ifndef __x86_64__
+    if (by_signals) {
+        fputs("fmp: there is no preemption by signals on this machine\n", messages);
+        return false;
+    }
+#endif
+    if (how != NULL && !by_signals && strcmp(how, "call") != 0) {
+        fprintf(messages, "fmp: FMP_PREEMPT is neither call nor signal: %s\n", how);
+        return false;
+    }
+    return true;
+}
+
+/* Processors. */
 
 static bool all_dormant(void)
 {
@@ -260,7 +359,13 @@ static void idle(struct processor *me)
     }
 }
 
-/* Threads. */
+static void unblock_preemption(void)
+{
+    sigset_t preemption;
+    sigemptyset(&preemption);
+    sigaddset(&preemption, SIGNAL_OF_PREEMPTION);
+    pthread_sigmask(SIG_UNBLOCK, &preemption, NULL);
+}
 
 static void *run_processor(void *argument)
 {
@@ -268,13 +373,15 @@ static void *run_processor(void *argument)
     stack_t kept, own = { .ss_sp = me->signal_stack, .ss_size = sizeof me->signal_stack };
     sigaltstack(&own, &kept);
     of_thread = me;
+    enter_port();
+    unblock_preemption();
     take_lock();
     while (over == FMP_NOT_OVER) {
         const fmp_actor *actor = acting(me);
         struct flow *flow = system_flow(actor, me->number);
         if (actor->who == FMP_NOBODY) {
             idle(me);
-        } else if (flow->wish != GOES_ON) {
+        } else if (flow->wish > BEGINS) {
             carry_out(me, flow);
         } else {
             enter(me, flow, actor);
@@ -284,6 +391,8 @@ static void *run_processor(void *argument)
     sigaltstack(&kept, NULL);
     return NULL;
 }
+
+/* The clock. */
 
 /* A tick. Whether the clock goes on. */
 static bool tick(int64_t due)
@@ -331,6 +440,8 @@ static void *run_clock(void *unused)
     } while (sleep_until(&due) && tick((int64_t)due.tv_sec * NANOSECONDS + due.tv_nsec));
     return unused;
 }
+
+/* Interrupts. */
 
 /* The interrupts that were requested. Whether more are to come. */
 static bool interrupt(void)
@@ -388,79 +499,6 @@ int64_t fmp_tick_due(void)
     return atomic_load(&tick_due);
 }
 
-/* Signals. */
-
-static const int ending[] = { SIGINT, SIGTERM };
-enum { ENDING = sizeof ending / sizeof *ending };
-
-static struct sigaction kept_ending[ENDING], kept_overflow;
-
-static void on_ending(int number)
-{
-    (void)number;
-    fmp_halt();
-}
-
-static void say(const char *text)
-{
-    ssize_t written = write(STDERR_FILENO, text, strlen(text));
-    (void)written;
-}
-
-/* A body has no more stack: the program ends. Any other access to no memory comes again, as if this was not here. */
-static void on_overflow(int number, siginfo_t *about, void *context)
-{
-    (void)context;
-    const struct flow *flow = system_overflowing(about->si_addr);
-    if (flow == NULL) {
-        sigaction(number, &kept_overflow, NULL);
-        return;
-    }
-    say("fmp: the stack overflows of ");
-    say(flow->name);
-    say("\n");
-    for (int attempt = 0; attempt < FLUSH_ATTEMPTS; attempt++) {
-        if (pthread_mutex_trylock(&lock) == 0) {
-            system_flush();
-            break;
-        }
-    }
-    _exit(OVERFLOW_STATUS);
-}
-
-static void take_signals(void)
-{
-    struct sigaction overflow = { .sa_sigaction = on_overflow, .sa_flags = SA_SIGINFO | SA_ONSTACK };
-    sigaction(SIGSEGV, &overflow, &kept_overflow);
-    for (int at = 0; at < ENDING; at++) {
-        struct sigaction end = { .sa_handler = on_ending, .sa_flags = (int)(SA_RESETHAND | SA_RESTART) };
-        sigaction(ending[at], NULL, &kept_ending[at]);
-        if (kept_ending[at].sa_handler == SIG_DFL) {
-            sigaction(ending[at], &end, NULL);
-        }
-    }
-}
-
-static void give_signals_back(void)
-{
-    sigaction(SIGSEGV, &kept_overflow, NULL);
-    for (int at = 0; at < ENDING; at++) {
-        sigaction(ending[at], &kept_ending[at], NULL);
-    }
-}
-
-/* The signals that threads of a run leave to others. */
-static void block_signals(sigset_t *kept)
-{
-    static const int own[] = { SIGSEGV, SIGBUS, SIGFPE, SIGILL, SIGTRAP, SIGABRT };
-    sigset_t others;
-    sigfillset(&others);
-    for (size_t at = 0; at < sizeof own / sizeof *own; at++) {
-        sigdelset(&others, own[at]);
-    }
-    pthread_sigmask(SIG_SETMASK, &others, kept);
-}
-
 /* Runs. */
 
 static void prepare(long nanoseconds, unsigned long ticks)
@@ -509,7 +547,7 @@ static void run_threads(FILE *messages)
     pthread_t clock_thread, interrupt_thread;
     uint32_t count = 0;
     sigset_t kept;
-    block_signals(&kept);
+    signals_block(&kept);
     take_lock();
     bool has_interrupts = start(&interrupt_thread, run_interrupts, NULL, "interrupts", messages);
     for (; count < system_processors; count++) {
@@ -535,73 +573,36 @@ static void run_threads(FILE *messages)
     }
 }
 
+/* All that is recorded, if the lock is not held for long. */
+static void write_last_words(void)
+{
+    for (int attempt = 0; attempt < FLUSH_ATTEMPTS; attempt++) {
+        if (pthread_mutex_trylock(&lock) == 0) {
+            recording_end();
+            return;
+        }
+    }
+}
+
 enum fmp_over fmp_run(long nanoseconds, unsigned long ticks, FILE *messages)
 {
     if (system_kernel.at == NULL || atomic_load(&takes_requests)) {
         return FMP_NOT_OPEN;
     }
+    if (!choose_preemption(messages)) {
+        return FMP_NO_PREEMPTION;
+    }
     prepare(nanoseconds, ticks);
     atomic_store(&takes_requests, true);
     post_request();
-    take_signals();
+    signals_take(write_last_words, by_signals ? on_preemption : NULL);
     run_threads(messages);
-    give_signals_back();
+    signals_give_back();
     atomic_store(&takes_requests, false);
     atomic_store(&halted, false);
     for (uint32_t at = 0; at < system_processors; at++) {
         pthread_cond_destroy(&processors[at].wake);
     }
-    system_flush();
+    recording_flush();
     return over;
-}
-
-/* The whole of it. */
-
-/* A count of so many decimal digits, or -1. */
-static long count_of(const char *word)
-{
-    char *end;
-    long count = strtol(word, &end, 10);
-    return *word >= '0' && *word <= '9' && *end == '\0' && end - word <= 18 ? count : -1;
-}
-
-/* A run of the system of a text. The exit status. */
-static int perform(const char *text, size_t length, long nanoseconds, long ticks, const struct fmp_program *program,
-                   FILE *recording)
-{
-    if (fmp_open(text, length, program, stdout, stderr) != FMP_OPENED) {
-        return 1;
-    }
-    fmp_record(recording);
-    enum fmp_over why = fmp_run(nanoseconds, (unsigned long)ticks, stderr);
-    if (why == FMP_EVENTS_FULL) {
-        fputs("fmp: the kernel takes no more events\n", stderr);
-    }
-    fmp_print_states(stdout);
-    fmp_close();
-    return why == FMP_NO_THREAD ? 3 : why == FMP_EVENTS_FULL;
-}
-
-int fmp_perform(int argc, char **argv, const struct fmp_program *program)
-{
-    long nanoseconds = argc > 2 ? count_of(argv[2]) : -1;
-    long ticks = argc > 3 ? count_of(argv[3]) : -1;
-    if (argc > 5 || nanoseconds < 0 || ticks < 0) {
-        fprintf(stderr, "usage: %s CFG NANOSECONDS TICKS [RECORDING]\n", argc > 0 ? argv[0] : "perform");
-        return 2;
-    }
-    FILE *recording = argc == 5 ? fopen(argv[4], "w") : NULL;
-    if (argc == 5 && recording == NULL) {
-        fprintf(stderr, "file: %s\n", argv[4]);
-        return 3;
-    }
-    size_t length;
-    char *text = system_text(argv[1], &length);
-    int status = text != NULL ? perform(text, length, nanoseconds, ticks, program, recording) : 3;
-    if (recording != NULL && fclose(recording) != 0) {
-        fprintf(stderr, "file: %s\n", argv[4]);
-        status = 3;
-    }
-    free(text);
-    return status;
 }

@@ -2,69 +2,65 @@
 #include "system.h"
 
 #include "kernel.h"
+#include "recording.h"
 
+#include <stdalign.h>
 #include <stdlib.h>
 #include <string.h>
 
 enum { PROCESSORS = 8, TASKS = 255, CYCLICS = 255, INTERRUPTS = 32, SERVICES = 59 };
-enum { LINE_ROOM = 128, LINES_ROOM = 64 << 10, EVENT_ROOM = 66432, SPARE_STACK = 64 << 10 };
+enum { EVENT_ROOM = 66432, SPARE_STACK = 64 << 10 };
 
 static const unsigned long USUAL_POLLS = 1000000;
 
 typedef void (*body_function)(intptr_t);
 
+/* What the last event of a processor did. Who acts there is kept up to date. */
+struct event {
+    alignas(32) fmp_outcome outcome;
+};
+
 fmp_system system_kernel = FMP_BLANK;
-uint32_t system_processors;
+uint32_t system_processors;                             /* 0 while no system is open */
 unsigned long system_polls;
 const struct driver *system_driver;
 
 static struct flow tasks[TASKS];                        /* by numbers from 1 on, each one place lower */
 static struct flow handlers[PROCESSORS];
+static struct event last[PROCESSORS];
 static body_function cyclics[CYCLICS];
 static body_function interrupts[INTERRUPTS];
 static FILE *trace_file;                                /* NULL where nothing is printed */
-static FILE *recording_file;                            /* NULL where nothing is recorded */
-static uint8_t recorded[LINES_ROOM];                    /* whole lines that are not written yet */
-static size_t recorded_length;
-
-/* What the last event of each processor did. Those of `known`, by bits, still say who acts there. */
-static fmp_outcome last[PROCESSORS];
-static uint32_t known;
 
 /* Bodies. */
 
 static _Thread_local struct flow *running;              /* NULL outside bodies */
 
 /* A body may go on in another thread than before: where `running` is may not be kept over a call of it. */
-__attribute__((noinline)) static struct flow *inside(void)
+__attribute__((noinline)) struct flow *system_inside(void)
 {
     return running;
 }
 
-bool system_inside(void)
-{
-    return inside() != NULL;
-}
-
 _Noreturn static void leave_for_good(struct flow *me, enum wish wish)
 {
-    me->wish = wish;
-    system_driver->ask(me);
+    system_driver->ask(me, wish);
     abort();
 }
 
 static void begin(void)
 {
-    struct flow *me = inside();
-    me->run(me->told.value);
+    struct flow *me = system_inside();
+    system_driver->begin(me);
+    me->run(me->told->value);
     leave_for_good(me, ENDS);
 }
 
 void system_enter(struct coroutine *outside, struct flow *flow)
 {
-    if (!flow->has_begun) {
+    if (flow->wish == BEGINS) {
+        flow->wish = GOES_ON;
         coroutine_begin(&flow->coroutine, begin);
-        flow->has_begun = true;
     }
     running = flow;
     coroutine_enter(outside, &flow->coroutine);
@@ -73,7 +69,7 @@ void system_enter(struct coroutine *outside, struct flow *flow)
 
 ER fmp_service(uint8_t service, int32_t a, int32_t b, int32_t c, int32_t d, int32_t *value)
 {
-    struct flow *me = inside();
+    struct flow *me = system_inside();
     if (me == NULL) {
         return E_CTX;
     }
@@ -85,17 +81,16 @@ ER fmp_service(uint8_t service, int32_t a, int32_t b, int32_t c, int32_t d, int3
     me->arguments[1] = b;
     me->arguments[2] = c;
     me->arguments[3] = d;
-    me->wish = CALLS;
-    system_driver->ask(me);
-    if (me->told.has_value) {
-        *value = me->told.value;
+    system_driver->ask(me, CALLS);
+    if (me->told->has_value) {
+        *value = me->told->value;
     }
-    return me->told.code;
+    return me->told->code;
 }
 
 void fmp_stop(uint8_t fault)
 {
-    struct flow *me = inside();
+    struct flow *me = system_inside();
     if (me == NULL || fault < FMP_OVERFLOW || fault > FMP_INDEX) {
         abort();
     }
@@ -105,7 +100,7 @@ void fmp_stop(uint8_t fault)
 
 void fmp_poll(void)
 {
-    struct flow *me = inside();
+    struct flow *me = system_inside();
     if (me != NULL) {
         system_driver->poll(me);
     }
@@ -116,30 +111,23 @@ void fmp_poll(void)
 static void print_lines(void)
 {
     static uint8_t room[EVENT_ROOM];
-    if (trace_file == NULL) {
-        return;
+    if (trace_file != NULL) {
+        fwrite(room, 1, fmp_print(&system_kernel, room, sizeof room), trace_file);
     }
-    fwrite(room, 1, fmp_print(&system_kernel, room, sizeof room), trace_file);
-}
-
-/* A body starts anew. What it was before is forgotten, and its stack is used again. */
-static void start(struct flow *flow)
-{
-    flow->has_begun = false;
-    flow->wish = GOES_ON;
 }
 
 static void begin_handler(const fmp_trace_line *line)
 {
     struct flow *handler = &handlers[line->processor - 1];
     handler->run = line->who == FMP_INTERRUPT ? interrupts[line->number - 1] : cyclics[line->number - 1];
-    start(handler);
+    handler->wish = BEGINS;
 }
 
+/* A body that starts anew is forgotten as it was before, and its stack is used again. */
 static void follow_line(const fmp_trace_line *line)
 {
     if (line->kind == FMP_LINE_STARTS) {
-        start(&tasks[line->number - 1]);
+        tasks[line->number - 1].wish = BEGINS;
     } else if (line->kind == FMP_LINE_BEGIN) {
         begin_handler(line);
     }
@@ -157,56 +145,30 @@ static void follow_lines(void)
     }
 }
 
-void system_flush(void)
+/* Who acts on these processors, by bits. */
+static void look_at(uint32_t changes)
 {
-    if (recording_file != NULL) {
-        fwrite(recorded, 1, recorded_length, recording_file);
-        fflush(recording_file);
+    for (uint32_t at = 0; at < system_processors; at++) {
+        if (changes >> at & 1) {
+            fmp_acting(&system_kernel, (uint8_t)(at + 1), &last[at].outcome.acting);
+        }
     }
-    recorded_length = 0;
 }
 
-/* The recording: a line for each event that was done, with the call that was handed in. */
-static void record_event(void)
+/* What follows an event that was done: its changes elsewhere than on its own processor, and its lines. */
+__attribute__((noinline)) static void follow(uint32_t changes)
 {
-    if (recording_file == NULL) {
-        return;
-    }
-    if (recorded_length + LINE_ROOM > sizeof recorded) {
-        system_flush();
-    }
-    recorded_length += fmp_recorded(&system_kernel, recorded + recorded_length, LINE_ROOM);
-}
-
-void fmp_record(FILE *recording)
-{
-    system_flush();
-    recording_file = recording;
-}
-
-/* What follows an event that was done: its lines tell where others act now, but for its own processor. */
-static void finish(uint32_t changes)
-{
-    record_event();
-    known &= ~changes;
+    look_at(changes);
     if (changes & (FMP_TASK_STARTS | FMP_HANDLER_BEGINS)) {
         follow_lines();
     }
+    recording_add();
     print_lines();
-}
-
-static uint32_t bit_of(uint8_t p)
-{
-    return 1u << (p - 1);
 }
 
 const fmp_actor *system_acting(uint8_t p)
 {
-    if ((known & bit_of(p)) == 0) {
-        fmp_acting(&system_kernel, p, &last[p - 1].acting);
-        known |= bit_of(p);
-    }
-    return &last[p - 1].acting;
+    return &last[p - 1].outcome.acting;
 }
 
 struct flow *system_flow(const fmp_actor *actor, uint8_t p)
@@ -214,43 +176,63 @@ struct flow *system_flow(const fmp_actor *actor, uint8_t p)
     return actor->who == FMP_TASK ? &tasks[actor->number - 1] : &handlers[p - 1];
 }
 
-static uint32_t event_of(uint8_t p, const struct flow *flow)
+static uint32_t event_of(uint8_t p, const struct flow *flow, fmp_outcome *outcome)
 {
     const int32_t *with = flow->arguments;
-    fmp_outcome *outcome = &last[p - 1];
-    switch (flow->wish) {
-    case CALLS:
+    if (flow->wish == CALLS) {
         return fmp_call(&system_kernel, p, flow->service, with[0], with[1], with[2], with[3], outcome);
+    }
+    switch (flow->wish) {
     case ENDS:
         return fmp_end(&system_kernel, p, outcome);
     case FAULTS:
         return fmp_fault(&system_kernel, p, flow->fault, outcome);
-    case GOES_ON:
-    case KEEPS_ITS_PLACE:
-        break;
+    default:
+        return FMP_KEPT;
     }
-    return FMP_KEPT;
 }
 
 uint32_t system_hand_in(uint8_t p, struct flow *flow, uint32_t *changes)
 {
-    uint32_t answer = event_of(p, flow);
+    fmp_outcome *outcome = &last[p - 1].outcome;
+    uint32_t answer = event_of(p, flow, outcome);
     if (answer == FMP_DONE) {
         flow->wish = GOES_ON;
-        *changes = last[p - 1].changes;
-        finish(*changes);
-        known |= bit_of(p);
+        *changes = outcome->changes & ~(1u << (p - 1));
+        if (*changes != 0 || trace_file != NULL || recording_file != NULL) {
+            follow(*changes);
+        }
     } else if (answer == FMP_KEPT) {
         flow->wish = GOES_ON;
     }
     return answer;
 }
 
+uint32_t system_step(uint8_t p, const struct driver *driver, struct coroutine *outside)
+{
+    uint32_t changes;
+    if ((uint8_t)(p - 1) >= system_processors) {
+        return system_kernel.at == NULL ? FMP_NO_SYSTEM : FMP_NOTHING;
+    }
+    const fmp_actor *actor = system_acting(p);
+    if (running != NULL || actor->who == FMP_NOBODY) {
+        return FMP_NOTHING;
+    }
+    struct flow *flow = system_flow(actor, p);
+    if (flow->wish <= BEGINS) {
+        flow->told = actor;
+        flow->polls = 0;
+        system_driver = driver;
+        system_enter(outside, flow);
+    }
+    return system_hand_in(p, flow, &changes);
+}
+
 static uint32_t finished(uint32_t answer, const fmp_outcome *outcome, uint32_t *changes)
 {
     if (answer == FMP_DONE) {
         *changes = outcome->changes;
-        finish(outcome->changes);
+        follow(*changes);
     }
     return answer;
 }
@@ -362,7 +344,6 @@ static enum fmp_opened equip(const struct fmp_program *program, FILE *messages)
     fmp_counts(&system_kernel, &counts);
     system_processors = counts.processors;
     system_polls = program->polls != 0 ? program->polls : USUAL_POLLS;
-    known = 0;
     if (!find_all(program, messages)) {
         return FMP_BODY_MISSING;
     }
@@ -382,8 +363,7 @@ enum fmp_opened fmp_open(const char *text, size_t length, const struct fmp_progr
         return opened;
     }
     trace_file = trace;
-    follow_lines();
-    print_lines();
+    follow(UINT32_MAX);
     return FMP_OPENED;
 }
 
@@ -403,6 +383,7 @@ void fmp_close(void)
         forget(&handlers[at]);
     }
     fmp_free(&system_kernel);
+    system_processors = 0;
 }
 
 void fmp_print_states(FILE *out)

@@ -12,25 +12,27 @@
 
 enum { NAME_ROOM = 32 };
 
-/* What a body that was left asks for. */
-enum wish { GOES_ON, CALLS, ENDS, FAULTS, KEEPS_ITS_PLACE };
+/* What a body that was left asks for: nothing, on its stack or on an empty one, or an event. */
+enum wish { GOES_ON, BEGINS, CALLS, ENDS, FAULTS, KEEPS_ITS_PLACE };
 
 /* A body that runs: that of a task, or of the handler of a processor. */
 struct flow {
     struct coroutine coroutine;
     void (*run)(intptr_t exinf);
-    bool has_begun;
     enum wish wish;
     uint8_t service;            /* of its call */
     uint8_t fault;
     int32_t arguments[4];
-    fmp_actor told;             /* what it was told, when it goes on */
+    const fmp_actor *told;      /* what it was told, when it goes on */
+    fmp_actor reply;            /* where a driver keeps that */
+    unsigned long polls;        /* since it went on */
     char name[NAME_ROOM];
 };
 
 /* What a port does for a body. Each returns when the body goes on. */
 struct driver {
-    void (*ask)(struct flow *);     /* it has a wish, and was told the reply when it goes on */
+    void (*begin)(struct flow *);
+    void (*ask)(struct flow *, enum wish);      /* it was told the reply when it goes on */
     void (*poll)(struct flow *);
 };
 
@@ -39,8 +41,8 @@ extern uint32_t system_processors;
 extern unsigned long system_polls;              /* of the program */
 extern const struct driver *system_driver;      /* while bodies go on */
 
-/* Whether the invoking thread is in a body. */
-bool system_inside(void);
+/* The body that the invoking thread is in, or NULL. */
+struct flow *system_inside(void);
 
 /* Who acts on a processor, and what it was told last; and its body. */
 const fmp_actor *system_acting(uint8_t p);
@@ -51,14 +53,15 @@ void system_enter(struct coroutine *outside, struct flow *);
 
 /*
  * An event: enum fmp_answer. Where it was done, it is recorded, its bodies start and its lines are printed; and
- * `changes` is that of its outcome. The first one hands in what the body that acts on a processor wishes.
+ * `changes` says where it changed who acts. The first one hands in what the body that acts on a processor wishes, and
+ * leaves that processor out.
  */
 uint32_t system_hand_in(uint8_t p, struct flow *, uint32_t *changes);
 uint32_t system_tick(uint32_t *changes);
 uint32_t system_interrupt(uint8_t number, uint32_t *changes);
 
-/* Writes what is recorded. */
-void system_flush(void);
+/* The body that acts on a processor goes on until it has a wish, which is handed in. */
+uint32_t system_step(uint8_t p, const struct driver *, struct coroutine *outside);
 
 /* The body whose stack an address would be on if it were larger, or NULL. */
 const struct flow *system_overflowing(const void *address);

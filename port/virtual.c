@@ -7,63 +7,44 @@
 #include <string.h>
 
 static struct coroutine outside;    /* of bodies */
-static unsigned long polls;         /* of the body that goes on, in this step */
 
-static void ask(struct flow *me)
+static void begin(struct flow *me)
 {
+    (void)me;
+}
+
+static void ask(struct flow *me, enum wish wish)
+{
+    me->wish = wish;
     coroutine_leave(&me->coroutine);
 }
 
 static void poll(struct flow *me)
 {
-    if (++polls >= system_polls) {
-        me->wish = KEEPS_ITS_PLACE;
-        coroutine_leave(&me->coroutine);
+    if (++me->polls >= system_polls) {
+        ask(me, KEEPS_ITS_PLACE);
     }
 }
 
-static const struct driver in_virtual_time = { .ask = ask, .poll = poll };
-
-static void enter(struct flow *flow, const fmp_actor *actor)
-{
-    flow->told = *actor;
-    polls = 0;
-    system_driver = &in_virtual_time;
-    system_enter(&outside, flow);
-}
+static const struct driver in_virtual_time = { .begin = begin, .ask = ask, .poll = poll };
 
 /* Steps. */
 
 uint32_t fmp_step_run(uint8_t p)
 {
-    uint32_t changes;
-    if (system_kernel.at == NULL) {
-        return FMP_NO_SYSTEM;
-    }
-    if (system_inside() || p == 0 || p > system_processors) {
-        return FMP_NOTHING;
-    }
-    const fmp_actor *actor = system_acting(p);
-    if (actor->who == FMP_NOBODY) {
-        return FMP_NOTHING;
-    }
-    struct flow *flow = system_flow(actor, p);
-    if (flow->wish == GOES_ON) {
-        enter(flow, actor);
-    }
-    return system_hand_in(p, flow, &changes);
+    return system_step(p, &in_virtual_time, &outside);
 }
 
 uint32_t fmp_step_tick(void)
 {
     uint32_t changes;
-    return system_inside() ? FMP_NOTHING : system_tick(&changes);
+    return system_inside() != NULL ? FMP_NOTHING : system_tick(&changes);
 }
 
 uint32_t fmp_step_int(uint8_t number)
 {
     uint32_t changes;
-    return system_inside() ? FMP_NOTHING : system_interrupt(number, &changes);
+    return system_inside() != NULL ? FMP_NOTHING : system_interrupt(number, &changes);
 }
 
 /* Steps texts. */

@@ -21,7 +21,8 @@ enum fmp_over {
     FMP_HALTED,             /* by fmp_halt, SIGINT or SIGTERM */
     FMP_EVENTS_FULL,        /* the kernel takes no more events */
     FMP_NO_THREAD,          /* a thread could not be made; a message names it */
-    FMP_NOT_OPEN            /* no system is open, or it runs */
+    FMP_NOT_OPEN,           /* no system is open, or it runs */
+    FMP_NO_PREEMPTION       /* FMP_PREEMPT asks for what there is not; a message says so */
 };
 
 /*
@@ -31,6 +32,11 @@ enum fmp_over {
  *
  * A task that another one replaces on its processor goes on to compute until its next call, poll or end. It makes
  * that once the kernel runs it again. A body that does none of these keeps its processor, and the run from its end.
+ * With FMP_PREEMPT=signal in the environment (on x86-64), it is replaced at any instruction: the thread of its processor
+ * is sent SIGURG. Between its calls it must not use then what it shares with others, nor any function of the C library
+ * that is not safe in signal handlers, such as malloc and printf, unless dis_dsp or loc_cpu keeps others away.
+ *
+ * A task that is terminated leaves its stack as it is: nothing is freed that it took.
  *
  * SIGINT and SIGTERM end the run, unless the program has handlers of its own for them, or ignores them, as one that a
  * shell starts in the background ignores SIGINT. Signal handlers of the program run in the thread that invoked fmp_run,

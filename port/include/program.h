@@ -2,6 +2,7 @@
 #ifndef FMP_PROGRAM_H
 #define FMP_PROGRAM_H
 
+#include <stdbool.h>
 #include <stddef.h>
 #include <stdint.h>
 #include <stdio.h>
@@ -43,9 +44,24 @@ enum fmp_opened fmp_open(const char *text, size_t length, const struct fmp_progr
 
 /*
  * From now on each event that is done is written there, a line for each, with the call that was handed in; NULL: no
- * longer. Whole lines are written at a time: all are written at the next fmp_record, and at fmp_close.
+ * longer. All lines are written at the end of a run, at the next fmp_record, and at fmp_close; until then 4 KB at a
+ * time. A program that is killed leaves the lines that were written. What stands behind the last line feed, if anything,
+ * is no event: whoever reads the file leaves it out.
  */
 void fmp_record(FILE *recording);
+
+/* How a recording is written. */
+struct fmp_recording {
+    bool has_times;         /* each line ends in ` @N`: so many microseconds after the recording began */
+    size_t last;            /* only so many events, the last ones, 0: all */
+};
+
+/*
+ * The same, in another form. The last events alone are written at the next fmp_record, at fmp_close and where a stack
+ * overflows; before them stands `dropped N`, if N events were left out: then the run cannot be replayed. False if
+ * memory for them runs out: nothing has changed then.
+ */
+bool fmp_record_as(FILE *recording, const struct fmp_recording *);
 
 /* The states of the tasks, a line for each, as at the end of a simulation. */
 void fmp_print_states(FILE *);

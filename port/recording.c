@@ -1,0 +1,128 @@
+/* recording.c: a line for each event of the system at hand, in a file. */
+#include "recording.h"
+
+#include "system.h"
+
+#include <stdlib.h>
+#include <string.h>
+#include <time.h>
+
+enum { LINE_ROOM = 96, PIECE = 4 << 10, MICROSECONDS = 1000000 };
+
+/* A line, which is kept. */
+struct line {
+    uint8_t length;
+    uint8_t text[LINE_ROOM - 1];
+};
+
+FILE *recording_file;
+
+static bool has_times;
+static int64_t began;               /* in microseconds */
+static uint8_t piece[PIECE];        /* whole lines that are not written yet */
+static size_t piece_length;
+static struct line *last;           /* the last events, or NULL where all are written */
+static size_t most_last;
+static size_t added;                /* since there are last ones */
+
+static int64_t now(void)
+{
+    struct timespec time;
+    clock_gettime(CLOCK_MONOTONIC, &time);
+    return (int64_t)time.tv_sec * MICROSECONDS + time.tv_nsec / 1000;
+}
+
+static size_t write_number(uint64_t number, uint8_t *out)
+{
+    uint8_t digits[20];
+    size_t count = 0;
+    do {
+        digits[count++] = (uint8_t)('0' + number % 10);
+        number /= 10;
+    } while (number != 0);
+    for (size_t at = 0; at < count; at++) {
+        out[at] = digits[count - 1 - at];
+    }
+    return count;
+}
+
+/* The line of the last event. The time is put before its line feed. How many bytes. */
+static size_t write_line(uint8_t *out)
+{
+    size_t length = fmp_recorded(&system_kernel, out, LINE_ROOM - 1);
+    if (has_times && length > 0) {
+        out[length - 1] = ' ';
+        out[length++] = '@';
+        length += write_number((uint64_t)(now() - began), out + length);
+        out[length++] = '\n';
+    }
+    return length;
+}
+
+void recording_add(void)
+{
+    if (recording_file == NULL) {
+        return;
+    }
+    if (last != NULL) {
+        struct line *line = &last[added++ % most_last];
+        line->length = (uint8_t)write_line(line->text);
+        return;
+    }
+    if (piece_length + LINE_ROOM > sizeof piece) {
+        recording_flush();
+    }
+    piece_length += write_line(piece + piece_length);
+}
+
+void recording_flush(void)
+{
+    if (recording_file != NULL && piece_length > 0) {
+        fwrite(piece, 1, piece_length, recording_file);
+        fflush(recording_file);
+    }
+    piece_length = 0;
+}
+
+static void write_last(void)
+{
+    size_t first = added > most_last ? added - most_last : 0;
+    if (first > 0) {
+        fprintf(recording_file, "dropped %zu\n", first);
+    }
+    for (size_t at = first; at < added; at++) {
+        fwrite(last[at % most_last].text, 1, last[at % most_last].length, recording_file);
+    }
+    fflush(recording_file);
+}
+
+void recording_end(void)
+{
+    recording_flush();
+    if (last != NULL && recording_file != NULL) {
+        write_last();
+        added = 0;
+    }
+}
+
+bool fmp_record_as(FILE *recording, const struct fmp_recording *how)
+{
+    struct line *ring = how->last > 0 ? calloc(how->last, sizeof *ring) : NULL;
+    if (how->last > 0 && ring == NULL) {
+        return false;
+    }
+    recording_end();
+    free(last);
+    last = ring;
+    most_last = how->last;
+    has_times = how->has_times;
+    began = now();
+    recording_file = recording;
+    return true;
+}
+
+void fmp_record(FILE *recording)
+{
+    const struct fmp_recording whole = { .has_times = false, .last = 0 };
+    fmp_record_as(recording, &whole);
+}
