@@ -18,6 +18,7 @@ typedef void (*body_function)(intptr_t);
 /* What the last event of a processor did. Who acts there is kept up to date. */
 struct event {
     alignas(32) fmp_outcome outcome;
+    uint32_t others;            /* what changes elsewhere than on this processor, by bits */
 };
 
 fmp_system system_kernel = FMP_BLANK;
@@ -36,8 +37,13 @@ static FILE *trace_file;                                /* NULL where nothing is
 
 static _Thread_local struct flow *running;              /* NULL outside bodies */
 
-/* A body may go on in another thread than before: where `running` is may not be kept over a call of it. */
-__attribute__((noinline)) struct flow *system_inside(void)
+/* A body may go on in another thread than before: where `running` is may not be kept over a call of these functions. */
+__attribute__((noinline)) struct flow *system_inside(void);
+__attribute__((noinline)) ER fmp_service(uint8_t, int32_t, int32_t, int32_t, int32_t, int32_t *);
+__attribute__((noinline)) void fmp_stop(uint8_t);
+__attribute__((noinline)) void fmp_poll(void);
+
+struct flow *system_inside(void)
 {
     return running;
 }
@@ -69,7 +75,7 @@ void system_enter(struct coroutine *outside, struct flow *flow)
 
 ER fmp_service(uint8_t service, int32_t a, int32_t b, int32_t c, int32_t d, int32_t *value)
 {
-    struct flow *me = system_inside();
+    struct flow *me = running;
     if (me == NULL) {
         return E_CTX;
     }
@@ -90,7 +96,7 @@ ER fmp_service(uint8_t service, int32_t a, int32_t b, int32_t c, int32_t d, int3
 
 void fmp_stop(uint8_t fault)
 {
-    struct flow *me = system_inside();
+    struct flow *me = running;
     if (me == NULL || fault < FMP_OVERFLOW || fault > FMP_INDEX) {
         abort();
     }
@@ -100,7 +106,7 @@ void fmp_stop(uint8_t fault)
 
 void fmp_poll(void)
 {
-    struct flow *me = system_inside();
+    struct flow *me = running;
     if (me != NULL) {
         system_driver->poll(me);
     }
@@ -192,15 +198,14 @@ static uint32_t event_of(uint8_t p, const struct flow *flow, fmp_outcome *outcom
     }
 }
 
-uint32_t system_hand_in(uint8_t p, struct flow *flow, uint32_t *changes)
+static inline uint32_t hand_in(uint8_t p, struct flow *flow, struct event *event)
 {
-    fmp_outcome *outcome = &last[p - 1].outcome;
-    uint32_t answer = event_of(p, flow, outcome);
+    uint32_t answer = event_of(p, flow, &event->outcome);
     if (answer == FMP_DONE) {
         flow->wish = GOES_ON;
-        *changes = outcome->changes & ~(1u << (p - 1));
-        if (*changes != 0 || trace_file != NULL || recording_file != NULL) {
-            follow(*changes);
+        uint32_t changes = event->outcome.changes & event->others;
+        if (changes != 0 || trace_file != NULL || recording_file != NULL) {
+            follow(changes);
         }
     } else if (answer == FMP_KEPT) {
         flow->wish = GOES_ON;
@@ -208,13 +213,21 @@ uint32_t system_hand_in(uint8_t p, struct flow *flow, uint32_t *changes)
     return answer;
 }
 
+uint32_t system_hand_in(uint8_t p, struct flow *flow, uint32_t *changes)
+{
+    struct event *event = &last[p - 1];
+    uint32_t answer = hand_in(p, flow, event);
+    *changes = event->outcome.changes & event->others;
+    return answer;
+}
+
 uint32_t system_step(uint8_t p, const struct driver *driver, struct coroutine *outside)
 {
-    uint32_t changes;
     if ((uint8_t)(p - 1) >= system_processors) {
         return system_kernel.at == NULL ? FMP_NO_SYSTEM : FMP_NOTHING;
     }
-    const fmp_actor *actor = system_acting(p);
+    struct event *event = &last[(uint8_t)(p - 1)];
+    const fmp_actor *actor = &event->outcome.acting;
     if (running != NULL || actor->who == FMP_NOBODY) {
         return FMP_NOTHING;
     }
@@ -225,7 +238,7 @@ uint32_t system_step(uint8_t p, const struct driver *driver, struct coroutine *o
         system_driver = driver;
         system_enter(outside, flow);
     }
-    return system_hand_in(p, flow, &changes);
+    return hand_in(p, flow, event);
 }
 
 static uint32_t finished(uint32_t answer, const fmp_outcome *outcome, uint32_t *changes)
@@ -289,6 +302,14 @@ static bool find_all(const struct fmp_program *program, FILE *messages)
     return all;
 }
 
+static const char *name_of(size_t task)
+{
+    static char names[TASKS][NAME_ROOM];
+    char *name = names[task - 1];
+    name[fmp_name(&system_kernel, FMP_TASKS, task, (uint8_t *)name, NAME_ROOM - 1)] = '\0';
+    return name;
+}
+
 static bool take_stack(struct flow *flow, size_t size, FILE *messages)
 {
     if (!coroutine_take(&flow->coroutine, size)) {
@@ -301,16 +322,22 @@ static bool take_stack(struct flow *flow, size_t size, FILE *messages)
 /* A stack for each task and for the handlers of each processor. What C functions call has room in the spare part. */
 static bool take_stacks(FILE *messages)
 {
+    static const char *const handler_names[PROCESSORS] = {
+        "the handlers of processor 1", "the handlers of processor 2", "the handlers of processor 3",
+        "the handlers of processor 4", "the handlers of processor 5", "the handlers of processor 6",
+        "the handlers of processor 7", "the handlers of processor 8"
+    };
     for (size_t task = 1; task <= fmp_count(&system_kernel, FMP_TASKS); task++) {
         struct flow *flow = &tasks[task - 1];
-        fmp_name(&system_kernel, FMP_TASKS, task, (uint8_t *)flow->name, NAME_ROOM - 1);
+        flow->name = name_of(task);
         if (!take_stack(flow, fmp_detail(&system_kernel, FMP_TASKS, task) + SPARE_STACK, messages)) {
             return false;
         }
     }
     for (uint32_t p = 1; p <= system_processors; p++) {
         struct flow *flow = &handlers[p - 1];
-        snprintf(flow->name, NAME_ROOM, "the handlers of processor %u", (unsigned)p);
+        last[p - 1].others = ~(1u << (p - 1));
+        flow->name = handler_names[p - 1];
         if (!take_stack(flow, SPARE_STACK, messages)) {
             return false;
         }

@@ -26,7 +26,7 @@ struct flow {
     const fmp_actor *told;      /* what it was told, when it goes on */
     fmp_actor reply;            /* where a driver keeps that */
     unsigned long polls;        /* since it went on */
-    char name[NAME_ROOM];
+    const char *name;
 };
 
 /* What a port does for a body. Each returns when the body goes on. */
