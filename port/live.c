@@ -78,13 +78,13 @@ __attribute__((noinline)) static struct processor *here(void)
  */
 static _Thread_local volatile sig_atomic_t in_port __attribute__((tls_model("initial-exec")));
 
-static void enter_port(void)
+__attribute__((noinline)) static void enter_port(void)
 {
     in_port = 1;
     atomic_signal_fence(memory_order_seq_cst);
 }
 
-static void leave_port(void)
+__attribute__((noinline)) static void leave_port(void)
 {
     atomic_signal_fence(memory_order_seq_cst);
     in_port = 0;
@@ -211,7 +211,7 @@ static bool acts(struct processor *me, const struct flow *flow)
 
 /* Bodies. */
 
-/* Hands in what a body wishes. Where a spin lock is held, it waits for the next event, before which it has no effect. */
+/* Hands in what a body wishes. Where a spin lock is held, it waits for the next event: nothing changes before it. */
 static void carry_out(struct processor *me, struct flow *flow)
 {
     if (hand_in(me, flow) == FMP_NOTHING) {

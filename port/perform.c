@@ -3,6 +3,7 @@
 #include "system.h"
 
 #include <stdlib.h>
+#include <string.h>
 
 /* A count of so many decimal digits, or -1. */
 static long count_of(const char *word)
@@ -12,41 +13,76 @@ static long count_of(const char *word)
     return *word >= '0' && *word <= '9' && *end == '\0' && end - word <= 18 ? count : -1;
 }
 
+/* What the command line asks for. */
+struct wanted {
+    struct fmp_recording form;
+    const char *cfg;
+    long nanoseconds, ticks;
+    const char *recording;      /* or NULL */
+};
+
+/* Reads the command line. Whether it is one. */
+static bool read_words(int argc, char **argv, struct wanted *it)
+{
+    int at = 1;
+    for (; at < argc && argv[at][0] == '-'; at++) {
+        if (strcmp(argv[at], "--times") == 0) {
+            it->form.has_times = true;
+        } else if (strcmp(argv[at], "--last") == 0 && at + 1 < argc && count_of(argv[at + 1]) > 0) {
+            it->form.last = (size_t)count_of(argv[++at]);
+        } else {
+            return false;
+        }
+    }
+    if (argc - at < 3 || argc - at > 4) {
+        return false;
+    }
+    it->cfg = argv[at];
+    it->nanoseconds = count_of(argv[at + 1]);
+    it->ticks = count_of(argv[at + 2]);
+    it->recording = argc - at == 4 ? argv[at + 3] : NULL;
+    return it->nanoseconds >= 0 && it->ticks >= 0;
+}
+
 /* A run of the system of a text. The exit status. */
-static int perform(const char *text, size_t length, long nanoseconds, long ticks, const struct fmp_program *program,
+static int perform(const char *text, size_t length, const struct wanted *it, const struct fmp_program *program,
                    FILE *recording)
 {
     if (fmp_open(text, length, program, stdout, stderr) != FMP_OPENED) {
         return 1;
     }
-    fmp_record(recording);
-    enum fmp_over why = fmp_run(nanoseconds, (unsigned long)ticks, stderr);
+    enum fmp_over why = FMP_NOT_OPEN;
+    if (fmp_record_as(recording, &it->form)) {
+        why = fmp_run(it->nanoseconds, (unsigned long)it->ticks, stderr);
+    } else {
+        fputs("fmp: out of memory for the recording\n", stderr);
+    }
     if (why == FMP_EVENTS_FULL) {
         fputs("fmp: the kernel takes no more events\n", stderr);
     }
     fmp_print_states(stdout);
     fmp_close();
-    return why == FMP_NO_THREAD ? 3 : why == FMP_EVENTS_FULL;
+    return why == FMP_ALL_DORMANT || why == FMP_TICKS_OVER || why == FMP_HALTED ? 0 : 3;
 }
 
 int fmp_perform(int argc, char **argv, const struct fmp_program *program)
 {
-    long nanoseconds = argc > 2 ? count_of(argv[2]) : -1;
-    long ticks = argc > 3 ? count_of(argv[3]) : -1;
-    if (argc > 5 || nanoseconds < 0 || ticks < 0) {
-        fprintf(stderr, "usage: %s CFG NANOSECONDS TICKS [RECORDING]\n", argc > 0 ? argv[0] : "perform");
+    struct wanted it = { .form = { .has_times = false, .last = 0 } };
+    if (!read_words(argc, argv, &it)) {
+        fprintf(stderr, "usage: %s [--times] [--last EVENTS] CFG NANOSECONDS TICKS [RECORDING]\n",
+                argc > 0 ? argv[0] : "perform");
         return 2;
     }
-    FILE *recording = argc == 5 ? fopen(argv[4], "w") : NULL;
-    if (argc == 5 && recording == NULL) {
-        fprintf(stderr, "file: %s\n", argv[4]);
+    FILE *recording = it.recording != NULL ? fopen(it.recording, "w") : NULL;
+    if (it.recording != NULL && recording == NULL) {
+        fprintf(stderr, "file: %s\n", it.recording);
         return 3;
     }
     size_t length;
-    char *text = system_text(argv[1], &length);
-    int status = text != NULL ? perform(text, length, nanoseconds, ticks, program, recording) : 3;
+    char *text = system_text(it.cfg, &length);
+    int status = text != NULL ? perform(text, length, &it, program, recording) : 3;
     if (recording != NULL && fclose(recording) != 0) {
-        fprintf(stderr, "file: %s\n", argv[4]);
+        fprintf(stderr, "file: %s\n", it.recording);
         status = 3;
     }
     free(text);

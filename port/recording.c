@@ -1,4 +1,5 @@
 /* recording.c: a line for each event of the system at hand, in a file. */
+#define _POSIX_C_SOURCE 200809L
 #include "recording.h"
 
 #include "system.h"

@@ -1,7 +1,7 @@
 #!/bin/sh
 # Compiles C programs with the library for C and its ports, and runs them: the examples, to the byte of their traces,
 # and their recordings, replayed; what is answered to a mistake; random calls and random C tasks beside the model of the
-# kernel; and examples and random C tasks in real time, whose recordings give their traces again. It does so with two
+# kernel; examples and random C tasks in real time, beside the model too; runs that signals end. It does so with two
 # compilers, with the sanitizers of one, with valgrind, and with the library as `make install` copies it. It names what
 # is not on the machine.
 #
@@ -59,7 +59,7 @@ compiled() {
         "$@" $strict -c "$source" -o "$kind/$(basename "$source" .c).o" 2> errors ||
             verdict "$kind: $(basename "$source")" "it does not compile: $(head -c 300 errors)"
     done
-    parts="system coroutine virtual live replaying"
+    parts="system coroutine recording virtual live signals perform replaying"
     for part in $parts; do
         ar rc "$kind/libport.a" "$kind/$part.o"
     done
@@ -100,22 +100,26 @@ replays() {
     done
 }
 
-# real KIND COUNT: runs in real time, which are over for each reason, and those of random systems; and the
-# examples. Each recording gives the trace and the states again.
+# real KIND COUNT MODE..: runs in real time that are over for each reason, and those of random systems, in each mode of
+# FMP_PREEMPT; and the examples. Each recording gives the trace and the states again.
 real() {
     kind=$1
-    problem=
-    "$kind/real" ends > output 2>&1 || problem="status $?: $(head -c 300 output)"
-    verdict "$kind: the ends of runs" "$problem"
-    problem=
-    python3 "$root/checks/port/real.py" "$PWD/$kind/real" "$2" > output 2>&1 ||
-        problem="status $?: $(head -c 300 output)"
-    verdict "$kind: random systems in real time" "$problem"
-    [ -n "$problem" ] || cat output
+    systems=$2
+    shift 2
+    for mode in "$@"; do
+        problem=
+        FMP_PREEMPT=$mode "$kind/real" ends > output 2>&1 || problem="status $?: $(head -c 300 output)"
+        verdict "$kind: the ends of runs, $mode" "$problem"
+        problem=
+        FMP_PREEMPT=$mode python3 "$root/checks/port/real.py" "$PWD/$kind/real" "$systems" > output 2>&1 ||
+            problem="status $?: $(head -c 1000 output)"
+        verdict "$kind: random systems in real time, $mode" "$problem"
+        [ -n "$problem" ] || cat output
+    done
     for object in "$kind"/live-*; do
         name=${object#"$kind/live-"}
         problem=
-        "$object" "$root/examples/$name.cfg" 200000 20 "$name.calls" > trace 2> errors || problem="status $?"
+        "$object" --times "$root/examples/$name.cfg" 200000 20 "$name.calls" > trace 2> errors || problem="status $?"
         plain/replay "$root/examples/$name.cfg" "$name.calls" > output 2>> errors || problem="$problem, no replay"
         cmp -s trace output || problem="$problem, its recording gives another trace"
         [ ! -s errors ] || problem="$problem, it says: $(head -c 300 errors)"
@@ -135,14 +139,35 @@ performed() {
     done
 }
 
-# A stack that overflows is found, and its task is named.
-overflows() {
+# A stack that overflows is found, and its task is named; and so is what memory is too little for.
+failures() {
     problem=
     status=0
     plain/real overflow > output 2>&1 || status=$?
     [ $status = 3 ] || problem="status $status"
-    [ "$(cat output)" = "fmp: the stack overflows of MAIN" ] || problem="$problem, it says: $(head -c 300 output)"
+    [ "$(cat output)" = "fmp: the stack of MAIN overflows" ] || problem="$problem, it says: $(head -c 300 output)"
     verdict "a stack that overflows" "$problem"
+    problem=
+    plain/real limits > output 2>&1 || problem="status $?"
+    case $(cat output) in
+        "fmp: out of memory for the stack of T"*"fmp: out of memory"*"fmp: there is no thread for interrupts") ;;
+        *) problem="$problem, it says: $(head -c 300 output)" ;;
+    esac
+    verdict "too little memory" "$problem"
+    problem=
+    FMP_PREEMPT=always plain/live-queue "$root/examples/queue.cfg" 200000 20 > output 2> errors && problem="status 0"
+    [ "$(cat errors)" = "fmp: FMP_PREEMPT is neither call nor signal: always" ] ||
+        problem="$problem, it says: $(head -c 300 errors)"
+    verdict "a preemption that there is not" "$problem"
+}
+
+# kills COUNT: runs that signals end at random moments.
+kills() {
+    problem=
+    python3 "$root/checks/port/kills.py" "$PWD/plain/real" "$PWD/plain/replay" "$1" > output 2>&1 ||
+        problem="status $?: $(head -c 1000 output)"
+    verdict "runs that signals end" "$problem"
+    [ -n "$problem" ] || cat output
 }
 
 # mistakes KIND COMMAND..: what no model knows.
@@ -155,6 +180,15 @@ mistakes() {
         [ ! -s errors ] || problem="$problem, it says: $(head -c 300 errors)"
         verdict "$kind: $name" "$problem"
     done
+}
+
+# Runs in real time under the detector of races of valgrind.
+raced() {
+    problem=
+    valgrind --tool=helgrind --quiet --error-exitcode=9 --suppressions="$root/checks/port/helgrind.supp" \
+        plain/real ends > output 2> errors || problem="status $?: $(head -c 1000 errors)"
+    [ ! -s errors ] || problem="$problem, it says: $(head -c 1000 errors)"
+    verdict "races" "$problem"
 }
 
 # random KIND COUNT SEED: random calls and random tasks beside the model.
@@ -224,8 +258,9 @@ forms "$cc"
 missing_bodies
 installed
 performed plain "$cc" -O2
-real plain 40
-overflows
+real plain 30 call signal
+failures
+kills 20
 
 compiled contexts "$cc" -O2 -DFMP_UCONTEXT
 examples contexts
@@ -255,7 +290,7 @@ if "$cc" -fsanitize=address,undefined empty.c -o empty 2> errors && ./empty; the
     compiled sanitized "$cc" $sanitizers
     # shellcheck disable=SC2086
     performed sanitized "$cc" $sanitizers
-    real sanitized 10
+    real sanitized 10 call
     examples sanitized
     replays sanitized
     mistakes sanitized
@@ -265,9 +300,9 @@ else
 fi
 
 if "$cc" -fsanitize=thread empty.c -o empty 2> errors && ./empty; then
-    compiled threads "$cc" -O1 -fsanitize=thread
-    performed threads "$cc" -O1 -fsanitize=thread
-    real threads 10
+    compiled threads "$cc" -O1 -fsanitize=thread -DFMP_UCONTEXT
+    performed threads "$cc" -O1 -fsanitize=thread -DFMP_UCONTEXT
+    real threads 10 call
 else
     echo "$script: there is no sanitizer of threads"
 fi
@@ -278,6 +313,7 @@ if command -v valgrind > /dev/null; then
     mistakes plain $quiet
     # shellcheck disable=SC2086
     examples plain $quiet
+    raced
 else
     echo "$script: there is no valgrind"
 fi

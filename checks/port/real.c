@@ -1,10 +1,13 @@
 /*
  * real.c: runs in real time. Each is recorded and replayed: a new kernel gives the same trace and states again.
  *
- *   real                 runs the systems of standard input, each `new LENGTH` and then so many bytes of a
- *                        configuration, whose bodies are b0 to b63 and h0 to h63. They make random calls, and a thread
- *                        raises random interrupts. Prints how many events there were.
+ *   real                 runs the systems of standard input, each `new LENGTH NANOSECONDS` and then so many bytes of a
+ *                        configuration, whose bodies are b0 to b63 and h0 to h63, with ticks of this length. They make
+ *                        random calls, and a thread raises random interrupts. Prints `run LENGTH LENGTH` for each, and
+ *                        its recording and its trace of these lengths; in every other one there are times.
+ *   real endless FILE    runs one such system until a signal ends it, and records it in a file
  *   real ends            runs that are over for each reason
+ *   real limits          systems for which there is too little memory
  *   real overflow        a task that overflows its stack
  */
 #define _DEFAULT_SOURCE
@@ -20,11 +23,12 @@
 #include <stdio.h>
 #include <stdlib.h>
 #include <string.h>
+#include <sys/resource.h>
 #include <sys/time.h>
 #include <time.h>
 #include <unistd.h>
 
-enum { BODIES = 64, TICK = 200000, TICKS = 60, MOST_CONFIGURATION = 1 << 20 };
+enum { BODIES = 64, RUN_LENGTH = 12000000, MOST_CONFIGURATION = 1 << 20 };
 
 /* What is written in memory. */
 struct written {
@@ -36,6 +40,7 @@ struct written {
 static struct written trace, recording;
 static char configuration[MOST_CONFIGURATION];
 static size_t configuration_length;
+static long tick_length;
 static int failed;
 
 static FILE *begin_writing(struct written *it)
@@ -61,13 +66,14 @@ static void expect(bool holds, const char *what)
     }
 }
 
-static void open_system(const struct fmp_body *bodies, size_t count)
+static void open_system(const struct fmp_body *bodies, size_t count, bool has_times)
 {
     const struct fmp_program program = { .bodies = bodies, .count = count };
+    const struct fmp_recording form = { .has_times = has_times, .last = 0 };
     if (fmp_open(configuration, configuration_length, &program, begin_writing(&trace), stderr) != FMP_OPENED) {
         exit(2);
     }
-    fmp_record(begin_writing(&recording));
+    fmp_record_as(begin_writing(&recording), &form);
 }
 
 static unsigned long count_lines(const char *text, const char *line)
@@ -79,15 +85,19 @@ static unsigned long count_lines(const char *text, const char *line)
     return count;
 }
 
-/* Closes the system, which gives the same trace and states again. How many events it did. */
-static unsigned long close_system(void)
+/* Closes the system, whose trace ends with the states, and whose recording is whole. */
+static void close_system(void)
 {
-    struct written again;
     fmp_print_states(trace.file);
     fflush(trace.file);
     fmp_close();
     fflush(recording.file);
-    unsigned long events = count_lines(recording.text, "\n");
+}
+
+/* The recording gives the same trace and states again. */
+static void check_replay(void)
+{
+    struct written again;
     FILE *lines = recording.length != 0 ? fmemopen(recording.text, recording.length, "r") : tmpfile();
     bool all = lines != NULL && replay(configuration, configuration_length, lines, begin_writing(&again));
     expect(all, "the recording is taken again");
@@ -96,6 +106,14 @@ static unsigned long close_system(void)
            "the recording gives the trace and the states again");
     fclose(lines);
     forget(&again);
+}
+
+/* Closes the system, and replays it. How many events it did. */
+static unsigned long end_system(void)
+{
+    close_system();
+    check_replay();
+    unsigned long events = count_lines(recording.text, "\n");
     forget(&trace);
     forget(&recording);
     return events;
@@ -165,35 +183,63 @@ static void *raise_interrupts(void *unused)
 static bool read_configuration(void)
 {
     size_t *length = &configuration_length;
-    return scanf("new %zu", length) == 1 && getchar() == '\n' && *length < MOST_CONFIGURATION
+    return scanf("new %zu %ld", length, &tick_length) == 2 && getchar() == '\n' && *length < MOST_CONFIGURATION
         && fread(configuration, 1, *length, stdin) == *length;
 }
 
-static int run_systems(void)
+static const struct fmp_body *name_bodies(void)
 {
     static char names[2 * BODIES][4];
     static struct fmp_body bodies[2 * BODIES];
-    unsigned long events = 0, runs = 0;
     for (unsigned at = 0; at < 2 * BODIES; at++) {
         snprintf(names[at], sizeof names[at], "%c%u", at < BODIES ? 'b' : 'h', at % BODIES);
         bodies[at] = (struct fmp_body){ names[at], body };
     }
-    while (read_configuration()) {
-        pthread_t raiser;
-        open_system(bodies, 2 * BODIES);
-        raises = true;
-        if (pthread_create(&raiser, NULL, raise_interrupts, NULL) != 0) {
-            return 2;
-        }
-        enum fmp_over over = fmp_run(TICK, TICKS, stderr);
-        expect(over == FMP_TICKS_OVER || over == FMP_ALL_DORMANT, "a run is over in its time");
-        raises = false;
-        pthread_join(raiser, NULL);
-        events += close_system();
-        runs++;
+    return bodies;
+}
+
+/* A run of the open system, with interrupts. */
+static enum fmp_over run_raising(unsigned long ticks)
+{
+    pthread_t raiser;
+    raises = true;
+    if (pthread_create(&raiser, NULL, raise_interrupts, NULL) != 0) {
+        exit(2);
     }
-    printf("%lu systems, %lu events, %d failed\n", runs, events, failed);
+    enum fmp_over over = fmp_run(tick_length, ticks, stderr);
+    raises = false;
+    pthread_join(raiser, NULL);
+    return over;
+}
+
+static int run_systems(void)
+{
+    const struct fmp_body *bodies = name_bodies();
+    for (unsigned long run = 0; read_configuration(); run++) {
+        open_system(bodies, 2 * BODIES, run % 2 == 1);
+        enum fmp_over over = run_raising((unsigned long)(RUN_LENGTH / tick_length));
+        expect(over == FMP_TICKS_OVER || over == FMP_ALL_DORMANT, "a run is over in its time");
+        close_system();
+        check_replay();
+        printf("run %zu %zu\n%s%s", recording.length, trace.length, recording.text, trace.text);
+        forget(&trace);
+        forget(&recording);
+    }
     return failed != 0;
+}
+
+static int run_endless(const char *path)
+{
+    FILE *file = fopen(path, "w");
+    const struct fmp_program program = { .bodies = name_bodies(), .count = 2 * BODIES };
+    if (file == NULL || !read_configuration()
+        || fmp_open(configuration, configuration_length, &program, NULL, stderr) != FMP_OPENED) {
+        return 2;
+    }
+    fmp_record(file);
+    enum fmp_over over = run_raising(0);
+    fmp_close();
+    return fclose(file) != 0 || over != FMP_HALTED;
 }
 
 /* Reasons to be over. */
@@ -228,7 +274,7 @@ static void receive(intptr_t exinf)
 static const struct fmp_body few_bodies[] = { { "main", main_task }, { "driver", driver }, { "receive", receive } };
 
 /* A task MAIN that runs, one of processor 2 that is dormant or sleeps, and a handler of interrupt 3. */
-static enum fmp_over run_few(void (*part)(void), bool has_driver, long tick, unsigned long ticks)
+static void open_few(void (*part)(void), bool has_driver)
 {
     configuration_length = (size_t)snprintf(
         configuration, sizeof configuration,
@@ -237,7 +283,12 @@ static enum fmp_over run_few(void (*part)(void), bool has_driver, long tick, uns
         has_driver ? "DEF_INH(3, { TA_NULL, receive });" : "", has_driver ? "TA_ACT" : "TA_NULL");
     main_part = part;
     wakeups = 0;
-    open_system(few_bodies, sizeof few_bodies / sizeof *few_bodies);
+    open_system(few_bodies, sizeof few_bodies / sizeof *few_bodies, false);
+}
+
+static enum fmp_over run_few(void (*part)(void), bool has_driver, long tick, unsigned long ticks)
+{
+    open_few(part, has_driver);
     return fmp_run(tick, ticks, stderr);
 }
 
@@ -290,12 +341,33 @@ static void set_alarm(long microseconds)
     setitimer(ITIMER_REAL, &timer, NULL);
 }
 
+static void put_often(void)
+{
+    for (int made = 1; made <= 100; made++) {
+        put(made);
+    }
+}
+
+/* The last events alone. */
+static void keep_last(size_t last, size_t lines, const char *first)
+{
+    const struct fmp_recording form = { .has_times = false, .last = last };
+    open_few(put_often, false);
+    expect(fmp_record_as(recording.file, &form), "there is memory for the last events");
+    expect(fmp_run(0, 0, stderr) == FMP_ALL_DORMANT, "all tasks are dormant");
+    close_system();
+    expect(count_lines(recording.text, "\n") == lines, "the last events are recorded");
+    expect(strncmp(recording.text, first, strlen(first)) == 0, "it says how many are left out");
+    forget(&trace);
+    forget(&recording);
+}
+
 static int run_ends(void)
 {
     signal(SIGINT, SIG_DFL);    /* a shell that starts a program in the background lets it ignore SIGINT */
     expect(fmp_run(0, 0, stderr) == FMP_NOT_OPEN, "without a system no run begins");
     expect(run_few(return_at_once, false, 0, 0) == FMP_ALL_DORMANT, "a run is over when all tasks are dormant");
-    expect(close_system() == 1, "it did one event");
+    expect(end_system() == 1, "it did one event");
     expect(run_few(compute_for_ever, true, 100000, 50) == FMP_TICKS_OVER, "a run is over after its ticks");
     fflush(recording.file);
     expect(count_lines(recording.text, "tick") == 50, "it made its ticks");
@@ -305,22 +377,65 @@ static int run_ends(void)
     fmp_step_tick();
     fmp_halt();
     expect(fmp_run(0, 0, stderr) == FMP_HALTED, "a halt before a run ends it at its start");
-    close_system();
+    end_system();
     expect(run_few(halt, true, 1000000, 0) == FMP_HALTED, "a run is halted by a task");
-    close_system();
+    end_system();
     expect(run_few(terminate, true, 1000000, 0) == FMP_HALTED, "a run is halted by SIGTERM");
-    close_system();
+    end_system();
     expect(run_few(interrupt, true, 3600000000000, 0) == FMP_HALTED, "a run is halted by SIGINT");
-    close_system();
+    end_system();
     expect(run_few(raise_often, true, 0, 0) == FMP_HALTED, "a task raises interrupts");
-    close_system();
+    end_system();
     signal(SIGALRM, on_alarm);
     set_alarm(500);
     expect(run_few(return_at_once, true, 0, 0) == FMP_HALTED, "a signal handler raises interrupts");
     set_alarm(0);
     expect(wakeups >= WAKEUPS, "they were handled");
-    close_system();
+    end_system();
+    keep_last(10, 11, "dropped 91\nrun 1 put 92\n");
+    keep_last(1000, 101, "run 1 put 1\n");
     printf("real: %d failed\n", failed);
+    return failed != 0;
+}
+
+/* Too little memory. */
+
+enum { MANY = 255, MANY_BYTES = 30 << 20 };     /* fewer than their stacks have */
+
+static void limit_memory(rlim_t bytes)
+{
+    const struct rlimit limit = { bytes, RLIM_INFINITY };
+    setrlimit(RLIMIT_AS, &limit);
+}
+
+static enum fmp_opened open_many(void)
+{
+    const struct fmp_program program = { .bodies = few_bodies, .count = 1 };
+    size_t length = (size_t)snprintf(configuration, sizeof configuration, "NUM_PRC(1);\nCLASS(TCL_1) {\n");
+    for (int task = 1; task <= MANY; task++) {
+        length += (size_t)snprintf(configuration + length, sizeof configuration - length,
+                                   "CRE_TSK(T%d, { TA_NULL, 0, main, 10, 65536, NULL });\n", task);
+    }
+    length += (size_t)snprintf(configuration + length, sizeof configuration - length, "}\n");
+    return fmp_open(configuration, length, &program, NULL, stdout);
+}
+
+static int run_limits(void)
+{
+    const struct fmp_recording form = { .has_times = false, .last = SIZE_MAX / 128 };
+    limit_memory(MANY_BYTES);
+    expect(open_many() == FMP_MEMORY_OUT, "there is no memory for a stack");
+    limit_memory(1);
+    expect(open_many() == FMP_MEMORY_OUT, "there is no memory for a system");
+    limit_memory(RLIM_INFINITY);
+    open_few(return_at_once, false);
+    expect(!fmp_record_as(recording.file, &form), "there is no memory for so many events");
+    limit_memory(1);
+    enum fmp_over over = fmp_run(0, 0, stdout);
+    limit_memory(RLIM_INFINITY);
+    expect(over == FMP_NO_THREAD, "there is no memory for a thread");
+    expect(fmp_run(0, 0, stderr) == FMP_ALL_DORMANT, "once there is, the run goes on");
+    expect(end_system() == 1, "it did one event");
     return failed != 0;
 }
 
@@ -344,6 +459,12 @@ int main(int argc, char **argv)
     if (argc == 2 && strcmp(argv[1], "overflow") == 0) {
         run_few(overflow, false, 0, 0);
         return 0;
+    }
+    if (argc == 2 && strcmp(argv[1], "limits") == 0) {
+        return run_limits();
+    }
+    if (argc == 3 && strcmp(argv[1], "endless") == 0) {
+        return run_endless(argv[2]);
     }
     return argc == 1 ? run_systems() : 2;
 }

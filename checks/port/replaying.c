@@ -68,7 +68,7 @@ static uint32_t event(const char *line)
     unsigned number;
     char word[16];
     int end;
-    if (strcmp(line, "tick\n") == 0) {
+    if (strcmp(line, "tick") == 0) {
         return fmp_tick(&kernel, &out);
     }
     if (sscanf(line, "int %u", &number) == 1) {
@@ -94,13 +94,23 @@ static void print_states(void)
     }
 }
 
+/* Cuts the time from a line. False if it has no end: the program that wrote it was killed. */
+static bool cut(char *line)
+{
+    size_t end = strcspn(line, "\n");
+    char *time = strstr(line, " @");
+    bool is_whole = line[end] == '\n';
+    line[time != NULL ? (size_t)(time - line) : end] = '\0';
+    return is_whole;
+}
+
 static bool take_all(FILE *recording)
 {
     char line[128];
     print_lines();
-    while (fgets(line, sizeof line, recording) != NULL) {
+    while (fgets(line, sizeof line, recording) != NULL && cut(line)) {
         if (event(line) != FMP_DONE) {
-            fprintf(stderr, "it was not done: %s", line);
+            fprintf(stderr, "it was not done: %s\n", line);
             return false;
         }
         print_lines();

@@ -32,9 +32,10 @@ enum fmp_over {
  *
  * A task that another one replaces on its processor goes on to compute until its next call, poll or end. It makes
  * that once the kernel runs it again. A body that does none of these keeps its processor, and the run from its end.
- * With FMP_PREEMPT=signal in the environment (on x86-64), it is replaced at any instruction: the thread of its processor
- * is sent SIGURG. Between its calls it must not use then what it shares with others, nor any function of the C library
- * that is not safe in signal handlers, such as malloc and printf, unless dis_dsp or loc_cpu keeps others away.
+ *
+ * With FMP_PREEMPT=signal in the environment (on x86-64), it is replaced at any instruction, by SIGURG to the thread of
+ * its processor. It must then not use what it shares with others, nor functions of the C library that are not safe in
+ * signal handlers, such as malloc and printf, unless dis_dsp or loc_cpu keeps others away.
  *
  * A task that is terminated leaves its stack as it is: nothing is freed that it took.
  *
@@ -56,8 +57,9 @@ void fmp_halt(void);
 int64_t fmp_tick_due(void);
 
 /*
- * The whole of it: PROGRAM CFG NANOSECONDS TICKS [RECORDING] prints the trace and the states at the end, and writes
- * the recording. The exit status.
+ * The whole of it: PROGRAM [--times] [--last EVENTS] CFG NANOSECONDS TICKS [RECORDING] prints the trace and the states
+ * at the end, and writes the recording: with times, or of the last events alone. The exit status: 0 where the run is
+ * over as it should be, 1 where the system cannot be opened, 2 where the command line is wrong, else 3.
  */
 int fmp_perform(int argc, char **argv, const struct fmp_program *);
 
