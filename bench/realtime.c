@@ -7,14 +7,21 @@
  *   realtime latency NANOSECONDS COUNT idle | polls | calls
  *                   a cyclic handler wakes a task at each of COUNT ticks: from the due time of the tick to the task,
  *                   while another task computes, which polls or calls, or none
+ *   realtime soak SECONDS FILE
+ *                   tasks of three processors that wake each other at each of 1,000 ticks a second, and for interrupts
+ *                   that come at random: events, memory, processor time, and the recording in a file
  */
-#define _POSIX_C_SOURCE 200809L
+#define _DEFAULT_SOURCE
 #include "kernel.h"
 #include "live.h"
 
+#include <pthread.h>
+#include <stdatomic.h>
+#include <stdbool.h>
 #include <stdio.h>
 #include <stdlib.h>
 #include <string.h>
+#include <sys/resource.h>
 #include <time.h>
 
 enum { WORKERS = 4, FIRST_WORKER = 2, LOCK = 1, DONE = 1, POLL_STEPS = 1000, CALL_STEPS = 100000 };
@@ -38,12 +45,13 @@ static void compute(long steps)
     sink = word;
 }
 
-static int run(const struct fmp_body *bodies, size_t count, long tick)
+static int run(const struct fmp_body *bodies, size_t count, long tick, FILE *recording)
 {
     const struct fmp_program program = { .bodies = bodies, .count = count };
     if (fmp_open(configuration, strlen(configuration), &program, NULL, stderr) != FMP_OPENED) {
         return 1;
     }
+    fmp_record(recording);
     enum fmp_over over = fmp_run(tick, 0, stderr);
     fmp_close();
     return over != FMP_HALTED;
@@ -97,7 +105,7 @@ static int time_pieces(int processors)
         end += sprintf(end, "CLASS(TCL_%d) { CRE_TSK(W%d, { 0, %d, work, 10, 4096, NULL }); }\n",
                        worker * processors / WORKERS + 1, worker, worker);
     }
-    int status = run(bodies, 2, 0);
+    int status = run(bodies, 2, 0, NULL);
     printf("%d processors: %.1f ms\n", processors, (double)(ended - began) / 1e6);
     return status || counted != WORKERS * pieces;
 }
@@ -158,7 +166,7 @@ static int time_ticks(long tick, const char *busy)
     sprintf(configuration, "NUM_PRC(1);\nCLASS(TCL_1) { CRE_TSK(URGENT, { TA_ACT, 0, urgent, 1, 4096, NULL });\n"
             "%s CRE_CYC(BEAT, { TA_STA, 0, beat, 1, 0 }); }\n",
             strcmp(busy, "idle") == 0 ? "" : "CRE_TSK(BUSY, { TA_ACT, 0, busy, 10, 4096, NULL });");
-    int status = run(bodies, 3, tick);
+    int status = run(bodies, 3, tick, NULL);
     qsort(took, (size_t)wakeups, sizeof *took, order);
     if (wakeups > 0) {
         printf("%s: least %.1f, median %.1f, 99 %% %.1f, most %.1f us\n", busy, took[0], took[wakeups / 2],
@@ -168,8 +176,148 @@ static int time_ticks(long tick, const char *busy)
     return status;
 }
 
+/* Soak. */
+
+enum { PRODUCER = 1, QUEUE = 1, REQUESTS = 1, INTERRUPT = 3, TICK = 1000000 };
+
+static const char soak_text[] =
+    "NUM_PRC(3);\n"
+    "CLASS(TCL_1) {\n"
+    "CRE_TSK(PRODUCER, { TA_ACT, 0, produce, 5, 4096, NULL });\n"
+    "CRE_CYC(BEAT, { TA_STA, 0, beat, 1, 0 });\n"
+    "CRE_DTQ(QUEUE, { TA_TFIFO, 4, NULL });\n"
+    "}\n"
+    "CLASS(TCL_2) {\n"
+    "CRE_TSK(CONSUMER, { TA_ACT, 0, consume, 5, 4096, NULL });\n"
+    "CRE_SPN(LOCK, { 0 });\n"
+    "}\n"
+    "CLASS(TCL_3) {\n"
+    "CRE_TSK(SERVER, { TA_ACT, 0, serve, 5, 4096, NULL });\n"
+    "CRE_SEM(REQUESTS, { TA_TFIFO, 0, 1000 });\n"
+    "DEF_INH(3, { TA_NULL, request });\n"
+    "}\n";
+
+static atomic_bool raises;
+static atomic_ulong raised;
+
+static void count_one(void)
+{
+    loc_spn(LOCK);
+    counted++;
+    unl_spn(LOCK);
+}
+
+static void produce(intptr_t exinf)
+{
+    (void)exinf;
+    for (int32_t word = 0; slp_tsk() == E_OK; word++) {
+        snd_dtq(QUEUE, word % 1000);
+    }
+}
+
+static void consume(intptr_t exinf)
+{
+    intptr_t word;
+    (void)exinf;
+    while (rcv_dtq(QUEUE, &word) == E_OK) {
+        count_one();
+    }
+}
+
+static void serve(intptr_t exinf)
+{
+    (void)exinf;
+    while (wai_sem(REQUESTS) == E_OK) {
+        count_one();
+    }
+}
+
+static void request(intptr_t exinf)
+{
+    (void)exinf;
+    isig_sem(REQUESTS);
+}
+
+/* Interrupts, one or three at a time, up to half a millisecond apart. */
+static void *raise_at_random(void *unused)
+{
+    for (uint32_t random = 1; raises; random = random * 1664525u + 1013904223u) {
+        for (int at = 0; at < (random >> 31 ? 3 : 1); at++) {
+            fmp_raise(INTERRUPT);
+            raised++;
+        }
+        nanosleep(&(struct timespec){ .tv_nsec = random % 500000 }, NULL);
+    }
+    return unused;
+}
+
+static void print_usage(const char *when)
+{
+    struct rusage used;
+    getrusage(RUSAGE_SELF, &used);
+    printf("%s: %ld KB, processor time %ld.%03ld s of the program, %ld.%03ld s of the system\n", when, used.ru_maxrss,
+           (long)used.ru_utime.tv_sec, (long)used.ru_utime.tv_usec / 1000, (long)used.ru_stime.tv_sec,
+           (long)used.ru_stime.tv_usec / 1000);
+    fflush(stdout);
+}
+
+/* Halts the run in its time, and says what it took. */
+static void *watch(void *seconds)
+{
+    const struct timespec while_soaking = { .tv_sec = atol(seconds) - 1 };
+    nanosleep(&(struct timespec){ .tv_sec = 1 }, NULL);
+    print_usage("after a second");
+    nanosleep(&while_soaking, NULL);
+    raises = false;
+    nanosleep(&(struct timespec){ .tv_nsec = 100000000 }, NULL);
+    fmp_halt();
+    return NULL;
+}
+
+/* The lines of a file, and those that are interrupts. */
+static void count_lines(FILE *file, unsigned long *lines, unsigned long *interrupts)
+{
+    char line[128];
+    rewind(file);
+    while (fgets(line, sizeof line, file) != NULL) {
+        ++*lines;
+        *interrupts += strncmp(line, "int ", 4) == 0;
+    }
+}
+
+static int soak(char *seconds, const char *path)
+{
+    static const struct fmp_body bodies[] = {
+        { "produce", produce }, { "consume", consume }, { "serve", serve }, { "request", request }, { "beat", beat }
+    };
+    unsigned long lines = 0, interrupts = 0;
+    pthread_t raiser, watcher;
+    FILE *recording = fopen(path, "w+");
+    if (recording == NULL || atol(seconds) < 2) {
+        return 2;
+    }
+    strcpy(configuration, soak_text);
+    raises = true;
+    if (pthread_create(&raiser, NULL, raise_at_random, NULL) != 0
+        || pthread_create(&watcher, NULL, watch, seconds) != 0) {
+        return 2;
+    }
+    int status = run(bodies, 5, TICK, recording);
+    pthread_join(raiser, NULL);
+    pthread_join(watcher, NULL);
+    print_usage("at the end");
+    count_lines(recording, &lines, &interrupts);
+    printf("%lu events; %lu interrupts raised, %lu are events, %lu merged\n", lines, (unsigned long)raised, interrupts,
+           fmp_merged(INTERRUPT));
+    fclose(recording);
+    return status != 0 || raised != interrupts + fmp_merged(INTERRUPT);
+}
+
 int main(int argc, char **argv)
 {
+    if (argc == 4 && strcmp(argv[1], "soak") == 0) {
+        return soak(argv[2], argv[3]);
+    }
     if (argc == 5 && strcmp(argv[1], "pieces") == 0) {
         pieces = atol(argv[3]);
         length = atol(argv[4]);

@@ -62,6 +62,7 @@ static sem_t requests;              /* there are requested interrupts, or the ru
 static sem_t clock_end;             /* the run is over */
 static atomic_bool takes_requests;
 static atomic_uint requested;       /* interrupts, by bits */
+static atomic_ulong merged[INTERRUPTS];
 static atomic_bool halted;
 
 /* The processor of the invoking thread. A body may go on in another thread: where it is may not be kept over a call. */
@@ -456,6 +457,7 @@ static bool interrupt(void)
         uint32_t changes = 0;
         if (bits >> (number - 1) & 1) {
             uint32_t answer = system_interrupt(number, &changes);
+            merged[number - 1] += answer == FMP_NOTHING;
             heard(answer, changes, 0);
         }
     }
@@ -483,9 +485,19 @@ static void post_request(void)
 
 void fmp_raise(int number)
 {
-    if (number >= 1 && number <= INTERRUPTS && atomic_fetch_or(&requested, 1u << (number - 1)) == 0) {
+    if (number < 1 || number > INTERRUPTS) {
+        return;
+    }
+    unsigned bit = 1u << (number - 1), before = atomic_fetch_or(&requested, bit);
+    merged[number - 1] += (before & bit) != 0;
+    if (before == 0) {
         post_request();
     }
+}
+
+unsigned long fmp_merged(int number)
+{
+    return number >= 1 && number <= INTERRUPTS ? atomic_load(&merged[number - 1]) : 0;
 }
 
 void fmp_halt(void)

@@ -50,6 +50,9 @@ enum fmp_over fmp_run(long nanoseconds, unsigned long ticks, FILE *messages);
 /* Requests an interrupt, 1 to 32; any other number does nothing. From any thread, body or signal handler. */
 void fmp_raise(int number);
 
+/* How many requests of an interrupt, in all runs, were no event: it was requested already, or it has no handler. */
+unsigned long fmp_merged(int number);
+
 /* Ends the run, or the next one at its start. From any thread, body or signal handler. */
 void fmp_halt(void);
 
