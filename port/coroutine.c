@@ -5,7 +5,6 @@
 #include <stdint.h>
 #include <stdlib.h>
 #include <sys/mman.h>
-#include <unistd.h>
 
 /* The address sanitizer is told of each switch, and of each stack that is used anew. */
 #if defined(__has_feature)
@@ -125,25 +124,20 @@ static void prepare(struct coroutine *it)
 
 #endif
 
-static size_t page_size(void)
-{
-    return (size_t)sysconf(_SC_PAGESIZE);
-}
+enum { ALIGNMENT = 64, GUARD = 64 << 10 };      /* whole pages, of whatever size */
 
-/* A stack in whole pages, with a page below it that none may touch. */
 bool coroutine_take(struct coroutine *it, size_t size)
 {
-    size_t page = page_size();
-    size = (size + page - 1) / page * page;
-    unsigned char *low = mmap(NULL, size + page, PROT_READ | PROT_WRITE, MAP_PRIVATE | MAP_ANONYMOUS, -1, 0);
+    size = (size + ALIGNMENT - 1) / ALIGNMENT * ALIGNMENT;
+    unsigned char *low = mmap(NULL, size + GUARD, PROT_READ | PROT_WRITE, MAP_PRIVATE | MAP_ANONYMOUS, -1, 0);
     if (low == MAP_FAILED) {
         return false;
     }
-    if (mprotect(low, page, PROT_NONE) != 0) {
-        munmap(low, size + page);
+    if (mprotect(low, GUARD, PROT_NONE) != 0) {
+        munmap(low, size + GUARD);
         return false;
     }
-    it->stack = low + page;
+    it->stack = low + GUARD;
     it->size = size;
     return true;
 }
@@ -174,14 +168,14 @@ void coroutine_leave(struct coroutine *it)
 bool coroutine_overflows(const struct coroutine *it, const void *address)
 {
     uintptr_t low = (uintptr_t)it->stack, at = (uintptr_t)address;
-    return it->stack != NULL && low - page_size() <= at && at < low;
+    return it->stack != NULL && low - GUARD <= at && at < low;
 }
 
 void coroutine_free(struct coroutine *it)
 {
     if (it->stack != NULL) {
         renew(it);
-        munmap((void *)((uintptr_t)it->stack - page_size()), it->size + page_size());
+        munmap((void *)((uintptr_t)it->stack - GUARD), it->size + GUARD);
         it->stack = NULL;
     }
 }

@@ -27,7 +27,7 @@ void coroutine_enter(struct coroutine *outside, struct coroutine *);
 /* Goes back to where it was entered. Returns when it is entered again, by whichever thread. */
 void coroutine_leave(struct coroutine *);
 
-/* Whether an address is in the page below its stack, which none may touch. */
+/* Whether an address is in the 64 KB below its stack, which none may touch. */
 bool coroutine_overflows(const struct coroutine *, const void *address);
 
 /* Gives its stack back, if it has one. */

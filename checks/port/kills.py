@@ -4,8 +4,8 @@
     checks/port/kills.py PROGRAM REPLAY [COUNT [SEED]]
 
 PROGRAM is real.c and REPLAY is replay.c, compiled with the library and the port. COUNT runs (20) of random systems are
-ended within a twentieth of a second: two of three by SIGKILL, the others by SIGTERM or SIGINT, after which the status
-must be 0. What stands behind the last line feed of a recording is cut; after SIGTERM and SIGINT nothing may stand
+ended, soon after their first lines are there: two of three by SIGKILL, the others by SIGTERM or SIGINT, after which the
+status must be 0. What stands behind the last line feed of a recording is cut; after SIGTERM and SIGINT nothing may stand
 there. Handed to a new kernel of the library and to the model, the rest must give the same trace and states.
 """
 
@@ -37,8 +37,8 @@ def killed(program, case, recording, number, delay):
         time.sleep(delay)
         running.send_signal(number)
         said = running.stderr.read()
-    wanted = -signal.SIGKILL if number == signal.SIGKILL else 0
-    return None if running.returncode == wanted and not said else f"status {running.returncode}: {said}"
+    is_over = running.returncode == 0 or (running.returncode, number) == (-signal.SIGKILL, signal.SIGKILL)
+    return None if is_over and not said else f"status {running.returncode}: {said}"
 
 
 def replayed(replay, case, folder, recording):

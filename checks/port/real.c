@@ -5,7 +5,7 @@
  *                        configuration, whose bodies are b0 to b63 and h0 to h63, with ticks of this length. They make
  *                        random calls, and a thread raises random interrupts. Prints `run LENGTH LENGTH` for each, and
  *                        its recording and its trace of these lengths; in every other one there are times.
- *   real endless FILE    runs one such system until a signal ends it, and records it in a file
+ *   real endless FILE    runs one such system until a signal ends it or all is dormant, and records it in a file
  *   real ends            runs that are over for each reason
  *   real limits          systems for which there is too little memory
  *   real overflow        a task that overflows its stack
@@ -239,7 +239,7 @@ static int run_endless(const char *path)
     fmp_record(file);
     enum fmp_over over = run_raising(0);
     fmp_close();
-    return fclose(file) != 0 || over != FMP_HALTED;
+    return fclose(file) != 0 || (over != FMP_HALTED && over != FMP_ALL_DORMANT);
 }
 
 /* Reasons to be over. */
