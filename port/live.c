@@ -134,9 +134,9 @@ static void await_news(struct processor *me)
         looks++;
         relax();
     }
-    bool found = looks < me->patience;
-    unsigned patience = found ? me->patience * 2 : me->patience / 2;
-    me->patience = patience > most_patience ? most_patience : patience < LEAST_PATIENCE ? LEAST_PATIENCE : patience;
+    unsigned patience = looks < me->patience ? me->patience * 2 : me->patience / 2;
+    patience = patience < LEAST_PATIENCE ? LEAST_PATIENCE : patience;
+    me->patience = patience > most_patience ? most_patience : patience;
     take_lock();
     me->asleep = true;
     while (!has_news(me)) {
@@ -293,14 +293,9 @@ static void enter(struct processor *me, struct flow *flow, const fmp_actor *acto
 
 /* Preemption by signals. The place of errno is that of a thread. */
 
-__attribute__((noinline)) static int error(void)
+__attribute__((noinline)) static int *place_of_errno(void)
 {
-    return errno;
-}
-
-__attribute__((noinline)) static void set_error(int number)
-{
-    errno = number;
+    return &errno;
 }
 
 /* A body that is interrupted polls. When it goes on, its thread keeps the stack for signals that it has. */
@@ -311,29 +306,11 @@ static void on_preemption(int number, siginfo_t *about, void *context)
     (void)number;
     (void)about;
     if (flow != NULL && !in_port && has_news(here())) {
-        int kept = error();
+        int kept = *place_of_errno();
         give_way(flow);
-        set_error(kept);
+        *place_of_errno() = kept;
         interrupted->uc_stack.ss_sp = here()->signal_stack;
     }
-}
-
-/* FMP_PREEMPT=signal asks for it. False if there is none on this machine, after a message. */
-static bool choose_preemption(FILE *messages)
-{
-    const char *how = getenv("FMP_PREEMPT");
-    by_signals = how != NULL && strcmp(how, "signal") == 0;
-#ifndef __x86_64__
-    if (by_signals) {
-        fputs("fmp: there is no preemption by signals on this machine\n", messages);
-        return false;
-    }
-#endif
-    if (how != NULL && !by_signals && strcmp(how, "call") != 0) {
-        fprintf(messages, "fmp: FMP_PREEMPT is neither call nor signal: %s\n", how);
-        return false;
-    }
-    return true;
 }
 
 /* Processors. */
@@ -360,14 +337,6 @@ static void idle(struct processor *me)
     }
 }
 
-static void unblock_preemption(void)
-{
-    sigset_t preemption;
-    sigemptyset(&preemption);
-    sigaddset(&preemption, SIGNAL_OF_PREEMPTION);
-    pthread_sigmask(SIG_UNBLOCK, &preemption, NULL);
-}
-
 static void *run_processor(void *argument)
 {
     struct processor *me = argument;
@@ -375,7 +344,7 @@ static void *run_processor(void *argument)
     sigaltstack(&own, &kept);
     of_thread = me;
     enter_port();
-    unblock_preemption();
+    signals_unblock_preemption();
     take_lock();
     while (over == FMP_NOT_OVER) {
         const fmp_actor *actor = acting(me);
@@ -601,7 +570,7 @@ enum fmp_over fmp_run(long nanoseconds, unsigned long ticks, FILE *messages)
     if (system_kernel.at == NULL || atomic_load(&takes_requests)) {
         return FMP_NOT_OPEN;
     }
-    if (!choose_preemption(messages)) {
+    if (!signals_choose_preemption(&by_signals, messages)) {
         return FMP_NO_PREEMPTION;
     }
     prepare(nanoseconds, ticks);

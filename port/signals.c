@@ -5,6 +5,7 @@
 #include "live.h"
 #include "system.h"
 
+#include <stdlib.h>
 #include <string.h>
 #include <unistd.h>
 
@@ -50,6 +51,7 @@ void signals_take(void (*last_words)(void), void (*preempt)(int, siginfo_t *, vo
     struct sigaction overflow = { .sa_sigaction = on_overflow, .sa_flags = SA_SIGINFO | SA_ONSTACK };
     struct sigaction preemption = { .sa_sigaction = preempt, .sa_flags = SA_SIGINFO | SA_NODEFER | SA_RESTART };
     at_overflow = last_words;
+    sigfillset(&overflow.sa_mask);
     sigaction(SIGSEGV, &overflow, &kept_overflow);
     sigaction(SIGNAL_OF_PREEMPTION, preempt != NULL ? &preemption : NULL, &kept_preemption);
     for (int at = 0; at < ENDING; at++) {
@@ -79,4 +81,29 @@ void signals_block(sigset_t *kept)
         sigdelset(&others, own[at]);
     }
     pthread_sigmask(SIG_SETMASK, &others, kept);
+}
+
+void signals_unblock_preemption(void)
+{
+    sigset_t preemption;
+    sigemptyset(&preemption);
+    sigaddset(&preemption, SIGNAL_OF_PREEMPTION);
+    pthread_sigmask(SIG_UNBLOCK, &preemption, NULL);
+}
+
+bool signals_choose_preemption(bool *by_signals, FILE *messages)
+{
+    const char *how = getenv("FMP_PREEMPT");
+    *by_signals = how != NULL && strcmp(how, "signal") == 0;
+    if (how != NULL && !*by_signals && strcmp(how, "call") != 0) {
+        fprintf(messages, "fmp: FMP_PREEMPT is neither call nor signal: %s\n", how);
+        return false;
+    }
+#ifndef __x86_64__
+    if (*by_signals) {
+        fputs("fmp: there is no preemption by signals on this machine\n", messages);
+        return false;
+    }
+#endif
+    return true;
 }

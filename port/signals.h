@@ -3,6 +3,8 @@
 #define FMP_SIGNALS_H
 
 #include <signal.h>
+#include <stdbool.h>
+#include <stdio.h>
 
 /*
  * SIGINT and SIGTERM halt the run, if they would end the program. Where the stack of a body overflows, `last_words` is
@@ -13,10 +15,13 @@ void signals_take(void (*last_words)(void), void (*preempt)(int, siginfo_t *, vo
 /* As they were. */
 void signals_give_back(void);
 
-/* The invoking thread leaves signals to others, but those of its own faults. */
+/* The invoking thread leaves signals to others, but those of its own faults; and takes that of preemption again. */
 void signals_block(sigset_t *kept);
+void signals_unblock_preemption(void);
 
-/* A signal that interrupts bodies, for threads that have them. */
-enum { SIGNAL_OF_PREEMPTION = SIGURG };     /* its default is to be ignored */
+/* Whether FMP_PREEMPT asks for preemption by signals. False if it asks for what there is not, after a message. */
+bool signals_choose_preemption(bool *by_signals, FILE *messages);
+
+enum { SIGNAL_OF_PREEMPTION = SIGURG };     /* is ignored where no run is */
 
 #endif
