@@ -8,6 +8,7 @@
 #define _GNU_SOURCE
 #include "live.h"
 
+#include "overflow.h"
 #include "recording.h"
 #include "signals.h"
 #include "system.h"
@@ -27,7 +28,7 @@
 #include <sys/prctl.h>
 #endif
 
-enum { PROCESSORS = 8, INTERRUPTS = 32, SIGNAL_STACK = 32 << 10, FLUSH_ATTEMPTS = 1000000 };
+enum { PROCESSORS = 8, INTERRUPTS = 32, FLUSH_ATTEMPTS = 1000000 };
 enum { LOCK_ATTEMPTS = 64, MOST_PAUSES = 128, LEAST_PATIENCE = 32, MOST_PATIENCE = 1024 };
 enum { NANOSECONDS = 1000000000 };
 
@@ -40,7 +41,7 @@ struct processor {
     pthread_cond_t wake;
     pthread_t thread;
     struct coroutine outside;       /* of bodies */
-    unsigned char signal_stack[SIGNAL_STACK];
+    unsigned char signal_stack[OVERFLOW_STACK];
 };
 
 static struct processor processors[PROCESSORS];
@@ -340,8 +341,7 @@ static void idle(struct processor *me)
 static void *run_processor(void *argument)
 {
     struct processor *me = argument;
-    stack_t kept, own = { .ss_sp = me->signal_stack, .ss_size = sizeof me->signal_stack };
-    sigaltstack(&own, &kept);
+    overflow_use(me->signal_stack);
     of_thread = me;
     enter_port();
     signals_unblock_preemption();
@@ -358,7 +358,6 @@ static void *run_processor(void *argument)
         }
     }
     release_lock();
-    sigaltstack(&kept, NULL);
     return NULL;
 }
 
@@ -576,9 +575,11 @@ enum fmp_over fmp_run(long nanoseconds, unsigned long ticks, FILE *messages)
     prepare(nanoseconds, ticks);
     atomic_store(&takes_requests, true);
     post_request();
-    signals_take(write_last_words, by_signals ? on_preemption : NULL);
+    overflow_watch(write_last_words);
+    signals_take(by_signals ? on_preemption : NULL);
     run_threads(messages);
     signals_give_back();
+    overflow_watch(recording_end);
     atomic_store(&takes_requests, false);
     atomic_store(&halted, false);
     for (uint32_t at = 0; at < system_processors; at++) {

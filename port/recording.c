@@ -80,7 +80,9 @@ void recording_flush(void)
 {
     if (recording_file != NULL && piece_length > 0) {
         fwrite(piece, 1, piece_length, recording_file);
-        fflush(recording_file);
+        if (fflush(recording_file) != 0 || ferror(recording_file)) {
+            recording_file = NULL;      /* lines behind those that are missing would be of no use */
+        }
     }
     piece_length = 0;
 }

@@ -3,19 +3,14 @@
 #include "signals.h"
 
 #include "live.h"
-#include "system.h"
 
 #include <stdlib.h>
 #include <string.h>
-#include <unistd.h>
-
-enum { OVERFLOW_STATUS = 3 };
 
 static const int ending[] = { SIGINT, SIGTERM };
 enum { ENDING = sizeof ending / sizeof *ending };
 
-static struct sigaction kept_ending[ENDING], kept_overflow, kept_preemption;
-static void (*at_overflow)(void);
+static struct sigaction kept_ending[ENDING], kept_preemption;
 
 static void on_ending(int number)
 {
@@ -23,36 +18,10 @@ static void on_ending(int number)
     fmp_halt();
 }
 
-static void say(const char *text)
-{
-    ssize_t written = write(STDERR_FILENO, text, strlen(text));
-    (void)written;
-}
-
-/* A body has no more stack: the program ends. Any other access to no memory comes again, as if this was not here. */
-static void on_overflow(int number, siginfo_t *about, void *context)
-{
-    (void)context;
-    const struct flow *flow = system_overflowing(about->si_addr);
-    if (flow == NULL) {
-        sigaction(number, &kept_overflow, NULL);
-        return;
-    }
-    say("fmp: the stack of ");
-    say(flow->name);
-    say(" overflows\n");
-    at_overflow();
-    _exit(OVERFLOW_STATUS);
-}
-
 /* Bodies that are interrupted go on in any thread: none of them blocks the signal while it is handled. */
-void signals_take(void (*last_words)(void), void (*preempt)(int, siginfo_t *, void *))
+void signals_take(void (*preempt)(int, siginfo_t *, void *))
 {
-    struct sigaction overflow = { .sa_sigaction = on_overflow, .sa_flags = SA_SIGINFO | SA_ONSTACK };
     struct sigaction preemption = { .sa_sigaction = preempt, .sa_flags = SA_SIGINFO | SA_NODEFER | SA_RESTART };
-    at_overflow = last_words;
-    sigfillset(&overflow.sa_mask);
-    sigaction(SIGSEGV, &overflow, &kept_overflow);
     sigaction(SIGNAL_OF_PREEMPTION, preempt != NULL ? &preemption : NULL, &kept_preemption);
     for (int at = 0; at < ENDING; at++) {
         const struct sigaction end = { .sa_handler = on_ending, .sa_flags = (int)(SA_RESETHAND | SA_RESTART) };
@@ -65,7 +34,6 @@ void signals_take(void (*last_words)(void), void (*preempt)(int, siginfo_t *, vo
 
 void signals_give_back(void)
 {
-    sigaction(SIGSEGV, &kept_overflow, NULL);
     sigaction(SIGNAL_OF_PREEMPTION, &kept_preemption, NULL);
     for (int at = 0; at < ENDING; at++) {
         sigaction(ending[at], &kept_ending[at], NULL);

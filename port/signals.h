@@ -7,10 +7,10 @@
 #include <stdio.h>
 
 /*
- * SIGINT and SIGTERM halt the run, if they would end the program. Where the stack of a body overflows, `last_words` is
- * called, and the program ends. Signals of the second function interrupt bodies, if it is not NULL.
+ * SIGINT and SIGTERM halt the run, if they would end the program. Signals of preemption are for this function, if it is
+ * not NULL.
  */
-void signals_take(void (*last_words)(void), void (*preempt)(int, siginfo_t *, void *));
+void signals_take(void (*preempt)(int, siginfo_t *, void *));
 
 /* As they were. */
 void signals_give_back(void);

@@ -2,6 +2,7 @@
 #include "system.h"
 
 #include "kernel.h"
+#include "overflow.h"
 #include "recording.h"
 
 #include <stdalign.h>
@@ -380,6 +381,7 @@ static enum fmp_opened equip(const struct fmp_program *program, FILE *messages)
 enum fmp_opened fmp_open(const char *text, size_t length, const struct fmp_program *program, FILE *trace,
                          FILE *messages)
 {
+    static unsigned char signal_stack[OVERFLOW_STACK];
     enum fmp_opened opened = make(text, length, messages);
     if (opened != FMP_OPENED) {
         return opened;
@@ -390,6 +392,8 @@ enum fmp_opened fmp_open(const char *text, size_t length, const struct fmp_progr
         return opened;
     }
     trace_file = trace;
+    overflow_use(signal_stack);
+    overflow_watch(recording_end);
     follow(UINT32_MAX);
     return FMP_OPENED;
 }
@@ -403,6 +407,7 @@ static void forget(struct flow *flow)
 void fmp_close(void)
 {
     fmp_record(NULL);
+    overflow_ignore();
     for (size_t at = 0; at < TASKS; at++) {
         forget(&tasks[at]);
     }

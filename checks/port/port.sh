@@ -59,7 +59,7 @@ compiled() {
         "$@" $strict -c "$source" -o "$kind/$(basename "$source" .c).o" 2> errors ||
             verdict "$kind: $(basename "$source")" "it does not compile: $(head -c 300 errors)"
     done
-    parts="system coroutine recording virtual live signals perform replaying"
+    parts="system coroutine overflow recording virtual live signals perform replaying"
     for part in $parts; do
         ar rc "$kind/libport.a" "$kind/$part.o"
     done
@@ -155,6 +155,18 @@ failures() {
     esac
     verdict "too little memory" "$problem"
     problem=
+    if [ -c /dev/full ]; then
+        for program in "queue $root/examples/queue.cfg $root/examples/queue.steps" \
+            "live-queue $root/examples/queue.cfg 200000 20"; do
+            status=0
+            # shellcheck disable=SC2086
+            plain/$program /dev/full > output 2> errors || status=$?
+            [ $status = 3 ] || problem="status $status"
+            [ "$(cat errors)" = "file: /dev/full" ] || problem="$problem, it says: $(head -c 300 errors)"
+        done
+        verdict "a recording that cannot be written" "$problem"
+        problem=
+    fi
     FMP_PREEMPT=always plain/live-queue "$root/examples/queue.cfg" 200000 20 > output 2> errors && problem="status 0"
     [ "$(cat errors)" = "fmp: FMP_PREEMPT is neither call nor signal: always" ] ||
         problem="$problem, it says: $(head -c 300 errors)"

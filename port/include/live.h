@@ -42,8 +42,6 @@ enum fmp_over {
  * SIGINT and SIGTERM end the run, unless the program has handlers of its own for them, or ignores them, as one that a
  * shell starts in the background ignores SIGINT. Signal handlers of the program run in the thread that invoked fmp_run,
  * or in threads of its own, never in a task.
- *
- * A stack that overflows into the 64 KB below it ends the program with status 3, after a message that names the task.
  */
 enum fmp_over fmp_run(long nanoseconds, unsigned long ticks, FILE *messages);
 

@@ -38,7 +38,8 @@ enum fmp_opened {
  *
  * All memory is taken here. A task has a stack of the size that the configuration gives it and 64 KB more, for the
  * library and the C library, and the handlers of a processor one of 64 KB. A task or a handler that overflows its stack
- * ends the program.
+ * into the 64 KB below it ends the program with status 3, after a message that names the task and, so far as it is not
+ * the kernel that runs then, with a whole recording.
  */
 enum fmp_opened fmp_open(const char *text, size_t length, const struct fmp_program *, FILE *trace, FILE *messages);
 
@@ -46,7 +47,8 @@ enum fmp_opened fmp_open(const char *text, size_t length, const struct fmp_progr
  * From now on each event that is done is written there, a line for each, with the call that was handed in; NULL: no
  * longer. All lines are written at the end of a run, at the next fmp_record, and at fmp_close; until then 4 KB at a
  * time. A program that is killed leaves the lines that were written. What stands behind the last line feed, if
- * anything, is no event: whoever reads the file leaves it out.
+ * anything, is no event: whoever reads the file leaves it out. After a fault of the file, which ferror tells, no more is
+ * written.
  */
 void fmp_record(FILE *recording);
 

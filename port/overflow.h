@@ -1,0 +1,14 @@
+/* overflow.h: bodies that use more than their stacks. */
+#ifndef FMP_OVERFLOW_H
+#define FMP_OVERFLOW_H
+
+enum { OVERFLOW_STACK = 32 << 10 };
+
+/* While a system is open: a stack that overflows ends the program, after a message and these last words. */
+void overflow_watch(void (*last_words)(void));
+void overflow_ignore(void);
+
+/* The invoking thread has a stack of OVERFLOW_STACK bytes for that, unless it has one. */
+void overflow_use(unsigned char *stack);
+
+#endif
