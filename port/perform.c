@@ -81,8 +81,7 @@ int fmp_perform(int argc, char **argv, const struct fmp_program *program)
     size_t length;
     char *text = system_text(it.cfg, &length);
     int status = text != NULL ? perform(text, length, &it, program, recording) : 3;
-    if (recording != NULL && (ferror(recording) | fclose(recording)) != 0) {
-        fprintf(stderr, "file: %s\n", it.recording);
+    if (recording != NULL && !system_close(recording, it.recording)) {
         status = 3;
     }
     free(text);

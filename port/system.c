@@ -481,3 +481,13 @@ char *system_text(const char *path, size_t *length)
     }
     return text;
 }
+
+bool system_close(FILE *file, const char *path)
+{
+    bool is_written = ferror(file) == 0;
+    is_written &= fclose(file) == 0;
+    if (!is_written) {
+        fprintf(stderr, "file: %s\n", path);
+    }
+    return is_written;
+}

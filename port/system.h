@@ -9,6 +9,7 @@
 #include <stdbool.h>
 #include <stddef.h>
 #include <stdint.h>
+#include <stdio.h>
 
 enum { NAME_ROOM = 32 };
 
@@ -68,5 +69,8 @@ const struct flow *system_overflowing(const void *address);
 
 /* The text of a file, which is to be freed. NULL if it cannot be read, after a message. */
 char *system_text(const char *path, size_t *length);
+
+/* Closes a file that was written. False if it could not be written, after a message. */
+bool system_close(FILE *, const char *path);
 
 #endif

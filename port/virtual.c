@@ -130,8 +130,7 @@ int fmp_simulate(int argc, char **argv, const struct fmp_program *program)
     char *cfg = system_text(argv[1], &length);
     char *steps = cfg != NULL ? system_text(argv[2], &steps_length) : NULL;
     int status = steps != NULL ? simulate(cfg, length, steps, steps_length, program, recording) : 3;
-    if (recording != NULL && (ferror(recording) | fclose(recording)) != 0) {
-        fprintf(stderr, "file: %s\n", argv[3]);
+    if (recording != NULL && !system_close(recording, argv[3])) {
         status = 3;
     }
     free(steps);
