@@ -180,7 +180,7 @@ class Checker:
     def scripts(self):
         """The page of the checks tells each of their files, and no other."""
         self.document = "checks/README.md"
-        pattern = r"[\w./]+\.(py|sh|c|h)"
+        pattern = r"[\w./]+\.(py|sh|c|h|supp)"
         told = {Path(re.match(pattern, name)[0]).name for _, name in named(self.document, rf"{pattern}\b.*")}
         there = {path.name for path in ROOT.glob("checks/*/*") if path.is_file()}
         shared = {path.name for path in ROOT.glob("checks/common/*")}
