@@ -6,7 +6,7 @@ ghost use Rattle.fmp_outside.specs.declared.given.Act.TheVariants as act;
 ghost use Rattle.fmp_outside.specs.declared.given.Given.TheVariants as given;
 ghost use Rattle.fmp_outside.specs.Outside.{ending_by};
 ghost use Rattle.fmp_foreign.specs.declared.foreign.Told.TheVariants as told;
-ghost use Rattle.fmp_foreign.specs.Hosting.{IsNew, after, answer, called_by, made_by, refused_number};
+ghost use Rattle.fmp_foreign.specs.Hosting.{IsNew, after, answer, called_by, made_by, refused, refused_number};
 
 use crate::foreign::{Foreign, Told};
 use crate::requests::{Refusal, call_of};
@@ -79,6 +79,16 @@ impl Hosted {
                 }
             }
         }
+    }
+
+    /// Why this is not taken, if it is not: a number is out of range, or 2^31 events were taken.
+    pub fn refusal(&self, given: Given) -> Option<Refusal>
+        ensures { result ≡ refused self.now.kernel given }
+    {
+        if self.kernel.taken() >= MOST_EVENTS {
+            return Some(Refusal::Full);
+        }
+        self.refused_number(given)
     }
 
     /// What comes, while fewer than 2^31 events were taken. If it is done, its lines and the state after it stand in
