@@ -1,0 +1,11 @@
+//! Bodies that run elsewhere, checked: what each hands in must be what the text of an image does next.
+#![tactic(auto)]
+
+mod bodies;
+mod checked;
+mod copying;
+mod following;
+
+pub use bodies::ImageBody;
+pub use checked::Checked;
+pub use following::{Objection, follow};
