@@ -1,0 +1,64 @@
+//! Arrows from who acted to the task on which it acted.
+use crate::clock::Clock;
+use crate::entries::{append_flow_end, append_flow_start};
+use crate::lanes::{lane_of, task_lane};
+use fmp_base::System;
+use fmp_timeline::{Bond, Link};
+use std::alloc::{AllocError, Global};
+
+/// What an arrow says.
+fn bond_word(bond: Bond) -> &'static str {
+    match bond {
+        Bond::Starts => "starts",
+        Bond::Releases => "releases",
+        Bond::Migrates => "migrates",
+        Bond::Changes => "changes",
+    }
+}
+
+/// When the arrow of an event leaves: a microsecond before the event, but no earlier than the event before it. There
+/// the slice of the actor lasts.
+fn leaves_at(clock: &Clock, event: u32) -> u64 {
+    let before = clock.at(event.saturating_sub(1));
+    clock.at(event).saturating_sub(1).max(before)
+}
+
+/// Appends the arrow of this number.
+fn append_link(
+    alloc: Global,
+    sys: &System,
+    clock: &Clock,
+    number: u64,
+    link: &Link,
+    out: &mut Vec<u8>,
+) -> Result<(), AllocError> {
+    let Some(lane) = lane_of(sys, link.from) else {
+        return Ok(());
+    };
+    let word = bond_word(link.bond);
+    append_flow_start(alloc, lane, leaves_at(clock, link.event), number, word, out)?;
+    append_flow_end(
+        alloc,
+        task_lane(link.task),
+        clock.at(link.event),
+        number,
+        word,
+        out,
+    )
+}
+
+/// Appends all arrows, numbered from 1.
+pub fn append_links(
+    alloc: Global,
+    sys: &System,
+    clock: &Clock,
+    links: &[Link],
+    out: &mut Vec<u8>,
+) -> Result<(), AllocError> {
+    let mut number = 0u64;
+    for link in links {
+        number = number.saturating_add(1);
+        append_link(alloc, sys, clock, number, link, out)?;
+    }
+    Ok(())
+}

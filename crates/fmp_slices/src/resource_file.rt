@@ -1,0 +1,288 @@
+//! The resource file of a system for TraceLogVisualizer: what its objects are called, and what is known of them.
+ghost use Rattle.std.specs.Prelude.{◌≡◌, ◌+◌, ◌<◌, ◌++◌, OnOk, codes, decimal};
+ghost use Rattle.fmp_slices.specs.Resources as spec;
+
+use crate::labels::{append, entry_name};
+use fmp_base::{Caller, CyclicConfig, Entry, Handler, InterruptConfig, Name, System, TaskConfig};
+use fmp_json::{begin, begin_list, end_list, finish, number_member, text_member};
+use fmp_named::append_caller;
+use itoa::Buffer;
+use json::Writer;
+use std::alloc::{AllocError, Global};
+
+/// Appends the name that the handler of an interrupt has as an object.
+fn append_interrupt(number: u8, out: &mut Vec<u8>) -> Result<(), AllocError>
+    ensures { OnOk result (out.new.items ≡ out.old.items ++ (codes "INT_" ++ decimal number)) }
+{
+    append(b"INT_", out)?;
+    append(Buffer::new().format(u32::from(number)).as_bytes(), out)
+}
+
+/// Appends the name that a handler has as an object: of an interrupt `INT_` and its number.
+pub fn append_handler(sys: &System, handler: Handler, out: &mut Vec<u8>) -> Result<(), AllocError> {
+    match handler {
+        Handler::Interrupt(place) => append_interrupt(place.saturating_add(1), out),
+        Handler::Cyclic(_) => append_caller(sys, Caller::Handler(handler), out),
+    }
+}
+
+/// Appends the name that a task or a handler has as an object.
+pub fn append_object(sys: &System, actor: Caller, out: &mut Vec<u8>) -> Result<(), AllocError> {
+    match actor {
+        Caller::Task(_) => append_caller(sys, actor, out),
+        Caller::Handler(handler) => append_handler(sys, handler, out),
+    }
+}
+
+/// Appends the name of the context of the processor at a place.
+pub fn append_context(processor: u8, out: &mut Vec<u8>) -> Result<(), AllocError>
+    ensures { OnOk result (out.new.items ≡ out.old.items ++ (codes "CurrentContext_PRC" ++ decimal (processor + 1))) }
+{
+    append(b"CurrentContext_PRC", out)?;
+    append(
+        Buffer::new().format(u32::from(processor) + 1).as_bytes(),
+        out,
+    )
+}
+
+/// Begins a resource of this name and type: its attributes follow, its number first.
+fn begin_resource(
+    alloc: Global,
+    name: &[u8],
+    kind: &str,
+    number: u8,
+    writer: &mut Writer,
+) -> Result<(), AllocError>
+    ensures before { writer.new.before ≡ writer.old.before }
+    ensures tokens { OnOk result (writer.new.tokens
+        ≡ writer.old.tokens ++ spec.resource_begin name.now kind.now number) }
+{
+    let name = String::from_utf8_lossy(alloc, name)?;
+    writer.key(&name)?;
+    writer.begin_object()?;
+    text_member(writer, "Type", kind)?;
+    writer.key("Attributes")?;
+    writer.begin_object()?;
+    number_member(writer, "id", u64::from(number))
+}
+
+/// Ends a resource.
+fn end_resource(writer: &mut Writer) -> Result<(), AllocError>
+    ensures before { writer.new.before ≡ writer.old.before }
+    ensures tokens { OnOk result (writer.new.tokens ≡ writer.old.tokens ++ spec.resource_end) }
+{
+    writer.end_object()?;
+    writer.end_object()
+}
+
+/// Writes the number of the processor at a place.
+fn write_processor(processor: u8, writer: &mut Writer) -> Result<(), AllocError>
+    ensures before { writer.new.before ≡ writer.old.before }
+    ensures tokens { OnOk result (writer.new.tokens ≡ writer.old.tokens ++ spec.processor_member processor) }
+{
+    number_member(writer, "prcId", u64::from(processor) + 1)
+}
+
+/// Writes the context of the processor at a place, which is idle at first.
+fn write_context(alloc: Global, processor: u8, writer: &mut Writer) -> Result<(), AllocError>
+    requires { processor < 255 }
+    ensures before { writer.new.before ≡ writer.old.before }
+{
+    let mut name = Vec::new(alloc);
+    append_context(processor, &mut name)?;
+    begin_resource(alloc, &name, "Context", processor + 1, writer)?;
+    write_processor(processor, writer)?;
+    text_member(writer, "name", "None")?;
+    end_resource(writer)
+}
+
+/// Writes a member whose value is the name of the body of an entry, if that is known.
+fn write_body(
+    alloc: Global,
+    member: &str,
+    bodies: &[Name],
+    entry: Entry,
+    writer: &mut Writer,
+) -> Result<(), AllocError>
+    ensures before { writer.new.before ≡ writer.old.before }
+{
+    match entry_name(bodies, entry) {
+        Some(name) => {
+            let text = String::from_utf8_lossy(alloc, name.as_bytes())?;
+            text_member(writer, member, &text)
+        }
+        None => Ok(()),
+    }
+}
+
+/// Writes a task of this number, which is dormant at first.
+fn write_task(
+    alloc: Global,
+    number: u8,
+    task: &TaskConfig,
+    bodies: &[Name],
+    writer: &mut Writer,
+) -> Result<(), AllocError>
+    ensures before { writer.new.before ≡ writer.old.before }
+{
+    begin_resource(alloc, task.name.as_bytes(), "Task", number, writer)?;
+    write_processor(task.processor, writer)?;
+    number_member(writer, "pri", u64::from(task.priority))?;
+    number_member(writer, "stksz", u64::from(task.stack))?;
+    write_body(alloc, "task", bodies, task.entry, writer)?;
+    text_member(writer, "state", "DORMANT")?;
+    end_resource(writer)
+}
+
+/// Writes a cyclic handler of this number.
+fn write_cyclic(
+    alloc: Global,
+    number: u8,
+    cyclic: &CyclicConfig,
+    bodies: &[Name],
+    writer: &mut Writer,
+) -> Result<(), AllocError>
+    ensures before { writer.new.before ≡ writer.old.before }
+{
+    begin_resource(
+        alloc,
+        cyclic.name.as_bytes(),
+        "CyclicHandler",
+        number,
+        writer,
+    )?;
+    write_processor(cyclic.processor, writer)?;
+    number_member(writer, "cyctim", u64::from(cyclic.period))?;
+    number_member(writer, "cycphs", u64::from(cyclic.phase))?;
+    write_body(alloc, "cychdr", bodies, cyclic.entry, writer)?;
+    text_member(writer, "state", "DORMANT")?;
+    end_resource(writer)
+}
+
+/// Writes the handler of an interrupt.
+fn write_interrupt(
+    alloc: Global,
+    interrupt: &InterruptConfig,
+    bodies: &[Name],
+    writer: &mut Writer,
+) -> Result<(), AllocError>
+    ensures before { writer.new.before ≡ writer.old.before }
+{
+    let mut name = Vec::new(alloc);
+    append_interrupt(interrupt.number, &mut name)?;
+    begin_resource(alloc, &name, "InterruptHandler", interrupt.number, writer)?;
+    write_processor(interrupt.processor, writer)?;
+    write_body(alloc, "inthdr", bodies, interrupt.entry, writer)?;
+    text_member(writer, "state", "DORMANT")?;
+    end_resource(writer)
+}
+
+fn write_contexts(alloc: Global, sys: &System, writer: &mut Writer) -> Result<(), AllocError>
+    ensures before { writer.new.before ≡ writer.old.before }
+{
+    for processor in 0..sys.processors.min(254) {
+        write_context(alloc, processor, writer)?;
+    }
+    Ok(())
+}
+
+fn write_tasks(
+    alloc: Global,
+    sys: &System,
+    bodies: &[Name],
+    writer: &mut Writer,
+) -> Result<(), AllocError>
+    ensures before { writer.new.before ≡ writer.old.before }
+{
+    for place in 0..sys.tasks.len().min(255) as u8 {
+        write_task(
+            alloc,
+            place + 1,
+            &sys.tasks[usize::from(place)],
+            bodies,
+            writer,
+        )?;
+    }
+    Ok(())
+}
+
+fn write_cyclics(
+    alloc: Global,
+    sys: &System,
+    bodies: &[Name],
+    writer: &mut Writer,
+) -> Result<(), AllocError>
+    ensures before { writer.new.before ≡ writer.old.before }
+{
+    for place in 0..sys.cyclics.len().min(255) as u8 {
+        write_cyclic(
+            alloc,
+            place + 1,
+            &sys.cyclics[usize::from(place)],
+            bodies,
+            writer,
+        )?;
+    }
+    Ok(())
+}
+
+fn write_interrupts(
+    alloc: Global,
+    sys: &System,
+    bodies: &[Name],
+    writer: &mut Writer,
+) -> Result<(), AllocError>
+    ensures before { writer.new.before ≡ writer.old.before }
+{
+    for interrupt in &sys.interrupts {
+        write_interrupt(alloc, interrupt, bodies, writer)?;
+    }
+    Ok(())
+}
+
+/// Writes a list of rules, of one: those of the multiprocessor kernel.
+fn write_rules(name: &str, writer: &mut Writer) -> Result<(), AllocError>
+    ensures before { writer.new.before ≡ writer.old.before }
+{
+    begin_list(writer, name)?;
+    writer.string("fmp")?;
+    end_list(writer)
+}
+
+/// Writes how times are written, and by which rules the visualizer reads and shows a log.
+fn write_head(writer: &mut Writer) -> Result<(), AllocError>
+    ensures before { writer.new.before ≡ writer.old.before }
+{
+    text_member(writer, "TimeScale", "us")?;
+    number_member(writer, "TimeRadix", 10)?;
+    write_rules("ConvertRules", writer)?;
+    write_rules("VisualizeRules", writer)?;
+    write_rules("ResourceHeaders", writer)
+}
+
+fn write_resources(
+    alloc: Global,
+    sys: &System,
+    bodies: &[Name],
+    writer: &mut Writer,
+) -> Result<(), AllocError>
+    ensures before { writer.new.before ≡ writer.old.before }
+{
+    writer.key("Resources")?;
+    writer.begin_object()?;
+    write_contexts(alloc, sys, writer)?;
+    write_tasks(alloc, sys, bodies, writer)?;
+    write_cyclics(alloc, sys, bodies, writer)?;
+    write_interrupts(alloc, sys, bodies, writer)?;
+    writer.end_object()
+}
+
+/// The resource file of a system, an object of JSON in a line: the contexts of the processors, the tasks, the cyclic
+/// handlers and the handlers of interrupts, each in order of number. The names of the bodies are those of an image, in
+/// order of number. `AllocError` if memory runs out.
+pub fn resources(alloc: Global, sys: &System, bodies: &[Name]) -> Result<Vec<u8>, AllocError> {
+    let mut writer = begin(alloc)?;
+    write_head(&mut writer)?;
+    write_resources(alloc, sys, bodies, &mut writer)?;
+    finish(writer)
+}

@@ -1,0 +1,210 @@
+//! A run in the Trace Event Format, as JSON.
+use crate::clock::Clock;
+use crate::entries::{append_instant, append_slice, append_title};
+use crate::flows::append_links;
+use crate::labels::{append, append_actor, append_body, append_state};
+use crate::lanes::{EVENTS, INTERRUPTS, Lane, PROCESSORS, TASKS, TICKS, processor_lane, task_lane};
+use fmp_base::{Handler, Name, System};
+use fmp_timeline::{Note, Occupant, Run, Stay, TaskShown, Track};
+use itoa::Buffer;
+use std::alloc::{AllocError, Global};
+
+/// The name of a group of tracks, behind no comma.
+const HEAD: &[u8] =
+    b"[{\"ph\":\"M\",\"pid\":1,\"tid\":0,\"name\":\"process_name\",\"args\":{\"name\":\"processors\"}}\n";
+
+/// What the slices of a run are made from.
+#[derive(Clone, Copy)]
+struct Source<'a> {
+    alloc: Global,
+    sys: &'a System,
+    bodies: &'a [Name],
+    run: &'a Run,
+    clock: &'a Clock,
+}
+
+/// Words and a number behind them, from 1.
+fn numbered(alloc: Global, words: &[u8], place: u8) -> Result<Vec<u8>, AllocError> {
+    let mut text = Vec::from_slice(alloc, words)?;
+    append(
+        Buffer::new().format(u32::from(place) + 1).as_bytes(),
+        &mut text,
+    )?;
+    Ok(text)
+}
+
+impl Source<'_> {
+    /// When a state begins and ends: that of the end of the run lasts a microsecond behind the last event.
+    fn span<S>(self, stay: &Stay<S>) -> (u64, u64) {
+        let from = self.clock.at(stay.from);
+        let to = match stay.to {
+            Some(event) => self.clock.at(event),
+            None => {
+                let last = self.run.next_event().saturating_sub(1);
+                self.clock.at(last).saturating_add(1)
+            }
+        };
+        (from, to)
+    }
+
+    /// The names of the groups but the first, and of all tracks.
+    fn append_titles(self, out: &mut Vec<u8>) -> Result<(), AllocError> {
+        self.append_group(TASKS, b"tasks", out)?;
+        self.append_group(EVENTS, b"events", out)?;
+        self.append_track(TICKS, b"ticks", out)?;
+        self.append_track(INTERRUPTS, b"interrupts", out)?;
+        for place in 0..self.sys.processors {
+            let name = numbered(self.alloc, b"processor ", place)?;
+            self.append_track(processor_lane(place), &name, out)?;
+        }
+        for place in 0..self.sys.tasks.len().min(255) as u8 {
+            let name = self.sys.tasks[usize::from(place)].name;
+            self.append_track(task_lane(place), name.as_bytes(), out)?;
+        }
+        Ok(())
+    }
+
+    fn append_group(self, group: u64, name: &[u8], out: &mut Vec<u8>) -> Result<(), AllocError> {
+        let lane = Lane { group, number: 0 };
+        append_title(self.alloc, lane, "process_name", name, out)
+    }
+
+    fn append_track(self, lane: Lane, name: &[u8], out: &mut Vec<u8>) -> Result<(), AllocError> {
+        append_title(self.alloc, lane, "thread_name", name, out)
+    }
+
+    /// The slice of a task or handler on a processor; none while the processor is idle.
+    fn append_turn(
+        self,
+        lane: Lane,
+        stay: &Stay<Occupant>,
+        out: &mut Vec<u8>,
+    ) -> Result<(), AllocError> {
+        let Some(actor) = stay.state.actor() else {
+            return Ok(());
+        };
+        let mut name = Vec::new(self.alloc);
+        append_actor(self.sys, self.bodies, actor, &mut name)?;
+        let (from, to) = self.span(stay);
+        append_slice(self.alloc, lane, from, to, &name, out)
+    }
+
+    /// The slices of a processor, in order of time.
+    fn append_processor(
+        self,
+        place: u8,
+        track: &Track<Occupant>,
+        out: &mut Vec<u8>,
+    ) -> Result<(), AllocError> {
+        for stay in track.places(0, u32::MAX) {
+            if let Some(stay) = track.stay(stay) {
+                self.append_turn(processor_lane(place), &stay, out)?;
+            }
+        }
+        Ok(())
+    }
+
+    /// The slice of a state of a task.
+    fn append_stay(
+        self,
+        lane: Lane,
+        stay: &Stay<TaskShown>,
+        out: &mut Vec<u8>,
+    ) -> Result<(), AllocError> {
+        let mut name = Vec::new(self.alloc);
+        append_state(self.sys, self.bodies, stay.state, &mut name)?;
+        let (from, to) = self.span(stay);
+        append_slice(self.alloc, lane, from, to, &name, out)
+    }
+
+    /// The slices of a task, in order of time.
+    fn append_task(
+        self,
+        place: u8,
+        track: &Track<TaskShown>,
+        out: &mut Vec<u8>,
+    ) -> Result<(), AllocError> {
+        for stay in track.places(0, u32::MAX) {
+            if let Some(stay) = track.stay(stay) {
+                self.append_stay(task_lane(place), &stay, out)?;
+            }
+        }
+        Ok(())
+    }
+
+    /// The slices of all processors, and of all tasks.
+    fn append_slices(self, out: &mut Vec<u8>) -> Result<(), AllocError> {
+        for place in 0..self.run.occupants.len().min(255) as u8 {
+            self.append_processor(place, &self.run.occupants[usize::from(place)], out)?;
+        }
+        for place in 0..self.run.tasks.len().min(255) as u8 {
+            self.append_task(place, &self.run.tasks[usize::from(place)], out)?;
+        }
+        Ok(())
+    }
+
+    fn append_tick(self, time: u64, clock: u32, out: &mut Vec<u8>) -> Result<(), AllocError> {
+        let mut name = Vec::from_slice(self.alloc, b"tick ")?;
+        append(Buffer::new().format(clock).as_bytes(), &mut name)?;
+        append_instant(self.alloc, TICKS, time, &name, out)
+    }
+
+    fn append_interrupt(self, time: u64, place: u8, out: &mut Vec<u8>) -> Result<(), AllocError> {
+        let mut name = Vec::new(self.alloc);
+        append_body(self.sys, self.bodies, Handler::Interrupt(place), &mut name)?;
+        append_instant(self.alloc, INTERRUPTS, time, &name, out)
+    }
+
+    /// The tick or the interrupt of an event, if it is one.
+    fn append_note(self, event: u32, note: &Note, out: &mut Vec<u8>) -> Result<(), AllocError> {
+        let time = self.clock.at(event);
+        if note.ticks {
+            self.append_tick(time, note.clock, out)?;
+        }
+        match note.interrupt {
+            Some(place) => self.append_interrupt(time, place, out),
+            None => Ok(()),
+        }
+    }
+
+    fn append_notes(self, out: &mut Vec<u8>) -> Result<(), AllocError> {
+        let mut event = 0u32;
+        for note in &self.run.notes {
+            self.append_note(event, note, out)?;
+            event = event.saturating_add(1);
+        }
+        Ok(())
+    }
+
+    fn append_all(self, out: &mut Vec<u8>) -> Result<(), AllocError> {
+        append(HEAD, out)?;
+        self.append_titles(out)?;
+        self.append_slices(out)?;
+        self.append_notes(out)?;
+        append_links(self.alloc, self.sys, self.clock, &self.run.links, out)?;
+        append(b"]\n", out)
+    }
+}
+
+/// A run of a system in the Trace Event Format: an array of objects of JSON, a line each. First come the names of the
+/// tracks, then the slices of each processor and of each task, each track's in order of time, then ticks and
+/// interrupts, and at last the arrows. The names of the bodies are those of an image, in order of number; where they
+/// are missing, `append_body` says what stands for them. `AllocError` if memory runs out.
+pub fn trace_events(
+    alloc: Global,
+    sys: &System,
+    bodies: &[Name],
+    run: &Run,
+    clock: &Clock,
+) -> Result<Vec<u8>, AllocError> {
+    let source = Source {
+        alloc,
+        sys,
+        bodies,
+        run,
+        clock,
+    };
+    let mut out = Vec::new(alloc);
+    source.append_all(&mut out)?;
+    Ok(out)
+}
