@@ -8,9 +8,9 @@ use Rattle.fmp_base.specs.Services.{arguments_of, arity, request, service_name, 
 use Rattle.fmp_base.specs.Words.{service_named}
 use Rattle.fmp_recording.specs.Recordings.{act_by, call_in}
 
--- neither a blank nor a line feed
+-- no blank, no line feed and no `@`
 abbrev pub is_plain : ℕ → Bool
-is_plain b = not (nat_eq b 32) && not (nat_eq b 10)
+is_plain b = not (nat_eq b 32) && not (nat_eq b 10) && not (nat_eq b 64)
 
 abbrev pub all_plain : List ℕ → Bool
 all_plain [] = true

@@ -1,6 +1,6 @@
 -- What is written of a run is read as this run.
-use Rattle.std.proofs.Common.{ℕ, zero, suc, ℤ, pos, negsuc, ◌≡◌, ◌+◌, ◌-◌, ◌<◌, ◌≤◌, ◌^◌, List, [], ◌∷◌, ◌++◌, Bool, true, false, cond, ◌&&◌, not, Option, Some, None, Result, Ok, Err, length, nat_eq, nat_le, nat_lt, codes, decimal, drop, refl, ap, sym, ◌∙◌, arith}
-use Rattle.std.proofs.Math.Seq.{take-append_seam, drop-append_seam}
+use Rattle.std.proofs.Common.{ℕ, zero, suc, ℤ, pos, negsuc, ◌≡◌, ◌+◌, ◌-◌, ◌<◌, ◌≤◌, ◌^◌, List, [], ◌∷◌, ◌++◌, Bool, true, false, cond, ◌&&◌, not, Option, Some, None, Result, Ok, Err, length, nat_eq, nat_le, nat_lt, codes, decimal, drop, get_or, map, append_assoc, length-append, refl, ap, sym, ◌∙◌, arith}
+use Rattle.std.proofs.Math.Seq.{take-append_seam, drop-append_seam, drop-append-add, get_or-append_seam}
 use Rattle.std.proofs.lemmas.Bool.{le-leb, lt-ltb}
 use Rattle.std.proofs.lemmas.Bool.Decides.{nat_tests}
 use Rattle.std.proofs.lemmas.Fmt.{decimal_digit}
@@ -18,38 +18,91 @@ use Rattle.fmp_outside.specs.declared.given.Given.TheVariants as given
 use Rattle.fmp_recording.specs.declared.faults.Flaw.{Flaw}
 use Rattle.fmp_recording.specs.declared.faults.Flaw.TheVariants as flaw
 use Rattle.fmp_recording.specs.declared.faults.RecordingFault.TheVariants as recording_fault
-use Rattle.fmp_recording.specs.Recordings.{Cut, act_by, act_in, act_text, arguments_in, arguments_text, call_in, call_with, cut, cut_at, fault_at, given_act, given_by, given_int, given_of_line, given_text, givens_of, in_front, in_front_of, line_meaning, number_of, number_up_to, positive, negative, recording_text, signed_number}
-use Rattle.fmp_recording.specs.RecordingLaws.{IsRecorded, IsWord, IsWritable, PrintedRecordingsReadBack}
+use Rattle.fmp_recording.specs.Recordings.{Cut, act_by, act_in, act_text, arguments_in, arguments_text, call_in, call_with, cut, cut_at, behind_blank, fault_at, given_act, given_by, given_in, given_int, given_of_line, given_text, givens_of, in_front, in_front_of, line_meaning, line_time, number_of, number_up_to, positive, negative, recording_text, said_before, signed_number, some_time, time_behind, time_number, time_or_none, time_place, time_text, timed_text, times_of, with_time}
+use Rattle.fmp_recording.specs.RecordingLaws.{IsRecorded, IsTime, IsWord, IsWritable, PrintedRecordingsReadBack, TimedRecordingsReadBack}
 use Rattle.fmp_recording.proofs.CallTables.{all_arguments, all_plain, call_again, is_plain, plain_name, read_name}
 use Rattle.fmp_steps.specs.Steps.{lines_of, numeral_value}
 use Rattle.fmp_steps.proofs.LinesOf.{IsLine, lines_of-ended}
 use Rattle.fmp_steps.proofs.Numbers.{numeral_value-decimal, decimal_digits}
 
--- a text without a blank and a line feed
-abbrev Plain : List ℕ → Type 0
-Plain w = all_plain w ≡ true
+-- neither a line feed nor an `@`
+abbrev is_clear : ℕ → Bool
+is_clear b = not (nat_eq b 10) && not (nat_eq b 64)
 
-plain_parts : (b : ℕ) (rest : Bool) → (is_plain b && rest) ≡ true → (nat_eq b 32 ≡ false) × (nat_eq b 10 ≡ false) × (rest ≡ true)
-plain_parts b rest h = (grind (arith, nat_tests), grind (arith, nat_tests), grind (arith, nat_tests))
+abbrev all_clear : List ℕ → Bool
+all_clear [] = true
+all_clear (b ∷ bs) = is_clear b && all_clear bs
 
-plain_line : (w : List ℕ) → Plain w → IsLine w
-plain_line [] h = tt
-plain_line (b ∷ bs) h = let p = plain_parts b (all_plain bs) h in (p.1, plain_line bs p.2)
+abbrev Clear : List ℕ → Type 0
+Clear w = all_clear w ≡ true
 
-abbrev no_feed : List ℕ → Bool
-no_feed [] = true
-no_feed (b ∷ bs) = not (nat_eq b 10) && no_feed bs
+clear_parts : (b : ℕ) (rest : Bool) → (is_clear b && rest) ≡ true
+    → (is_clear b ≡ true) × (nat_eq b 10 ≡ false) × (nat_eq b 64 ≡ false) × (rest ≡ true)
+clear_parts b rest h =
+    (grind (arith, nat_tests), grind (arith, nat_tests), grind (arith, nat_tests), grind (arith, nat_tests))
 
-feed_parts : (b : ℕ) (rest : Bool) → (not (nat_eq b 10) && rest) ≡ true → (nat_eq b 10 ≡ false) × (rest ≡ true)
-feed_parts b rest h = (grind (arith, nat_tests), grind (arith, nat_tests))
+clear_line : (w : List ℕ) → Clear w → IsLine w
+clear_line [] h = tt
+clear_line (b ∷ bs) h = let p = clear_parts b (all_clear bs) h in (p.1, clear_line bs p.3)
 
-plain_words : (w : List ℕ) → no_feed w ≡ true → IsLine w
-plain_words [] h = tt
-plain_words (b ∷ bs) h = let p = feed_parts b (no_feed bs) h in (p.0, plain_words bs p.1)
+clear_append : (xs ys : List ℕ) → Clear xs → Clear ys → Clear (xs ++ ys)
+clear_append [] ys h k = k
+clear_append (x ∷ xs) ys h k =
+    let p = clear_parts x (all_clear xs) h in ap (λ (t : Bool). t && all_clear (xs ++ ys)) p.0 ∙ clear_append xs ys p.3 k
 
 line_append : (xs ys : List ℕ) → IsLine xs → IsLine ys → IsLine (xs ++ ys)
 line_append [] ys h k = k
 line_append (x ∷ xs) ys h k = (h.0, line_append xs ys h.1 k)
+
+-- the place of the first `@`
+sign_behind : (w rest : List ℕ) → Clear w
+    → position_or_len (λ b. nat_eq b 64) (w ++ rest) ≡ length w + position_or_len (λ b. nat_eq b 64) rest
+sign_behind [] rest h = omega arith
+sign_behind (b ∷ bs) rest h =
+    let p = clear_parts b (all_clear bs) h in
+    ap (λ (t : Bool). cond (not t) (1 + prefix_len (λ c. not (nat_eq c 64)) (bs ++ rest)) 0) p.2
+    ∙ ap (λ (n : ℕ). 1 + n) (sign_behind bs rest p.3)
+    ∙ omega arith
+
+and_none : (xs : List ℕ) → xs ++ [] ≡ xs
+and_none [] = refl
+and_none (x ∷ xs) = ap (λ (ys : List ℕ). x ∷ ys) (and_none xs)
+
+-- a line without an `@` has no time
+untimed : (w : List ℕ) → Clear w → time_place w ≡ None
+untimed w h =
+    let n : position_or_len (λ b. nat_eq b 64) w ≡ length w =
+    ap (λ (x : List ℕ). position_or_len (λ b. nat_eq b 64) x) (sym (and_none w)) ∙ sign_behind w [] h ∙ omega arith in
+    let out : nat_lt (length w) (length w) ≡ false = grind (arith, nat_tests) in
+    ap (λ (k : ℕ). behind_blank w (cond (nat_lt k (length w)) (Some k) None)) n
+    ∙ ap (λ (t : Bool). behind_blank w (cond t (Some (length w)) None)) out
+
+-- a time stands behind such a line
+timed : (w rest : List ℕ) → Clear w → time_place (w ++ 32 ∷ 64 ∷ rest) ≡ Some (length w)
+timed w rest h =
+    let text = w ++ 32 ∷ 64 ∷ rest in
+    let n : position_or_len (λ b. nat_eq b 64) text ≡ suc (length w) = sign_behind w (32 ∷ 64 ∷ rest) h ∙ omega arith in
+    let all : length text ≡ length w + length (32 ∷ 64 ∷ rest) = length-append w (32 ∷ 64 ∷ rest) in
+    let before : suc (length w) - 1 ≡ length w = omega arith in
+    let inside : nat_lt (suc (length w)) (length text) ≡ true = lt-ltb (suc (length w)) (length text) (omega (arith, all)) in
+    ap (λ (k : ℕ). behind_blank text (cond (nat_lt k (length text)) (Some k) None)) n
+    ∙ ap (λ (t : Bool). behind_blank text (cond t (Some (suc (length w))) None)) inside
+    ∙ ap (λ (t : Bool). cond (t && nat_eq (get_or text (suc (length w) - 1) 0) 32) (Some (suc (length w) - 1)) None)
+    (le-leb 1 (suc (length w)) (omega arith))
+    ∙ ap (λ (m : ℕ). cond (nat_eq (get_or text m 0) 32) (Some m) None) before
+    ∙ ap (λ (b : ℕ). cond (nat_eq b 32) (Some (length w)) None) (get_or-append_seam w 32 (64 ∷ rest) 0)
+
+-- a text without a blank, a line feed and an `@`
+abbrev Plain : List ℕ → Type 0
+Plain w = all_plain w ≡ true
+
+plain_parts : (b : ℕ) (rest : Bool) → (is_plain b && rest) ≡ true → (nat_eq b 32 ≡ false) × (is_clear b ≡ true) × (rest ≡ true)
+plain_parts b rest h = (grind (arith, nat_tests), grind (arith, nat_tests), grind (arith, nat_tests))
+
+plain_clear : (w : List ℕ) → Plain w → Clear w
+plain_clear [] h = refl
+plain_clear (b ∷ bs) h =
+    let p = plain_parts b (all_plain bs) h in ap (λ (t : Bool). t && all_clear bs) p.1 ∙ plain_clear bs p.2
 
 digit_plain : (d : ℕ) (rest : Bool) → (is_ascii_digit d && rest) ≡ true → (is_plain d ≡ true) × (nat_eq d 45 ≡ false) × (rest ≡ true)
 digit_plain d rest h = (grind (arith, nat_tests), grind (arith, nat_tests), grind (arith, nat_tests))
@@ -83,10 +136,6 @@ cut_word w rest h =
     ∙ ap (λ (t : Bool). cut_at (cond t (Some (length w)) None) text) inside
     ∙ ap (λ (x : List ℕ). record { word = x; rest = drop (length w) text }) (take-append_seam w (32 ∷ rest))
     ∙ ap (λ (x : List ℕ). record { word = w; rest = x }) (drop-append_seam w (32 ∷ rest))
-
-and_none : (xs : List ℕ) → xs ++ [] ≡ xs
-and_none [] = refl
-and_none (x ∷ xs) = ap (λ (ys : List ℕ). x ∷ ys) (and_none xs)
 
 cut_end : (w : List ℕ) → Plain w → cut w ≡ record { word = w; rest = [] }
 cut_end w h =
@@ -133,10 +182,10 @@ arguments_again (x ∷ xs) h =
     ∙ ap (λ (o : Option ℤ). in_front_of o (arguments_in (length xs) (arguments_text xs))) (number_again x h.0)
     ∙ ap (λ (o : Option (List ℤ)). in_front_of (Some x) o) (arguments_again xs h.1)
 
-arguments_line : (xs : List ℤ) → AllByRecursion IsWord xs → IsLine (arguments_text xs)
-arguments_line [] h = tt
-arguments_line (x ∷ xs) h =
-    (refl, line_append (signed_decimal x) (arguments_text xs) (plain_line (signed_decimal x) (plain_number x h.0)) (arguments_line xs h.1))
+arguments_clear : (xs : List ℤ) → AllByRecursion IsWord xs → Clear (arguments_text xs)
+arguments_clear [] h = refl
+arguments_clear (x ∷ xs) h =
+    clear_append (signed_decimal x) (arguments_text xs) (plain_clear (signed_decimal x) (plain_number x h.0)) (arguments_clear xs h.1)
 
 call_read : (c : Call) → AllByRecursion IsWord (arguments_of c)
     → call_in (Some (service_of c)) (arguments_text (arguments_of c)) ≡ Some (act.Call c)
@@ -154,14 +203,14 @@ act_again (act.Fault fault.Overflow) h = refl
 act_again (act.Fault fault.Division) h = refl
 act_again (act.Fault fault.Index) h = refl
 
-act_line : (a : Act) → IsWritable a → IsLine (act_text a)
-act_line (act.Call c) h =
-    line_append (service_name (service_of c)) (arguments_text (arguments_of c)) (plain_line _ (plain_name (service_of c)))
-    (arguments_line (arguments_of c) h)
-act_line act.End h = (refl, (refl, (refl, tt)))
-act_line (act.Fault fault.Overflow) h = plain_words (codes "fault F_OVF") refl
-act_line (act.Fault fault.Division) h = plain_words (codes "fault F_DIV") refl
-act_line (act.Fault fault.Index) h = plain_words (codes "fault F_IDX") refl
+act_clear : (a : Act) → IsWritable a → Clear (act_text a)
+act_clear (act.Call c) h =
+    clear_append (service_name (service_of c)) (arguments_text (arguments_of c)) (plain_clear (service_name (service_of c)) (plain_name (service_of c)))
+    (arguments_clear (arguments_of c) h)
+act_clear act.End h = refl
+act_clear (act.Fault fault.Overflow) h = refl
+act_clear (act.Fault fault.Division) h = refl
+act_clear (act.Fault fault.Index) h = refl
 
 ranged_again : (most n : ℕ) → 1 ≤ n → n ≤ most → most < 256 → number_up_to most (number_of (decimal n)) ≡ Ok n
 ranged_again most n low high small =
@@ -169,7 +218,7 @@ ranged_again most n low high small =
     ∙ ap (λ (t : Bool). cond (t && nat_le n most) (Ok n) (Err flaw.Range)) (le-leb 1 n low)
     ∙ ap (λ (t : Bool). cond t (Ok n) (Err flaw.Range)) (le-leb n most high)
 
-given_again : (processors : ℕ) (g : Given) → processors < 256 → IsRecorded processors g → line_meaning processors (given_text g) ≡ Ok g
+given_again : (processors : ℕ) (g : Given) → processors < 256 → IsRecorded processors g → given_in processors (given_text g) ≡ Ok g
 given_again processors (given.Act p a) small h =
     let plain = digits_plain (decimal p) (decimal_digits p (omega (arith, h.1))) in
     ap (λ (c : Cut). given_by processors c) (cut_word (codes "run") (decimal p ++ 32 ∷ act_text a) refl)
@@ -181,19 +230,30 @@ given_again processors (given.Int i) small h =
     ap (λ (c : Cut). given_by processors c) (cut_word (codes "int") (decimal i) refl)
     ∙ ap (λ (r : Result ℕ Flaw). given_int r) (ranged_again 32 i h.0 h.1 (omega arith))
 
+given_clear : (processors : ℕ) (g : Given) → processors < 256 → IsRecorded processors g → Clear (given_text g)
+given_clear processors (given.Act p a) small h =
+    let digits = plain_clear (decimal p) (digits_plain (decimal p) (decimal_digits p (omega (arith, h.1)))) in
+    clear_append (decimal p) (32 ∷ act_text a) digits (act_clear a h.2)
+given_clear processors given.Tick small h = refl
+given_clear processors (given.Int i) small h =
+    plain_clear (decimal i) (digits_plain (decimal i) (decimal_digits i (omega (arith, h.1))))
+
 given_line : (processors : ℕ) (g : Given) → processors < 256 → IsRecorded processors g → IsLine (given_text g)
-given_line processors (given.Act p a) small h =
-    let digits = plain_line (decimal p) (digits_plain (decimal p) (decimal_digits p (omega (arith, h.1)))) in
-    (refl, (refl, (refl, (refl, line_append (decimal p) (32 ∷ act_text a) digits (refl, act_line a h.2)))))
-given_line processors given.Tick small h = (refl, (refl, (refl, (refl, tt))))
-given_line processors (given.Int i) small h =
-    (refl, (refl, (refl, (refl, plain_line (decimal i) (digits_plain (decimal i) (decimal_digits i (omega (arith, h.1))))))))
+given_line processors g small h = clear_line (given_text g) (given_clear processors g small h)
+
+numbered : (processors n : ℕ) (line : List ℕ) (g : Given) → line_meaning processors line ≡ Ok g → n ≤ 2 ^ 31
+    → given_of_line processors n line ≡ Ok g
+numbered processors n line g e few =
+    ap (λ (t : Bool). cond t (fault_at n (line_meaning processors line)) (Err (recording_fault.TooMany n))) (le-leb n (2 ^ 31) few)
+    ∙ ap (λ r. fault_at n r) e
 
 line_again : (processors n : ℕ) (g : Given) → processors < 256 → IsRecorded processors g → n ≤ 2 ^ 31
     → given_of_line processors n (given_text g) ≡ Ok g
 line_again processors n g small h few =
-    ap (λ (t : Bool). cond t (fault_at n (line_meaning processors (given_text g))) (Err (recording_fault.TooMany n))) (le-leb n (2 ^ 31) few)
-    ∙ ap (λ r. fault_at n r) (given_again processors g small h)
+    let w = given_text g in
+    numbered processors n w g
+    (ap (λ (o : Option ℕ). with_time (given_in processors (said_before o w)) (time_behind o w)) (untimed w (given_clear processors g small h))
+    ∙ ap (λ (r : Result Given Flaw). with_time r (Ok None)) (given_again processors g small h)) few
 
 lines_again : (processors n : ℕ) (gs : List Given) → processors < 256 → AllByRecursion (IsRecorded processors) gs
     → n + length gs ≤ 2 ^ 31 + 1 → givens_of processors n (lines_of (recording_text gs)) ≡ Ok gs
@@ -205,3 +265,76 @@ lines_again processors n (g ∷ gs) small h few =
 
 pub printed_recordings_read_back : PrintedRecordingsReadBack
 printed_recordings_read_back processors gs small h few = lines_again processors 1 gs small h (omega (arith, few))
+
+-- a line and its time are read as they are written
+said_again : (w : List ℕ) (t : Option ℕ) → Clear w → said_before (time_place (w ++ time_text t)) (w ++ time_text t) ≡ w
+said_again w None h =
+    ap (λ (x : List ℕ). said_before (time_place x) x) (and_none w) ∙ ap (λ (o : Option ℕ). said_before o w) (untimed w h)
+said_again w (Some n) h =
+    let text = w ++ 32 ∷ 64 ∷ decimal n in
+    ap (λ (o : Option ℕ). said_before o text) (timed w (decimal n) h) ∙ take-append_seam w (32 ∷ 64 ∷ decimal n)
+
+digits_again : (n : ℕ) → n ≤ 2 ^ 53 → numeral_value (decimal n) ≡ Some n
+digits_again zero h = ap (λ (ds : List ℕ). numeral_value ds) (decimal_digit 0 (omega arith))
+digits_again (suc n) h = numeral_value-decimal (suc n) (omega arith) (omega (arith, h))
+
+time_again : (w : List ℕ) (t : Option ℕ) → Clear w → IsTime t
+    → time_behind (time_place (w ++ time_text t)) (w ++ time_text t) ≡ Ok t
+time_again w None h k =
+    ap (λ (x : List ℕ). time_behind (time_place x) x) (and_none w) ∙ ap (λ (o : Option ℕ). time_behind o w) (untimed w h)
+time_again w (Some n) h k =
+    let text = w ++ 32 ∷ 64 ∷ decimal n in
+    ap (λ (o : Option ℕ). time_behind o text) (timed w (decimal n) h)
+    ∙ ap (λ (x : List ℕ). some_time (time_number (numeral_value x))) (drop-append-add w (32 ∷ 64 ∷ decimal n) 2)
+    ∙ ap (λ (o : Option ℕ). some_time (time_number o)) (digits_again n k)
+    ∙ ap (λ (b : Bool). some_time (cond b (Ok n) (Err flaw.Range))) (le-leb n (2 ^ 53) k)
+
+timed_line : (processors n : ℕ) (g : Given) (t : Option ℕ) → processors < 256 → IsRecorded processors g → IsTime t → n ≤ 2 ^ 31
+    → given_of_line processors n (given_text g ++ time_text t) ≡ Ok g
+timed_line processors n g t small h k few =
+    let w = given_text g in
+    let line = w ++ time_text t in
+    let clear = given_clear processors g small h in
+    numbered processors n line g
+    (ap (λ (x : List ℕ). with_time (given_in processors x) (time_behind (time_place line) line)) (said_again w t clear)
+    ∙ ap (λ (r : Result (Option ℕ) Flaw). with_time (given_in processors w) r) (time_again w t clear k)
+    ∙ ap (λ (r : Result Given Flaw). with_time r (Ok t)) (given_again processors g small h)) few
+
+time_line : (t : Option ℕ) → IsTime t → IsLine (time_text t)
+time_line None k = tt
+time_line (Some n) k = (refl, (refl, clear_line (decimal n) (plain_clear (decimal n) (digits_plain (decimal n) (decimal_digits n (omega (arith, k)))))))
+
+first_timed : (processors : ℕ) (g : Given) (t : Option ℕ) (rest : List ℕ) → processors < 256 → IsRecorded processors g → IsTime t
+    → lines_of (given_text g ++ (time_text t ++ 10 ∷ rest)) ≡ (given_text g ++ time_text t) ∷ lines_of rest
+first_timed processors g t rest small h k =
+    ap (λ (x : List ℕ). lines_of x) (sym (append_assoc (given_text g) (time_text t) (10 ∷ rest)))
+    ∙ lines_of-ended (given_text g ++ time_text t) rest
+    (line_append (given_text g) (time_text t) (given_line processors g small h) (time_line t k))
+
+timed_givens : (processors n : ℕ) (gs : List Given) (ts : List (Option ℕ)) → processors < 256
+    → AllByRecursion (IsRecorded processors) gs → AllByRecursion IsTime ts → length ts ≡ length gs
+    → n + length gs ≤ 2 ^ 31 + 1 → givens_of processors n (lines_of (timed_text gs ts)) ≡ Ok gs
+timed_givens processors n [] ts small h k e few = refl
+timed_givens processors n (g ∷ gs) [] small h k e few = absurd (omega (arith, e))
+timed_givens processors n (g ∷ gs) (t ∷ ts) small h k e few =
+    let rest = lines_of (timed_text gs ts) in
+    ap (λ ls. givens_of processors n ls) (first_timed processors g t (timed_text gs ts) small h.0 k.0)
+    ∙ ap (λ r. in_front r (givens_of processors (n + 1) rest)) (timed_line processors n g t small h.0 k.0 (omega (arith, few)))
+    ∙ ap (λ r. in_front (Ok g) r)
+    (timed_givens processors (n + 1) gs ts small h.1 k.1 (omega (arith, e)) (omega (arith, few)))
+
+read_times_again : (processors : ℕ) (gs : List Given) (ts : List (Option ℕ)) → processors < 256
+    → AllByRecursion (IsRecorded processors) gs → AllByRecursion IsTime ts → length ts ≡ length gs
+    → times_of (timed_text gs ts) ≡ ts
+read_times_again processors [] [] small h k e = refl
+read_times_again processors [] (t ∷ ts) small h k e = absurd (omega (arith, e))
+read_times_again processors (g ∷ gs) [] small h k e = absurd (omega (arith, e))
+read_times_again processors (g ∷ gs) (t ∷ ts) small h k e =
+    ap (λ ls. map line_time ls) (first_timed processors g t (timed_text gs ts) small h.0 k.0)
+    ∙ ap (λ (r : Result (Option ℕ) Flaw). time_or_none r ∷ times_of (timed_text gs ts))
+    (time_again (given_text g) t (given_clear processors g small h.0) k.0)
+    ∙ ap (λ (us : List (Option ℕ)). t ∷ us) (read_times_again processors gs ts small h.1 k.1 (omega (arith, e)))
+
+pub timed_recordings_read_back : TimedRecordingsReadBack
+timed_recordings_read_back processors gs ts small h k e few =
+    (timed_givens processors 1 gs ts small h k e (omega (arith, few)), read_times_again processors gs ts small h k e)

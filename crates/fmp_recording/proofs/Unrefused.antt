@@ -19,7 +19,7 @@ use Rattle.fmp_recording.specs.declared.faults.Flaw.{Flaw}
 use Rattle.fmp_recording.specs.declared.faults.Flaw.TheVariants as flaw
 use Rattle.fmp_recording.specs.declared.faults.RecordingFault.{RecordingFault}
 use Rattle.fmp_recording.specs.declared.faults.RecordingFault.TheVariants as recording_fault
-use Rattle.fmp_recording.specs.Recordings.{act_in, cut, fault_at, given_act, given_int, given_of_line, givens_of, in_front, int_in, line_meaning, number_of, number_up_to, recording_of, run_in, tick_in}
+use Rattle.fmp_recording.specs.Recordings.{act_in, cut, fault_at, given_act, given_int, given_in, given_of_line, givens_of, in_front, int_in, line_meaning, said_before, time_behind, time_place, with_time, number_of, number_up_to, recording_of, run_in, tick_in}
 use Rattle.fmp_recording.specs.Replaying.{new_kernel, or_else, refusal_in}
 use Rattle.fmp_steps.specs.Steps.{lines_of}
 
@@ -75,10 +75,20 @@ by_word processors rest g false true tick e = behind_int processors rest g e
 by_word processors rest g false false true e = behind_tick processors rest g e
 by_word processors rest g false false false e = absurd cc
 
-line_fits : (processors : ℕ) (line : List ℕ) (g : Given) → line_meaning processors line ≡ Ok g → Fits processors g
-line_fits processors line g e =
+text_fits : (processors : ℕ) (line : List ℕ) (g : Given) → given_in processors line ≡ Ok g → Fits processors g
+text_fits processors line g e =
     by_word processors (cut line).rest g (bytes_eq (cut line).word (codes "run")) (bytes_eq (cut line).word (codes "int"))
     (bytes_eq (cut line).word (codes "tick")) e
+
+without_its_time : (r : Result Given Flaw) (t : Result (Option ℕ) Flaw) (g : Given) → with_time r t ≡ Ok g → r ≡ Ok g
+without_its_time (Err f) t g e = absurd cc
+without_its_time (Ok h) (Err f) g e = absurd cc
+without_its_time (Ok h) (Ok t) g e = e
+
+line_fits : (processors : ℕ) (line : List ℕ) (g : Given) → line_meaning processors line ≡ Ok g → Fits processors g
+line_fits processors line g e =
+    let said = said_before (time_place line) line in
+    text_fits processors said g (without_its_time (given_in processors said) (time_behind (time_place line) line) g e)
 
 unfaulty : (n : ℕ) (r : Result Given Flaw) (g : Given) → fault_at n r ≡ Ok g → r ≡ Ok g
 unfaulty n (Ok h) g e = cc

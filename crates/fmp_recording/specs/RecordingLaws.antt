@@ -1,12 +1,12 @@
 -- Laws of recordings.
-use Rattle.std.specs.Prelude.{ℕ, ℤ, pos, negsuc, ◌≡◌, ◌≤◌, ◌<◌, ◌^◌, List, Ok, length}
+use Rattle.std.specs.Prelude.{ℕ, ℤ, pos, negsuc, ◌≡◌, ◌≤◌, ◌<◌, ◌^◌, List, Option, None, Some, Ok, length}
 use Rattle.std.specs.List.{AllByRecursion}
 use Rattle.fmp_base.specs.Services.{arguments_of}
 use Rattle.fmp_outside.specs.declared.given.Act.{Act}
 use Rattle.fmp_outside.specs.declared.given.Act.TheVariants as act
 use Rattle.fmp_outside.specs.declared.given.Given.{Given}
 use Rattle.fmp_outside.specs.declared.given.Given.TheVariants as given
-use Rattle.fmp_recording.specs.Recordings.{recording_of, recording_text}
+use Rattle.fmp_recording.specs.Recordings.{recording_of, recording_text, timed_text, times_of}
 
 -- a number of 32 bits
 abbrev pub IsWord : ℤ → Type 0
@@ -29,3 +29,15 @@ abbrev pub PrintedRecordingsReadBack : Type 0
 PrintedRecordingsReadBack =
     (processors : ℕ) (gs : List Given) → processors < 256 → AllByRecursion (IsRecorded processors) gs
     → length gs ≤ 2 ^ 31 → recording_of processors (recording_text gs) ≡ Ok gs
+
+-- a time that a line can have
+abbrev pub IsTime : Option ℕ → Type 0
+IsTime None = Unit {0}
+IsTime (Some n) = n ≤ 2 ^ 53
+
+-- what is written of a run with times is read as this run, and as these times
+abbrev pub TimedRecordingsReadBack : Type 0
+TimedRecordingsReadBack =
+    (processors : ℕ) (gs : List Given) (ts : List (Option ℕ)) → processors < 256
+    → AllByRecursion (IsRecorded processors) gs → AllByRecursion IsTime ts → length ts ≡ length gs
+    → length gs ≤ 2 ^ 31 → (recording_of processors (timed_text gs ts) ≡ Ok gs) × (times_of (timed_text gs ts) ≡ ts)

@@ -1,5 +1,5 @@
 -- Recordings: how they are written, and what they mean.
-use Rattle.std.specs.Prelude.{◌≡◌, ℕ, suc, ◌+◌, ◌-◌, ◌^◌, true, false, min, ℤ, pos, negsuc, List, [], ◌∷◌, ◌++◌, Option, Some, None, Result, Ok, Err, Bool, ◌&&◌, if◌then◌else◌, nat_eq, nat_le, nat_lt, bytes_eq, codes, decimal, drop, position, take, zero}
+use Rattle.std.specs.Prelude.{◌≡◌, ℕ, suc, ◌+◌, ◌-◌, ◌^◌, true, false, min, ℤ, pos, negsuc, List, [], ◌∷◌, ◌++◌, Option, Some, None, Result, Ok, Err, Bool, ◌&&◌, if◌then◌else◌, nat_eq, nat_le, nat_lt, bytes_eq, codes, decimal, drop, get_or, map, position, take, zero}
 use Rattle.std.specs.Fmt.{signed_decimal}
 use Rattle.fmp_base.specs.declared.bodies.Fault.{Fault}
 use Rattle.fmp_base.specs.declared.bodies.Fault.TheVariants.{Overflow, Division, Index}
@@ -39,6 +39,17 @@ abbrev pub recording_text : List Given → List ℕ
 recording_text [] = []
 recording_text (g ∷ gs) = given_text g ++ 10 ∷ recording_text gs
 
+-- how the time of a line is written
+abbrev pub time_text : Option ℕ → List ℕ
+time_text None = []
+time_text (Some n) = codes " @" ++ decimal n
+
+-- each of them with its time, ended by a line feed
+abbrev pub timed_text : List Given → List (Option ℕ) → List ℕ
+timed_text [] times = []
+timed_text (g ∷ gs) [] = []
+timed_text (g ∷ gs) (t ∷ ts) = given_text g ++ (time_text t ++ 10 ∷ timed_text gs ts)
+
 -- a word, and what stands behind it, from the blank on that ends it
 pub record Cut : Type 0 where
   pub word : List ℕ
@@ -52,10 +63,10 @@ cut_at (Some k) text = record { word = take k text; rest = drop k text }
 abbrev pub cut : List ℕ → Cut
 cut text = cut_at (position (λ b. nat_eq b 32) text) text
 
--- a number, or 2^31 + 1 for a greater one
+-- a number, or 2^53 + 1 for a greater one
 abbrev pub capped : Option ℕ → Option ℕ
 capped None = None
-capped (Some n) = Some (min n 2147483649)
+capped (Some n) = Some (min n 9007199254740993)
 
 -- a number of 32 bits
 abbrev pub positive : Option ℕ → Option ℤ
@@ -163,11 +174,60 @@ given_by processors c =
     else if bytes_eq c.word (codes "tick") then tick_in c.rest
     else Err flaw.Form
 
--- what a line without its line feed says: `run P CALL A ..` with all arguments of the call, `run P end`,
--- `run P fault F_OVF`, `F_DIV` or `F_IDX`, with P from 1 to the number of processors; `tick`; `int I` with I from 1
--- to 32
+-- what a text says that comes: `run P CALL A ..` with all arguments of the call, `run P end`, `run P fault F_OVF`,
+-- `F_DIV` or `F_IDX`, with P from 1 to the number of processors; `tick`; `int I` with I from 1 to 32
+abbrev pub given_in : (processors : ℕ) → List ℕ → Result Given Flaw
+given_in processors text = given_by processors (cut text)
+
+abbrev pub behind_blank : (line : List ℕ) → (at_sign : Option ℕ) → Option ℕ
+behind_blank line None = None
+behind_blank line (Some k) = if nat_le 1 k && nat_eq (get_or line (k - 1) 0) 32 then Some (k - 1) else None
+
+-- where ` @` stands in a line, if its first `@` is behind a blank
+abbrev pub time_place : List ℕ → Option ℕ
+time_place line = behind_blank line (position (λ b. nat_eq b 64) line)
+
+-- a time, in microseconds: from 0 to 2^53
+abbrev pub time_number : Option ℕ → Result ℕ Flaw
+time_number None = Err flaw.Form
+time_number (Some n) = if nat_le n (2 ^ 53) then Ok n else Err flaw.Range
+
+abbrev pub some_time : Result ℕ Flaw → Result (Option ℕ) Flaw
+some_time (Err f) = Err f
+some_time (Ok n) = Ok (Some n)
+
+-- a line without its time
+abbrev pub said_before : (place : Option ℕ) → List ℕ → List ℕ
+said_before None line = line
+said_before (Some k) line = take k line
+
+-- its time, if it has one
+abbrev pub time_behind : (place : Option ℕ) → List ℕ → Result (Option ℕ) Flaw
+time_behind None line = Ok None
+time_behind (Some k) line = some_time (time_number (numeral_value (drop (k + 2) line)))
+
+abbrev pub with_time : Result Given Flaw → Result (Option ℕ) Flaw → Result Given Flaw
+with_time (Err f) time = Err f
+with_time (Ok g) (Err f) = Err f
+with_time (Ok g) (Ok time) = Ok g
+
+-- What a line without its line feed says: what comes, and maybe ` @N` behind it, where N says when it came, in
+-- microseconds since the start. Of two flaws it has that of what comes.
 abbrev pub line_meaning : (processors : ℕ) → List ℕ → Result Given Flaw
-line_meaning processors line = given_by processors (cut line)
+line_meaning processors line =
+    with_time (given_in processors (said_before (time_place line) line)) (time_behind (time_place line) line)
+
+abbrev pub time_or_none : Result (Option ℕ) Flaw → Option ℕ
+time_or_none (Err f) = None
+time_or_none (Ok time) = time
+
+-- when what a line says came, if the line says so
+abbrev pub line_time : List ℕ → Option ℕ
+line_time line = time_or_none (time_behind (time_place line) line)
+
+-- the times of the lines of a recording
+abbrev pub times_of : List ℕ → List (Option ℕ)
+times_of text = map line_time (lines_of text)
 
 -- a flaw of line n
 abbrev pub fault_at : ℕ → Result Given Flaw → Result Given RecordingFault

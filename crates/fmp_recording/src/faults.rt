@@ -7,7 +7,7 @@ pub enum RecordingFault {
     /// The line says nothing that comes to a kernel.
     #[error("recording:{line}: R1")]
     Line { line: u32 },
-    /// The number of a processor or of an interrupt is out of range.
+    /// The number of a processor or of an interrupt is out of range, or a time is later than 2^53 microseconds.
     #[error("recording:{line}: R2")]
     Range { line: u32 },
     /// There are more lines than a kernel takes events; this is the first one too many.

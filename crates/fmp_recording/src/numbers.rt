@@ -1,12 +1,15 @@
 //! Numbers in decimal digits, of any length.
 ghost use Rattle.std.specs.Prelude.{◌≡◌};
 ghost use Rattle.fmp_steps.specs.Steps.{digits_number, numeral_value};
-ghost use Rattle.fmp_recording.specs.Recordings.{capped, negative, number_of, number_up_to, positive};
+ghost use Rattle.fmp_recording.specs.Recordings.{capped, negative, number_of, number_up_to, positive, time_number};
 
 use crate::faults::Flaw;
 
-/// Greater numbers are read as this one: it has more than 32 bits with its sign.
-const CAP: u64 = (1 << 31) + 1;
+/// The latest time, in microseconds since the start.
+const LATEST: u64 = 1 << 53;
+
+/// Greater numbers are read as this one, which is no time and has more than 32 bits.
+const CAP: u64 = (1 << 53) + 1;
 
 /// The number that digits spell, at most `CAP`; none if a byte is no digit.
 fn digits_in(text: &[u8]) -> Option<u64>
@@ -80,6 +83,22 @@ pub fn ranged_in(text: &[u8], most: u8) -> Result<u8, Flaw>
         Some(number) => {
             if number >= 1 && number <= i32::from(most) {
                 Ok(number as u8)
+            } else {
+                Err(Flaw::Range)
+            }
+        }
+        None => Err(Flaw::Form),
+    }
+}
+
+/// The time that a text is, in microseconds.
+pub fn time_in(text: &[u8]) -> Result<u64, Flaw>
+    ensures { result ≡ time_number (numeral_value text.now) }
+{
+    match numeral_in(text) {
+        Some(number) => {
+            if number <= LATEST {
+                Ok(number)
             } else {
                 Err(Flaw::Range)
             }

@@ -46,7 +46,8 @@ fn append_act(act: Act, out: &mut Vec<u8>) -> Result<(), AllocError>
     }
 }
 
-fn append_given(given: Given, out: &mut Vec<u8>) -> Result<(), AllocError>
+/// Appends what comes. If memory runs out, the text has an unfinished end.
+pub fn append_given(given: Given, out: &mut Vec<u8>) -> Result<(), AllocError>
     ensures { OnOk result (out.new.items ≡ out.old.items ++ given_text given) }
 {
     match given {

@@ -2,15 +2,16 @@
 ghost use Rattle.std.specs.Prelude.{◌≡◌, ◌≤◌, IfErr, IfOk, MatchOption, None, Ok, Some, suc, take, ℕ};
 ghost use Rattle.std.specs.Str.{bytes_eq};
 ghost use Rattle.fmp_base.specs.Words.{service_named};
-ghost use Rattle.fmp_recording.specs.Recordings.{IsFaultOf, act_in as spec_act, arguments_in, call_in as spec_call, end_in as spec_end, fault_in as spec_fault, fault_named, given_of_line, in_front_of, int_in as spec_int, line_meaning, recording_of, run_in as spec_run, tick_in as spec_tick};
+ghost use Rattle.fmp_recording.specs.Recordings.{IsFaultOf, act_in as spec_act, arguments_in, call_in as spec_call, end_in as spec_end, fault_in as spec_fault, fault_named, given_in as spec_given, given_of_line, in_front_of, int_in as spec_int, line_meaning, recording_of, run_in as spec_run, tick_in as spec_tick, times_of};
 
 use crate::cutting::{first_line, first_word};
 use crate::faults::{Flaw, RecordingFault};
 use crate::numbers::{number_in, ranged_in};
+use crate::timing::{time_of, time_or_none, without_time};
 use fmp_base::words::find_service;
 use fmp_base::{Call, Fault};
 use fmp_outside::{Act, Given};
-use std::alloc::Global;
+use std::alloc::{AllocError, Global};
 
 /// The greatest number of lines: a kernel takes as many events.
 pub const MOST_LINES: u32 = 1 << 31;
@@ -152,16 +153,27 @@ fn tick_in(rest: &[u8]) -> Result<Given, Flaw>
     }
 }
 
-/// What a line says.
-fn given_in(line: &[u8], processors: u8) -> Result<Given, Flaw>
-    ensures { result ≡ line_meaning processors line.now }
+/// What a text says that comes.
+fn given_in(text: &[u8], processors: u8) -> Result<Given, Flaw>
+    ensures { result ≡ spec_given processors text.now }
 {
-    let (word, rest) = first_word(line);
+    let (word, rest) = first_word(text);
     match word {
         b"run" => run_in(processors, rest),
         b"int" => int_in(rest),
         b"tick" => tick_in(rest),
         _ => Err(Flaw::Form),
+    }
+}
+
+/// What a line says: what comes, and maybe when it came.
+fn said_in(line: &[u8], processors: u8) -> Result<Given, Flaw>
+    ensures { result ≡ line_meaning processors line.now }
+{
+    let given = given_in(without_time(line), processors)?;
+    match time_of(line) {
+        Ok(_) => Ok(given),
+        Err(flaw) => Err(flaw),
     }
 }
 
@@ -172,15 +184,15 @@ fn given_at(line: &[u8], number: u32, processors: u8) -> Result<Given, Recording
     if number > MOST_LINES {
         return Err(RecordingFault::TooMany { line: number });
     }
-    match given_in(line, processors) {
+    match said_in(line, processors) {
         Ok(given) => Ok(given),
         Err(Flaw::Form) => Err(RecordingFault::Line { line: number }),
         Err(Flaw::Range) => Err(RecordingFault::Range { line: number }),
     }
 }
 
-/// Reads a recording: each line says what comes, and is ended by a line feed, which the last may lack. The fault is
-/// that of the first faulty line, unless memory runs out first.
+/// Reads a recording: each line says what comes and maybe when, and is ended by a line feed, which the last may lack.
+/// The fault is that of the first faulty line, unless memory runs out first. `read_times` reads the times.
 pub fn read_recording(
     alloc: Global,
     text: &[u8],
@@ -200,4 +212,19 @@ pub fn read_recording(
         number += 1;
     }
     Ok(recording)
+}
+
+/// The times of the lines of a recording, in microseconds since the start; none of a line that does not say its time.
+/// `AllocError` if memory runs out.
+pub fn read_times(alloc: Global, text: &[u8]) -> Result<Vec<Option<u64>>, AllocError>
+    ensures { IfOk result (λ times. times.items ≡ times_of text.now) }
+{
+    let mut times = Vec::new(alloc);
+    let mut rest = text;
+    while !rest.is_empty() {
+        let (line, after) = first_line(rest);
+        times.push(time_or_none(line))?;
+        rest = after;
+    }
+    Ok(times)
 }

@@ -17,6 +17,6 @@ loop-byte-preserved c =
     record {
       digits = all_digits_more text i here c.loop-byte.invariant.digits (sym digit.value);
       value = c.min-value.ensures
-          ∙ (ap (λ n. min (c.loop-byte.value * 10 + n) 2147483649) c.from.ensures
+          ∙ (ap (λ n. min (c.loop-byte.value * 10 + n) 9007199254740993) c.from.ensures
           ∙ value_more text i c.loop-byte.value here c.loop-byte.invariant.value digit.bound);
     }

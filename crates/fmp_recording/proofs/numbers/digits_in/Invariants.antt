@@ -6,5 +6,5 @@ use Rattle.fmp_recording.proofs.numbers.digits_in.Given as goal
 abbrev pub invariant-loop-byte : goal.invariant-loop-byte
 invariant-loop-byte l = record {
   digits : all_ascii_digits (take l.byte-index l.text) ≡ true;
-  value : l.value ≡ min (digits_value 10 (take l.byte-index l.text)) 2147483649;
+  value : l.value ≡ min (digits_value 10 (take l.byte-index l.text)) 9007199254740993;
 }

@@ -1,0 +1,53 @@
+//! Recordings with times, as they are written.
+ghost use Rattle.std.specs.Prelude.{◌≡◌, ◌++◌, ◌∷◌, [], OnOk, length};
+ghost use Rattle.fmp_recording.specs.RecordingLaws.{TimedRecordingsReadBack};
+ghost use Rattle.fmp_recording.specs.Recordings.{given_text, time_text, timed_text};
+
+use crate::printing::append_given;
+use fmp_outside::Given;
+use itoa::Buffer;
+use std::alloc::AllocError;
+
+/// Appends the time of a line, if it has one.
+fn append_time(time: Option<u64>, out: &mut Vec<u8>) -> Result<(), AllocError>
+    ensures { OnOk result (out.new.items ≡ out.old.items ++ time_text time) }
+{
+    match time {
+        Some(time) => {
+            out.extend_from_slice(b" @")?;
+            out.extend_from_slice(Buffer::new().format(time).as_bytes())
+        }
+        None => Ok(()),
+    }
+}
+
+/// Appends the line of what came and when, with its line feed. If memory runs out, the text has an unfinished end.
+fn append_timed_line(given: Given, time: Option<u64>, out: &mut Vec<u8>) -> Result<(), AllocError>
+    ensures { OnOk result (out.new.items
+        ≡ out.old.items ++ (given_text given ++ (time_text time ++ 10 ∷ []))) }
+{
+    append_given(given, out)?;
+    append_time(time, out)?;
+    out.extend_from_slice(b"\n")
+}
+
+/// Appends a recording as `print_recording` does, each line with its time, in microseconds since the start, if it has
+/// one.
+pub fn print_timed_recording(
+    recording: &[Given],
+    times: &[Option<u64>],
+    out: &mut Vec<u8>,
+) -> Result<(), AllocError>
+    requires { length times.now ≡ length recording.now }
+    ensures { OnOk result (out.new.items ≡ out.old.items ++ timed_text recording.now times.now) }
+{
+    for place in 0..recording.len() {
+        append_timed_line(recording[place], times[place], out)?;
+    }
+    Ok(())
+}
+
+/// The text that `print_timed_recording` writes of a run and its times is read as this run and these times.
+pub fn timed_recordings_read_back()
+    ensures { TimedRecordingsReadBack }
+{}

@@ -1,0 +1,59 @@
+//! The time at the end of a line.
+ghost use Rattle.std.specs.Prelude.{◌≡◌, ◌+◌, ◌≤◌, IfSome, length, nat_eq, position};
+ghost use Rattle.fmp_recording.specs.Recordings.{line_time, said_before, time_behind, time_place as spec_place};
+
+use crate::faults::Flaw;
+use crate::numbers::time_in;
+
+fn at_sign_in(text: &[u8]) -> Option<usize>
+    ensures { result ≡ position (λ byte. nat_eq byte 64) text.now }
+{
+    text.iter().position(|byte| *byte == b'@')
+}
+
+/// Where ` @` stands in a line, if its first `@` is behind a blank.
+pub fn time_place(line: &[u8]) -> Option<usize>
+    ensures place { result ≡ spec_place line.now }
+    ensures inside { IfSome result (λ place. place + 2 ≤ length line.now) }
+{
+    match at_sign_in(line) {
+        Some(place) => {
+            if place >= 1 && line[place - 1] == b' ' {
+                Some(place - 1)
+            } else {
+                None
+            }
+        }
+        None => None,
+    }
+}
+
+/// A line without its time.
+pub fn without_time(line: &[u8]) -> &[u8]
+    ensures { result.now ≡ said_before (spec_place line.now) line.now }
+{
+    match time_place(line) {
+        Some(place) => &line[..place],
+        None => line,
+    }
+}
+
+/// The time of a line, if it has one.
+pub fn time_of(line: &[u8]) -> Result<Option<u64>, Flaw>
+    ensures { result ≡ time_behind (spec_place line.now) line.now }
+{
+    match time_place(line) {
+        Some(place) => match time_in(&line[place + 2..]) {
+            Ok(time) => Ok(Some(time)),
+            Err(flaw) => Err(flaw),
+        },
+        None => Ok(None),
+    }
+}
+
+/// The time of a line; none if it has none, or none in the right form.
+pub fn time_or_none(line: &[u8]) -> Option<u64>
+    ensures { result ≡ line_time line.now }
+{
+    time_of(line).unwrap_or(None)
+}
