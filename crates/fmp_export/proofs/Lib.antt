@@ -1,0 +1,4 @@
+pub mod Appended
+pub mod Blocks
+pub mod Passed
+pub mod Views

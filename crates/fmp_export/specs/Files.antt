@@ -1,0 +1,68 @@
+-- The C of a text and its configuration.
+use Rattle.std.specs.Prelude.{◌≡◌, ℕ, ◌+◌, List, [], ◌∷◌, ◌++◌, codes, decimal, map, Result, Ok, Err}
+use Rattle.fmp_base.specs.declared.names.Name.{Name}
+use Rattle.fmp_base.specs.Systems.{SystemTables}
+use Rattle.fmp_lex.specs.declared.fault.BuildFault.{BuildFault}
+use Rattle.fmp_lex.specs.declared.token.Token.{Token}
+use Rattle.fmp_lex.specs.Faults.{Spells}
+use Rattle.fmp_tasklang.specs.Grammar.{Bodies}
+use Rattle.fmp_tasklang.specs.Reading.{IsRead}
+use Rattle.fmp_tasklang.specs.Trees.{BodyTree}
+use Rattle.fmp_export.specs.declared.files.Exported.{Exported}
+use Rattle.fmp_export.specs.declared.files.TheConstants.{MAIN_END}
+use Rattle.fmp_export.specs.Bodies.{c_bodies, c_prototypes, c_rows}
+use Rattle.fmp_export.specs.Words.{c_name}
+
+-- an object by its number
+unfoldable pub c_object : (number : ℕ) → Name → List ℕ
+c_object number name = codes "    " ++ (c_name name ++ (codes " = " ++ (decimal number ++ codes ",\n")))
+
+-- the objects of a table from a number on
+abbrev pub c_objects : (number : ℕ) → List Name → List ℕ
+c_objects number [] = []
+c_objects number (name ∷ names) = c_object number name ++ c_objects (number + 1) names
+
+-- the objects of a table, if it has any
+abbrev pub c_kind : (title : List ℕ) → List Name → List ℕ
+c_kind title [] = []
+c_kind title (name ∷ names) =
+    codes "    /* " ++ (title ++ (codes " */\n" ++ c_objects 1 (name ∷ names)))
+
+unfoldable pub c_kinds : SystemTables → List ℕ
+c_kinds s =
+    c_kind (codes "Tasks.") (map (λ t. t.name) s.tasks)
+    ++ (c_kind (codes "Semaphores.") (map (λ t. t.name) s.semaphores)
+    ++ (c_kind (codes "Eventflags.") (map (λ t. t.name) s.flags)
+    ++ (c_kind (codes "Data queues.") (map (λ t. t.name) s.data_queues)
+    ++ (c_kind (codes "Mailboxes.") (map (λ t. t.name) s.mailboxes)
+    ++ (c_kind (codes "Messages.") (map (λ t. t.name) s.messages)
+    ++ (c_kind (codes "Shared words.") (map (λ t. t.name) s.shared_words)
+    ++ (c_kind (codes "Spin locks.") (map (λ t. t.name) s.spin_locks)
+    ++ c_kind (codes "Cyclic handlers.") (map (λ t. t.name) s.cyclics))))))))
+
+-- an enumeration of this, if there is something
+abbrev pub c_enumeration : List ℕ → List ℕ
+c_enumeration [] = []
+c_enumeration (b ∷ bs) = codes "enum {\n" ++ ((b ∷ bs) ++ codes "};\n\n")
+
+-- the numbers of the objects, and a function for each body
+unfoldable pub c_file : SystemTables → List BodyTree → List ℕ
+c_file s bodies =
+    codes "#include \"task.h\"\n\n" ++ (c_enumeration (c_kinds s) ++ (c_prototypes bodies ++ c_bodies bodies))
+
+-- the program that runs the bodies in virtual time
+unfoldable pub c_main : List BodyTree → List ℕ
+c_main bodies =
+    codes "#include \"virtual.h\"\n\n"
+    ++ (c_prototypes bodies
+    ++ (codes "\nstatic const struct fmp_body bodies[] = {\n" ++ (c_rows bodies ++ MAIN_END.now)))
+
+-- the files of these bodies
+abbrev pub AreFiles : SystemTables → List BodyTree → Exported → Type 0
+AreFiles s bodies e = (e.bodies.items ≡ c_file s bodies) × (e.main.items ≡ c_main bodies)
+
+-- the C of the bodies that the text spells, or the fault of a text that spells none
+abbrev pub IsExported : SystemTables → List ℕ → Result Exported BuildFault → Type 0
+IsExported s text (Ok e) =
+    (ts : List Token) × (bodies : List BodyTree) × Spells Bodies text ts bodies × AreFiles s bodies e
+IsExported s text (Err f) = IsRead text (Err f)

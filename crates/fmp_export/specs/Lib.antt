@@ -1,0 +1,6 @@
+pub mod Words
+pub mod Pieces
+pub mod Expressions
+pub mod Statements
+pub mod Bodies
+pub mod Files

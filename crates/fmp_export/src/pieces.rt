@@ -1,0 +1,336 @@
+//! Expressions in C: the text of each, which faults its evaluation may end with, and whether an operator stands
+//! outermost in it.
+ghost use Rattle.std.specs.Prelude.{◌≡◌, ◌++◌, IfOk, OnOk};
+ghost use Rattle.std.specs.Option.{option_map};
+ghost use Rattle.fmp_export.specs.Pieces as spec;
+ghost use Rattle.fmp_export.specs.Pieces.{piece_view, operand, number_piece, name_piece, element_piece, unary_piece, binary_piece, both_piece, either_piece};
+ghost use Rattle.fmp_export.specs.Words.{c_name};
+
+use crate::text::{append, append_signed};
+use crate::words::append_name;
+use fmp_base::{BinaryOperator, Name, UnaryOperator};
+use std::alloc::{AllocError, Global};
+
+/// The faults that an evaluation may end with.
+#[derive(Clone, Copy)]
+pub enum Risk {
+    /// None.
+    Safe,
+    /// Overflow alone.
+    Overflow,
+    /// A bad index alone.
+    Index,
+    /// Several, or a division.
+    Several,
+}
+
+/// What stands outermost in an expression.
+#[derive(Clone, Copy)]
+pub enum Shape {
+    /// A number without a sign.
+    Number,
+    /// A name, or a call of a function.
+    Closed,
+    /// An operator: parentheses stand around the expression where it is an operand.
+    Open,
+}
+
+/// An expression in C.
+#[derive(Drop)]
+pub struct Piece {
+    /// Its text.
+    pub text: Vec<u8>,
+    /// The faults that its evaluation may end with.
+    pub risk: Risk,
+    /// What stands outermost in it.
+    pub shape: Shape,
+}
+
+/// The faults of two evaluations.
+pub fn joint_risk(a: Risk, b: Risk) -> Risk
+    ensures { result ≡ spec.joint_risk a b }
+{
+    match (a, b) {
+        (Risk::Safe, b) => b,
+        (a, Risk::Safe) => a,
+        (Risk::Overflow, Risk::Overflow) => Risk::Overflow,
+        (Risk::Index, Risk::Index) => Risk::Index,
+        _ => Risk::Several,
+    }
+}
+
+/// Whether the order of two evaluations can be seen: both may end the body, and not both by the same fault.
+pub fn matters(a: Risk, b: Risk) -> bool
+    ensures { result ≡ spec.matters a b }
+{
+    match (a, b) {
+        (Risk::Safe, _) => false,
+        (_, Risk::Safe) => false,
+        (Risk::Overflow, Risk::Overflow) => false,
+        (Risk::Index, Risk::Index) => false,
+        _ => true,
+    }
+}
+
+/// Appends an expression as the operand of an operator.
+fn append_operand(piece: &Piece, out: &mut Vec<u8>) -> Result<(), AllocError>
+    ensures { OnOk result (out.new.items ≡ out.old.items ++ operand (piece_view piece.now)) }
+{
+    match piece.shape {
+        Shape::Open => {
+            append(b"(", out)?;
+            append(&piece.text, out)?;
+            append(b")", out)
+        }
+        Shape::Closed => append(&piece.text, out),
+        Shape::Number => append(&piece.text, out),
+    }
+}
+
+/// A number, or the value of a constant.
+pub fn number(alloc: Global, number: i32) -> Result<Piece, AllocError>
+    ensures { IfOk result (λ p. piece_view p ≡ number_piece number) }
+{
+    let shape = if number < 0 {
+        Shape::Closed
+    } else {
+        Shape::Number
+    };
+    let mut text = Vec::new(alloc);
+    append_signed(number, &mut text)?;
+    Ok(Piece {
+        text,
+        risk: Risk::Safe,
+        shape,
+    })
+}
+
+/// A variable or an object.
+pub fn name(alloc: Global, name: &Name) -> Result<Piece, AllocError>
+    ensures { IfOk result (λ p. piece_view p ≡ name_piece (c_name name.now)) }
+{
+    let mut text = Vec::new(alloc);
+    append_name(name, &mut text)?;
+    Ok(Piece {
+        text,
+        risk: Risk::Safe,
+        shape: Shape::Closed,
+    })
+}
+
+/// An element of an array.
+#[tactic(auto, unfolding(crate::specs::Pieces::element_piece))]
+pub fn element(alloc: Global, array: &Name, index: &Piece) -> Result<Piece, AllocError>
+    ensures { IfOk result (λ p. piece_view p ≡ element_piece (c_name array.now) (piece_view index.now)) }
+{
+    let mut text = Vec::new(alloc);
+    append(b"fmp_at(", &mut text)?;
+    append_name(array, &mut text)?;
+    append(b", ", &mut text)?;
+    append(&index.text, &mut text)?;
+    append(b")", &mut text)?;
+    Ok(Piece {
+        text,
+        risk: joint_risk(index.risk, Risk::Index),
+        shape: Shape::Closed,
+    })
+}
+
+/// Minus: of a number it is one in C too.
+fn negated(alloc: Global, piece: &Piece) -> Result<Piece, AllocError>
+    ensures { IfOk result (λ p. piece_view p ≡ spec.negated piece.now.shape (piece_view piece.now)) }
+{
+    let mut text = Vec::new(alloc);
+    if let Shape::Number = piece.shape {
+        append(b"-", &mut text)?;
+        append(&piece.text, &mut text)?;
+        return Ok(Piece {
+            text,
+            risk: piece.risk,
+            shape: Shape::Closed,
+        });
+    }
+    append(b"fmp_neg(", &mut text)?;
+    append(&piece.text, &mut text)?;
+    append(b")", &mut text)?;
+    Ok(Piece {
+        text,
+        risk: joint_risk(piece.risk, Risk::Overflow),
+        shape: Shape::Closed,
+    })
+}
+
+/// An operator of C before its operand.
+fn prefixed(alloc: Global, sign: &[u8], piece: &Piece) -> Result<Piece, AllocError>
+    ensures { IfOk result (λ p. piece_view p ≡ spec.prefixed sign.now (piece_view piece.now)) }
+{
+    let mut text = Vec::new(alloc);
+    append(sign, &mut text)?;
+    append_operand(piece, &mut text)?;
+    Ok(Piece {
+        text,
+        risk: piece.risk,
+        shape: Shape::Open,
+    })
+}
+
+/// An operator before its operand.
+#[tactic(auto, unfolding(crate::specs::Pieces::unary_piece))]
+pub fn unary(alloc: Global, operator: UnaryOperator, piece: &Piece) -> Result<Piece, AllocError>
+    ensures { IfOk result (λ p. piece_view p ≡ unary_piece operator (piece_view piece.now)) }
+{
+    match operator {
+        UnaryOperator::Negate => negated(alloc, piece),
+        UnaryOperator::Not => prefixed(alloc, b"!", piece),
+        UnaryOperator::Complement => prefixed(alloc, b"~", piece),
+    }
+}
+
+/// The function of an operator.
+fn function_of(operator: BinaryOperator) -> &'static [u8]
+    ensures { result.now ≡ spec.function_of operator }
+{
+    match operator {
+        BinaryOperator::Add => b"fmp_add",
+        BinaryOperator::Subtract => b"fmp_sub",
+        BinaryOperator::Multiply => b"fmp_mul",
+        BinaryOperator::Divide => b"fmp_div",
+        BinaryOperator::Remainder => b"fmp_rem",
+        BinaryOperator::And => b"fmp_and",
+        BinaryOperator::Or => b"fmp_or",
+        BinaryOperator::ExclusiveOr => b"fmp_xor",
+        BinaryOperator::Equal => b"fmp_equal",
+        BinaryOperator::NotEqual => b"fmp_not_equal",
+        BinaryOperator::Less => b"fmp_less",
+        BinaryOperator::LessOrEqual => b"fmp_less_or_equal",
+        BinaryOperator::Greater => b"fmp_greater",
+        BinaryOperator::GreaterOrEqual => b"fmp_greater_or_equal",
+    }
+}
+
+/// The operator of C that does the same, if there is one.
+fn sign_of(operator: BinaryOperator) -> Option<&'static [u8]>
+    ensures { option_map (λ s. s.now) result ≡ spec.sign_of operator }
+{
+    match operator {
+        BinaryOperator::Add
+        | BinaryOperator::Subtract
+        | BinaryOperator::Multiply
+        | BinaryOperator::Divide
+        | BinaryOperator::Remainder => None,
+        BinaryOperator::And => Some(b" & "),
+        BinaryOperator::Or => Some(b" | "),
+        BinaryOperator::ExclusiveOr => Some(b" ^ "),
+        BinaryOperator::Equal => Some(b" == "),
+        BinaryOperator::NotEqual => Some(b" != "),
+        BinaryOperator::Less => Some(b" < "),
+        BinaryOperator::LessOrEqual => Some(b" <= "),
+        BinaryOperator::Greater => Some(b" > "),
+        BinaryOperator::GreaterOrEqual => Some(b" >= "),
+    }
+}
+
+/// The faults of an operator itself.
+fn risk_of(operator: BinaryOperator) -> Risk
+    ensures { result ≡ spec.risk_of operator }
+{
+    match operator {
+        BinaryOperator::Add | BinaryOperator::Subtract | BinaryOperator::Multiply => Risk::Overflow,
+        BinaryOperator::Divide | BinaryOperator::Remainder => Risk::Several,
+        _ => Risk::Safe,
+    }
+}
+
+/// An operator of C between its operands.
+fn infixed(alloc: Global, sign: &[u8], a: &Piece, b: &Piece) -> Result<Piece, AllocError>
+    ensures { IfOk result (λ p. piece_view p ≡ spec.infixed sign.now (piece_view a.now) (piece_view b.now)) }
+{
+    let mut text = Vec::new(alloc);
+    append_operand(a, &mut text)?;
+    append(sign, &mut text)?;
+    append_operand(b, &mut text)?;
+    Ok(Piece {
+        text,
+        risk: joint_risk(a.risk, b.risk),
+        shape: Shape::Open,
+    })
+}
+
+/// Appends the arguments of a function, and the `)` behind them.
+fn append_both(a: &Piece, b: &Piece, out: &mut Vec<u8>) -> Result<(), AllocError>
+    ensures { OnOk result (out.new.items ≡ out.old.items ++ spec.arguments_of (piece_view a.now) (piece_view b.now)) }
+{
+    append(&a.text, out)?;
+    append(b", ", out)?;
+    append(&b.text, out)?;
+    append(b")", out)
+}
+
+/// Appends what stands before the arguments of the function of an operator.
+fn append_front(ordered: bool, function: &[u8], out: &mut Vec<u8>) -> Result<(), AllocError>
+    ensures { OnOk result (out.new.items ≡ out.old.items ++ spec.front_of ordered function.now) }
+{
+    if ordered {
+        append(b"fmp_ordered(", out)?;
+        append(function, out)?;
+        return append(b", ", out);
+    }
+    append(function, out)?;
+    append(b"(", out)
+}
+
+/// The function of an operator, called.
+fn applied(
+    alloc: Global,
+    ordered: bool,
+    operator: BinaryOperator,
+    a: &Piece,
+    b: &Piece,
+) -> Result<Piece, AllocError>
+    ensures { IfOk result (λ p. piece_view p
+        ≡ spec.applied ordered operator (piece_view a.now) (piece_view b.now)) }
+{
+    let mut text = Vec::new(alloc);
+    append_front(ordered, function_of(operator), &mut text)?;
+    append_both(a, b, &mut text)?;
+    Ok(Piece {
+        text,
+        risk: joint_risk(joint_risk(a.risk, b.risk), risk_of(operator)),
+        shape: Shape::Closed,
+    })
+}
+
+/// An operator between its operands. C leaves open which of them is evaluated first, and `fmp_ordered` does not.
+#[tactic(auto, unfolding(crate::specs::Pieces::binary_piece))]
+pub fn binary(
+    alloc: Global,
+    operator: BinaryOperator,
+    a: &Piece,
+    b: &Piece,
+) -> Result<Piece, AllocError>
+    ensures { IfOk result (λ p. piece_view p ≡ binary_piece operator (piece_view a.now) (piece_view b.now)) }
+{
+    if matters(a.risk, b.risk) {
+        return applied(alloc, true, operator, a, b);
+    }
+    match sign_of(operator) {
+        None => applied(alloc, false, operator, a, b),
+        Some(sign) => infixed(alloc, sign, a, b),
+    }
+}
+
+/// `&&`, which C evaluates as the text does.
+#[tactic(auto, unfolding(crate::specs::Pieces::both_piece))]
+pub fn both(alloc: Global, a: &Piece, b: &Piece) -> Result<Piece, AllocError>
+    ensures { IfOk result (λ p. piece_view p ≡ both_piece (piece_view a.now) (piece_view b.now)) }
+{
+    infixed(alloc, b" && ", a, b)
+}
+
+/// `||`, which C evaluates as the text does.
+#[tactic(auto, unfolding(crate::specs::Pieces::either_piece))]
+pub fn either(alloc: Global, a: &Piece, b: &Piece) -> Result<Piece, AllocError>
+    ensures { IfOk result (λ p. piece_view p ≡ either_piece (piece_view a.now) (piece_view b.now)) }
+{
+    infixed(alloc, b" || ", a, b)
+}

@@ -1,0 +1,141 @@
+/*
+ * task.h: what the C of a task text uses: arithmetic and elements of arrays that end the body with the fault of the
+ * text, and the service calls with all numbers as int32_t. It is for that C alone, and takes gcc or clang.
+ */
+#ifndef FMP_TASK_H
+#define FMP_TASK_H
+
+#include "fmp.h"
+#include "kernel.h"
+
+/* A text may declare variables that it does not read. */
+#pragma GCC diagnostic ignored "-Wunused-variable"
+#pragma GCC diagnostic ignored "-Wunused-but-set-variable"
+
+/*
+ * Operators. C has none that tests its result.
+ */
+
+static inline int32_t fmp_add(int32_t a, int32_t b)
+{
+    int32_t sum;
+    if (__builtin_add_overflow(a, b, &sum)) {
+        fmp_stop(FMP_OVERFLOW);
+    }
+    return sum;
+}
+
+static inline int32_t fmp_sub(int32_t a, int32_t b)
+{
+    int32_t difference;
+    if (__builtin_sub_overflow(a, b, &difference)) {
+        fmp_stop(FMP_OVERFLOW);
+    }
+    return difference;
+}
+
+static inline int32_t fmp_mul(int32_t a, int32_t b)
+{
+    int32_t product;
+    if (__builtin_mul_overflow(a, b, &product)) {
+        fmp_stop(FMP_OVERFLOW);
+    }
+    return product;
+}
+
+static inline void fmp_test_division(int32_t a, int32_t b)
+{
+    if (b == 0) {
+        fmp_stop(FMP_DIVISION);
+    }
+    if (a == INT32_MIN && b == -1) {
+        fmp_stop(FMP_OVERFLOW);
+    }
+}
+
+static inline int32_t fmp_div(int32_t a, int32_t b)
+{
+    fmp_test_division(a, b);
+    return a / b;
+}
+
+static inline int32_t fmp_rem(int32_t a, int32_t b)
+{
+    fmp_test_division(a, b);
+    return a % b;
+}
+
+static inline int32_t fmp_neg(int32_t a) { return fmp_sub(0, a); }
+
+/*
+ * C leaves open which operand is evaluated first. Where both may end the body, and by different faults,
+ * fmp_ordered(fmp_add, a, b) evaluates a, then b. The functions below are for it: elsewhere stand the operators of C.
+ */
+#define fmp_ordered(function, a, b) (__extension__({ int32_t fmp_first = (a); function(fmp_first, (b)); }))
+
+static inline int32_t fmp_and(int32_t a, int32_t b) { return a & b; }
+static inline int32_t fmp_or(int32_t a, int32_t b) { return a | b; }
+static inline int32_t fmp_xor(int32_t a, int32_t b) { return a ^ b; }
+static inline int32_t fmp_equal(int32_t a, int32_t b) { return a == b; }
+static inline int32_t fmp_not_equal(int32_t a, int32_t b) { return a != b; }
+static inline int32_t fmp_less(int32_t a, int32_t b) { return a < b; }
+static inline int32_t fmp_less_or_equal(int32_t a, int32_t b) { return a <= b; }
+static inline int32_t fmp_greater(int32_t a, int32_t b) { return a > b; }
+static inline int32_t fmp_greater_or_equal(int32_t a, int32_t b) { return a >= b; }
+
+/*
+ * Elements of arrays. The value of an assignment is evaluated before its index is tested.
+ */
+#define fmp_at(array, index) fmp_load(array, (int32_t)(sizeof(array) / sizeof *(array)), index)
+#define fmp_set(array, index, value) fmp_store(array, (int32_t)(sizeof(array) / sizeof *(array)), index, value)
+
+/* The same, where the order in which the index and the value are evaluated can be seen. */
+#define fmp_set_ordered(array, index, value)                                                                           \
+    do {                                                                                                               \
+        int32_t fmp_first = (index);                                                                                   \
+        fmp_set(array, fmp_first, value);                                                                              \
+    } while (0)
+
+static inline void fmp_test_index(int32_t length, int32_t index)
+{
+    if (index < 0 || index >= length) {
+        fmp_stop(FMP_INDEX);
+    }
+}
+
+static inline int32_t fmp_load(const int32_t *array, int32_t length, int32_t index)
+{
+    fmp_test_index(length, index);
+    return array[index];
+}
+
+static inline void fmp_store(int32_t *array, int32_t length, int32_t index, int32_t value)
+{
+    fmp_test_index(length, index);
+    array[index] = value;
+}
+
+/*
+ * Service calls of which kernel.h has a parameter that is no int32_t.
+ */
+
+static inline ER fmp_set_pattern(ID flgid, int32_t pattern) { return set_flg(flgid, (FLGPTN)pattern); }
+static inline ER fmp_clear_pattern(ID flgid, int32_t pattern) { return clr_flg(flgid, (FLGPTN)pattern); }
+static inline ER fmp_iset_pattern(ID flgid, int32_t pattern) { return iset_flg(flgid, (FLGPTN)pattern); }
+
+static inline ER fmp_await(uint8_t service, ID flgid, int32_t pattern, int32_t mode, int32_t *bits, TMO tmout)
+{
+    return fmp_service(service, flgid, pattern, mode, tmout, bits);
+}
+
+#define set_flg fmp_set_pattern
+#define clr_flg fmp_clear_pattern
+#define iset_flg fmp_iset_pattern
+#define wai_flg(flgid, pattern, mode, bits) fmp_await(26, flgid, pattern, mode, bits, 0)
+#define pol_flg(flgid, pattern, mode, bits) fmp_await(27, flgid, pattern, mode, bits, 0)
+#define twai_flg(flgid, pattern, mode, bits, tmout) fmp_await(28, flgid, pattern, mode, bits, tmout)
+#define rcv_dtq(dtqid, word) fmp_giving(33, dtqid, 0, word)
+#define prcv_dtq(dtqid, word) fmp_giving(34, dtqid, 0, word)
+#define trcv_dtq(dtqid, word, tmout) fmp_giving(35, dtqid, tmout, word)
+
+#endif
