@@ -88,7 +88,7 @@ static bool run_in_virtual_time(long ticks)
     settle();
     for (long tick = 0; tick < ticks; tick++) {
         for (int step = 0; step < TICK / PLANT_STEP; step++) {
-            fmp_step_int((uint8_t)plant_step());
+            fmp_step_int((uint8_t)plant_step());        /* 0 is no interrupt */
             settle();
         }
         fmp_step_tick();
