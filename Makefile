@@ -1,16 +1,34 @@
-# make install [PREFIX=/usr/local] [DESTDIR=]
+# make quick [JOBS=2]
+# make install [PREFIX=/usr/local] [DESTDIR=] [QUICK=1]
 # make uninstall [PREFIX=/usr/local] [DESTDIR=]
 # make library
-# make install-c [PREFIX=/usr/local] [DESTDIR=]
+# make install-c [PREFIX=/usr/local] [DESTDIR=] [QUICK=1]
+#
+# `quick` builds optimized programs and the library for C below quick/, in minutes and with no proof: they say
+# `proved=no`. What stands there is built again only where its sources changed. JOBS are built at once, with 1.5 GB of
+# memory each.
 #
 # `install` copies the proved programs, their manual pages, their completions and the reference below PREFIX, and says
 # where; and the library for C, its headers, its manual page and its pkg-config file, once `library` has made it.
 # `uninstall` removes these files. `install` builds nothing: each program stands in its crate's folder out once `rt run`
 # there, or the gate, has proved it. `install-c` is for the library alone. PREFIX and DESTDIR may have blanks in them.
+# With QUICK=1 both copy what `quick` built.
 
 PREFIX ?= /usr/local
+JOBS ?= 2
+ifdef QUICK
+PROGRAM ?= quick/fmp
+VIEW ?= quick/fmp_view
+LIBRARY ?= quick/libfmp_c.a
+C_ROOM ?= quick/c
+TAKEN = taken: $(PROGRAM) and $(VIEW), of which nothing is proved
+else
 PROGRAM ?= crates/fmp/out/fmp
 VIEW ?= crates/fmp_view/out/fmp_view
+LIBRARY ?= crates/fmp_c/out/libfmp_c.a
+C_ROOM ?= crates/fmp_c/out/c
+TAKEN = taken: $(PROGRAM) and $(VIEW)
+endif
 ROOM = $(DESTDIR)$(PREFIX)
 
 # The files: $(call NAME,MODE,FILE,TARGET) for each.
@@ -45,18 +63,32 @@ endef
 install: $(PROGRAM) $(VIEW)
 	$(call all,copied)
 	@if [ -f $(ARCHIVE) ]; then $(MAKE) -s install-c; else echo "not the library for C: \`make library\` makes it"; fi
+	@echo "$(TAKEN)"
 
 uninstall:
 	$(call all,removed)
 	$(call all_for_c,removed)
 	@rmdir "$(ROOM)/share/doc/fmp" 2> /dev/null || true
 
+.PHONY: quick
+quick:
+	@tools/quick.py --jobs $(JOBS) quick
+	@if command -v $(CC) > /dev/null; then $(MAKE) -s QUICK=1 library; else echo "no C compiler: no library for C"; fi
+	@echo "quick/fmp, quick/fmp_view and quick/c/libfmp.a: nothing of them is proved"
+
 # $(call missing,PROGRAM,FOLDER)
+ifdef QUICK
 define missing
-@echo "There is no $(1) yet: (cd $(2) && rt run) proves and builds it, in up to an hour." >&2
-@echo "Before that, (cd crates/fmp && rt try) prints a first trace in minutes, of an unproved program." >&2
+@echo "There is no $(1) yet: make quick builds it, in minutes." >&2
 @false
 endef
+else
+define missing
+@echo "There is no $(1) yet: (cd $(2) && rt run) proves and builds it, in up to an hour." >&2
+@echo "make quick builds one in minutes of which nothing is proved, and make install QUICK=1 takes it." >&2
+@false
+endef
+endif
 
 $(PROGRAM):
 	$(call missing,$@,crates/fmp)
@@ -66,7 +98,6 @@ $(VIEW):
 
 # The library for C: the proved part, which the gate makes, and `rt lib` in its folder; the allocator's glue of the
 # toolchain; and the ports for virtual and for real time, in one archive.
-LIBRARY ?= crates/fmp_c/out/libfmp_c.a
 GLUE ?= $(shell dirname "$$(dirname "$$(readlink -f "$$(command -v rt)")")")/c/liblibc_c.a
 C_ROOM ?= crates/fmp_c/out/c
 ARCHIVE = $(C_ROOM)/libfmp.a
@@ -84,7 +115,7 @@ $(ARCHIVE): $(LIBRARY) $(PORT)
 	@printf '%s\n' 'create $@' 'addlib $(LIBRARY)' 'addlib $(GLUE)' $(PORT:%='addmod %') save end | $(AR) -M
 
 $(LIBRARY):
-	@echo "There is no $@ yet: (cd crates/fmp_c && rt lib) proves and builds it." >&2
+	@echo "There is no $@ yet: (cd crates/fmp_c && rt lib) proves and builds it; make quick builds one in minutes." >&2
 	@false
 
 # $(call all_for_c,copied or removed)
