@@ -5,8 +5,9 @@
 
 They are crates/fmp/out/fmp, crates/fmp_view/out/fmp_view and crates/fmp_c/out/libfmp_c.a where they are not given. A
 block `cfg FILE`, `src FILE`, `steps FILE` or `c FILE` is a file, and each command of a block `console` prints what
-stands there. Blocks `sh` are not checked. The picture beside the page is the one that is drawn. Where there is no C
-compiler or no library, the commands of the part in C are left out, and the script says so.
+stands there. Blocks `sh` are not checked, but `make quick` still finds in the sources what it writes otherwise. The
+picture beside the page is the one that is drawn. Where there is no C compiler or no library, the commands of the part
+in C are left out, and the script says so.
 """
 
 import argparse
@@ -24,6 +25,9 @@ sys.path[0] = str(Path(__file__).resolve().parents[1])  # the folder `checks`, w
 from common.program import ROOT, located  # noqa: E402
 from common.tally import Tally  # noqa: E402
 from program.documents import blocks  # noqa: E402
+
+sys.path.append(str(ROOT / "tools"))
+import quick  # noqa: E402
 
 SCRIPT = "checks/program/tutorial.py"
 PAGE = ROOT / "docs/TUTORIAL.md"
@@ -77,6 +81,21 @@ class Walk:
                 self.tally.verdict(f"{PAGE.name}:{line}: the kind of the block", "sh", kind)
 
 
+def check_quick(tally, room):
+    """What `make quick` lowers: programs that say that they are not proved, and one that calls each function for C."""
+    try:
+        quick.copied(room)
+        problem = None
+    except quick.Failure as failure:
+        problem = str(failure)
+    tally.verdict("make quick: the marks of unproved programs", None, problem)
+    sources = "".join(path.read_text() for path in ROOT.glob("crates/fmp_c/src/*.rt"))
+    exported = set(re.findall(r'extern "C" fn (\w+)', sources))
+    main = room / "crates/fmp_c/src/main.rt"
+    called = set(re.findall(r"let _ = (\w+)\(", main.read_text())) if main.exists() else set()
+    tally.verdict("make quick: the functions for C", exported, called)
+
+
 def main():
     parser = argparse.ArgumentParser(description="Walks through docs/TUTORIAL.md.")
     parser.add_argument("program", metavar="PROGRAM", nargs="?", help="crates/fmp/out/fmp")
@@ -91,6 +110,7 @@ def main():
         has_library = walk.install(*programs, library.resolve())
         walk.follow(has_library)
         drawn = walk.room / PICTURE
+        check_quick(tally, Path(room) / "quick")
         same = drawn.is_file() and drawn.read_bytes() == (PAGE.parent / PICTURE).read_bytes()
         tally.holds(f"docs/{PICTURE} is what `fmp_view timeline` draws", same)
     if not has_library:
