@@ -1,5 +1,8 @@
 //! The resource file of a system for TraceLogVisualizer: what its objects are called, and what is known of them.
-ghost use Rattle.std.specs.Prelude.{◌≡◌, ◌+◌, ◌<◌, ◌++◌, OnOk, codes, decimal};
+ghost use Rattle.std.specs.Prelude.{◌≡◌, ◌+◌, ◌++◌, IfOk, OnOk, codes, decimal};
+ghost use Rattle.fmp_base.specs.Systems.{tables_of};
+ghost use Rattle.fmp_json.specs.Members.{object_line};
+ghost use Rattle.fmp_slices.specs.Labels.{entry_name as spec_entry};
 ghost use Rattle.fmp_slices.specs.Resources as spec;
 
 use crate::labels::{append, entry_name};
@@ -50,7 +53,7 @@ fn begin_resource(
     alloc: Global,
     name: &[u8],
     kind: &str,
-    number: u8,
+    number: u64,
     writer: &mut Writer,
 ) -> Result<(), AllocError>
     ensures before { writer.new.before ≡ writer.old.before }
@@ -63,7 +66,7 @@ fn begin_resource(
     text_member(writer, "Type", kind)?;
     writer.key("Attributes")?;
     writer.begin_object()?;
-    number_member(writer, "id", u64::from(number))
+    number_member(writer, "id", number)
 }
 
 /// Ends a resource.
@@ -73,6 +76,15 @@ fn end_resource(writer: &mut Writer) -> Result<(), AllocError>
 {
     writer.end_object()?;
     writer.end_object()
+}
+
+/// Ends a task or a handler, which is dormant at first.
+fn end_dormant(writer: &mut Writer) -> Result<(), AllocError>
+    ensures before { writer.new.before ≡ writer.old.before }
+    ensures tokens { OnOk result (writer.new.tokens ≡ writer.old.tokens ++ spec.dormant_end) }
+{
+    text_member(writer, "state", "DORMANT")?;
+    end_resource(writer)
 }
 
 /// Writes the number of the processor at a place.
@@ -85,12 +97,13 @@ fn write_processor(processor: u8, writer: &mut Writer) -> Result<(), AllocError>
 
 /// Writes the context of the processor at a place, which is idle at first.
 fn write_context(alloc: Global, processor: u8, writer: &mut Writer) -> Result<(), AllocError>
-    requires { processor < 255 }
     ensures before { writer.new.before ≡ writer.old.before }
+    ensures tokens { OnOk result (writer.new.tokens
+        ≡ writer.old.tokens ++ spec.context_members processor) }
 {
     let mut name = Vec::new(alloc);
     append_context(processor, &mut name)?;
-    begin_resource(alloc, &name, "Context", processor + 1, writer)?;
+    begin_resource(alloc, &name, "Context", u64::from(processor) + 1, writer)?;
     write_processor(processor, writer)?;
     text_member(writer, "name", "None")?;
     end_resource(writer)
@@ -105,6 +118,8 @@ fn write_body(
     writer: &mut Writer,
 ) -> Result<(), AllocError>
     ensures before { writer.new.before ≡ writer.old.before }
+    ensures tokens { OnOk result (writer.new.tokens
+        ≡ writer.old.tokens ++ spec.body_member member.now (spec_entry bodies.now entry)) }
 {
     match entry_name(bodies, entry) {
         Some(name) => {
@@ -118,31 +133,34 @@ fn write_body(
 /// Writes a task of this number, which is dormant at first.
 fn write_task(
     alloc: Global,
-    number: u8,
+    number: u64,
     task: &TaskConfig,
     bodies: &[Name],
     writer: &mut Writer,
 ) -> Result<(), AllocError>
     ensures before { writer.new.before ≡ writer.old.before }
+    ensures tokens { OnOk result (writer.new.tokens
+        ≡ writer.old.tokens ++ spec.task_members bodies.now number task.now) }
 {
     begin_resource(alloc, task.name.as_bytes(), "Task", number, writer)?;
     write_processor(task.processor, writer)?;
     number_member(writer, "pri", u64::from(task.priority))?;
     number_member(writer, "stksz", u64::from(task.stack))?;
     write_body(alloc, "task", bodies, task.entry, writer)?;
-    text_member(writer, "state", "DORMANT")?;
-    end_resource(writer)
+    end_dormant(writer)
 }
 
 /// Writes a cyclic handler of this number.
 fn write_cyclic(
     alloc: Global,
-    number: u8,
+    number: u64,
     cyclic: &CyclicConfig,
     bodies: &[Name],
     writer: &mut Writer,
 ) -> Result<(), AllocError>
     ensures before { writer.new.before ≡ writer.old.before }
+    ensures tokens { OnOk result (writer.new.tokens
+        ≡ writer.old.tokens ++ spec.cyclic_members bodies.now number cyclic.now) }
 {
     begin_resource(
         alloc,
@@ -155,8 +173,18 @@ fn write_cyclic(
     number_member(writer, "cyctim", u64::from(cyclic.period))?;
     number_member(writer, "cycphs", u64::from(cyclic.phase))?;
     write_body(alloc, "cychdr", bodies, cyclic.entry, writer)?;
-    text_member(writer, "state", "DORMANT")?;
-    end_resource(writer)
+    end_dormant(writer)
+}
+
+/// Begins the handler of the interrupt of this number.
+#[tactic(auto, unfolding(crate::specs::Resources::interrupt_begin))]
+fn begin_interrupt(alloc: Global, number: u8, writer: &mut Writer) -> Result<(), AllocError>
+    ensures before { writer.new.before ≡ writer.old.before }
+    ensures tokens { OnOk result (writer.new.tokens ≡ writer.old.tokens ++ spec.interrupt_begin number) }
+{
+    let mut name = Vec::new(alloc);
+    append_interrupt(number, &mut name)?;
+    begin_resource(alloc, &name, "InterruptHandler", u64::from(number), writer)
 }
 
 /// Writes the handler of an interrupt.
@@ -167,20 +195,21 @@ fn write_interrupt(
     writer: &mut Writer,
 ) -> Result<(), AllocError>
     ensures before { writer.new.before ≡ writer.old.before }
+    ensures tokens { OnOk result (writer.new.tokens
+        ≡ writer.old.tokens ++ spec.interrupt_members bodies.now interrupt.now) }
 {
-    let mut name = Vec::new(alloc);
-    append_interrupt(interrupt.number, &mut name)?;
-    begin_resource(alloc, &name, "InterruptHandler", interrupt.number, writer)?;
+    begin_interrupt(alloc, interrupt.number, writer)?;
     write_processor(interrupt.processor, writer)?;
     write_body(alloc, "inthdr", bodies, interrupt.entry, writer)?;
-    text_member(writer, "state", "DORMANT")?;
-    end_resource(writer)
+    end_dormant(writer)
 }
 
 fn write_contexts(alloc: Global, sys: &System, writer: &mut Writer) -> Result<(), AllocError>
     ensures before { writer.new.before ≡ writer.old.before }
+    ensures tokens { OnOk result (writer.new.tokens
+        ≡ writer.old.tokens ++ spec.contexts_to sys.now.processors) }
 {
-    for processor in 0..sys.processors.min(254) {
+    for processor in 0..sys.processors {
         write_context(alloc, processor, writer)?;
     }
     Ok(())
@@ -193,15 +222,13 @@ fn write_tasks(
     writer: &mut Writer,
 ) -> Result<(), AllocError>
     ensures before { writer.new.before ≡ writer.old.before }
+    ensures tokens { OnOk result (writer.new.tokens
+        ≡ writer.old.tokens ++ spec.tasks_members bodies.now 1 sys.now.tasks.items) }
 {
-    for place in 0..sys.tasks.len().min(255) as u8 {
-        write_task(
-            alloc,
-            place + 1,
-            &sys.tasks[usize::from(place)],
-            bodies,
-            writer,
-        )?;
+    let mut number = 1u64;
+    for task in &sys.tasks {
+        write_task(alloc, number, task, bodies, writer)?;
+        number = number.saturating_add(1);
     }
     Ok(())
 }
@@ -213,15 +240,13 @@ fn write_cyclics(
     writer: &mut Writer,
 ) -> Result<(), AllocError>
     ensures before { writer.new.before ≡ writer.old.before }
+    ensures tokens { OnOk result (writer.new.tokens
+        ≡ writer.old.tokens ++ spec.cyclics_members bodies.now 1 sys.now.cyclics.items) }
 {
-    for place in 0..sys.cyclics.len().min(255) as u8 {
-        write_cyclic(
-            alloc,
-            place + 1,
-            &sys.cyclics[usize::from(place)],
-            bodies,
-            writer,
-        )?;
+    let mut number = 1u64;
+    for cyclic in &sys.cyclics {
+        write_cyclic(alloc, number, cyclic, bodies, writer)?;
+        number = number.saturating_add(1);
     }
     Ok(())
 }
@@ -233,6 +258,8 @@ fn write_interrupts(
     writer: &mut Writer,
 ) -> Result<(), AllocError>
     ensures before { writer.new.before ≡ writer.old.before }
+    ensures tokens { OnOk result (writer.new.tokens
+        ≡ writer.old.tokens ++ spec.interrupts_members bodies.now sys.now.interrupts.items) }
 {
     for interrupt in &sys.interrupts {
         write_interrupt(alloc, interrupt, bodies, writer)?;
@@ -243,6 +270,8 @@ fn write_interrupts(
 /// Writes a list of rules, of one: those of the multiprocessor kernel.
 fn write_rules(name: &str, writer: &mut Writer) -> Result<(), AllocError>
     ensures before { writer.new.before ≡ writer.old.before }
+    ensures tokens { OnOk result (writer.new.tokens
+        ≡ writer.old.tokens ++ spec.rules_members name.now) }
 {
     begin_list(writer, name)?;
     writer.string("fmp")?;
@@ -250,14 +279,53 @@ fn write_rules(name: &str, writer: &mut Writer) -> Result<(), AllocError>
 }
 
 /// Writes how times are written, and by which rules the visualizer reads and shows a log.
+#[tactic(auto, unfolding(crate::specs::Resources::head_members))]
 fn write_head(writer: &mut Writer) -> Result<(), AllocError>
     ensures before { writer.new.before ≡ writer.old.before }
+    ensures tokens { OnOk result (writer.new.tokens
+        ≡ writer.old.tokens ++ spec.head_members) }
 {
     text_member(writer, "TimeScale", "us")?;
     number_member(writer, "TimeRadix", 10)?;
     write_rules("ConvertRules", writer)?;
     write_rules("VisualizeRules", writer)?;
     write_rules("ResourceHeaders", writer)
+}
+
+#[tactic(auto, unfolding(crate::specs::Resources::all_members))]
+fn write_all(
+    alloc: Global,
+    sys: &System,
+    bodies: &[Name],
+    writer: &mut Writer,
+) -> Result<(), AllocError>
+    ensures before { writer.new.before ≡ writer.old.before }
+    ensures tokens { OnOk result (writer.new.tokens
+        ≡ writer.old.tokens ++ spec.all_members (tables_of sys.now) bodies.now) }
+{
+    write_contexts(alloc, sys, writer)?;
+    write_tasks(alloc, sys, bodies, writer)?;
+    write_cyclics(alloc, sys, bodies, writer)?;
+    write_interrupts(alloc, sys, bodies, writer)
+}
+
+/// Begins a member whose value is an object.
+#[tactic(auto, unfolding(crate::specs::Resources::object_begin))]
+fn begin_object(name: &str, writer: &mut Writer) -> Result<(), AllocError>
+    ensures before { writer.new.before ≡ writer.old.before }
+    ensures tokens { OnOk result (writer.new.tokens ≡ writer.old.tokens ++ spec.object_begin name.now) }
+{
+    writer.key(name)?;
+    writer.begin_object()
+}
+
+/// Ends it.
+#[tactic(auto, unfolding(crate::specs::Resources::object_end))]
+fn end_object(writer: &mut Writer) -> Result<(), AllocError>
+    ensures before { writer.new.before ≡ writer.old.before }
+    ensures tokens { OnOk result (writer.new.tokens ≡ writer.old.tokens ++ spec.object_end) }
+{
+    writer.end_object()
 }
 
 fn write_resources(
@@ -267,20 +335,21 @@ fn write_resources(
     writer: &mut Writer,
 ) -> Result<(), AllocError>
     ensures before { writer.new.before ≡ writer.old.before }
+    ensures tokens { OnOk result (writer.new.tokens
+        ≡ writer.old.tokens ++ spec.resources_members (tables_of sys.now) bodies.now) }
 {
-    writer.key("Resources")?;
-    writer.begin_object()?;
-    write_contexts(alloc, sys, writer)?;
-    write_tasks(alloc, sys, bodies, writer)?;
-    write_cyclics(alloc, sys, bodies, writer)?;
-    write_interrupts(alloc, sys, bodies, writer)?;
-    writer.end_object()
+    begin_object("Resources", writer)?;
+    write_all(alloc, sys, bodies, writer)?;
+    end_object(writer)
 }
 
 /// The resource file of a system, an object of JSON in a line: the contexts of the processors, the tasks, the cyclic
 /// handlers and the handlers of interrupts, each in order of number. The names of the bodies are those of an image, in
 /// order of number. `AllocError` if memory runs out.
-pub fn resources(alloc: Global, sys: &System, bodies: &[Name]) -> Result<Vec<u8>, AllocError> {
+pub fn resources(alloc: Global, sys: &System, bodies: &[Name]) -> Result<Vec<u8>, AllocError>
+    ensures { IfOk result (λ file. file.items
+        ≡ object_line (spec.file_members (tables_of sys.now) bodies.now)) }
+{
     let mut writer = begin(alloc)?;
     write_head(&mut writer)?;
     write_resources(alloc, sys, bodies, &mut writer)?;
