@@ -1586,6 +1586,66 @@ echo 'steps:2: S1' > said
 shows 'timeline: a wrong step' 1 timeline queue.img wrong.steps none.svg
 absent 'timeline: no file after a fault' none.svg
 
+# A recording of the queue: what came, one a line, with the calls that its bodies made. What is made of it is what is made
+# of the image over its steps, and its title is that of its configuration.
+cat > queue.rec <<'END'
+run 1 act_tsk 2
+run 1 rcv_dtq 1
+run 1 snd_dtq 1 42
+run 1 put 42
+run 1 end
+run 1 end
+END
+cp queue.named wanted
+echo 'every task has ended' > said
+shows 'recording: run' 0 run --recording queue.rec queue.cfg
+cat > wanted <<'END'
+task      starts   calls   waits  time-outs  preemptions    kept   spins  events   share
+PRODUCER       1       2       0          0            2       0       0       3   50.0%
+CONSUMER       1       2       1          0            0       0       0       3   50.0%
+END
+shows 'recording: stats' 0 stats --recording queue.rec queue.cfg
+echo 'CONSUMER waits for a word of data queue QUEUE, since event 2' > wanted
+shows 'recording: why' 0 why --recording queue.rec queue.cfg --at 2
+shows 'recording: all expectations hold' 0 expect --recording queue.rec queue.cfg queue.expect
+printf 'never.expect:2: event 4: never put(42)\n4 p1 CONSUMER put(42) E_OK\n' > wanted
+shows 'recording: an expectation fails' 4 expect --recording queue.rec queue.cfg never.expect
+shows 'recording: waves' 0 waves --recording queue.rec queue.cfg recorded.vcd
+shows 'waves: the queue once more' 0 waves queue.img queue.steps again.vcd
+same 'recording: the same waves' again.vcd recorded.vcd
+shows 'recording: timeline' 0 timeline --recording queue.rec queue.cfg recorded.svg --objects
+shows 'timeline: the queue once more' 0 timeline queue.img queue.steps again.svg --objects
+same 'recording: the same picture' again.svg recorded.svg
+cat > wanted <<'END'
+  0 p1 PRODUCER starts
+  0 p1 > PRODUCER
+  1 p1 PRODUCER act_tsk(CONSUMER) E_OK
+  1 p1 CONSUMER starts
+  1 p1 > CONSUMER
+  2 p1 CONSUMER rcv_dtq(QUEUE) wait
+  2 p1 > PRODUCER
+- 3 p1 PRODUCER snd_dtq(QUEUE,42) E_OK
+- 3 p1 CONSUMER gets E_OK 42
+- 3 p1 > CONSUMER
++ 3 tick 1
+- PRODUCER READY p1 10
++ PRODUCER RUNNING p1 10
+- CONSUMER RUNNING p1 5
++ CONSUMER WAITING p1 5 for a word of data queue QUEUE
+END
+printf 'run 1 act_tsk 2\nrun 1 rcv_dtq 1\ntick\nrun 1 snd_dtq 1 42\n' > ticked.rec
+shows 'recording: diff' 4 diff --recordings queue.cfg queue.rec ticked.rec
+shows 'recording: the same run twice' 0 diff --recordings queue.cfg queue.rec queue.rec
+printf 'run 1 act_tsk 2\nrun 1 rcv_dtq\n' > wrong.rec
+echo 'recording:2: R1' > said
+shows 'recording: a wrong line' 1 stats --recording wrong.rec queue.cfg
+echo 'run 2 end' > wrong.rec
+echo 'recording:1: R2' > said
+shows 'recording: no such processor' 1 why --recording wrong.rec queue.cfg
+refused 'recording: with steps' 'cannot be used with' stats --recording queue.rec queue.cfg queue.steps
+refused 'recording: neither that nor steps' 'not provided' stats queue.img
+refused 'recording: over the recording' 'one of the two that are read' waves --recording queue.rec queue.cfg ./queue.rec
+
 # Each step of a drive does something: a run of them has as many events.
 for seed in 1 2 3 4 5 6 7 8; do
     for system in queue watchdog interrupt; do

@@ -4,6 +4,7 @@
 mod checker;
 mod expectation;
 mod fault;
+mod laws;
 mod lines;
 mod named;
 mod numbers;
@@ -15,6 +16,7 @@ mod words;
 pub use checker::{Broken, Checker, Watch};
 pub use expectation::{Actor, Deed, Expectation, Expected, Happening};
 pub use fault::{ExpectFault, Expects, Flaw};
+pub use laws::events_tell_as_their_run;
 pub use named::{CODES, FAULTS, STATES, fault_name, state_name};
 pub use reading::{faulty_word, read_expectations};
 pub use running::tell_run;

@@ -3,3 +3,4 @@ pub mod Judging
 pub mod AnyStretch
 pub mod Journals
 pub mod SameCalls
+pub mod GivenPlaces

@@ -1,17 +1,15 @@
 //! A system whose bodies run elsewhere, with its kernel: one call for each event.
-ghost use Rattle.std.specs.Prelude.{◌≡◌, Err, IfErr, IfOk, Ok, pos};
-ghost use Rattle.fmp_base.specs.Stretches.{ending};
+ghost use Rattle.std.specs.Prelude.{◌≡◌, Err, IfErr, IfOk, Ok};
 ghost use Rattle.fmp_cfgparse.specs.Configurations.{IsRead};
 ghost use Rattle.fmp_outside.specs.declared.given.Act.TheVariants as act;
 ghost use Rattle.fmp_outside.specs.declared.given.Given.TheVariants as given;
-ghost use Rattle.fmp_outside.specs.Outside.{ending_by};
-ghost use Rattle.fmp_foreign.specs.declared.foreign.Told.TheVariants as told;
 ghost use Rattle.fmp_foreign.specs.Hosting.{IsNew, after, answer, called_by, made_by, refused, refused_number};
 
-use crate::foreign::{Foreign, Told};
+use crate::foreign::Foreign;
 use crate::requests::{Refusal, call_of};
-use fmp_base::{Effect, Event, Fault, Stretch, System};
+use fmp_base::{Effect, Fault, System};
 use fmp_cfgparse::read_cfg;
+use fmp_coming::Coming;
 use fmp_kernel::Kernel;
 use fmp_lex::BuildFault;
 use fmp_outside::{Act, Given};
@@ -30,18 +28,6 @@ pub struct Hosted {
     pub system: System,
     /// The kernel of this system.
     pub kernel: Kernel<Foreign>,
-}
-
-/// The stretch that ends with this act.
-fn stretch_of(act: Act) -> Stretch<Told>
-    ensures { ending result ≡ ending_by (told.Starts (pos 0)) act }
-{
-    let told = Told::Starts(0);
-    match act {
-        Act::Call(call) => Stretch::Call(told, call),
-        Act::End => Stretch::End(told),
-        Act::Fault(fault) => Stretch::Fault(told, fault),
-    }
 }
 
 impl Hosted {
@@ -94,7 +80,6 @@ impl Hosted {
     /// What comes, while fewer than 2^31 events were taken. If it is done, its lines and the state after it stand in
     /// the kernel. It does nothing where the processor has no actor, where the call spins for a lock that is held, and
     /// where the interrupt has no handler or is pending. What is refused changes nothing.
-    #[tactic(auto, using(crate::proofs::AnyStretch::any_stretch))]
     pub fn take(&mut self, given: Given) -> Result<Effect, Refusal>
         ensures answer { result ≡ answer self.old.kernel (Ok given) }
         ensures state { self.new ≡ after self.old (Ok given) }
@@ -105,11 +90,7 @@ impl Hosted {
         if let Some(why) = self.refused_number(given) {
             return Err(why);
         }
-        Ok(match given {
-            Given::Act(p, act) => self.kernel.apply_long(p, stretch_of(act)),
-            Given::Tick => self.kernel.step_long(Event::Tick),
-            Given::Int(number) => self.kernel.step_long(Event::Int(number)),
-        })
+        Ok(given.take(&mut self.kernel))
     }
 
     /// The actor of the processor of this number, from 1, makes the call of the service of this function code, 1 to 59,

@@ -2,6 +2,7 @@
 //! only what it told the body last.
 #![tactic(auto)]
 
+mod coming;
 mod foreign;
 mod hosted;
 pub mod laws;

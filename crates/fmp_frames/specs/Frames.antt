@@ -15,6 +15,7 @@ use Rattle.fmp_base.specs.States.{KernelState, task_at, processor_at}
 use Rattle.fmp_base.specs.Steps.{Reaction, Nothing, Did, Kept, step}
 use Rattle.fmp_base.specs.Systems.{SystemTables}
 use Rattle.fmp_base.specs.Ticks.{is_pending}
+use Rattle.fmp_kernel.specs.KernelViews.{KernelView, view_after}
 use Rattle.fmp_frames.specs.declared.frame.Frame as declared
 use Rattle.fmp_frames.specs.Spinning.{spin_at}
 use Rattle.fmp_why.specs.declared.obstacles.Spin.{Spin}
@@ -108,3 +109,16 @@ framed_on sys M bound w (Kept p v) rest = kept_frame sys M bound v (Some p) ∷ 
 abbrev pub frames : {C : Type 0} → SystemTables → Meaning C → (bound : ℕ) → World C → List Event → List FrameTable
 frames sys M bound w [] = []
 frames sys M bound w (e ∷ es) = framed_on sys M bound w (step sys M bound w e) (λ v. frames sys M bound v es)
+
+-- the frame of what came to a kernel and did this, in front of those of what comes behind it
+abbrev pub framed : {B C : Type 0} → (B → Meaning C) → KernelView B C → Reaction C → List FrameTable → List FrameTable
+framed meaning k Nothing rest = rest
+framed meaning k (Did d) rest = frame_of k.system (meaning k.body) k.bound d.world d.lines ∷ rest
+framed meaning k (Kept p w) rest = kept_frame k.system (meaning k.body) k.bound w (Some p) ∷ rest
+
+-- the frames of what comes to a kernel, in order, where this says what each does
+abbrev pub frames_of_each : {B C X : Type 0} → (B → Meaning C) → (KernelView B C → X → Reaction C) → KernelView B C
+    → List X → List FrameTable
+frames_of_each meaning reaction k [] = []
+frames_of_each meaning reaction k (x ∷ xs) =
+    framed meaning k (reaction k x) (frames_of_each meaning reaction (view_after k (reaction k x)) xs)

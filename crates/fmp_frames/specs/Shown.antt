@@ -1,8 +1,8 @@
 -- What is shown of a run.
 use Rattle.std.specs.Prelude.{List}
-use Rattle.fmp_base.specs.declared.events.Event.{Event}
 use Rattle.fmp_base.specs.Meanings.{Meaning}
-use Rattle.fmp_frames.specs.Frames.{FrameTable, frame_of, frames}
+use Rattle.fmp_base.specs.Steps.{Reaction}
+use Rattle.fmp_frames.specs.Frames.{FrameTable, frame_of, frames_of_each}
 use Rattle.fmp_frames.specs.Showing.{HasShown}
 use Rattle.fmp_kernel.specs.KernelViews.{KernelView}
 
@@ -10,13 +10,10 @@ use Rattle.fmp_kernel.specs.KernelViews.{KernelView}
 abbrev pub frame_now : {B C : Type 0} → (B → Meaning C) → KernelView B C → FrameTable
 frame_now meaning k = frame_of k.system (meaning k.body) k.bound k.world k.lines
 
--- the frames of the events that a kernel takes from here on
-abbrev pub frames_from : {B C : Type 0} → (B → Meaning C) → KernelView B C → List Event → List FrameTable
-frames_from meaning k es = frames k.system (meaning k.body) k.bound k.world es
-
--- a viewer that began with the last frame of a kernel was shown all those of the events that it takes from there on
-pub record WasShown {V B C : Type 0} (Begins : V → FrameTable → Type 0) (shown : V → FrameTable → V → Type 0)
-    (meaning : B → Meaning C) (k : KernelView B C) (es : List Event) (last : V) : Type 0 where
+-- a viewer that began with the last frame of a kernel was shown all those of what comes to it from there on
+pub record WasShown {V B C X : Type 0} (Begins : V → FrameTable → Type 0) (shown : V → FrameTable → V → Type 0)
+    (meaning : B → Meaning C) (reaction : KernelView B C → X → Reaction C) (k : KernelView B C) (xs : List X) (last : V) :
+    Type 0 where
   pub first : V
   pub begins : Begins first (frame_now meaning k)
-  pub frames : HasShown shown first (frames_from meaning k es) last
+  pub frames : HasShown shown first (frames_of_each meaning reaction k xs) last

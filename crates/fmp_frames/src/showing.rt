@@ -1,12 +1,13 @@
 //! A run, shown frame by frame.
 ghost use Rattle.std.specs.Prelude.{◌≡◌, ◌+◌, ◌≤◌, ◌^◌, length, OnOk};
-ghost use Rattle.fmp_frames.specs.Frames.{FrameTable, frame_of, frames, kept_frame as frame_of_kept, table_of};
+ghost use Rattle.fmp_frames.specs.Frames.{FrameTable, frame_of, frames_of_each, kept_frame as frame_of_kept, table_of};
 ghost use Rattle.fmp_frames.specs.Showing.{HasShown};
-ghost use Rattle.fmp_kernel.specs.KernelViews.{view_after_all};
+ghost use Rattle.fmp_coming.specs.Comings.{view_after_each};
 
 use crate::frame::{Frame, kept_frame, last_frame};
-use fmp_base::{Effect, Event};
-use fmp_kernel::{Body, Kernel, run_place};
+use fmp_base::Effect;
+use fmp_coming::Coming;
+use fmp_kernel::{Body, Kernel};
 use std::alloc::{AllocError, Global};
 
 /// A viewer, to which a run is shown frame by frame.
@@ -54,29 +55,29 @@ fn show_kept<B: Body, V: Viewer>(
     viewer.show(alloc, &frame)
 }
 
-/// Takes events on a kernel, and shows the frame of each that is taken, in order. `AllocError` if memory runs out.
-pub fn show_all<B: Body, V: Viewer>(
+/// Takes what comes to a kernel, and shows the frame of each that is taken, in order. `AllocError` if memory runs out.
+pub fn show_all<B: Body, T: Coming<B>, V: Viewer>(
     alloc: Global,
     kernel: &mut Kernel<B>,
     body: &B,
     n: u64,
-    events: &[Event],
+    events: &[T],
     viewer: &mut V,
 ) -> Result<(), AllocError>
-    requires few { kernel.old.taken + length events.now ≤ 2 ^ 20 }
+    requires few { kernel.old.taken + length events.now ≤ 2 ^ 31 }
     requires body { body.now ≡ kernel.old.body }
     requires bound { n ≡ kernel.old.bound }
     ensures shown { OnOk result (HasShown V.shown viewer.old
-        (frames kernel.old.system (B.meaning kernel.old.body) kernel.old.bound kernel.old.world events.now)
+        (frames_of_each B.meaning T.reaction kernel.old events.now)
         viewer.new) }
-    ensures after { OnOk result (kernel.new ≡ view_after_all B.meaning kernel.old events.now) }
+    ensures after { OnOk result (kernel.new ≡ view_after_each T.reaction kernel.old events.now) }
     ensures body { OnOk result (kernel.new.body ≡ kernel.old.body) }
     ensures bound { OnOk result (kernel.new.bound ≡ kernel.old.bound) }
 {
     for e in events {
-        match kernel.step(*e) {
+        match e.take(kernel) {
             Effect::Done => show_last(alloc, kernel, body, n, viewer)?,
-            Effect::Kept => show_kept(alloc, kernel, body, n, run_place(*e), viewer)?,
+            Effect::Kept => show_kept(alloc, kernel, body, n, e.place(), viewer)?,
             Effect::Nothing => {}
         }
     }

@@ -1,11 +1,12 @@
 //! The frames of a run on a kernel.
 ghost use Rattle.std.specs.Prelude.{◌≡◌, ◌+◌, [], ◌∷◌, ◌++◌, ◌≤◌, ◌^◌, length, map, IfOk, OnOk};
-ghost use Rattle.fmp_frames.specs.Frames.{frame_of, frames, kept_frame as frame_of_kept, table_of};
-ghost use Rattle.fmp_kernel.specs.KernelViews.{view_after_all};
+ghost use Rattle.fmp_frames.specs.Frames.{frame_of, frames_of_each, kept_frame as frame_of_kept, table_of};
+ghost use Rattle.fmp_coming.specs.Comings.{view_after_each};
 
 use crate::frame::{Frame, kept_frame, last_frame};
-use fmp_base::{Effect, Event};
-use fmp_kernel::{Body, Kernel, run_place};
+use fmp_base::Effect;
+use fmp_coming::Coming;
+use fmp_kernel::{Body, Kernel};
 use std::alloc::{AllocError, Global};
 
 /// The frame of the last event stands behind these.
@@ -47,28 +48,28 @@ fn append_kept<B: Body>(
     Ok(())
 }
 
-/// Takes events on a kernel, and gives the frame of each that is taken, in order. `AllocError` if memory runs out.
-pub fn frames<B: Body>(
+/// Takes what comes to a kernel, and gives the frame of each that is taken, in order. `AllocError` if memory runs out.
+pub fn frames<B: Body, T: Coming<B>>(
     alloc: Global,
     kernel: &mut Kernel<B>,
     body: &B,
     n: u64,
-    events: &[Event],
+    events: &[T],
 ) -> Result<Vec<Frame>, AllocError>
-    requires few { kernel.old.taken + length events.now ≤ 2 ^ 20 }
+    requires few { kernel.old.taken + length events.now ≤ 2 ^ 31 }
     requires body { body.now ≡ kernel.old.body }
     requires bound { n ≡ kernel.old.bound }
     ensures frames { IfOk result (λ fs. map table_of fs.items
-        ≡ frames kernel.old.system (B.meaning kernel.old.body) kernel.old.bound kernel.old.world events.now) }
-    ensures after { OnOk result (kernel.new ≡ view_after_all B.meaning kernel.old events.now) }
+        ≡ frames_of_each B.meaning T.reaction kernel.old events.now) }
+    ensures after { OnOk result (kernel.new ≡ view_after_each T.reaction kernel.old events.now) }
     ensures count { kernel.new.taken ≤ kernel.old.taken + length events.now }
     ensures system { kernel.new.system ≡ kernel.old.system }
 {
     let mut all = Vec::new(alloc);
     for e in events {
-        match kernel.step(*e) {
+        match e.take(kernel) {
             Effect::Done => append_last(alloc, kernel, body, n, &mut all)?,
-            Effect::Kept => append_kept(alloc, kernel, body, n, run_place(*e), &mut all)?,
+            Effect::Kept => append_kept(alloc, kernel, body, n, e.place(), &mut all)?,
             Effect::Nothing => {}
         }
     }

@@ -6,5 +6,6 @@ pub mod Explored
 pub mod Faults
 pub mod Fresh
 pub mod Given
+pub mod OpenSystems
 pub mod Stepped
 pub mod Traces

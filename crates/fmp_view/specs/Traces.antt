@@ -1,10 +1,10 @@
 -- The trace of a run in the names of its objects.
 use Rattle.std.specs.Prelude.{◌≡◌, ℕ, ◌+◌, ◌-◌, ◌^◌, List, Option, Some, None, ◌++◌, min}
-use Rattle.fmp_base.specs.declared.events.Event.{Event}
 use Rattle.fmp_base.specs.declared.events.Line.{Line}
 use Rattle.fmp_base.specs.declared.events.TaskState.{TaskState}
 use Rattle.fmp_base.specs.declared.states.TaskBlock.{TaskBlock}
 use Rattle.fmp_base.specs.Meanings.{Meaning}
+use Rattle.fmp_base.specs.Steps.{Reaction}
 use Rattle.fmp_base.specs.Systems.{SystemTables, tables_of}
 use Rattle.fmp_frames.specs.Frames.{FrameTable}
 use Rattle.fmp_kernel.specs.KernelViews.{KernelView}
@@ -49,9 +49,9 @@ pub record Traces (x : Tracer) (f : FrameTable) (y : Tracer) : Type 0 where
   pub states : y.states.items ≡ f.states
   pub blocks : y.blocks.items ≡ f.blocks
 
--- what is printed of a run of a kernel: the lines of setup, those of its events, and the states at the end
-pub record IsTrace {B C : Type 0} (form : Form) (sys : SystemTables) (meaning : B → Meaning C) (k : KernelView B C)
-    (es : List Event) (out : List ℕ) : Type 0 where
+-- what is printed of a run of a kernel: the lines of setup, those of what comes to it, and the states at the end
+pub record IsTrace {B C X : Type 0} (form : Form) (sys : SystemTables) (meaning : B → Meaning C)
+    (reaction : KernelView B C → X → Reaction C) (k : KernelView B C) (xs : List X) (out : List ℕ) : Type 0 where
   pub last : Tracer
-  pub shown : WasShown (IsBegun form sys) Traces meaning k es last
+  pub shown : WasShown (IsBegun form sys) Traces meaning reaction k xs last
   pub whole : out ≡ last.out.items ++ states_text last.form (tables_of last.sys.now) last.states.items last.blocks.items

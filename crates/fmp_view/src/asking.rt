@@ -7,7 +7,7 @@ use crate::built::Running;
 use crate::exploration::exploring_of;
 use crate::faults::{FileNames, Form};
 use crate::form::{EVENTS_MAX, program, timeline_command, waves_command};
-use crate::given::{bound_of, entered, flag_of, word_of, word32_of, word64_of};
+use crate::given::{bound_of, entered, flag_of, text_of, word_of, word32_of, word64_of};
 use crate::sources::Exploring;
 use clap::{ArgMatches, Error};
 use fmp_files::{mistake, mistake_of};
@@ -23,12 +23,41 @@ const OUT_OVER_INPUT: &str = "the file OUT is one of the two that are read";
 /// The message for a picture that ends before it begins.
 const FROM_AFTER_TO: &str = "--from is later than --to";
 
-/// What a run is of: the names of its files, and the bound of a stretch, 1 to 2^48.
+/// What a run is of: the names of its files.
 #[derive(Clone, Copy)]
-pub struct Run<'a> {
-    pub image: &'a str,
-    pub steps: &'a str,
-    pub bound: u64,
+pub enum Run<'a> {
+    /// An image over a steps text, with this bound of a stretch, 1 to 2^48.
+    Steps {
+        image: &'a str,
+        steps: &'a str,
+        bound: u64,
+    },
+    /// The system of a configuration, as it was recorded.
+    Recording {
+        cfg: &'a str,
+        recording: &'a str,
+    },
+}
+
+impl<'a> Run<'a> {
+    /// The names of its two files: of the system, and of what came to it.
+    pub fn files(self) -> (&'a str, &'a str) {
+        match self {
+            Run::Steps { image, steps, .. } => (image, steps),
+            Run::Recording { cfg, recording } => (cfg, recording),
+        }
+    }
+}
+
+/// What two runs of one system are of: the names of their files.
+#[derive(Clone, Copy)]
+pub struct Runs<'a> {
+    /// The image, or the configuration.
+    pub system: &'a str,
+    pub a: &'a str,
+    pub b: &'a str,
+    /// The bound of a stretch, 1 to 2^48; none where the runs are recordings.
+    pub bound: Option<u64>,
 }
 
 /// What is drawn of a run.
@@ -46,18 +75,20 @@ pub enum Cmd<'a> {
     /// Explore the schedules of two texts.
     Explore(Exploring<'a>),
     /// Look at a system or at a run.
-    Look(Look<'a>),
+    Look(Asked<'a>),
 }
 
 /// How the program is asked to look at a system or at a run.
 #[derive(Clone, Copy)]
-pub enum Look<'a> {
+pub enum Asked<'a> {
     /// Say what the code of this word means.
     Code(&'a str),
     /// Show the fault of the texts of these files, and of steps if there are steps, or their warnings.
     Fault(FileNames<'a>, Form),
     /// Print the trace of a run of the texts of these files, over the steps if there are steps.
     Run(FileNames<'a>, Running),
+    /// Print the trace of a recorded run of a system.
+    Recorded(Run<'a>, Form),
     /// Take events of standard input on the system of the texts of these files, with this bound, 1 to 2^48.
     Step(FileNames<'a>, u64),
     /// Print steps of an image: at most `events`, 0 to 2^20, in turn or at random.
@@ -71,13 +102,8 @@ pub enum Look<'a> {
     Why(Run<'a>, Option<u32>),
     /// Say whether a run meets the expectations of the text of this file.
     Expect(Run<'a>, &'a str),
-    /// Show the first event in which two runs of an image differ.
-    Diff {
-        image: &'a str,
-        a: &'a str,
-        b: &'a str,
-        bound: u64,
-    },
+    /// Show the first event in which two runs of a system differ.
+    Diff(Runs<'a>),
     /// Print the table of a run.
     Stats(Run<'a>),
     /// Write the waveform of a run to a file.
@@ -86,11 +112,41 @@ pub enum Look<'a> {
     Timeline(Run<'a>, &'a str, Drawing),
 }
 
+/// What a run is of.
 fn run_of<'a>(words: &ArgMatches<'a>) -> Run<'a> {
-    Run {
-        image: word_of(words, "IMAGE"),
-        steps: word_of(words, "STEPS"),
-        bound: bound_of(words),
+    match text_of(words, "recording") {
+        Some(recording) => Run::Recording {
+            cfg: word_of(words, "IMAGE"),
+            recording,
+        },
+        None => Run::Steps {
+            image: word_of(words, "IMAGE"),
+            steps: word_of(words, "STEPS"),
+            bound: bound_of(words),
+        },
+    }
+}
+
+/// The word behind those that name a run, for the argument of this name: of a recording there are no steps, so the word
+/// stands in their place.
+fn behind_run<'a>(words: &ArgMatches<'a>, id: &str) -> &'a str {
+    match run_of(words) {
+        Run::Steps { .. } => word_of(words, id),
+        Run::Recording { .. } => word_of(words, "STEPS"),
+    }
+}
+
+/// What two runs are of.
+fn runs_of<'a>(words: &ArgMatches<'a>) -> Runs<'a> {
+    Runs {
+        system: word_of(words, "IMAGE"),
+        a: word_of(words, "A"),
+        b: word_of(words, "B"),
+        bound: if flag_of(words, "recordings") {
+            None
+        } else {
+            Some(bound_of(words))
+        },
     }
 }
 
@@ -131,30 +187,36 @@ fn running_of(words: &ArgMatches<'_>) -> Running {
     }
 }
 
+/// What `run` asks for.
+fn run_asked<'a>(words: &ArgMatches<'a>) -> Asked<'a> {
+    match text_of(words, "recording") {
+        Some(recording) => {
+            let cfg = word_of(words, "CFG");
+            Asked::Recorded(Run::Recording { cfg, recording }, form_of(words))
+        }
+        None => Asked::Run(names_of(words), running_of(words)),
+    }
+}
+
 /// What a subcommand of this name other than `explore` asks for with its words.
-fn look_of<'a>(name: &str, words: &ArgMatches<'a>) -> Look<'a> {
+fn look_of<'a>(name: &str, words: &ArgMatches<'a>) -> Asked<'a> {
     match name {
-        "code" => Look::Code(word_of(words, "CODE")),
-        "fault" => Look::Fault(names_of(words), form_of(words)),
-        "run" => Look::Run(names_of(words), running_of(words)),
-        "step" => Look::Step(names_of(words), bound_of(words)),
-        "drive" => Look::Drive {
+        "code" => Asked::Code(word_of(words, "CODE")),
+        "fault" => Asked::Fault(names_of(words), form_of(words)),
+        "run" => run_asked(words),
+        "step" => Asked::Step(names_of(words), bound_of(words)),
+        "drive" => Asked::Drive {
             image: word_of(words, "IMAGE"),
             events: word32_of(words, "events").unwrap_or(0),
             seed: word64_of(words, "seed"),
             bound: bound_of(words),
         },
-        "why" => Look::Why(run_of(words), word32_of(words, "at")),
-        "expect" => Look::Expect(run_of(words), word_of(words, "EXPECT")),
-        "diff" => Look::Diff {
-            image: word_of(words, "IMAGE"),
-            a: word_of(words, "A"),
-            b: word_of(words, "B"),
-            bound: bound_of(words),
-        },
-        "stats" => Look::Stats(run_of(words)),
-        "timeline" => Look::Timeline(run_of(words), word_of(words, "OUT"), drawing_of(words)),
-        _ => Look::Waves(run_of(words), word_of(words, "OUT")),
+        "why" => Asked::Why(run_of(words), word32_of(words, "at")),
+        "expect" => Asked::Expect(run_of(words), behind_run(words, "EXPECT")),
+        "diff" => Asked::Diff(runs_of(words)),
+        "stats" => Asked::Stats(run_of(words)),
+        "timeline" => Asked::Timeline(run_of(words), behind_run(words, "OUT"), drawing_of(words)),
+        _ => Asked::Waves(run_of(words), behind_run(words, "OUT")),
     }
 }
 

@@ -1,5 +1,6 @@
 //! A run of a system that is built from its texts in memory.
 ghost use Rattle.std.specs.Prelude.{◌≡◌, ◌≤◌, ◌^◌, [], IfOk, length};
+ghost use Rattle.fmp_coming.specs.Comings.{reaction_of};
 ghost use Rattle.fmp_image.specs.Building.{Builds};
 ghost use Rattle.fmp_instructions.specs.Machine.{code_meaning};
 ghost use Rattle.fmp_replay.specs.Replays.{kernel_after};
@@ -8,18 +9,16 @@ ghost use Rattle.fmp_view.specs.Traces.{IsTrace};
 use crate::commands::Ending;
 use crate::driving::driven;
 use crate::faults::Form;
+use crate::open_image::OpenImage;
 use crate::opening::events_of;
 use crate::ranges::{kept_bound, kept_events};
-use crate::tracing::trace_on;
+use crate::tracing::trace_of;
 use crate::why::why_of;
 use fmp_base::Event;
-use fmp_code::Vm;
 use fmp_engine::SimFault;
 use fmp_image::build;
 use fmp_image_bytes::Image;
-use fmp_kernel::Kernel;
 use fmp_lex::BuildFault;
-use fmp_replay::kernel_of;
 use std::alloc::{AllocError, Global};
 
 /// How a system is run.
@@ -72,27 +71,8 @@ fn built(alloc: Global, cfg: &[u8], src: &[u8]) -> Result<Image, NoTrace>
     }
 }
 
-/// The trace of a run of the kernel of an image over events.
-#[tactic(none)]
-fn trace_from<'a>(
-    alloc: Global,
-    form: Form,
-    image: &'a Image,
-    kernel: &mut Kernel<Vm<'a>>,
-    events: &[Event],
-    n: u64,
-) -> Result<Vec<u8>, AllocError>
-    requires kernel { kernel.old ≡ kernel_after image.now n [] }
-    requires few { length events.now ≤ 2 ^ 20 }
-    ensures { IfOk result (λ out. IsTrace form image.now.system code_meaning (kernel_after image.now n [])
-        events.now out.items) }
-{
-    trace_on(alloc, form, image.system(), kernel, &image.vm(), n, events)
-}
-
 /// The trace of a run of an image over events. `AllocError` if memory runs out.
-#[tactic(none)]
-fn trace_of(
+fn image_trace(
     alloc: Global,
     form: Form,
     image: &Image,
@@ -102,13 +82,10 @@ fn trace_of(
     requires low { 1 ≤ n }
     requires high { n ≤ 2 ^ 48 }
     requires few { length events.now ≤ 2 ^ 20 }
-    ensures { IfOk result (λ out. IsTrace form image.now.system code_meaning (kernel_after image.now n [])
-        events.now out.items) }
+    ensures { IfOk result (λ out. IsTrace form image.now.system code_meaning (reaction_of code_meaning)
+        (kernel_after image.now n []) events.now out.items) }
 {
-    let mut kernel = kernel_of(alloc, image, n)?;
-    let trace = trace_from(alloc, form, image, &mut kernel, events, n);
-    drop(kernel);
-    trace
+    trace_of(alloc, form, &OpenImage::new(image, n), events)
 }
 
 /// The events that a drive of an image takes, and how it ended.
@@ -176,14 +153,15 @@ fn traced_over(
 ) -> Result<Traced, AllocError>
     requires { length stepped.now.events.items ≤ 2 ^ 20 }
 {
-    let text = trace_of(
+    let text = image_trace(
         alloc,
         run.form,
         image,
         &stepped.events,
         kept_bound(run.bound),
     )?;
-    let why = why_of(alloc, image, &stepped.events, run.bound)?;
+    let opened = OpenImage::new(image, run.bound);
+    let why = why_of(alloc, &opened, &stepped.events)?;
     Ok(Traced {
         text,
         ending: stepped.ending,

@@ -5,10 +5,15 @@ ghost use Rattle.fmp_frames.specs.Shown.{WasShown};
 ghost use Rattle.fmp_frames.specs.Values.{values_of};
 
 use crate::driving::driven;
-use crate::opening::{events_of, fresh_kernel, image_of};
+use crate::exit::{Exit, memory};
+use crate::looking::Look;
+use crate::open_image::OpenImage;
+use crate::opened::Opened;
+use crate::opening::image_of;
 use crate::ranges::{kept_bound, kept_events};
 use crate::why::why_of;
-use fmp_base::{Event, System};
+use fmp_base::System;
+use fmp_coming::Coming;
 use fmp_diagnosis::{explain, topic_asked};
 use fmp_drive::{NextRun, Stop};
 use fmp_engine::SimFault;
@@ -65,7 +70,7 @@ fn driven_text(
     let drive = driven(alloc, image, kept_events(events), seed, kept_bound(bound))?;
     let mut steps = Vec::new(alloc);
     print_steps(&drive.driven.steps, &mut steps)?;
-    let why = why_of(alloc, image, &drive.driven.steps, bound)?;
+    let why = why_of(alloc, &OpenImage::new(image, bound), &drive.driven.steps)?;
     let next = drive.next;
     let ending = Ending {
         stop: drive.driven.stop,
@@ -90,20 +95,20 @@ pub fn steps(
     made(driven)
 }
 
-/// What is counted of a run of a kernel over events.
+/// What is counted of a run of a kernel over what comes to it.
 #[tactic(none)]
-fn tallied<B: Body>(
+fn tallied<B: Body, T: Coming<B>>(
     alloc: Global,
     kernel: &mut Kernel<B>,
     body: &B,
     n: u64,
-    events: &[Event],
+    events: &[T],
 ) -> Result<Tallies, AllocError>
-    requires few { kernel.old.taken + length events.now ≤ 2 ^ 20 }
+    requires few { kernel.old.taken + length events.now ≤ 2 ^ 31 }
     requires body { body.now ≡ kernel.old.body }
     requires bound { n ≡ kernel.old.bound }
     ensures { IfOk result (λ tallies. WasShown (λ x f. counts_of x ≡ first_counts f)
-        ⟦<Tallies as Viewer>⟧.shown B.meaning kernel.old events.now tallies) }
+        ⟦<Tallies as Viewer>⟧.shown B.meaning T.reaction kernel.old events.now tallies) }
 {
     let setup = last_frame(alloc, kernel, body, n)?;
     let mut tallies = Tallies::new(alloc, &setup)?;
@@ -112,17 +117,17 @@ fn tallied<B: Body>(
     Ok(tallies)
 }
 
-/// The table of a run of a kernel of this system over events.
+/// The table of a run of a kernel of this system over what comes to it.
 #[tactic(none)]
-fn table_on<B: Body>(
+fn table_on<B: Body, T: Coming<B>>(
     alloc: Global,
     sys: &System,
     kernel: &mut Kernel<B>,
     body: &B,
     n: u64,
-    events: &[Event],
+    events: &[T],
 ) -> Result<Vec<u8>, AllocError>
-    requires few { kernel.old.taken + length events.now ≤ 2 ^ 20 }
+    requires few { kernel.old.taken + length events.now ≤ 2 ^ 31 }
     requires body { body.now ≡ kernel.old.body }
     requires bound { n ≡ kernel.old.bound }
 {
@@ -132,21 +137,21 @@ fn table_on<B: Body>(
     Ok(out)
 }
 
-/// The waves of a run of a kernel of this system over events.
+/// The waves of a run of a kernel of this system over what comes to it.
 #[tactic(none)]
-fn waved<B: Body>(
+fn waved<B: Body, T: Coming<B>>(
     alloc: Global,
     sys: &System,
     kernel: &mut Kernel<B>,
     body: &B,
     n: u64,
-    events: &[Event],
+    events: &[T],
 ) -> Result<Waves, AllocError>
-    requires few { kernel.old.taken + length events.now ≤ 2 ^ 20 }
+    requires few { kernel.old.taken + length events.now ≤ 2 ^ 31 }
     requires body { body.now ≡ kernel.old.body }
     requires bound { n ≡ kernel.old.bound }
     ensures { IfOk result (λ waves. WasShown (λ x f. x.values.items ≡ values_of f x.variables.items)
-        ⟦<Waves as Viewer>⟧.shown B.meaning kernel.old events.now waves) }
+        ⟦<Waves as Viewer>⟧.shown B.meaning T.reaction kernel.old events.now waves) }
 {
     let setup = last_frame(alloc, kernel, body, n)?;
     let mut waves = Waves::new(alloc, sys, &setup)?;
@@ -155,17 +160,17 @@ fn waved<B: Body>(
     Ok(waves)
 }
 
-/// The waveform of a run of a kernel of this system over events.
+/// The waveform of a run of a kernel of this system over what comes to it.
 #[tactic(none)]
-fn dump_on<B: Body>(
+fn dump_on<B: Body, T: Coming<B>>(
     alloc: Global,
     sys: &System,
     kernel: &mut Kernel<B>,
     body: &B,
     n: u64,
-    events: &[Event],
+    events: &[T],
 ) -> Result<Vec<u8>, AllocError>
-    requires few { kernel.old.taken + length events.now ≤ 2 ^ 20 }
+    requires few { kernel.old.taken + length events.now ≤ 2 ^ 31 }
     requires body { body.now ≡ kernel.old.body }
     requires bound { n ≡ kernel.old.bound }
 {
@@ -181,18 +186,18 @@ pub enum Output {
     Dump,
 }
 
-/// What is made of a run of a kernel of this system over events.
+/// What is made of a run of a kernel of this system over what comes to it.
 #[tactic(none)]
-fn output_on<B: Body>(
+fn output_on<B: Body, T: Coming<B>>(
     alloc: Global,
     sys: &System,
     kernel: &mut Kernel<B>,
     body: &B,
     n: u64,
-    events: &[Event],
+    events: &[T],
     output: Output,
 ) -> Result<Vec<u8>, AllocError>
-    requires few { kernel.old.taken + length events.now ≤ 2 ^ 20 }
+    requires few { kernel.old.taken + length events.now ≤ 2 ^ 31 }
     requires body { body.now ≡ kernel.old.body }
     requires bound { n ≡ kernel.old.bound }
 {
@@ -202,54 +207,41 @@ fn output_on<B: Body>(
     }
 }
 
-/// What is made of a run of an image over events.
+/// What is made of what comes to a system.
 #[tactic(none)]
-fn output_of(
+fn output_of<O: Opened, T: Coming<O::Bodies>>(
     alloc: Global,
-    image: &Image,
-    events: &[Event],
-    bound: u64,
+    opened: &O,
+    events: &[T],
     output: Output,
 ) -> Result<Vec<u8>, AllocError>
-    requires { length events.now ≤ 2 ^ 20 }
+    requires { length events.now ≤ 2 ^ 31 }
 {
-    let n = kept_bound(bound);
-    let mut kernel = fresh_kernel(alloc, image, n)?;
+    let mut kernel = opened.kernel(alloc)?;
+    let bodies = opened.bodies();
     let made = output_on(
         alloc,
-        image.system(),
+        opened.system(),
         &mut kernel,
-        &image.vm(),
-        n,
+        &bodies,
+        opened.bound(),
         events,
         output,
     );
+    drop(bodies);
     drop(kernel);
     made
 }
 
-/// What is made of a run of an image over a steps text.
-fn output_over(
-    alloc: Global,
-    image: &Image,
-    steps: &[u8],
-    bound: u64,
-    output: Output,
-) -> Result<Vec<u8>, SimFault> {
-    let events = events_of(alloc, steps, image.system().processors)?;
-    made(output_of(alloc, image, &events, bound, output))
-}
+impl Look for Output {
+    type Made = Vec<u8>;
 
-/// What is made of a run of the image of these bytes over a steps text.
-pub fn run_output(
-    alloc: Global,
-    image: &[u8],
-    steps: &[u8],
-    bound: u64,
-    output: Output,
-) -> Result<Vec<u8>, SimFault> {
-    let image = image_of(alloc, image)?;
-    let made = output_over(alloc, &image, steps, bound, output);
-    drop(image);
-    made
+    fn of<O: Opened, T: Coming<O::Bodies>>(
+        &self,
+        alloc: Global,
+        opened: &O,
+        events: &[T],
+    ) -> Result<Vec<u8>, Exit> {
+        output_of(alloc, opened, events, *self).map_err(|error| memory(error))
+    }
 }

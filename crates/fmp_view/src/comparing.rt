@@ -1,63 +1,71 @@
-//! Two runs of an image side by side: the first event in which they differ.
+//! Two runs of a system side by side: the first event in which they differ.
 ghost use Rattle.std.specs.Prelude.{◌≤◌, ◌^◌, IfOk, length};
 
-use crate::commands::made;
-use crate::opening::{events_of, fresh_kernel, image_of};
-use crate::ranges::kept_bound;
-use fmp_base::Event;
+use crate::exit::{Exit, memory};
+use crate::looking::recording_of;
+use crate::open_image::OpenImage;
+use crate::open_system::OpenSystem;
+use crate::opened::Opened;
+use crate::opening::{events_of, image_of};
+use fmp_coming::Coming;
 use fmp_engine::SimFault;
 use fmp_image_bytes::Image;
 use fmp_watch::{Told, append_difference, count_up_to, first_difference, told_on};
 use std::alloc::{AllocError, Global};
 
-/// What is told of a run of an image over events.
+/// What is told of a run of a system.
 #[tactic(none)]
-fn told_of<'a>(
+fn told_of<'a, O: Opened, T: Coming<O::Bodies>>(
     alloc: Global,
-    image: &'a Image,
-    events: &[Event],
-    bound: u64,
+    opened: &'a O,
+    events: &[T],
 ) -> Result<Told<'a>, AllocError>
-    requires { length events.now ≤ 2 ^ 20 }
+    requires { length events.now ≤ 2 ^ 31 }
 {
-    let n = kept_bound(bound);
-    let mut kernel = fresh_kernel(alloc, image, n)?;
-    let told = told_on(alloc, image.system(), &mut kernel, &image.vm(), n, events);
+    let mut kernel = opened.kernel(alloc)?;
+    let bodies = opened.bodies();
+    let told = told_on(
+        alloc,
+        opened.system(),
+        &mut kernel,
+        &bodies,
+        opened.bound(),
+        events,
+    );
+    drop(bodies);
     drop(kernel);
     told
 }
 
-/// How many of these events lead up to the event of a number, or all of them if there are fewer.
+/// How much of what comes to a system leads up to the event of a number, or all of it if there are fewer.
 #[tactic(none)]
-fn count_to(
+fn count_to<O: Opened, T: Coming<O::Bodies>>(
     alloc: Global,
-    image: &Image,
-    events: &[Event],
-    bound: u64,
+    opened: &O,
+    events: &[T],
     number: usize,
 ) -> Result<usize, AllocError>
-    requires { length events.now ≤ 2 ^ 20 }
+    requires { length events.now ≤ 2 ^ 31 }
     ensures { IfOk result (λ count. count ≤ length events.now) }
 {
-    let mut kernel = fresh_kernel(alloc, image, kept_bound(bound))?;
+    let mut kernel = opened.kernel(alloc)?;
     let number = u32::try_from(number).unwrap_or(u32::MAX);
     let count = count_up_to(&mut kernel, events, number);
     drop(kernel);
     Ok(count)
 }
 
-/// What is told of a run of an image over events up to the event of a number.
-fn told_up_to<'a>(
+/// What is told of a run of a system up to the event of a number.
+fn told_up_to<'a, O: Opened, T: Coming<O::Bodies>>(
     alloc: Global,
-    image: &'a Image,
-    events: &[Event],
-    bound: u64,
+    opened: &'a O,
+    events: &[T],
     number: usize,
 ) -> Result<Told<'a>, AllocError>
-    requires { length events.now ≤ 2 ^ 20 }
+    requires { length events.now ≤ 2 ^ 31 }
 {
-    let count = count_to(alloc, image, events, bound, number)?;
-    told_of(alloc, image, &events[..count], bound)
+    let count = count_to(alloc, opened, events, number)?;
+    told_of(alloc, opened, &events[..count])
 }
 
 /// What is printed of runs that tell this and differ first in the event of a number, up to which they tell that.
@@ -72,58 +80,54 @@ fn text_of(
     Ok(out)
 }
 
-/// What is printed of the runs of an image over two lists of events, which tell this and differ first in the event of a
-/// number.
-fn text_at(
+/// What is printed of two runs of a system, which tell this and differ first in the event of a number.
+fn text_at<O: Opened, T: Coming<O::Bodies>>(
     alloc: Global,
-    image: &Image,
-    a: &[Event],
-    b: &[Event],
-    bound: u64,
+    opened: &O,
+    a: &[T],
+    b: &[T],
     runs: (&Told<'_>, &Told<'_>),
     number: usize,
 ) -> Result<Vec<u8>, AllocError>
-    requires a { length a.now ≤ 2 ^ 20 }
-    requires b { length b.now ≤ 2 ^ 20 }
+    requires a { length a.now ≤ 2 ^ 31 }
+    requires b { length b.now ≤ 2 ^ 31 }
 {
-    let one_then = told_up_to(alloc, image, a, bound, number)?;
-    let other_then = told_up_to(alloc, image, b, bound, number)?;
+    let one_then = told_up_to(alloc, opened, a, number)?;
+    let other_then = told_up_to(alloc, opened, b, number)?;
     text_of(alloc, runs, number, (&one_then, &other_then))
 }
 
-/// What is printed of the runs of an image over two lists of events, which tell this; none if they tell the same.
-fn difference_between(
+/// What is printed of two runs of a system, which tell this; none if they tell the same.
+fn difference_between<O: Opened, T: Coming<O::Bodies>>(
     alloc: Global,
-    image: &Image,
-    a: &[Event],
-    b: &[Event],
-    bound: u64,
+    opened: &O,
+    a: &[T],
+    b: &[T],
     runs: (&Told<'_>, &Told<'_>),
 ) -> Result<Option<Vec<u8>>, AllocError>
-    requires a { length a.now ≤ 2 ^ 20 }
-    requires b { length b.now ≤ 2 ^ 20 }
+    requires a { length a.now ≤ 2 ^ 31 }
+    requires b { length b.now ≤ 2 ^ 31 }
 {
     match first_difference(runs.0, runs.1) {
-        Some(number) => Ok(Some(text_at(alloc, image, a, b, bound, runs, number)?)),
+        Some(number) => Ok(Some(text_at(alloc, opened, a, b, runs, number)?)),
         None => Ok(None),
     }
 }
 
-/// The first event in which the runs of an image over two lists of events differ, with the events in front of it and
-/// the states that differ then; none if they tell the same. `AllocError` if memory runs out.
-fn difference(
+/// The first event in which two runs of a system differ, with the events in front of it and the states that differ
+/// then; none if they tell the same. `AllocError` if memory runs out.
+fn difference<O: Opened, T: Coming<O::Bodies>>(
     alloc: Global,
-    image: &Image,
-    a: &[Event],
-    b: &[Event],
-    bound: u64,
+    opened: &O,
+    a: &[T],
+    b: &[T],
 ) -> Result<Option<Vec<u8>>, AllocError>
-    requires a { length a.now ≤ 2 ^ 20 }
-    requires b { length b.now ≤ 2 ^ 20 }
+    requires a { length a.now ≤ 2 ^ 31 }
+    requires b { length b.now ≤ 2 ^ 31 }
 {
-    let one = told_of(alloc, image, a, bound)?;
-    let other = told_of(alloc, image, b, bound)?;
-    difference_between(alloc, image, a, b, bound, (&one, &other))
+    let one = told_of(alloc, opened, a)?;
+    let other = told_of(alloc, opened, b)?;
+    difference_between(alloc, opened, a, b, (&one, &other))
 }
 
 /// The difference of the runs of an image over two steps texts.
@@ -137,7 +141,8 @@ fn difference_over(
     let processors = image.system().processors;
     let a = events_of(alloc, a, processors)?;
     let b = events_of(alloc, b, processors)?;
-    made(difference(alloc, image, &a, &b, bound))
+    let opened = OpenImage::new(image, bound);
+    difference(alloc, &opened, &a, &b).map_err(|_| SimFault::Memory)
 }
 
 /// The difference of the runs of the image of these bytes over two steps texts; none if they tell the same.
@@ -147,9 +152,43 @@ pub fn diff(
     a: &[u8],
     b: &[u8],
     bound: u64,
-) -> Result<Option<Vec<u8>>, SimFault> {
-    let image = image_of(alloc, image)?;
-    let difference = difference_over(alloc, &image, a, b, bound);
-    drop(image);
-    difference
+) -> Result<Option<Vec<u8>>, Exit> {
+    match image_of(alloc, image) {
+        Ok(image) => {
+            let difference = difference_over(alloc, &image, a, b, bound);
+            drop(image);
+            difference.map_err(|fault| Exit::Sim(fault))
+        }
+        Err(fault) => Err(Exit::Sim(fault)),
+    }
+}
+
+/// The difference of two recorded runs of a system.
+fn difference_recorded(
+    alloc: Global,
+    opened: &OpenSystem,
+    a: &[u8],
+    b: &[u8],
+) -> Result<Option<Vec<u8>>, Exit> {
+    let processors = opened.system().processors;
+    let a = recording_of(alloc, a, processors)?;
+    let b = recording_of(alloc, b, processors)?;
+    difference(alloc, opened, &a, &b).map_err(|error| memory(error))
+}
+
+/// The difference of two recorded runs of the system of a configuration; none if they tell the same.
+pub fn diff_recordings(
+    alloc: Global,
+    cfg: &[u8],
+    a: &[u8],
+    b: &[u8],
+) -> Result<Option<Vec<u8>>, Exit> {
+    match OpenSystem::new(alloc, cfg) {
+        Ok(opened) => {
+            let difference = difference_recorded(alloc, &opened, a, b);
+            drop(opened);
+            difference
+        }
+        Err(fault) => Err(Exit::Configuration(fault)),
+    }
 }

@@ -4,6 +4,9 @@ ghost use Rattle.fmp_view.specs.Exits.{status_of};
 use crate::timeline::TimelineFault;
 use fmp_engine::SimFault;
 use fmp_files::{Failure, Reason};
+use fmp_lex::BuildFault;
+use fmp_recording::RecordingFault;
+use std::alloc::AllocError;
 use std::fmt;
 
 /// Why the program ends with nothing printed: its message is one line.
@@ -11,6 +14,10 @@ use std::fmt;
 pub enum Exit {
     /// The image is not run.
     Sim(SimFault),
+    /// The configuration of a recorded run has this fault.
+    Configuration(BuildFault),
+    /// The recording is not read.
+    Recording(RecordingFault),
     /// There is no such picture of the run.
     Picture(TimelineFault),
     /// The expectations are not read, and this is said of their first fault.
@@ -29,6 +36,8 @@ impl fmt::Display for Exit {
     fn fmt<W: fmt::Write>(&self, f: &mut fmt::Formatter<W>) -> fmt::Result {
         match self {
             Exit::Sim(fault) => write!(f, "{fault}"),
+            Exit::Configuration(fault) => write!(f, "{fault}"),
+            Exit::Recording(fault) => write!(f, "{fault}"),
             Exit::Picture(fault) => write!(f, "{fault}"),
             Exit::Expect(text) => write!(f, "{text}"),
             Exit::Failed(failure) => write!(f, "{failure}"),
@@ -43,9 +52,25 @@ impl Reason for Exit {
     /// failure or if memory ran out.
     fn status(&self) -> u8 {
         match self {
-            Exit::Sim(SimFault::Memory) | Exit::Failed(_) => 3,
-            Exit::Sim(_) | Exit::Expect(_) => 1,
+            Exit::Sim(SimFault::Memory)
+            | Exit::Configuration(BuildFault::Memory)
+            | Exit::Recording(RecordingFault::Memory)
+            | Exit::Failed(_) => 3,
+            Exit::Sim(_) | Exit::Configuration(_) | Exit::Recording(_) | Exit::Expect(_) => 1,
             Exit::Picture(_) => 2,
         }
+    }
+}
+
+/// Out of memory, as a reason.
+pub fn memory(error: AllocError) -> Exit {
+    Exit::Failed(Failure::Memory(error))
+}
+
+/// Why nothing of a run is printed or drawn.
+pub fn exit_of(fault: TimelineFault) -> Exit {
+    match fault {
+        TimelineFault::Sim(fault) => Exit::Sim(fault),
+        fault => Exit::Picture(fault),
     }
 }

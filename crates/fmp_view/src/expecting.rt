@@ -1,25 +1,19 @@
-//! Whether a run of an image over a steps text meets a text of expectations.
+//! Whether a run meets a text of expectations.
 ghost use Rattle.std.specs.Prelude.{◌≡◌, ◌+◌, ◌≤◌, ◌^◌, IfOk, length};
 ghost use Rattle.fmp_base.specs.Runs.{task_state};
 ghost use Rattle.fmp_frames.specs.Frames.{each};
 ghost use Rattle.fmp_view.specs.Expects as spec;
 
-use crate::exit::Exit;
+use crate::exit::{Exit, memory};
 use crate::flaws::flaw_text;
-use crate::opening::{events_of, fresh_kernel, image_of};
-use crate::ranges::kept_bound;
-use fmp_base::{Event, Line, System, TaskState};
-use fmp_engine::SimFault;
+use crate::looking::Look;
+use crate::opened::Opened;
+use fmp_base::{Line, System, TaskState};
+use fmp_coming::Coming;
 use fmp_expect::{Broken, Checker, ExpectFault, Expected, Flaw, read_expectations, tell_run};
-use fmp_image_bytes::Image;
 use fmp_kernel::{Body, Kernel};
 use fmp_named::append_lines;
 use std::alloc::{AllocError, Global};
-
-/// Out of memory, as a fault.
-fn memory(_error: AllocError) -> Exit {
-    Exit::Sim(SimFault::Memory)
-}
 
 /// The states of the tasks.
 fn states_of<B: Body>(alloc: Global, kernel: &Kernel<B>) -> Result<Vec<TaskState>, AllocError>
@@ -33,15 +27,15 @@ fn states_of<B: Body>(alloc: Global, kernel: &Kernel<B>) -> Result<Vec<TaskState
     Ok(states)
 }
 
-/// The first of the expectations that a run of a kernel over events fails.
-fn verdict_on<B: Body>(
+/// The first of the expectations that a run of a kernel fails.
+fn verdict_on<B: Body, T: Coming<B>>(
     alloc: Global,
     kernel: &mut Kernel<B>,
-    events: &[Event],
+    events: &[T],
     expected: &[Expected],
 ) -> Result<Option<Broken>, AllocError>
-    requires { kernel.old.taken + length events.now ≤ 2 ^ 20 }
-    ensures { IfOk result (λ broken. broken ≡ spec.verdict B.meaning kernel.old events.now expected.now) }
+    requires { kernel.old.taken + length events.now ≤ 2 ^ 31 }
+    ensures { IfOk result (λ broken. broken ≡ spec.verdict T.reaction kernel.old events.now expected.now) }
 {
     let mut checker = Checker::new(alloc, expected)?;
     tell_run(kernel, events, &mut checker);
@@ -49,32 +43,31 @@ fn verdict_on<B: Body>(
     Ok(checker.verdict(&states, kernel.done()))
 }
 
-/// The first of the expectations that a run of an image over events fails.
+/// The first of the expectations that a run of a system fails.
 #[tactic(none)]
-fn verdict_of(
+fn verdict_of<O: Opened, T: Coming<O::Bodies>>(
     alloc: Global,
-    image: &Image,
-    events: &[Event],
-    bound: u64,
+    opened: &O,
+    events: &[T],
     expected: &[Expected],
 ) -> Result<Option<Broken>, AllocError>
-    requires { length events.now ≤ 2 ^ 20 }
+    requires { length events.now ≤ 2 ^ 31 }
 {
-    let mut kernel = fresh_kernel(alloc, image, kept_bound(bound))?;
+    let mut kernel = opened.kernel(alloc)?;
     let verdict = verdict_on(alloc, &mut kernel, events, expected);
     drop(kernel);
     verdict
 }
 
-/// Runs events on a kernel up to the event of this number.
-fn run_up_to<B: Body>(kernel: &mut Kernel<B>, events: &[Event], number: u32)
-    requires { kernel.old.taken + length events.now ≤ 2 ^ 20 }
+/// Takes what comes to a kernel up to the event of this number.
+fn run_up_to<B: Body, T: Coming<B>>(kernel: &mut Kernel<B>, events: &[T], number: u32)
+    requires { kernel.old.taken + length events.now ≤ 2 ^ 31 }
 {
     for e in events {
         if kernel.done() >= number {
             return;
         }
-        kernel.step(*e);
+        e.take(kernel);
     }
 }
 
@@ -92,18 +85,17 @@ fn lines_text(
 
 /// The lines of the event of this number, with the names of objects.
 #[tactic(none)]
-fn event_text(
+fn event_text<O: Opened, T: Coming<O::Bodies>>(
     alloc: Global,
-    image: &Image,
-    events: &[Event],
-    bound: u64,
+    opened: &O,
+    events: &[T],
     number: u32,
 ) -> Result<Vec<u8>, AllocError>
-    requires { length events.now ≤ 2 ^ 20 }
+    requires { length events.now ≤ 2 ^ 31 }
 {
-    let mut kernel = fresh_kernel(alloc, image, kept_bound(bound))?;
+    let mut kernel = opened.kernel(alloc)?;
     run_up_to(&mut kernel, events, number);
-    let text = lines_text(alloc, image.system(), kernel.lines(), number);
+    let text = lines_text(alloc, opened.system(), kernel.lines(), number);
     drop(kernel);
     text
 }
@@ -133,37 +125,35 @@ fn broken_text(
     Ok(out)
 }
 
-/// What is printed of a run of an image over events that does not meet a text.
-fn report_of(
+/// What is printed of a run of a system that does not meet a text.
+fn report_of<O: Opened, T: Coming<O::Bodies>>(
     alloc: Global,
-    image: &Image,
-    events: &[Event],
-    bound: u64,
+    opened: &O,
+    events: &[T],
     name: &str,
     text: &[u8],
     broken: Broken,
 ) -> Result<Vec<u8>, AllocError>
-    requires { length events.now ≤ 2 ^ 20 }
+    requires { length events.now ≤ 2 ^ 31 }
 {
-    let event = event_text(alloc, image, events, bound, broken.event)?;
+    let event = event_text(alloc, opened, events, broken.event)?;
     broken_text(alloc, name, text, broken, &event)
 }
 
-/// What is printed of a run of an image over events, if it does not meet these expectations.
-fn checked(
+/// What is printed of a run of a system, if it does not meet these expectations.
+fn checked<O: Opened, T: Coming<O::Bodies>>(
     alloc: Global,
-    image: &Image,
-    events: &[Event],
-    bound: u64,
+    opened: &O,
+    events: &[T],
     name: &str,
     text: &[u8],
     expected: &[Expected],
 ) -> Result<Option<Vec<u8>>, AllocError>
-    requires { length events.now ≤ 2 ^ 20 }
+    requires { length events.now ≤ 2 ^ 31 }
 {
-    match verdict_of(alloc, image, events, bound, expected)? {
+    match verdict_of(alloc, opened, events, expected)? {
         Some(broken) => {
-            let text = report_of(alloc, image, events, bound, name, text, broken)?;
+            let text = report_of(alloc, opened, events, name, text, broken)?;
             Ok(Some(text))
         }
         None => Ok(None),
@@ -171,56 +161,40 @@ fn checked(
 }
 
 /// What is said of a flaw of the line of this number of a text.
-fn flawed(alloc: Global, image: &Image, text: &[u8], number: usize, flaw: Flaw) -> Exit {
-    match flaw_text(alloc, image.system(), number, line_of(text, number), flaw) {
+fn flawed(alloc: Global, sys: &System, text: &[u8], number: usize, flaw: Flaw) -> Exit {
+    match flaw_text(alloc, sys, number, line_of(text, number), flaw) {
         Ok(text) => Exit::Expect(text),
         Err(error) => memory(error),
     }
 }
 
-/// The expectations of a text for an image.
-fn expected_of(alloc: Global, image: &Image, text: &[u8]) -> Result<Vec<Expected>, Exit> {
-    match read_expectations(alloc, image.system(), text) {
+/// The expectations of a text for a system.
+fn expected_of(alloc: Global, sys: &System, text: &[u8]) -> Result<Vec<Expected>, Exit> {
+    match read_expectations(alloc, sys, text) {
         Ok(expected) => Ok(expected),
-        Err(ExpectFault::Memory) => Err(Exit::Sim(SimFault::Memory)),
-        Err(ExpectFault::Line { line, flaw }) => Err(flawed(alloc, image, text, line, flaw)),
+        Err(ExpectFault::Memory) => Err(memory(AllocError)),
+        Err(ExpectFault::Line { line, flaw }) => Err(flawed(alloc, sys, text, line, flaw)),
     }
 }
 
-/// What is printed of a run of an image over a steps text, if it does not meet the text of expectations of this name.
-fn checked_over(
-    alloc: Global,
-    image: &Image,
-    steps: &[u8],
-    bound: u64,
-    name: &str,
-    text: &[u8],
-) -> Result<Option<Vec<u8>>, Exit> {
-    let expected = expected_of(alloc, image, text)?;
-    match events_of(alloc, steps, image.system().processors) {
-        Ok(events) => {
-            checked(alloc, image, &events, bound, name, text, &expected).map_err(|e| memory(e))
-        }
-        Err(fault) => Err(Exit::Sim(fault)),
-    }
+/// A text of expectations, and the name of its file.
+#[derive(Clone, Copy)]
+pub struct Expectations<'a> {
+    pub name: &'a str,
+    pub text: &'a [u8],
 }
 
-/// What is printed of a run of the image of these bytes over a steps text, if it does not meet a text of expectations,
-/// which is in the file of this name: its first line that fails, and the event in which it does.
-pub fn expect(
-    alloc: Global,
-    image: &[u8],
-    steps: &[u8],
-    bound: u64,
-    name: &str,
-    text: &[u8],
-) -> Result<Option<Vec<u8>>, Exit> {
-    match image_of(alloc, image) {
-        Ok(image) => {
-            let failure = checked_over(alloc, &image, steps, bound, name, text);
-            drop(image);
-            failure
-        }
-        Err(fault) => Err(Exit::Sim(fault)),
+impl Look for Expectations<'_> {
+    /// What is printed of a run that does not meet the text: the first line that fails, and the event in which it does.
+    type Made = Option<Vec<u8>>;
+
+    fn of<O: Opened, T: Coming<O::Bodies>>(
+        &self,
+        alloc: Global,
+        opened: &O,
+        events: &[T],
+    ) -> Result<Option<Vec<u8>>, Exit> {
+        let expected = expected_of(alloc, opened.system(), self.text)?;
+        checked(alloc, opened, events, self.name, self.text, &expected).map_err(|e| memory(e))
     }
 }

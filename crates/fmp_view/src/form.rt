@@ -38,6 +38,17 @@ Status, and the line on standard error with it:
 /// What a steps text is.
 const STEPS: &str = "Text of the events, one a line, as 'fmp sim' reads it";
 
+/// What a system is.
+const SYSTEM: &str = "Image that 'fmp build' has written; of a recording its configuration";
+
+/// What a steps text is where a word follows it.
+const STEPS_BEFORE_MORE: &str =
+    "Text of the events, one a line, as 'fmp sim' reads it; of a recording it is left out";
+
+/// What a recording is.
+const RECORDING: &str = "Recording of a run whose bodies are not those of an image, as C functions:
+what came, one a line, with the calls that the bodies made";
+
 /// What a number of events is.
 const EVENTS: &str = "How many events are done at most, 0 to 2^20";
 
@@ -139,6 +150,8 @@ enum Kind {
     Word,
     /// A word that may be left out.
     MayBeWord,
+    /// A word that has to be there, unless a recording is given: then it must not be there.
+    WordNoRecording,
     /// A word that has to be there, and may be a negative number.
     WordOrNegative,
     /// An option without a value.
@@ -167,7 +180,13 @@ const SRC: Argument = Argument("SRC", Kind::Word, "Bodies of its tasks and handl
 
 const IMAGE: Argument = Argument("IMAGE", Kind::Word, "Image that 'fmp build' has written");
 
-const OF_RUN: Argument = Argument("STEPS", Kind::Word, STEPS);
+const OF_SYSTEM: Argument = Argument("IMAGE", Kind::Word, SYSTEM);
+
+const OF_RUN: Argument = Argument("STEPS", Kind::WordNoRecording, STEPS);
+
+const BEFORE_MORE: Argument = Argument("STEPS", Kind::Word, STEPS_BEFORE_MORE);
+
+const RECORDED: Argument = Argument("recording", Kind::Option("FILE", Value::Text), RECORDING);
 
 const AT_MOST: Argument = Argument(
     "events",
@@ -212,12 +231,17 @@ static RUN: Form = Form {
     about: "Prints the trace of two texts with the names of objects, and what each task waits for",
     arguments: &[
         CFG,
-        SRC,
+        Argument(
+            "SRC",
+            Kind::WordNoRecording,
+            "Bodies of its tasks and handlers",
+        ),
         Argument(
             "STEPS",
             Kind::MayBeWord,
             "Text of the events, as 'fmp sim' reads it; without it the system is driven",
         ),
+        RECORDED,
         JSON,
         AT_MOST,
         AT_RANDOM,
@@ -244,8 +268,9 @@ static WHY: Form = Form {
     name: "why",
     about: "Says what each task waits or spins for, who took it, and whether it is a deadlock",
     arguments: &[
-        IMAGE,
+        OF_SYSTEM,
         OF_RUN,
+        RECORDED,
         BOUNDED,
         Argument(
             "at",
@@ -290,11 +315,16 @@ static EXPLORE: Form = Form {
 
 static DIFF: Form = Form {
     name: "diff",
-    about: "Shows the first event in which two runs of an image differ, and the states then",
+    about: "Shows the first event in which two runs of a system differ, and the states then",
     arguments: &[
-        IMAGE,
+        OF_SYSTEM,
         Argument("A", Kind::Word, STEPS),
         Argument("B", Kind::Word, "Text of the events of the other run"),
+        Argument(
+            "recordings",
+            Kind::Flag,
+            "A and B are recordings, and IMAGE is their configuration",
+        ),
         BOUNDED,
     ],
     example: "Example: fmp_view diff queue.img drive.steps other.steps",
@@ -304,10 +334,11 @@ static EXPECTED: Form = Form {
     name: "expect",
     about: "Says which line of a text of expectations a run fails first, and in which event",
     arguments: &[
-        IMAGE,
-        OF_RUN,
+        OF_SYSTEM,
+        BEFORE_MORE,
+        RECORDED,
         BOUNDED,
-        Argument("EXPECT", Kind::Word, EXPECT),
+        Argument("EXPECT", Kind::WordNoRecording, EXPECT),
     ],
     example: "Example: fmp_view expect queue.img drive.steps queue.expect",
 };
@@ -315,7 +346,7 @@ static EXPECTED: Form = Form {
 static STATS: Form = Form {
     name: "stats",
     about: "Prints a table of what each task of a run did, with its share of the events",
-    arguments: &[IMAGE, OF_RUN, BOUNDED],
+    arguments: &[OF_SYSTEM, OF_RUN, RECORDED, BOUNDED],
     example: "Example: fmp_view stats queue.img drive.steps",
 };
 
@@ -323,10 +354,15 @@ static WAVES: Form = Form {
     name: "waves",
     about: "Writes a run as a value change dump, which waveform viewers show",
     arguments: &[
-        IMAGE,
-        OF_RUN,
+        OF_SYSTEM,
+        BEFORE_MORE,
+        RECORDED,
         BOUNDED,
-        Argument("OUT", Kind::Word, "File that the dump is written to"),
+        Argument(
+            "OUT",
+            Kind::WordNoRecording,
+            "File that the dump is written to",
+        ),
     ],
     example: "Example: fmp_view waves queue.img drive.steps queue.vcd",
 };
@@ -335,12 +371,13 @@ static TIMELINE: Form = Form {
     name: "timeline",
     about: "Writes a run as a picture for browsers: states, calls, and who did what to whom",
     arguments: &[
-        IMAGE,
-        OF_RUN,
+        OF_SYSTEM,
+        BEFORE_MORE,
+        RECORDED,
         BOUNDED,
         Argument(
             "OUT",
-            Kind::Word,
+            Kind::WordNoRecording,
             "File that the picture, an SVG, is written to",
         ),
         Argument(
@@ -375,17 +412,20 @@ fn with_value<'a>(option: Arg<'a>, value: Value) -> Arg<'a> {
 }
 
 /// An argument as the command line has it.
-fn argument_of<'a>(alloc: Global, argument: &Argument) -> Arg<'a> {
+fn argument_of<'a>(alloc: Global, argument: &Argument) -> Result<Arg<'a>, AllocError> {
     let Argument(id, kind, help) = *argument;
     let made = Arg::new(alloc, id).help(help);
-    match kind {
+    Ok(match kind {
         Kind::Word => made.required(true),
         Kind::MayBeWord => made,
         Kind::WordOrNegative => made.required(true).allow_negative_numbers(true),
         Kind::Flag => made.long(id).action(ArgAction::SetTrue),
         Kind::Option(name, value) => with_value(made.long(id).value_name(name), value),
         Kind::Again(name) => made.long(id).value_name(name).action(ArgAction::Append),
-    }
+        Kind::WordNoRecording => made
+            .required_unless_present("recording")?
+            .conflicts_with("recording")?,
+    })
 }
 
 /// A command, where there was memory for it.
@@ -397,7 +437,7 @@ fn command_of<'a>(alloc: Global, form: &Form) -> Made<'a> {
         .about(form.about)
         .after_help(form.example);
     for argument in form.arguments {
-        command = command.arg(argument_of(alloc, argument))?;
+        command = command.arg(argument_of(alloc, argument)?)?;
     }
     Ok(command)
 }

@@ -5,19 +5,21 @@ ghost use Rattle.fmp_view.specs.Claimed.{HoldsOfWords};
 ghost use Rattle.fmp_view.specs.Explored.{AsksToExplore};
 
 use crate::asking::{
-    Cmd, Drawing, Look, Run, command, dump_over_input, no_code, parsed, picture_of_nothing,
+    Asked, Cmd, Drawing, Run, Runs, command, dump_over_input, no_code, parsed, picture_of_nothing,
     picture_over_input,
 };
-use crate::commands::{DrivenText, Output, code, run_output, steps};
-use crate::comparing::diff;
+use crate::commands::{DrivenText, Output, code, steps};
+use crate::comparing::{diff, diff_recordings};
 use crate::exit::Exit;
-use crate::expecting::expect;
+use crate::expecting::Expectations;
+use crate::faults::Form;
+use crate::looking::{Look, look_at_image, look_at_recording};
 use crate::reading::read_both;
 use crate::searching::run_explore;
 use crate::telling::{print_made, print_run};
 use crate::texts::{print_fault, run_step, run_texts};
-use crate::timeline::{Cut, Picture, TimelineFault, timeline};
-use crate::why::why;
+use crate::timeline::{Cut, Picture, Titled};
+use crate::why::Why;
 use clap::ArgMatches;
 use fmp_engine::SimFault;
 use fmp_files::{Failure, Outside, end, print, read_file, refuse, refuse_mistake, write_file};
@@ -60,15 +62,19 @@ fn run_drive<O: Outside>(
     }
 }
 
-/// What is made of a run.
-fn made_of_run<O: Outside>(
+/// What a look makes of a run.
+fn made_of_run<O: Outside, L: Look>(
     alloc: Global,
     outside: &O,
     run: Run<'_>,
-    output: Output,
-) -> Result<Vec<u8>, Exit> {
-    let (image, steps) = read_both(alloc, outside, run.image, run.steps)?;
-    or_fault(run_output(alloc, &image, &steps, run.bound, output))
+    look: &L,
+) -> Result<L::Made, Exit> {
+    let (one, other) = run.files();
+    let (one, other) = read_both(alloc, outside, one, other)?;
+    match run {
+        Run::Steps { bound, .. } => look_at_image(alloc, look, &one, &other, bound),
+        Run::Recording { .. } => look_at_recording(alloc, look, &one, &other),
+    }
 }
 
 /// Writes all that there is to write to a file, and gives the status.
@@ -81,7 +87,8 @@ fn write<O: Outside>(alloc: Global, outside: &mut O, out: &str, bytes: &[u8]) ->
 
 /// Whether a file is one of those of a run.
 fn is_read<O: Outside>(outside: &O, out: &str, run: Run<'_>) -> bool {
-    outside.is_one_file(out, run.image) || outside.is_one_file(out, run.steps)
+    let (one, other) = run.files();
+    outside.is_one_file(out, one) || outside.is_one_file(out, other)
 }
 
 /// Writes a dump to its file.
@@ -89,7 +96,7 @@ fn write_waves<O: Outside>(alloc: Global, outside: &mut O, run: Run<'_>, out: &s
     if is_read(outside, out, run) {
         return refuse_mistake(outside, dump_over_input(alloc));
     }
-    match made_of_run(alloc, outside, run, Output::Dump) {
+    match made_of_run(alloc, outside, run, &Output::Dump) {
         Ok(dump) => write(alloc, outside, out, &dump),
         Err(exit) => end(outside, &exit),
     }
@@ -110,54 +117,40 @@ fn title_of(image: &str) -> &str {
 /// The status where two runs differ, or a run fails an expectation.
 const DIFFER: u8 = 4;
 
-/// The difference of the runs of the image of these bytes over the steps of two files.
+/// The difference of two runs of the system of these bytes.
 fn difference_over<O: Outside>(
     alloc: Global,
     outside: &O,
-    image: &[u8],
-    a: &str,
-    b: &str,
-    bound: u64,
+    system: &[u8],
+    runs: Runs<'_>,
 ) -> Result<Option<Vec<u8>>, Exit> {
-    let (a, b) = read_both(alloc, outside, a, b)?;
-    or_fault(diff(alloc, image, &a, &b, bound))
+    let (a, b) = read_both(alloc, outside, runs.a, runs.b)?;
+    match runs.bound {
+        Some(bound) => diff(alloc, system, &a, &b, bound),
+        None => diff_recordings(alloc, system, &a, &b),
+    }
 }
 
-/// The difference of the runs of an image over two steps texts.
+/// The difference of two runs of a system.
 fn difference_of<O: Outside>(
     alloc: Global,
     outside: &O,
-    image: &str,
-    a: &str,
-    b: &str,
-    bound: u64,
+    runs: Runs<'_>,
 ) -> Result<Option<Vec<u8>>, Exit> {
-    let image = read_file(alloc, outside, image, None)?;
-    difference_over(alloc, outside, &image, a, b, bound)
+    let system = read_file(alloc, outside, runs.system, None)?;
+    difference_over(alloc, outside, &system, runs)
 }
 
-/// What is printed of a run of the image of these bytes, if it fails an expectation of the text of this file.
-fn failure_over<O: Outside>(
-    alloc: Global,
-    outside: &O,
-    image: &[u8],
-    steps: &[u8],
-    bound: u64,
-    name: &str,
-) -> Result<Option<Vec<u8>>, Exit> {
-    let text = read_file(alloc, outside, name, None)?;
-    expect(alloc, image, steps, bound, name, &text)
-}
-
-/// What is printed of a run that fails an expectation.
+/// What is printed of a run that fails an expectation of the text of this file.
 fn failure_of<O: Outside>(
     alloc: Global,
     outside: &O,
     run: Run<'_>,
     name: &str,
 ) -> Result<Option<Vec<u8>>, Exit> {
-    let (image, steps) = read_both(alloc, outside, run.image, run.steps)?;
-    failure_over(alloc, outside, &image, &steps, run.bound, name)
+    let text = read_file(alloc, outside, name, None)?;
+    let expectations = Expectations { name, text: &text };
+    made_of_run(alloc, outside, run, &expectations)
 }
 
 /// Prints a difference or a failure, if there is one, with status 4.
@@ -176,34 +169,15 @@ fn print_difference<O: Outside>(
     }
 }
 
-/// Why nothing of a run is printed or drawn.
-fn exit_of(fault: TimelineFault) -> Exit {
-    match fault {
-        TimelineFault::Sim(fault) => Exit::Sim(fault),
-        fault => Exit::Picture(fault),
-    }
-}
-
-/// What each task of a run waits or spins for after an event.
-fn why_of_run<O: Outside>(
-    alloc: Global,
-    outside: &O,
-    run: Run<'_>,
-    at: Option<u32>,
-) -> Result<Vec<u8>, Exit> {
-    let (image, steps) = read_both(alloc, outside, run.image, run.steps)?;
-    why(alloc, &image, &steps, run.bound, at).map_err(|fault| exit_of(fault))
-}
-
 /// Prints what each task of a run waits or spins for after an event.
 fn print_why<O: Outside>(alloc: Global, outside: &mut O, run: Run<'_>, at: Option<u32>) -> u8 {
-    let made = why_of_run(alloc, outside, run, at);
+    let made = made_of_run(alloc, outside, run, &Why { at });
     print_made(alloc, outside, made)
 }
 
 /// Prints the table of a run.
 fn print_stats<O: Outside>(alloc: Global, outside: &mut O, run: Run<'_>) -> u8 {
-    let made = made_of_run(alloc, outside, run, Output::Table);
+    let made = made_of_run(alloc, outside, run, &Output::Table);
     print_made(alloc, outside, made)
 }
 
@@ -213,17 +187,18 @@ fn print_failure<O: Outside>(alloc: Global, outside: &mut O, run: Run<'_>, name:
     print_difference(alloc, outside, made)
 }
 
-/// Prints the first event in which two runs of an image differ, with status 4 if they differ.
-fn print_diff<O: Outside>(
-    alloc: Global,
-    outside: &mut O,
-    image: &str,
-    a: &str,
-    b: &str,
-    bound: u64,
-) -> u8 {
-    let made = difference_of(alloc, outside, image, a, b, bound);
+/// Prints the first event in which two runs of a system differ, with status 4 if they differ.
+fn print_diff<O: Outside>(alloc: Global, outside: &mut O, runs: Runs<'_>) -> u8 {
+    let made = difference_of(alloc, outside, runs);
     print_difference(alloc, outside, made)
+}
+
+/// What is printed of a recorded run.
+fn print_recorded<O: Outside>(alloc: Global, outside: &mut O, run: Run<'_>, form: Form) -> u8 {
+    match made_of_run(alloc, outside, run, &form) {
+        Ok(traced) => print_run(alloc, outside, &traced.text, None, &traced.why),
+        Err(exit) => end(outside, &exit),
+    }
 }
 
 /// The picture of a run.
@@ -233,9 +208,9 @@ fn run_timeline<O: Outside>(
     run: Run<'_>,
     drawing: Drawing,
 ) -> Result<Picture, Exit> {
-    let (image, steps) = read_both(alloc, outside, run.image, run.steps)?;
-    let title = title_of(run.image).as_bytes();
-    timeline(alloc, &image, &steps, run.bound, title, drawing).map_err(|fault| exit_of(fault))
+    let (system, _) = run.files();
+    let title = title_of(system).as_bytes();
+    made_of_run(alloc, outside, run, &Titled { title, drawing })
 }
 
 /// Says which events a picture has, where it has not all that were asked for.
@@ -284,24 +259,25 @@ fn say_code<O: Outside>(alloc: Global, outside: &mut O, word: &str) -> u8 {
 }
 
 /// Looks at a system or at a run, and gives the status.
-fn look<O: Outside, R: Input>(alloc: Global, outside: &mut O, rt: &R, look: Look<'_>) -> u8 {
-    match look {
-        Look::Step(names, bound) => run_step(alloc, outside, rt, names, bound),
-        Look::Code(word) => say_code(alloc, outside, word),
-        Look::Fault(names, form) => print_fault(alloc, outside, names, form),
-        Look::Run(names, run) => run_texts(alloc, outside, names, run),
-        Look::Drive {
+fn look_at<O: Outside, R: Input>(alloc: Global, outside: &mut O, rt: &R, asked: Asked<'_>) -> u8 {
+    match asked {
+        Asked::Step(names, bound) => run_step(alloc, outside, rt, names, bound),
+        Asked::Code(word) => say_code(alloc, outside, word),
+        Asked::Fault(names, form) => print_fault(alloc, outside, names, form),
+        Asked::Run(names, run) => run_texts(alloc, outside, names, run),
+        Asked::Recorded(run, form) => print_recorded(alloc, outside, run, form),
+        Asked::Drive {
             image,
             events,
             seed,
             bound,
         } => run_drive(alloc, outside, image, events, seed, bound),
-        Look::Why(run, at) => print_why(alloc, outside, run, at),
-        Look::Expect(run, name) => print_failure(alloc, outside, run, name),
-        Look::Diff { image, a, b, bound } => print_diff(alloc, outside, image, a, b, bound),
-        Look::Stats(run) => print_stats(alloc, outside, run),
-        Look::Waves(run, out) => write_waves(alloc, outside, run, out),
-        Look::Timeline(run, out, drawing) => write_timeline(alloc, outside, run, out, drawing),
+        Asked::Why(run, at) => print_why(alloc, outside, run, at),
+        Asked::Expect(run, name) => print_failure(alloc, outside, run, name),
+        Asked::Diff(runs) => print_diff(alloc, outside, runs),
+        Asked::Stats(run) => print_stats(alloc, outside, run),
+        Asked::Waves(run, out) => write_waves(alloc, outside, run, out),
+        Asked::Timeline(run, out, drawing) => write_timeline(alloc, outside, run, out, drawing),
     }
 }
 
@@ -312,7 +288,7 @@ fn obey<O: Outside, R: Input>(alloc: Global, outside: &mut O, rt: &R, cmd: Cmd<'
 {
     match cmd {
         Cmd::Explore(exploring) => run_explore(alloc, outside, &exploring),
-        Cmd::Look(asked) => look(alloc, outside, rt, asked),
+        Cmd::Look(asked) => look_at(alloc, outside, rt, asked),
     }
 }
 

@@ -4,6 +4,7 @@ ghost use Rattle.fmp_session.specs.Sessions.{IsSession, lines_now};
 ghost use Rattle.fmp_view.specs.Stepped.{states_now};
 
 use crate::faults::FileNames;
+use crate::open_image::OpenImage;
 use crate::ranges::kept_bound;
 use crate::why::why_of;
 use fmp_base::{Event, Name};
@@ -112,7 +113,8 @@ fn first_text(alloc: Global, session: &Session<'_>) -> Result<Vec<u8>, AllocErro
 fn why_text(alloc: Global, session: &Session<'_>) -> Result<Vec<u8>, AllocError>
     requires { IsSession session.now }
 {
-    why_of(alloc, session.image(), session.events(), session.bound())
+    let opened = OpenImage::new(session.image(), session.bound());
+    why_of(alloc, &opened, session.events())
 }
 
 /// Carries out a command that reaches nothing outside, and gives what is printed of it.

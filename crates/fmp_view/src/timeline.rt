@@ -4,15 +4,15 @@ ghost use Rattle.fmp_timeline.specs.Shown.{tasks_shown};
 ghost use Rattle.fmp_frames.specs.Shown.{WasShown};
 
 use crate::asking::Drawing;
-use crate::commands::made;
-use crate::opening::{events_of, fresh_kernel, image_of};
-use crate::ranges::kept_bound;
+use crate::exit::{Exit, exit_of, memory};
+use crate::looking::Look;
+use crate::opened::Opened;
 use crate::recording::Recorder;
-use fmp_base::{Event, System};
+use fmp_base::System;
+use fmp_coming::Coming;
 use fmp_drawing::{DrawFault, MOST_BYTES, draw};
 use fmp_engine::SimFault;
 use fmp_frames::{Viewer, last_frame, show_all};
-use fmp_image_bytes::Image;
 use fmp_kernel::{Body, Kernel};
 use fmp_timeline::{Page, Run};
 use fmp_watch::{IdleTurn, idle_turns};
@@ -62,24 +62,24 @@ fn cut_of(page: &Page, drawing: Drawing, last: u32) -> Option<Cut> {
     })
 }
 
-/// What is recorded of a run of a kernel of this system over events.
+/// What is recorded of a run of a kernel of this system over what comes to it.
 #[tactic(none)]
-fn recorded<'a, B: Body>(
+fn recorded<'a, B: Body, T: Coming<B>>(
     alloc: Global,
     sys: &'a System,
     kernel: &mut Kernel<B>,
     body: &B,
     n: u64,
-    events: &[Event],
+    events: &[T],
     objects: bool,
     turns: &'a [IdleTurn],
 ) -> Result<Recorder<'a>, AllocError>
-    requires few { kernel.old.taken + length events.now ≤ 2 ^ 20 }
+    requires few { kernel.old.taken + length events.now ≤ 2 ^ 31 }
     requires body { body.now ≡ kernel.old.body }
     requires bound { n ≡ kernel.old.bound }
     ensures { IfOk result (λ recorder. WasShown
         (λ x f. x.shown.items ≡ tasks_shown f.states f.blocks f.processors)
-        ⟦<Recorder<'a> as Viewer>⟧.shown B.meaning kernel.old events.now recorder) }
+        ⟦<Recorder<'a> as Viewer>⟧.shown B.meaning T.reaction kernel.old events.now recorder) }
 {
     let setup = last_frame(alloc, kernel, body, n)?;
     let mut recorder = Recorder::new(alloc, sys, objects, turns, &setup)?;
@@ -88,19 +88,19 @@ fn recorded<'a, B: Body>(
     Ok(recorder)
 }
 
-/// A run of a kernel of this system over events.
+/// A run of a kernel of this system over what comes to it.
 #[tactic(none)]
-fn run_on<B: Body>(
+fn run_on<B: Body, T: Coming<B>>(
     alloc: Global,
     sys: &System,
     kernel: &mut Kernel<B>,
     body: &B,
     n: u64,
-    events: &[Event],
+    events: &[T],
     objects: bool,
     turns: &[IdleTurn],
 ) -> Result<Run, AllocError>
-    requires few { kernel.old.taken + length events.now ≤ 2 ^ 20 }
+    requires few { kernel.old.taken + length events.now ≤ 2 ^ 31 }
     requires body { body.now ≡ kernel.old.body }
     requires bound { n ≡ kernel.old.bound }
 {
@@ -108,48 +108,60 @@ fn run_on<B: Body>(
     Ok(recorder.finish())
 }
 
-/// The turns that do nothing in a run of an image over events.
+/// The turns that do nothing among what comes to a system.
 #[tactic(none)]
-fn turns_of(
+fn turns_of<O: Opened, T: Coming<O::Bodies>>(
     alloc: Global,
-    image: &Image,
-    events: &[Event],
-    bound: u64,
+    opened: &O,
+    events: &[T],
 ) -> Result<Vec<IdleTurn>, AllocError>
-    requires { length events.now ≤ 2 ^ 20 }
+    requires { length events.now ≤ 2 ^ 31 }
 {
-    let mut kernel = fresh_kernel(alloc, image, kept_bound(bound))?;
+    let mut kernel = opened.kernel(alloc)?;
     let turns = idle_turns(alloc, &mut kernel, events);
     drop(kernel);
     turns
 }
 
-/// A run of an image over events.
+/// A run of a system, in which these turns do nothing.
 #[tactic(none)]
-fn run_of(
+fn run_with<O: Opened, T: Coming<O::Bodies>>(
     alloc: Global,
-    image: &Image,
-    events: &[Event],
-    bound: u64,
+    opened: &O,
+    events: &[T],
     objects: bool,
+    turns: &[IdleTurn],
 ) -> Result<Run, AllocError>
-    requires { length events.now ≤ 2 ^ 20 }
+    requires { length events.now ≤ 2 ^ 31 }
 {
-    let turns = turns_of(alloc, image, events, bound)?;
-    let n = kept_bound(bound);
-    let mut kernel = fresh_kernel(alloc, image, n)?;
+    let mut kernel = opened.kernel(alloc)?;
+    let bodies = opened.bodies();
     let run = run_on(
         alloc,
-        image.system(),
+        opened.system(),
         &mut kernel,
-        &image.vm(),
-        n,
+        &bodies,
+        opened.bound(),
         events,
         objects,
-        &turns,
+        turns,
     );
+    drop(bodies);
     drop(kernel);
     run
+}
+
+/// A run of a system.
+fn run_of<O: Opened, T: Coming<O::Bodies>>(
+    alloc: Global,
+    opened: &O,
+    events: &[T],
+    objects: bool,
+) -> Result<Run, AllocError>
+    requires { length events.now ≤ 2 ^ 31 }
+{
+    let turns = turns_of(alloc, opened, events)?;
+    run_with(alloc, opened, events, objects, &turns)
 }
 
 /// The picture that is asked for of a run.
@@ -179,52 +191,29 @@ fn picture_of(
     }
 }
 
-/// A run of an image over a steps text.
-fn run_over(
-    alloc: Global,
-    image: &Image,
-    steps: &[u8],
-    bound: u64,
-    objects: bool,
-) -> Result<Run, SimFault> {
-    let events = events_of(alloc, steps, image.system().processors)?;
-    made(run_of(alloc, image, &events, bound, objects))
+/// What is drawn of a run, and the title of the picture.
+#[derive(Clone, Copy)]
+pub struct Titled<'a> {
+    pub title: &'a [u8],
+    pub drawing: Drawing,
 }
 
-/// The picture of a run of an image over a steps text.
-fn picture_over(
-    alloc: Global,
-    image: &Image,
-    steps: &[u8],
-    bound: u64,
-    name: &[u8],
-    drawing: Drawing,
-) -> Result<Picture, TimelineFault> {
-    match run_over(alloc, image, steps, bound, drawing.objects) {
-        Ok(run) => {
-            let picture = picture_of(alloc, image.system(), &run, name, drawing);
-            drop(run);
-            picture
-        }
-        Err(fault) => Err(TimelineFault::Sim(fault)),
-    }
-}
+impl Look for Titled<'_> {
+    type Made = Picture;
 
-/// The picture of a run of the image of these bytes over a steps text, with this name as its title.
-pub fn timeline(
-    alloc: Global,
-    image: &[u8],
-    steps: &[u8],
-    bound: u64,
-    name: &[u8],
-    drawing: Drawing,
-) -> Result<Picture, TimelineFault> {
-    match image_of(alloc, image) {
-        Ok(image) => {
-            let picture = picture_over(alloc, &image, steps, bound, name, drawing);
-            drop(image);
-            picture
+    fn of<O: Opened, T: Coming<O::Bodies>>(
+        &self,
+        alloc: Global,
+        opened: &O,
+        events: &[T],
+    ) -> Result<Picture, Exit> {
+        match run_of(alloc, opened, events, self.drawing.objects) {
+            Ok(run) => {
+                let picture = picture_of(alloc, opened.system(), &run, self.title, self.drawing);
+                drop(run);
+                picture.map_err(|fault| exit_of(fault))
+            }
+            Err(error) => Err(memory(error)),
         }
-        Err(fault) => Err(TimelineFault::Sim(fault)),
     }
 }

@@ -6,8 +6,13 @@ ghost use Rattle.fmp_frames.specs.Shown.{WasShown};
 ghost use Rattle.fmp_view.specs.Traces as spec;
 ghost use Rattle.fmp_view.specs.Traces.{IsBegun, IsTrace, Traces, lines_text, states_text};
 
+use crate::exit::{Exit, memory};
 use crate::faults::Form;
-use fmp_base::{Event, Line, System, TaskBlock, TaskState};
+use crate::looking::Look;
+use crate::opened::Opened;
+use crate::why::why_of;
+use fmp_base::{Line, System, TaskBlock, TaskState};
+use fmp_coming::Coming;
 use fmp_frames::{Frame, Viewer, last_frame, show_all};
 use fmp_kernel::{Body, Kernel};
 use fmp_named::{append_lines, append_records, append_state_records, append_states};
@@ -132,22 +137,22 @@ impl Viewer for Tracer<'_> {
     }
 }
 
-/// What is traced of a run of a kernel of this system over events.
+/// What is traced of a run of a kernel of this system over what comes to it.
 #[tactic(none)]
-fn traced<'a, B: Body>(
+fn traced<'a, B: Body, T: Coming<B>>(
     alloc: Global,
     form: Form,
     sys: &'a System,
     kernel: &mut Kernel<B>,
     body: &B,
     n: u64,
-    events: &[Event],
+    events: &[T],
 ) -> Result<Tracer<'a>, AllocError>
-    requires few { kernel.old.taken + length events.now ≤ 2 ^ 20 }
+    requires few { kernel.old.taken + length events.now ≤ 2 ^ 31 }
     requires body { body.now ≡ kernel.old.body }
     requires bound { n ≡ kernel.old.bound }
     ensures { IfOk result (λ tracer. WasShown (IsBegun form (tables_of sys.now))
-        ⟦<Tracer<'a> as Viewer>⟧.shown B.meaning kernel.old events.now tracer) }
+        ⟦<Tracer<'a> as Viewer>⟧.shown B.meaning T.reaction kernel.old events.now tracer) }
 {
     let setup = last_frame(alloc, kernel, body, n)?;
     let mut tracer = Tracer::new(alloc, form, sys, &setup)?;
@@ -156,22 +161,84 @@ fn traced<'a, B: Body>(
     Ok(tracer)
 }
 
-/// The trace of a run of a kernel of this system over events. `AllocError` if memory runs out.
+/// The trace of a run of a kernel of this system over what comes to it. `AllocError` if memory runs out.
 #[tactic(none)]
-pub fn trace_on<B: Body>(
+fn trace_on<B: Body, T: Coming<B>>(
     alloc: Global,
     form: Form,
     sys: &System,
     kernel: &mut Kernel<B>,
     body: &B,
     n: u64,
-    events: &[Event],
+    events: &[T],
 ) -> Result<Vec<u8>, AllocError>
-    requires few { kernel.old.taken + length events.now ≤ 2 ^ 20 }
+    requires few { kernel.old.taken + length events.now ≤ 2 ^ 31 }
     requires body { body.now ≡ kernel.old.body }
     requires bound { n ≡ kernel.old.bound }
-    ensures { IfOk result (λ out. IsTrace form (tables_of sys.now) B.meaning kernel.old events.now out.items) }
+    ensures { IfOk result (λ out. IsTrace form (tables_of sys.now) B.meaning T.reaction kernel.old events.now out.items) }
 {
     let tracer = traced(alloc, form, sys, kernel, body, n, events)?;
     tracer.finish(alloc)
+}
+
+/// The trace of a run of a system. `AllocError` if memory runs out.
+#[tactic(none)]
+pub fn trace_of<O: Opened, T: Coming<O::Bodies>>(
+    alloc: Global,
+    form: Form,
+    opened: &O,
+    events: &[T],
+) -> Result<Vec<u8>, AllocError>
+    requires { length events.now ≤ 2 ^ 31 }
+    ensures { IfOk result (λ out. IsTrace form (O.start opened.now).system O.Bodies.meaning T.reaction
+        (O.start opened.now) events.now out.items) }
+{
+    let mut kernel = opened.kernel(alloc)?;
+    let bodies = opened.bodies();
+    let trace = trace_on(
+        alloc,
+        form,
+        opened.system(),
+        &mut kernel,
+        &bodies,
+        opened.bound(),
+        events,
+    );
+    drop(bodies);
+    drop(kernel);
+    trace
+}
+
+/// The trace of a run, and what each task waits or spins for at its end.
+#[derive(Drop)]
+pub struct Recorded {
+    pub text: Vec<u8>,
+    pub why: Vec<u8>,
+}
+
+/// What is printed of a run of a system. `AllocError` if memory runs out.
+fn told_of<O: Opened, T: Coming<O::Bodies>>(
+    alloc: Global,
+    form: Form,
+    opened: &O,
+    events: &[T],
+) -> Result<Recorded, AllocError>
+    requires { length events.now ≤ 2 ^ 31 }
+{
+    let text = trace_of(alloc, form, opened, events)?;
+    let why = why_of(alloc, opened, events)?;
+    Ok(Recorded { text, why })
+}
+
+impl Look for Form {
+    type Made = Recorded;
+
+    fn of<O: Opened, T: Coming<O::Bodies>>(
+        &self,
+        alloc: Global,
+        opened: &O,
+        events: &[T],
+    ) -> Result<Recorded, Exit> {
+        told_of(alloc, *self, opened, events).map_err(|error| memory(error))
+    }
 }

@@ -1,9 +1,9 @@
 -- What is seen of a run.
 use Rattle.std.specs.Prelude.{◌≡◌, ℕ, ◌<◌, ◌≤◌, List, length, take}
-use Rattle.fmp_base.specs.declared.events.Event.{Event}
-use Rattle.fmp_base.specs.Meanings.{Meaning}
+use Rattle.fmp_base.specs.Steps.{Reaction}
+use Rattle.fmp_coming.specs.Comings.{view_after_each}
 use Rattle.fmp_frames.specs.Frames.{FrameTable}
-use Rattle.fmp_kernel.specs.KernelViews.{KernelView, view_after_all}
+use Rattle.fmp_kernel.specs.KernelViews.{KernelView}
 use Rattle.fmp_watch.specs.declared.watching.Watcher.{Watcher}
 
 -- the tasks, the processors and what they spin for are seen as a frame has them
@@ -12,13 +12,14 @@ pub record IsSeen (x : Watcher) (f : FrameTable) : Type 0 where
   pub processors : x.processors.items ≡ f.processors
   pub spins : x.spins.items ≡ f.spins
 
--- a kernel after the first i of these events
-abbrev pub after_first : {B C : Type 0} → (B → Meaning C) → KernelView B C → List Event → ℕ → KernelView B C
-after_first meaning k es i = view_after_all meaning k (take i es)
+-- a kernel after the first i of what comes to it
+abbrev pub after_first : {B C X : Type 0} → (KernelView B C → X → Reaction C) → KernelView B C → List X → ℕ
+    → KernelView B C
+after_first reaction k xs i = view_after_each reaction k (take i xs)
 
--- these are as few events as lead up to the event of a number: it is done with them, unless they are all, and it is not
+-- this is as few of what comes as leads up to the event of a number: it is done then, unless this is all, and it is not
 -- done with fewer
-pub record LeadUp {B C : Type 0} (meaning : B → Meaning C) (k : KernelView B C) (es : List Event) (number count : ℕ) :
-    Type 0 where
-  pub done : count < length es → number ≤ (after_first meaning k es count).done
-  pub before : (i : ℕ) → i < count → (after_first meaning k es i).done < number
+pub record LeadUp {B C X : Type 0} (reaction : KernelView B C → X → Reaction C) (k : KernelView B C) (xs : List X)
+    (number count : ℕ) : Type 0 where
+  pub done : count < length xs → number ≤ (after_first reaction k xs count).done
+  pub before : (i : ℕ) → i < count → (after_first reaction k xs i).done < number

@@ -1,4 +1,4 @@
-//! Two runs of an image side by side: the first event in which they differ.
+//! Two runs of a system side by side: the first event in which they differ.
 ghost use Rattle.std.specs.Bool.{Decides};
 ghost use Rattle.std.specs.Prelude.{◌≡◌, ◌+◌, ◌-◌, ◌++◌, ◌≤◌, ◌^◌, IfOk, OnOk, length, option_map, slice_get};
 ghost use Rattle.fmp_frames.specs.Frames.{table_of};
@@ -6,7 +6,8 @@ ghost use Rattle.fmp_watch.specs.Compares as spec;
 ghost use Rattle.fmp_watch.specs.Compares.{AreStates, IsFirstDifference, events_of};
 ghost use Rattle.fmp_frames.specs.Shown.{WasShown};
 
-use fmp_base::{Event, System, TaskBlock, TaskState};
+use fmp_base::{System, TaskBlock, TaskState};
+use fmp_coming::Coming;
 use fmp_frames::{Frame, Viewer, last_frame, show_all};
 use fmp_kernel::{Body, Kernel};
 use fmp_named::{append_lines, append_state};
@@ -70,22 +71,22 @@ impl Viewer for Told<'_> {
     }
 }
 
-/// What is told of a run over events of a kernel of this system, over these bodies with this bound. `AllocError` if
+/// What is told of a run of a kernel of this system, over these bodies with this bound: of all that comes to it. `AllocError` if
 /// memory runs out.
 #[tactic(none)]
-pub fn told_on<'a, B: Body>(
+pub fn told_on<'a, B: Body, T: Coming<B>>(
     alloc: Global,
     sys: &'a System,
     kernel: &mut Kernel<B>,
     body: &B,
     n: u64,
-    events: &[Event],
+    events: &[T],
 ) -> Result<Told<'a>, AllocError>
-    requires few { kernel.old.taken + length events.now ≤ 2 ^ 20 }
+    requires few { kernel.old.taken + length events.now ≤ 2 ^ 31 }
     requires body { body.now ≡ kernel.old.body }
     requires bound { n ≡ kernel.old.bound }
     ensures { IfOk result (λ told. WasShown (λ x f. AreStates x f)
-        ⟦<Told<'a> as Viewer>⟧.shown B.meaning kernel.old events.now told) }
+        ⟦<Told<'a> as Viewer>⟧.shown B.meaning T.reaction kernel.old events.now told) }
 {
     let setup = last_frame(alloc, kernel, body, n)?;
     let mut told = Told::new(alloc, sys, &setup)?;

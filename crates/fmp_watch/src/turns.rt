@@ -1,7 +1,8 @@
 //! Turns of processors that do nothing, which leave no frame.
 ghost use Rattle.std.specs.Prelude.{◌+◌, ◌≤◌, ◌^◌, length};
 
-use fmp_base::{Effect, Event};
+use fmp_base::Effect;
+use fmp_coming::Coming;
 use fmp_kernel::{Body, Kernel};
 use std::alloc::{AllocError, Global};
 
@@ -14,36 +15,33 @@ pub struct IdleTurn {
     pub processor: u8,
 }
 
-/// Notes an event that did nothing after this one, if it is a turn and no other one stands so already.
-fn note(turns: &mut Vec<IdleTurn>, event: u32, e: Event) -> Result<(), AllocError> {
-    let Event::Run(number) = e else {
+/// Notes a turn of this processor, if it is one, that did nothing after this event, if no other one stands so already.
+fn note(turns: &mut Vec<IdleTurn>, event: u32, place: Option<u8>) -> Result<(), AllocError> {
+    let Some(processor) = place else {
         return Ok(());
     };
-    let turn = IdleTurn {
-        event,
-        processor: number.saturating_sub(1),
-    };
+    let turn = IdleTurn { event, processor };
     if turns.last() != Some(&turn) {
         turns.push(turn)?;
     }
     Ok(())
 }
 
-/// The turns that do nothing in a run of a kernel over events, in order; of equal ones in succession the first.
+/// The turns that do nothing among what comes to a kernel, in order; of equal ones in succession the first.
 /// `AllocError` if memory runs out.
-pub fn idle_turns<B: Body>(
+pub fn idle_turns<B: Body, T: Coming<B>>(
     alloc: Global,
     kernel: &mut Kernel<B>,
-    events: &[Event],
+    events: &[T],
 ) -> Result<Vec<IdleTurn>, AllocError>
-    requires { kernel.old.taken + length events.now ≤ 2 ^ 20 }
+    requires { kernel.old.taken + length events.now ≤ 2 ^ 31 }
 {
     let mut turns = Vec::new(alloc);
     for e in events {
-        match kernel.step(*e) {
+        match e.take(kernel) {
             Effect::Done => {}
             Effect::Kept => {}
-            Effect::Nothing => note(&mut turns, kernel.done(), *e)?,
+            Effect::Nothing => note(&mut turns, kernel.done(), e.place())?,
         }
     }
     Ok(turns)

@@ -4,7 +4,8 @@ ghost use Rattle.fmp_frames.specs.Frames.{table_of};
 ghost use Rattle.fmp_frames.specs.Shown.{WasShown};
 ghost use Rattle.fmp_watch.specs.Watches.{IsSeen, LeadUp, after_first};
 
-use fmp_base::{Event, Processor, System, TaskBlock};
+use fmp_base::{Processor, System, TaskBlock};
+use fmp_coming::Coming;
 use fmp_drive::{NextRun, next_runs};
 use fmp_frames::{Frame, Viewer, last_frame, show_all};
 use fmp_kernel::{Body, Kernel};
@@ -58,22 +59,22 @@ impl Viewer for Watcher {
     }
 }
 
-/// What is seen of a run over events of a kernel of this system, over these bodies with this bound. `AllocError` if
+/// What is seen of a run of a kernel of this system, over these bodies with this bound: of all that comes to it. `AllocError` if
 /// memory runs out.
 #[tactic(none)]
-pub fn watched<B: Body>(
+pub fn watched<B: Body, T: Coming<B>>(
     alloc: Global,
     sys: &System,
     kernel: &mut Kernel<B>,
     body: &B,
     n: u64,
-    events: &[Event],
+    events: &[T],
 ) -> Result<Watcher, AllocError>
-    requires few { kernel.old.taken + length events.now ≤ 2 ^ 20 }
+    requires few { kernel.old.taken + length events.now ≤ 2 ^ 31 }
     requires body { body.now ≡ kernel.old.body }
     requires bound { n ≡ kernel.old.bound }
     ensures shown { IfOk result (λ watcher. WasShown (λ x f. IsSeen x f)
-        ⟦<Watcher as Viewer>⟧.shown B.meaning kernel.old events.now watcher) }
+        ⟦<Watcher as Viewer>⟧.shown B.meaning T.reaction kernel.old events.now watcher) }
     ensures body { OnOk result (kernel.new.body ≡ kernel.old.body) }
     ensures bound { OnOk result (kernel.new.bound ≡ kernel.old.bound) }
 {
@@ -117,18 +118,18 @@ fn report_of(
     Ok(out)
 }
 
-/// Why nothing goes on after a run over events of a kernel of this system, over these bodies with this bound: what each
-/// task waits or spins for, and how they stand. `AllocError` if memory runs out.
+/// Why nothing goes on after what came to a kernel of this system, over these bodies with this bound: what each task
+/// waits or spins for, and how they stand. Of bodies that run elsewhere the next call is not known, so none of them spins. `AllocError` if memory runs out.
 #[tactic(none)]
-pub fn why<B: Body>(
+pub fn why<B: Body, T: Coming<B>>(
     alloc: Global,
     sys: &System,
     kernel: &mut Kernel<B>,
     body: &B,
     n: u64,
-    events: &[Event],
+    events: &[T],
 ) -> Result<Vec<u8>, AllocError>
-    requires few { kernel.old.taken + length events.now ≤ 2 ^ 20 }
+    requires few { kernel.old.taken + length events.now ≤ 2 ^ 31 }
     requires body { body.now ≡ kernel.old.body }
     requires bound { n ≡ kernel.old.bound }
 {
@@ -137,20 +138,24 @@ pub fn why<B: Body>(
     report_of(alloc, sys, &watcher, &next)
 }
 
-/// How many of these events a kernel takes up to the event of this number: as few as there can be for that event to be
+/// How much of what comes to a kernel it takes up to the event of this number: as few as there can be for that event to be
 /// done, or all of them if it is not done with them.
-pub fn count_up_to<B: Body>(kernel: &mut Kernel<B>, events: &[Event], number: u32) -> usize
-    requires { kernel.old.taken + length events.now ≤ 2 ^ 20 }
+pub fn count_up_to<B: Body, T: Coming<B>>(
+    kernel: &mut Kernel<B>,
+    events: &[T],
+    number: u32,
+) -> usize
+    requires { kernel.old.taken + length events.now ≤ 2 ^ 31 }
     ensures few { result ≤ length events.now }
-    ensures count { LeadUp B.meaning kernel.old events.now number result }
-    ensures after { kernel.new ≡ after_first B.meaning kernel.old events.now result }
+    ensures count { LeadUp T.reaction kernel.old events.now number result }
+    ensures after { kernel.new ≡ after_first T.reaction kernel.old events.now result }
 {
     let mut place = 0;
     for e in events {
         if kernel.done() >= number {
             return place;
         }
-        kernel.step(*e);
+        e.take(kernel);
         place += 1;
     }
     place

@@ -1,11 +1,5 @@
 use Rattle.fmp_view.proofs.Fresh.{room}
 use Rattle.fmp_view.proofs.expecting.event_text.Goals as goal
 
-pub fresh_kernel-requires-clause-low : goal.fresh_kernel-requires-clause-low
-fresh_kernel-requires-clause-low c = c.kept_bound.ensures.low
-
-pub fresh_kernel-requires-clause-high : goal.fresh_kernel-requires-clause-high
-fresh_kernel-requires-clause-high c = c.kept_bound.ensures.high
-
 pub run_up_to-requires : goal.run_up_to-requires
-run_up_to-requires c = room _ _ c.in_ok-kernel.ensures.taken c.requires
+run_up_to-requires g c = room _ _ c.in_ok-kernel.ensures.taken c.requires

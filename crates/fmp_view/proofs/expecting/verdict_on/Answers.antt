@@ -12,7 +12,7 @@ tell_run-requires g c = c.requires
 pub returns : goal.returns
 returns g c =
     let xs = c.args.expected.now in
-    let told = run_told g.B.Body.meaning c.args.kernel.now c.args.events.now in
+    let told = run_told g.T.Coming.reaction c.args.kernel.now c.args.events.now in
     c.verdict.ensures xs told (c.tell_run.ensures.told xs c.in_ok-checker.ensures)
     ∙ ap (λ (s : List TaskState). first_broken xs told s c.done.result) (c.deref.ensures.value ∙ c.in_ok-states.ensures)
     ∙ ap (λ (n : ℕ). first_broken xs told (each (task_state c.tell_run.new.kernel.world.state) (length c.tell_run.new.kernel.system.tasks)) n) c.done.ensures

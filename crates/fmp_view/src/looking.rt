@@ -1,0 +1,109 @@
+//! Looks at runs: of an image over a steps text, and of a recording.
+ghost use Rattle.std.specs.Prelude.{◌≤◌, ◌^◌, IfOk, length};
+
+use crate::exit::Exit;
+use crate::open_image::OpenImage;
+use crate::open_system::OpenSystem;
+use crate::opened::Opened;
+use crate::opening::{events_of, image_of};
+use fmp_coming::Coming;
+use fmp_image_bytes::Image;
+use fmp_outside::Given;
+use fmp_recording::{MOST_LINES, RecordingFault, read_recording};
+use std::alloc::Global;
+
+/// A look at a run of a system, whatever its bodies are.
+pub trait Look {
+    /// What it makes of a run.
+    type Made;
+
+    /// What it makes of what comes to a system.
+    fn of<O: Opened, T: Coming<O::Bodies>>(
+        &self,
+        alloc: Global,
+        opened: &O,
+        events: &[T],
+    ) -> Result<Self::Made, Exit>
+        requires { length events.now ≤ 2 ^ 31 };
+}
+
+/// What a look makes of a run of an image over a steps text.
+fn over_steps<L: Look>(
+    alloc: Global,
+    look: &L,
+    image: &Image,
+    steps: &[u8],
+    bound: u64,
+) -> Result<L::Made, Exit> {
+    match events_of(alloc, steps, image.system().processors) {
+        Ok(events) => look.of(alloc, &OpenImage::new(image, bound), &events),
+        Err(fault) => Err(Exit::Sim(fault)),
+    }
+}
+
+/// What a look makes of a run of the image of these bytes over a steps text.
+pub fn look_at_image<L: Look>(
+    alloc: Global,
+    look: &L,
+    image: &[u8],
+    steps: &[u8],
+    bound: u64,
+) -> Result<L::Made, Exit> {
+    match image_of(alloc, image) {
+        Ok(image) => {
+            let made = over_steps(alloc, look, &image, steps, bound);
+            drop(image);
+            made
+        }
+        Err(fault) => Err(Exit::Sim(fault)),
+    }
+}
+
+/// What was recorded, if it is no more than a kernel takes.
+fn within_most(recording: Vec<Given>) -> Result<Vec<Given>, Exit>
+    ensures { IfOk result (λ kept. length kept.items ≤ 2 ^ 31) }
+{
+    if recording.len() > MOST_LINES as usize {
+        let line = MOST_LINES + 1;
+        return Err(Exit::Recording(RecordingFault::TooMany { line }));
+    }
+    Ok(recording)
+}
+
+/// What a recording of a system of this many processors says.
+pub fn recording_of(alloc: Global, text: &[u8], processors: u8) -> Result<Vec<Given>, Exit>
+    ensures { IfOk result (λ recording. length recording.items ≤ 2 ^ 31) }
+{
+    match read_recording(alloc, text, processors) {
+        Ok(recording) => within_most(recording),
+        Err(fault) => Err(Exit::Recording(fault)),
+    }
+}
+
+/// What a look makes of a recorded run of a system.
+fn over_recording<L: Look>(
+    alloc: Global,
+    look: &L,
+    opened: &OpenSystem,
+    recording: &[u8],
+) -> Result<L::Made, Exit> {
+    let events = recording_of(alloc, recording, opened.system().processors)?;
+    look.of(alloc, opened, &events)
+}
+
+/// What a look makes of a recorded run of the system of a configuration.
+pub fn look_at_recording<L: Look>(
+    alloc: Global,
+    look: &L,
+    cfg: &[u8],
+    recording: &[u8],
+) -> Result<L::Made, Exit> {
+    match OpenSystem::new(alloc, cfg) {
+        Ok(opened) => {
+            let made = over_recording(alloc, look, &opened, recording);
+            drop(opened);
+            made
+        }
+        Err(fault) => Err(Exit::Configuration(fault)),
+    }
+}
