@@ -1,4 +1,7 @@
-/* handles.c: blank handles, handles that hold a system already, rooms without room, texts with faults. */
+/*
+ * handles.c: blank handles, handles that hold a system already, rooms without room, texts and images with faults,
+ * checked systems.
+ */
 #include "fmp.h"
 
 #include <stdio.h>
@@ -141,6 +144,93 @@ static void looks(fmp_system *system)
     CHECK(fmp_counts(system, &counts) == FMP_DONE && counts.processors == 2 && counts.lines == 2 && counts.done == 0);
 }
 
+/*
+ * The image that `fmp build` makes of a system with one task A, which takes the semaphore S, counts from 9 down to 0
+ * and gives S back.
+ */
+static const uint8_t image[] = {
+    70, 77, 80, 73, 3, 0, 1, 1, 0, 2, 2, 16, 0, 1, 1, 0, 0, 0,
+    0, 8, 21, 255, 255, 0, 1, 1, 9, 0, 0, 0, 0, 3, 1, 0, 0, 0,
+    1, 2, 1, 0, 0, 0, 0, 1, 0, 0, 0, 0, 1, 5, 12, 0, 0, 0,
+    2, 7, 13, 0, 0, 0, 1, 2, 1, 0, 0, 0, 0, 1, 1, 0, 0, 0,
+    1, 5, 1, 0, 0, 0, 2, 3, 1, 0, 0, 0, 1, 6, 4, 0, 0, 0,
+    0, 1, 1, 0, 0, 0, 0, 8, 20, 255, 255, 0, 1, 9, 0, 0, 0, 0,
+    0, 1, 1, 65, 2, 7, 0, 0, 0, 0, 10, 0, 2, 0, 0, 1, 0, 1,
+    1, 83, 1, 1, 0, 1, 0, 0, 0, 0, 0, 0, 0, 0, 0,
+};
+
+static uint32_t load(fmp_system *system, const uint8_t *bytes, size_t length, uint64_t bound, fmp_refusal *why)
+{
+    return fmp_new_checked(bytes, length, bound, system, why);
+}
+
+static void images(void)
+{
+    fmp_system system = FMP_BLANK;
+    fmp_refusal why = { 7, 7, 7 };
+    uint8_t bytes[sizeof image + 1] = { 0 };
+    memcpy(bytes, image, sizeof image);
+    CHECK(load(&system, image, sizeof image, 0, &why) == FMP_NO_BOUND);
+    CHECK(load(&system, image, sizeof image, ((uint64_t)1 << 48) + 1, &why) == FMP_NO_BOUND && why.kind == 7);
+    CHECK(load(&system, image, sizeof image - 1, 20, &why) == FMP_REFUSED);
+    CHECK(why.line == 0 && why.kind == 1 && why.code == 0);
+    CHECK(load(&system, bytes, sizeof bytes, 20, &why) == FMP_REFUSED && why.kind == 6);
+    bytes[0] = 'f';
+    CHECK(load(&system, bytes, sizeof image, 20, &why) == FMP_REFUSED && why.kind == 2);
+    CHECK(system.at == NULL);
+}
+
+/* The function code of a service. */
+static uint8_t code_of(const char *name)
+{
+    uint8_t room[16];
+    for (uint8_t code = 1; code <= 59; code++) {
+        if (is(room, name, fmp_service_name(code, room, sizeof room))) {
+            return code;
+        }
+    }
+    return 0;
+}
+
+static uint32_t done(fmp_system *system)
+{
+    fmp_event_counts counts = { 0, 77, 0, 0 };
+    fmp_counts(system, &counts);
+    return counts.done;
+}
+
+/* What differs from the text changes nothing; within its long stretch it asks for the same call again. */
+static void checked(void)
+{
+    const uint8_t wai_sem = code_of("wai_sem"), sig_sem = code_of("sig_sem");
+    fmp_system system = FMP_BLANK;
+    fmp_refusal why;
+    fmp_outcome out;
+    fmp_actor actor;
+    uint32_t answer;
+    int turns = 0;
+    CHECK(load(&system, image, sizeof image, 20, &why) == FMP_MADE);
+    CHECK(load(&system, image, sizeof image, 20, &why) == FMP_HOLDS_ONE);
+    CHECK(fmp_call(&system, 1, sig_sem, 1, 0, 0, 0, &out) == FMP_NOT_THE_TEXT && out.changes == 0);
+    CHECK(fmp_call(&system, 1, wai_sem, 2, 0, 0, 0, &out) == FMP_NOT_THE_TEXT && out.acting.number == 1);
+    CHECK(fmp_end(&system, 1, &out) == FMP_NOT_THE_TEXT);
+    CHECK(fmp_fault(&system, 1, FMP_INDEX, &out) == FMP_NOT_THE_TEXT);
+    CHECK(fmp_call(&system, 2, wai_sem, 1, 0, 0, 0, &out) == FMP_NO_PROCESSOR);
+    CHECK(fmp_int(&system, 33, &out) == FMP_NO_INTERRUPT);
+    CHECK(done(&system) == 0);
+    CHECK(fmp_call(&system, 1, wai_sem, 1, 0, 0, 0, &out) == FMP_DONE && done(&system) == 1);
+    CHECK(fmp_tick(&system, &out) == FMP_DONE && done(&system) == 2);
+    while ((answer = fmp_call(&system, 1, sig_sem, 1, 0, 0, 0, &out)) == FMP_STILL_LONG) {
+        turns++;
+    }
+    CHECK(answer == FMP_DONE && turns > 0 && done(&system) == 3);
+    CHECK(fmp_end(&system, 1, &out) == FMP_DONE && (out.changes & FMP_BODY_ENDS) != 0);
+    CHECK(fmp_end(&system, 1, &out) == FMP_NOTHING);
+    CHECK(fmp_acting(&system, 1, &actor) == FMP_DONE && actor.who == FMP_NOBODY);
+    fmp_free(&system);
+    CHECK(system.at == NULL);
+}
+
 int main(void)
 {
     fmp_system system = FMP_BLANK;
@@ -154,6 +244,8 @@ int main(void)
     recorded(&system);
     fmp_free(&system);
     blank();
+    images();
+    checked();
     printf("handles: %d failed\n", failed);
     return failed != 0;
 }

@@ -9,8 +9,8 @@
  * - Pointers are not null, also of texts and rooms of length 0, and what they point to is initialized.
  * - malloc and free are those of the C library. No function is called from a signal handler or a forked child.
  *
- * Only fmp_new takes memory, and only fmp_free gives it back. Numbers of processors, tasks, handlers, interrupts and
- * objects go from 1. A number that is out of range, and a blank handle, are answers.
+ * Only fmp_new and fmp_new_checked take memory, and only fmp_free gives it back. Numbers of processors, tasks, handlers,
+ * interrupts and objects go from 1. A number that is out of range, and a blank handle, are answers.
  */
 #ifndef FMP_H
 #define FMP_H
@@ -40,15 +40,18 @@ enum fmp_answer {
     FMP_NO_PROCESSOR = 5,
     FMP_NO_SERVICE = 6,
     FMP_NO_INTERRUPT = 8,
-    FMP_NO_FAULT = 9
+    FMP_NO_FAULT = 9,
+    FMP_NOT_THE_TEXT = 10,  /* the text of the actor does another thing next; only from a checked system */
+    FMP_STILL_LONG = 11     /* the text of the actor needs more turns first, so call again; only from a checked system */
 };
 
-/* What fmp_new answers. */
+/* What fmp_new and fmp_new_checked answer. */
 enum fmp_made {
     FMP_MADE = 0,
-    FMP_REFUSED = 1,        /* the text has a fault */
+    FMP_REFUSED = 1,        /* the text or the image has a fault */
     FMP_NO_MEMORY = 3,
-    FMP_HOLDS_ONE = 4       /* the handle is not blank; it stays as it was */
+    FMP_HOLDS_ONE = 4,      /* the handle is not blank; it stays as it was */
+    FMP_NO_BOUND = 5        /* the bound is out of range */
 };
 
 enum fmp_fault_kind { FMP_OVERFLOW = 1, FMP_DIVISION = 2, FMP_INDEX = 3 };
@@ -71,10 +74,10 @@ enum fmp_kind {
     FMP_INTERRUPTS          /* interrupt handlers, in order of the text; they have no names */
 };
 
-/* Why a text is refused. */
+/* Why a text or an image is refused. */
 typedef struct fmp_refusal {
-    uint32_t line;          /* from 1 */
-    uint32_t kind;          /* 1 for B1, and so on */
+    uint32_t line;          /* from 1; 0 for an image */
+    uint32_t kind;          /* 1 for B1, and so on; 1 for L1, and so on, for an image */
     int32_t code;           /* the code of a static API that refuses its values (kind 4), else 0 */
 } fmp_refusal;
 
@@ -143,12 +146,22 @@ typedef struct fmp_event_counts {
 /* The system of a configuration, after setup, in a blank handle: enum fmp_made. It takes about 0.3 MB of stack. */
 uint32_t fmp_new(const uint8_t *text, size_t length, fmp_system *, fmp_refusal *);
 
+/*
+ * A checked system: that of an image, as `fmp build` writes it, whose text the bodies must follow. A call, an end or a
+ * fault is done only if it is what the text of the actor does next. So the lines and the states are always those of a run
+ * of the text, and what holds of the text along all schedules holds of the C program. One event may take as many
+ * instructions of the text as the bound says, 1 to 2^48. Each FMP_STILL_LONG counts as an event towards FMP_FULL.
+ *
+ * An image has no names of bodies. A port that needs them makes a system of the configuration too, and frees it.
+ */
+uint32_t fmp_new_checked(const uint8_t *image, size_t length, uint64_t bound, fmp_system *, fmp_refusal *);
+
 /* Gives all memory of a system back; its handle is blank then. */
 void fmp_free(fmp_system *);
 
 /*
  * Events: enum fmp_answer. After FMP_DONE the lines of the event and the state after it can be read; after any other
- * answer nothing has changed.
+ * answer nothing that can be read has changed.
  */
 
 /* The actor of processor p makes a service call, by its function code. It ignores arguments that it does not take. */

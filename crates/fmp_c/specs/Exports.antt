@@ -17,10 +17,20 @@ use Rattle.fmp_lex.specs.declared.fault.FaultKind.{FaultKind}
 use Rattle.fmp_lex.specs.declared.fault.FaultKind.TheVariants as kind
 use Rattle.fmp_lex.specs.declared.place.Place.{Place}
 use Rattle.fmp_foreign.specs.declared.requests.Refusal.{Refusal}
-use Rattle.fmp_foreign.specs.Hosting.{ForeignKernel, IsNew, after, answer}
+use Rattle.fmp_foreign.specs.declared.requests.Refusal.TheVariants as refusal
+use Rattle.fmp_foreign.specs.Hosting.{ForeignKernel, IsNew, after, answer, refused}
 use Rattle.fmp_foreign.specs.Looking.{acting_on}
 use Rattle.fmp_outside.specs.declared.given.Given.{Given}
 use Rattle.fmp_foreign.specs.declared.hosted.Hosted.{Hosted}
+use Rattle.fmp_checked.specs.declared.following.Objection.{Objection}
+use Rattle.fmp_checked.specs.declared.following.Objection.TheVariants as objection
+use Rattle.fmp_checked.specs.Checking.{InStep, IsBegun, IsChecked, TextKernel, hosted_after}
+use Rattle.fmp_image_bytes.specs.Images.{ImageTables, image_at}
+use Rattle.fmp_image_parts.specs.declared.fault.ImageFault.{ImageFault}
+use Rattle.fmp_image_parts.specs.declared.fault.ImageFault.TheVariants as image_fault
+use Rattle.fmp_image_parts.specs.declared.fault.LoadFault.{LoadFault}
+use Rattle.fmp_image_parts.specs.declared.fault.LoadFault.TheVariants as load_fault
+use Rattle.fmp_image_parts.specs.Fields.{Fails}
 use Rattle.fmp_c.specs.declared.looks.FmpCounts.{FmpCounts}
 use Rattle.fmp_c.specs.declared.states.FmpState.{FmpState}
 use Rattle.fmp_c.specs.declared.events.TheConstants.{FAULTS}
@@ -56,12 +66,57 @@ IsNoSystem (build.At f place why) old new number = (new ≡ refusal_of place why
 
 -- the system of a text, after setup, before the first event
 abbrev pub IsFirst : List ℕ → Machine → Type 0
-IsFirst text m = IsNew text m.hosted × (m.last ≡ None)
+IsFirst text m = IsNew text m.hosted × (m.text ≡ None) × (m.last ≡ None)
 
 -- a blank handle holds the new system of the text, or stays blank, for a fault of the text or because memory ran out
 abbrev pub IsMade : List ℕ → Option Machine → (old new : FmpRefusal) → (number : ℕ) → Type 0
 IsMade text (Some m) old new number = IsFirst text m × (new ≡ old) × (number ≡ 0)
 IsMade text None old new number = (fault : BuildFault) × IsRead text (Err fault) × IsNoSystem fault old new number
+
+-- the number of a fault of an image
+abbrev pub image_number : ImageFault → ℕ
+image_number image_fault.Short = 1
+image_number image_fault.Magic = 2
+image_number image_fault.Version = 3
+image_number image_fault.Table = 4
+image_number image_fault.Code = 5
+image_number image_fault.Trailing = 6
+
+-- what C is told where there is no image: the fault of the bytes, or that memory ran out
+abbrev pub IsToldOfImage : LoadFault → (old new : FmpRefusal) → (number : ℕ) → Type 0
+IsToldOfImage load_fault.Memory old new number = (new ≡ old) × (number ≡ 3)
+IsToldOfImage (load_fault.Image f) old new number =
+    (new ≡ record { line = 0; kind = image_number f; code = pos 0 }) × (number ≡ 1)
+
+-- a hosted system with its text, before the first event
+pub record IsCheckedMachine (h : Hosted) (t : TextKernel) (m : Machine) : Type 0 where
+  pub hosted : m.hosted ≡ h
+  pub text : m.text ≡ Some t
+  pub step : InStep h.kernel t
+  pub last : m.last ≡ None
+
+-- that of an image, after setup
+pub record IsFirstOf (i : ImageTables) (bound : ℕ) (m : Machine) : Type 0 where
+  pub hosted : Hosted
+  pub text : TextKernel
+  pub begun : IsBegun i bound hosted text
+  pub machine : IsCheckedMachine hosted text m
+
+-- that of an image that the bytes spell
+pub record IsFirstChecked (bytes : List ℕ) (bound : ℕ) (m : Machine) : Type 0 where
+  pub image : ImageTables
+  pub spelled : image_at bytes ≡ Ok image
+  pub first : IsFirstOf image bound m
+
+-- a blank handle holds the new system of the image, or stays blank, for a fault of the bytes or because memory ran out
+abbrev pub IsLoaded : (bytes : List ℕ) → (bound : ℕ) → Option Machine → (old new : FmpRefusal) → (number : ℕ) → Type 0
+IsLoaded bytes bound (Some m) old new number = IsFirstChecked bytes bound m × (new ≡ old) × (number ≡ 0)
+IsLoaded bytes bound None old new number =
+    (fault : LoadFault) × Fails fault (image_at bytes) × IsToldOfImage fault old new number
+
+-- a blank handle stays blank, since the bound is out of range
+abbrev pub IsNoBound : Option Machine → (old new : FmpRefusal) → (number : ℕ) → Type 0
+IsNoBound made old new number = (made ≡ None) × (new ≡ old) × (number ≡ 5)
 
 -- what the lines of an event say has changed, if it was done
 abbrev pub changes_after : Result Effect Refusal → List Line → ℕ
@@ -88,12 +143,56 @@ machine_after m (Ok g) =
     record m { hosted = after m.hosted (Ok g); last = last_by (answer m.hosted.kernel (Ok g)) g m.last }
 
 -- what came was taken or refused, as the case tables say, and C was told
-abbrev pub IsTaken : (old : Machine) → (g : Result Given Refusal) → (p : ℕ) → (new : Option Machine)
+abbrev pub IsTakenAny : (old : Machine) → (g : Result Given Refusal) → (p : ℕ) → (new : Option Machine)
     → (out : FmpOutcome) → (number : ℕ) → Type 0
-IsTaken old g p new out number =
+IsTakenAny old g p new out number =
     (new ≡ Some (machine_after old g))
     × (out ≡ outcome_of (machine_after old g).hosted.kernel p (answer old.hosted.kernel g))
     × (number ≡ answer_number (answer old.hosted.kernel g))
+
+-- what is told to C where a text has judged: what differs from the text, or comes while it is within a stretch, does
+-- nothing
+abbrev pub answered : Result Effect Objection → Result Effect Refusal
+answered (Ok e) = Ok e
+answered (Err (objection.Refused why)) = Err why
+answered (Err objection.Full) = Err refusal.Full
+answered (Err objection.Differs) = Ok effect.Nothing
+answered (Err objection.Long) = Ok effect.Nothing
+
+abbrev pub checked_number : Result Effect Objection → ℕ
+checked_number (Ok e) = answer_number (Ok e)
+checked_number (Err (objection.Refused why)) = answer_number (Err why)
+checked_number (Err objection.Full) = 3
+checked_number (Err objection.Differs) = 10
+checked_number (Err objection.Long) = 11
+
+-- the machine after what came, where its text, now at u, has answered so
+abbrev pub machine_checked : Machine → Given → (u : TextKernel) → Result Effect Objection → Machine
+machine_checked m g u a =
+    record m { hosted = hosted_after m.hosted g a; text = Some u; last = last_by (answered a) g m.last }
+
+-- what came was taken where the text t does it next, and else answered, and C was told
+pub record IsTakenChecked (t : TextKernel) (old : Machine) (g : Given) (p : ℕ) (new : Option Machine) (out : FmpOutcome)
+    (number : ℕ) : Type 0 where
+  pub text : TextKernel
+  pub answer : Result Effect Objection
+  pub checked : IsChecked (refused old.hosted.kernel g) old.hosted.kernel t g text answer
+  pub step : InStep old.hosted.kernel t → InStep (hosted_after old.hosted g answer).kernel text
+  pub machine : new ≡ Some (machine_checked old g text answer)
+  pub outcome : out ≡ outcome_of (hosted_after old.hosted g answer).kernel p (answered answer)
+  pub number_is : number ≡ checked_number answer
+
+-- where there is a text, it is taken if the text does it next
+abbrev pub IsTakenBy : Option TextKernel → (old : Machine) → (g : Given) → (p : ℕ) → (new : Option Machine)
+    → (out : FmpOutcome) → (number : ℕ) → Type 0
+IsTakenBy None old g p new out number = IsTakenAny old (Ok g) p new out number
+IsTakenBy (Some t) old g p new out number = IsTakenChecked t old g p new out number
+
+-- by the machine that a handle holds; what is no call is refused
+abbrev pub IsTaken : (old : Machine) → (g : Result Given Refusal) → (p : ℕ) → (new : Option Machine)
+    → (out : FmpOutcome) → (number : ℕ) → Type 0
+IsTaken old (Ok g) p new out number = IsTakenBy old.text old g p new out number
+IsTaken old (Err why) p new out number = IsTakenAny old (Err why) p new out number
 
 -- the fault of this number
 abbrev pub fault_of : ℕ → Option Fault
@@ -102,7 +201,8 @@ fault_of n = item FAULTS n
 -- the same system, where only the page differs
 abbrev pub IsSameSystem : Option Machine → Option Machine → Type 0
 IsSameSystem None new = new ≡ None
-IsSameSystem (Some old) new = IfSome new (λ m. (m.hosted ≡ old.hosted) × (m.last ≡ old.last)) × IsSome new
+IsSameSystem (Some old) new =
+    IfSome new (λ m. (m.hosted ≡ old.hosted) × (m.text ≡ old.text) × (m.last ≡ old.last)) × IsSome new
 
 -- counts of a system and of its events
 abbrev pub counts_of : Hosted → FmpCounts

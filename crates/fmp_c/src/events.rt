@@ -1,6 +1,7 @@
 //! The events that C hands in. Each takes no memory. Its answer is 0 where nothing has happened, 1 where it is done, 3
-//! after 2^31 events, 4 where the handle is blank, 5 to 9 where a number is out of range; unless it is 1, nothing has
-//! changed.
+//! after 2^31 events, 4 where the handle is blank, 5 to 9 where a number is out of range. Of a checked system it is 10
+//! where the text of the actor does another thing next, and 11 where that text is still within a stretch, in which it
+//! has gone on by one turn. Unless it is 1, nothing that C reads has changed.
 ghost use Rattle.std.specs.Prelude.{◌≡◌, ◌∷◌, [], IfSome, None, Ok};
 ghost use Rattle.fmp_outside.specs.declared.given.Act.TheVariants as act;
 ghost use Rattle.fmp_outside.specs.declared.given.Given.TheVariants as given;

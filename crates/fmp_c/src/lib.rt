@@ -22,7 +22,7 @@ pub use looks::{
     fmp_print, fmp_state,
 };
 pub use machine::Machine;
-pub use making::{fmp_free, fmp_new};
+pub use making::{fmp_free, fmp_new, fmp_new_checked};
 pub use recorded::fmp_recorded;
 pub use records::{FmpActing, FmpOutcome, FmpRefusal};
 pub use services::{fmp_service_arity, fmp_service_name};

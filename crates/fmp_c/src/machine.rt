@@ -1,21 +1,31 @@
-//! What a handle holds: a hosted system, what came to it last, and the page on which its lines are printed.
+//! What a handle holds: a hosted system, the text that its bodies must follow, if there is one, what came to it last,
+//! and the page on which its lines are printed.
 ghost use Rattle.std.specs.Prelude.{◌≡◌, Ok, Some};
 ghost use Rattle.fmp_base.specs.Systems.{tables_of};
 ghost use Rattle.fmp_base.specs.Texts.{lines_text};
 ghost use Rattle.fmp_foreign.specs.Hosting.{answer};
-ghost use Rattle.fmp_c.specs.Exports.{machine_after, outcome_of};
+ghost use Rattle.fmp_c.specs.Exports.{IsTakenBy, answered, checked_number, last_by, machine_after, outcome_of};
 ghost use Rattle.fmp_c.specs.Records as spec;
 
 use crate::records::{FmpOutcome, answer_number, changes};
 use fmp_base::Effect;
-use fmp_foreign::{Hosted, Refusal};
+use fmp_checked::{ImageBody, Objection, follow};
+use fmp_foreign::{Hosted, Refusal, Shadow};
 use fmp_outside::Given;
 use fmp_trace::Page;
 
-/// A hosted system, what came to it last, and the page on which its lines are printed.
+/// What is answered where the text of the actor does another thing next.
+const NOT_THE_TEXT: u32 = 10;
+
+/// What is answered where the text of the actor is still within a stretch.
+const STILL_LONG: u32 = 11;
+
+/// A hosted system, the text of its bodies, what came to it last, and the page on which its lines are printed.
 #[derive(Drop)]
 pub struct Machine {
     pub hosted: Hosted,
+    /// The text that its bodies must follow; none where they may do as they like.
+    pub text: Option<Shadow<ImageBody>>,
     /// What came with the last event that was done; none before the first.
     pub last: Option<Given>,
     pub page: Page,
@@ -24,6 +34,19 @@ pub struct Machine {
 impl Machine {
     /// Hands in what came for the processor of this number, and says what C is told of it.
     pub fn take(&mut self, given: &Given, p: u8, out: &mut FmpOutcome) -> u32
+        ensures { IsTakenBy self.old.text self.old given.now p (Some self.new) out.new result }
+    {
+        match &mut self.text {
+            None => self.take_any(given, p, out),
+            Some(text) => {
+                let answer = follow(text, &mut self.hosted, *given);
+                self.judged(given, p, answer, out)
+            }
+        }
+    }
+
+    /// What came, whatever it is.
+    fn take_any(&mut self, given: &Given, p: u8, out: &mut FmpOutcome) -> u32
         ensures machine { self.new ≡ machine_after self.old (Ok given.now) }
         ensures outcome { out.new ≡ outcome_of (machine_after self.old (Ok given.now)).hosted.kernel p
             (answer self.old.hosted.kernel (Ok given.now)) }
@@ -34,6 +57,38 @@ impl Machine {
             self.remember(given);
         }
         self.tell(p, answer, out)
+    }
+
+    /// Says what C is told of what came beside the text.
+    fn judged(
+        &mut self,
+        given: &Given,
+        p: u8,
+        answer: Result<Effect, Objection>,
+        out: &mut FmpOutcome,
+    ) -> u32
+        ensures machine { self.new ≡ record self.old { last = last_by (answered answer) given.now self.old.last } }
+        ensures outcome { out.new ≡ outcome_of self.old.hosted.kernel p (answered answer) }
+        ensures number { result ≡ checked_number answer }
+    {
+        match answer {
+            Ok(effect) => {
+                if let Effect::Done = effect {
+                    self.remember(given);
+                }
+                self.tell(p, Ok(effect), out)
+            }
+            Err(Objection::Refused(why)) => self.tell(p, Err(why), out),
+            Err(Objection::Full) => self.tell(p, Err(Refusal::Full), out),
+            Err(Objection::Differs) => {
+                self.tell(p, Ok(Effect::Nothing), out);
+                NOT_THE_TEXT
+            }
+            Err(Objection::Long) => {
+                self.tell(p, Ok(Effect::Nothing), out);
+                STILL_LONG
+            }
+        }
     }
 
     fn remember(&mut self, given: &Given)
@@ -62,6 +117,7 @@ impl Machine {
         ensures text { self.new.page
             ≡ lines_text (tables_of self.old.hosted.system) self.old.hosted.kernel.done self.old.hosted.kernel.lines }
         ensures kept { self.new.hosted ≡ self.old.hosted }
+        ensures text_kept { self.new.text ≡ self.old.text }
         ensures last { self.new.last ≡ self.old.last }
     {
         self.hosted.kernel.lines_are_few();

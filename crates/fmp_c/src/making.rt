@@ -1,16 +1,22 @@
-//! Making a system from its configuration, and giving its memory back.
-ghost use Rattle.std.specs.Prelude.{◌≡◌, Err, None, IsSome, IfErr, IfOk};
+//! Making a system from its configuration or its image, and giving its memory back.
+ghost use Rattle.std.specs.Prelude.{◌≡◌, ◌<◌, ◌≤◌, ◌^◌, Err, None, IsSome, IfErr, IfOk};
 ghost use Rattle.fmp_base.specs.Codes.{code_of};
 ghost use Rattle.fmp_cfgparse.specs.Configurations.{IsRead};
+ghost use Rattle.fmp_image_bytes.specs.Images.{image_at};
+ghost use Rattle.fmp_image_parts.specs.Fields.{Fails};
 ghost use Rattle.fmp_c.specs.Exports.{IsFirst, IsMade, IsNoSystem, kind_code, kind_number};
+ghost use Rattle.fmp_c.specs.Exports.{IsCheckedMachine, IsFirstChecked, IsFirstOf, IsLoaded, IsNoBound, IsToldOfImage, image_number};
 
 use crate::handle::FmpSystem;
 use crate::machine::Machine;
 use crate::records::FmpRefusal;
+use fmp_checked::Checked;
 use fmp_foreign::Hosted;
+use fmp_image_bytes::{Image, load};
+use fmp_image_parts::{ImageFault, LoadFault};
 use fmp_lex::{BuildFault, FaultKind};
 use fmp_trace::Page;
-use std::alloc::Global;
+use std::alloc::{AllocError, Global};
 use std::mem;
 
 fn kind_number(why: FaultKind) -> u32
@@ -54,18 +60,38 @@ fn refuse(fault: BuildFault, out: &mut FmpRefusal) -> u32
     }
 }
 
+/// A value in a box. `AllocError` where memory runs out.
+fn boxed<T: Drop>(alloc: Global, value: T) -> Result<Box<T, Global>, AllocError>
+    ensures { IfOk result (λ b. b.value ≡ value) }
+{
+    match Box::new(alloc, value) {
+        Ok(boxed) => Ok(boxed),
+        Err(_) => Err(AllocError),
+    }
+}
+
+/// A hosted system without a text, before the first event.
+fn plain(hosted: Hosted) -> Machine
+    ensures hosted { result.hosted ≡ hosted }
+    ensures text { result.text ≡ None }
+    ensures last { result.last ≡ None }
+{
+    Machine {
+        hosted,
+        text: None,
+        last: None,
+        page: Page::new(),
+    }
+}
+
 /// The system that a configuration describes, after setup.
+#[tactic(auto, using(crate::proofs::Taken::first_plain))]
 fn made(alloc: Global, text: &[u8]) -> Result<Box<Machine, Global>, BuildFault>
     ensures new { IfOk result (λ b. IsFirst text.now b.value) }
     ensures refused { IfErr result (λ fault. IsRead text.now (Err fault)) }
 {
     let hosted = Hosted::new(alloc, text)?;
-    let machine = Machine {
-        hosted,
-        last: None,
-        page: Page::new(),
-    };
-    match Box::new(alloc, machine) {
+    match boxed(alloc, plain(hosted)) {
         Ok(machine) => Ok(machine),
         Err(_) => Err(BuildFault::Memory),
     }
@@ -95,6 +121,150 @@ pub extern "C" fn fmp_new(
             }
             Err(fault) => refuse(fault, out),
         },
+    }
+}
+
+fn image_number(why: ImageFault) -> u32
+    ensures { result ≡ image_number why }
+{
+    match why {
+        ImageFault::Short => 1,
+        ImageFault::Magic => 2,
+        ImageFault::Version => 3,
+        ImageFault::Table => 4,
+        ImageFault::Code => 5,
+        ImageFault::Trailing => 6,
+    }
+}
+
+/// What C is told of a fault of an image.
+fn refuse_image(fault: LoadFault, out: &mut FmpRefusal) -> u32
+    ensures { IsToldOfImage fault out.old out.new result }
+{
+    match fault {
+        LoadFault::Memory => 3,
+        LoadFault::Image(why) => {
+            *out = FmpRefusal {
+                line: 0,
+                kind: image_number(why),
+                code: 0,
+            };
+            1
+        }
+    }
+}
+
+/// A checked system before the first event.
+fn machine_of(checked: Checked) -> Machine
+    ensures { IsCheckedMachine checked.hosted checked.text result }
+{
+    let (hosted, text) = checked.into_parts();
+    Machine {
+        hosted,
+        text: Some(text),
+        last: None,
+        page: Page::new(),
+    }
+}
+
+/// The system of an image, after setup, with its text. The fault is out of memory.
+#[tactic(auto, using(crate::proofs::Taken::first_of))]
+fn checked_machine(alloc: Global, image: Image, bound: u64) -> Result<Machine, LoadFault>
+    requires low { 1 ≤ bound }
+    requires high { bound ≤ 2 ^ 48 }
+    ensures new { IfOk result (IsFirstOf image bound) }
+    ensures memory { IfErr result (λ fault. fault ≡ LoadFault.Memory) }
+{
+    match Checked::new(alloc, image, bound) {
+        Ok(checked) => Ok(machine_of(checked)),
+        Err(_) => Err(LoadFault::Memory),
+    }
+}
+
+/// The same in a box.
+#[tactic(auto, using(crate::proofs::Taken::first_boxed))]
+fn boxed_machine(alloc: Global, image: Image, bound: u64) -> Result<Box<Machine, Global>, LoadFault>
+    requires low { 1 ≤ bound }
+    requires high { bound ≤ 2 ^ 48 }
+    ensures new { IfOk result (λ b. IsFirstOf image bound b.value) }
+    ensures memory { IfErr result (λ fault. fault ≡ LoadFault.Memory) }
+{
+    let machine = checked_machine(alloc, image, bound)?;
+    match boxed(alloc, machine) {
+        Ok(machine) => Ok(machine),
+        Err(_) => Err(LoadFault::Memory),
+    }
+}
+
+/// The system of the image that these bytes spell, after setup, with its text.
+#[tactic(auto, using(crate::proofs::Taken::first_checked, crate::proofs::Taken::memory_fails))]
+fn made_checked(alloc: Global, bytes: &[u8], bound: u64) -> Result<Box<Machine, Global>, LoadFault>
+    requires low { 1 ≤ bound }
+    requires high { bound ≤ 2 ^ 48 }
+    ensures new { IfOk result (λ b. IsFirstChecked bytes.now bound b.value) }
+    ensures refused { IfErr result (λ fault. Fails fault (image_at bytes.now)) }
+{
+    match load(alloc, bytes) {
+        Ok(image) => boxed_machine(alloc, image, bound),
+        Err(fault) => Err(fault),
+    }
+}
+
+/// What is answered where the bound of a stretch is out of range.
+const NO_BOUND: u32 = 5;
+
+/// The greatest bound of a stretch.
+const LONGEST: u64 = 1 << 48;
+
+/// The same in a blank handle.
+fn load_into(
+    alloc: Global,
+    image: &[u8],
+    bound: u64,
+    h: &mut FmpSystem,
+    out: &mut FmpRefusal,
+) -> u32
+    requires { h.old.machine ≡ None }
+    ensures made { 1 ≤ bound → bound ≤ 2 ^ 48 → IsLoaded image.now bound h.new.machine out.old out.new result }
+    ensures short { bound < 1 → IsNoBound h.new.machine out.old out.new result }
+    ensures long { 2 ^ 48 < bound → IsNoBound h.new.machine out.old out.new result }
+{
+    if bound < 1 || bound > LONGEST {
+        return NO_BOUND;
+    }
+    match made_checked(alloc, image, bound) {
+        Ok(machine) => {
+            *h = FmpSystem::of(machine);
+            0
+        }
+        Err(fault) => refuse_image(fault, out),
+    }
+}
+
+/// The system of an image, after setup, in a blank handle, with the text that its bodies must follow: 0. A stretch of
+/// the text takes at most `bound` instructions in a turn, 1 to 2^48. Else the handle stays blank: 1 where the bytes
+/// spell no image, for this fault; 3 where memory runs out; 5 where the bound is out of range. 4 where the handle holds
+/// a system, which it keeps.
+#[unsafe(no_mangle)]
+pub extern "C" fn fmp_new_checked(
+    alloc: Global,
+    image: &[u8],
+    bound: u64,
+    h: &mut FmpSystem,
+    out: &mut FmpRefusal,
+) -> u32
+    ensures made { h.old.machine ≡ None → 1 ≤ bound → bound ≤ 2 ^ 48 →
+        IsLoaded image.now bound h.new.machine out.old out.new result }
+    ensures short { h.old.machine ≡ None → bound < 1 → IsNoBound h.new.machine out.old out.new result }
+    ensures long { h.old.machine ≡ None → 2 ^ 48 < bound → IsNoBound h.new.machine out.old out.new result }
+    ensures held { IsSome h.old.machine → (h.new.machine ≡ h.old.machine) × (out.new ≡ out.old) × (result ≡ 4) }
+{
+    match mem::replace(h, FmpSystem::blank()).into_box(alloc) {
+        Some(held) => {
+            *h = FmpSystem::of(held);
+            4
+        }
+        None => load_into(alloc, image, bound, h, out),
     }
 }
 
