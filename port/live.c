@@ -299,7 +299,7 @@ __attribute__((noinline)) static int *place_of_errno(void)
     return &errno;
 }
 
-/* A body that is interrupted polls. When it goes on, its thread keeps the stack for signals that it has. */
+/* A body that is interrupted polls. Where it goes on, the thread keeps its stack for signals. */
 static void on_preemption(int number, siginfo_t *about, void *context)
 {
     ucontext_t *interrupted = context;
@@ -310,7 +310,7 @@ static void on_preemption(int number, siginfo_t *about, void *context)
         int kept = *place_of_errno();
         give_way(flow);
         *place_of_errno() = kept;
-        interrupted->uc_stack.ss_sp = here()->signal_stack;
+        sigaltstack(NULL, &interrupted->uc_stack);
     }
 }
 
@@ -579,6 +579,8 @@ enum fmp_over fmp_run(long nanoseconds, unsigned long ticks, FILE *messages)
     signals_take(by_signals ? on_preemption : NULL);
     run_threads(messages);
     signals_give_back();
+    system_steppable = by_signals ? 0 : system_steppable;
+    by_signals = false;
     overflow_watch(recording_end);
     atomic_store(&takes_requests, false);
     atomic_store(&halted, false);

@@ -23,7 +23,8 @@ struct event {
 };
 
 fmp_system system_kernel = FMP_BLANK;
-uint32_t system_processors;                             /* 0 while no system is open */
+uint32_t system_processors;
+uint32_t system_steppable;
 unsigned long system_polls;
 const struct driver *system_driver;
 
@@ -224,7 +225,7 @@ uint32_t system_hand_in(uint8_t p, struct flow *flow, uint32_t *changes)
 
 uint32_t system_step(uint8_t p, const struct driver *driver, struct coroutine *outside)
 {
-    if ((uint8_t)(p - 1) >= system_processors) {
+    if ((uint8_t)(p - 1) >= system_steppable) {
         return system_kernel.at == NULL ? FMP_NO_SYSTEM : FMP_NOTHING;
     }
     struct event *event = &last[(uint8_t)(p - 1)];
@@ -370,7 +371,7 @@ static enum fmp_opened equip(const struct fmp_program *program, FILE *messages)
 {
     fmp_event_counts counts = { 0, 0, 0, 0 };
     fmp_counts(&system_kernel, &counts);
-    system_processors = counts.processors;
+    system_steppable = system_processors = counts.processors;
     system_polls = program->polls != 0 ? program->polls : USUAL_POLLS;
     if (!find_all(program, messages)) {
         return FMP_BODY_MISSING;
@@ -415,7 +416,7 @@ void fmp_close(void)
         forget(&handlers[at]);
     }
     fmp_free(&system_kernel);
-    system_processors = 0;
+    system_steppable = 0;
 }
 
 void fmp_print_states(FILE *out)

@@ -39,6 +39,7 @@ struct driver {
 
 extern fmp_system system_kernel;
 extern uint32_t system_processors;
+extern uint32_t system_steppable;               /* as many, or 0 once bodies were interrupted at any instruction */
 extern unsigned long system_polls;              /* of the program */
 extern const struct driver *system_driver;      /* while bodies go on */
 

@@ -11,6 +11,7 @@
  *   real overflow        a task that overflows its stack
  */
 #define _DEFAULT_SOURCE
+#include "fmp.h"
 #include "kernel.h"
 #include "live.h"
 #include "replaying.h"
@@ -374,7 +375,10 @@ static int run_ends(void)
     expect(fmp_run(100000, 10, stderr) == FMP_TICKS_OVER, "it goes on in another run");
     fflush(recording.file);
     expect(count_lines(recording.text, "tick") == 60, "that made its ticks");
-    fmp_step_tick();
+    const char *how = getenv("FMP_PREEMPT");
+    uint32_t stepped = how != NULL && strcmp(how, "signal") == 0 ? FMP_NOTHING : FMP_KEPT;
+    expect(fmp_step_tick() == FMP_DONE && fmp_step_run(1) == stepped, "it goes on in virtual time, or it cannot");
+    expect(fmp_run(100000, 10, stderr) == FMP_TICKS_OVER, "and in real time again");
     fmp_halt();
     expect(fmp_run(0, 0, stderr) == FMP_HALTED, "a halt before a run ends it at its start");
     end_system();

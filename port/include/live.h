@@ -34,8 +34,10 @@ enum fmp_over {
  * that once the kernel runs it again. A body that does none of these keeps its processor, and the run from its end.
  *
  * With FMP_PREEMPT=signal in the environment (on x86-64), it is replaced at any instruction, by SIGURG to the thread of
- * its processor. It must then not use what it shares with others, nor functions of the C library that are not safe in
- * signal handlers, such as malloc and printf, unless dis_dsp or loc_cpu keeps others away.
+ * its processor. It must then not use what it shares with others of its processor, nor functions of the C library that
+ * are not safe in signal handlers, such as malloc and printf, unless dis_dsp keeps other tasks away, and loc_cpu
+ * handlers too. Such a system does not go on in virtual time: fmp_step_run is FMP_NOTHING then. A body that has run in
+ * virtual time is interrupted after its next call.
  *
  * A task that is terminated leaves its stack as it is: nothing is freed that it took.
  *
