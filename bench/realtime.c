@@ -7,6 +7,8 @@
  *   realtime latency NANOSECONDS COUNT idle | polls | calls
  *                   a cyclic handler wakes a task at each of COUNT ticks: from the due time of the tick to the task,
  *                   while another task computes, which polls or calls, or none
+ *   realtime idle NANOSECONDS SECONDS
+ *                   four processors whose tasks sleep: the processor time that they take, and how often they wake up
  *   realtime soak SECONDS FILE
  *                   tasks of three processors that wake each other at each of 1,000 ticks a second, and for interrupts
  *                   that come at random: events, memory, processor time, and the recording in a file
@@ -176,6 +178,51 @@ static int time_ticks(long tick, const char *busy)
     return status;
 }
 
+/* Idle. */
+
+static void sleep_for_ever(intptr_t exinf)
+{
+    (void)exinf;
+    slp_tsk();
+}
+
+/* Halts the run after so many seconds. */
+static void *halt_after(void *seconds)
+{
+    nanosleep(&(struct timespec){ .tv_sec = atol(seconds) }, NULL);
+    fmp_halt();
+    return NULL;
+}
+
+static double seconds_of(struct timeval time)
+{
+    return (double)time.tv_sec + (double)time.tv_usec / 1e6;
+}
+
+static int time_idle(long tick, char *seconds)
+{
+    static const struct fmp_body bodies[] = { { "sleep", sleep_for_ever } };
+    struct rusage before, after;
+    char *end = configuration;
+    pthread_t halter;
+    end += sprintf(end, "NUM_PRC(4);\n");
+    for (int p = 1; p <= 4; p++) {
+        end += sprintf(end, "CLASS(TCL_%d) { CRE_TSK(T%d, { TA_ACT, 0, sleep, 1, 4096, NULL }); }\n", p, p);
+    }
+    if (pthread_create(&halter, NULL, halt_after, seconds) != 0) {
+        return 2;
+    }
+    getrusage(RUSAGE_SELF, &before);
+    int status = run(bodies, 1, tick, NULL);
+    getrusage(RUSAGE_SELF, &after);
+    pthread_join(halter, NULL);
+    printf("%.4f s of processor time in %s s, woken up %ld times\n",
+           seconds_of(after.ru_utime) + seconds_of(after.ru_stime) - seconds_of(before.ru_utime)
+               - seconds_of(before.ru_stime),
+           seconds, after.ru_nvcsw - before.ru_nvcsw);
+    return status;
+}
+
 /* Soak. */
 
 enum { PRODUCER = 1, QUEUE = 1, REQUESTS = 1, INTERRUPT = 3, TICK = 1000000 };
@@ -315,6 +362,9 @@ static int soak(char *seconds, const char *path)
 
 int main(int argc, char **argv)
 {
+    if (argc == 4 && strcmp(argv[1], "idle") == 0) {
+        return time_idle(atol(argv[2]), argv[3]);
+    }
     if (argc == 4 && strcmp(argv[1], "soak") == 0) {
         return soak(argv[2], argv[3]);
     }
