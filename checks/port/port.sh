@@ -141,12 +141,14 @@ performed() {
 
 # A stack that overflows is found, and its task is named; and so is what memory is too little for.
 failures() {
-    problem=
-    status=0
-    plain/real overflow > output 2>&1 || status=$?
-    [ $status = 3 ] || problem="status $status"
-    [ "$(cat output)" = "fmp: the stack of MAIN overflows" ] || problem="$problem, it says: $(head -c 300 output)"
-    verdict "a stack that overflows" "$problem"
+    for driver in live virtual; do
+        problem=
+        status=0
+        plain/real overflow $driver > output 2>&1 || status=$?
+        [ $status = 3 ] || problem="status $status"
+        [ "$(cat output)" = "fmp: the stack of MAIN overflows" ] || problem="$problem, it says: $(head -c 300 output)"
+        verdict "a stack that overflows, $driver" "$problem"
+    done
     problem=
     plain/real limits > output 2>&1 || problem="status $?"
     case $(cat output) in

@@ -8,7 +8,8 @@
  *   real endless FILE    runs one such system until a signal ends it or all is dormant, and records it in a file
  *   real ends            runs that are over for each reason
  *   real limits          systems for which there is too little memory
- *   real overflow        a task that overflows its stack
+ *   real overflow live | virtual
+ *                        a task that overflows its stack
  */
 #define _DEFAULT_SOURCE
 #include "fmp.h"
@@ -460,9 +461,9 @@ int main(int argc, char **argv)
     if (argc == 2 && strcmp(argv[1], "ends") == 0) {
         return run_ends();
     }
-    if (argc == 2 && strcmp(argv[1], "overflow") == 0) {
-        run_few(overflow, false, 0, 0);
-        return 0;
+    if (argc == 3 && strcmp(argv[1], "overflow") == 0) {
+        open_few(overflow, false);
+        return strcmp(argv[2], "live") == 0 ? fmp_run(0, 0, stderr) != FMP_ALL_DORMANT : fmp_step_run(1) != FMP_DONE;
     }
     if (argc == 2 && strcmp(argv[1], "limits") == 0) {
         return run_limits();
