@@ -5,8 +5,8 @@
 # make install-c [PREFIX=/usr/local] [DESTDIR=] [QUICK=1]
 #
 # `quick` builds optimized programs and the library for C below quick/, in minutes and with no proof: they say
-# `proved=no`. What stands there is built again only where its sources changed. JOBS are built at once, with 1.5 GB of
-# memory each.
+# `proved=no`. What stands there is built again only where its sources changed. JOBS are built at once, with up to 2 GB
+# of memory each.
 #
 # `install` copies the proved programs, their manual pages, their completions and the reference below PREFIX, and says
 # where; and the library for C, its headers, its manual page and its pkg-config file, once `library` has made it.
@@ -22,6 +22,7 @@ VIEW ?= quick/fmp_view
 LIBRARY ?= quick/libfmp_c.a
 C_ROOM ?= quick/c
 TAKEN = taken: $(PROGRAM) and $(VIEW), of which nothing is proved
+UNPROVED = -e 's|: A proved|: An unproved|'
 else
 PROGRAM ?= crates/fmp/out/fmp
 VIEW ?= crates/fmp_view/out/fmp_view
@@ -73,7 +74,7 @@ uninstall:
 .PHONY: quick
 quick:
 	@tools/quick.py --jobs $(JOBS) quick
-	@if command -v $(CC) > /dev/null; then $(MAKE) -s QUICK=1 library; else echo "no C compiler: no library for C"; fi
+	@$(MAKE) -s QUICK=1 library
 	@echo "quick/fmp, quick/fmp_view and quick/c/libfmp.a: nothing of them is proved"
 
 # $(call missing,PROGRAM,FOLDER)
@@ -133,4 +134,4 @@ endef
 .PHONY: install-c
 install-c: $(ARCHIVE)
 	$(call all_for_c,copied)
-	@sed 's|@PREFIX@|$(PREFIX)|' port/fmp.pc.in > "$(ROOM)/lib/pkgconfig/fmp.pc"
+	@sed -e 's|@PREFIX@|$(PREFIX)|' $(UNPROVED) port/fmp.pc.in > "$(ROOM)/lib/pkgconfig/fmp.pc"
