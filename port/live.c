@@ -182,6 +182,8 @@ static void heard(uint32_t answer, uint32_t changes, uint32_t own)
         tell_all((changes | spinning) & ~own);
     } else if (answer == FMP_FULL) {
         end_run(FMP_EVENTS_FULL);
+    } else if (answer == FMP_NOT_THE_TEXT) {
+        end_run(FMP_LEFT_THE_TEXT);
     }
 }
 
@@ -213,13 +215,20 @@ static bool acts(struct processor *me, const struct flow *flow)
 
 /* Bodies. */
 
-/* Hands in what a body wishes. Where a spin lock is held, it waits for the next event: nothing changes before it. */
+/*
+ * Hands in what a body wishes. Where a spin lock is held, it waits for the next event: nothing changes before it. Where
+ * the text of the body is within a long stretch, others may go on.
+ */
 static void carry_out(struct processor *me, struct flow *flow)
 {
-    if (hand_in(me, flow) == FMP_NOTHING) {
+    uint32_t answer = hand_in(me, flow);
+    if (answer == FMP_NOTHING) {
         spinning |= bit_of(me);
         await_news(me);
         spinning &= ~bit_of(me);
+    } else if (answer == FMP_STILL_LONG) {
+        release_lock();
+        take_lock();
     }
 }
 

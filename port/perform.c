@@ -16,7 +16,7 @@ static long count_of(const char *word)
 /* What the command line asks for. */
 struct wanted {
     struct fmp_recording form;
-    const char *cfg;
+    const char *image, *cfg;    /* image may be NULL */
     long nanoseconds, ticks;
     const char *recording;      /* or NULL */
 };
@@ -28,6 +28,8 @@ static bool read_words(int argc, char **argv, struct wanted *it)
     for (; at < argc && argv[at][0] == '-'; at++) {
         if (strcmp(argv[at], "--times") == 0) {
             it->form.has_times = true;
+        } else if (strcmp(argv[at], "--image") == 0 && at + 1 < argc) {
+            it->image = argv[++at];
         } else if (strcmp(argv[at], "--last") == 0 && at + 1 < argc && count_of(argv[at + 1]) > 0) {
             it->form.last = (size_t)count_of(argv[++at]);
         } else {
@@ -65,11 +67,24 @@ static int perform(const char *text, size_t length, const struct wanted *it, con
     return why == FMP_ALL_DORMANT || why == FMP_TICKS_OVER || why == FMP_HALTED ? 0 : 3;
 }
 
+/* The same of files. */
+static int perform_files(const struct wanted *it, struct fmp_program program, FILE *recording)
+{
+    size_t length;
+    char *image = it->image != NULL ? system_text(it->image, &program.image_length) : NULL;
+    char *cfg = it->image == NULL || image != NULL ? system_text(it->cfg, &length) : NULL;
+    program.image = image != NULL ? (const uint8_t *)image : program.image;
+    int status = cfg != NULL ? perform(cfg, length, it, &program, recording) : 3;
+    free(cfg);
+    free(image);
+    return status;
+}
+
 int fmp_perform(int argc, char **argv, const struct fmp_program *program)
 {
     struct wanted it = { .form = { .has_times = false, .last = 0 } };
     if (!read_words(argc, argv, &it)) {
-        fprintf(stderr, "usage: %s [--times] [--last EVENTS] CFG NANOSECONDS TICKS [RECORDING]\n",
+        fprintf(stderr, "usage: %s [--image IMAGE] [--times] [--last EVENTS] CFG NANOSECONDS TICKS [RECORDING]\n",
                 argc > 0 ? argv[0] : "perform");
         return 2;
     }
@@ -78,12 +93,9 @@ int fmp_perform(int argc, char **argv, const struct fmp_program *program)
         fprintf(stderr, "file: %s\n", it.recording);
         return 3;
     }
-    size_t length;
-    char *text = system_text(it.cfg, &length);
-    int status = text != NULL ? perform(text, length, &it, program, recording) : 3;
+    int status = perform_files(&it, *program, recording);
     if (recording != NULL && !system_close(recording, it.recording)) {
         status = 3;
     }
-    free(text);
     return status;
 }

@@ -1,6 +1,7 @@
 /* system.c: the system at hand, its bodies and their events. */
 #include "system.h"
 
+#include "checked.h"
 #include "kernel.h"
 #include "overflow.h"
 #include "recording.h"
@@ -25,6 +26,7 @@ struct event {
 fmp_system system_kernel = FMP_BLANK;
 uint32_t system_processors;
 uint32_t system_steppable;
+bool system_left_the_text;
 unsigned long system_polls;
 const struct driver *system_driver;
 
@@ -34,6 +36,7 @@ static struct event last[PROCESSORS];
 static body_function cyclics[CYCLICS];
 static body_function interrupts[INTERRUPTS];
 static FILE *trace_file;                                /* NULL where nothing is printed */
+static FILE *message_file;
 
 /* Bodies. */
 
@@ -211,6 +214,9 @@ static inline uint32_t hand_in(uint8_t p, struct flow *flow, struct event *event
         }
     } else if (answer == FMP_KEPT) {
         flow->wish = GOES_ON;
+    } else if (answer == FMP_NOT_THE_TEXT) {
+        system_left_the_text = true;
+        checked_complain(flow, message_file);
     }
     return answer;
 }
@@ -376,7 +382,10 @@ static enum fmp_opened equip(const struct fmp_program *program, FILE *messages)
     if (!find_all(program, messages)) {
         return FMP_BODY_MISSING;
     }
-    return take_stacks(messages) ? FMP_OPENED : FMP_MEMORY_OUT;
+    if (!take_stacks(messages)) {
+        return FMP_MEMORY_OUT;
+    }
+    return program->image != NULL ? checked_make(program, messages) : FMP_OPENED;
 }
 
 enum fmp_opened fmp_open(const char *text, size_t length, const struct fmp_program *program, FILE *trace,
@@ -393,6 +402,8 @@ enum fmp_opened fmp_open(const char *text, size_t length, const struct fmp_progr
         return opened;
     }
     trace_file = trace;
+    message_file = messages;
+    system_left_the_text = false;
     overflow_use(signal_stack);
     overflow_watch(recording_end);
     follow(UINT32_MAX);

@@ -72,7 +72,7 @@ static bool step(const char *line, size_t length)
     if (length == 4 && memcmp(line, "tick", 4) == 0) {
         fmp_step_tick();
     } else if ((number = number_behind(line, length, "run ")) != 0) {
-        fmp_step_run(number);
+        return fmp_step_run(number) != FMP_NOT_THE_TEXT;
     } else if ((number = number_behind(line, length, "int ")) != 0) {
         fmp_step_int(number);
     } else {
@@ -97,6 +97,11 @@ unsigned long fmp_play(const char *steps, size_t length)
 
 /* The whole of it. */
 
+/* What the command line names. */
+struct files {
+    const char *image, *cfg, *steps, *recording;        /* image and recording may be NULL */
+};
+
 /* The steps of a text over the system of another one. The exit status. */
 static int simulate(const char *cfg, size_t cfg_length, const char *steps, size_t length,
                     const struct fmp_program *program, FILE *recording)
@@ -106,34 +111,46 @@ static int simulate(const char *cfg, size_t cfg_length, const char *steps, size_
     }
     fmp_record(recording);
     unsigned long wrong = fmp_play(steps, length);
-    if (wrong != 0) {
-        fprintf(stderr, "steps:%lu: S1\n", wrong);
-    } else {
+    if (wrong == 0) {
         fmp_print_states(stdout);
+    } else if (!system_left_the_text) {
+        fprintf(stderr, "steps:%lu: S1\n", wrong);
     }
     fmp_close();
     return wrong != 0;
 }
 
-int fmp_simulate(int argc, char **argv, const struct fmp_program *program)
+/* The same of files. */
+static int simulate_files(const struct files *files, struct fmp_program program, FILE *recording)
 {
-    if (argc != 3 && argc != 4) {
-        fprintf(stderr, "usage: %s CFG STEPS [RECORDING]\n", argc > 0 ? argv[0] : "simulate");
-        return 2;
-    }
-    FILE *recording = argc == 4 ? fopen(argv[3], "w") : NULL;
-    if (argc == 4 && recording == NULL) {
-        fprintf(stderr, "file: %s\n", argv[3]);
-        return 3;
-    }
     size_t length, steps_length;
-    char *cfg = system_text(argv[1], &length);
-    char *steps = cfg != NULL ? system_text(argv[2], &steps_length) : NULL;
-    int status = steps != NULL ? simulate(cfg, length, steps, steps_length, program, recording) : 3;
-    if (recording != NULL && !system_close(recording, argv[3])) {
-        status = 3;
-    }
+    char *image = files->image != NULL ? system_text(files->image, &program.image_length) : NULL;
+    char *cfg = files->image == NULL || image != NULL ? system_text(files->cfg, &length) : NULL;
+    char *steps = cfg != NULL ? system_text(files->steps, &steps_length) : NULL;
+    program.image = image != NULL ? (const uint8_t *)image : program.image;
+    int status = steps != NULL ? simulate(cfg, length, steps, steps_length, &program, recording) : 3;
     free(steps);
     free(cfg);
+    free(image);
+    return status;
+}
+
+int fmp_simulate(int argc, char **argv, const struct fmp_program *program)
+{
+    int at = argc > 2 && strcmp(argv[1], "--image") == 0 ? 3 : 1;
+    if (argc - at != 2 && argc - at != 3) {
+        fprintf(stderr, "usage: %s [--image IMAGE] CFG STEPS [RECORDING]\n", argc > 0 ? argv[0] : "simulate");
+        return 2;
+    }
+    const struct files files = { at == 3 ? argv[2] : NULL, argv[at], argv[at + 1], argv[at + 2] };
+    FILE *recording = files.recording != NULL ? fopen(files.recording, "w") : NULL;
+    if (files.recording != NULL && recording == NULL) {
+        fprintf(stderr, "file: %s\n", files.recording);
+        return 3;
+    }
+    int status = simulate_files(&files, *program, recording);
+    if (recording != NULL && !system_close(recording, files.recording)) {
+        status = 3;
+    }
     return status;
 }

@@ -5,10 +5,11 @@
 # compilers, with the sanitizers of one, with valgrind, and with the library as `make install` copies it. It names what
 # is not on the machine.
 #
-#   checks/port/port.sh [LIBRARY [COUNT]]
+#   [FMP=PROGRAM] checks/port/port.sh [LIBRARY [COUNT]]
 #
 # LIBRARY is crates/fmp_c/out/libfmp_c.a where it is not given, as the gate or `rt lib` makes it. COUNT is how many
-# random systems are run (1,000). Where there is no C compiler the script says that it did not run, with status 0.
+# random systems are run (1,000). FMP is the program that makes images (crates/fmp/out/fmp). Where there is no C
+# compiler the script says that it did not run, with status 0.
 set -eu
 
 LC_ALL=C
@@ -17,6 +18,7 @@ root=$(cd "$(dirname "$0")/../.." && pwd)
 script=checks/port/port.sh
 library=${1:-$root/crates/fmp_c/out/libfmp_c.a}
 count=${2:-1000}
+fmp=${FMP:-$root/crates/fmp/out/fmp}
 cc=${CC:-cc}
 
 if ! command -v "$cc" > /dev/null; then
@@ -59,7 +61,7 @@ compiled() {
         "$@" $strict -c "$source" -o "$kind/$(basename "$source" .c).o" 2> errors ||
             verdict "$kind: $(basename "$source")" "it does not compile: $(head -c 300 errors)"
     done
-    parts="system coroutine overflow recording virtual live signals perform replaying"
+    parts="system checked coroutine overflow recording virtual live signals perform replaying"
     for part in $parts; do
         ar rc "$kind/libport.a" "$kind/$part.o"
     done
@@ -175,6 +177,40 @@ failures() {
     verdict "a preemption that there is not" "$problem"
 }
 
+# Each example does what its task text does, in virtual and in real time; a text that sends another word is not
+# that of its bodies. The images are made by the program `fmp`.
+checked() {
+    for source in "$root"/examples/c/*.c; do
+        name=$(basename "$source" .c)
+        problem=
+        example=$root/examples/$name
+        "$fmp" build "$example.cfg" "$example.src" "$name.img" > output 2>&1 || problem="no image: $(cat output)"
+        plain/"$name" --image "$name.img" "$example.cfg" "$example.steps" > output 2> errors || problem="status $?"
+        cmp -s "$example.trace" output || problem="$problem, it prints another trace"
+        plain/"live-$name" --image "$name.img" "$example.cfg" 200000 20 "$name.calls" > trace 2>> errors ||
+            problem="$problem, status $? in real time"
+        plain/replay "$example.cfg" "$name.calls" > output 2>> errors || problem="$problem, no replay"
+        cmp -s trace output || problem="$problem, its recording gives another trace"
+        [ ! -s errors ] || problem="$problem, it says: $(head -c 300 errors)"
+        verdict "checked: $name" "$problem"
+    done
+    problem=
+    sed 's/6 \* 7/6 * 8/' "$root/examples/queue.src" > other.src
+    "$fmp" build "$root/examples/queue.cfg" other.src other.img > output 2>&1 || problem="no image: $(cat output)"
+    said="fmp: PRODUCER calls snd_dtq 1 42; its text does not"
+    plain/queue --image other.img "$root/examples/queue.cfg" "$root/examples/queue.steps" > output 2> errors &&
+        problem="$problem, status 0"
+    [ "$(cat errors)" = "$said" ] || problem="$problem, it says: $(head -c 300 errors)"
+    plain/live-queue --image other.img "$root/examples/queue.cfg" 200000 20 > output 2> errors &&
+        problem="$problem, status 0 in real time"
+    [ "$(cat errors)" = "$said" ] || problem="$problem, it says: $(head -c 300 errors)"
+    plain/queue --image sum.img "$root/examples/queue.cfg" "$root/examples/queue.steps" > output 2> errors &&
+        problem="$problem, status 0 with the image of another configuration"
+    [ "$(cat errors)" = "fmp: the image is not one of the configuration" ] ||
+        problem="$problem, it says: $(head -c 300 errors)"
+    verdict "checked: another text" "$problem"
+}
+
 # kills COUNT: runs that signals end at random moments.
 kills() {
     problem=
@@ -275,6 +311,11 @@ performed plain "$cc" -O2
 real plain 30 call signal
 failures
 kills 20
+if [ -x "$fmp" ]; then
+    checked
+else
+    echo "$script: there is no program $fmp: nothing is checked beside texts"
+fi
 
 compiled contexts "$cc" -O2 -DFMP_UCONTEXT
 examples contexts

@@ -9,8 +9,8 @@
  * - Pointers are not null, also of texts and rooms of length 0, and what they point to is initialized.
  * - malloc and free are those of the C library. No function is called from a signal handler or a forked child.
  *
- * Only fmp_new and fmp_new_checked take memory, and only fmp_free gives it back. Numbers of processors, tasks, handlers,
- * interrupts and objects go from 1. A number that is out of range, and a blank handle, are answers.
+ * Only fmp_new and fmp_new_checked take memory, and only fmp_free gives it back. Numbers of processors, tasks,
+ * handlers, interrupts and objects go from 1. A number that is out of range, and a blank handle, are answers.
  */
 #ifndef FMP_H
 #define FMP_H
@@ -42,7 +42,7 @@ enum fmp_answer {
     FMP_NO_INTERRUPT = 8,
     FMP_NO_FAULT = 9,
     FMP_NOT_THE_TEXT = 10,  /* the text of the actor does another thing next; only from a checked system */
-    FMP_STILL_LONG = 11     /* the text of the actor needs more turns first, so call again; only from a checked system */
+    FMP_STILL_LONG = 11     /* the text of the actor needs more turns first: call again; only from a checked system */
 };
 
 /* What fmp_new and fmp_new_checked answer. */
@@ -148,8 +148,8 @@ uint32_t fmp_new(const uint8_t *text, size_t length, fmp_system *, fmp_refusal *
 
 /*
  * A checked system: that of an image, as `fmp build` writes it, whose text the bodies must follow. A call, an end or a
- * fault is done only if it is what the text of the actor does next. So the lines and the states are always those of a run
- * of the text, and what holds of the text along all schedules holds of the C program. One event may take as many
+ * fault is done only if it is what the text of the actor does next. So the lines and the states are always those of a
+ * run of the text, and what holds of the text along all schedules holds of the C program. One event may take as many
  * instructions of the text as the bound says, 1 to 2^48. Each FMP_STILL_LONG counts as an event towards FMP_FULL.
  *
  * An image has no names of bodies. A port that needs them makes a system of the configuration too, and frees it.

@@ -22,6 +22,7 @@ enum fmp_over {
     FMP_EVENTS_FULL,        /* the kernel takes no more events */
     FMP_NO_THREAD,          /* a thread could not be made; a message names it */
     FMP_NOT_OPEN,           /* no system is open, or it runs */
+    FMP_LEFT_THE_TEXT,      /* a body does not do what its text does next; a message says which, and what */
     FMP_NO_PREEMPTION       /* FMP_PREEMPT asks for what there is not; a message says so */
 };
 
@@ -60,9 +61,10 @@ void fmp_halt(void);
 int64_t fmp_tick_due(void);
 
 /*
- * The whole of it: PROGRAM [--times] [--last EVENTS] CFG NANOSECONDS TICKS [RECORDING] prints the trace and the states
- * at the end, and writes the recording: with times, or of the last events alone. The exit status: 0 where the run is
- * over as it should be, 1 where the system cannot be opened, 2 where the command line is wrong, else 3.
+ * The whole of it: PROGRAM [--image IMAGE] [--times] [--last EVENTS] CFG NANOSECONDS TICKS [RECORDING] prints the trace
+ * and the states at the end, and writes the recording: with times, or of the last events alone. With an image the run
+ * is checked. The exit status: 0 where the run is over as it should be, 1 where the system cannot be opened, 2 where
+ * the command line is wrong, else 3.
  */
 int fmp_perform(int argc, char **argv, const struct fmp_program *);
 

@@ -21,6 +21,9 @@ struct fmp_program {
     const struct fmp_body *bodies;
     size_t count;
     unsigned long polls;    /* in virtual time: after how many in one step a body keeps its place; 0: 1,000,000 */
+    const uint8_t *image;   /* of the configuration with texts of its bodies, which they must follow; or NULL */
+    size_t image_length;
+    uint64_t bound;         /* how many instructions of a text are tried at a time; 0: 100,000 */
 };
 
 enum fmp_opened {
@@ -28,13 +31,17 @@ enum fmp_opened {
     FMP_CONFIGURATION_REFUSED,
     FMP_BODY_MISSING,
     FMP_MEMORY_OUT,
-    FMP_ALREADY_OPEN
+    FMP_ALREADY_OPEN,
+    FMP_IMAGE_REFUSED
 };
 
 /*
  * The system of a configuration after setup. The trace goes to `trace`; NULL: none is printed. `messages` is told what
  * is wrong with the configuration, and each body that it names for which there is no function. One system is open at a
  * time.
+ *
+ * A program with an image, as `fmp build` writes it, is checked: a call, an end or a fault of a body that is not what
+ * its text does next is not done, and `messages` is told of it. So the trace is that of a run of the texts.
  *
  * All memory is taken here. A task has a stack of the size that the configuration gives it and 64 KB more, for the
  * library and the C library, and the handlers of a processor one of 64 KB. A task or a handler that overflows its stack

@@ -16,18 +16,22 @@ extern "C" {
 
 /*
  * One step: enum fmp_answer of fmp.h. A processor runs its actor up to its next call, end or fault. FMP_KEPT: it made
- * all its polls on the way there; its next step goes on from there. In a body a step is FMP_NOTHING.
+ * all its polls on the way there; its next step goes on from there. In a checked system it is FMP_STILL_LONG where the
+ * text is within a long stretch: the next step goes on from there too. In a body a step is FMP_NOTHING.
  */
 uint32_t fmp_step_run(uint8_t p);
 uint32_t fmp_step_tick(void);
 uint32_t fmp_step_int(uint8_t number);
 
-/* The steps of a text. 0, or the first line that is no step, from 1; the steps before it were taken. */
+/*
+ * The steps of a text. 0, or the first line, from 1, that is no step, or in which a body does not do what its text
+ * does; the steps before it were taken.
+ */
 unsigned long fmp_play(const char *steps, size_t length);
 
 /*
- * The whole of it: PROGRAM CFG STEPS [RECORDING] prints the trace and the states at the end, and writes the recording.
- * The exit status.
+ * The whole of it: PROGRAM [--image IMAGE] CFG STEPS [RECORDING] prints the trace and the states at the end, and writes
+ * the recording. With an image the run is checked. The exit status.
  */
 int fmp_simulate(int argc, char **argv, const struct fmp_program *);
 

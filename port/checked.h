@@ -1,0 +1,13 @@
+/* checked.h: systems whose bodies must do what their texts do. */
+#ifndef FMP_CHECKED_H
+#define FMP_CHECKED_H
+
+#include "system.h"
+
+/* The system of the image of a program takes the place of that of its configuration, which is at hand. */
+enum fmp_opened checked_make(const struct fmp_program *, FILE *messages);
+
+/* Says that a body wishes another thing than what its text does next. */
+void checked_complain(const struct flow *, FILE *messages);
+
+#endif
