@@ -13,12 +13,13 @@ tab = codes "    "
 -- the name begins or ends as names of C, of the port or of what is exported
 abbrev pub looks_taken : List ℕ → Bool
 looks_taken name =
-    starts_with nat_eq name (codes "fmp_")
+    starts_with nat_eq name (codes "_")
+    || (starts_with nat_eq name (codes "fmp_")
     || (starts_with nat_eq name (codes "FMP_")
     || (ends_with nat_eq name (codes "_body")
     || (ends_with nat_eq name (codes "_t")
     || (ends_with nat_eq name (codes "_MAX")
-    || (ends_with nat_eq name (codes "_MIN") || ends_with nat_eq name (codes "_"))))))
+    || (ends_with nat_eq name (codes "_MIN") || ends_with nat_eq name (codes "_")))))))
 
 -- C has the name, or may have it
 abbrev pub is_taken : List ℕ → Bool

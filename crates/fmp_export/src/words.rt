@@ -91,7 +91,8 @@ fn is_among(words: &[&str], name: &[u8]) -> bool
 fn looks_taken(name: &[u8]) -> bool
     ensures { result ≡ spec.looks_taken name.now }
 {
-    name.starts_with(b"fmp_")
+    name.starts_with(b"_")
+        || name.starts_with(b"fmp_")
         || name.starts_with(b"FMP_")
         || name.ends_with(b"_body")
         || name.ends_with(b"_t")
