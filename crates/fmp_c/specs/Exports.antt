@@ -1,5 +1,5 @@
 -- What the exports answer of the system that a handle holds.
-use Rattle.std.specs.Prelude.{◌≡◌, ℕ, ℤ, pos, ◌+◌, ◌-◌, List, length, IfSome, IsSome, if◌then◌else◌, nat_eq, nat_lt, Option, Some, None, Result, Ok, Err}
+use Rattle.std.specs.Prelude.{◌≡◌, ℕ, ℤ, pos, ◌+◌, ◌-◌, List, [], ◌∷◌, length, IfSome, IsSome, if◌then◌else◌, nat_eq, nat_lt, Option, Some, None, Result, Ok, Err}
 use Rattle.fmp_base.specs.declared.bodies.Fault.{Fault}
 use Rattle.fmp_base.specs.declared.codes.Er.{Er}
 use Rattle.fmp_base.specs.declared.events.Effect.{Effect}
@@ -24,6 +24,8 @@ use Rattle.fmp_outside.specs.declared.given.Given.{Given}
 use Rattle.fmp_foreign.specs.declared.hosted.Hosted.{Hosted}
 use Rattle.fmp_checked.specs.declared.following.Objection.{Objection}
 use Rattle.fmp_checked.specs.declared.following.Objection.TheVariants as objection
+use Rattle.fmp_instructions.specs.Machine.{code_meaning}
+use Rattle.fmp_foreign.specs.Following.{HasFollowed}
 use Rattle.fmp_checked.specs.Checking.{InStep, IsBegun, IsChecked, TextKernel, hosted_after}
 use Rattle.fmp_image_bytes.specs.Images.{ImageTables, image_at}
 use Rattle.fmp_image_parts.specs.declared.fault.ImageFault.{ImageFault}
@@ -181,6 +183,27 @@ pub record IsTakenChecked (t : TextKernel) (old : Machine) (g : Given) (p : ℕ)
   pub machine : new ≡ Some (machine_checked old g text answer)
   pub outcome : out ≡ outcome_of (hosted_after old.hosted g answer).kernel p (answered answer)
   pub number_is : number ≡ checked_number answer
+
+-- the text t has done what came
+pub record HasAgreed (t : TextKernel) (old : Machine) (g : Given) (new : Machine) : Type 0 where
+  pub text : TextKernel
+  pub free : refused old.hosted.kernel g ≡ None
+  pub followed : HasFollowed code_meaning t (g ∷ []) text
+  pub machine : new ≡ record old { text = Some text }
+
+-- what came is not done, for a reason: it is refused, or the text t does not do it next
+pub record HasObjected (t : TextKernel) (old : Machine) (g : Given) (new : Machine) (why : Objection) : Type 0 where
+  pub text : TextKernel
+  pub checked : IsChecked (refused old.hosted.kernel g) old.hosted.kernel t g text (Err why)
+  pub step : InStep old.hosted.kernel t → InStep old.hosted.kernel text
+  pub machine : new ≡ record old { text = Some text }
+
+-- a machine has asked its text, if it has one
+abbrev pub IsConsulted : Option TextKernel → (old : Machine) → Given → (new : Machine) → Option Objection → Type 0
+IsConsulted None old g new None = new ≡ old
+IsConsulted None old g new (Some why) = ⊥
+IsConsulted (Some t) old g new None = HasAgreed t old g new
+IsConsulted (Some t) old g new (Some why) = HasObjected t old g new why
 
 -- where there is a text, it is taken if the text does it next
 abbrev pub IsTakenBy : Option TextKernel → (old : Machine) → (g : Given) → (p : ℕ) → (new : Option Machine)

@@ -1,15 +1,15 @@
 //! What a handle holds: a hosted system, the text that its bodies must follow, if there is one, what came to it last,
 //! and the page on which its lines are printed.
-ghost use Rattle.std.specs.Prelude.{◌≡◌, Ok, Some};
+ghost use Rattle.std.specs.Prelude.{◌≡◌, Err, Ok, Some};
 ghost use Rattle.fmp_base.specs.Systems.{tables_of};
 ghost use Rattle.fmp_base.specs.Texts.{lines_text};
 ghost use Rattle.fmp_foreign.specs.Hosting.{answer};
-ghost use Rattle.fmp_c.specs.Exports.{IsTakenBy, answered, checked_number, last_by, machine_after, outcome_of};
+ghost use Rattle.fmp_c.specs.Exports.{IsConsulted, IsTakenBy, answered, checked_number, machine_after, outcome_of};
 ghost use Rattle.fmp_c.specs.Records as spec;
 
 use crate::records::{FmpOutcome, answer_number, changes};
 use fmp_base::Effect;
-use fmp_checked::{ImageBody, Objection, follow};
+use fmp_checked::{ImageBody, Objection, consult};
 use fmp_foreign::{Hosted, Refusal, Shadow};
 use fmp_outside::Given;
 use fmp_trace::Page;
@@ -19,6 +19,18 @@ const NOT_THE_TEXT: u32 = 10;
 
 /// What is answered where the text of the actor is still within a stretch.
 const STILL_LONG: u32 = 11;
+
+/// What is answered where there is an objection.
+fn answered(why: Objection) -> Result<Effect, Refusal>
+    ensures { result ≡ answered (Err why) }
+{
+    match why {
+        Objection::Refused(why) => Err(why),
+        Objection::Full => Err(Refusal::Full),
+        Objection::Differs => Ok(Effect::Nothing),
+        Objection::Long => Ok(Effect::Nothing),
+    }
+}
 
 /// A hosted system, the text of its bodies, what came to it last, and the page on which its lines are printed.
 #[derive(Drop)]
@@ -36,12 +48,19 @@ impl Machine {
     pub fn take(&mut self, given: &Given, p: u8, out: &mut FmpOutcome) -> u32
         ensures { IsTakenBy self.old.text self.old given.now p (Some self.new) out.new result }
     {
-        match &mut self.text {
+        match self.consult(given) {
             None => self.take_any(given, p, out),
-            Some(text) => {
-                let answer = follow(text, &mut self.hosted, *given);
-                self.judged(given, p, answer, out)
-            }
+            Some(why) => self.refuse(why, p, out),
+        }
+    }
+
+    /// Why the text does not do this next, if there is a text, and it does not.
+    fn consult(&mut self, given: &Given) -> Option<Objection>
+        ensures { IsConsulted self.old.text self.old given.now self.new result }
+    {
+        match &mut self.text {
+            None => None,
+            Some(text) => consult(text, &self.hosted, *given),
         }
     }
 
@@ -59,35 +78,18 @@ impl Machine {
         self.tell(p, answer, out)
     }
 
-    /// Says what C is told of what came beside the text.
-    fn judged(
-        &mut self,
-        given: &Given,
-        p: u8,
-        answer: Result<Effect, Objection>,
-        out: &mut FmpOutcome,
-    ) -> u32
-        ensures machine { self.new ≡ record self.old { last = last_by (answered answer) given.now self.old.last } }
-        ensures outcome { out.new ≡ outcome_of self.old.hosted.kernel p (answered answer) }
-        ensures number { result ≡ checked_number answer }
+    /// What C is told of what is not done.
+    #[inline(never)]
+    fn refuse(&self, why: Objection, p: u8, out: &mut FmpOutcome) -> u32
+        ensures outcome { out.new ≡ outcome_of self.now.hosted.kernel p (answered (Err why)) }
+        ensures number { result ≡ checked_number (Err why) }
     {
-        match answer {
-            Ok(effect) => {
-                if let Effect::Done = effect {
-                    self.remember(given);
-                }
-                self.tell(p, Ok(effect), out)
-            }
-            Err(Objection::Refused(why)) => self.tell(p, Err(why), out),
-            Err(Objection::Full) => self.tell(p, Err(Refusal::Full), out),
-            Err(Objection::Differs) => {
-                self.tell(p, Ok(Effect::Nothing), out);
-                NOT_THE_TEXT
-            }
-            Err(Objection::Long) => {
-                self.tell(p, Ok(Effect::Nothing), out);
-                STILL_LONG
-            }
+        let number = self.tell(p, answered(why), out);
+        match why {
+            Objection::Differs => NOT_THE_TEXT,
+            Objection::Long => STILL_LONG,
+            Objection::Full => number,
+            Objection::Refused(_) => number,
         }
     }
 

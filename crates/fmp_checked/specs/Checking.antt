@@ -62,14 +62,18 @@ abbrev pub hosted_after : Hosted → Given → Result Effect Objection → Hoste
 hosted_after h g (Ok effect) = after h (Ok g)
 hosted_after h g (Err why) = h
 
--- what the text, at t before and at u after it, made of something that was not refused: it has followed, and the effect
--- is that on the kernel k; or it has gone on within a stretch at most, and there is a reason
+-- why the text, at t before and at u after it, does not do this next: it has gone on within a stretch at most
+abbrev pub IsObjection : (t : TextKernel) → Given → (u : TextKernel) → Objection → Type 0
+IsObjection t g u (objection.Refused why) = ⊥
+IsObjection t g u objection.Differs = HasFollowed code_meaning t [] u × DoesOtherwise code_meaning u g
+IsObjection t g u objection.Long = HasFollowed code_meaning t [] u × (u.taken ≡ t.taken + 1)
+IsObjection t g u objection.Full = HasFollowed code_meaning t [] u × (2 ^ 31 ≤ u.taken)
+
+-- what the text made of something that was not refused: it has followed, and the effect is that on the kernel k; or
+-- there is an objection
 abbrev pub IsJudged : ForeignKernel → (t : TextKernel) → Given → (u : TextKernel) → Result Effect Objection → Type 0
 IsJudged k t g u (Ok effect) = (effect ≡ effect_of (reaction k g)) × HasFollowed code_meaning t (g ∷ []) u
-IsJudged k t g u (Err (objection.Refused why)) = ⊥
-IsJudged k t g u (Err objection.Differs) = HasFollowed code_meaning t [] u × DoesOtherwise code_meaning u g
-IsJudged k t g u (Err objection.Long) = HasFollowed code_meaning t [] u × (u.taken ≡ t.taken + 1)
-IsJudged k t g u (Err objection.Full) = HasFollowed code_meaning t [] u × (2 ^ 31 ≤ u.taken)
+IsJudged k t g u (Err why) = IsObjection t g u why
 
 -- what is answered, where it may be refused
 abbrev pub IsChecked :

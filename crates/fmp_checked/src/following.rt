@@ -1,8 +1,10 @@
 //! A hosted system beside the text of its bodies: one call for what comes.
-ghost use Rattle.std.specs.Prelude.{◌≡◌, None, Ok};
+ghost use Rattle.std.specs.Prelude.{◌≡◌, ◌∷◌, [], Err, IfSome, None, Ok};
 ghost use Rattle.fmp_base.specs.Steps.{effect_of};
+ghost use Rattle.fmp_foreign.specs.Following.{HasFollowed};
 ghost use Rattle.fmp_foreign.specs.Hosting.{after, reaction, refused};
-ghost use Rattle.fmp_checked.specs.Checking.{InStep, IsChecked, IsJudged, hosted_after};
+ghost use Rattle.fmp_instructions.specs.Machine.{code_meaning};
+ghost use Rattle.fmp_checked.specs.Checking.{InStep, IsChecked, IsObjection, hosted_after};
 
 use crate::bodies::ImageBody;
 use fmp_base::Effect;
@@ -22,9 +24,38 @@ pub enum Objection {
     Full,
 }
 
+/// What the text says of what comes and is not refused: nothing where it does this next, and has done it then.
+fn judge(text: &mut Shadow<ImageBody>, given: Given) -> Option<Objection>
+    ensures follows { result ≡ None → HasFollowed code_meaning text.old (given ∷ []) text.new }
+    ensures objects { IfSome result (IsObjection text.old given text.new) }
+{
+    match text.take(given, 1) {
+        Verdict::Follows => None,
+        Verdict::Differs => Some(Objection::Differs),
+        Verdict::Long => Some(Objection::Long),
+        Verdict::Full => Some(Objection::Full),
+    }
+}
+
+/// Why what comes is not done: it is refused, or the text does not do it next. Where there is no reason, the text has
+/// done it; else it has at most gone on within the stretch of the actor.
+#[tactic(auto, using(crate::proofs::Judgements::is_refused, crate::proofs::Judgements::is_objected, crate::proofs::Judgements::objected_step))]
+pub fn consult(text: &mut Shadow<ImageBody>, hosted: &Hosted, given: Given) -> Option<Objection>
+    ensures free { result ≡ None → refused hosted.now.kernel given ≡ None }
+    ensures follows { result ≡ None → HasFollowed code_meaning text.old (given ∷ []) text.new }
+    ensures checked { IfSome result (λ why. IsChecked (refused hosted.now.kernel given) hosted.now.kernel text.old given
+        text.new (Err why)) }
+    ensures step { IfSome result (λ why. InStep hosted.now.kernel text.old → InStep hosted.now.kernel text.new) }
+{
+    match hosted.refusal(given) {
+        Some(why) => Some(Objection::Refused(why)),
+        None => judge(text, given),
+    }
+}
+
 /// What comes, where the text does it next: both take it. Else the hosted system stays as it is, and the text has at
 /// most gone on within the stretch of the actor.
-#[tactic(auto, using(crate::proofs::Judgements::is_refused, crate::proofs::Judgements::is_judged))]
+#[tactic(auto, using(crate::proofs::Judgements::is_followed, crate::proofs::Judgements::is_hosted))]
 pub fn follow(
     text: &mut Shadow<ImageBody>,
     hosted: &mut Hosted,
@@ -34,29 +65,9 @@ pub fn follow(
     ensures hosted { hosted.new ≡ hosted_after hosted.old given result }
     ensures step { InStep hosted.old.kernel text.old → InStep hosted.new.kernel text.new }
 {
-    match hosted.refusal(given) {
-        Some(why) => Err(Objection::Refused(why)),
-        None => judged(text, hosted, given),
-    }
-}
-
-/// The same of what is not refused.
-#[tactic(auto, using(crate::proofs::Judgements::is_done))]
-fn judged(
-    text: &mut Shadow<ImageBody>,
-    hosted: &mut Hosted,
-    given: Given,
-) -> Result<Effect, Objection>
-    requires { refused hosted.old.kernel given ≡ None }
-    ensures judged { IsJudged hosted.old.kernel text.old given text.new result }
-    ensures hosted { hosted.new ≡ hosted_after hosted.old given result }
-    ensures step { InStep hosted.old.kernel text.old → InStep hosted.new.kernel text.new }
-{
-    match text.take(given, 1) {
-        Verdict::Follows => done(hosted, given),
-        Verdict::Differs => Err(Objection::Differs),
-        Verdict::Long => Err(Objection::Long),
-        Verdict::Full => Err(Objection::Full),
+    match consult(text, hosted, given) {
+        Some(why) => Err(why),
+        None => done(hosted, given),
     }
 }
 

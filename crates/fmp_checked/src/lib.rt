@@ -8,4 +8,4 @@ mod following;
 
 pub use bodies::ImageBody;
 pub use checked::Checked;
-pub use following::{Objection, follow};
+pub use following::{Objection, consult, follow};
