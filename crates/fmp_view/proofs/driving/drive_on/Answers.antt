@@ -8,7 +8,7 @@ use Rattle.fmp_instructions.specs.Machine.{code_meaning}
 use Rattle.fmp_drive.specs.declared.driving.Stop.{Stop}
 use Rattle.fmp_drive.specs.Driving.{IsDriven}
 use Rattle.fmp_kernel.specs.KernelViews.{KernelView}
-use Rattle.fmp_view.proofs.Fresh.{room}
+use Rattle.fmp_view.proofs.Fresh.{drive_room}
 use Rattle.fmp_view.proofs.driving.drive_on.Goals as goal
 
 -- what is driven on, by another name of the kernel and of the number of processors
@@ -19,7 +19,7 @@ driven_so k k' after p q most es stop is same h =
     (subst (λ (r : ℕ). IsDriven code_meaning k after r most es stop) same h)
 
 pub driven_on-requires-clause-few : goal.driven_on-requires-clause-few
-driven_on-requires-clause-few c = rw c.requires.kernel (room 0 c.args.events refl c.requires.few)
+driven_on-requires-clause-few c = rw c.requires.kernel (drive_room 0 c.args.events refl c.requires.few)
 
 pub driven_on-requires-clause-one : goal.driven_on-requires-clause-one
 driven_on-requires-clause-one c = c.system.ensures.ranges.processors.least
