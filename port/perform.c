@@ -5,7 +5,7 @@
 #include <stdlib.h>
 #include <string.h>
 
-/* A count of so many decimal digits, or -1. */
+/* A count, in at most 18 decimal digits, or -1. */
 static long count_of(const char *word)
 {
     char *end;

@@ -27,8 +27,8 @@ enum fmp_over {
 };
 
 /*
- * Runs the open system until it is over: never FMP_NOT_OVER. The clock ticks each so many nanoseconds (0: never), and
- * so many times (0: without end). Ticks that a slow machine misses come late, not never. What was recorded is written
+ * Runs the open system until it is over: never FMP_NOT_OVER. The clock ticks every `nanoseconds` (0: never), `ticks`
+ * times in all (0: without end). Ticks that a slow machine misses come late, not never. What was recorded is written
  * then. A system that is over can be run again, also in virtual time: it goes on from there.
  *
  * A task that another one replaces on its processor goes on to compute until its next call, poll or end. It makes

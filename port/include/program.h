@@ -61,8 +61,8 @@ void fmp_record(FILE *recording);
 
 /* How a recording is written. */
 struct fmp_recording {
-    bool has_times;         /* each line ends in ` @N`: so many microseconds after the recording began */
-    size_t last;            /* only so many events, the last ones, 0: all */
+    bool has_times;         /* each line ends in ` @N`: N microseconds after the recording began */
+    size_t last;            /* how many of the last events are kept; 0: all */
 };
 
 /*
