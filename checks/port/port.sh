@@ -235,7 +235,8 @@ mistakes() {
 # Runs in real time under the detector of races of valgrind.
 raced() {
     problem=
-    valgrind --tool=helgrind --quiet --error-exitcode=9 --suppressions="$root/checks/port/helgrind.supp" \
+    valgrind --tool=helgrind --fair-sched=yes --quiet --error-exitcode=9 \
+        --suppressions="$root/checks/port/helgrind.supp" \
         plain/real ends > output 2> errors || problem="status $?: $(head -c 1000 errors)"
     [ ! -s errors ] || problem="$problem, it says: $(head -c 1000 errors)"
     verdict "races" "$problem"
