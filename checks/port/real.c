@@ -425,9 +425,19 @@ static enum fmp_opened open_many(void)
     return fmp_open(configuration, length, &program, NULL, stdout);
 }
 
+/* The stack gets all the room that it will need: where memory is limited it cannot grow. */
+__attribute__((noinline)) static void touch_stack(void)
+{
+    volatile char room[2 << 20];
+    for (size_t at = 0; at < sizeof room; at += 1024) {
+        room[at] = 0;
+    }
+}
+
 static int run_limits(void)
 {
     const struct fmp_recording form = { .has_times = false, .last = SIZE_MAX / 128 };
+    touch_stack();
     limit_memory(MANY_BYTES);
     expect(open_many() == FMP_MEMORY_OUT, "there is no memory for a stack");
     limit_memory(1);
