@@ -107,6 +107,7 @@ fn permitted_call(
 }
 
 /// Carries out a call of this caller on processor p. The lines of its effects are added to those that are given.
+#[inline(always)]
 pub fn call(tables: &mut Tables, lines: &mut Vec<Line>, p: u8, who: Caller, made: &Call) -> Answer
     requires caller { IsTaskOf tables.old.system who }
     requires processor { p < tables.old.system.processors }
