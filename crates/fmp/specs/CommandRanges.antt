@@ -1,4 +1,4 @@
--- What the clauses say of a command.
+-- The ranges of the numbers of a command.
 use Rattle.std.specs.Prelude.{ℕ, ◌≤◌, ◌^◌, ⊤}
 use Rattle.fmp.specs.declared.asking.Cmd.{Cmd}
 use Rattle.fmp.specs.declared.asking.Cmd.TheVariants.{Check, Build, Sim, Host, Stored}

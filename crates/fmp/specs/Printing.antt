@@ -1,4 +1,4 @@
--- What printing what a command prints comes to, or why it ends early.
+-- How much of what a command prints was printed, or why printing ended early.
 use Rattle.std.specs.Prelude.{ℕ, ◌≡◌, ◌++◌, Bool, IsTrue, List, [], Option}
 use Rattle.fmp_files.specs.Deeds.{Deed, Does}
 use Rattle.fmp_files.specs.Prints.{Prints}

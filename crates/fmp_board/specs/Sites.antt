@@ -1,4 +1,4 @@
--- The image and the row of no board.
+-- The image and the row that stand where no board is.
 use Rattle.std.specs.Prelude.{[]}
 use Rattle.atomic_table.specs.Seated.{TableId}
 use Rattle.fmp_base.specs.Systems.{without_objects}

@@ -1,5 +1,5 @@
-//! Every schedule of a system: a search over all lists of events for deadlocks and for what must never happen, with the
-//! shortest list that shows it.
+//! Every schedule of a system: a search over all lists of events for deadlocks and for what must never happen, and a
+//! list of events that shows each finding.
 #![tactic(auto)]
 
 mod edges;

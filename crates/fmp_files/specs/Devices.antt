@@ -1,4 +1,4 @@
--- Files and streams.
+-- Files and streams as devices: what is inside, and whether a call on it has failed.
 use Rattle.std.specs.Prelude.{false}
 use Rattle.fmp_files.specs.declared.device.Device.{Device}
 

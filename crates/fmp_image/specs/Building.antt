@@ -89,7 +89,7 @@ pub record Builds (cfg src : List ℕ) (i : ImageTables) : Type 0 where
   pub image : i ≡ built_image configuration.making.tables tasks.bodies
 
 -- Why two texts build none. The configuration is judged first, its syntax and what it makes; then the syntax of the
--- task text, then its bodies, and last the entries. The fault is the first of the first of these that has one.
+-- task text, then its bodies, and last the entries. The first of these that has a fault gives it: its first one.
 pub data IsBuildFault (cfg src : List ℕ) (f : BuildFault) : Type 0 where
   of_memory : f ≡ build.Memory → IsBuildFault cfg src f
   of_configuration : IsFault cfg f → IsBuildFault cfg src f

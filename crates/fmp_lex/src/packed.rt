@@ -29,7 +29,8 @@ pub enum Shape {
     Bad(LexFault),
 }
 
-/// A token in few bytes. Its end has none: only the contracts see it.
+/// A token in few bytes. Its end has none: only the contracts see it. In six bytes, with great numbers read again from
+/// the text, reading takes longer.
 #[derive(Drop)]
 pub struct Packed {
     pub shape: Shape,

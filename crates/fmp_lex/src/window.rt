@@ -9,7 +9,8 @@ use crate::stops::{Stop, stop_behind};
 use std::alloc::{AllocError, Global};
 use std::mem;
 
-/// How many bytes of the text a window goes on by, or more.
+/// How many bytes of the text a window goes on by, or more. A part ends between two statements: if it ended at any byte,
+/// a statement that is cut would be read twice, which costs much where loops are long.
 const STRIDE: usize = 32768;
 
 /// The tokens of a part of a text, in the places that they have in the list of all of its tokens.

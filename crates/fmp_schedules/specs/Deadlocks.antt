@@ -1,4 +1,4 @@
--- Deadlocks.
+-- Deadlocks: what a task waits for can no longer come.
 use Rattle.std.specs.Prelude.{ℕ, ◌≡◌, ◌≢◌, ◌+◌, ◌<◌, ◌≤◌, List, Option, Some, None, Bool, true, false, count_by, length, nat_lt, slice_get, slice_index_or}
 use Rattle.fmp_base.specs.declared.events.Event.{Event}
 use Rattle.fmp_base.specs.declared.events.Event.TheVariants as event

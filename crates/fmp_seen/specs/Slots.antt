@@ -1,4 +1,4 @@
--- The slots of the states.
+-- The slots of the table in which the states that were seen are found.
 use Rattle.std.specs.Prelude.{◌≡◌, ℕ, ◌<◌, List, slice_get, Some}
 use Rattle.fmp_seen.specs.declared.slots.Slot.{Slot}
 use Rattle.fmp_seen.specs.declared.slots.Slot.TheVariants.{Taken, Free}

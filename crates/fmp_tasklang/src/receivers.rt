@@ -8,7 +8,8 @@ use std::alloc::{AllocError, Global};
 use std::marker::Model;
 
 /// The variables of a call: the one at its out place and the one before `=`, where they stand. They lie in one box, so
-/// that a call without them needs no room for their names. Contracts see both.
+/// that a call without them needs no room for their names, and a statement stays small enough for the lists from which
+/// the allocator serves at once. Contracts see both.
 #[derive(Drop)]
 pub struct Receivers {
     held: Held,

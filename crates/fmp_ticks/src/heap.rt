@@ -32,7 +32,8 @@ pub fn is_before(a: u64, b: u64, steps: &mut Steps) -> bool
     a < b
 }
 
-/// Of the two children of a slot, the one whose task is first.
+/// Of the two children of a slot, the one whose task is first. The result of the comparison is subtracted: a branch
+/// here would be mispredicted half of the time.
 fn first_child(ranks: &[u64], slot: usize, steps: &mut Steps) -> usize
     requires within { slot * 2 + 2 < length ranks.now }
     requires few { length ranks.now ≤ 255 }
