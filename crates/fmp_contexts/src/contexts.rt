@@ -5,7 +5,7 @@ ghost use Rattle.fmp_base.specs.declared.bodies.Held.TheVariants.{Goes};
 ghost use Rattle.fmp_base.specs.Meanings.{body_in, context_at, context_for, context_in, context_of, task_body, told as told_by, with_context, with_handler_context};
 ghost use Rattle.fmp_base.specs.Setups.{first_contexts};
 ghost use Rattle.fmp_base.specs.Systems.{body_of, tables_of, task_config};
-ghost use Rattle.fmp_contexts.specs.Contexts.{AllContexts, Entered, Fitting, HandsOver, HasContext, OfHeld, OfOption, going_context, held_by, is_going, kept_after, stop_of, stretched_from};
+ghost use Rattle.fmp_contexts.specs.Contexts.{AllContexts, Entered, Fitting, HandsOver, HasContext, OfHeld, OfOption, going_context, held_by, is_going, kept_after, kept_context, stop_of, stretched_from};
 ghost use Rattle.fmp_worlds.specs.Settled.{IsThere};
 
 use crate::kept::{self, Kept};
@@ -138,6 +138,23 @@ impl<C: Copy> BodyContexts<C> {
         match self.handlers.get(p as usize) {
             Some(Some(handler)) => handler.body,
             _ => 0,
+        }
+    }
+
+    /// The context of the caller on processor p, where it stands, whether it goes on or awaits a reply. `None` where
+    /// nothing is kept of it.
+    pub fn context(&self, p: u8, who: Caller) -> Option<&C>
+        ensures { option_copied result ≡ kept_context (context_of self.now p who) }
+    {
+        match who {
+            Caller::Task(t) => match self.tasks.get(t as usize) {
+                Some(Some(kept)) => Some(kept.context()),
+                _ => None,
+            },
+            Caller::Handler(_) => match self.handlers.get(p as usize) {
+                Some(Some(handler)) => Some(handler.kept.context()),
+                _ => None,
+            },
         }
     }
 

@@ -5,7 +5,7 @@ ghost use Rattle.fmp_base.specs.declared.bodies.Held.{Held};
 ghost use Rattle.fmp_base.specs.declared.bodies.Held.TheVariants.{Awaits, Goes};
 ghost use Rattle.fmp_base.specs.Meanings.{told};
 ghost use Rattle.fmp_base.specs.Contexts.{OfCall, stopped};
-ghost use Rattle.fmp_contexts.specs.Contexts.{OfHeld, context_held, going_context, held_by, is_call, is_going, stretched_from};
+ghost use Rattle.fmp_contexts.specs.Contexts.{OfHeld, context_held, going_context, held_by, is_call, is_going, kept_context, stretched_from};
 
 use fmp_base::{Body, Held, Reply, Stop};
 use std::marker::Model;
@@ -37,6 +37,13 @@ impl<C: Copy> Kept<C> {
             awaits: false,
             context,
         }
+    }
+
+    /// The context, where it stands.
+    pub fn context(&self) -> &C
+        ensures { Some result.now ≡ kept_context (Some self.now) }
+    {
+        &self.context
     }
 
     /// The context, where its body goes on from it.

@@ -1,13 +1,14 @@
 //! The kernel over lawful bodies: setup, and one event after the other.
 ghost use Rattle.std.specs.Prelude.{◌≡◌, ◌+◌, ◌<◌, ◌≤◌, ◌^◌, length, IfNone, IfOk, IfSome};
-ghost use Rattle.fmp_base.specs.Meanings.{context_at};
+ghost use Rattle.std.specs.Option.{option_copied};
+ghost use Rattle.fmp_base.specs.Meanings.{body_in, context_at, context_of};
 ghost use Rattle.fmp_base.specs.Ranges.{IsInRange};
 ghost use Rattle.fmp_base.specs.Runs.{task_state};
 ghost use Rattle.fmp_base.specs.Setups.{setup};
 ghost use Rattle.fmp_base.specs.Steps.{effect_of, step};
 ghost use Rattle.fmp_base.specs.Stretches.{ending};
 ghost use Rattle.fmp_base.specs.Systems.{tables_of};
-ghost use Rattle.fmp_contexts.specs.Contexts.{Entered, IsFor};
+ghost use Rattle.fmp_contexts.specs.Contexts.{Entered, IsFor, is_going, kept_context};
 ghost use Rattle.fmp_kernel.specs.KernelViews.{HasNoActor, actor_in, stamp_of, view_after, view_of_setup};
 ghost use Rattle.fmp_worlds.specs.Settled.{RunOnce};
 ghost use Rattle.fmp_worlds.specs.Stamps.{actor_at_number, applied};
@@ -15,7 +16,7 @@ ghost use Rattle.fmp_worlds.specs.Stamps.{actor_at_number, applied};
 use crate::actors::Actor;
 use crate::runner::Runner;
 use crate::stamps::{Stamps, run_place};
-use fmp_base::{Body, Effect, Event, HandlerContext, Held, Line, Stretch, System, TaskState};
+use fmp_base::{Body, Caller, Effect, Event, HandlerContext, Held, Line, Stretch, System, TaskState};
 use fmp_tasks::Tables;
 use std::alloc::{AllocError, Global};
 use std::marker::Model;
@@ -145,6 +146,28 @@ impl<B: Body> Kernel<B> {
         ensures { result ≡ context_at self.now.world.contexts.handlers p }
     {
         self.runner.contexts.handler(p)
+    }
+
+    /// The context that is kept of this caller on the processor at place p, from 0, where it stands, whether it goes on
+    /// or awaits a reply. `None` where nothing is kept of it.
+    pub fn context(&self, p: u8, who: Caller) -> Option<&B::Ctx>
+        ensures { option_copied result ≡ kept_context (context_of self.now.world.contexts p who) }
+    {
+        self.runner.contexts.context(p, who)
+    }
+
+    /// Whether this caller goes on from its context: not if it awaits a reply, or nothing is kept of it.
+    pub fn goes(&self, p: u8, who: Caller) -> bool
+        ensures { result ≡ is_going (context_of self.now.world.contexts p who) }
+    {
+        self.runner.contexts.goes(p, who)
+    }
+
+    /// The number of the body of the handler that runs on the processor at place p, from 0; 0 if none does.
+    pub fn handler_body(&self, p: u8) -> u8
+        ensures { result ≡ body_in (context_at self.now.world.contexts.handlers p) }
+    {
+        self.runner.contexts.handler_body(p)
     }
 
     /// An event has at most 519 lines.
