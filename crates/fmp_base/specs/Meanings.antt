@@ -64,6 +64,12 @@ abbrev pub body_in : {C : Type 0} → Option (HandlerContext C) → ℕ
 body_in None = 0
 body_in (Some h) = h.body
 
+-- the context that goes on, or awaits a reply, if one is kept
+abbrev pub kept_context : {C : Type 0} → Option (Held C) → Option C
+kept_context None = None
+kept_context (Some (Goes c)) = Some c
+kept_context (Some (Awaits c)) = Some c
+
 -- the context of the caller on processor p
 abbrev pub context_of : {C : Type 0} → Contexts C → ℕ → Caller → Option C
 context_of cs p (caller.Task t) = context_at cs.tasks t

@@ -71,12 +71,6 @@ abbrev pub context_held : {C : Type 0} → Held C → C
 context_held (Goes c) = c
 context_held (Awaits c) = c
 
--- the context that goes on, or awaits a reply, if one is kept
-abbrev pub kept_context : {C : Type 0} → Option (Held C) → Option C
-kept_context None = None
-kept_context (Some (Goes c)) = Some c
-kept_context (Some (Awaits c)) = Some c
-
 -- the context that goes on, if one does
 abbrev pub going_context : {C : Type 0} → Option (Held C) → Option C
 going_context None = None

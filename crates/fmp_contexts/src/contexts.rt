@@ -2,10 +2,10 @@
 ghost use Rattle.std.specs.Prelude.{◌≡◌, ◌<◌, ◌≤◌, length, replicate, slice_set, true, IfOk, Some, None};
 ghost use Rattle.std.specs.Option.{option_copied};
 ghost use Rattle.fmp_base.specs.declared.bodies.Held.TheVariants.{Goes};
-ghost use Rattle.fmp_base.specs.Meanings.{body_in, context_at, context_for, context_in, context_of, task_body, told as told_by, with_context, with_handler_context};
+ghost use Rattle.fmp_base.specs.Meanings.{body_in, context_at, context_for, context_in, context_of, kept_context, task_body, told as told_by, with_context, with_handler_context};
 ghost use Rattle.fmp_base.specs.Setups.{first_contexts};
 ghost use Rattle.fmp_base.specs.Systems.{body_of, tables_of, task_config};
-ghost use Rattle.fmp_contexts.specs.Contexts.{AllContexts, Entered, Fitting, HandsOver, HasContext, OfHeld, OfOption, going_context, held_by, is_going, kept_after, kept_context, stop_of, stretched_from};
+ghost use Rattle.fmp_contexts.specs.Contexts.{AllContexts, Entered, Fitting, HandsOver, HasContext, OfHeld, OfOption, going_context, held_by, is_going, kept_after, stop_of, stretched_from};
 ghost use Rattle.fmp_worlds.specs.Settled.{IsThere};
 
 use crate::kept::{self, Kept};

@@ -3,9 +3,9 @@ ghost use Rattle.std.specs.Prelude.{◌≡◌, Some, true};
 ghost use Rattle.std.specs.Option.{option_copied};
 ghost use Rattle.fmp_base.specs.declared.bodies.Held.{Held};
 ghost use Rattle.fmp_base.specs.declared.bodies.Held.TheVariants.{Awaits, Goes};
-ghost use Rattle.fmp_base.specs.Meanings.{told};
+ghost use Rattle.fmp_base.specs.Meanings.{kept_context, told};
 ghost use Rattle.fmp_base.specs.Contexts.{OfCall, stopped};
-ghost use Rattle.fmp_contexts.specs.Contexts.{OfHeld, context_held, going_context, held_by, is_call, is_going, kept_context, stretched_from};
+ghost use Rattle.fmp_contexts.specs.Contexts.{OfHeld, context_held, going_context, held_by, is_call, is_going, stretched_from};
 
 use fmp_base::{Body, Held, Reply, Stop};
 use std::marker::Model;

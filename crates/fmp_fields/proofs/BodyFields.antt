@@ -11,7 +11,7 @@ use Rattle.fmp_base.specs.declared.states.Handler.{Handler}
 use Rattle.fmp_base.specs.declared.states.Phase.{Phase}
 use Rattle.fmp_base.specs.declared.states.Processor.{Processor}
 use Rattle.fmp_base.specs.declared.states.TaskBlock.{TaskBlock}
-use Rattle.fmp_base.specs.Meanings.{World, context_at, context_in, handler_start, task_body}
+use Rattle.fmp_base.specs.Meanings.{World, context_at, context_in, handler_start, kept_context, task_body}
 use Rattle.fmp_base.specs.States.{KernelState, idle, processor_at, task_at}
 use Rattle.fmp_base.specs.Systems.{SystemTables, found}
 use Rattle.fmp_base.specs.TaskCalls.{is_dormant}
@@ -25,7 +25,6 @@ use Rattle.fmp_fields.specs.Fields.{IsReadable}
 use Rattle.fmp_fields.proofs.StateFields.{SameFields, within}
 use Rattle.fmp_instructions.specs.declared.instructions.MachineContext.{MachineContext}
 use Rattle.fmp_instructions.specs.Instructions.{BodyTables}
-use Rattle.fmp_rows.specs.Worlds.{kept_context}
 use Rattle.fmp_rows.proofs.NumberLaws.{unsigned-told}
 use Rattle.fmp_rooms.specs.Rooms.{IsGoingWithin, IsHandlerWithin, IsKeptWithin, IsWithin, is_handler_of}
 use Rattle.fmp_rooms.specs.Told.{AreTold, SameTold}

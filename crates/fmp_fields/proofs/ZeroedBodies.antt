@@ -8,7 +8,7 @@ use Rattle.fmp_base.specs.declared.bodies.Held.TheVariants.{Goes, Awaits}
 use Rattle.fmp_base.specs.declared.states.Handler.{Handler}
 use Rattle.fmp_base.specs.declared.states.Phase.{Phase}
 use Rattle.fmp_base.specs.declared.states.Phase.TheVariants.{Dormant, Ready, Waiting}
-use Rattle.fmp_base.specs.Meanings.{World, context_at, context_in, task_body}
+use Rattle.fmp_base.specs.Meanings.{World, context_at, context_in, kept_context, task_body}
 use Rattle.fmp_base.specs.States.{processor_at, task_at}
 use Rattle.fmp_base.specs.Systems.{SystemTables}
 use Rattle.fmp_base.specs.TaskCalls.{is_dormant}
@@ -22,7 +22,7 @@ use Rattle.fmp_live.specs.Zeroed.{if_live, zeroed, zeroed_context, zeroed_handle
 use Rattle.fmp_live.proofs.LikeLaws.{context_at-each, length-each}
 use Rattle.fmp_live.proofs.RowLaws.{get_or-zeroed, length-zeroed}
 use Rattle.fmp_rooms.specs.Rooms.{IsGoingWithin, IsHandlerWithin, IsKeptWithin, IsWithin}
-use Rattle.fmp_rows.specs.Worlds.{IsHeldBy, kept_context}
+use Rattle.fmp_rows.specs.Worlds.{IsHeldBy}
 
 context_at-map : {A : Type 0} (f : Option A → Option A) → f None ≡ None → (cs : List (Option A)) (p : ℕ)
     → context_at (map f cs) p ≡ f (context_at cs p)

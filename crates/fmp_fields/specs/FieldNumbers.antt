@@ -1,7 +1,7 @@
 -- The numbers of fields: what a row tells of a world.
 use Rattle.std.specs.Prelude.{ℕ, ◌%◌, [], pos, Bool, true, false, Option, Some, None, length, get_or, nat_lt, ◌&&◌}
 use Rattle.fmp_base.specs.Queues.{first_of}
-use Rattle.fmp_base.specs.Meanings.{World, context_at, context_in}
+use Rattle.fmp_base.specs.Meanings.{World, context_at, context_in, kept_context}
 use Rattle.fmp_base.specs.States.{KernelState, processor_at, task_at}
 use Rattle.fmp_base.specs.Systems.{SystemTables}
 use Rattle.fmp_base.specs.TaskCalls.{is_dormant}
@@ -14,7 +14,6 @@ use Rattle.fmp_instructions.specs.declared.instructions.MachineContext.{MachineC
 use Rattle.fmp_rows.specs.Behind.{mailbox_at, message_behind, task_behind}
 use Rattle.fmp_rows.specs.Numbers.{bit, cyclic_of, interrupt_of, lock_number, phase_kind, place, ticks_to, unsigned, wait_object, wait_value}
 use Rattle.fmp_rows.specs.Rows.{due_at}
-use Rattle.fmp_rows.specs.Worlds.{kept_context}
 
 -- whose body a field is of, if it is of one: a task's, or that of the handler of a processor
 abbrev pub owner_of : What → Option Owner

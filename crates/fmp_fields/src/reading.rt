@@ -8,7 +8,7 @@ ghost use Rattle.fmp_fields.specs.declared.owner.Owner.TheVariants as owners;
 ghost use Rattle.fmp_live.specs.LiveLocals.{live_tables, table_at};
 ghost use Rattle.fmp_live.specs.Zeroed.{zeroed, zeroed_task};
 ghost use Rattle.fmp_rows.specs.Numbers as numbers;
-ghost use Rattle.fmp_rows.specs.Worlds.{kept_context};
+ghost use Rattle.fmp_base.specs.Meanings.{kept_context};
 
 use crate::field::What;
 use crate::owner::{Owner, owner_of};

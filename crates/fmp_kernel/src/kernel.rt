@@ -1,14 +1,14 @@
 //! The kernel over lawful bodies: setup, and one event after the other.
 ghost use Rattle.std.specs.Prelude.{◌≡◌, ◌+◌, ◌<◌, ◌≤◌, ◌^◌, length, IfNone, IfOk, IfSome};
 ghost use Rattle.std.specs.Option.{option_copied};
-ghost use Rattle.fmp_base.specs.Meanings.{body_in, context_at, context_of};
+ghost use Rattle.fmp_base.specs.Meanings.{body_in, context_at, context_of, kept_context};
 ghost use Rattle.fmp_base.specs.Ranges.{IsInRange};
 ghost use Rattle.fmp_base.specs.Runs.{task_state};
 ghost use Rattle.fmp_base.specs.Setups.{setup};
 ghost use Rattle.fmp_base.specs.Steps.{effect_of, step};
 ghost use Rattle.fmp_base.specs.Stretches.{ending};
 ghost use Rattle.fmp_base.specs.Systems.{tables_of};
-ghost use Rattle.fmp_contexts.specs.Contexts.{Entered, IsFor, is_going, kept_context};
+ghost use Rattle.fmp_contexts.specs.Contexts.{Entered, IsFor, is_going};
 ghost use Rattle.fmp_kernel.specs.KernelViews.{HasNoActor, actor_in, stamp_of, view_after, view_of_setup};
 ghost use Rattle.fmp_worlds.specs.Settled.{RunOnce};
 ghost use Rattle.fmp_worlds.specs.Stamps.{actor_at_number, applied};

@@ -6,13 +6,13 @@ use Rattle.fmp_base.specs.declared.bodies.HandlerStart.{HandlerStart}
 use Rattle.fmp_base.specs.declared.bodies.Held.{Held}
 use Rattle.fmp_base.specs.declared.bodies.Held.TheVariants.{Goes, Awaits}
 use Rattle.fmp_base.specs.declared.states.Handler.{Handler}
-use Rattle.fmp_base.specs.Meanings.{World, context_at, context_in, handler_start, task_body}
+use Rattle.fmp_base.specs.Meanings.{World, context_at, context_in, handler_start, kept_context, task_body}
 use Rattle.fmp_base.specs.States.{processor_at, task_at}
 use Rattle.fmp_base.specs.Systems.{SystemTables}
 use Rattle.fmp_base.specs.TaskCalls.{is_dormant}
 use Rattle.fmp_instructions.specs.declared.instructions.MachineContext.{MachineContext}
 use Rattle.fmp_instructions.specs.Instructions.{BodyTables}
-use Rattle.fmp_rows.specs.Worlds.{SameBodies, kept_context}
+use Rattle.fmp_rows.specs.Worlds.{SameBodies}
 use Rattle.fmp_rooms.specs.Rooms.{IsGoingWithin, IsHandlerWithin, IsHeldWithin, IsKeptWithin, IsWithin, IsWithinRooms, RunsWithin, is_handler_of}
 use Rattle.fmp_rooms.specs.Told.{AreTold, SameTold}
 use Rattle.fmp_rooms.proofs.ToldLaws.{contexts-told}

@@ -2,13 +2,12 @@
 use Rattle.std.specs.Prelude.{◌≡◌, ℕ, ◌<◌, pos, true, false, List, Some, get_or}
 use Rattle.fmp_base.specs.declared.bodies.HandlerStart.{HandlerStart}
 use Rattle.fmp_base.specs.declared.states.Handler.{Handler}
-use Rattle.fmp_base.specs.Meanings.{World, context_at, context_in, handler_start, task_body}
+use Rattle.fmp_base.specs.Meanings.{World, context_at, context_in, handler_start, kept_context, task_body}
 use Rattle.fmp_base.specs.States.{processor_at, task_at}
 use Rattle.fmp_base.specs.Systems.{SystemTables}
 use Rattle.fmp_base.specs.TaskCalls.{is_dormant}
 use Rattle.fmp_instructions.specs.declared.instructions.MachineContext.{MachineContext}
 use Rattle.fmp_instructions.specs.Instructions.{BodyTables}
-use Rattle.fmp_rows.specs.Worlds.{kept_context}
 use Rattle.fmp_rooms.specs.Rooms.{is_handler_of, locals_at}
 
 -- the same is told of two contexts of a body: the place, the body's own locals, and the operands

@@ -5,14 +5,14 @@ use Rattle.fmp_base.specs.declared.bodies.Held.TheVariants.{Goes, Awaits}
 use Rattle.fmp_base.specs.declared.states.Phase.{Phase}
 use Rattle.fmp_base.specs.declared.states.Phase.TheVariants.{Dormant, Ready, Waiting}
 use Rattle.fmp_base.specs.declared.states.TaskBlock.{TaskBlock}
-use Rattle.fmp_base.specs.Meanings.{World, context_at}
+use Rattle.fmp_base.specs.Meanings.{World, context_at, kept_context}
 use Rattle.fmp_base.specs.States.{task_at}
 use Rattle.fmp_base.specs.Systems.{SystemTables}
 use Rattle.fmp_base.specs.TaskCalls.{is_dormant}
 use Rattle.fmp_alike.specs.Alike.{Alike, AlikeStates, is_none, is_off}
 use Rattle.fmp_alike.proofs.TimeLaws.{blocks-at}
 use Rattle.fmp_rows.specs.Rows.{SameRow}
-use Rattle.fmp_rows.specs.Worlds.{IsHeldBy, IsRegularWorld, SameBodies, kept_context}
+use Rattle.fmp_rows.specs.Worlds.{IsHeldBy, IsRegularWorld, SameBodies}
 use Rattle.fmp_rows.proofs.RowLaws.{rows-told}
 
 -- whether a context awaits a reply is told by the phase

@@ -4,18 +4,12 @@ use Rattle.fmp_base.specs.declared.bodies.Held.{Held}
 use Rattle.fmp_base.specs.declared.bodies.Held.TheVariants.{Goes, Awaits}
 use Rattle.fmp_base.specs.declared.states.Phase.{Phase}
 use Rattle.fmp_base.specs.declared.states.Phase.TheVariants.{Ready, Waiting}
-use Rattle.fmp_base.specs.Meanings.{World, context_at}
+use Rattle.fmp_base.specs.Meanings.{World, context_at, kept_context}
 use Rattle.fmp_base.specs.States.{task_at}
 use Rattle.fmp_base.specs.Systems.{SystemTables}
 use Rattle.fmp_base.specs.TaskCalls.{is_dormant}
 use Rattle.fmp_worlds.specs.Settled.{IsSettled}
 use Rattle.fmp_rows.specs.Rows.{IsRegular}
-
--- the context that is kept of a body, whether or not it awaits a reply
-abbrev pub kept_context : {C : Type 0} → Option (Held C) → Option C
-kept_context None = None
-kept_context (Some (Goes c)) = Some c
-kept_context (Some (Awaits c)) = Some c
 
 -- of a task of this phase: while it waits it awaits a reply, and while it is ready it awaits none
 abbrev pub IsHeldBy : {C : Type 0} → Phase → Option (Held C) → Type 0
