@@ -6,13 +6,13 @@ ghost use Rattle.fmp_foreign.specs.Hosting.{refused};
 ghost use Rattle.fmp_checked.specs.Checking.{InStep, IsBegun, IsChecked, IsHostedBy, IsTextOf, hosted_after};
 
 use crate::bodies::ImageBody;
-use crate::copying::copied_system;
 use crate::following::{Objection, follow};
 use fmp_base::{Effect, System};
 use fmp_foreign::{Foreign, Hosted, Shadow};
 use fmp_image_bytes::Image;
 use fmp_kernel::Kernel;
 use fmp_outside::Given;
+use fmp_tasks::copied_system;
 use std::alloc::{AllocError, Global};
 use std::marker::Model;
 

@@ -3,7 +3,6 @@
 
 mod bodies;
 mod checked;
-mod copying;
 mod following;
 
 pub use bodies::ImageBody;

@@ -5,6 +5,7 @@ mod CountLemmas
 mod CyclicLemmas
 pub mod FrontLemmas
 mod PlaceLemmas
+mod RestartLemmas
 mod SettleLemmas
 mod SpinLemmas
 mod StampLemmas

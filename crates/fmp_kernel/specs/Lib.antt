@@ -1,5 +1,6 @@
 pub mod KernelViews
 pub mod NextTicks
+pub mod Restarts
 pub mod Rooms
 pub mod Spins
 pub mod Stamps

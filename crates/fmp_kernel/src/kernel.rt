@@ -1,6 +1,7 @@
 //! The kernel over lawful bodies: setup, and one event after the other.
 ghost use Rattle.std.specs.Prelude.{◌≡◌, ◌+◌, ◌<◌, ◌≤◌, ◌^◌, length, IfNone, IfOk, IfSome};
 ghost use Rattle.std.specs.Option.{option_copied};
+ghost use Rattle.fmp_alike.specs.Alike.{Alike};
 ghost use Rattle.fmp_base.specs.Meanings.{body_in, context_at, context_of, kept_context};
 ghost use Rattle.fmp_base.specs.Ranges.{IsInRange};
 ghost use Rattle.fmp_base.specs.Runs.{task_state};
@@ -10,13 +11,16 @@ ghost use Rattle.fmp_base.specs.Stretches.{ending};
 ghost use Rattle.fmp_base.specs.Systems.{tables_of};
 ghost use Rattle.fmp_contexts.specs.Contexts.{Entered, IsFor, is_going};
 ghost use Rattle.fmp_kernel.specs.KernelViews.{HasNoActor, actor_in, stamp_of, view_after, view_of_setup};
+ghost use Rattle.fmp_kernel.specs.Restarts.{counts_restarted};
 ghost use Rattle.fmp_worlds.specs.Settled.{RunOnce};
 ghost use Rattle.fmp_worlds.specs.Stamps.{actor_at_number, applied};
 
 use crate::actors::Actor;
 use crate::runner::Runner;
 use crate::stamps::{Stamps, run_place};
-use fmp_base::{Body, Caller, Effect, Event, HandlerContext, Held, Line, Stretch, System, TaskState};
+use fmp_base::{
+    Body, Caller, Effect, Event, HandlerContext, Held, Line, Stretch, System, TaskState,
+};
 use fmp_tasks::Tables;
 use std::alloc::{AllocError, Global};
 use std::marker::Model;
@@ -295,5 +299,20 @@ impl<B: Body> Kernel<B> {
                 Effect::Done
             }
         }
+    }
+
+    /// The counts begin again: the clock, the numbers of events done and taken, and the stamps are 0. Each deadline and
+    /// each due time is as far from the clock as before, and nothing else changes. The world is alike to what it was:
+    /// each later event does what it would do without this call, by lines that differ in the number of the clock at
+    /// most (`fmp_alike::laws::events_do_the_same`). A stamp from before this call says nothing after it. It takes no
+    /// memory.
+    pub fn restart_count(&mut self)
+        ensures state { self.new ≡ counts_restarted self.old }
+        ensures alike { Alike self.old.system self.old.world self.new.world }
+    {
+        self.runner.restart_clock();
+        self.stamps.restart();
+        self.done = 0;
+        self.taken = 0;
     }
 }

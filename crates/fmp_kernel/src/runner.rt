@@ -1,5 +1,5 @@
 //! The runner of events: the bodies with their contexts over the tables, and room for the lines of an event.
-ghost use Rattle.std.specs.Prelude.{◌≡◌, ◌+◌, ◌≤◌, ◌<◌, ◌^◌, ◌++◌, ◌∷◌, ℕ, [], get_or, length, replicate, vec_len, vec_capacity, false, IfOk, IfSome, Some, None};
+ghost use Rattle.std.specs.Prelude.{◌≡◌, ◌+◌, ◌≤◌, ◌<◌, ◌^◌, ◌++◌, ◌∷◌, ℕ, [], get_or, length, map, replicate, vec_len, vec_capacity, false, IfOk, IfSome, Some, None};
 ghost use Rattle.fmp_base.specs.Runs.{task_state, state_word as word_of_state};
 ghost use Rattle.fmp_base.specs.Ranges.{IsInRange};
 ghost use Rattle.fmp_base.specs.Setups.{created_state, first_contexts, setup};
@@ -7,6 +7,8 @@ ghost use Rattle.fmp_base.specs.Steps.{finished};
 ghost use Rattle.fmp_base.specs.Systems.{tables_of};
 ghost use Rattle.fmp_contexts.specs.Contexts.{Entered};
 ghost use Rattle.fmp_kernel.specs.KernelViews.{SameBodies, done_of, progress_of, stamp_of, with_stamp};
+ghost use Rattle.fmp_kernel.specs.Restarts.{clock_restarted_in};
+ghost use Rattle.fmp_ticks.specs.Times.{NoneBefore};
 ghost use Rattle.fmp_worlds.specs.Settled.{IsWorldOf};
 ghost use Rattle.fmp_worlds.specs.Stamps.{actor_at};
 
@@ -160,6 +162,16 @@ impl<B: Body> Runner<B> {
         let _ = self.tables.task_count();
         let _ = self.tables.cyclic_count();
         let _ = self.tables.processor_count();
+    }
+
+    /// The clock begins again at 0, as by `Tables::restart_clock`.
+    pub fn restart_clock(&mut self)
+        ensures state { self.new ≡ record self.old { world = clock_restarted_in self.old.world } }
+        ensures deadlines { NoneBefore (self.old.world.state.clock + 1)
+            (map (λ x. x.deadline) self.old.world.state.tasks) }
+        ensures due_times { NoneBefore (self.old.world.state.clock + 1) self.old.world.state.due_times }
+    {
+        self.tables.restart_clock();
     }
 
     /// The actor of processor p, with this stamp: None if it has no actor, or one that awaits a reply or of which

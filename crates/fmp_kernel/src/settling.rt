@@ -147,6 +147,7 @@ fn settle_several(tables: &mut Tables, lines: &mut Vec<Line>, count: u8)
 
 /// All processors settle, in order of number. A single one needs no loop.
 #[tactic(auto, using(crate::proofs::SettleLemmas::settled_one))]
+#[inline(always)]
 pub fn settle(tables: &mut Tables, lines: &mut Vec<Line>)
     requires room { vec_len lines.old + 8 ≤ vec_capacity lines.old }
     ensures progress { progress tables.new lines.new.items

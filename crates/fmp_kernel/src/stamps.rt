@@ -47,6 +47,15 @@ fn given_by(line: &Line) -> Option<u8>
     }
 }
 
+/// All counts are 0 again.
+fn clear(counts: &mut [u32])
+    ensures { counts.new ≡ replicate (length counts.old) 0 }
+{
+    for p in 0..counts.len() {
+        counts[p] = 0;
+    }
+}
+
 impl Stamps {
     /// Stamps 0 of processors. `AllocError` if memory runs out.
     pub fn new(alloc: Global, processors: u8) -> Result<Stamps, AllocError>
@@ -54,6 +63,13 @@ impl Stamps {
     {
         let counts = vec![in alloc; 0u32; processors as usize]?;
         Ok(Stamps { counts })
+    }
+
+    /// All stamps are 0 again.
+    pub fn restart(&mut self)
+        ensures { self.new ≡ replicate (length self.old) 0 }
+    {
+        clear(self.counts.as_mut_slice());
     }
 
     /// The stamp of processor p, or 0 if there is none.

@@ -77,44 +77,48 @@ fn pend(tables: &mut Tables, caused: &mut Vec<Line>, c: u8)
     });
 }
 
-/// A cyclic handler that is due now becomes pending, and is due again one period later.
+/// A cyclic handler that is due at the next tick becomes pending, and is due again one period later.
 fn cycle(tables: &mut Tables, caused: &mut Vec<Line>, c: u8)
     requires there { c < length tables.old.system.cyclics }
     requires room { vec_len caused.old < vec_capacity caused.old }
-    ensures progress { progress tables.new caused.new.items
-        ≡ cycled tables.old.system (progress tables.old caused.old.items) c }
+    ensures progress { at_tick (progress tables.new caused.new.items)
+        ≡ cycled tables.old.system (at_tick (progress tables.old caused.old.items)) c }
     ensures shape { SameShape tables.old tables.new }
     ensures few { vec_len caused.new ≤ vec_len caused.old + 1 }
     ensures capacity { vec_capacity caused.new ≡ vec_capacity caused.old }
 {
-    let now = tables.clock();
-    if tables.due_time(c) == Some(now) {
+    let next = tables.clock() + 1;
+    if tables.due_time(c) == Some(next) {
         pend(tables, caused, c);
-        tables.set_due(c, Some(now + tables.cyclic_config(c).period));
+        tables.set_due(c, Some(next + tables.cyclic_config(c).period));
     }
 }
 
-/// Of all cyclic handlers, whose number is given, those that are due now become pending, in order of number. Where none
-/// is due it looks at none.
+/// Of all cyclic handlers, whose number is given, those that are due at the next tick become pending, in order of
+/// number. Where none is due it looks at none.
 #[tactic(auto, using(crate::proofs::PlaceLemmas::places_next))]
 fn cycle_all(tables: &mut Tables, caused: &mut Vec<Line>, count: u8)
     requires count { count ≡ length tables.old.system.cyclics }
+    requires range { IsInRange tables.old.system }
     requires room { vec_len caused.old + count ≤ vec_capacity caused.old }
-    ensures progress { progress tables.new caused.new.items
-        ≡ all_cycled tables.old.system (progress tables.old caused.old.items) (places_from 0 count) }
+    ensures progress { at_tick (progress tables.new caused.new.items)
+        ≡ all_cycled tables.old.system (at_tick (progress tables.old caused.old.items)) (places_from 0 count) }
+    ensures tasks { tables.new.state.tasks ≡ tables.old.state.tasks }
+    ensures none_due { first_due (tables.new.state.clock + 1) tables.new.state.due_times ≡ None }
     ensures shape { SameShape tables.old tables.new }
     ensures capacity { vec_capacity caused.new ≡ vec_capacity caused.old }
 {
     if tables.due_cyclic().is_none() {
         return;
     }
+    prove!(tables.cyclic_count() == count as usize);
     for c in 0..count {
         cycle(tables, caused, c);
     }
 }
 
-/// The tasks whose deadline is the next tick are released, the clock advances by one to it, and the cyclic handlers
-/// that are due become pending.
+/// The tasks whose deadline is the next tick are released, the cyclic handlers that are due then become pending, and
+/// the clock advances by one to it.
 pub fn advance(tables: &mut Tables, caused: &mut Vec<Line>)
     requires time { tables.old.state.clock < 2 ^ 31 }
     requires range { IsInRange tables.old.system }
@@ -125,6 +129,6 @@ pub fn advance(tables: &mut Tables, caused: &mut Vec<Line>)
 {
     let cyclics = tables.cyclic_count() as u8;
     time_out_all(tables, caused);
-    tables.advance();
     cycle_all(tables, caused, cyclics);
+    tables.advance();
 }

@@ -6,6 +6,7 @@ pub mod NewLemmas
 pub mod OnceLemmas
 pub mod OrderedLemmas
 pub mod RestLemmas
+pub mod RestartLemmas
 pub mod RotateLemmas
 pub mod SoundLemmas
 pub mod StandLemmas

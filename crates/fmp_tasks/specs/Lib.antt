@@ -6,6 +6,7 @@ pub mod Joining
 pub mod KeptLaws
 pub mod Lines
 pub mod Marks
+pub mod Restarts
 pub mod SortLaws
 pub mod Tables
 pub mod Trails

@@ -68,8 +68,8 @@ pub record Sound (sys : SystemTables) (tasks : List TaskBlock) (order ready : Li
   pub kept : Kept (home waits) (order_with_head waits sys) tasks order rings.lists
   pub deadlines_kept : deadlines ≡ map (λ x. x.deadline) tasks
 
--- the system is in range, the tasks and queues agree, each deadline lies after the clock, there is a value for each
--- object, and a processor that is not marked has nothing to settle
+-- the system is in range, the tasks and queues agree, each deadline and each due time lies after the clock, there is a
+-- value for each object, and a processor that is not marked has nothing to settle
 pub record IsWhole (a : Inside) : Type 0 where
   pub system : IsInRange (tables_of a.system)
   pub later : NoneBefore (a.clock + 1) a.deadlines
@@ -82,6 +82,7 @@ pub record IsWhole (a : Inside) : Type 0 where
   pub shared_words : length a.shared_words.items ≡ length a.system.shared_words.items
   pub processors : length a.processors ≡ a.system.processors
   pub cyclics : length a.cyclics ≡ length a.system.cyclics.items
+  pub due_later : NoneBefore (a.clock + 1) a.cyclics
   pub handlers : a.pending.processors ≡ handler_processors (tables_of a.system)
   pub pending_cyclics : length a.pending.cyclics ≡ length a.system.cyclics.items
   pub pending_interrupts : length a.pending.interrupts ≡ 32

@@ -17,7 +17,7 @@ fn copied<T: Copy>(alloc: Global, rows: &[T]) -> Result<Vec<T>, AllocError>
     Ok(copy)
 }
 
-/// The tables of a system again.
+/// The tables of a system again. `AllocError` if memory runs out.
 pub fn copied_system(alloc: Global, sys: &System) -> Result<System, AllocError>
     ensures { IfOk result (λ s. tables_of s ≡ tables_of sys.now) }
 {

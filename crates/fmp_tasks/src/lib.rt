@@ -10,11 +10,13 @@ mod marks;
 mod messages;
 pub mod order;
 mod queues;
+mod restart;
 mod setup;
 pub mod tables;
 pub mod tasks;
 pub mod trail;
 mod words;
 
+pub use config::copied_system;
 pub use order::Order;
 pub use tables::Tables;

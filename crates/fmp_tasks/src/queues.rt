@@ -15,7 +15,7 @@ use crate::latest::Latest;
 use fmp_base::{Phase, QueueOrder, Steps, System, TaskBlock, WaitCause, WaitQueue};
 use fmp_ready::ReadyQueues;
 use fmp_ring::Rings;
-use fmp_ticks::TickQueue;
+use fmp_ticks::{Cyclics, TickQueue};
 use fmp_waitq::WaitQueues;
 
 /// Whether a task is able to run: neither dormant nor waiting nor suspended.
@@ -220,5 +220,17 @@ pub fn set_deadline(deadlines: &mut TickQueue, t: u8, deadline: Option<u32>)
     match deadline {
         Some(when) => deadlines.set(t, when, &mut steps),
         None => deadlines.cancel(t, &mut steps),
+    }
+}
+
+/// The due time of cyclic handler c becomes this.
+#[inline(always)]
+pub fn set_due_time(cyclics: &mut Cyclics, c: u8, due: Option<u32>)
+    requires { c < length cyclics.old }
+    ensures { cyclics.new ≡ slice_set cyclics.old c due }
+{
+    match due {
+        Some(when) => cyclics.start(c, when),
+        None => cyclics.stop(c),
     }
 }

@@ -4,10 +4,13 @@ ghost use Rattle.fmp_base.specs.ProcessorCalls.{with_due};
 ghost use Rattle.fmp_base.specs.Settles.{pending_handler, without_pending};
 ghost use Rattle.fmp_base.specs.Systems.{found};
 ghost use Rattle.fmp_base.specs.Ticks.{with_clock_advanced, with_cyclic_pending, with_interrupt_pending, is_pending};
+ghost use Rattle.fmp_tasks.specs.Restarts.{clock_restarted};
 ghost use Rattle.fmp_tasks.specs.Tables.{HasHandler};
-ghost use Rattle.fmp_ticks.specs.Times.{first_due};
+ghost use Rattle.fmp_ticks.specs.Times.{first_due, NoneBefore};
 
 use crate::marks::Marks;
+use crate::queues::set_due_time;
+use crate::restart::{restart_blocks, restart_deadlines, restart_due_times};
 use crate::tables::Tables;
 use fmp_base::{Handler, Steps};
 
@@ -24,9 +27,27 @@ impl Tables {
     pub fn advance(&mut self)
         requires time { self.old.state.clock < 2 ^ 31 }
         requires none_due { first_due (self.old.state.clock + 1) (map (λ x. x.deadline) self.old.state.tasks) ≡ None }
+        requires no_cyclic_due { first_due (self.old.state.clock + 1) self.old.state.due_times ≡ None }
         ensures { self.new ≡ record self.old { state = with_clock_advanced self.old.state } }
     {
         self.clock += 1;
+    }
+
+    /// The clock begins again at 0: each deadline and each due time becomes the time that is left until it. All of them
+    /// lay after the clock.
+    pub fn restart_clock(&mut self)
+        ensures state { self.new ≡ record self.old { state = clock_restarted self.old.state } }
+        ensures deadlines { NoneBefore (self.old.state.clock + 1) (map (λ x. x.deadline) self.old.state.tasks) }
+        ensures due_times { NoneBefore (self.old.state.clock + 1) self.old.state.due_times }
+    {
+        restart_blocks(self.blocks.as_mut_slice(), self.clock);
+        restart_deadlines(&mut self.deadlines, self.blocks.as_slice());
+        restart_due_times(
+            &mut self.cyclics,
+            self.system.cyclics.len() as u8,
+            self.clock,
+        );
+        self.clock = 0;
     }
 
     /// Of the tasks whose deadline is the next tick the first by number, if any.
@@ -47,12 +68,12 @@ impl Tables {
         self.pending.cyclic_count()
     }
 
-    /// Of the cyclic handlers that are due now the first by number, if any.
+    /// Of the cyclic handlers that are due at the next tick the first by number, if any.
     pub fn due_cyclic(&self) -> Option<u8>
-        ensures value { result ≡ first_due self.now.state.clock self.now.state.due_times }
+        ensures value { result ≡ first_due (self.now.state.clock + 1) self.now.state.due_times }
         ensures there { IfSome result (λ c. c < length self.now.system.cyclics) }
     {
-        self.cyclics.due(self.clock)
+        self.cyclics.due(self.clock + 1)
     }
 
     /// The clock at which a cyclic handler is due next, if it is started.
@@ -63,15 +84,13 @@ impl Tables {
         self.cyclics.due_time(c)
     }
 
-    /// A cyclic handler is due when the clock is this, or no longer.
+    /// A cyclic handler is due when the clock is this, which lies after now, or no longer.
     pub fn set_due(&mut self, c: u8, due: Option<u32>)
-        requires { c < length self.old.system.cyclics }
+        requires there { c < length self.old.system.cyclics }
+        requires later { IfSome due (λ w. self.old.state.clock + 1 ≤ w) }
         ensures { self.new ≡ record self.old { state = with_due self.old.state c due } }
     {
-        match due {
-            Some(when) => self.cyclics.start(c, when),
-            None => self.cyclics.stop(c),
-        }
+        set_due_time(&mut self.cyclics, c, due);
     }
 
     /// Whether a cyclic handler is pending.

@@ -17,6 +17,7 @@ invariant_of-self c =
       shared_words = c.self.invariant.shared_words;
       processors = c.self.invariant.processors;
       cyclics = c.self.invariant.cyclics;
+      due_later = c.self.invariant.due_later;
       handlers =
           ap (λ (m : PendingMarks). m.processors) c.clear.ensures
           ∙ cleared_processors c.self.inside.pending c.args.h ∙ c.self.invariant.handlers;

@@ -9,6 +9,7 @@ use Rattle.fmp_tasks.specs.Tables.{Sound}
 use Rattle.fmp_ticks.specs.ClockLaws.{NoneBefore-new}
 use Rattle.fmp_tasks.proofs.MarkLemmas.{at_rest_all}
 use Rattle.fmp_tasks.proofs.NewLemmas.{Sound-new}
+use Rattle.fmp_tasks.proofs.RestartLemmas.{due_times_new}
 use Rattle.fmp_tasks.proofs.tables.Tables.new.Goals as goal
 
 pub invariant_of-result : goal.invariant_of-result
@@ -36,6 +37,7 @@ invariant_of-result c =
       shared_words = ap (λ (l : List ℤ). length l) c.in_ok-values.ensures.shared_words ∙ length-map _ _ ∙ ap (λ (s : SystemTables). length s.shared_words) (sym e);
       processors = ap (λ (l : List Processor). length l) c.in_ok-processors.ensures ∙ length-replicate _ _ ∙ ap (λ (s : SystemTables). s.processors) (sym e);
       cyclics = ap (λ (l : List (Option ℕ)). length l) c.in_ok-handlers.ensures.due_times ∙ length-map _ _ ∙ ap (λ (s : SystemTables). length s.cyclics) (sym e);
+      due_later = rw c.in_ok-handlers.ensures.due_times (due_times_new _);
       handlers = ap (λ (h : PendingMarks). h.processors) c.in_ok-handlers.ensures.pending ∙ ap handler_processors (sym e);
       pending_cyclics = ap (λ (h : PendingMarks). length h.cyclics) c.in_ok-handlers.ensures.pending ∙ length-replicate _ _ ∙ ap (λ (s : SystemTables). length s.cyclics) (sym e);
       pending_interrupts = ap (λ (h : PendingMarks). length h.interrupts) c.in_ok-handlers.ensures.pending ∙ length-replicate 32 false;

@@ -20,6 +20,7 @@ invariant_of-self c =
           ap (λ (cpus : List Processor). length cpus) c.set.ensures ∙ length-set c.self.inside.processors c.args.p c.args.x
           ∙ c.self.invariant.processors;
       cyclics = c.self.invariant.cyclics;
+      due_later = c.self.invariant.due_later;
       handlers = c.self.invariant.handlers;
       pending_cyclics = c.self.invariant.pending_cyclics;
       pending_interrupts = c.self.invariant.pending_interrupts;

@@ -28,6 +28,7 @@ invariant_of-self c =
       shared_words = c.self.invariant.shared_words;
       processors = c.self.invariant.processors;
       cyclics = c.self.invariant.cyclics;
+      due_later = c.self.invariant.due_later;
       handlers = c.self.invariant.handlers;
       pending_cyclics = c.self.invariant.pending_cyclics;
       pending_interrupts = c.self.invariant.pending_interrupts;
