@@ -12,5 +12,9 @@ mod statements;
 mod text;
 mod words;
 
+pub use bodies::{append_bodies, append_prototypes};
 pub use files::{Exported, append_c, append_main, export_c};
+pub use objects::append_kind;
 pub use pieces::{Piece, Risk, Shape};
+pub use text::{append, append_count, append_signed};
+pub use words::{append_function, append_name, is_among};

@@ -76,7 +76,7 @@ pub const TAKEN: [&str; 62] = [
 ];
 
 /// Whether a name is among some words.
-fn is_among(words: &[&str], name: &[u8]) -> bool
+pub fn is_among(words: &[&str], name: &[u8]) -> bool
     ensures { result ≡ list_any (λ word. bytes_eq word.now name.now) words.now }
 {
     for word in words {
