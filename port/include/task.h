@@ -6,11 +6,42 @@
 #define FMP_TASK_H
 
 #include "fmp.h"
-#include "kernel.h"
 
-/* A text may declare variables that it does not read. */
+/* A text may give its objects and variables the names of the types of kernel.h, which are others here. */
+#define ER fmp_ER
+#define ER_UINT fmp_ER_UINT
+#define FLGPTN fmp_FLGPTN
+#define ID fmp_ID
+#define MODE fmp_MODE
+#define PRI fmp_PRI
+#define RELTIM fmp_RELTIM
+#define TMO fmp_TMO
+#include "kernel.h"
+#undef ER
+#undef ER_UINT
+#undef FLGPTN
+#undef ID
+#undef MODE
+#undef PRI
+#undef RELTIM
+#undef TMO
+
+/* A text may declare variables that it does not read. Loops within loops count their turns by themselves. */
 #pragma GCC diagnostic ignored "-Wunused-variable"
 #pragma GCC diagnostic ignored "-Wunused-but-set-variable"
+#pragma GCC diagnostic ignored "-Wshadow"
+
+/*
+ * A loop of a text. The body may be interrupted at every sixteenth turn: a poll in each would take longer than a turn.
+ */
+#define fmp_while(condition) for (uint32_t fmp_turns = 0; fmp_turn(&fmp_turns), (condition);)
+
+static inline void fmp_turn(uint32_t *turns)
+{
+    if ((++*turns & 15) == 0) {
+        fmp_poll();
+    }
+}
 
 /*
  * Operators. C has none that tests its result.
@@ -119,11 +150,12 @@ static inline void fmp_store(int32_t *array, int32_t length, int32_t index, int3
  * Service calls of which kernel.h has a parameter that is no int32_t.
  */
 
-static inline ER fmp_set_pattern(ID flgid, int32_t pattern) { return set_flg(flgid, (FLGPTN)pattern); }
-static inline ER fmp_clear_pattern(ID flgid, int32_t pattern) { return clr_flg(flgid, (FLGPTN)pattern); }
-static inline ER fmp_iset_pattern(ID flgid, int32_t pattern) { return iset_flg(flgid, (FLGPTN)pattern); }
+static inline int32_t fmp_set_pattern(int32_t flgid, int32_t pattern) { return set_flg(flgid, (uint32_t)pattern); }
+static inline int32_t fmp_clear_pattern(int32_t flgid, int32_t pattern) { return clr_flg(flgid, (uint32_t)pattern); }
+static inline int32_t fmp_iset_pattern(int32_t flgid, int32_t pattern) { return iset_flg(flgid, (uint32_t)pattern); }
 
-static inline ER fmp_await(uint8_t service, ID flgid, int32_t pattern, int32_t mode, int32_t *bits, TMO tmout)
+static inline int32_t fmp_await(uint8_t service, int32_t flgid, int32_t pattern, int32_t mode, int32_t *bits,
+                                int32_t tmout)
 {
     return fmp_service(service, flgid, pattern, mode, tmout, bits);
 }

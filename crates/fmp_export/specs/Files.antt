@@ -9,7 +9,7 @@ use Rattle.fmp_tasklang.specs.Grammar.{Bodies}
 use Rattle.fmp_tasklang.specs.Reading.{IsRead}
 use Rattle.fmp_tasklang.specs.Trees.{BodyTree}
 use Rattle.fmp_export.specs.declared.files.Exported.{Exported}
-use Rattle.fmp_export.specs.declared.files.TheConstants.{MAIN_END}
+use Rattle.fmp_export.specs.declared.files.TheConstants.{HEADER_START, MAIN_START, MAIN_END}
 use Rattle.fmp_export.specs.Bodies.{c_bodies, c_prototypes, c_rows}
 use Rattle.fmp_export.specs.Words.{c_name}
 
@@ -45,21 +45,24 @@ abbrev pub c_enumeration : List ℕ → List ℕ
 c_enumeration [] = []
 c_enumeration (b ∷ bs) = codes "enum {\n" ++ ((b ∷ bs) ++ codes "};\n\n")
 
--- the numbers of the objects, and a function for each body
-unfoldable pub c_file : SystemTables → List BodyTree → List ℕ
-c_file s bodies =
-    codes "#include \"task.h\"\n\n" ++ (c_enumeration (c_kinds s) ++ (c_prototypes bodies ++ c_bodies bodies))
+-- the header: the numbers of the objects, and the prototype of each body's function
+unfoldable pub c_header : SystemTables → List BodyTree → List ℕ
+c_header s bodies =
+    HEADER_START.now ++ (c_enumeration (c_kinds s) ++ (c_prototypes bodies ++ codes "\n#endif\n"))
 
--- the program that runs the bodies in virtual time
+-- a function for each body
+unfoldable pub c_file : List BodyTree → List ℕ
+c_file bodies = codes "#include \"bodies.h\"\n#include \"task.h\"\n" ++ c_bodies bodies
+
+-- the program that runs the bodies
 unfoldable pub c_main : List BodyTree → List ℕ
-c_main bodies =
-    codes "#include \"virtual.h\"\n\n"
-    ++ (c_prototypes bodies
-    ++ (codes "\nstatic const struct fmp_body bodies[] = {\n" ++ (c_rows bodies ++ MAIN_END.now)))
+c_main bodies = MAIN_START.now ++ (c_rows bodies ++ MAIN_END.now)
 
 -- the files of these bodies
-abbrev pub AreFiles : SystemTables → List BodyTree → Exported → Type 0
-AreFiles s bodies e = (e.bodies.items ≡ c_file s bodies) × (e.main.items ≡ c_main bodies)
+pub record AreFiles (s : SystemTables) (bodies : List BodyTree) (e : Exported) : Type 0 where
+  pub header : e.header.items ≡ c_header s bodies
+  pub file : e.bodies.items ≡ c_file bodies
+  pub main : e.main.items ≡ c_main bodies
 
 -- the C of the bodies that the text spells, or the fault of a text that spells none
 abbrev pub IsExported : SystemTables → List ℕ → Result Exported BuildFault → Type 0

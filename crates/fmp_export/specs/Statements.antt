@@ -133,7 +133,7 @@ abbrev mutual
       ++ (c_block (margin ++ tab) b
       ++ c_else (is_chain o) margin (c_chained (margin ++ codes "} else ") margin o) (c_block (margin ++ tab) o))
   c_statement front margin (while e b) =
-      c_head front (codes "while (fmp_poll(), ") e ++ (c_block (margin ++ tab) b ++ c_end margin)
+      c_head front (codes "fmp_while (") e ++ (c_block (margin ++ tab) b ++ c_end margin)
   c_statement front margin break = front ++ codes "break;\n"
   c_statement front margin continue = front ++ codes "continue;\n"
   c_statement front margin return = front ++ codes "return;\n"

@@ -2,7 +2,7 @@
 ghost use Rattle.std.specs.Prelude.{◌≡◌, ◌++◌, IfOk, OnOk};
 ghost use Rattle.fmp_base.specs.Systems.{tables_of};
 ghost use Rattle.fmp_tasklang.specs.Views.{program_view};
-ghost use Rattle.fmp_export.specs.Files.{AreFiles, IsExported, c_file, c_main};
+ghost use Rattle.fmp_export.specs.Files.{AreFiles, IsExported, c_file, c_header, c_main};
 
 use crate::bodies::{append_bodies, append_prototypes, append_rows};
 use crate::objects::append_enumeration;
@@ -15,65 +15,111 @@ use std::alloc::{AllocError, Global};
 /// The C of a task text.
 #[derive(Drop)]
 pub struct Exported {
-    /// The numbers of the objects, and a function for each body.
+    /// The header `bodies.h`: the numbers of the objects, and the prototype of each body's function.
+    pub header: Vec<u8>,
+    /// A function for each body.
     pub bodies: Vec<u8>,
-    /// The program that runs the bodies in virtual time.
+    /// The program that runs the bodies, in virtual or in real time.
     pub main: Vec<u8>,
 }
 
-/// What stands behind the rows of the table of bodies.
+/// What stands before the numbers of the objects.
+pub const HEADER_START: &[u8] = b"#ifndef BODIES_H
+#define BODIES_H
+
+#include <stdint.h>
+
+";
+
+/// What stands before the rows of the table of bodies.
+pub const MAIN_START: &[u8] = b"#include \"bodies.h\"
+#include \"live.h\"
+#include \"virtual.h\"
+
+#include <string.h>
+
+static const struct fmp_body fmp_bodies[] = {
+";
+
+/// What stands behind them.
 pub const MAIN_END: &[u8] = b"    {NULL, NULL},
 };
+
+#ifdef FMP_SHADOW
+static const uint8_t fmp_image[] = {
+#include \"image.h\"
+};
+#endif
 
 int main(int argc, char **argv)
 {
     const struct fmp_program program = {
-        .bodies = bodies,
-        .count = sizeof bodies / sizeof *bodies - 1,
+        .bodies = fmp_bodies,
+        .count = sizeof fmp_bodies / sizeof *fmp_bodies - 1,
+#ifdef FMP_SHADOW
+        .image = fmp_image,
+        .image_length = sizeof fmp_image,
+#endif
     };
+    if (argc > 1 && strcmp(argv[1], \"live\") == 0) {
+        return fmp_perform(argc - 1, argv + 1, &program);
+    }
     return fmp_simulate(argc, argv, &program);
 }
 ";
 
-/// Appends the C of a program and its configuration: the numbers of the objects, and a function for each body. The
+/// Appends the header of a program and its configuration: the numbers of the objects, and a prototype for each body. The
 /// error is out of memory.
-#[tactic(auto, unfolding(crate::specs::Files::c_file))]
-pub fn append_c(
+#[tactic(auto, unfolding(crate::specs::Files::c_header))]
+pub fn append_header(
     alloc: Global,
     system: &System,
     program: &Program,
     out: &mut Vec<u8>,
 ) -> Result<(), AllocError>
     ensures { OnOk result (out.new.items ≡ out.old.items
-        ++ c_file (tables_of system.now) (program_view program.now)) }
+        ++ c_header (tables_of system.now) (program_view program.now)) }
 {
-    append(b"#include \"task.h\"\n\n", out)?;
+    append(HEADER_START, out)?;
     append_enumeration(alloc, system, out)?;
     append_prototypes(&program.bodies, out)?;
+    append(b"\n#endif\n", out)
+}
+
+/// Appends the C of a program: a function for each body. The error is out of memory.
+#[tactic(auto, unfolding(crate::specs::Files::c_file))]
+pub fn append_c(alloc: Global, program: &Program, out: &mut Vec<u8>) -> Result<(), AllocError>
+    ensures { OnOk result (out.new.items ≡ out.old.items ++ c_file (program_view program.now)) }
+{
+    append(b"#include \"bodies.h\"\n#include \"task.h\"\n", out)?;
     append_bodies(alloc, &program.bodies, out)
 }
 
-/// Appends the C program that runs these bodies in virtual time. The error is out of memory.
+/// Appends the C program that runs these bodies in virtual or in real time. The error is out of memory.
 #[tactic(auto, unfolding(crate::specs::Files::c_main))]
 pub fn append_main(program: &Program, out: &mut Vec<u8>) -> Result<(), AllocError>
     ensures { OnOk result (out.new.items ≡ out.old.items ++ c_main (program_view program.now)) }
 {
-    append(b"#include \"virtual.h\"\n\n", out)?;
-    append_prototypes(&program.bodies, out)?;
-    append(b"\nstatic const struct fmp_body bodies[] = {\n", out)?;
+    append(MAIN_START, out)?;
     append_rows(&program.bodies, out)?;
     append(MAIN_END, out)
 }
 
-/// Both files.
+/// All files.
 fn files(alloc: Global, system: &System, program: &Program) -> Result<Exported, AllocError>
     ensures { IfOk result (λ e. AreFiles (tables_of system.now) (program_view program.now) e) }
 {
+    let mut header = Vec::new(alloc);
+    append_header(alloc, system, program, &mut header)?;
     let mut bodies = Vec::new(alloc);
-    append_c(alloc, system, program, &mut bodies)?;
+    append_c(alloc, program, &mut bodies)?;
     let mut main = Vec::new(alloc);
     append_main(program, &mut main)?;
-    Ok(Exported { bodies, main })
+    Ok(Exported {
+        header,
+        bodies,
+        main,
+    })
 }
 
 /// The C of a task text for the system of its configuration, or the first fault of the text's syntax: B1 or B5.

@@ -32,7 +32,11 @@ fn append_objects<T: HasName>(rows: &[T], out: &mut Vec<u8>) -> Result<(), Alloc
 }
 
 /// Appends the objects of a table, if it has any.
-pub fn append_kind<T: HasName>(title: &[u8], rows: &[T], out: &mut Vec<u8>) -> Result<(), AllocError>
+pub fn append_kind<T: HasName>(
+    title: &[u8],
+    rows: &[T],
+    out: &mut Vec<u8>,
+) -> Result<(), AllocError>
     ensures { OnOk result (out.new.items ≡ out.old.items ++ c_kind title.now (map T.name_of rows.now)) }
 {
     if rows.is_empty() {

@@ -419,7 +419,7 @@ fn append_statement(
             append_else(alloc, margin, otherwise, out)
         }
         Statement::While { condition, body } => {
-            append_head(alloc, front, b"while (fmp_poll(), ", condition, out)?;
+            append_head(alloc, front, b"fmp_while (", condition, out)?;
             append_inner(alloc, margin, body, out)?;
             append_line(margin, b"}\n", out)
         }

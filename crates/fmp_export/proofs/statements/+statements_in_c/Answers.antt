@@ -46,7 +46,7 @@ append_statement-returns-in_ok-append_inner-in-While t c =
     let view =
     view-While c.args.s.now c.in-While.condition c.in-While.body c.deref-in-While.result.now c.in-While.is
     c.deref-in-While.ensures.value in
-    let p = c_head c.args.front.now (codes "while (fmp_poll(), ") (expression_view c.in-While.condition) in
+    let p = c_head c.args.front.now (codes "fmp_while (") (expression_view c.in-While.condition) in
     let q = c_block (c.args.margin.now ++ tab) (block_view c.deref-in-While.result.now) in
     let r = c_end c.args.margin.now in
     on_ok_weaker c.append_line-in-While.result
