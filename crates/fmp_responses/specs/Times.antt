@@ -1,0 +1,18 @@
+-- The times of a run, where they are known.
+use Rattle.std.specs.Prelude.{ℕ, List, [], ◌∷◌, Option, Some, None, Bool, true, false, ◌&&◌, if◌then◌else◌, map}
+
+abbrev pub is_known : Option ℕ → Bool
+is_known None = false
+is_known (Some t) = true
+
+abbrev pub or_zero : Option ℕ → ℕ
+or_zero None = 0
+or_zero (Some t) = t
+
+abbrev pub are_known : List (Option ℕ) → Bool
+are_known [] = true
+are_known (t ∷ ts) = is_known t && are_known ts
+
+-- the times of setup, which is at 0, and of the events, if each of these is known; else none
+abbrev pub known_times : List (Option ℕ) → List ℕ
+known_times ts = if are_known ts then 0 ∷ map or_zero ts else []
