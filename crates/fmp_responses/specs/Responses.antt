@@ -105,5 +105,5 @@ none_of handlers tasks =
     }
 
 -- nothing was requested of a system with this many tasks
-abbrev pub no_requests : (tasks : ℕ) → Requests
+unfoldable pub no_requests : (tasks : ℕ) → Requests
 no_requests tasks = none_of 512 tasks

@@ -121,6 +121,7 @@ impl Responses {
 
     /// No responses and no requests, of a system with this many tasks. `AllocError` if memory runs out, as of each call
     /// below.
+    #[tactic(auto, unfolding(crate::specs::Responses::no_requests))]
     pub fn new(alloc: Global, tasks: usize) -> Result<Responses, AllocError>
         ensures { IfOk result (λ made. requests_of made ≡ spec.no_requests tasks) }
     {
