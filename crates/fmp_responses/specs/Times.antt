@@ -13,6 +13,11 @@ abbrev pub are_known : List (Option ℕ) → Bool
 are_known [] = true
 are_known (t ∷ ts) = is_known t && are_known ts
 
--- the times of setup, which is at 0, and of the events, if each of these is known; else none
+-- there are events, and the time of each is known
+abbrev pub has_times : List (Option ℕ) → Bool
+has_times [] = false
+has_times (t ∷ ts) = are_known (t ∷ ts)
+
+-- the times of setup, which is at 0, and of the events, if these have times; else none
 abbrev pub known_times : List (Option ℕ) → List ℕ
-known_times ts = if are_known ts then 0 ∷ map or_zero ts else []
+known_times ts = if has_times ts then 0 ∷ map or_zero ts else []

@@ -33,12 +33,22 @@ fn are_known(times: &[Option<u64>]) -> bool
     true
 }
 
-/// The times of setup, which is at 0, and of events, if each of these is known; else none.
+fn has_times(times: &[Option<u64>]) -> bool
+    ensures { result ≡ spec.has_times times.now }
+{
+    match times {
+        [] => false,
+        _ => are_known(times),
+    }
+}
+
+/// The times of setup, which is at 0, and of events, if there are any and the time of each is known; else none.
+/// `AllocError` if memory runs out.
 pub fn known_times(alloc: Global, times: &[Option<u64>]) -> Result<Vec<u64>, AllocError>
     ensures { IfOk result (λ known. known.items ≡ spec.known_times times.now) }
 {
     let mut known = Vec::new(alloc);
-    if are_known(times) {
+    if has_times(times) {
         known.push(0)?;
         for time in times {
             known.push(or_zero(*time))?;
