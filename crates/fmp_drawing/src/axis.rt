@@ -1,6 +1,7 @@
 //! The axis of a panel: clock and events.
 use crate::scene::Scene;
 use crate::shapes::{put_box, put_text};
+use crate::times::axis_area;
 use crate::titles::put_area;
 use fmp_timeline::Piece::{At, Label, Number, Numbered, Raw};
 use fmp_timeline::{Canvas, Note, Run, Span, Tenths, number_width, px};
@@ -175,9 +176,10 @@ fn put_badges(scene: &Scene<'_>, span: &Span, top: Tenths, out: &mut Canvas) {
 /// What is pointed at for the lines of each event.
 fn put_areas(scene: &Scene<'_>, span: &Span, top: Tenths, out: &mut Canvas) {
     let wide = px(span.page.column);
+    let (top, high) = axis_area(scene, top);
     for event in span.first..=span.last {
         let corner = (span.x(event) - wide.half(), top);
-        put_area(scene.run, corner, (wide, px(30)), event, out);
+        put_area(scene, corner, (wide, high), event, out);
     }
 }
 

@@ -58,7 +58,7 @@ fn put_value_title(scene: &Scene<'_>, topic: Topic, stay: &Stay<ObjectShown>, ou
     head.raw(" = ");
     head.signed(stay.state.value);
     append_waiting(scene, &stay.state, ", waiting: ", &mut head);
-    put_title(scene.run, "{}", &[Label(&head)], stay, out);
+    put_title(scene, "{}", &[Label(&head)], stay, out);
 }
 
 /// The text of a value from a place on.

@@ -151,7 +151,7 @@ fn put_areas(scene: &Scene<'_>, span: &Span, strip: &Strip, places: &[Place], ou
     for place in places {
         let event = place.made.event;
         let size = (span.x(event) - place.own, px(strip.height) - px(4));
-        put_area(scene.run, (place.own, strip.y(20)), size, event, out);
+        put_area(scene, (place.own, strip.y(20)), size, event, out);
     }
 }
 

@@ -16,6 +16,7 @@ mod signs;
 mod strips;
 mod style;
 mod tasks;
+mod times;
 mod titles;
 
-pub use picture::{DrawFault, MOST_BYTES, draw};
+pub use picture::{DrawFault, MOST_BYTES, draw, draw_timed};

@@ -8,6 +8,7 @@ use crate::scene::Scene;
 use crate::signs::{put_marks, taken_in};
 use crate::strips::{Lane, Strip, Strips};
 use crate::tasks::put_task;
+use crate::times::{axis_top, put_times};
 use fmp_base::StateWord;
 use fmp_timeline::Piece::{At, Number, Raw, Text};
 use fmp_timeline::{Canvas, Span, bytes_of, px, task_bytes};
@@ -238,12 +239,14 @@ fn put_rows(
         &[first, first, last],
     );
     put_bands(span, strips, out);
-    put_axis(scene, span, px(top), px(strips.bottom), out);
+    put_times(scene, span, px(top), out);
+    let axis = axis_top(scene, top);
+    put_axis(scene, span, px(axis), px(strips.bottom), out);
     put_lanes(scene, span, strips, out)?;
     if out.len() > MOST_BYTES {
         return Ok(());
     }
-    put_lead(span, top.saturating_add(AXIS), strips.bottom, out);
+    put_lead(span, axis.saturating_add(AXIS), strips.bottom, out);
     put_links(scene, span, strips, out);
     out.settle();
     put_all_marks(scene, span, strips, out)?;
@@ -256,7 +259,7 @@ fn put_rows(
 
 /// The lanes of a panel that begins at this height.
 fn rows_of(scene: &Scene<'_>, span: &Span, top: u32) -> Result<Strips, AllocError> {
-    let lanes = top.saturating_add(AXIS);
+    let lanes = axis_top(scene, top).saturating_add(AXIS);
     Strips::new(scene.alloc, scene.sys, scene.run, span, lanes)
 }
 

@@ -6,6 +6,7 @@ use crate::overview::put_overview;
 use crate::panel::{panel_bottom, put_panel};
 use crate::scene::Scene;
 use crate::style::{DARK, LIGHT, SHAPES};
+use crate::times::put_extent_of_times;
 use fmp_base::System;
 use fmp_timeline::Piece::{Number, Text};
 use fmp_timeline::{Canvas, Page, Run, Span};
@@ -50,8 +51,12 @@ fn put_description(scene: &Scene<'_>, name: &[u8], out: &mut Canvas) {
     put_count(task_count(scene), " task", out);
     out.raw(
         ". The horizontal axis counts events of the simulator, not time; dashed vertical lines are \
-         clock ticks.\nEvery lane is a group that lists its states in order.</desc>\n",
+         clock ticks.\nEvery lane is a group that lists its states in order.",
     );
+    if scene.has_times() {
+        out.raw(" The row ms at the axis has the real times of events.");
+    }
+    out.raw("</desc>\n");
 }
 
 /// The style and the shapes of the picture.
@@ -88,6 +93,7 @@ fn put_extent(scene: &Scene<'_>, out: &mut Canvas) {
     }
     let (from, to) = (clock_at(scene.run, first), clock_at(scene.run, last));
     out.put(" · clock {}–{}", &[Number(from), Number(to)]);
+    put_extent_of_times(scene, out);
 }
 
 /// The title, and in small what is drawn.
@@ -188,7 +194,22 @@ pub fn draw(
 ) -> Result<Vec<u8>, DrawFault>
     ensures { IfOk result (λ picture. length picture.items ≤ 40000000) }
 {
-    let scene = Scene::new(alloc, sys, run, page)?;
+    draw_timed(alloc, sys, run, name, page, &[])
+}
+
+/// The same with the real times of events, where they are known: these are those of setup and of the events, in
+/// microseconds. With no times it is the picture that `draw` makes.
+pub fn draw_timed(
+    alloc: Global,
+    sys: &System,
+    run: &Run,
+    name: &[u8],
+    page: Page,
+    times: &[u64],
+) -> Result<Vec<u8>, DrawFault>
+    ensures { IfOk result (λ picture. length picture.items ≤ 40000000) }
+{
+    let scene = Scene::new(alloc, sys, run, page, times)?;
     let picture = drawn(&scene, name)?;
     if picture.len() > MOST_BYTES {
         return Err(DrawFault::TooLarge);

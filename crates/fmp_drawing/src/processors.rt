@@ -61,7 +61,7 @@ fn put_handler_box(
     put_frame(Raw("hr"), (left, strip.y(45)), size, out);
     let name = handler_text(scene.alloc, scene.sys, handler, "#");
     let head = [Number(processor_number(processor)), Label(&name)];
-    put_title(scene.run, "p{}: {}", &head, stay, out);
+    put_title(scene, "p{}: {}", &head, stay, out);
     put_handler_plate(scene, strip, handler, (text_left(span, stay), right), out);
 }
 
@@ -108,7 +108,7 @@ fn put_task_box(
         Number(processor_number(processor)),
         Text(task_bytes(scene.sys, task)),
     ];
-    put_title(scene.run, "p{}: {}", &head, stay, out);
+    put_title(scene, "p{}: {}", &head, stay, out);
     put_hatch(
         scene,
         task,
@@ -131,7 +131,7 @@ fn put_idle(
     let (left, right) = (span.box_left(stay), span.box_right(stay));
     put_line("i", (left, strip.middle(0)), right - left, out);
     let number = Number(processor_number(processor));
-    put_title(scene.run, "p{}: idle", &[number], stay, out);
+    put_title(scene, "p{}: idle", &[number], stay, out);
 }
 
 /// What a processor does, as long as it does it.
@@ -150,6 +150,17 @@ fn put_occupant(
     }
 }
 
+/// What a processor does in a panel.
+fn put_occupants(scene: &Scene<'_>, span: &Span, strip: &Strip, processor: u8, out: &mut Canvas) {
+    if let Some(track) = scene.run.occupants.get(usize::from(processor)) {
+        for place in track.places(span.first, span.last) {
+            if let Some(stay) = track.stay(place) {
+                put_occupant(scene, span, strip, processor, &stay, out);
+            }
+        }
+    }
+}
+
 /// The lane of a processor.
 pub fn put_processor(
     scene: &Scene<'_>,
@@ -162,13 +173,7 @@ pub fn put_processor(
     out.numbered("<g role=\"group\" aria-label=\"Processor ", number, "\">");
     let place = (px(12), strip.middle(40));
     put_text(Raw("pn"), place, Numbered("Processor ", number, ""), out);
-    if let Some(track) = scene.run.occupants.get(usize::from(processor)) {
-        for place in track.places(span.first, span.last) {
-            if let Some(stay) = track.stay(place) {
-                put_occupant(scene, span, strip, processor, &stay, out);
-            }
-        }
-    }
+    put_occupants(scene, span, strip, processor, out);
     out.raw("</g>\n");
 }
 
@@ -211,7 +216,7 @@ fn put_held_lock(
     };
     put_bar("lc", strip, ends, out);
     let head = [Number(processor_number(processor)), Raw(words), Text(label)];
-    put_title(scene.run, "p{}: {}{} held", &head, stay, out);
+    put_title(scene, "p{}: {}{} held", &head, stay, out);
     put_bar_text("lct q", strip, (text_left(span, stay), ends.1), label, out);
 }
 
@@ -266,7 +271,7 @@ fn put_spin(scene: &Scene<'_>, span: &Span, strip: &Strip, stay: &Stay<Spin>, ou
     let head = [number, Raw(words), Text(name)];
     let mut more = Canvas::new(scene.alloc);
     append_taker(scene, lock, stay, &mut more);
-    put_title_with(scene.run, ("p{}: {}{}", &head), Label(&more), stay, out);
+    put_title_with(scene, ("p{}: {}{}", &head), Label(&more), stay, out);
     let ends = (text_left(span, stay), right);
     if !put_spin_text(scene, strip, ends, (words, name), out) {
         put_spin_text(scene, strip, ends, ("", name), out);
@@ -316,7 +321,7 @@ fn put_no_dispatch(
     let ends = (span.box_left(stay), span.box_right(stay));
     put_bar("ld", strip, ends, out);
     let number = Number(processor_number(processor));
-    put_title(scene.run, "p{}: dispatch disabled", &[number], stay, out);
+    put_title(scene, "p{}: dispatch disabled", &[number], stay, out);
     if !put_bar_text("ldt q", strip, ends, b"dispatch off", out) {
         put_bar_text("ldt q", strip, ends, b"dsp off", out);
     }
@@ -396,7 +401,7 @@ fn put_handling(
     } else {
         put_frame(Raw("hp"), (left, strip.y(45)), (wide, px(9)), out);
     }
-    put_title(scene.run, "{}{}", &[Label(name), Raw(words)], stay, out);
+    put_title(scene, "{}{}", &[Label(name), Raw(words)], stay, out);
     if stay.state.runs && stay.state.pends {
         put_frame(Raw("hp q"), (left, strip.y(125)), (wide, px(3)), out);
         out.raw("/>\n");

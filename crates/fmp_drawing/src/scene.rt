@@ -11,6 +11,8 @@ pub struct Scene<'a> {
     pub sys: &'a System,
     pub run: &'a Run,
     pub page: Page,
+    /// When setup and the events came, in microseconds; empty if that is not known.
+    pub times: &'a [u64],
     /// The looks of the tasks.
     pub looks: Vec<Look>,
 }
@@ -22,12 +24,14 @@ impl<'a> Scene<'a> {
         sys: &'a System,
         run: &'a Run,
         page: Page,
+        times: &'a [u64],
     ) -> Result<Scene<'a>, AllocError> {
         Ok(Scene {
             alloc,
             sys,
             run,
             page,
+            times,
             looks: all_looks(alloc, sys)?,
         })
     }
@@ -40,6 +44,16 @@ impl<'a> Scene<'a> {
     /// The last event of the run.
     pub fn last_event(&self) -> u32 {
         self.run.next_event().saturating_sub(1)
+    }
+
+    /// Whether it is known when the events came.
+    pub fn has_times(&self) -> bool {
+        !self.times.is_empty()
+    }
+
+    /// When an event came, in microseconds, if that is known.
+    pub fn time_of(&self, event: u32) -> Option<u64> {
+        self.times.get(event as usize).copied()
     }
 
     /// The look of a task.

@@ -244,20 +244,20 @@ fn put_tag(text: &[u8], sign: Sign, from: Tenths, strip: &Strip, out: &mut Canva
 }
 
 /// The shape of a mark.
-fn put_shape(run: &Run, shape: &str, strip: &Strip, placed: &Placed, out: &mut Canvas) {
+fn put_shape(scene: &Scene<'_>, shape: &str, strip: &Strip, placed: &Placed, out: &mut Canvas) {
     out.raw("<g>");
-    put_event_title(run, placed.mark.event, out);
+    put_event_title(scene, placed.mark.event, out);
     out.put(
         "<use href=\"#{}\" x=\"{}\" y=\"{}\"/></g>\n",
         &[Raw(shape), At(placed.x), At(strip.middle(0))],
     );
 }
 
-fn put_mark(run: &Run, strip: &Strip, placed: &Placed, out: &mut Canvas) {
+fn put_mark(scene: &Scene<'_>, strip: &Strip, placed: &Placed, out: &mut Canvas) {
     let sign = placed.mark.sign;
     let (shape, _, _) = shape_of(sign);
     if !shape.is_empty() {
-        put_shape(run, shape, strip, placed, out);
+        put_shape(scene, shape, strip, placed, out);
     }
     if let Some((from, text)) = placed.tag {
         put_tag(text, sign, from, strip, out);
@@ -310,7 +310,7 @@ pub fn put_marks(
         return Ok(());
     }
     for placed in &placed_marks(scene, span, strip.lane)? {
-        put_mark(scene.run, strip, placed, out);
+        put_mark(scene, strip, placed, out);
     }
     Ok(())
 }

@@ -247,7 +247,7 @@ fn put_task_title(scene: &Scene<'_>, task: u8, stay: &Stay<TaskShown>, out: &mut
     append_told(scene, task, stay, &mut more);
     let processor = Number(u32::from(stay.state.processor).saturating_add(1));
     let values = [Label(&head), processor];
-    put_title_with(scene.run, ("{}, p{}", &values), Label(&more), stay, out);
+    put_title_with(scene, ("{}, p{}", &values), Label(&more), stay, out);
 }
 
 /// The text of a wait between two places of its lane, lowered by this many tenths, if it fits.

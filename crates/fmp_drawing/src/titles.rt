@@ -1,5 +1,7 @@
 //! What a box says when it is pointed at: its state, and the lines of the event that made it.
+use crate::scene::Scene;
 use crate::shapes::put_box;
+use crate::times::{put_period_line, put_time_line};
 use fmp_timeline::Piece::{Number, Raw};
 use fmp_timeline::{Canvas, Piece, Run, Stay, Tenths};
 
@@ -45,16 +47,17 @@ fn put_lines(lines: &[u8], out: &mut Canvas) {
     }
 }
 
-/// A title with the lines of an event.
-pub fn put_event_title(run: &Run, event: u32, out: &mut Canvas) {
+/// A title with the time of an event, if it is known, and its lines.
+pub fn put_event_title(scene: &Scene<'_>, event: u32, out: &mut Canvas) {
     out.raw("<title>");
-    put_lines(lines_of(run, event), out);
+    put_time_line(scene, event, out);
+    put_lines(lines_of(scene.run, event), out);
     out.raw("</title>");
 }
 
 /// What is pointed at for the lines of an event: a box.
 pub fn put_area(
-    run: &Run,
+    scene: &Scene<'_>,
     corner: (Tenths, Tenths),
     size: (Tenths, Tenths),
     event: u32,
@@ -62,19 +65,25 @@ pub fn put_area(
 ) {
     put_box(Raw("z"), corner, size, out);
     out.raw(">");
-    put_event_title(run, event, out);
+    put_event_title(scene, event, out);
     out.raw("</path>\n");
 }
 
-/// The end of a path with a title: a head as a form and its values, from where to where a state lasts, and the lines of
-/// the event that began it.
-pub fn put_title<S>(run: &Run, head: &str, values: &[Piece<'_>], stay: &Stay<S>, out: &mut Canvas) {
-    put_title_with(run, (head, values), Raw(""), stay, out);
+/// The end of a path with a title: a head as a form and its values, from where to where a state lasts, also in real time
+/// if that is known, and the lines of the event that began it.
+pub fn put_title<S>(
+    scene: &Scene<'_>,
+    head: &str,
+    values: &[Piece<'_>],
+    stay: &Stay<S>,
+    out: &mut Canvas,
+) {
+    put_title_with(scene, (head, values), Raw(""), stay, out);
 }
 
 /// The same, with this behind its first line.
 pub fn put_title_with<S>(
-    run: &Run,
+    scene: &Scene<'_>,
     (head, values): (&str, &[Piece<'_>]),
     more: Piece<'_>,
     stay: &Stay<S>,
@@ -89,6 +98,7 @@ pub fn put_title_with<S>(
         ),
         None => out.put(", from event {} on{}\n", &[Number(stay.from), more]),
     }
-    put_lines(lines_of(run, stay.from), out);
+    put_period_line(scene, stay.from, stay.to, out);
+    put_lines(lines_of(scene.run, stay.from), out);
     out.raw("</title></path>\n");
 }

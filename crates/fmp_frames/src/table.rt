@@ -33,14 +33,14 @@ fn append_spaces(count: usize, out: &mut Vec<u8>) -> Result<(), AllocError> {
 }
 
 /// A cell at the right end of the column of this head.
-fn append_cell(head: &str, cell: &str, out: &mut Vec<u8>) -> Result<(), AllocError> {
+pub fn append_cell(head: &str, cell: &str, out: &mut Vec<u8>) -> Result<(), AllocError> {
     let width = head.len().saturating_add(2).max(COLUMN);
     append_spaces(width.saturating_sub(cell.len()), out)?;
     out.extend_from_slice(cell.as_bytes())
 }
 
 /// The first cell of a row: a name in a column of this width.
-fn append_name(name: &[u8], width: usize, out: &mut Vec<u8>) -> Result<(), AllocError> {
+pub fn append_name(name: &[u8], width: usize, out: &mut Vec<u8>) -> Result<(), AllocError> {
     out.extend_from_slice(name)?;
     append_spaces(width.saturating_sub(name.len()), out)
 }

@@ -1,0 +1,106 @@
+//! The table of the responses of a run as text: one row for each handler that woke a task.
+use crate::table::{append_cell, append_name};
+use crate::text::append;
+use fmp_base::{Handler, System};
+use fmp_responses::{Responses, Summary};
+use itoa::Buffer;
+use std::alloc::{AllocError, Global};
+
+/// The head of the names.
+const REQUEST: &str = "request";
+
+/// The heads of the columns.
+const HEADS: [&str; 3] = ["responses", "median us", "worst us"];
+
+/// The width of the longest name of a handler, or of the head above the names.
+fn name_width(sys: &System) -> usize {
+    let mut width = REQUEST.len();
+    for config in sys.cyclics.as_slice() {
+        width = config.name.as_bytes().len().max(width);
+    }
+    width
+}
+
+/// The row of the heads.
+fn append_heads(width: usize, out: &mut Vec<u8>) -> Result<(), AllocError> {
+    append_name(REQUEST.as_bytes(), width, out)?;
+    for head in &HEADS {
+        append_cell(head, head, out)?;
+    }
+    append("\n", out)
+}
+
+/// The row of a handler of this name.
+fn append_summary(
+    name: &[u8],
+    width: usize,
+    summary: Summary,
+    out: &mut Vec<u8>,
+) -> Result<(), AllocError> {
+    append_name(name, width, out)?;
+    append_cell(HEADS[0], Buffer::new().format(summary.count), out)?;
+    append_cell(HEADS[1], Buffer::new().format(summary.median), out)?;
+    append_cell(HEADS[2], Buffer::new().format(summary.worst), out)?;
+    append("\n", out)
+}
+
+/// The row of a handler of this name, if it woke a task that ran.
+fn append_handler(
+    alloc: Global,
+    responses: &Responses,
+    handler: Handler,
+    name: &[u8],
+    width: usize,
+    out: &mut Vec<u8>,
+) -> Result<(), AllocError> {
+    match responses.summary(alloc, handler)? {
+        Some(summary) => append_summary(name, width, summary, out),
+        None => Ok(()),
+    }
+}
+
+/// The rows of the interrupts, in order of number.
+fn append_interrupts(
+    alloc: Global,
+    responses: &Responses,
+    width: usize,
+    out: &mut Vec<u8>,
+) -> Result<(), AllocError> {
+    for place in 0..32u8 {
+        let name = format!(in alloc; "#{}", place + 1)?;
+        let handler = Handler::Interrupt(place);
+        append_handler(alloc, responses, handler, name.as_bytes(), width, out)?;
+    }
+    Ok(())
+}
+
+/// The rows of the cyclic handlers, in order of number.
+fn append_cyclics(
+    alloc: Global,
+    sys: &System,
+    responses: &Responses,
+    width: usize,
+    out: &mut Vec<u8>,
+) -> Result<(), AllocError> {
+    for (place, config) in sys.cyclics.iter().enumerate() {
+        if let Ok(place) = u8::try_from(place) {
+            let (handler, name) = (Handler::Cyclic(place), config.name.as_bytes());
+            append_handler(alloc, responses, handler, name, width, out)?;
+        }
+    }
+    Ok(())
+}
+
+/// Appends the table of responses: for each handler that woke a task that ran, how many responses there are, and how
+/// long they took at the median and at worst, in microseconds. `AllocError` if memory runs out.
+pub fn append_responses(
+    alloc: Global,
+    sys: &System,
+    responses: &Responses,
+    out: &mut Vec<u8>,
+) -> Result<(), AllocError> {
+    let width = name_width(sys);
+    append_heads(width, out)?;
+    append_interrupts(alloc, responses, width, out)?;
+    append_cyclics(alloc, sys, responses, width, out)
+}
