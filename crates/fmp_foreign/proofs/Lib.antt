@@ -4,3 +4,4 @@ pub mod AnyStretch
 pub mod Journals
 pub mod SameCalls
 pub mod GivenPlaces
+pub mod AlikeRuns

@@ -11,6 +11,7 @@ use Rattle.fmp_base.specs.Steps.{Reaction, effect_of}
 use Rattle.fmp_base.specs.Systems.{tables_of}
 use Rattle.fmp_cfgparse.specs.Configurations.{Describes}
 use Rattle.fmp_kernel.specs.KernelViews.{KernelView, view_after, view_of_setup}
+use Rattle.fmp_kernel.specs.Restarts.{counts_restarted}
 use Rattle.fmp_outside.specs.declared.given.Act.TheVariants as act
 use Rattle.fmp_outside.specs.declared.given.Given.{Given}
 use Rattle.fmp_outside.specs.declared.given.Given.TheVariants as given
@@ -93,3 +94,7 @@ answer k (Err why) = Err why
 abbrev pub after : Hosted → Result Given Refusal → Hosted
 after h (Ok g) = record h { kernel = after_unless (refused h.kernel g) h.kernel (reaction h.kernel g) }
 after h (Err why) = h
+
+-- the hosted system with counts that begin again
+abbrev pub restarted : Hosted → Hosted
+restarted h = record h { kernel = counts_restarted h.kernel }

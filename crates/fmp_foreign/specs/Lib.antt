@@ -3,3 +3,4 @@ pub mod Hosting
 pub mod Looking
 pub mod Following
 pub mod FollowingLaws
+pub mod AlikeRuns

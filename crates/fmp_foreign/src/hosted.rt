@@ -1,9 +1,10 @@
 //! A system whose bodies run elsewhere, with its kernel: one call for each event.
 ghost use Rattle.std.specs.Prelude.{◌≡◌, Err, IfErr, IfOk, Ok};
+ghost use Rattle.fmp_alike.specs.Alike.{Alike};
 ghost use Rattle.fmp_cfgparse.specs.Configurations.{IsRead};
 ghost use Rattle.fmp_outside.specs.declared.given.Act.TheVariants as act;
 ghost use Rattle.fmp_outside.specs.declared.given.Given.TheVariants as given;
-ghost use Rattle.fmp_foreign.specs.Hosting.{IsNew, after, answer, called_by, made_by, refused, refused_number};
+ghost use Rattle.fmp_foreign.specs.Hosting.{IsNew, after, answer, called_by, made_by, refused, refused_number, restarted};
 
 use crate::foreign::Foreign;
 use crate::requests::{Refusal, call_of};
@@ -133,5 +134,15 @@ impl Hosted {
         ensures state { self.new ≡ after self.old (Ok (given.Int number)) }
     {
         self.take(Given::Int(number))
+    }
+
+    /// The counts begin again, as by `Kernel::restart_count`: the clock, and the numbers of events done and taken, are
+    /// 0. Each later event does what it would do without this call, by lines that differ in the number of the clock at
+    /// most. It takes no memory.
+    pub fn restart_count(&mut self)
+        ensures state { self.new ≡ restarted self.old }
+        ensures alike { Alike self.old.kernel.system self.old.kernel.world self.new.kernel.world }
+    {
+        self.kernel.restart_count();
     }
 }

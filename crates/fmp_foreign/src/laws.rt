@@ -1,11 +1,14 @@
 //! The laws, each the contract of a function that does nothing. `D` is the type of the contexts that are kept of bodies
 //! outside.
 ghost use Rattle.std.specs.Prelude.{ℕ, List};
-ghost use Rattle.fmp_base.specs.Meanings.{Meaning};
+ghost use Rattle.fmp_alike.specs.Alike.{Alike};
+ghost use Rattle.fmp_base.specs.Meanings.{Meaning, World};
 ghost use Rattle.fmp_base.specs.Setups.{setup};
 ghost use Rattle.fmp_base.specs.Systems.{SystemTables};
 ghost use Rattle.fmp_kernel.specs.KernelViews.{KernelView, view_of_setup};
 ghost use Rattle.fmp_outside.specs.declared.given.Given.{Given};
+ghost use Rattle.fmp_outside.specs.Outside.{outside_run};
+ghost use Rattle.fmp_foreign.specs.AlikeRuns.{RunAlike};
 ghost use Rattle.fmp_foreign.specs.Following.{HasFollowed};
 ghost use Rattle.fmp_foreign.specs.FollowingLaws.{AgreesWith};
 
@@ -17,4 +20,11 @@ pub fn followed_journals_agree<B: Body, D>()
     ensures { (body : B) (sys : SystemTables) (F : Meaning D) (m : ℕ) (d : D) (n : ℕ) (gs : List Given)
         (k : KernelView B B.Ctx) → HasFollowed B.meaning (view_of_setup body n sys (setup sys (B.meaning body))) gs k →
         AgreesWith sys F m d (B.meaning body) n gs k }
+{}
+
+/// In alike worlds, as before and after `Hosted::restart_count`, what comes does the same, one after the other: the lines
+/// differ in the number of the clock at most, and the worlds are alike again.
+pub fn alike_worlds_run_alike<D>()
+    ensures { (sys : SystemTables) (F : Meaning D) (n : ℕ) (d : D) (gs : List Given) (v w : World D) →
+        Alike sys v w → RunAlike sys (outside_run sys F n d v gs) (outside_run sys F n d w gs) }
 {}

@@ -2,6 +2,7 @@
 ghost use Rattle.std.specs.Prelude.{◌≡◌, ◌≢◌, ◌+◌, ◌<◌, ◌≤◌, ◌^◌, ◌∷◌, [], IfErr, IfOk, MatchOption, None, Some, length, slice_get};
 ghost use Rattle.fmp_outside.specs.Outside.{IsOfText};
 ghost use Rattle.fmp_base.specs.Stretches.{ending};
+ghost use Rattle.fmp_kernel.specs.Restarts.{counts_restarted};
 ghost use Rattle.fmp_foreign.specs.Following.{Departs, DoesOtherwise, GoesOn, HasFollowed, stretch_on};
 
 use crate::same::is_same;
@@ -200,5 +201,12 @@ impl<B: Body> Shadow<B> {
         ensures departs { IfErr result (Departs B.meaning self.old journal.now self.new turns) }
     {
         replay_all(&mut self.kernel, self.bound, journal, turns)
+    }
+
+    /// The counts of its kernel begin again, as by `Kernel::restart_count`.
+    pub fn restart_count(&mut self)
+        ensures { self.new ≡ counts_restarted self.old }
+    {
+        self.kernel.restart_count();
     }
 }
