@@ -1,24 +1,43 @@
 -- What is read line by line, and argument by argument.
-use Rattle.std.proofs.Common.{ℕ, suc, ◌+◌, ◌-◌, ◌<◌, ◌≤◌, ◌≡◌, ◌≢◌, length, take, drop, set, arith, ◌∙◌, ℤ, List, [], ◌∷◌, ◌++◌, Bool, false, cond, codes, Option, Some, None, Result, Ok, Err, refl, ap, append_assoc, sym}
+use Rattle.std.proofs.Common.{ℕ, suc, ◌+◌, ◌-◌, ◌<◌, ◌≤◌, ◌≡◌, ◌≢◌, length, take, drop, set, arith, ◌∙◌, ℤ, List, [], ◌∷◌, ◌++◌, Bool, true, false, cond, codes, Option, Some, None, Result, Ok, Err, refl, ap, append-nil, append_assoc, sym}
 use Rattle.std.specs.Str.{bytes_eq}
 use Rattle.fmp_base.specs.Words.{service_named}
 use Rattle.fmp_outside.specs.declared.given.Act.{Act}
 use Rattle.fmp_outside.specs.declared.given.Given.{Given}
 use Rattle.fmp_recording.specs.declared.faults.RecordingFault.{RecordingFault}
+use Rattle.fmp_recording.specs.declared.recorded.RecordedLine.{RecordedLine}
+use Rattle.fmp_recording.specs.declared.recorded.RecordedLine.TheVariants as recorded
 use Rattle.std.proofs.Math.Seq.{take-suc-set}
-use Rattle.fmp_recording.specs.Recordings.{act_by, act_in, arguments_in, call_in, cut, end_in, fault_in, in_front, in_front_of, number_of}
+use Rattle.fmp_recording.specs.Recordings.{act_by, act_in, all_came, arguments_in, call_in, came, cut, end_in, fault_in, in_front, in_front_of, is_restart, line_time, line_times, number_of}
 use Rattle.fmp_steps.proofs.LinesOf.{rest_whole}
 
--- what comes behind others, or the fault
-abbrev pub behind_all : List Given → Result (List Given) RecordingFault → Result (List Given) RecordingFault
-behind_all gs (Ok hs) = Ok (gs ++ hs)
-behind_all gs (Err f) = Err f
+-- what is behind others, or the fault
+abbrev pub behind_all : {A : Type 0} → List A → Result (List A) RecordingFault → Result (List A) RecordingFault
+behind_all xs (Ok ys) = Ok (xs ++ ys)
+behind_all xs (Err f) = Err f
 
 -- one more goes to the end of those in front
-pub one_more : (gs : List Given) (g : Given) (r : Result (List Given) RecordingFault)
-    → behind_all gs (in_front (Ok g) r) ≡ behind_all (gs ++ g ∷ []) r
-one_more gs g (Ok hs) = ap (λ xs. Ok xs) (sym (append_assoc gs (g ∷ []) hs))
-one_more gs g (Err f) = refl
+pub one_more : (rs : List RecordedLine) (r : RecordedLine) (s : Result (List RecordedLine) RecordingFault)
+    → behind_all rs (in_front (Ok r) s) ≡ behind_all (rs ++ r ∷ []) s
+one_more rs r (Ok ss) = ap (λ xs. Ok xs) (sym (append_assoc rs (r ∷ []) ss))
+one_more rs r (Err f) = refl
+
+-- the same of what came
+pub one_more_came : (gs : List Given) (r : RecordedLine) (s : Result (List RecordedLine) RecordingFault)
+    → behind_all gs (all_came (in_front (Ok r) s)) ≡ behind_all (gs ++ came (r ∷ [])) (all_came s)
+one_more_came gs (recorded.Came g) (Ok ss) = ap (λ (xs : List Given). Ok xs) (sym (append_assoc gs (g ∷ []) (came ss)))
+one_more_came gs recorded.Restart (Ok ss) = ap (λ (xs : List Given). Ok (xs ++ came ss)) (sym (append-nil gs))
+one_more_came gs r (Err f) = refl
+
+-- and of the times
+pub one_more_time : (ts : List (Option ℕ)) (line : List ℕ) (lines : List (List ℕ))
+    → (ts ++ line_times (line ∷ [])) ++ line_times lines ≡ ts ++ line_times (line ∷ lines)
+one_more_time ts line lines = by_test (is_restart line) where
+  by_test : (t : Bool)
+      → (ts ++ cond t [] (line_time line ∷ [])) ++ line_times lines
+      ≡ ts ++ cond t (line_times lines) (line_time line ∷ line_times lines)
+  by_test true = ap (λ (xs : List (Option ℕ)). xs ++ line_times lines) (append-nil ts)
+  by_test false = append_assoc ts (line_time line ∷ []) (line_times lines)
 
 -- numbers behind others
 abbrev pub behind_numbers : List ℤ → Option (List ℤ) → Option (List ℤ)

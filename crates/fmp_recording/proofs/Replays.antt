@@ -1,13 +1,14 @@
 -- A replay goes as the recorded run.
-use Rattle.std.proofs.Common.{◌≡◌, ◌∙◌, ◌+◌, ℕ, pos, List, [], ◌∷◌, ◌++◌, Option, Some, None, Result, Ok, Err, OnOk, IfErr, ap, append_assoc, append-nil, length, map, refl, sym}
+use Rattle.std.proofs.Common.{◌≡◌, ◌∙◌, ◌+◌, ℕ, pos, List, [], ◌∷◌, ◌++◌, Option, Some, None, Result, Ok, Err, OnOk, IfErr, ap, append_assoc, append-nil, arith, length, map, refl, sym}
 use Rattle.fmp_base.specs.declared.events.Effect.TheVariants as effect
 use Rattle.fmp_base.specs.declared.events.TaskState.{TaskState}
 use Rattle.fmp_base.specs.declared.systems.System.{System}
+use Rattle.fmp_base.specs.Meanings.{World}
 use Rattle.fmp_base.specs.Runs.{run_on, task_state}
 use Rattle.fmp_base.specs.States.{KernelState, places_from}
 use Rattle.fmp_base.specs.Steps.{Reaction, Nothing, Did, Kept}
 use Rattle.fmp_base.specs.Systems.{SystemTables, tables_of}
-use Rattle.fmp_base.specs.Texts.{events_text, lines_text, states_text, trace_text}
+use Rattle.fmp_base.specs.Texts.{events_text, lines_text, states_text}
 use Rattle.fmp_cfgparse.specs.Configurations.{Describes}
 use Rattle.fmp_foreign.specs.declared.foreign.Told.{Told}
 use Rattle.fmp_foreign.specs.declared.foreign.Told.TheVariants as told
@@ -21,9 +22,11 @@ use Rattle.fmp_outside.specs.declared.given.Given.{Given}
 use Rattle.fmp_outside.specs.Outside.{outside_run}
 use Rattle.fmp_recording.specs.declared.replaying.ReplayFault.{ReplayFault}
 use Rattle.fmp_recording.specs.declared.replaying.ReplayFault.TheVariants as fault
-use Rattle.fmp_recording.specs.Recordings.{recording_of, recording_text}
-use Rattle.fmp_recording.specs.Replaying.{HasReplayed, HasTaken, IsReplayFault, IsWhyNotRun, IsWhyNotTaken, IsWhyStopped, RecordedRunsAreReplayed, added_by, new_kernel, or_else, refusal_in, run_of, text_of}
-use Rattle.fmp_recording.proofs.RoundTrip.{printed_recordings_read_back}
+use Rattle.fmp_recording.specs.declared.recorded.RecordedLine.{RecordedLine}
+use Rattle.fmp_recording.specs.declared.recorded.RecordedLine.TheVariants as recorded
+use Rattle.fmp_recording.specs.Recordings.{came_lines, recorded_lines_text, recorded_of, recording_text}
+use Rattle.fmp_recording.specs.Replaying.{HasDone, HasDoneAll, HasReplayed, HasTaken, IsReplayFault, IsWhyNotAll, IsWhyNotDone, IsWhyNotRun, IsWhyNotTaken, IsWhyStopped, RecordedLinesAreReplayed, RecordedRunsAreReplayed, WholeRunsAreReplayed, added_by, first_refusal, kernel_after, new_kernel, or_else, recorded_trace, refusal_in, run_of, text_after, text_of}
+use Rattle.fmp_recording.proofs.RoundTrip.{lines_again, printed_lines_read_back}
 use Rattle.fmp_recording.proofs.Unrefused.{never_refused}
 use Rattle.fmp_trace.specs.ListedStates.{listed_states_text}
 use Rattle.fmp_trace.proofs.ListedStates.{listed_states_are_states}
@@ -184,37 +187,141 @@ module _ (old h : Hosted) (gs left : List Given) (before text : List ℕ) (c : C
         system = c.system;
       }
 
--- the lines of setup, those of the run and the states at the end are the trace
-pub whole : (system : System) (k : ForeignKernel) (gs : List Given) (now : KernelState) (before first lines after : List ℕ)
-    → k ≡ new_kernel (tables_of system) → first ≡ before ++ lines_text (tables_of system) 0 k.lines
-    → lines ≡ first ++ text_of k gs → now ≡ (run_of k gs).world.state
-    → after ≡ lines ++ states_text (tables_of system) now
-    → after
-    ≡ before
-    ++ trace_text (tables_of system) (new_kernel (tables_of system)).lines (run_of (new_kernel (tables_of system)) gs)
-whole system k gs now before first lines after is_new a b is_now c =
+-- a replay line by line on its way: what is left leads to where all leads
+pub record Leads (old h : Hosted) (rs left : List RecordedLine) (before now : List ℕ) : Type 0 where
+  pub refusal : first_refusal h.kernel left ≡ first_refusal old.kernel rs
+  pub text : now ++ text_after h.kernel left ≡ before ++ text_after old.kernel rs
+  pub kernel : kernel_after h.kernel left ≡ kernel_after old.kernel rs
+  pub tables : h.kernel.system ≡ old.kernel.system
+  pub system : h.system ≡ old.system
+
+pub leads_first : (old : Hosted) (rs : List RecordedLine) (before : List ℕ) → Leads old old rs rs before before
+leads_first old rs before = record { refusal = refl; text = refl; kernel = refl; tables = refl; system = refl }
+
+module _ (old h : Hosted) (rs left : List RecordedLine) (before text : List ℕ) (c : Leads old h rs left before text) where
+  pub leads_tied : old.kernel.system ≡ tables_of old.system → h.kernel.system ≡ tables_of h.system
+  leads_tied e = c.tables ∙ e ∙ ap (λ (s : System). tables_of s) (sym c.system)
+
+  pub leads_on : (r : RecordedLine) (rest : List RecordedLine) (new : Hosted) (after : List ℕ)
+      → HasDone h new r text after → left ≡ r ∷ rest → Leads old new rs rest before after
+  leads_on (recorded.Came g) rest new after t split =
+      let k = h.kernel in
+      let r = reaction k g in
+      record {
+        refusal = ap (λ (j : ForeignKernel). first_refusal j rest) t.kernel
+            ∙ sym (ap (λ (o : Option Refusal). or_else o (first_refusal (view_after k r) rest)) t.taken)
+            ∙ ap (λ (xs : List RecordedLine). first_refusal k xs) (sym split)
+            ∙ c.refusal;
+        text = ap (λ (xs : List ℕ). xs ++ text_after new.kernel rest) t.text
+            ∙ ap (λ (j : ForeignKernel). (text ++ added_by k r) ++ text_after j rest) t.kernel
+            ∙ append_assoc text (added_by k r) (text_after (view_after k r) rest)
+            ∙ ap (λ (xs : List RecordedLine). text ++ text_after k xs) (sym split)
+            ∙ c.text;
+        kernel = ap (λ (j : ForeignKernel). kernel_after j rest) t.kernel
+            ∙ ap (λ (xs : List RecordedLine). kernel_after k xs) (sym split)
+            ∙ c.kernel;
+        tables = ap (λ (j : ForeignKernel). j.system) t.kernel ∙ tables_by k r ∙ c.tables;
+        system = t.system ∙ c.system;
+      }
+  leads_on recorded.Restart rest new after t split =
+      let k = h.kernel in
+      record {
+        refusal = ap (λ (j : Hosted). first_refusal j.kernel rest) t.0
+            ∙ ap (λ (xs : List RecordedLine). first_refusal k xs) (sym split)
+            ∙ c.refusal;
+        text = ap (λ (xs : List ℕ). xs ++ text_after new.kernel rest) t.1
+            ∙ ap (λ (j : Hosted). text ++ text_after j.kernel rest) t.0
+            ∙ ap (λ (xs : List RecordedLine). text ++ text_after k xs) (sym split)
+            ∙ c.text;
+        kernel = ap (λ (j : Hosted). kernel_after j.kernel rest) t.0
+            ∙ ap (λ (xs : List RecordedLine). kernel_after k xs) (sym split)
+            ∙ c.kernel;
+        tables = ap (λ (j : Hosted). j.kernel.system) t.0 ∙ c.tables;
+        system = ap (λ (j : Hosted). j.system) t.0 ∙ c.system;
+      }
+
+  pub not_all : (r : RecordedLine) (rest : List RecordedLine) (why : ReplayFault) → IsWhyNotDone h.kernel r why
+      → left ≡ r ∷ rest → IsWhyNotAll old.kernel rs why
+  not_all recorded.Restart rest why e split = absurd e
+  not_all (recorded.Came g) rest (fault.Configuration w) e split = e
+  not_all (recorded.Came g) rest (fault.Recording w) e split = e
+  not_all (recorded.Came g) rest (fault.Refused w) e split =
+      let k = h.kernel in
+      sym c.refusal
+      ∙ ap (λ (xs : List RecordedLine). first_refusal k xs) split
+      ∙ ap (λ (o : Option Refusal). or_else o (first_refusal (view_after k (reaction k g)) rest)) e
+  not_all (recorded.Came g) rest fault.Memory e split = tt
+
+  pub leads_last : left ≡ [] → HasDoneAll old h rs before text
+  leads_last none =
+      record {
+        taken = sym c.refusal ∙ ap (λ (xs : List RecordedLine). first_refusal h.kernel xs) none;
+        text = sym (append-nil text)
+            ∙ ap (λ (xs : List RecordedLine). text ++ text_after h.kernel xs) (sym none)
+            ∙ c.text;
+        kernel = ap (λ (xs : List RecordedLine). kernel_after h.kernel xs) (sym none) ∙ c.kernel;
+        tables = c.tables;
+        system = c.system;
+      }
+
+-- the lines of setup, those of all events and the states at the end are the trace
+pub whole : (system : System) (k : ForeignKernel) (rs : List RecordedLine) (now : KernelState)
+    (before first lines after : List ℕ) → k ≡ new_kernel (tables_of system)
+    → first ≡ before ++ lines_text (tables_of system) 0 k.lines → lines ≡ first ++ text_after k rs
+    → now ≡ (kernel_after k rs).world.state → after ≡ lines ++ states_text (tables_of system) now
+    → after ≡ before ++ recorded_trace (tables_of system) rs
+whole system k rs now before first lines after is_new a b is_now c =
     let sys = tables_of system in
     c
     ∙ ap (λ (xs : List ℕ). xs ++ states_text sys now) b
-    ∙ ap (λ (xs : List ℕ). (xs ++ text_of k gs) ++ states_text sys now) a
-    ∙ append_assoc (before ++ lines_text sys 0 k.lines) (text_of k gs) (states_text sys now)
-    ∙ append_assoc before (lines_text sys 0 k.lines) (text_of k gs ++ states_text sys now)
-    ∙ ap (λ (s : KernelState). before ++ (lines_text sys 0 k.lines ++ (text_of k gs ++ states_text sys s))) is_now
-    ∙ ap (λ (j : ForeignKernel). before ++ (lines_text sys 0 j.lines ++ (text_of j gs ++ states_text sys (run_of j gs).world.state))) is_new
+    ∙ ap (λ (xs : List ℕ). (xs ++ text_after k rs) ++ states_text sys now) a
+    ∙ append_assoc (before ++ lines_text sys 0 k.lines) (text_after k rs) (states_text sys now)
+    ∙ append_assoc before (lines_text sys 0 k.lines) (text_after k rs ++ states_text sys now)
+    ∙ ap (λ (s : KernelState). before ++ (lines_text sys 0 k.lines ++ (text_after k rs ++ states_text sys s))) is_now
+    ∙ ap
+    (λ (j : ForeignKernel). before ++ (lines_text sys 0 j.lines ++ (text_after j rs ++ states_text sys (kernel_after j rs).world.state)))
+    is_new
+
+-- where the counts never begin again, the lines lead along the run over what came
+came_text : (k : ForeignKernel) (gs : List Given) → text_after k (came_lines gs) ≡ text_of k gs
+came_text k [] = refl
+came_text k (g ∷ gs) =
+    let r = reaction k g in
+    ap (λ (xs : List ℕ). added_by k r ++ xs) (came_text (view_after k r) gs) ∙ sym (text_by k gs r)
+
+came_world : (k : ForeignKernel) (gs : List Given) → (kernel_after k (came_lines gs)).world ≡ (run_of k gs).world
+came_world k [] = refl
+came_world k (g ∷ gs) = let r = reaction k g in came_world (view_after k r) gs ∙ sym (world_by k gs r)
 
 -- the listed states are those that a kernel has at the end
 pub listed : (sys : SystemTables) (now : KernelState) (xs : List TaskState)
     → xs ≡ map (task_state now) (places_from 0 (length sys.tasks)) → listed_states_text sys 0 xs ≡ states_text sys now
 listed sys now xs q = ap (λ (ys : List TaskState). listed_states_text sys 0 ys) q ∙ listed_states_are_states sys now
 
+pub whole_runs_are_replayed : WholeRunsAreReplayed
+whole_runs_are_replayed system recording gs before after e h =
+    let sys = tables_of system in
+    let k = new_kernel sys in
+    let same : h.lines ≡ came_lines gs = let read = h.recorded in cc in
+    h.trace
+    ∙ ap (λ (rs : List RecordedLine). before ++ recorded_trace sys rs) same
+    ∙ ap (λ (xs : List ℕ). before ++ (lines_text sys 0 k.lines ++ (xs ++ states_text sys (kernel_after k (came_lines gs)).world.state)))
+    (came_text k gs)
+    ∙ ap (λ (w : World Told). before ++ (lines_text sys 0 k.lines ++ (text_of k gs ++ states_text sys w.state)))
+    (came_world k gs)
+
 -- what is written of a run is replayed to its trace
 pub replayed_as_recorded : RecordedRunsAreReplayed
 replayed_as_recorded system gs before after small all few h =
-    let sys = tables_of system in
-    let read : recording_of system.processors (recording_text gs) ≡ Ok gs =
-    printed_recordings_read_back system.processors gs small all few in
-    let same : h.run ≡ gs = let e = h.recorded in cc in
-    h.trace ∙ ap (λ (xs : List Given). before ++ trace_text sys (new_kernel sys).lines (run_of (new_kernel sys) xs)) same
+    whole_runs_are_replayed system (recording_text gs) gs before after
+    (lines_again system.processors 1 gs small all (omega (arith, few))) h
+
+pub lines_replayed : RecordedLinesAreReplayed
+lines_replayed system rs before after small all few h =
+    let read : recorded_of system.processors (recorded_lines_text rs) ≡ Ok rs =
+    printed_lines_read_back system.processors rs small all few in
+    let same : h.lines ≡ rs = let e = h.recorded in cc in
+    h.trace ∙ ap (λ (xs : List RecordedLine). before ++ recorded_trace (tables_of system) xs) same
 
 -- a fact holds on success where one that implies it does
 pub on_ok_then : {T E P Q : Type 0} (r : Result T E) → (P → Q) → OnOk r P → OnOk r Q
@@ -235,13 +342,13 @@ of_described cfg recording system d (fault.Refused w) h = h
 of_described cfg recording system d fault.Memory h = tt
 
 -- why the replay of a recording stops
-pub not_run : (system : System) (recording : List ℕ) (k : ForeignKernel) (gs : List Given) (why : ReplayFault)
-    → k ≡ new_kernel (tables_of system) → recording_of system.processors recording ≡ Ok gs → IsWhyStopped k gs why
+pub not_run : (system : System) (recording : List ℕ) (k : ForeignKernel) (rs : List RecordedLine) (why : ReplayFault)
+    → k ≡ new_kernel (tables_of system) → recorded_of system.processors recording ≡ Ok rs → IsWhyNotAll k rs why
     → IsWhyNotRun system recording why
-not_run system recording k gs (fault.Configuration w) is_new e h = absurd h
-not_run system recording k gs (fault.Recording w) is_new e h = absurd h
-not_run system recording k gs (fault.Refused w) is_new e h =
-    let none : refusal_in k gs ≡ None =
-    ap (λ (j : ForeignKernel). refusal_in j gs) is_new ∙ never_refused system recording gs e in
+not_run system recording k rs (fault.Configuration w) is_new e h = absurd h
+not_run system recording k rs (fault.Recording w) is_new e h = absurd h
+not_run system recording k rs (fault.Refused w) is_new e h =
+    let none : first_refusal k rs ≡ None =
+    ap (λ (j : ForeignKernel). first_refusal j rs) is_new ∙ never_refused system recording rs e in
     cc
-not_run system recording k gs fault.Memory is_new e h = tt
+not_run system recording k rs fault.Memory is_new e h = tt

@@ -1,5 +1,5 @@
 -- What is written of a run is read as this run.
-use Rattle.std.proofs.Common.{ℕ, zero, suc, ℤ, pos, negsuc, ◌≡◌, ◌+◌, ◌-◌, ◌<◌, ◌≤◌, ◌^◌, List, [], ◌∷◌, ◌++◌, Bool, true, false, cond, ◌&&◌, not, Option, Some, None, Result, Ok, Err, length, nat_eq, nat_le, nat_lt, codes, decimal, drop, get_or, map, append_assoc, length-append, refl, ap, sym, ◌∙◌, arith}
+use Rattle.std.proofs.Common.{ℕ, zero, suc, ℤ, pos, negsuc, ◌≡◌, ◌+◌, ◌-◌, ◌<◌, ◌≤◌, ◌^◌, List, [], ◌∷◌, ◌++◌, Bool, true, false, cond, ◌&&◌, not, Option, Some, None, Result, Ok, Err, length, nat_eq, nat_le, nat_lt, codes, decimal, drop, get_or, append_assoc, length-append, refl, ap, sym, ◌∙◌, arith}
 use Rattle.std.proofs.Math.Seq.{take-append_seam, drop-append_seam, drop-append-add, get_or-append_seam}
 use Rattle.std.proofs.lemmas.Bool.{le-leb, lt-ltb}
 use Rattle.std.proofs.lemmas.Bool.Decides.{nat_tests}
@@ -17,9 +17,12 @@ use Rattle.fmp_outside.specs.declared.given.Given.{Given}
 use Rattle.fmp_outside.specs.declared.given.Given.TheVariants as given
 use Rattle.fmp_recording.specs.declared.faults.Flaw.{Flaw}
 use Rattle.fmp_recording.specs.declared.faults.Flaw.TheVariants as flaw
+use Rattle.fmp_recording.specs.declared.faults.RecordingFault.{RecordingFault}
 use Rattle.fmp_recording.specs.declared.faults.RecordingFault.TheVariants as recording_fault
-use Rattle.fmp_recording.specs.Recordings.{Cut, act_by, act_in, act_text, arguments_in, arguments_text, call_in, call_with, cut, cut_at, behind_blank, fault_at, given_act, given_by, given_in, given_int, given_of_line, given_text, givens_of, in_front, in_front_of, line_meaning, line_time, number_of, number_up_to, positive, negative, recording_text, said_before, signed_number, some_time, time_behind, time_number, time_or_none, time_place, time_text, timed_text, times_of, with_time}
-use Rattle.fmp_recording.specs.RecordingLaws.{IsRecorded, IsTime, IsWord, IsWritable, PrintedRecordingsReadBack, TimedRecordingsReadBack}
+use Rattle.fmp_recording.specs.declared.recorded.RecordedLine.{RecordedLine}
+use Rattle.fmp_recording.specs.declared.recorded.RecordedLine.TheVariants as recorded
+use Rattle.fmp_recording.specs.Recordings.{Cut, act_by, act_in, act_text, all_came, arguments_in, arguments_text, call_in, call_with, came, came_by, came_lines, cut, cut_at, behind_blank, fault_at, given_act, given_by, given_in, given_int, given_text, in_front, in_front_of, is_restart, line_meaning, line_time, line_times, number_of, number_up_to, positive, negative, recorded_at, recorded_from, recorded_in, recorded_lines_text, recorded_of, recorded_text, recording_of, recording_text, restart_text, said_before, signed_number, some_time, time_behind, time_number, time_or_none, time_place, time_text, timed_text, times_of, with_time}
+use Rattle.fmp_recording.specs.RecordingLaws.{IsRecorded, IsRecordedLine, IsTime, IsWord, IsWritable, PrintedLinesReadBack, PrintedRecordingsReadBack, TimedRecordingsReadBack}
 use Rattle.fmp_recording.proofs.CallTables.{all_arguments, all_plain, call_again, is_plain, plain_name, read_name}
 use Rattle.fmp_steps.specs.Steps.{lines_of, numeral_value}
 use Rattle.fmp_steps.proofs.LinesOf.{IsLine, lines_of-ended}
@@ -241,30 +244,84 @@ given_clear processors (given.Int i) small h =
 given_line : (processors : ℕ) (g : Given) → processors < 256 → IsRecorded processors g → IsLine (given_text g)
 given_line processors g small h = clear_line (given_text g) (given_clear processors g small h)
 
-numbered : (processors n : ℕ) (line : List ℕ) (g : Given) → line_meaning processors line ≡ Ok g → n ≤ 2 ^ 31
-    → given_of_line processors n line ≡ Ok g
-numbered processors n line g e few =
-    ap (λ (t : Bool). cond t (fault_at n (line_meaning processors line)) (Err (recording_fault.TooMany n))) (le-leb n (2 ^ 31) few)
-    ∙ ap (λ r. fault_at n r) e
+-- what comes is never written as `restart` is
+abbrev came_line : List ℕ → Result Given Flaw → Bool → Result RecordedLine Flaw
+came_line line r t = cond t (Ok recorded.Restart) (came_by r)
+
+not_restart : (g : Given) → is_restart (given_text g) ≡ false
+not_restart (given.Act p a) = refl
+not_restart given.Tick = refl
+not_restart (given.Int i) = refl
+
+not_restart_behind : (g : Given) (rest : List ℕ) → is_restart (given_text g ++ rest) ≡ false
+not_restart_behind (given.Act p a) rest = refl
+not_restart_behind given.Tick [] = refl
+not_restart_behind given.Tick (b ∷ bs) = refl
+not_restart_behind (given.Int i) rest = refl
+
+numbered : (processors n : ℕ) (line : List ℕ) (r : RecordedLine) → recorded_in processors line ≡ Ok r → n ≤ 2 ^ 31
+    → recorded_at processors n line ≡ Ok r
+numbered processors n line r e few =
+    ap (λ (t : Bool). cond t (fault_at n (recorded_in processors line)) (Err (recording_fault.TooMany n))) (le-leb n (2 ^ 31) few)
+    ∙ ap (λ x. fault_at n x) e
+
+came_numbered : (processors n : ℕ) (line : List ℕ) (g : Given) → is_restart line ≡ false → line_meaning processors line ≡ Ok g
+    → n ≤ 2 ^ 31 → recorded_at processors n line ≡ Ok (recorded.Came g)
+came_numbered processors n line g other e few =
+    numbered processors n line (recorded.Came g)
+    (ap (λ (t : Bool). came_line line (line_meaning processors line) t) other ∙ ap (λ (r : Result Given Flaw). came_by r) e) few
 
 line_again : (processors n : ℕ) (g : Given) → processors < 256 → IsRecorded processors g → n ≤ 2 ^ 31
-    → given_of_line processors n (given_text g) ≡ Ok g
+    → recorded_at processors n (given_text g) ≡ Ok (recorded.Came g)
 line_again processors n g small h few =
     let w = given_text g in
-    numbered processors n w g
+    came_numbered processors n w g (not_restart g)
     (ap (λ (o : Option ℕ). with_time (given_in processors (said_before o w)) (time_behind o w)) (untimed w (given_clear processors g small h))
     ∙ ap (λ (r : Result Given Flaw). with_time r (Ok None)) (given_again processors g small h)) few
 
-lines_again : (processors n : ℕ) (gs : List Given) → processors < 256 → AllByRecursion (IsRecorded processors) gs
-    → n + length gs ≤ 2 ^ 31 + 1 → givens_of processors n (lines_of (recording_text gs)) ≡ Ok gs
+pub lines_again : (processors n : ℕ) (gs : List Given) → processors < 256 → AllByRecursion (IsRecorded processors) gs
+    → n + length gs ≤ 2 ^ 31 + 1 → recorded_from processors n (lines_of (recording_text gs)) ≡ Ok (came_lines gs)
 lines_again processors n [] small h few = refl
 lines_again processors n (g ∷ gs) small h few =
-    ap (λ ls. givens_of processors n ls) (lines_of-ended (given_text g) (recording_text gs) (given_line processors g small h.0))
-    ∙ ap (λ r. in_front r (givens_of processors (n + 1) (lines_of (recording_text gs)))) (line_again processors n g small h.0 (omega (arith, few)))
-    ∙ ap (λ r. in_front (Ok g) r) (lines_again processors (n + 1) gs small h.1 (omega (arith, few)))
+    ap (λ ls. recorded_from processors n ls) (lines_of-ended (given_text g) (recording_text gs) (given_line processors g small h.0))
+    ∙ ap (λ r. in_front r (recorded_from processors (n + 1) (lines_of (recording_text gs)))) (line_again processors n g small h.0 (omega (arith, few)))
+    ∙ ap (λ r. in_front (Ok (recorded.Came g)) r) (lines_again processors (n + 1) gs small h.1 (omega (arith, few)))
+
+came_all : (gs : List Given) → came (came_lines gs) ≡ gs
+came_all [] = refl
+came_all (g ∷ gs) = ap (λ (xs : List Given). g ∷ xs) (came_all gs)
+
+-- where each line of a text says what came, this came
+of_lines : (processors : ℕ) (text : List ℕ) (gs : List Given) → recorded_of processors text ≡ Ok (came_lines gs)
+    → recording_of processors text ≡ Ok gs
+of_lines processors text gs e =
+    ap (λ (r : Result (List RecordedLine) RecordingFault). all_came r) e ∙ ap (λ (xs : List Given). Ok xs) (came_all gs)
 
 pub printed_recordings_read_back : PrintedRecordingsReadBack
-printed_recordings_read_back processors gs small h few = lines_again processors 1 gs small h (omega (arith, few))
+printed_recordings_read_back processors gs small h few =
+    of_lines processors (recording_text gs) gs (lines_again processors 1 gs small h (omega (arith, few)))
+
+-- so are lines
+recorded_again : (processors n : ℕ) (r : RecordedLine) → processors < 256 → IsRecordedLine processors r → n ≤ 2 ^ 31
+    → recorded_at processors n (recorded_text r) ≡ Ok r
+recorded_again processors n (recorded.Came g) small h few = line_again processors n g small h few
+recorded_again processors n recorded.Restart small h few = numbered processors n restart_text recorded.Restart refl few
+
+recorded_line : (processors : ℕ) (r : RecordedLine) → processors < 256 → IsRecordedLine processors r → IsLine (recorded_text r)
+recorded_line processors (recorded.Came g) small h = given_line processors g small h
+recorded_line processors recorded.Restart small h = clear_line restart_text refl
+
+all_again : (processors n : ℕ) (rs : List RecordedLine) → processors < 256 → AllByRecursion (IsRecordedLine processors) rs
+    → n + length rs ≤ 2 ^ 31 + 1 → recorded_from processors n (lines_of (recorded_lines_text rs)) ≡ Ok rs
+all_again processors n [] small h few = refl
+all_again processors n (r ∷ rs) small h few =
+    ap (λ ls. recorded_from processors n ls) (lines_of-ended (recorded_text r) (recorded_lines_text rs) (recorded_line processors r small h.0))
+    ∙ ap (λ x. in_front x (recorded_from processors (n + 1) (lines_of (recorded_lines_text rs))))
+    (recorded_again processors n r small h.0 (omega (arith, few)))
+    ∙ ap (λ x. in_front (Ok r) x) (all_again processors (n + 1) rs small h.1 (omega (arith, few)))
+
+pub printed_lines_read_back : PrintedLinesReadBack
+printed_lines_read_back processors rs small h few = all_again processors 1 rs small h (omega (arith, few))
 
 -- a line and its time are read as they are written
 said_again : (w : List ℕ) (t : Option ℕ) → Clear w → said_before (time_place (w ++ time_text t)) (w ++ time_text t) ≡ w
@@ -290,12 +347,12 @@ time_again w (Some n) h k =
     ∙ ap (λ (b : Bool). some_time (cond b (Ok n) (Err flaw.Range))) (le-leb n (2 ^ 53) k)
 
 timed_line : (processors n : ℕ) (g : Given) (t : Option ℕ) → processors < 256 → IsRecorded processors g → IsTime t → n ≤ 2 ^ 31
-    → given_of_line processors n (given_text g ++ time_text t) ≡ Ok g
+    → recorded_at processors n (given_text g ++ time_text t) ≡ Ok (recorded.Came g)
 timed_line processors n g t small h k few =
     let w = given_text g in
     let line = w ++ time_text t in
     let clear = given_clear processors g small h in
-    numbered processors n line g
+    came_numbered processors n line g (not_restart_behind g (time_text t))
     (ap (λ (x : List ℕ). with_time (given_in processors x) (time_behind (time_place line) line)) (said_again w t clear)
     ∙ ap (λ (r : Result (Option ℕ) Flaw). with_time (given_in processors w) r) (time_again w t clear k)
     ∙ ap (λ (r : Result Given Flaw). with_time r (Ok t)) (given_again processors g small h)) few
@@ -313,14 +370,14 @@ first_timed processors g t rest small h k =
 
 timed_givens : (processors n : ℕ) (gs : List Given) (ts : List (Option ℕ)) → processors < 256
     → AllByRecursion (IsRecorded processors) gs → AllByRecursion IsTime ts → length ts ≡ length gs
-    → n + length gs ≤ 2 ^ 31 + 1 → givens_of processors n (lines_of (timed_text gs ts)) ≡ Ok gs
+    → n + length gs ≤ 2 ^ 31 + 1 → recorded_from processors n (lines_of (timed_text gs ts)) ≡ Ok (came_lines gs)
 timed_givens processors n [] ts small h k e few = refl
 timed_givens processors n (g ∷ gs) [] small h k e few = absurd (omega (arith, e))
 timed_givens processors n (g ∷ gs) (t ∷ ts) small h k e few =
     let rest = lines_of (timed_text gs ts) in
-    ap (λ ls. givens_of processors n ls) (first_timed processors g t (timed_text gs ts) small h.0 k.0)
-    ∙ ap (λ r. in_front r (givens_of processors (n + 1) rest)) (timed_line processors n g t small h.0 k.0 (omega (arith, few)))
-    ∙ ap (λ r. in_front (Ok g) r)
+    ap (λ ls. recorded_from processors n ls) (first_timed processors g t (timed_text gs ts) small h.0 k.0)
+    ∙ ap (λ r. in_front r (recorded_from processors (n + 1) rest)) (timed_line processors n g t small h.0 k.0 (omega (arith, few)))
+    ∙ ap (λ r. in_front (Ok (recorded.Came g)) r)
     (timed_givens processors (n + 1) gs ts small h.1 k.1 (omega (arith, e)) (omega (arith, few)))
 
 read_times_again : (processors : ℕ) (gs : List Given) (ts : List (Option ℕ)) → processors < 256
@@ -330,11 +387,16 @@ read_times_again processors [] [] small h k e = refl
 read_times_again processors [] (t ∷ ts) small h k e = absurd (omega (arith, e))
 read_times_again processors (g ∷ gs) [] small h k e = absurd (omega (arith, e))
 read_times_again processors (g ∷ gs) (t ∷ ts) small h k e =
-    ap (λ ls. map line_time ls) (first_timed processors g t (timed_text gs ts) small h.0 k.0)
-    ∙ ap (λ (r : Result (Option ℕ) Flaw). time_or_none r ∷ times_of (timed_text gs ts))
+    let line = given_text g ++ time_text t in
+    let rest = times_of (timed_text gs ts) in
+    ap (λ ls. line_times ls) (first_timed processors g t (timed_text gs ts) small h.0 k.0)
+    ∙ ap (λ (b : Bool). cond b rest (line_time line ∷ rest)) (not_restart_behind g (time_text t))
+    ∙ ap (λ (r : Result (Option ℕ) Flaw). time_or_none r ∷ rest)
     (time_again (given_text g) t (given_clear processors g small h.0) k.0)
     ∙ ap (λ (us : List (Option ℕ)). t ∷ us) (read_times_again processors gs ts small h.1 k.1 (omega (arith, e)))
 
 pub timed_recordings_read_back : TimedRecordingsReadBack
-timed_recordings_read_back processors gs ts small h k e few =
-    (timed_givens processors 1 gs ts small h k e (omega (arith, few)), read_times_again processors gs ts small h k e)
+timed_recordings_read_back processors gs ts small h k e few = (
+  of_lines processors (timed_text gs ts) gs (timed_givens processors 1 gs ts small h k e (omega (arith, few))),
+  read_times_again processors gs ts small h k e,
+)

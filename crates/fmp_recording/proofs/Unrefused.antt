@@ -12,6 +12,7 @@ use Rattle.fmp_foreign.specs.declared.requests.Refusal.{Refusal}
 use Rattle.fmp_foreign.specs.declared.requests.Refusal.TheVariants as refusal
 use Rattle.fmp_foreign.specs.Hosting.{ForeignKernel, is_number, reaction, refused, refused_number}
 use Rattle.fmp_kernel.specs.KernelViews.{view_after}
+use Rattle.fmp_kernel.specs.Restarts.{counts_restarted}
 use Rattle.fmp_outside.specs.declared.given.Act.{Act}
 use Rattle.fmp_outside.specs.declared.given.Given.{Given}
 use Rattle.fmp_outside.specs.declared.given.Given.TheVariants as given
@@ -19,8 +20,10 @@ use Rattle.fmp_recording.specs.declared.faults.Flaw.{Flaw}
 use Rattle.fmp_recording.specs.declared.faults.Flaw.TheVariants as flaw
 use Rattle.fmp_recording.specs.declared.faults.RecordingFault.{RecordingFault}
 use Rattle.fmp_recording.specs.declared.faults.RecordingFault.TheVariants as recording_fault
-use Rattle.fmp_recording.specs.Recordings.{act_in, cut, fault_at, given_act, given_int, given_in, given_of_line, givens_of, in_front, int_in, line_meaning, said_before, time_behind, time_place, with_time, number_of, number_up_to, recording_of, run_in, tick_in}
-use Rattle.fmp_recording.specs.Replaying.{new_kernel, or_else, refusal_in}
+use Rattle.fmp_recording.specs.declared.recorded.RecordedLine.{RecordedLine}
+use Rattle.fmp_recording.specs.declared.recorded.RecordedLine.TheVariants as recorded
+use Rattle.fmp_recording.specs.Recordings.{act_in, came_by, cut, fault_at, given_act, given_int, given_in, in_front, int_in, is_restart, line_meaning, said_before, time_behind, time_place, with_time, number_of, number_up_to, recorded_at, recorded_from, recorded_in, recorded_of, run_in, tick_in}
+use Rattle.fmp_recording.specs.Replaying.{first_refusal, new_kernel, or_else}
 use Rattle.fmp_steps.specs.Steps.{lines_of}
 
 -- its numbers are those of a system with this number of processors
@@ -90,50 +93,67 @@ line_fits processors line g e =
     let said = said_before (time_place line) line in
     text_fits processors said g (without_its_time (given_in processors said) (time_behind (time_place line) line) g e)
 
-unfaulty : (n : ℕ) (r : Result Given Flaw) (g : Given) → fault_at n r ≡ Ok g → r ≡ Ok g
-unfaulty n (Ok h) g e = cc
-unfaulty n (Err flaw.Form) g e = cc
-unfaulty n (Err flaw.Range) g e = cc
+abbrev LineFits : (processors : ℕ) → RecordedLine → Type 0
+LineFits processors (recorded.Came g) = Fits processors g
+LineFits processors recorded.Restart = Unit {0}
 
-record IsLine (processors n : ℕ) (g : Given) : Type 0 where
+came_fits : (processors : ℕ) (m : Result Given Flaw) (r : RecordedLine) → ((g : Given) → m ≡ Ok g → Fits processors g)
+    → came_by m ≡ Ok r → LineFits processors r
+came_fits processors (Err f) r h e = absurd cc
+came_fits processors (Ok g) r h e =
+    let same : recorded.Came g ≡ r = cc in subst (λ (x : RecordedLine). LineFits processors x) same (h g refl)
+
+by_restart : (processors : ℕ) (line : List ℕ) (r : RecordedLine) (t : Bool)
+    → cond t (Ok recorded.Restart) (came_by (line_meaning processors line)) ≡ Ok r → LineFits processors r
+by_restart processors line r true e =
+    let same : recorded.Restart ≡ r = cc in subst (λ (x : RecordedLine). LineFits processors x) same tt
+by_restart processors line r false e =
+    came_fits processors (line_meaning processors line) r (λ g h. line_fits processors line g h) e
+
+unfaulty : (n : ℕ) (m : Result RecordedLine Flaw) (r : RecordedLine) → fault_at n m ≡ Ok r → m ≡ Ok r
+unfaulty n (Ok h) r e = cc
+unfaulty n (Err flaw.Form) r e = cc
+unfaulty n (Err flaw.Range) r e = cc
+
+record IsLine (processors n : ℕ) (r : RecordedLine) : Type 0 where
   few : n ≤ 2 ^ 31
-  fits : Fits processors g
+  fits : LineFits processors r
 
-numbered : (processors n : ℕ) (line : List ℕ) (g : Given) (t : Bool) → nat_le n (2 ^ 31) ≡ t
-    → cond t (fault_at n (line_meaning processors line)) (Err (recording_fault.TooMany n)) ≡ Ok g → IsLine processors n g
-numbered processors n line g true h e =
+numbered : (processors n : ℕ) (line : List ℕ) (r : RecordedLine) (t : Bool) → nat_le n (2 ^ 31) ≡ t
+    → cond t (fault_at n (recorded_in processors line)) (Err (recording_fault.TooMany n)) ≡ Ok r → IsLine processors n r
+numbered processors n line r true h e =
     record {
       few = leb-true n (2 ^ 31) h;
-      fits = line_fits processors line g (unfaulty n (line_meaning processors line) g e);
+      fits = by_restart processors line r (is_restart line) (unfaulty n (recorded_in processors line) r e);
     }
-numbered processors n line g false h e = absurd cc
+numbered processors n line r false h e = absurd cc
 
-record AreLines (processors n : ℕ) (gs : List Given) : Type 0 where
-  few : n + length gs ≤ 2 ^ 31 + 1
-  fit : AllByRecursion (Fits processors) gs
+record AreLines (processors n : ℕ) (rs : List RecordedLine) : Type 0 where
+  few : n + length rs ≤ 2 ^ 31 + 1
+  fit : AllByRecursion (LineFits processors) rs
 
-lined_up : (processors n : ℕ) (line : List ℕ) (r : Result Given RecordingFault) (s : Result (List Given) RecordingFault)
-    (gs : List Given) → given_of_line processors n line ≡ r
-    → ((hs : List Given) → n ≤ 2 ^ 31 → s ≡ Ok hs → AreLines processors (n + 1) hs) → in_front r s ≡ Ok gs
-    → AreLines processors n gs
-lined_up processors n line (Err f) s gs q rest e = absurd cc
-lined_up processors n line (Ok g) (Err f) gs q rest e = absurd cc
-lined_up processors n line (Ok g) (Ok hs) gs q rest e =
-    let same : g ∷ hs ≡ gs = cc in
-    let first = numbered processors n line g (nat_le n (2 ^ 31)) refl q in
-    let others = rest hs first.few refl in
+lined_up : (processors n : ℕ) (line : List ℕ) (r : Result RecordedLine RecordingFault)
+    (s : Result (List RecordedLine) RecordingFault) (rs : List RecordedLine) → recorded_at processors n line ≡ r
+    → ((ss : List RecordedLine) → n ≤ 2 ^ 31 → s ≡ Ok ss → AreLines processors (n + 1) ss) → in_front r s ≡ Ok rs
+    → AreLines processors n rs
+lined_up processors n line (Err f) s rs q rest e = absurd cc
+lined_up processors n line (Ok r) (Err f) rs q rest e = absurd cc
+lined_up processors n line (Ok r) (Ok ss) rs q rest e =
+    let same : r ∷ ss ≡ rs = cc in
+    let first = numbered processors n line r (nat_le n (2 ^ 31)) refl q in
+    let others = rest ss first.few refl in
     let few = others.few in
-    subst (λ (xs : List Given). AreLines processors n xs) same
+    subst (λ (xs : List RecordedLine). AreLines processors n xs) same
     (record { few = omega (arith, few); fit = (first.fits, others.fit) })
 
-recorded_fit : (processors n : ℕ) (lines : List (List ℕ)) (gs : List Given) → n ≤ 2 ^ 31 + 1
-    → givens_of processors n lines ≡ Ok gs → AreLines processors n gs
-recorded_fit processors n [] gs few e =
-    let none : [] ≡ gs = cc in
-    subst (λ (xs : List Given). AreLines processors n xs) none (record { few = omega (arith, few); fit = tt })
-recorded_fit processors n (line ∷ lines) gs few e =
-    lined_up processors n line (given_of_line processors n line) (givens_of processors (n + 1) lines) gs refl
-    (λ hs low h. recorded_fit processors (n + 1) lines hs (omega (arith, low)) h) e
+recorded_fit : (processors n : ℕ) (lines : List (List ℕ)) (rs : List RecordedLine) → n ≤ 2 ^ 31 + 1
+    → recorded_from processors n lines ≡ Ok rs → AreLines processors n rs
+recorded_fit processors n [] rs few e =
+    let none : [] ≡ rs = cc in
+    subst (λ (xs : List RecordedLine). AreLines processors n xs) none (record { few = omega (arith, few); fit = tt })
+recorded_fit processors n (line ∷ lines) rs few e =
+    lined_up processors n line (recorded_at processors n line) (recorded_from processors (n + 1) lines) rs refl
+    (λ ss low h. recorded_fit processors (n + 1) lines ss (omega (arith, low)) h) e
 
 in_range : (k : ForeignKernel) (g : Given) → Fits k.system.processors g → refused_number k g ≡ None
 in_range k (given.Act p a) h = ap (λ (t : Bool). cond t None (Some refusal.Processor)) h
@@ -144,25 +164,26 @@ not_refused : (k : ForeignKernel) (g : Given) → k.taken < 2 ^ 31 → Fits k.sy
 not_refused k g low h =
     ap (λ (t : Bool). cond t (refused_number k g) (Some refusal.Full)) (lt-ltb k.taken (2 ^ 31) low) ∙ in_range k g h
 
-on_from : (k : ForeignKernel) (gs : List Given) (r : Reaction Told) → AllByRecursion (Fits k.system.processors) gs
-    → k.taken + 1 + length gs ≤ 2 ^ 31
-    → ((j : ForeignKernel) → AllByRecursion (Fits j.system.processors) gs → j.taken + length gs ≤ 2 ^ 31 → refusal_in j gs ≡ None)
-    → refusal_in (view_after k r) gs ≡ None
-on_from k gs Nothing all few rest = rest k all (omega (arith, few))
-on_from k gs (Did d) all few rest = rest (view_after k (Did d)) all few
-on_from k gs (Kept p w) all few rest = rest (view_after k (Kept p w)) all few
+on_from : (k : ForeignKernel) (rs : List RecordedLine) (r : Reaction Told)
+    → AllByRecursion (LineFits k.system.processors) rs → k.taken + 1 + length rs ≤ 2 ^ 31
+    → ((j : ForeignKernel) → AllByRecursion (LineFits j.system.processors) rs → j.taken + length rs ≤ 2 ^ 31
+    → first_refusal j rs ≡ None) → first_refusal (view_after k r) rs ≡ None
+on_from k rs Nothing all few rest = rest k all (omega (arith, few))
+on_from k rs (Did d) all few rest = rest (view_after k (Did d)) all few
+on_from k rs (Kept p w) all few rest = rest (view_after k (Kept p w)) all few
 
-unrefused : (k : ForeignKernel) (gs : List Given) → AllByRecursion (Fits k.system.processors) gs
-    → k.taken + length gs ≤ 2 ^ 31 → refusal_in k gs ≡ None
+unrefused : (k : ForeignKernel) (rs : List RecordedLine) → AllByRecursion (LineFits k.system.processors) rs
+    → k.taken + length rs ≤ 2 ^ 31 → first_refusal k rs ≡ None
 unrefused k [] all few = refl
-unrefused k (g ∷ gs) all few =
-    ap (λ (o : Option Refusal). or_else o (refusal_in (view_after k (reaction k g)) gs))
+unrefused k (recorded.Came g ∷ rs) all few =
+    ap (λ (o : Option Refusal). or_else o (first_refusal (view_after k (reaction k g)) rs))
     (not_refused k g (omega (arith, few)) all.0)
-    ∙ on_from k gs (reaction k g) all.1 (omega (arith, few)) (λ j a f. unrefused j gs a f)
+    ∙ on_from k rs (reaction k g) all.1 (omega (arith, few)) (λ j a f. unrefused j rs a f)
+unrefused k (recorded.Restart ∷ rs) all few = unrefused (counts_restarted k) rs all.1 (omega (arith, few))
 
-pub never_refused : (system : System) (recording : List ℕ) (gs : List Given)
-    → recording_of system.processors recording ≡ Ok gs → refusal_in (new_kernel (tables_of system)) gs ≡ None
-never_refused system recording gs e =
-    let fit = recorded_fit system.processors 1 (lines_of recording) gs (omega arith) e in
+pub never_refused : (system : System) (recording : List ℕ) (rs : List RecordedLine)
+    → recorded_of system.processors recording ≡ Ok rs → first_refusal (new_kernel (tables_of system)) rs ≡ None
+never_refused system recording rs e =
+    let fit = recorded_fit system.processors 1 (lines_of recording) rs (omega arith) e in
     let few = fit.few in
-    unrefused (new_kernel (tables_of system)) gs fit.fit (omega (arith, few))
+    unrefused (new_kernel (tables_of system)) rs fit.fit (omega (arith, few))

@@ -6,7 +6,9 @@ use Rattle.fmp_outside.specs.declared.given.Act.{Act}
 use Rattle.fmp_outside.specs.declared.given.Act.TheVariants as act
 use Rattle.fmp_outside.specs.declared.given.Given.{Given}
 use Rattle.fmp_outside.specs.declared.given.Given.TheVariants as given
-use Rattle.fmp_recording.specs.Recordings.{recording_of, recording_text, timed_text, times_of}
+use Rattle.fmp_recording.specs.declared.recorded.RecordedLine.{RecordedLine}
+use Rattle.fmp_recording.specs.declared.recorded.RecordedLine.TheVariants as recorded
+use Rattle.fmp_recording.specs.Recordings.{recorded_lines_text, recorded_of, recording_of, recording_text, timed_text, times_of}
 
 -- a number of 32 bits
 abbrev pub IsWord : ℤ → Type 0
@@ -29,6 +31,17 @@ abbrev pub PrintedRecordingsReadBack : Type 0
 PrintedRecordingsReadBack =
     (processors : ℕ) (gs : List Given) → processors < 256 → AllByRecursion (IsRecorded processors) gs
     → length gs ≤ 2 ^ 31 → recording_of processors (recording_text gs) ≡ Ok gs
+
+-- a line that a recording of such a system can hold
+abbrev pub IsRecordedLine : (processors : ℕ) → RecordedLine → Type 0
+IsRecordedLine processors (recorded.Came g) = IsRecorded processors g
+IsRecordedLine processors recorded.Restart = Unit {0}
+
+-- the lines that are written, at most 2^31, are read as these lines
+abbrev pub PrintedLinesReadBack : Type 0
+PrintedLinesReadBack =
+    (processors : ℕ) (rs : List RecordedLine) → processors < 256 → AllByRecursion (IsRecordedLine processors) rs
+    → length rs ≤ 2 ^ 31 → recorded_of processors (recorded_lines_text rs) ≡ Ok rs
 
 -- a time that a line can have
 abbrev pub IsTime : Option ℕ → Type 0

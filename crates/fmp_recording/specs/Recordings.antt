@@ -15,6 +15,8 @@ use Rattle.fmp_recording.specs.declared.faults.Flaw.{Flaw}
 use Rattle.fmp_recording.specs.declared.faults.Flaw.TheVariants as flaw
 use Rattle.fmp_recording.specs.declared.faults.RecordingFault.{RecordingFault}
 use Rattle.fmp_recording.specs.declared.faults.RecordingFault.TheVariants as fault
+use Rattle.fmp_recording.specs.declared.recorded.RecordedLine.{RecordedLine}
+use Rattle.fmp_recording.specs.declared.recorded.RecordedLine.TheVariants as recorded
 use Rattle.fmp_steps.specs.Steps.{lines_of, numeral_value}
 
 -- arguments, each behind a blank
@@ -38,6 +40,20 @@ given_text (given.Int i) = codes "int " ++ decimal i
 abbrev pub recording_text : List Given → List ℕ
 recording_text [] = []
 recording_text (g ∷ gs) = given_text g ++ 10 ∷ recording_text gs
+
+-- the line that says that the counts began again
+abbrev pub restart_text : List ℕ
+restart_text = codes "restart"
+
+-- how a line is written
+abbrev pub recorded_text : RecordedLine → List ℕ
+recorded_text (recorded.Came g) = given_text g
+recorded_text recorded.Restart = restart_text
+
+-- each of these lines, ended by a line feed
+abbrev pub recorded_lines_text : List RecordedLine → List ℕ
+recorded_lines_text [] = []
+recorded_lines_text (r ∷ rs) = recorded_text r ++ 10 ∷ recorded_lines_text rs
 
 -- how the time of a line is written
 abbrev pub time_text : Option ℕ → List ℕ
@@ -217,6 +233,19 @@ abbrev pub line_meaning : (processors : ℕ) → List ℕ → Result Given Flaw
 line_meaning processors line =
     with_time (given_in processors (said_before (time_place line) line)) (time_behind (time_place line) line)
 
+abbrev pub is_restart : List ℕ → Bool
+is_restart line = bytes_eq line restart_text
+
+abbrev pub came_by : Result Given Flaw → Result RecordedLine Flaw
+came_by (Err f) = Err f
+came_by (Ok g) = Ok (recorded.Came g)
+
+-- What a line of a recording says: `restart` and no more, that the counts began again; any other, what comes and maybe
+-- when.
+abbrev pub recorded_in : (processors : ℕ) → List ℕ → Result RecordedLine Flaw
+recorded_in processors line =
+    if is_restart line then Ok recorded.Restart else came_by (line_meaning processors line)
+
 abbrev pub time_or_none : Result (Option ℕ) Flaw → Option ℕ
 time_or_none (Err f) = None
 time_or_none (Ok time) = time
@@ -225,39 +254,63 @@ time_or_none (Ok time) = time
 abbrev pub line_time : List ℕ → Option ℕ
 line_time line = time_or_none (time_behind (time_place line) line)
 
--- the times of the lines of a recording
+-- the times of the lines that say what comes
+abbrev pub line_times : List (List ℕ) → List (Option ℕ)
+line_times [] = []
+line_times (line ∷ lines) =
+    if is_restart line then line_times lines else line_time line ∷ line_times lines
+
+-- the times of what a recording says that came
 abbrev pub times_of : List ℕ → List (Option ℕ)
-times_of text = map line_time (lines_of text)
+times_of text = line_times (lines_of text)
 
 -- a flaw of line n
-abbrev pub fault_at : ℕ → Result Given Flaw → Result Given RecordingFault
-fault_at n (Ok g) = Ok g
+abbrev pub fault_at : ℕ → Result RecordedLine Flaw → Result RecordedLine RecordingFault
+fault_at n (Ok r) = Ok r
 fault_at n (Err flaw.Form) = Err (fault.Line n)
 fault_at n (Err flaw.Range) = Err (fault.Range n)
 
 -- what line n says: there are at most 2^31 lines
-abbrev pub given_of_line : (processors n : ℕ) → List ℕ → Result Given RecordingFault
-given_of_line processors n line =
-    if nat_le n (2 ^ 31) then fault_at n (line_meaning processors line) else Err (fault.TooMany n)
+abbrev pub recorded_at : (processors n : ℕ) → List ℕ → Result RecordedLine RecordingFault
+recorded_at processors n line =
+    if nat_le n (2 ^ 31) then fault_at n (recorded_in processors line) else Err (fault.TooMany n)
 
-abbrev pub in_front : Result Given RecordingFault → Result (List Given) RecordingFault
-    → Result (List Given) RecordingFault
+abbrev pub in_front : Result RecordedLine RecordingFault → Result (List RecordedLine) RecordingFault
+    → Result (List RecordedLine) RecordingFault
 in_front (Err f) rest = Err f
-in_front (Ok g) (Err f) = Err f
-in_front (Ok g) (Ok gs) = Ok (g ∷ gs)
+in_front (Ok r) (Err f) = Err f
+in_front (Ok r) (Ok rs) = Ok (r ∷ rs)
 
 -- what lines say that are numbered from n on, or the first fault
-abbrev pub givens_of : (processors n : ℕ) → List (List ℕ) → Result (List Given) RecordingFault
-givens_of processors n [] = Ok []
-givens_of processors n (line ∷ lines) =
-    in_front (given_of_line processors n line) (givens_of processors (n + 1) lines)
+abbrev pub recorded_from : (processors n : ℕ) → List (List ℕ) → Result (List RecordedLine) RecordingFault
+recorded_from processors n [] = Ok []
+recorded_from processors n (line ∷ lines) =
+    in_front (recorded_at processors n line) (recorded_from processors (n + 1) lines)
 
--- what a recording says, or its first fault
+-- what the lines of a recording say, or its first fault
+abbrev pub recorded_of : (processors : ℕ) → List ℕ → Result (List RecordedLine) RecordingFault
+recorded_of processors text = recorded_from processors 1 (lines_of text)
+
+-- what came
+abbrev pub came : List RecordedLine → List Given
+came [] = []
+came (recorded.Came g ∷ rs) = g ∷ came rs
+came (recorded.Restart ∷ rs) = came rs
+
+-- the lines that say that these came
+abbrev pub came_lines : List Given → List RecordedLine
+came_lines gs = map (λ g. recorded.Came g) gs
+
+abbrev pub all_came : Result (List RecordedLine) RecordingFault → Result (List Given) RecordingFault
+all_came (Err f) = Err f
+all_came (Ok rs) = Ok (came rs)
+
+-- what a recording says that came, or its first fault
 abbrev pub recording_of : (processors : ℕ) → List ℕ → Result (List Given) RecordingFault
-recording_of processors text = givens_of processors 1 (lines_of text)
+recording_of processors text = all_came (recorded_of processors text)
 
 -- a reader's fault is that of the text, unless memory ran out
-abbrev pub IsFaultOf : RecordingFault → Result (List Given) RecordingFault → Type 0
+abbrev pub IsFaultOf : {A : Type 0} → RecordingFault → Result A RecordingFault → Type 0
 IsFaultOf fault.Memory r = Unit {0}
 IsFaultOf (fault.Line n) r = r ≡ Err (fault.Line n)
 IsFaultOf (fault.Range n) r = r ≡ Err (fault.Range n)

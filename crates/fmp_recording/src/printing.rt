@@ -1,9 +1,10 @@
 //! Recordings, as they are written.
 ghost use Rattle.std.specs.Prelude.{◌≡◌, ◌++◌, ◌∷◌, [], OnOk, decimal};
 ghost use Rattle.std.specs.Fmt.{signed_decimal};
-ghost use Rattle.fmp_recording.specs.RecordingLaws.{PrintedRecordingsReadBack};
-ghost use Rattle.fmp_recording.specs.Recordings.{act_text, arguments_text, given_text, recording_text};
+ghost use Rattle.fmp_recording.specs.RecordingLaws.{PrintedLinesReadBack, PrintedRecordingsReadBack};
+ghost use Rattle.fmp_recording.specs.Recordings.{act_text, arguments_text, given_text, recorded_lines_text, recorded_text, recording_text};
 
+use crate::recorded::RecordedLine;
 use fmp_base::Fault;
 use fmp_outside::{Act, Given};
 use itoa::Buffer;
@@ -83,7 +84,29 @@ pub fn print_recording(recording: &[Given], out: &mut Vec<u8>) -> Result<(), All
     Ok(())
 }
 
-/// The text that `print_recording` writes of a run is read as this run.
+/// Appends what a line says, with its line feed. If memory runs out, the text has an unfinished end.
+fn append_recorded(recorded: RecordedLine, out: &mut Vec<u8>) -> Result<(), AllocError>
+    ensures { OnOk result (out.new.items ≡ out.old.items ++ (recorded_text recorded ++ 10 ∷ [])) }
+{
+    match recorded {
+        RecordedLine::Came(given) => append_line(given, out),
+        RecordedLine::Restart => out.extend_from_slice(b"restart\n"),
+    }
+}
+
+/// Appends the lines of a recording, each ended by a line feed. If memory runs out, the text has an unfinished end.
+pub fn print_lines(lines: &[RecordedLine], out: &mut Vec<u8>) -> Result<(), AllocError>
+    ensures { OnOk result (out.new.items ≡ out.old.items ++ recorded_lines_text lines.now) }
+{
+    for recorded in lines {
+        append_recorded(*recorded, out)?;
+    }
+    Ok(())
+}
+
+/// The text that `print_recording` writes of a run is read as this run, and that which `print_lines` writes as these
+/// lines.
 pub fn printed_recordings_read_back()
-    ensures { PrintedRecordingsReadBack }
+    ensures recording { PrintedRecordingsReadBack }
+    ensures lines { PrintedLinesReadBack }
 {}

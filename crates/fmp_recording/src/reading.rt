@@ -1,12 +1,13 @@
 //! The reader of recordings.
-ghost use Rattle.std.specs.Prelude.{◌≡◌, ◌≤◌, IfErr, IfOk, MatchOption, None, Ok, Some, suc, take, ℕ};
+ghost use Rattle.std.specs.Prelude.{◌≡◌, ◌≤◌, ◌++◌, ◌∷◌, [], IfErr, IfOk, MatchOption, None, Ok, OnOk, Some, suc, take, ℕ};
 ghost use Rattle.std.specs.Str.{bytes_eq};
 ghost use Rattle.fmp_base.specs.Words.{service_named};
-ghost use Rattle.fmp_recording.specs.Recordings.{IsFaultOf, act_in as spec_act, arguments_in, call_in as spec_call, end_in as spec_end, fault_in as spec_fault, fault_named, given_in as spec_given, given_of_line, in_front_of, int_in as spec_int, line_meaning, recording_of, run_in as spec_run, tick_in as spec_tick, times_of};
+ghost use Rattle.fmp_recording.specs.Recordings.{IsFaultOf, act_in as spec_act, arguments_in, call_in as spec_call, came, end_in as spec_end, fault_in as spec_fault, fault_named, given_in as spec_given, in_front_of, int_in as spec_int, is_restart as spec_restart, line_meaning, line_times, recorded_at as spec_at, recorded_in as spec_recorded, recorded_of, recording_of, run_in as spec_run, tick_in as spec_tick, times_of};
 
 use crate::cutting::{first_line, first_word};
 use crate::faults::{Flaw, RecordingFault};
 use crate::numbers::{number_in, ranged_in};
+use crate::recorded::RecordedLine;
 use crate::timing::{time_of, time_or_none, without_time};
 use fmp_base::words::find_service;
 use fmp_base::{Call, Fault};
@@ -177,21 +178,75 @@ fn said_in(line: &[u8], processors: u8) -> Result<Given, Flaw>
     }
 }
 
+/// Whether a line says that the counts began again.
+fn is_restart(line: &[u8]) -> bool
+    ensures { result ≡ spec_restart line.now }
+{
+    is_same_word(line, b"restart")
+}
+
+/// What a line of a recording says.
+fn recorded_in(line: &[u8], processors: u8) -> Result<RecordedLine, Flaw>
+    ensures { result ≡ spec_recorded processors line.now }
+{
+    if is_restart(line) {
+        return Ok(RecordedLine::Restart);
+    }
+    match said_in(line, processors) {
+        Ok(given) => Ok(RecordedLine::Came(given)),
+        Err(flaw) => Err(flaw),
+    }
+}
+
 /// What the line of this number says.
-fn given_at(line: &[u8], number: u32, processors: u8) -> Result<Given, RecordingFault>
-    ensures { result ≡ given_of_line processors number line.now }
+fn recorded_at(line: &[u8], number: u32, processors: u8) -> Result<RecordedLine, RecordingFault>
+    ensures { result ≡ spec_at processors number line.now }
 {
     if number > MOST_LINES {
         return Err(RecordingFault::TooMany { line: number });
     }
-    match said_in(line, processors) {
-        Ok(given) => Ok(given),
+    match recorded_in(line, processors) {
+        Ok(recorded) => Ok(recorded),
         Err(Flaw::Form) => Err(RecordingFault::Line { line: number }),
         Err(Flaw::Range) => Err(RecordingFault::Range { line: number }),
     }
 }
 
-/// Reads a recording: each line says what comes and maybe when, and is ended by a line feed, which the last may lack.
+/// Reads the lines of a recording, each ended by a line feed, which the last may lack. A line says what comes and maybe
+/// when, or is `restart`: the counts began again there. The fault is that of the first faulty line, unless memory runs
+/// out first.
+pub fn read_lines(
+    alloc: Global,
+    text: &[u8],
+    processors: u8,
+) -> Result<Vec<RecordedLine>, RecordingFault>
+    ensures ok { IfOk result (λ lines. recorded_of processors text.now ≡ Ok lines.items) }
+    ensures fault { IfErr result (λ fault. IsFaultOf fault (recorded_of processors text.now)) }
+{
+    let mut lines = Vec::new(alloc);
+    let mut rest = text;
+    let mut number = 1;
+    while !rest.is_empty() {
+        let (line, after) = first_line(rest);
+        let recorded = recorded_at(line, number, processors)?;
+        lines.push(recorded).map_err(|_| RecordingFault::Memory)?;
+        rest = after;
+        number += 1;
+    }
+    Ok(lines)
+}
+
+/// Appends what a line says that came, if it says so.
+fn append_came(line: RecordedLine, recording: &mut Vec<Given>) -> Result<(), AllocError>
+    ensures { OnOk result (recording.new.items ≡ recording.old.items ++ came (line ∷ [])) }
+{
+    if let RecordedLine::Came(given) = line {
+        recording.push(given)?;
+    }
+    Ok(())
+}
+
+/// Reads what a recording says that came, as `read_lines` reads its lines: a line `restart` says of nothing that came.
 /// The fault is that of the first faulty line, unless memory runs out first. `read_times` reads the times.
 pub fn read_recording(
     alloc: Global,
@@ -206,16 +261,27 @@ pub fn read_recording(
     let mut number = 1;
     while !rest.is_empty() {
         let (line, after) = first_line(rest);
-        let given = given_at(line, number, processors)?;
-        recording.push(given).map_err(|_| RecordingFault::Memory)?;
+        let recorded = recorded_at(line, number, processors)?;
+        append_came(recorded, &mut recording).map_err(|_| RecordingFault::Memory)?;
         rest = after;
         number += 1;
     }
     Ok(recording)
 }
 
-/// The times of the lines of a recording, in microseconds since the start; none of a line that does not say its time.
-/// `AllocError` if memory runs out.
+/// Appends the time of a line that says what came.
+fn append_time(line: &[u8], times: &mut Vec<Option<u64>>) -> Result<(), AllocError>
+    ensures { OnOk result (times.new.items ≡ times.old.items ++ line_times (line.now ∷ [])) }
+{
+    if is_restart(line) {
+        return Ok(());
+    }
+    times.push(time_or_none(line))?;
+    Ok(())
+}
+
+/// The times of what a recording says that came, in microseconds since the start; none of a line that does not say its
+/// time. `AllocError` if memory runs out.
 pub fn read_times(alloc: Global, text: &[u8]) -> Result<Vec<Option<u64>>, AllocError>
     ensures { IfOk result (λ times. times.items ≡ times_of text.now) }
 {
@@ -223,7 +289,7 @@ pub fn read_times(alloc: Global, text: &[u8]) -> Result<Vec<Option<u64>>, AllocE
     let mut rest = text;
     while !rest.is_empty() {
         let (line, after) = first_line(rest);
-        times.push(time_or_none(line))?;
+        append_time(line, &mut times)?;
         rest = after;
     }
     Ok(times)

@@ -4,10 +4,11 @@ ghost use Rattle.fmp_base.specs.Runs.{task_state};
 ghost use Rattle.fmp_base.specs.States.{places_from};
 ghost use Rattle.fmp_base.specs.Systems.{tables_of};
 ghost use Rattle.fmp_base.specs.Texts.{states_text};
-ghost use Rattle.fmp_recording.specs.Replaying.{HasReplayed, HasRun, HasTaken, IsReplay, IsReplayFault, IsWhyNotRun, IsWhyNotTaken, IsWhyStopped, RecordedRunsAreReplayed, new_kernel};
+ghost use Rattle.fmp_recording.specs.Replaying.{HasDone, HasDoneAll, HasReplayed, HasRun, HasTaken, IsReplay, IsReplayFault, IsWhyNotAll, IsWhyNotDone, IsWhyNotRun, IsWhyNotTaken, IsWhyStopped, RecordedLinesAreReplayed, RecordedRunsAreReplayed, WholeRunsAreReplayed, new_kernel};
 
 use crate::faults::RecordingFault;
-use crate::reading::read_recording;
+use crate::reading::read_lines;
+use crate::recorded::RecordedLine;
 use fmp_base::{Effect, TaskState};
 use fmp_foreign::{Foreign, Hosted, Refusal};
 use fmp_kernel::Kernel;
@@ -77,6 +78,39 @@ pub fn replay(
     Ok(())
 }
 
+/// Does what a line says, and appends the lines of the event if one is done.
+fn do_line(hosted: &mut Hosted, line: RecordedLine, trace: &mut Vec<u8>) -> Result<(), ReplayFault>
+    requires { hosted.old.kernel.system ≡ tables_of hosted.old.system }
+    ensures ok { OnOk result (HasDone hosted.old hosted.new line trace.old.items trace.new.items) }
+    ensures err { IfErr result (IsWhyNotDone hosted.old.kernel line) }
+{
+    match line {
+        RecordedLine::Came(given) => take_one(hosted, given, trace),
+        RecordedLine::Restart => {
+            hosted.restart_count();
+            Ok(())
+        }
+    }
+}
+
+/// Does what the lines of a recording say, one after the other: takes what came, and has the counts begin again where
+/// they did. It appends the lines of each event that is done. It stops at the first that is refused, and where memory
+/// runs out: the text then has an unfinished end.
+pub fn replay_lines(
+    hosted: &mut Hosted,
+    lines: &[RecordedLine],
+    trace: &mut Vec<u8>,
+) -> Result<(), ReplayFault>
+    requires { hosted.old.kernel.system ≡ tables_of hosted.old.system }
+    ensures ok { OnOk result (HasDoneAll hosted.old hosted.new lines.now trace.old.items trace.new.items) }
+    ensures err { IfErr result (IsWhyNotAll hosted.old.kernel lines.now) }
+{
+    for line in lines {
+        do_line(hosted, *line, trace)?;
+    }
+    Ok(())
+}
+
 /// The states of all tasks, in order of number.
 fn states_of(alloc: Global, kernel: &Kernel<Foreign>) -> Result<Vec<TaskState>, AllocError>
     ensures { IfOk result (λ states. states.items
@@ -100,7 +134,7 @@ fn append_states(alloc: Global, hosted: &Hosted, trace: &mut Vec<u8>) -> Result<
     print_states(&hosted.system, states.as_slice(), trace)
 }
 
-/// Reads a recording, and takes what was recorded, up to the states at the end.
+/// Reads a recording, and does what its lines say, up to the states at the end.
 fn replay_text(
     alloc: Global,
     hosted: &mut Hosted,
@@ -111,13 +145,13 @@ fn replay_text(
     ensures ok { OnOk result (HasRun hosted.old.system recording.now trace.old.items trace.new.items) }
     ensures err { IfErr result (IsWhyNotRun hosted.old.system recording.now) }
 {
-    let run = read_recording(alloc, recording, hosted.system.processors).map_err(
+    let lines = read_lines(alloc, recording, hosted.system.processors).map_err(
         ReplayFault::Recording,
     )?;
     let Ok(()) = print(&hosted.system, 0, hosted.kernel.lines(), trace) else {
         return Err(ReplayFault::Memory);
     };
-    replay(hosted, run.as_slice(), trace)?;
+    replay_lines(hosted, lines.as_slice(), trace)?;
     let Ok(()) = append_states(alloc, hosted, trace) else {
         return Err(ReplayFault::Memory);
     };
@@ -125,7 +159,9 @@ fn replay_text(
 }
 
 /// Appends the trace of a recorded run: the lines of setup, those of each event that is done, and the states of the
-/// tasks at the end. The system is that of the configuration. On a fault the text has an unfinished end.
+/// tasks at the end. Where the recording says that the counts began again, they do so in the replay, and the numbers of
+/// events and of the clock begin again in the trace. The system is that of the configuration. On a fault the text has an
+/// unfinished end.
 pub fn replay_recording(
     alloc: Global,
     cfg: &[u8],
@@ -145,7 +181,10 @@ pub fn replay_recording(
     }
 }
 
-/// What `print_recording` writes of a run is replayed to the trace of this run.
+/// What `print_recording` writes of a run is replayed to the trace of this run, and what `print_lines` writes to the
+/// trace of what these lines say. So is any recording whose counts never began again to the trace of its run.
 pub fn recorded_runs_are_replayed()
-    ensures { RecordedRunsAreReplayed }
+    ensures printed { RecordedRunsAreReplayed }
+    ensures lines { RecordedLinesAreReplayed }
+    ensures whole { WholeRunsAreReplayed }
 {}

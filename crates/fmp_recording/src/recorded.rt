@@ -1,0 +1,11 @@
+//! What a line of a recording says.
+use fmp_outside::Given;
+
+/// What a line of a recording says.
+#[derive(Clone, Copy, PartialEq, Eq)]
+pub enum RecordedLine {
+    /// This came.
+    Came(Given),
+    /// The counts began again here, as by `Hosted::restart_count`.
+    Restart,
+}
