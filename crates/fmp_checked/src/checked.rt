@@ -2,11 +2,12 @@
 ghost use Rattle.std.specs.Prelude.{◌≡◌, ◌≤◌, ◌^◌, IfOk};
 ghost use Rattle.fmp_base.specs.Ranges.{IsInRange};
 ghost use Rattle.fmp_base.specs.Systems.{tables_of};
-ghost use Rattle.fmp_foreign.specs.Hosting.{refused};
+ghost use Rattle.fmp_foreign.specs.Hosting.{refused, restarted};
+ghost use Rattle.fmp_kernel.specs.Restarts.{counts_restarted};
 ghost use Rattle.fmp_checked.specs.Checking.{InStep, IsBegun, IsChecked, IsHostedBy, IsTextOf, hosted_after};
 
 use crate::bodies::ImageBody;
-use crate::following::{Objection, follow};
+use crate::following::{Objection, follow, restart_counts};
 use fmp_base::{Effect, System};
 use fmp_foreign::{Foreign, Hosted, Shadow};
 use fmp_image_bytes::Image;
@@ -91,6 +92,14 @@ impl Checked {
         ensures hosted { self.new.hosted ≡ hosted_after self.old.hosted given result }
     {
         follow(&mut self.text, &mut self.hosted, given)
+    }
+
+    /// The counts begin again, those of the system and those of its text.
+    pub fn restart_count(&mut self)
+        ensures hosted { self.new.hosted ≡ restarted self.old.hosted }
+        ensures text { self.new.text ≡ counts_restarted self.old.text }
+    {
+        restart_counts(&mut self.text, &mut self.hosted);
     }
 
     /// The system, as it is seen.

@@ -2,8 +2,9 @@
 ghost use Rattle.std.specs.Prelude.{◌≡◌, ◌∷◌, [], Err, IfSome, None, Ok};
 ghost use Rattle.fmp_base.specs.Steps.{effect_of};
 ghost use Rattle.fmp_foreign.specs.Following.{HasFollowed};
-ghost use Rattle.fmp_foreign.specs.Hosting.{after, reaction, refused};
+ghost use Rattle.fmp_foreign.specs.Hosting.{after, reaction, refused, restarted};
 ghost use Rattle.fmp_instructions.specs.Machine.{code_meaning};
+ghost use Rattle.fmp_kernel.specs.Restarts.{counts_restarted};
 ghost use Rattle.fmp_checked.specs.Checking.{InStep, IsChecked, IsObjection, hosted_after};
 
 use crate::bodies::ImageBody;
@@ -81,4 +82,15 @@ fn done(hosted: &mut Hosted, given: Given) -> Result<Effect, Objection>
         Ok(effect) => Ok(effect),
         Err(why) => Err(Objection::Refused(why)),
     }
+}
+
+/// The counts begin again, those of a hosted system and those of its text.
+#[tactic(auto, using(crate::proofs::Judgements::restarted_step))]
+pub fn restart_counts(text: &mut Shadow<ImageBody>, hosted: &mut Hosted)
+    ensures text { text.new ≡ counts_restarted text.old }
+    ensures hosted { hosted.new ≡ restarted hosted.old }
+    ensures step { InStep hosted.old.kernel text.old → InStep hosted.new.kernel text.new }
+{
+    text.restart_count();
+    hosted.restart_count();
 }

@@ -7,4 +7,4 @@ mod following;
 
 pub use bodies::ImageBody;
 pub use checked::Checked;
-pub use following::{Objection, consult, follow};
+pub use following::{Objection, consult, follow, restart_counts};
