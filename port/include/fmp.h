@@ -35,7 +35,7 @@ enum fmp_answer {
     FMP_NOTHING = 0,        /* no actor, a lock that is held, an interrupt that is pending or without handler */
     FMP_DONE = 1,
     FMP_KEPT = 2,           /* a place was kept; no event of this file keeps one */
-    FMP_FULL = 3,           /* 2^31 events were taken */
+    FMP_FULL = 3,           /* 2^31 events were taken since fmp_new or fmp_restart_count */
     FMP_NO_SYSTEM = 4,      /* the handle is blank */
     FMP_NO_PROCESSOR = 5,
     FMP_NO_SERVICE = 6,
@@ -139,7 +139,7 @@ typedef struct fmp_task_state {
 typedef struct fmp_event_counts {
     uint32_t processors;
     uint32_t done;          /* events that were done: the number of the last one in the trace */
-    uint32_t taken;
+    uint32_t taken;         /* both counts are 0 again after fmp_restart_count */
     size_t lines;           /* of the last event that was done, or of setup */
 } fmp_event_counts;
 
@@ -178,6 +178,17 @@ uint32_t fmp_tick(fmp_system *, fmp_outcome *);
 
 /* An interrupt is requested, 1 to 32. */
 uint32_t fmp_int(fmp_system *, uint8_t number, fmp_outcome *);
+
+/*
+ * The counts begin again: the clock and the counts of events are 0, those of a checked system's text too. Each deadline
+ * and each due time stays as far from the clock as it was, and nothing else changes. So each later event does what it
+ * would have done; only the numbers of events and of the clock in its lines differ. FMP_DONE, or FMP_NO_SYSTEM where
+ * the handle is blank.
+ *
+ * A port that runs for long calls it before 2^31 events were taken. It then writes the line `restart` into its
+ * recording.
+ */
+uint32_t fmp_restart_count(fmp_system *);
 
 /* What can be read: FMP_DONE, or FMP_NO_SYSTEM where the handle is blank; then nothing is written. */
 

@@ -18,13 +18,14 @@ use Rattle.fmp_lex.specs.declared.fault.FaultKind.TheVariants as kind
 use Rattle.fmp_lex.specs.declared.place.Place.{Place}
 use Rattle.fmp_foreign.specs.declared.requests.Refusal.{Refusal}
 use Rattle.fmp_foreign.specs.declared.requests.Refusal.TheVariants as refusal
-use Rattle.fmp_foreign.specs.Hosting.{ForeignKernel, IsNew, after, answer, refused}
+use Rattle.fmp_foreign.specs.Hosting.{ForeignKernel, IsNew, after, answer, refused, restarted}
 use Rattle.fmp_foreign.specs.Looking.{acting_on}
 use Rattle.fmp_outside.specs.declared.given.Given.{Given}
 use Rattle.fmp_foreign.specs.declared.hosted.Hosted.{Hosted}
 use Rattle.fmp_checked.specs.declared.following.Objection.{Objection}
 use Rattle.fmp_checked.specs.declared.following.Objection.TheVariants as objection
 use Rattle.fmp_instructions.specs.Machine.{code_meaning}
+use Rattle.fmp_kernel.specs.Restarts.{counts_restarted}
 use Rattle.fmp_foreign.specs.Following.{HasFollowed}
 use Rattle.fmp_checked.specs.Checking.{InStep, IsBegun, IsChecked, TextKernel, hosted_after}
 use Rattle.fmp_image_bytes.specs.Images.{ImageTables, image_at}
@@ -216,6 +217,15 @@ abbrev pub IsTaken : (old : Machine) → (g : Result Given Refusal) → (p : ℕ
     → (out : FmpOutcome) → (number : ℕ) → Type 0
 IsTaken old (Ok g) p new out number = IsTakenBy old.text old g p new out number
 IsTaken old (Err why) p new out number = IsTakenAny old (Err why) p new out number
+
+-- a text with counts that begin again
+abbrev pub text_restarted : Option TextKernel → Option TextKernel
+text_restarted None = None
+text_restarted (Some t) = Some (counts_restarted t)
+
+-- a machine with counts that begin again, those of its system and those of its text
+abbrev pub machine_restarted : Machine → Machine
+machine_restarted m = record m { hosted = restarted m.hosted; text = text_restarted m.text }
 
 -- the fault of this number
 abbrev pub fault_of : ℕ → Option Fault

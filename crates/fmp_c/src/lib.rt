@@ -11,6 +11,7 @@ mod making;
 mod names;
 mod recorded;
 mod records;
+mod restarting;
 mod services;
 mod states;
 
@@ -25,5 +26,6 @@ pub use machine::Machine;
 pub use making::{fmp_free, fmp_new, fmp_new_checked};
 pub use recorded::fmp_recorded;
 pub use records::{FmpActing, FmpOutcome, FmpRefusal};
+pub use restarting::fmp_restart_count;
 pub use services::{fmp_service_arity, fmp_service_name};
 pub use states::FmpState;

@@ -4,12 +4,12 @@ ghost use Rattle.std.specs.Prelude.{◌≡◌, Err, Ok, Some};
 ghost use Rattle.fmp_base.specs.Systems.{tables_of};
 ghost use Rattle.fmp_base.specs.Texts.{lines_text};
 ghost use Rattle.fmp_foreign.specs.Hosting.{answer};
-ghost use Rattle.fmp_c.specs.Exports.{IsConsulted, IsTakenBy, answered, checked_number, machine_after, outcome_of};
+ghost use Rattle.fmp_c.specs.Exports.{IsConsulted, IsTakenBy, answered, checked_number, machine_after, machine_restarted, outcome_of};
 ghost use Rattle.fmp_c.specs.Records as spec;
 
 use crate::records::{FmpOutcome, answer_number, changes};
 use fmp_base::Effect;
-use fmp_checked::{ImageBody, Objection, consult};
+use fmp_checked::{ImageBody, Objection, consult, restart_counts};
 use fmp_foreign::{Hosted, Refusal, Shadow};
 use fmp_outside::Given;
 use fmp_trace::Page;
@@ -112,6 +112,16 @@ impl Machine {
         };
         out.acting.tell(self.hosted.acting(p));
         answer_number(answer)
+    }
+
+    /// The counts begin again, those of the system and those of its text.
+    pub fn restart_count(&mut self)
+        ensures { self.new ≡ machine_restarted self.old }
+    {
+        match &mut self.text {
+            Some(text) => restart_counts(text, &mut self.hosted),
+            None => self.hosted.restart_count(),
+        }
     }
 
     /// Prints the lines of the last event that was done, or of setup, on the page.
