@@ -5,5 +5,6 @@ mod following;
 mod hosting;
 mod overtaking;
 mod pulses;
+mod restarting;
 mod running;
 mod threads;

@@ -42,6 +42,21 @@ fn step<B: Body>(kernel: &mut Kernel<B>, event: Event) -> Effect {
     }
 }
 
+/// Appends the lines of each event that does something.
+pub fn append_trace<B: Body>(
+    system: &System,
+    kernel: &mut Kernel<B>,
+    events: &[Event],
+    trace: &mut Vec<u8>,
+) -> Result<(), AllocError> {
+    for event in events {
+        if step(kernel, *event) == Effect::Done {
+            print(system, kernel.done(), kernel.lines(), trace)?;
+        }
+    }
+    Ok(())
+}
+
 /// The trace of a kernel over some events: the lines of setup, and then those of each event that does something.
 fn trace_of<B: Body>(
     alloc: Global,
@@ -51,11 +66,7 @@ fn trace_of<B: Body>(
 ) -> Result<Vec<u8>, AllocError> {
     let mut trace = Vec::new(alloc);
     print(system, 0, kernel.lines(), &mut trace)?;
-    for event in events {
-        if step(kernel, *event) == Effect::Done {
-            print(system, kernel.done(), kernel.lines(), &mut trace)?;
-        }
-    }
+    append_trace(system, kernel, events, &mut trace)?;
     Ok(trace)
 }
 
