@@ -85,7 +85,6 @@ fn done(hosted: &mut Hosted, given: Given) -> Result<Effect, Objection>
 }
 
 /// The counts begin again, those of a hosted system and those of its text.
-#[tactic(auto, using(crate::proofs::Judgements::restarted_step))]
 pub fn restart_counts(text: &mut Shadow<ImageBody>, hosted: &mut Hosted)
     ensures text { text.new ≡ counts_restarted text.old }
     ensures hosted { hosted.new ≡ restarted hosted.old }
