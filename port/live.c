@@ -30,7 +30,7 @@
 
 enum { PROCESSORS = 8, INTERRUPTS = 32, FLUSH_ATTEMPTS = 1000000 };
 enum { LOCK_ATTEMPTS = 64, MOST_PAUSES = 128, LEAST_PATIENCE = 32, MOST_PATIENCE = 1024 };
-enum { NANOSECONDS = 1000000000 };
+enum { NANOSECONDS = 1000000000, UNL_SPN = 50 };
 
 struct processor {
     alignas(64) atomic_bool news;   /* others have changed who acts here, or the run is over */
@@ -49,7 +49,7 @@ static pthread_mutex_t lock = PTHREAD_MUTEX_INITIALIZER;
 
 /* Under the lock. */
 static enum fmp_over over;
-static uint32_t spinning;           /* the processors that wait for a spin lock, by bits */
+static uint32_t spinning;           /* the processors that wait until a spin lock may be free, by bits */
 static bool ends_dormant;           /* nothing comes from outside once all tasks are dormant */
 static size_t task_count;
 static size_t awake;                /* a task that was not dormant last, from 0 */
@@ -179,7 +179,7 @@ static void end_run(enum fmp_over why)
 static void heard(uint32_t answer, uint32_t changes, uint32_t own)
 {
     if (answer == FMP_DONE) {
-        tell_all((changes | spinning) & ~own);
+        tell_all(changes & ~own);
     } else if (answer == FMP_FULL) {
         end_run(FMP_EVENTS_FULL);
     } else if (answer == FMP_NOT_THE_TEXT) {
@@ -197,13 +197,18 @@ static uint32_t hand_in(struct processor *me, struct flow *flow)
     uint32_t changes = 0;
     uint32_t answer = system_hand_in(me->number, flow, &changes);
     heard(answer, changes, bit_of(me));
+    if (answer == FMP_DONE && (flow->service == UNL_SPN || changes & FMP_BODY_ENDS)) {
+        tell_all(spinning);
+    }
     return answer;
 }
 
 /* Who acts on a processor as far as all news say. */
 static const fmp_actor *acting(struct processor *me)
 {
-    atomic_store_explicit(&me->news, false, memory_order_relaxed);
+    if (has_news(me)) {
+        atomic_store_explicit(&me->news, false, memory_order_relaxed);
+    }
     return system_acting(me->number);
 }
 
@@ -216,8 +221,8 @@ static bool acts(struct processor *me, const struct flow *flow)
 /* Bodies. */
 
 /*
- * Hands in what a body wishes. Where a spin lock is held, it waits for the next event: nothing changes before it. Where
- * the text of the body is within a long stretch, others may go on.
+ * Hands in what a body wishes. Where a spin lock is held, it waits until one may be free: by unl_spn, or by the end of
+ * who holds it. Where the text of the body is within a long stretch, others may go on.
  */
 static void carry_out(struct processor *me, struct flow *flow)
 {

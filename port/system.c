@@ -19,7 +19,7 @@ typedef void (*body_function)(intptr_t);
 
 /* What the last event of a processor did. Who acts there is kept up to date. */
 struct event {
-    alignas(32) fmp_outcome outcome;
+    alignas(64) fmp_outcome outcome;
     uint32_t others;            /* what changes elsewhere than on this processor, by bits */
 };
 

@@ -6,6 +6,7 @@
 #include "fmp.h"
 #include "program.h"
 
+#include <stdalign.h>
 #include <stdbool.h>
 #include <stddef.h>
 #include <stdint.h>
@@ -16,9 +17,9 @@ enum { NAME_ROOM = 32 };
 /* What a body that was left asks for: nothing, on its stack or on an empty one, or an event. */
 enum wish { GOES_ON, BEGINS, CALLS, ENDS, FAULTS, KEEPS_ITS_PLACE };
 
-/* A body that runs: that of a task, or of the handler of a processor. */
+/* A body that runs: that of a task, or of the handler of a processor. No two of them share a line of memory. */
 struct flow {
-    struct coroutine coroutine;
+    alignas(64) struct coroutine coroutine;
     void (*run)(intptr_t exinf);
     enum wish wish;
     uint8_t service;            /* of its call */

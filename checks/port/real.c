@@ -246,9 +246,9 @@ static int run_endless(const char *path)
 
 /* Reasons to be over. */
 
-enum { DRIVER = 2, WAKEUPS = 20 };
+enum { DRIVER = 2, LOCK = 1, WAKEUPS = 20 };
 
-static void (*main_part)(void);
+static void (*main_part)(void), (*driver_part)(void);
 static atomic_int wakeups;
 
 static void main_task(intptr_t exinf)
@@ -260,6 +260,11 @@ static void main_task(intptr_t exinf)
 static void driver(intptr_t exinf)
 {
     (void)exinf;
+    driver_part();
+}
+
+static void count_wakeups(void)
+{
     while (slp_tsk() == E_OK) {
         if (++wakeups == WAKEUPS) {
             fmp_halt();
@@ -275,15 +280,16 @@ static void receive(intptr_t exinf)
 
 static const struct fmp_body few_bodies[] = { { "main", main_task }, { "driver", driver }, { "receive", receive } };
 
-/* A task MAIN that runs, one of processor 2 that is dormant or sleeps, and a handler of interrupt 3. */
+/* A task MAIN that runs, one of processor 2 that is dormant or drives it, a spin lock, and a handler of interrupt 3. */
 static void open_few(void (*part)(void), bool has_driver)
 {
     configuration_length = (size_t)snprintf(
         configuration, sizeof configuration,
-        "NUM_PRC(2);\nCLASS(TCL_1) { CRE_TSK(MAIN, { TA_ACT, 0, main, 10, 256, NULL });\n%s }\n"
+        "NUM_PRC(2);\nCLASS(TCL_1) { CRE_TSK(MAIN, { TA_ACT, 0, main, 10, 256, NULL }); CRE_SPN(LOCK, { 0 });\n%s }\n"
         "CLASS(TCL_2) { CRE_TSK(DRIVER, { %s, 0, driver, 5, 256, NULL }); }\n",
         has_driver ? "DEF_INH(3, { TA_NULL, receive });" : "", has_driver ? "TA_ACT" : "TA_NULL");
     main_part = part;
+    driver_part = count_wakeups;
     wakeups = 0;
     open_system(few_bodies, sizeof few_bodies / sizeof *few_bodies, false);
 }
@@ -329,6 +335,42 @@ static void raise_often(void)
         fmp_raise(3);
         fmp_poll();
     }
+}
+
+static atomic_bool is_held, is_asked_for;
+
+/* MAIN holds the lock until the driver, which asks for it, has long been asleep. */
+static void hold_lock(void)
+{
+    loc_spn(LOCK);
+    is_held = true;
+    while (!is_asked_for) {
+    }
+    nanosleep(&(struct timespec){ .tv_nsec = 10000000 }, NULL);
+}
+
+static void hold_and_unlock(void)
+{
+    hold_lock();
+    unl_spn(LOCK);
+}
+
+static void ask_for_lock(void)
+{
+    while (!is_held) {
+    }
+    is_asked_for = true;
+    loc_spn(LOCK);
+    fmp_halt();
+}
+
+static void pass_lock(void (*part)(void), const char *what)
+{
+    open_few(part, true);
+    driver_part = ask_for_lock;
+    is_held = is_asked_for = false;
+    expect(fmp_run(0, 0, stderr) == FMP_HALTED, what);
+    end_system();
 }
 
 static void on_alarm(int number)
@@ -391,6 +433,8 @@ static int run_ends(void)
     end_system();
     expect(run_few(raise_often, true, 0, 0) == FMP_HALTED, "a task raises interrupts");
     end_system();
+    pass_lock(hold_and_unlock, "a lock passes to who waits for it");
+    pass_lock(hold_lock, "a lock passes at the end of who holds it");
     signal(SIGALRM, on_alarm);
     set_alarm(500);
     expect(run_few(return_at_once, true, 0, 0) == FMP_HALTED, "a signal handler raises interrupts");
