@@ -1,4 +1,5 @@
 /* perform.c: a whole main program for C tasks in real time. */
+#include "files.h"
 #include "live.h"
 #include "system.h"
 
@@ -71,8 +72,8 @@ static int perform(const char *text, size_t length, const struct wanted *it, con
 static int perform_files(const struct wanted *it, struct fmp_program program, FILE *recording)
 {
     size_t length;
-    char *image = it->image != NULL ? system_text(it->image, &program.image_length) : NULL;
-    char *cfg = it->image == NULL || image != NULL ? system_text(it->cfg, &length) : NULL;
+    char *image = it->image != NULL ? files_text(it->image, &program.image_length) : NULL;
+    char *cfg = it->image == NULL || image != NULL ? files_text(it->cfg, &length) : NULL;
     program.image = image != NULL ? (const uint8_t *)image : program.image;
     int status = cfg != NULL ? perform(cfg, length, it, &program, recording) : 3;
     free(cfg);
@@ -94,7 +95,7 @@ int fmp_perform(int argc, char **argv, const struct fmp_program *program)
         return 3;
     }
     int status = perform_files(&it, *program, recording);
-    if (recording != NULL && !system_close(recording, it.recording)) {
+    if (recording != NULL && !files_close(recording, it.recording)) {
         status = 3;
     }
     return status;

@@ -70,10 +70,4 @@ uint32_t system_step(uint8_t p, const struct driver *, struct coroutine *outside
 /* The body whose stack an address would be on if it were larger, or NULL. */
 const struct flow *system_overflowing(const void *address);
 
-/* The text of a file, which is to be freed. NULL if it cannot be read, after a message. */
-char *system_text(const char *path, size_t *length);
-
-/* Closes a file that was written. False if it could not be written, after a message. */
-bool system_close(FILE *, const char *path);
-
 #endif

@@ -1,6 +1,7 @@
 /* virtual.c: C tasks in virtual time, over the kernel of fmp.h. */
 #include "virtual.h"
 
+#include "files.h"
 #include "system.h"
 
 #include <stdlib.h>
@@ -124,9 +125,9 @@ static int simulate(const char *cfg, size_t cfg_length, const char *steps, size_
 static int simulate_files(const struct files *files, struct fmp_program program, FILE *recording)
 {
     size_t length, steps_length;
-    char *image = files->image != NULL ? system_text(files->image, &program.image_length) : NULL;
-    char *cfg = files->image == NULL || image != NULL ? system_text(files->cfg, &length) : NULL;
-    char *steps = cfg != NULL ? system_text(files->steps, &steps_length) : NULL;
+    char *image = files->image != NULL ? files_text(files->image, &program.image_length) : NULL;
+    char *cfg = files->image == NULL || image != NULL ? files_text(files->cfg, &length) : NULL;
+    char *steps = cfg != NULL ? files_text(files->steps, &steps_length) : NULL;
     program.image = image != NULL ? (const uint8_t *)image : program.image;
     int status = steps != NULL ? simulate(cfg, length, steps, steps_length, &program, recording) : 3;
     free(steps);
@@ -149,7 +150,7 @@ int fmp_simulate(int argc, char **argv, const struct fmp_program *program)
         return 3;
     }
     int status = simulate_files(&files, *program, recording);
-    if (recording != NULL && !system_close(recording, files.recording)) {
+    if (recording != NULL && !files_close(recording, files.recording)) {
         status = 3;
     }
     return status;

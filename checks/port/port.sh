@@ -61,7 +61,7 @@ compiled() {
         "$@" $strict -c "$source" -o "$kind/$(basename "$source" .c).o" 2> errors ||
             verdict "$kind: $(basename "$source")" "it does not compile: $(head -c 300 errors)"
     done
-    parts="system checked coroutine overflow recording virtual live signals perform replaying"
+    parts="system checked coroutine files overflow recording virtual live signals perform replaying"
     for part in $parts; do
         ar rc "$kind/libport.a" "$kind/$part.o"
     done

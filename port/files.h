@@ -1,0 +1,15 @@
+/* files.h: the files that a command line names. */
+#ifndef FMP_FILES_H
+#define FMP_FILES_H
+
+#include <stdbool.h>
+#include <stddef.h>
+#include <stdio.h>
+
+/* The text of a file, which is to be freed. NULL if it cannot be read, after a message. */
+char *files_text(const char *path, size_t *length);
+
+/* Closes a file that was written. False if it could not be written, after a message. */
+bool files_close(FILE *, const char *path);
+
+#endif
