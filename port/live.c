@@ -180,8 +180,6 @@ static void heard(uint32_t answer, uint32_t changes, uint32_t own)
 {
     if (answer == FMP_DONE) {
         tell_all(changes & ~own);
-    } else if (answer == FMP_FULL) {
-        end_run(FMP_EVENTS_FULL);
     } else if (answer == FMP_NOT_THE_TEXT) {
         end_run(FMP_LEFT_THE_TEXT);
     }

@@ -60,9 +60,6 @@ static int perform(const char *text, size_t length, const struct wanted *it, con
     } else {
         fputs("fmp: out of memory for the recording\n", stderr);
     }
-    if (why == FMP_EVENTS_FULL) {
-        fputs("fmp: the kernel takes no more events\n", stderr);
-    }
     fmp_print_states(stdout);
     fmp_close();
     return why == FMP_ALL_DORMANT || why == FMP_TICKS_OVER || why == FMP_HALTED ? 0 : 3;

@@ -10,6 +10,8 @@
 
 enum { LINE_ROOM = 96, PIECE = 4 << 10, MICROSECONDS = 1000000 };
 
+static const char RESTART[] = "restart\n";
+
 /* A line, which is kept. */
 struct line {
     uint8_t length;
@@ -25,6 +27,7 @@ static size_t piece_length;
 static struct line *last;           /* the last events, or NULL where all are written */
 static size_t most_last;
 static size_t added;                /* since there are last ones */
+static size_t dropped_restarts;
 
 static int64_t now(void)
 {
@@ -60,20 +63,43 @@ static size_t write_line(uint8_t *out)
     return length;
 }
 
-void recording_add(void)
+/* The line that says that the counts began again. It has no time. */
+static size_t write_restart(uint8_t *out)
+{
+    memcpy(out, RESTART, sizeof RESTART - 1);
+    return sizeof RESTART - 1;
+}
+
+static bool is_restart(const struct line *line)
+{
+    return line->length == sizeof RESTART - 1 && memcmp(line->text, RESTART, line->length) == 0;
+}
+
+static void add(size_t (*write)(uint8_t *out))
 {
     if (recording_file == NULL) {
         return;
     }
     if (last != NULL) {
-        struct line *line = &last[added++ % most_last];
-        line->length = (uint8_t)write_line(line->text);
+        struct line *line = &last[added % most_last];
+        dropped_restarts += added++ >= most_last && is_restart(line);
+        line->length = (uint8_t)write(line->text);
         return;
     }
     if (piece_length + LINE_ROOM > sizeof piece) {
         recording_flush();
     }
-    piece_length += write_line(piece + piece_length);
+    piece_length += write(piece + piece_length);
+}
+
+void recording_add(void)
+{
+    add(write_line);
+}
+
+void recording_restart(void)
+{
+    add(write_restart);
 }
 
 void recording_flush(void)
@@ -91,7 +117,8 @@ static void write_last(void)
 {
     size_t first = added > most_last ? added - most_last : 0;
     if (first > 0) {
-        fprintf(recording_file, "dropped %zu\n", first);
+        fprintf(recording_file, "dropped %zu", first - dropped_restarts);
+        fprintf(recording_file, dropped_restarts > 0 ? " restarts %zu\n" : "\n", dropped_restarts);
     }
     for (size_t at = first; at < added; at++) {
         fwrite(last[at % most_last].text, 1, last[at % most_last].length, recording_file);
@@ -104,7 +131,7 @@ void recording_end(void)
     recording_flush();
     if (last != NULL && recording_file != NULL) {
         write_last();
-        added = 0;
+        added = dropped_restarts = 0;
     }
 }
 

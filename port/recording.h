@@ -9,6 +9,9 @@ extern FILE *recording_file;    /* NULL where nothing is recorded */
 /* Records the last event that was done. */
 void recording_add(void);
 
+/* Records that the counts and the clock of the kernel began again. */
+void recording_restart(void);
+
 /* Writes what is recorded, but not the last events where only these are kept. */
 void recording_flush(void);
 

@@ -13,6 +13,11 @@
 enum { PROCESSORS = 8, TASKS = 255, CYCLICS = 255, INTERRUPTS = 32, SERVICES = 59 };
 enum { EVENT_ROOM = 66432, SPARE_STACK = 64 << 10 };
 
+/* After how many events the counts begin again: long before the kernel takes no more. */
+#ifndef FMP_RESTART_AT
+#define FMP_RESTART_AT (1u << 30)
+#endif
+
 static const unsigned long USUAL_POLLS = 1000000;
 
 typedef void (*body_function)(intptr_t);
@@ -33,6 +38,7 @@ const struct driver *system_driver;
 static struct flow tasks[TASKS];                        /* by numbers from 1 on, each one place lower */
 static struct flow handlers[PROCESSORS];
 static struct event last[PROCESSORS];
+static uint32_t events_left;                            /* until the counts begin again */
 static body_function cyclics[CYCLICS];
 static body_function interrupts[INTERRUPTS];
 static FILE *trace_file;                                /* NULL where nothing is printed */
@@ -177,6 +183,21 @@ __attribute__((noinline)) static void follow(uint32_t changes)
     print_lines();
 }
 
+/* The counts and the clock of the kernel begin again. The port keeps none of its times. */
+__attribute__((noinline)) static void restart(void)
+{
+    events_left = FMP_RESTART_AT;
+    fmp_restart_count(&system_kernel);
+    recording_restart();
+}
+
+static inline void count(void)
+{
+    if (--events_left == 0) {
+        restart();
+    }
+}
+
 const fmp_actor *system_acting(uint8_t p)
 {
     return &last[p - 1].outcome.acting;
@@ -212,8 +233,11 @@ static inline uint32_t hand_in(uint8_t p, struct flow *flow, struct event *event
         if (changes != 0 || trace_file != NULL || recording_file != NULL) {
             follow(changes);
         }
+        count();
     } else if (answer == FMP_KEPT) {
         flow->wish = GOES_ON;
+    } else if (answer == FMP_STILL_LONG) {
+        count();
     } else if (answer == FMP_NOT_THE_TEXT) {
         system_left_the_text = true;
         checked_complain(flow, message_file);
@@ -254,6 +278,7 @@ static uint32_t finished(uint32_t answer, const fmp_outcome *outcome, uint32_t *
     if (answer == FMP_DONE) {
         *changes = outcome->changes;
         follow(*changes);
+        count();
     }
     return answer;
 }
@@ -401,6 +426,7 @@ enum fmp_opened fmp_open(const char *text, size_t length, const struct fmp_progr
         fmp_close();
         return opened;
     }
+    events_left = FMP_RESTART_AT;
     trace_file = trace;
     message_file = messages;
     system_left_the_text = false;

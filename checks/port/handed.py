@@ -35,6 +35,15 @@ class Handed(Kernel):
             answer = self.take(kind, numbers)
         return answer, self.show() if answer == DONE else []
 
+    def restart(self):
+        """The clock and the counts begin again."""
+        world = self.world
+        for task in self.system.tasks:
+            task.deadline = None if task.deadline is None else task.deadline - world.clock
+        for handler in self.system.cyclic_handlers:
+            handler.due = None if handler.due is None else handler.due - world.clock
+        world.clock = world.event = 0
+
     def refusal(self, kind, numbers):
         """The answer where a number is out of range; none where all are in range."""
         if kind == "int":

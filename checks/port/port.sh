@@ -252,6 +252,16 @@ random() {
     done
 }
 
+# restarted COUNT SEED: random tasks, and runs in real time, of a kernel whose counts begin again after 20 events each.
+restarted() {
+    problem=
+    python3 "$root/checks/port/tasks.py" "$PWD/restarts/tasks" "$1" "$2" 20 > output 2>&1 ||
+        problem=$(head -c 1000 output)
+    verdict "restarts: tasks" "$problem"
+    [ -n "$problem" ] || cat output
+    real restarts 10 call
+}
+
 # forms COMPILER: each call of kernel.h hands in its function code and its arguments.
 forms() {
     problem=
@@ -317,6 +327,10 @@ if [ -x "$fmp" ]; then
 else
     echo "$script: there is no program $fmp: nothing is checked beside texts"
 fi
+
+compiled restarts "$cc" -O2 -DFMP_RESTART_AT=20
+performed restarts "$cc" -O2
+restarted $((count / 10 + 1)) 3000001
 
 compiled contexts "$cc" -O2 -DFMP_UCONTEXT
 examples contexts

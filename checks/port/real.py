@@ -8,7 +8,8 @@ SEED (1) on, are run by their threads for 12 ms each, with random calls and inte
 FMP_PREEMPT=signal in the environment, their tasks are interrupted at any instruction.
 
 Each recording, handed to a new kernel of the library, must give the trace and the states of its run again; and the
-model, handed the same events, must print the same bytes. What happens in a run depends on the machine; this does not.
+model, handed the same events, must print the same bytes, also where the counts begin again. What happens in a run
+depends on the machine; this does not.
 """
 
 import re
@@ -59,7 +60,10 @@ def difference(case, recording, trace):
         text, time = LINE.fullmatch(line).groups()
         if time is not None and int(time) < before:
             return f"its time is before the one of the line above: {line}"
-        before = int(time or 0)
+        before = int(time or before)
+        if text == "restart":
+            kernel.restart()
+            continue
         answer, more = kernel.hand(event_of(text.split()))
         if answer != DONE:
             return f"the model does not do it: {line}"

@@ -74,6 +74,9 @@ static uint32_t event(const char *line)
     if (sscanf(line, "int %u", &number) == 1) {
         return fmp_int(&kernel, (uint8_t)number, &out);
     }
+    if (strcmp(line, "restart") == 0) {
+        return fmp_restart_count(&kernel);
+    }
     if (sscanf(line, "run %u %15s%n", &number, word, &end) == 2) {
         return act((uint8_t)number, word, line + end);
     }
@@ -113,7 +116,9 @@ static bool take_all(FILE *recording)
             fprintf(stderr, "it was not done: %s\n", line);
             return false;
         }
-        print_lines();
+        if (strcmp(line, "restart") != 0) {
+            print_lines();
+        }
     }
     print_states();
     return true;

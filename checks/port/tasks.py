@@ -1,17 +1,18 @@
 #!/usr/bin/env python3
 """Compares C tasks in virtual time with the model of the kernel on random systems.
 
-    checks/port/tasks.py PROGRAM [COUNT [SEED]]
+    checks/port/tasks.py PROGRAM [COUNT [SEED [RESTART]]]
 
 PROGRAM is tasks.c, compiled with the library and the port. On each of COUNT random systems (300), one from each seed
 from SEED (1) on, each body is a C function that makes the calls that random lines say, ends, faults, or polls until it
 keeps its place. What it was told at its start and by each call, the trace, the answers to the steps, the states at the
-end and the recording must be those of the model.
+end and the recording must be those of the model. Where PROGRAM is compiled with FMP_RESTART_AT, that is RESTART.
 
 At the first difference it prints the seed, the line and both answers, and its status is 1.
 """
 
 import sys
+from functools import partial
 from pathlib import Path
 
 sys.dont_write_bytecode = True  # the folders of the checks stay as they are
@@ -30,8 +31,9 @@ KEPT = 2
 class Bodies:
     """What the C functions of one system are told, and the recording."""
 
-    def __init__(self, kernel):
-        self.kernel = kernel
+    def __init__(self, kernel, restart):
+        self.kernel, self.restart = kernel, restart
+        self.taken = 0  # events since the counts began
         self.pending = {}  # of an actor that spins for a lock: the call that it makes again
         self.recording = []
 
@@ -65,9 +67,18 @@ class Bodies:
             self.recording.append(recorded(event))
             for started in filter(None, map(started_by, lines)):
                 self.pending.pop(started, None)
+            self.count()
         elif name is not None:
             self.pending[name] = event
         return [*lines, f"answer {answer}"]
+
+    def count(self):
+        """Counts an event. Where it was the last one before that, the counts begin again."""
+        self.taken += 1
+        if self.taken == self.restart:
+            self.taken = 0
+            self.kernel.restart()
+            self.recording.append("restart")
 
 
 def started_by(line):
@@ -106,11 +117,11 @@ def next_event(events):
         return event
 
 
-def run_system(seed):
+def run_system(seed, restart):
     """What a system is handed, and what has to be printed."""
     case = Generator(seed, NEWEST.number).case()
     kernel = Handed(case.system)
-    bodies, events = Bodies(kernel), Events(f"tasks {seed}", kernel)
+    bodies, events = Bodies(kernel, restart), Events(f"tasks {seed}", kernel)
     text = case.configuration
     handed = [f"new {len(text.encode())}\n{text}"]
     wanted = [*kernel.first]
@@ -124,4 +135,6 @@ def run_system(seed):
 
 
 if __name__ == "__main__":
-    sys.exit(compare(sys.argv[1:], __doc__, run_system, EVENTS))
+    words = sys.argv[1:]
+    restarting = partial(run_system, restart=int(words.pop(3)) if len(words) == 4 else 1 << 30)
+    sys.exit(compare(words, __doc__, restarting, EVENTS))

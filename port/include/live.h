@@ -19,7 +19,6 @@ enum fmp_over {
     FMP_ALL_DORMANT,        /* all tasks are dormant, and there are no cyclic and no interrupt handlers */
     FMP_TICKS_OVER,         /* the clock has made its ticks */
     FMP_HALTED,             /* by fmp_halt, SIGINT or SIGTERM */
-    FMP_EVENTS_FULL,        /* the kernel takes no more events */
     FMP_NO_THREAD,          /* a thread could not be made; a message names it */
     FMP_NOT_OPEN,           /* no system is open, or it runs */
     FMP_LEFT_THE_TEXT,      /* a body does not do what its text does next; a message says which, and what */

@@ -52,10 +52,10 @@ enum fmp_opened fmp_open(const char *text, size_t length, const struct fmp_progr
 
 /*
  * From now on each event that is done is written there, a line for each, with the call that was handed in; NULL: no
- * longer. All lines are written at the end of a run, at the next fmp_record, and at fmp_close; until then 4 KB at a
- * time. A program that is killed leaves the lines that were written. What stands behind the last line feed, if
- * anything, is no event: whoever reads the file leaves it out. After a fault of the file, which ferror tells, nothing
- * more is written.
+ * longer. After 2^30 events the counts and the clock of the kernel begin again, and the line `restart` says where. All
+ * lines are written at the end of a run, at the next fmp_record, and at fmp_close; until then 4 KB at a time. A program
+ * that is killed leaves the lines that were written. What stands behind the last line feed, if anything, is no event:
+ * whoever reads the file leaves it out. After a fault of the file, which ferror tells, nothing more is written.
  */
 void fmp_record(FILE *recording);
 
@@ -67,8 +67,9 @@ struct fmp_recording {
 
 /*
  * The same, in another form. The last events alone are written at the next fmp_record, at fmp_close and where a stack
- * overflows; before them stands `dropped N`, if N events were left out: then the run cannot be replayed. False if
- * memory for them runs out: nothing has changed then.
+ * overflows. Before them stands `dropped N`, if N events were left out, or `dropped N restarts M`, if the counts began
+ * again M times among these: then the run cannot be replayed. A `restart` takes the place of an event. False if memory
+ * for them runs out: nothing has changed then.
  */
 bool fmp_record_as(FILE *recording, const struct fmp_recording *);
 
