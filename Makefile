@@ -129,6 +129,7 @@ $(call $(1),644,port/include/program.h,include/fmp/program.h)
 $(call $(1),644,port/include/virtual.h,include/fmp/virtual.h)
 $(call $(1),644,port/include/live.h,include/fmp/live.h)
 $(call $(1),644,port/include/task.h,include/fmp/task.h)
+$(call $(1),644,port/include/fmp_toppers.h,include/fmp/fmp_toppers.h)
 $(call $(1),644,docs/man/fmp.h.3,share/man/man3/fmp.h.3)
 endef
 

@@ -1,0 +1,40 @@
+-- Names of objects that TOPPERS' headers have.
+use Rattle.std.specs.Prelude.{ℕ, List, [], ◌∷◌, map, Option, Some, None, Bool, true, false}
+use Rattle.std.specs.List.{list_any}
+use Rattle.std.specs.Str.{bytes_eq}
+use Rattle.fmp_base.specs.declared.names.Name.{Name}
+use Rattle.fmp_base.specs.Names.{name_text}
+use Rattle.fmp_base.specs.Systems.{SystemTables}
+use Rattle.fmp_toppers.specs.declared.names.TheConstants.{KNOWN}
+
+abbrev pub is_known : List ℕ → Bool
+is_known name = list_any (λ word. bytes_eq word.now name) KNOWN
+
+abbrev pub first_if : (known : Bool) → Name → Option Name → Option Name
+first_if true name rest = Some name
+first_if false name rest = rest
+
+abbrev pub first_known : List Name → Option Name
+first_known [] = None
+first_known (n ∷ ns) = first_if (is_known (name_text n)) n (first_known ns)
+
+abbrev pub first_of : Option Name → Option Name → Option Name
+first_of (Some name) second = Some name
+first_of None second = second
+
+unfoldable pub known_configured : SystemTables → Option Name
+known_configured s =
+    first_of (first_known (map (λ t. t.name) s.tasks))
+    (first_of (first_known (map (λ t. t.name) s.semaphores))
+    (first_of (first_known (map (λ t. t.name) s.flags))
+    (first_of (first_known (map (λ t. t.name) s.data_queues)) (first_known (map (λ t. t.name) s.mailboxes)))))
+
+unfoldable pub known_other : SystemTables → Option Name
+known_other s =
+    first_of (first_known (map (λ t. t.name) s.messages))
+    (first_of (first_known (map (λ t. t.name) s.shared_words))
+    (first_of (first_known (map (λ t. t.name) s.spin_locks)) (first_known (map (λ t. t.name) s.cyclics))))
+
+-- the first object of which the headers have the name, kind by kind
+abbrev pub known_object : SystemTables → Option Name
+known_object s = first_of (known_configured s) (known_other s)

@@ -1,0 +1,116 @@
+//! The files of a system and its bodies for TOPPERS/FMP.
+ghost use Rattle.std.specs.Prelude.{◌≡◌, IfOk};
+ghost use Rattle.fmp_base.specs.Systems.{tables_of};
+ghost use Rattle.fmp_tasklang.specs.Views.{program_view};
+ghost use Rattle.fmp_toppers.specs.Files as spec;
+
+use crate::configuration::append_configuration;
+use crate::declarations::{append_bodies_file, append_header};
+use crate::names::known_object;
+use crate::target::Target;
+use fmp_base::{MailboxConfig, Name, System};
+use fmp_lex::BuildFault;
+use fmp_tasklang::{Program, read_tasks};
+use std::alloc::{AllocError, Global};
+
+/// The files that TOPPERS' configurator and compiler read.
+#[derive(Drop)]
+pub struct Exported {
+    /// `system.cfg`: a static API for each object.
+    pub configuration: Vec<u8>,
+    /// `bodies.h`: the numbers of interrupts, which the user fills in, and the prototypes.
+    pub header: Vec<u8>,
+    /// `bodies.c`: shared words, messages, and a function for each body.
+    pub bodies: Vec<u8>,
+}
+
+/// Why there are no files.
+#[derive(Drop)]
+pub enum Refusal {
+    /// TOPPERS' headers have the name of this object: it needs another.
+    Name(Name),
+    /// The kernel has no mailboxes: this is the name of the first.
+    Mailbox(Name),
+    /// The first fault of the text's syntax, B1 or B5, or out of memory.
+    Fault(BuildFault),
+}
+
+/// The first object that the kernel has no equal for.
+fn without_equal(target: Target, mailboxes: &[MailboxConfig]) -> Option<Refusal>
+    ensures { result ≡ spec.without_equal target mailboxes.now }
+{
+    match target {
+        Target::Fmp1 => None,
+        Target::Fmp3 if mailboxes.is_empty() => None,
+        Target::Fmp3 => Some(Refusal::Mailbox(mailboxes[0].name)),
+    }
+}
+
+/// Why there are no files for this configuration.
+fn refusal_for(target: Target, system: &System) -> Option<Refusal>
+    ensures { result ≡ spec.refusal_for target (tables_of system.now) }
+{
+    match known_object(system) {
+        Some(name) => Some(Refusal::Name(name)),
+        None => without_equal(target, &system.mailboxes),
+    }
+}
+
+/// The three files.
+fn files(
+    alloc: Global,
+    target: Target,
+    system: &System,
+    program: &Program,
+) -> Result<Exported, AllocError>
+    ensures { IfOk result (λ e. spec.AreFiles target (tables_of system.now) (program_view program.now) e) }
+{
+    let mut configuration = Vec::new(alloc);
+    append_configuration(target, system, &program.bodies, &mut configuration)?;
+    let mut header = Vec::new(alloc);
+    append_header(alloc, target, system, program, &mut header)?;
+    let mut bodies = Vec::new(alloc);
+    append_bodies_file(alloc, target, system, program, &mut bodies)?;
+    Ok(Exported {
+        configuration,
+        header,
+        bodies,
+    })
+}
+
+/// The files, or the fault of the text.
+fn written(
+    alloc: Global,
+    target: Target,
+    text: &[u8],
+    system: &System,
+) -> Result<Exported, BuildFault>
+    ensures { spec.IsWritten target (tables_of system.now) text.now result }
+{
+    let program = read_tasks(alloc, text)?;
+    match files(alloc, target, system, &program) {
+        Ok(exported) => Ok(exported),
+        Err(AllocError) => Err(BuildFault::Memory),
+    }
+}
+
+/// The files of a task text and the system of its configuration, for a TOPPERS/FMP kernel. `Name` if the headers have
+/// the name of an object, else `Mailbox` if there is a mailbox and the kernel has none, else `Fault` for the first
+/// fault of the text's syntax or if an allocation is refused. That the text is one of the configuration is left to those
+/// who call it.
+pub fn export_toppers(
+    alloc: Global,
+    target: Target,
+    text: &[u8],
+    system: &System,
+) -> Result<Exported, Refusal>
+    ensures { spec.IsExported target (tables_of system.now) text.now result }
+{
+    if let Some(refusal) = refusal_for(target, system) {
+        return Err(refusal);
+    }
+    match written(alloc, target, text, system) {
+        Ok(exported) => Ok(exported),
+        Err(fault) => Err(Refusal::Fault(fault)),
+    }
+}
