@@ -1,0 +1,100 @@
+-- What is written: the configuration, and the list of what was left out or changed.
+use Rattle.std.specs.Prelude.{ℕ, List, [], ◌∷◌, ◌++◌, ◌==◌, ◌||◌, nat_lt, if◌then◌else◌, Bool, true, false, codes, decimal, length, map, min, slice_range, Option, Some, None}
+use Rattle.std.specs.Fmt.{signed_decimal}
+use Rattle.fmp_base.specs.declared.words.Api.{Api}
+use Rattle.fmp_base.specs.declared.words.Constant.{Constant}
+use Rattle.fmp_base.specs.Words.{api_name, constant_name}
+use Rattle.fmp_import.specs.declared.plan.Block as declared
+use Rattle.fmp_import.specs.declared.plan.Class.{Class}
+use Rattle.fmp_import.specs.declared.plan.Item.{Item}
+use Rattle.fmp_import.specs.declared.plan.Item.TheVariants as item
+use Rattle.fmp_import.specs.declared.plan.Record as held
+use Rattle.fmp_import.specs.declared.plan.Span.{Span}
+
+-- an object, and the objects of a class, as plain data
+pub record ObjectPlan : Type 0 where
+  pub api : Api
+  pub subject : Item
+  pub attribute : Item
+  pub rest : List Item
+
+pub record ClassPlan : Type 0 where
+  pub class : Class
+  pub objects : List ObjectPlan
+
+abbrev pub record_view : held.Record → ObjectPlan
+record_view r = record { api = r.api; subject = r.subject; attribute = r.attribute; rest = r.rest.items }
+
+abbrev pub block_view : declared.Block → ClassPlan
+block_view b = record { class = b.class; objects = map record_view b.records.items }
+
+-- the bytes of a part of a text, as far as the text goes
+abbrev pub span_text : List ℕ → Span → List ℕ
+span_text text s = let end = min s.end (length text) in slice_range text (min s.start end) end
+
+-- a further constant of an attribute
+abbrev pub or_text : Option Constant → List ℕ
+or_text None = []
+or_text (Some c) = codes " | " ++ constant_name c
+
+-- what a static API is given at one place: a name is that of the source
+abbrev pub item_text : (source : List ℕ) → Item → List ℕ
+item_text source (item.Name s) = span_text source s
+item_text source (item.Number k) = signed_decimal k
+item_text source (item.Attribute a b c) = constant_name a ++ (or_text b ++ or_text c)
+item_text source item.Null = codes "NULL"
+
+-- what stands behind the attribute
+unfoldable pub further_text : (source : List ℕ) → Item → List ℕ
+further_text source i = codes ", " ++ item_text source i
+
+abbrev pub more_text : (source : List ℕ) → List Item → List ℕ
+more_text source [] = []
+more_text source (i ∷ is) = further_text source i ++ more_text source is
+
+unfoldable pub front_text : (source : List ℕ) → ObjectPlan → List ℕ
+front_text source r =
+    codes "    " ++ (api_name r.api ++ (codes "(" ++ (item_text source r.subject ++ codes ", { ")))
+
+-- an object: API(subject, { attribute, .. });
+unfoldable pub record_text : (source : List ℕ) → ObjectPlan → List ℕ
+record_text source r =
+    front_text source r ++ (item_text source r.attribute ++ (more_text source r.rest ++ codes " });\n"))
+
+abbrev pub records_text : (source : List ℕ) → List ObjectPlan → List ℕ
+records_text source [] = []
+records_text source (r ∷ rs) = record_text source r ++ records_text source rs
+
+abbrev pub only_text : Bool → List ℕ
+only_text true = codes "_ONLY"
+only_text false = []
+
+-- the name of a class
+unfoldable pub class_text : Class → List ℕ
+class_text c = codes "TCL_" ++ (decimal c.processor ++ only_text c.only)
+
+-- the objects of a class
+unfoldable pub block_text : (source : List ℕ) → ClassPlan → List ℕ
+block_text source b =
+    codes "CLASS(" ++ (class_text b.class ++ (codes ") {\n" ++ (records_text source b.objects ++ codes "}\n")))
+
+abbrev pub blocks_text : (source : List ℕ) → List ClassPlan → List ℕ
+blocks_text source [] = []
+blocks_text source (b ∷ bs) = block_text source b ++ blocks_text source bs
+
+-- a configuration
+unfoldable pub plan_text : (source : List ℕ) (processors : ℕ) → List ClassPlan → List ℕ
+plan_text source processors bs =
+    codes "NUM_PRC(" ++ (decimal processors ++ (codes ");\n" ++ blocks_text source bs))
+
+-- a byte as it is shown: `?` for a control byte
+abbrev pub shown_byte : ℕ → ℕ
+shown_byte b = if nat_lt b 32 || (b == 127) then 63 else b
+
+abbrev pub note_end : (says why : List ℕ) → List ℕ
+note_end says why = codes "`" ++ (says ++ (why ++ codes "\n"))
+
+-- a line of the list: cfg:LINE: `WORD` and what is said of the word
+unfoldable pub note_text : (line : ℕ) (word says why : List ℕ) → List ℕ
+note_text line word says why =
+    codes "cfg:" ++ (decimal line ++ (codes ": `" ++ (map shown_byte word ++ note_end says why)))

@@ -1,0 +1,125 @@
+//! The constants of a configuration in C.
+use crate::lexemes::{Kind, Lexeme, lexemes};
+use crate::reading::Reading;
+use crate::text::bytes_of;
+use crate::values::{NoValue, value_of};
+use fmp_base::Name;
+use fmp_base::words::find_constant;
+use std::alloc::{AllocError, Global};
+
+/// The value of a name.
+#[derive(Clone, Copy)]
+struct Definition {
+    name: Name,
+    value: i64,
+}
+
+/// What a line of the preprocessor defines.
+#[derive(Clone, Copy, PartialEq, Eq)]
+pub enum Defines {
+    /// A constant, which is known from now on.
+    Constant,
+    /// A name that has no number.
+    NoNumber,
+    /// Nothing.
+    Nothing,
+}
+
+/// Constants by their names. The first definition of a name counts. Names of more than 31 bytes are not kept.
+#[derive(Drop)]
+pub struct Constants {
+    definitions: Vec<Definition>,
+}
+
+impl Constants {
+    /// No constants but those of uITRON.
+    pub fn new(alloc: Global) -> Constants {
+        Constants {
+            definitions: Vec::new(alloc),
+        }
+    }
+
+    /// The value of a name.
+    pub(crate) fn value_named(&self, word: &[u8]) -> Option<i64> {
+        for definition in &self.definitions {
+            if definition.name.as_bytes() == word {
+                return Some(definition.value);
+            }
+        }
+        if word == b"NULL".as_slice() {
+            return Some(0);
+        }
+        Some(i64::from(find_constant(word)?.value()))
+    }
+
+    /// Adds a constant of this name with the value of an expression.
+    fn add(
+        &mut self,
+        alloc: Global,
+        text: &[u8],
+        word: &[u8],
+        expression: &[Lexeme],
+    ) -> Result<Defines, AllocError> {
+        let reading = Reading {
+            text,
+            lexemes: expression,
+            constants: self,
+        };
+        match (Name::new(word), value_of(alloc, reading, expression)) {
+            (_, Err(NoValue::Memory)) => Err(AllocError),
+            (Some(name), Ok(value)) => {
+                self.definitions.push(Definition { name, value })?;
+                Ok(Defines::Constant)
+            }
+            _ => Ok(Defines::NoNumber),
+        }
+    }
+
+    /// Adds the constant that a line of the preprocessor defines. A macro with parameters is no constant.
+    pub(crate) fn define(&mut self, alloc: Global, line: &[u8]) -> Result<Defines, AllocError> {
+        let Some(text) = line.strip_prefix(b"#") else {
+            return Ok(Defines::Nothing);
+        };
+        let found = lexemes(alloc, text)?;
+        let [word, name, expression @ ..] = found.as_slice() else {
+            return Ok(Defines::Nothing);
+        };
+        if bytes_of(text, word.span) != b"define".as_slice() || name.kind != Kind::Word {
+            return Ok(Defines::Nothing);
+        }
+        if let [first, ..] = expression
+            && first.kind == Kind::Sign(b'(')
+            && first.span.start == name.span.end
+        {
+            return Ok(Defines::NoNumber);
+        }
+        self.add(alloc, text, bytes_of(text, name.span), expression)
+    }
+
+    /// Adds the constants that a header defines; its other lines are skipped.
+    pub(crate) fn take_header(&mut self, alloc: Global, text: &[u8]) -> Result<(), AllocError> {
+        for lexeme in &lexemes(alloc, text)? {
+            if lexeme.kind == Kind::Directive {
+                self.define(alloc, bytes_of(text, lexeme.span))?;
+            }
+        }
+        Ok(())
+    }
+
+    /// Adds a constant that is given as `NAME=VALUE`, or as `NAME` for the value 1. Says whether it is of this form.
+    pub fn give(&mut self, alloc: Global, text: &[u8]) -> Result<bool, AllocError> {
+        let found = lexemes(alloc, text)?;
+        let defines = match found.as_slice() {
+            [name] if name.kind == Kind::Word => {
+                let one = lexemes(alloc, b"1")?;
+                self.add(alloc, b"1", bytes_of(text, name.span), &one)?
+            }
+            [name, equal, value @ ..]
+                if name.kind == Kind::Word && equal.kind == Kind::Sign(b'=') => {
+                self.add(alloc, text, bytes_of(text, name.span), value)?
+            }
+            _ => Defines::Nothing,
+        };
+        Ok(defines == Defines::Constant)
+    }
+}

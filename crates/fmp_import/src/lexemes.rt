@@ -1,0 +1,189 @@
+//! The text of a configuration in C is cut into lexemes.
+ghost use Rattle.std.specs.Prelude.{◌<◌, ◌≤◌, IfSome, length};
+
+use crate::plan::Span;
+use std::alloc::{AllocError, Global};
+
+/// What a lexeme is.
+#[derive(Clone, Copy, PartialEq, Eq)]
+pub enum Kind {
+    /// A name or a word of C.
+    Word,
+    /// A number with its suffix.
+    Number,
+    /// A line of the preprocessor.
+    Directive,
+    /// A text or a character in quotes.
+    Quoted,
+    /// Any other byte.
+    Sign(u8),
+}
+
+/// A lexeme, where it stands, and its line, from 1.
+#[derive(Clone, Copy)]
+pub struct Lexeme {
+    pub kind: Kind,
+    pub span: Span,
+    pub line: usize,
+}
+
+/// A piece of a text up to `end`: a lexeme, or spaces or a comment.
+#[derive(Clone, Copy)]
+struct Piece {
+    kind: Option<Kind>,
+    end: usize,
+}
+
+/// Whether a byte may stand in a word.
+fn is_word(byte: u8) -> bool {
+    byte.is_ascii_alphanumeric() || byte == b'_'
+}
+
+/// Where the word ends that goes on at a place.
+fn word_end(text: &[u8], from: usize) -> usize
+    requires { from ≤ length text.now }
+    ensures from { from ≤ result }
+    ensures within { result ≤ length text.now }
+{
+    for i in from..text.len() {
+        if !is_word(text[i]) {
+            return i;
+        }
+    }
+    text.len()
+}
+
+/// Where the line ends that goes on at a place. A `\` before its line feed joins the next line to it.
+fn line_end(text: &[u8], from: usize) -> usize
+    requires { from ≤ length text.now }
+    ensures from { from ≤ result }
+    ensures within { result ≤ length text.now }
+{
+    let mut joins = false;
+    for i in from..text.len() {
+        if text[i] == b'\n' && !joins {
+            return i;
+        }
+        joins = text[i] == b'\\' || (joins && text[i] == b'\r');
+    }
+    text.len()
+}
+
+/// Where the comment ends that goes on at a place: behind its `*/`, or where the text ends.
+fn comment_end(text: &[u8], from: usize) -> usize
+    requires { from ≤ length text.now }
+    ensures from { from ≤ result }
+    ensures within { result ≤ length text.now }
+{
+    let mut star = false;
+    for i in from..text.len() {
+        if star && text[i] == b'/' {
+            return i + 1;
+        }
+        star = text[i] == b'*';
+    }
+    text.len()
+}
+
+/// Where what is quoted ends that goes on at a place: behind the quote, or where its line ends.
+fn quote_end(text: &[u8], from: usize, quote: u8) -> usize
+    requires { from ≤ length text.now }
+    ensures from { from ≤ result }
+    ensures within { result ≤ length text.now }
+{
+    let mut escaped = false;
+    for i in from..text.len() {
+        if text[i] == b'\n' {
+            return i;
+        }
+        if text[i] == quote && !escaped {
+            return i + 1;
+        }
+        escaped = text[i] == b'\\' && !escaped;
+    }
+    text.len()
+}
+
+/// Where the comment ends whose `/` stands before a place; none if no comment begins there.
+fn comment_at(text: &[u8], next: usize) -> Option<usize>
+    requires { next ≤ length text.now }
+    ensures { IfSome result (λ end. (next ≤ end) × (end ≤ length text.now)) }
+{
+    if next == text.len() {
+        return None;
+    }
+    match text[next] {
+        b'/' => Some(line_end(text, next)),
+        b'*' => Some(comment_end(text, next + 1)),
+        _ => None,
+    }
+}
+
+/// The piece that begins at a place.
+fn piece_at(text: &[u8], at: usize) -> Piece
+    requires { at < length text.now }
+    ensures more { at < result.end }
+    ensures within { result.end ≤ length text.now }
+{
+    let next = at + 1;
+    match text[at] {
+        b' ' | b'\t' | b'\r' | b'\n' | 11 | 12 => Piece {
+            kind: None,
+            end: next,
+        },
+        b'#' => Piece {
+            kind: Some(Kind::Directive),
+            end: line_end(text, next),
+        },
+        quote @ (b'"' | b'\'') => Piece {
+            kind: Some(Kind::Quoted),
+            end: quote_end(text, next, quote),
+        },
+        b'/' => match comment_at(text, next) {
+            Some(end) => Piece { kind: None, end },
+            None => Piece {
+                kind: Some(Kind::Sign(b'/')),
+                end: next,
+            },
+        },
+        byte if is_word(byte) => Piece {
+            kind: Some(word_kind(byte)),
+            end: word_end(text, next),
+        },
+        byte => Piece {
+            kind: Some(Kind::Sign(byte)),
+            end: next,
+        },
+    }
+}
+
+/// What a run of letters and digits is, by its first byte.
+fn word_kind(first: u8) -> Kind {
+    if first.is_ascii_digit() {
+        Kind::Number
+    } else {
+        Kind::Word
+    }
+}
+
+/// How many lines end in these bytes.
+fn line_feeds(bytes: &[u8]) -> usize {
+    bytes.iter().filter(|byte| **byte == b'\n').count()
+}
+
+/// The lexemes of a text.
+pub fn lexemes(alloc: Global, text: &[u8]) -> Result<Vec<Lexeme>, AllocError> {
+    let mut found = Vec::new(alloc);
+    let mut line: usize = 1;
+    let mut at = 0;
+    'pieces: while at < text.len() {
+        let Piece { kind, end } = piece_at(text, at);
+        if let Some(kind) = kind {
+            let span = Span { start: at, end };
+            found.push(Lexeme { kind, span, line })?;
+        }
+        line = line.saturating_add(line_feeds(&text[at..end]));
+        at = end;
+    }
+    Ok(found)
+}

@@ -1,0 +1,19 @@
+//! A configuration of TOPPERS/FMP, FMP3 or a kernel of uITRON 4.0 becomes one of this project. What is written for each
+//! object stands in `specs/`.
+#![tactic(auto)]
+
+mod constants;
+mod importing;
+mod lexemes;
+mod notes;
+mod objects;
+mod plan;
+mod reading;
+mod text;
+mod values;
+mod walking;
+mod writing;
+
+pub use constants::Constants;
+pub use importing::{Header, ImportFault, Imported, import, included};
+pub use plan::{Block, Class, Item, Record, Span};

@@ -1,0 +1,460 @@
+//! What a static API of the source becomes.
+use crate::lexemes::{Kind, Lexeme};
+use crate::plan::{Item, Record};
+use crate::reading::{Field, Reading};
+use crate::values::{NoValue, value_of};
+use fmp_base::Name;
+use fmp_base::words::{Api, Constant, find_api, find_constant, find_keyword, find_service};
+use std::alloc::{AllocError, Global};
+
+/// Why an object is left out.
+#[derive(Clone, Copy)]
+pub enum Stop {
+    /// Memory ran out.
+    Memory,
+    /// What is wrong, and the constant that is unknown, if it is due to one.
+    Left(&'static str, Option<Lexeme>),
+}
+
+impl From<AllocError> for Stop {
+    fn from(_error: AllocError) -> Self {
+        Stop::Memory
+    }
+}
+
+/// What an object has otherwise than its source.
+#[derive(Clone, Copy)]
+pub struct Changes {
+    /// An attribute without an equal is left out.
+    pub attribute: bool,
+    /// The extended information was no number, and is 0.
+    pub information: bool,
+    /// Memory that the source gives is left out.
+    pub area: bool,
+    /// The stack is smaller.
+    pub stack: bool,
+    /// Times of the source are in microseconds.
+    pub times: bool,
+}
+
+/// No changes.
+const UNCHANGED: Changes = Changes {
+    attribute: false,
+    information: false,
+    area: false,
+    stack: false,
+    times: false,
+};
+
+/// An object, and what it has otherwise than its source.
+#[derive(Drop)]
+pub struct Object {
+    pub record: Record,
+    pub changes: Changes,
+}
+
+const WRONG_COUNT: Stop = Stop::Left("the number of its parameters is another one", None);
+
+/// Reads the parameters of objects.
+#[derive(Clone, Copy)]
+pub struct Parameters<'a> {
+    pub alloc: Global,
+    pub reading: Reading<'a>,
+}
+
+/// The attribute that has those of three constants that are set, or the other one.
+fn joined(
+    first: Option<Constant>,
+    second: Option<Constant>,
+    third: Option<Constant>,
+    none: Constant,
+) -> Item {
+    match (first, second, third) {
+        (Some(a), Some(b), c) => Item::Attribute(a, Some(b), c),
+        (Some(a), None, c) => Item::Attribute(a, c, None),
+        (None, Some(b), c) => Item::Attribute(b, c, None),
+        (None, None, Some(c)) => Item::Attribute(c, None, None),
+        (None, None, None) => Item::Attribute(none, None, None),
+    }
+}
+
+/// The constant, if its bit is set.
+fn set_in(bits: i64, constant: Constant) -> Option<Constant> {
+    if bits & i64::from(constant.value()) == 0 {
+        None
+    } else {
+        Some(constant)
+    }
+}
+
+/// Whether the texts may give this name to an object or to a body.
+fn is_name(word: &[u8]) -> bool {
+    !word.is_empty()
+        && word.len() <= Name::MAX
+        && find_constant(word).is_none()
+        && find_api(word).is_none()
+        && find_service(word).is_none()
+        && find_keyword(word).is_none()
+}
+
+impl Parameters<'_> {
+    /// What stands behind an attribute.
+    fn items(&self, items: &[Item]) -> Result<Vec<Item>, AllocError> {
+        let mut rest = Vec::new(self.alloc);
+        rest.extend_from_slice(items)?;
+        Ok(rest)
+    }
+
+    /// The value of a parameter.
+    fn value(&self, field: Field, without: &'static str) -> Result<i64, Stop> {
+        match value_of(self.alloc, self.reading, self.reading.lexemes_of(field)) {
+            Ok(value) => Ok(value),
+            Err(NoValue::Unknown(lexeme)) => Err(Stop::Left(without, Some(lexeme))),
+            Err(NoValue::Form) => Err(Stop::Left(without, None)),
+            Err(NoValue::Memory) => Err(Stop::Memory),
+        }
+    }
+
+    /// The value of a parameter, in this range.
+    fn ranged(
+        &self,
+        field: Field,
+        low: i32,
+        high: i32,
+        outside: &'static str,
+    ) -> Result<i32, Stop> {
+        match i32::try_from(self.value(field, outside)?) {
+            Ok(number) if low <= number && number <= high => Ok(number),
+            _ => Err(Stop::Left(outside, None)),
+        }
+    }
+
+    /// A name.
+    fn name(&self, field: Field, without: &'static str) -> Result<Item, Stop> {
+        match self.reading.word_of(field) {
+            Some(word) if is_name(self.reading.bytes(word)) => Ok(Item::Name(word.span)),
+            _ => Err(Stop::Left(without, None)),
+        }
+    }
+
+    /// The name of an object.
+    fn subject(&self, field: Field) -> Result<Item, Stop> {
+        self.name(
+            field,
+            "its name is no word, is a word of this project, or has more than 31 bytes",
+        )
+    }
+
+    /// The name of a body.
+    fn entry(&self, field: Field) -> Result<Item, Stop> {
+        self.name(
+            field,
+            "its entry is no word, is a word of this project, or has more than 31 bytes",
+        )
+    }
+
+    /// The bits of an attribute that are known, and whether there are others.
+    fn bits(&self, field: Field) -> Result<(i64, bool), Stop> {
+        let mut bits = 0;
+        let mut others = false;
+        for lexeme in self.reading.lexemes_of(field) {
+            match lexeme.kind {
+                Kind::Word | Kind::Number => {
+                    match value_of(self.alloc, self.reading, &[*lexeme]) {
+                        Ok(value) => bits |= value,
+                        Err(NoValue::Memory) => return Err(Stop::Memory),
+                        Err(_) => others = true,
+                    }
+                }
+                _ => {}
+            }
+        }
+        Ok((bits, others))
+    }
+
+    /// An attribute of these constants, or of the last one if it has none of them, and whether it has others.
+    fn attribute(
+        &self,
+        field: Field,
+        first: Constant,
+        second: Constant,
+        third: Constant,
+        none: Constant,
+    ) -> Result<(Item, bool), Stop> {
+        let (bits, others) = self.bits(field)?;
+        let known = i64::from(first.value() | second.value() | third.value());
+        let first = set_in(bits, first);
+        let second = set_in(bits, second);
+        let third = set_in(bits, third);
+        Ok((
+            joined(first, second, third, none),
+            others || bits & known != bits,
+        ))
+    }
+
+    /// The attribute of a queue of waiting tasks.
+    fn order(&self, field: Field) -> Result<(Item, bool), Stop> {
+        let fifo = Constant::TaTfifo;
+        self.attribute(field, Constant::TaTpri, fifo, fifo, fifo)
+    }
+
+    /// Extended information, and whether it is 0 in the place of something else.
+    fn information(&self, field: Field) -> Result<(Item, bool), Stop> {
+        match self.ranged(field, -i32::MAX, i32::MAX, "") {
+            Ok(number) => Ok((Item::Number(number), false)),
+            Err(Stop::Memory) => Err(Stop::Memory),
+            Err(Stop::Left(..)) => Ok((Item::Number(0), true)),
+        }
+    }
+
+    /// Whether memory is given.
+    fn has_area(&self, field: Field) -> bool {
+        match self.reading.word_of(field) {
+            Some(word) => self.reading.bytes(word) != b"NULL".as_slice(),
+            None => true,
+        }
+    }
+
+    fn task(&self, fields: &[Field]) -> Result<Object, Stop> {
+        let [name, attribute, information, entry, priority, stack, area] = fields else {
+            return Err(WRONG_COUNT);
+        };
+        let null = Constant::TaNull;
+        let subject = self.subject(*name)?;
+        let (attribute, others) = self.attribute(*attribute, Constant::TaAct, null, null, null)?;
+        let (information, is_zero) = self.information(*information)?;
+        let entry = self.entry(*entry)?;
+        let priority = self.ranged(*priority, 1, 16, "its priority is not 1 to 16")?;
+        let size = self.ranged(*stack, 1, i32::MAX, "its stack size is no number above 0")?;
+        let record = Record {
+            api: Api::CreTsk,
+            subject,
+            attribute,
+            rest: self.items(&[
+                information,
+                entry,
+                Item::Number(priority),
+                Item::Number(size.min(65536)),
+                Item::Null,
+            ])?,
+        };
+        let changes = Changes {
+            attribute: others,
+            information: is_zero,
+            area: self.has_area(*area),
+            stack: size > 65536,
+            times: false,
+        };
+        Ok(Object { record, changes })
+    }
+
+    fn semaphore(&self, fields: &[Field]) -> Result<Object, Stop> {
+        let [name, attribute, count, most] = fields else {
+            return Err(WRONG_COUNT);
+        };
+        let subject = self.subject(*name)?;
+        let (attribute, others) = self.order(*attribute)?;
+        let most = self.ranged(*most, 1, 65535, "its greatest count is not 1 to 65535")?;
+        let count = self.ranged(
+            *count,
+            0,
+            most,
+            "its initial count is not 0 to its greatest count",
+        )?;
+        let record = Record {
+            api: Api::CreSem,
+            subject,
+            attribute,
+            rest: self.items(&[Item::Number(count), Item::Number(most)])?,
+        };
+        let changes = Changes {
+            attribute: others,
+            ..UNCHANGED
+        };
+        Ok(Object { record, changes })
+    }
+
+    fn flag(&self, fields: &[Field]) -> Result<Object, Stop> {
+        let [name, attribute, pattern] = fields else {
+            return Err(WRONG_COUNT);
+        };
+        let subject = self.subject(*name)?;
+        let (attribute, others) = self.attribute(
+            *attribute,
+            Constant::TaTpri,
+            Constant::TaWmul,
+            Constant::TaClr,
+            Constant::TaTfifo,
+        )?;
+        let pattern = self.ranged(*pattern, 0, 65535, "its pattern is not 0 to 65535")?;
+        let record = Record {
+            api: Api::CreFlg,
+            subject,
+            attribute,
+            rest: self.items(&[Item::Number(pattern)])?,
+        };
+        let changes = Changes {
+            attribute: others,
+            ..UNCHANGED
+        };
+        Ok(Object { record, changes })
+    }
+
+    fn data_queue(&self, fields: &[Field]) -> Result<Object, Stop> {
+        let [name, attribute, capacity, area] = fields else {
+            return Err(WRONG_COUNT);
+        };
+        let subject = self.subject(*name)?;
+        let (attribute, others) = self.order(*attribute)?;
+        let capacity = self.ranged(*capacity, 0, 255, "its capacity is not 0 to 255")?;
+        let record = Record {
+            api: Api::CreDtq,
+            subject,
+            attribute,
+            rest: self.items(&[Item::Number(capacity), Item::Null])?,
+        };
+        let changes = Changes {
+            attribute: others,
+            area: self.has_area(*area),
+            ..UNCHANGED
+        };
+        Ok(Object { record, changes })
+    }
+
+    fn mailbox(&self, fields: &[Field]) -> Result<Object, Stop> {
+        let [name, attribute, most, area] = fields else {
+            return Err(WRONG_COUNT);
+        };
+        let fifo = Constant::TaTfifo;
+        let subject = self.subject(*name)?;
+        let (attribute, others) = self.attribute(
+            *attribute,
+            Constant::TaTpri,
+            Constant::TaMpri,
+            fifo,
+            fifo,
+        )?;
+        let most = self.ranged(*most, 1, 16, "its greatest message priority is not 1 to 16")?;
+        let record = Record {
+            api: Api::CreMbx,
+            subject,
+            attribute,
+            rest: self.items(&[Item::Number(most), Item::Null])?,
+        };
+        let changes = Changes {
+            attribute: others,
+            area: self.has_area(*area),
+            ..UNCHANGED
+        };
+        Ok(Object { record, changes })
+    }
+
+    fn spin_lock(&self, fields: &[Field]) -> Result<Object, Stop> {
+        let [name, attribute, more @ ..] = fields else {
+            return Err(WRONG_COUNT);
+        };
+        let null = Constant::TaNull;
+        let subject = self.subject(*name)?;
+        let (attribute, others) = self.attribute(*attribute, null, null, null, null)?;
+        let record = Record {
+            api: Api::CreSpn,
+            subject,
+            attribute,
+            rest: Vec::new(self.alloc),
+        };
+        let changes = Changes {
+            attribute: others || !more.is_empty(),
+            ..UNCHANGED
+        };
+        Ok(Object { record, changes })
+    }
+
+    /// A cyclic handler, whose times may be in microseconds.
+    fn cyclic(&self, fields: [Field; 6], times: bool) -> Result<Object, Stop> {
+        let [name, attribute, information, entry, period, phase] = fields;
+        let null = Constant::TaNull;
+        let subject = self.subject(name)?;
+        let (attribute, others) = self.attribute(attribute, Constant::TaSta, null, null, null)?;
+        let (information, is_zero) = self.information(information)?;
+        let entry = self.entry(entry)?;
+        let period = self.ranged(period, 1, 1 << 30, "its period is not 1 to 2^30")?;
+        let phase = self.ranged(phase, 0, 1 << 30, "its phase is not 0 to 2^30")?;
+        let record = Record {
+            api: Api::CreCyc,
+            subject,
+            attribute,
+            rest: self.items(&[
+                information,
+                entry,
+                Item::Number(period),
+                Item::Number(phase),
+            ])?,
+        };
+        let changes = Changes {
+            attribute: others,
+            information: is_zero,
+            times,
+            ..UNCHANGED
+        };
+        Ok(Object { record, changes })
+    }
+
+    /// A cyclic handler, also in the form of FMP3, whose times are in microseconds.
+    fn any_cyclic(&self, fields: &[Field]) -> Result<Object, Stop> {
+        match fields {
+            [name, attribute, information, entry, period, phase] => self.cyclic(
+                [*name, *attribute, *information, *entry, *period, *phase],
+                false,
+            ),
+            [name, attribute, kind, information, entry, period, phase] => match self
+                .reading
+                .word_of(*kind)
+            {
+                Some(word) if self.reading.bytes(word) == b"TNFY_HANDLER".as_slice() => self.cyclic(
+                    [*name, *attribute, *information, *entry, *period, *phase],
+                    true,
+                ),
+                _ => Err(Stop::Left("it notifies by something else than a handler", None)),
+            },
+            _ => Err(WRONG_COUNT),
+        }
+    }
+
+    fn interrupt(&self, fields: &[Field]) -> Result<Object, Stop> {
+        let [number, attribute, entry] = fields else {
+            return Err(WRONG_COUNT);
+        };
+        let null = Constant::TaNull;
+        let number = self.ranged(*number, 1, 32, "its interrupt number is not 1 to 32")?;
+        let (attribute, others) = self.attribute(*attribute, null, null, null, null)?;
+        let entry = self.entry(*entry)?;
+        let record = Record {
+            api: Api::DefInh,
+            subject: Item::Number(number),
+            attribute,
+            rest: self.items(&[entry])?,
+        };
+        let changes = Changes {
+            attribute: others,
+            ..UNCHANGED
+        };
+        Ok(Object { record, changes })
+    }
+
+    /// The object of a static API of the source.
+    pub fn object(&self, api: Api, fields: &[Field]) -> Result<Object, Stop> {
+        match api {
+            Api::CreTsk => self.task(fields),
+            Api::CreSem => self.semaphore(fields),
+            Api::CreFlg => self.flag(fields),
+            Api::CreDtq => self.data_queue(fields),
+            Api::CreMbx => self.mailbox(fields),
+            Api::CreSpn => self.spin_lock(fields),
+            Api::CreCyc => self.any_cyclic(fields),
+            Api::DefInh => self.interrupt(fields),
+            Api::CreMsg | Api::CreShr => {
+                Err(Stop::Left("it is no static API of TOPPERS or uITRON", None))
+            }
+        }
+    }
+}

@@ -1,0 +1,146 @@
+//! The configuration that is written.
+ghost use Rattle.std.specs.Prelude.{◌≡◌, ◌++◌, map, OnOk};
+ghost use Rattle.fmp_import.specs.Written as spec;
+ghost use Rattle.fmp_import.specs.Written.{block_text, block_view, blocks_text, class_text, further_text, item_text, more_text, or_text, plan_text, record_text, record_view, records_text};
+
+use crate::plan::{Block, Class, Item, Record};
+use crate::text::{append, append_count, append_signed, bytes_of};
+use fmp_base::words::Constant;
+use std::alloc::AllocError;
+
+/// Appends a further constant of an attribute, if there is one.
+fn append_or(constant: Option<Constant>, out: &mut Vec<u8>) -> Result<(), AllocError>
+    ensures { OnOk result (out.new.items ≡ out.old.items ++ or_text constant) }
+{
+    match constant {
+        None => Ok(()),
+        Some(constant) => {
+            append(b" | ", out)?;
+            append(constant.name().as_bytes(), out)
+        }
+    }
+}
+
+/// Appends what a static API is given at one place.
+fn append_item(source: &[u8], item: Item, out: &mut Vec<u8>) -> Result<(), AllocError>
+    ensures { OnOk result (out.new.items ≡ out.old.items ++ item_text source.now item) }
+{
+    match item {
+        Item::Name(span) => append(bytes_of(source, span), out),
+        Item::Number(number) => append_signed(number, out),
+        Item::Attribute(first, second, third) => {
+            append(first.name().as_bytes(), out)?;
+            append_or(second, out)?;
+            append_or(third, out)
+        }
+        Item::Null => append(b"NULL", out),
+    }
+}
+
+/// Appends something that stands behind an attribute.
+#[tactic(auto, unfolding(crate::specs::Written::further_text))]
+fn append_further(source: &[u8], item: Item, out: &mut Vec<u8>) -> Result<(), AllocError>
+    ensures { OnOk result (out.new.items ≡ out.old.items ++ further_text source.now item) }
+{
+    append(b", ", out)?;
+    append_item(source, item, out)
+}
+
+/// Appends what stands behind an attribute.
+fn append_more(source: &[u8], items: &[Item], out: &mut Vec<u8>) -> Result<(), AllocError>
+    ensures { OnOk result (out.new.items ≡ out.old.items ++ more_text source.now items.now) }
+{
+    for item in items {
+        append_further(source, *item, out)?;
+    }
+    Ok(())
+}
+
+/// Appends what stands before the attribute of an object.
+#[tactic(auto, unfolding(crate::specs::Written::front_text))]
+fn append_front(source: &[u8], record: &Record, out: &mut Vec<u8>) -> Result<(), AllocError>
+    ensures { OnOk result (out.new.items ≡ out.old.items ++ spec.front_text source.now (record_view record.now)) }
+{
+    append(b"    ", out)?;
+    append(record.api.name().as_bytes(), out)?;
+    append(b"(", out)?;
+    append_item(source, record.subject, out)?;
+    append(b", { ", out)
+}
+
+/// Appends an object.
+#[tactic(auto, unfolding(crate::specs::Written::record_text))]
+fn append_record(source: &[u8], record: &Record, out: &mut Vec<u8>) -> Result<(), AllocError>
+    ensures { OnOk result (out.new.items ≡ out.old.items ++ record_text source.now (record_view record.now)) }
+{
+    append_front(source, record, out)?;
+    append_item(source, record.attribute, out)?;
+    append_more(source, &record.rest, out)?;
+    append(b" });\n", out)
+}
+
+/// Appends objects.
+fn append_records(source: &[u8], records: &[Record], out: &mut Vec<u8>) -> Result<(), AllocError>
+    ensures { OnOk result (out.new.items ≡ out.old.items ++ records_text source.now (map record_view records.now)) }
+{
+    for record in records {
+        append_record(source, record, out)?;
+    }
+    Ok(())
+}
+
+/// What stands behind the number of a class.
+fn only_text(only: bool) -> &'static [u8]
+    ensures { result.now ≡ spec.only_text only }
+{
+    if only { b"_ONLY" } else { b"" }
+}
+
+/// Appends the name of a class.
+#[tactic(auto, unfolding(crate::specs::Written::class_text))]
+fn append_class(class: Class, out: &mut Vec<u8>) -> Result<(), AllocError>
+    ensures { OnOk result (out.new.items ≡ out.old.items ++ class_text class) }
+{
+    append(b"TCL_", out)?;
+    append_count(usize::from(class.processor), out)?;
+    append(only_text(class.only), out)
+}
+
+/// Appends the objects of a class.
+#[tactic(auto, unfolding(crate::specs::Written::block_text))]
+fn append_block(source: &[u8], block: &Block, out: &mut Vec<u8>) -> Result<(), AllocError>
+    ensures { OnOk result (out.new.items ≡ out.old.items ++ block_text source.now (block_view block.now)) }
+{
+    append(b"CLASS(", out)?;
+    append_class(block.class, out)?;
+    append(b") {\n", out)?;
+    append_records(source, &block.records, out)?;
+    append(b"}\n", out)
+}
+
+/// Appends the objects of classes.
+fn append_blocks(source: &[u8], blocks: &[Block], out: &mut Vec<u8>) -> Result<(), AllocError>
+    ensures { OnOk result (out.new.items ≡ out.old.items ++ blocks_text source.now (map block_view blocks.now)) }
+{
+    for block in blocks {
+        append_block(source, block, out)?;
+    }
+    Ok(())
+}
+
+/// Appends the configuration of these objects for this number of processors.
+#[tactic(auto, unfolding(crate::specs::Written::plan_text))]
+pub fn append_plan(
+    source: &[u8],
+    processors: usize,
+    blocks: &[Block],
+    out: &mut Vec<u8>,
+) -> Result<(), AllocError>
+    ensures { OnOk result (out.new.items
+        ≡ out.old.items ++ plan_text source.now processors (map block_view blocks.now)) }
+{
+    append(b"NUM_PRC(", out)?;
+    append_count(processors, out)?;
+    append(b");\n", out)?;
+    append_blocks(source, blocks, out)
+}
