@@ -3,6 +3,7 @@ pub mod Drives
 pub mod Exits
 pub mod Expects
 pub mod Explored
+pub mod Exports
 pub mod Faults
 pub mod Fresh
 pub mod Given

@@ -5,8 +5,9 @@ ghost use Rattle.fmp_view.specs.Explored.{AsksToExplore};
 
 use crate::built::Running;
 use crate::exploration::exploring_of;
+use crate::exporting::Exporting;
 use crate::faults::{FileNames, Form};
-use crate::form::{EVENTS_MAX, program, timeline_command, waves_command};
+use crate::form::{EVENTS_MAX, export_command, program, timeline_command, waves_command};
 use crate::given::{bound_of, entered, flag_of, text_of, word_of, word32_of, word64_of};
 use crate::sources::Exploring;
 use clap::{ArgMatches, Error};
@@ -19,6 +20,9 @@ const NO_CODE: &str = "no code is printed so";
 
 /// The message for a file that would replace one that is read.
 const OUT_OVER_INPUT: &str = "the file OUT is one of the two that are read";
+
+/// The message for files of a folder that would replace one that is read.
+const FILES_OVER_INPUT: &str = "a file of the folder DIR is one of the two that are read";
 
 /// The message for a picture that ends before it begins.
 const FROM_AFTER_TO: &str = "--from is later than --to";
@@ -83,6 +87,8 @@ pub enum Cmd<'a> {
 pub enum Asked<'a> {
     /// Say what the code of this word means.
     Code(&'a str),
+    /// Write the bodies of a text as C to a folder.
+    Export(Exporting<'a>),
     /// Show the fault of the texts of these files, and of steps if there are steps, or their warnings.
     Fault(FileNames<'a>, Form),
     /// Print the trace of a run of the texts of these files, over the steps if there are steps.
@@ -178,6 +184,14 @@ fn names_of<'a>(words: &ArgMatches<'a>) -> FileNames<'a> {
     }
 }
 
+/// What is exported, and where to.
+fn exporting_of<'a>(words: &ArgMatches<'a>) -> Exporting<'a> {
+    Exporting {
+        names: names_of(words),
+        folder: word_of(words, "c"),
+    }
+}
+
 fn running_of(words: &ArgMatches<'_>) -> Running {
     Running {
         form: form_of(words),
@@ -202,6 +216,7 @@ fn run_asked<'a>(words: &ArgMatches<'a>) -> Asked<'a> {
 fn look_of<'a>(name: &str, words: &ArgMatches<'a>) -> Asked<'a> {
     match name {
         "code" => Asked::Code(word_of(words, "CODE")),
+        "export" => Asked::Export(exporting_of(words)),
         "fault" => Asked::Fault(names_of(words), form_of(words)),
         "run" => run_asked(words),
         "step" => Asked::Step(names_of(words), bound_of(words)),
@@ -228,6 +243,11 @@ pub fn no_code(alloc: Global) -> Result<Error, AllocError> {
 /// The error for a dump that would replace a file that is read, which has the status 2.
 pub fn dump_over_input(alloc: Global) -> Result<Error, AllocError> {
     mistake_of(waves_command(alloc), "fmp_view waves", OUT_OVER_INPUT)
+}
+
+/// The error for C that would replace a file that is read, which has the status 2.
+pub fn files_over_input(alloc: Global) -> Result<Error, AllocError> {
+    mistake_of(export_command(alloc), "fmp_view export", FILES_OVER_INPUT)
 }
 
 /// The error for words of `timeline` that have the right form.

@@ -6,7 +6,7 @@ use std::alloc::{AllocError, Global};
 /// What the program is.
 const ABOUT: &str =
     "Looks at systems of 'fmp': what a code means, what is wrong with a text, steps that run a system,
-a run as a table, as a waveform or as a picture.";
+a run as a table, as a waveform or as a picture. Writes the bodies of a text as C.";
 
 /// An example, and what the program's answers mean.
 const EXAMPLE_AND_STATUS: &str = "Example, with the image of the example of 'fmp build --help':
@@ -21,14 +21,15 @@ const EXAMPLE_AND_STATUS: &str = "Example, with the image of the example of 'fmp
   fmp_view stats queue.img drive.steps
   fmp_view waves queue.img drive.steps queue.vcd
   fmp_view timeline queue.img drive.steps queue.svg
+  fmp_view export examples/queue.cfg examples/queue.src --c queue
 
 Status, and the line on standard error with it:
   0        done; help or the version was asked for
   1        a fault of what was read: 'image: L2', 'steps:4: S1',
-           'expect:3: expected ..'; with 'fault', 'run' and
-           'step', which print it on standard output, a fault of the texts or steps, and not for warnings
-  2        a mistake in the command line; a word that is no code; OUT is a file that is read, or steps are;
-           a picture that begins behind the last event, or has more than 40,000,000 bytes
+           'expect:3: expected ..'; with 'fault', 'run', 'step' and 'export',
+           which print it on standard output, a fault of the texts or steps, and not for warnings
+  2        a mistake in the command line; a word that is no code; OUT is a file that is read, or steps
+           or a file of DIR are; a picture that begins behind the last event, or has more than 40,000,000 bytes
   3        'file: NAME', a file could not be read or written ('-' is standard output, 'stdin' standard input);
            'memory'
   4        with 'diff', the runs differ; with 'expect', the run fails an expectation; with 'explore', something
@@ -124,6 +125,11 @@ const STATES: &str = "How many states are kept at most, 1 to 2^31";
 const OUT: &str = "The steps of the findings are written to NAME.1 and on; without it NAME is that
 of CFG, with '.found' in place of '.cfg'";
 
+/// Where exported C goes.
+const DIR: &str =
+    "Folder that gets bodies.c, main.c, Makefile, and the two texts as system.cfg and system.src, in place of
+files of these names; but a main.c that is there is kept. The folder is made if it is not there";
+
 /// The largest bound, 2^48.
 pub const BOUND_MAX: u64 = 281_474_976_710_656;
 
@@ -160,6 +166,8 @@ enum Kind {
     Option(&'static str, Value),
     /// An option with a text, which help calls so, that may be given again.
     Again(&'static str),
+    /// An option with a text, which help calls so, that has to be given.
+    Needed(&'static str),
 }
 
 /// An argument of a command: its name, what it is, and what help says of it.
@@ -313,6 +321,13 @@ static EXPLORE: Form = Form {
     example: "Example: fmp_view explore examples/queue.cfg examples/queue.src --never E_TMOUT",
 };
 
+static EXPORT: Form = Form {
+    name: "export",
+    about: "Writes the bodies of a text as C, with what builds and runs them on the library for C",
+    arguments: &[CFG, SRC, Argument("c", Kind::Needed("DIR"), DIR)],
+    example: "Example: fmp_view export examples/queue.cfg examples/queue.src --c queue",
+};
+
 static DIFF: Form = Form {
     name: "diff",
     about: "Shows the first event in which two runs of a system differ, and the states then",
@@ -422,6 +437,7 @@ fn argument_of<'a>(alloc: Global, argument: &Argument) -> Result<Arg<'a>, AllocE
         Kind::Flag => made.long(id).action(ArgAction::SetTrue),
         Kind::Option(name, value) => with_value(made.long(id).value_name(name), value),
         Kind::Again(name) => made.long(id).value_name(name).action(ArgAction::Append),
+        Kind::Needed(name) => made.long(id).value_name(name).required(true),
         Kind::WordNoRecording => made
             .required_unless_present("recording")?
             .conflicts_with("recording")?,
@@ -452,6 +468,11 @@ pub fn timeline_command<'a>(alloc: Global) -> Made<'a> {
     command_of(alloc, &TIMELINE)
 }
 
+/// The command `export`.
+pub fn export_command<'a>(alloc: Global) -> Made<'a> {
+    command_of(alloc, &EXPORT)
+}
+
 /// The command `explore`.
 pub fn explore_command<'a>(alloc: Global) -> Made<'a> {
     command_of(alloc, &EXPLORE)
@@ -471,7 +492,7 @@ fn bare<'a>(alloc: Global) -> Command<'a> {
 pub fn program<'a>(alloc: Global) -> Made<'a> {
     let forms = [
         &CODE, &FAULT, &RUN, &STEP, &DRIVE, &WHY, &EXPLORE, &DIFF, &EXPECTED, &STATS, &WAVES,
-        &TIMELINE,
+        &TIMELINE, &EXPORT,
     ];
     let mut program = bare(alloc);
     for form in forms {

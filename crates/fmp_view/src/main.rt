@@ -1,5 +1,5 @@
 //! The program `fmp_view`: it looks at a system. It says what a code means, drives an image, takes events one by one as
-//! they are typed, and shows a run as a table, as a waveform or as a picture.
+//! they are typed, and shows a run as a table, as a waveform or as a picture. It also writes the bodies of a text as C.
 //!
 //! It ends with the statuses of `fmp`: 0 if it did what it was asked, 1 for a fault of what it read, 2 for a mistake in
 //! the command line, and 3 if a file could not be read or written or memory ran out; and with 4 if runs differ that it
@@ -16,6 +16,7 @@ mod exit;
 mod expecting;
 mod exploration;
 mod exploring;
+mod exporting;
 mod faults;
 mod finding;
 mod flaws;

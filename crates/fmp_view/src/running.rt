@@ -12,6 +12,7 @@ use crate::commands::{DrivenText, Output, code, steps};
 use crate::comparing::{diff, diff_recordings};
 use crate::exit::Exit;
 use crate::expecting::Expectations;
+use crate::exporting::run_export;
 use crate::faults::Form;
 use crate::looking::{Look, look_at_image, look_at_recording};
 use crate::reading::read_both;
@@ -25,6 +26,7 @@ use fmp_engine::SimFault;
 use fmp_files::{Failure, Outside, end, print, read_file, refuse, refuse_mistake, write_file};
 use std::alloc::{AllocError, Global};
 use std::io::Input;
+use std::rt::Files;
 
 /// What was made of files, or the fault of what was read.
 fn or_fault<T>(made: Result<T, SimFault>) -> Result<T, Exit> {
@@ -259,8 +261,14 @@ fn say_code<O: Outside>(alloc: Global, outside: &mut O, word: &str) -> u8 {
 }
 
 /// Looks at a system or at a run, and gives the status.
-fn look_at<O: Outside, R: Input>(alloc: Global, outside: &mut O, rt: &R, asked: Asked<'_>) -> u8 {
+fn look_at<O: Outside, R: Input + Files>(
+    alloc: Global,
+    outside: &mut O,
+    rt: &R,
+    asked: Asked<'_>,
+) -> u8 {
     match asked {
+        Asked::Export(exporting) => run_export(alloc, outside, rt, exporting),
         Asked::Step(names, bound) => run_step(alloc, outside, rt, names, bound),
         Asked::Code(word) => say_code(alloc, outside, word),
         Asked::Fault(names, form) => print_fault(alloc, outside, names, form),
@@ -282,7 +290,7 @@ fn look_at<O: Outside, R: Input>(alloc: Global, outside: &mut O, rt: &R, asked: 
 }
 
 /// Does what a command asks for, and gives the status.
-fn obey<O: Outside, R: Input>(alloc: Global, outside: &mut O, rt: &R, cmd: Cmd<'_>) -> u8
+fn obey<O: Outside, R: Input + Files>(alloc: Global, outside: &mut O, rt: &R, cmd: Cmd<'_>) -> u8
     ensures { (rows : List Row) → AsksToExplore rows cmd.entry → result ≡ 0 →
         HoldsOfWords (O.files outside.old) rows (O.done outside.new) }
 {
@@ -293,7 +301,7 @@ fn obey<O: Outside, R: Input>(alloc: Global, outside: &mut O, rt: &R, cmd: Cmd<'
 }
 
 /// Does what the words of a command line ask for, and gives the status.
-fn carry_out<O: Outside, R: Input>(
+fn carry_out<O: Outside, R: Input + Files>(
     alloc: Global,
     outside: &mut O,
     rt: &R,
@@ -309,8 +317,13 @@ fn carry_out<O: Outside, R: Input>(
 }
 
 /// Does what the words of a command line ask for, of which the first is the program's name, and gives the status.
-/// Its standard input is that of this runtime.
-pub fn run<O: Outside, R: Input>(alloc: Global, outside: &mut O, rt: &R, words: &[String]) -> u8 {
+/// Its standard input and the folders that it makes are those of this runtime.
+pub fn run<O: Outside, R: Input + Files>(
+    alloc: Global,
+    outside: &mut O,
+    rt: &R,
+    words: &[String],
+) -> u8 {
     match parsed(alloc, words) {
         Ok(words) => carry_out(alloc, outside, rt, &words),
         Err(error) => refuse(alloc, outside, &error),

@@ -1,0 +1,50 @@
+-- What `export` writes.
+use Rattle.std.specs.Prelude.{◌≡◌, ℕ, List, [], ◌∷◌, ◌++◌, Bool, Ok, Option, codes, false, true}
+use Rattle.fmp_diagnosis.specs.declared.sentence.Texts.{Texts}
+use Rattle.fmp_files.specs.Deeds.{Deed, Does, wrote}
+use Rattle.fmp_files.specs.Outside.{Files}
+use Rattle.fmp_image.specs.Building.{Builds}
+use Rattle.fmp_image_bytes.specs.Images.{ImageTables}
+use Rattle.fmp_export.specs.declared.files.Exported.{Exported}
+use Rattle.fmp_export.specs.declared.project.TheConstants.{MAKEFILE}
+use Rattle.fmp_export.specs.Files.{IsExported}
+use Rattle.fmp_view.specs.declared.exporting.Exporting.{Exporting}
+use Rattle.fmp_view.specs.Claimed.{IsFile}
+
+-- the C of the bodies of a text, for the system that it builds with a configuration
+pub record IsExportOf (cfg src : List ℕ) (e : Exported) : Type 0 where
+  pub image : ImageTables
+  pub builds : Builds cfg src image
+  pub exported : IsExported image.system src (Ok e)
+
+-- the name of a file of a folder
+abbrev pub in_folder : (folder file : List ℕ) → List ℕ
+in_folder folder file = folder ++ (codes "/" ++ file)
+
+-- the main program is written, unless it is kept
+abbrev pub main_file : (folder : List ℕ) → Exported → (keeps_main : Bool) → List Deed
+main_file folder e true = []
+main_file folder e false = wrote (in_folder folder (codes "main.c")) e.main.items ∷ []
+
+-- the files of a folder are written
+abbrev pub project : (folder : List ℕ) → Texts → Exported → (keeps_main : Bool) → List Deed
+project folder t e keeps_main =
+    wrote (in_folder folder (codes "bodies.c")) e.bodies.items
+    ∷ (wrote (in_folder folder (codes "system.cfg")) t.cfg.now
+    ∷ (wrote (in_folder folder (codes "system.src")) t.src.now
+    ∷ (wrote (in_folder folder (codes "Makefile")) MAKEFILE.now
+    ∷ main_file folder e keeps_main)))
+
+-- the files of a folder are those of two texts
+pub record HasExportedTexts (t : Texts) (folder : List ℕ) (before after : Option (List Deed)) : Type 0 where
+  pub exported : Exported
+  pub is : IsExportOf t.cfg.now t.src.now exported
+  pub keeps_main : Bool
+  pub written : Does before (project folder t exported keeps_main) after
+
+-- the same of the texts of two files
+pub record HasExported (files : Files) (x : Exporting) (before after : Option (List Deed)) : Type 0 where
+  pub texts : Texts
+  pub is_cfg : IsFile files x.names.cfg.now texts.cfg.now
+  pub is_src : IsFile files x.names.src.now texts.src.now
+  pub has : HasExportedTexts texts x.folder.now before after

@@ -1,0 +1,211 @@
+//! The command `export`: the bodies of a text as C, in a folder with what builds and runs them.
+ghost use Rattle.std.specs.Prelude.{◌≡◌, ◌∷◌, [], Bool, IfOk, OnOk};
+ghost use Rattle.std.specs.String.{string_bytes};
+ghost use Rattle.fmp_files.specs.Deeds.{Does, wrote};
+ghost use Rattle.fmp_view.specs.Exports.{HasExported, HasExportedTexts, IsExportOf, in_folder, project};
+
+use crate::asking::files_over_input;
+use crate::faults::{FileNames, Form};
+use crate::reading::read_both;
+use crate::texts::print_fault;
+use fmp_diagnosis::Texts;
+use fmp_export::project::MAKEFILE;
+use fmp_export::{Exported, export_c};
+use fmp_files::{Failure, Outside, end, failed, refuse_mistake, write_file};
+use fmp_image::build;
+use fmp_lex::BuildFault;
+use std::alloc::{AllocError, Global};
+use std::fs;
+use std::io::ErrorKind;
+use std::rt::Files;
+
+/// What is exported: the names of the files of two texts, and of a folder.
+#[derive(Clone, Copy)]
+pub struct Exporting<'a> {
+    pub names: FileNames<'a>,
+    pub folder: &'a str,
+}
+
+/// The files of the folder.
+const FILES: [&str; 5] = ["bodies.c", "system.cfg", "system.src", "Makefile", "main.c"];
+
+/// The name of a file of a folder.
+fn name_in(alloc: Global, folder: &str, file: &str) -> Result<String, AllocError>
+    ensures { IfOk result (λ name. string_bytes name ≡ in_folder folder.now file.now) }
+{
+    format!(in alloc; "{folder}/{file}")
+}
+
+/// Whether one of the files of the folder is one of the two that are read.
+fn is_over_input<O: Outside>(
+    alloc: Global,
+    outside: &O,
+    exporting: Exporting<'_>,
+) -> Result<bool, AllocError> {
+    let FileNames { cfg, src, .. } = exporting.names;
+    for file in FILES {
+        let name = name_in(alloc, exporting.folder, file)?;
+        if outside.is_one_file(name.as_str(), cfg) || outside.is_one_file(name.as_str(), src) {
+            return Ok(true);
+        }
+    }
+    Ok(false)
+}
+
+/// The C of the bodies of a text, for the system that it builds with a configuration; or the first fault of the two.
+fn exported(alloc: Global, cfg: &[u8], src: &[u8]) -> Result<Exported, BuildFault>
+    ensures { IfOk result (IsExportOf cfg.now src.now) }
+{
+    match build(alloc, cfg, src) {
+        Ok(image) => {
+            let exported = export_c(alloc, src, image.system());
+            drop(image);
+            exported
+        }
+        Err(fault) => Err(fault),
+    }
+}
+
+/// Makes a folder, unless it is there.
+fn make_folder<R: Files>(alloc: Global, rt: &R, folder: &str) -> Result<(), Failure> {
+    match fs::create_dir(rt, folder) {
+        Ok(()) => Ok(()),
+        Err(error) if error.kind() == ErrorKind::AlreadyExists => Ok(()),
+        Err(_) => Err(failed(alloc, folder)),
+    }
+}
+
+/// Whether there is a main program in a folder, which is kept then.
+fn has_main<R: Files>(alloc: Global, rt: &R, folder: &str) -> Result<bool, AllocError> {
+    let name = name_in(alloc, folder, "main.c")?;
+    Ok(matches!(fs::exists(rt, name.as_str()), Ok(true)))
+}
+
+/// Writes a file of a folder.
+fn write_in<O: Outside>(
+    alloc: Global,
+    outside: &mut O,
+    folder: &str,
+    file: &str,
+    bytes: &[u8],
+) -> Result<(), Failure>
+    ensures { OnOk result (Does (O.done outside.old) (wrote (in_folder folder.now file.now) bytes.now ∷ [])
+        (O.done outside.new)) }
+{
+    let name = name_in(alloc, folder, file)?;
+    write_file(alloc, outside, name.as_str(), bytes)
+}
+
+/// Writes the files of a folder, but for a main program that is kept.
+fn write_project<O: Outside>(
+    alloc: Global,
+    outside: &mut O,
+    folder: &str,
+    texts: Texts<'_>,
+    exported: &Exported,
+    keeps_main: bool,
+) -> Result<(), Failure>
+    ensures { OnOk result (Does (O.done outside.old)
+        (project folder.now texts.entry exported.now keeps_main) (O.done outside.new)) }
+{
+    write_in(alloc, outside, folder, "bodies.c", &exported.bodies)?;
+    write_in(alloc, outside, folder, "system.cfg", texts.cfg)?;
+    write_in(alloc, outside, folder, "system.src", texts.src)?;
+    write_in(alloc, outside, folder, "Makefile", MAKEFILE)?;
+    if keeps_main {
+        return Ok(());
+    }
+    write_in(alloc, outside, folder, "main.c", &exported.main)
+}
+
+/// Makes a folder and writes its files.
+fn make_project<O: Outside, R: Files>(
+    alloc: Global,
+    outside: &mut O,
+    rt: &R,
+    folder: &str,
+    texts: Texts<'_>,
+    exported: &Exported,
+) -> Result<(), Failure>
+    ensures { OnOk result ((keeps_main : Bool) × Does (O.done outside.old)
+        (project folder.now texts.entry exported.now keeps_main) (O.done outside.new)) }
+{
+    make_folder(alloc, rt, folder)?;
+    let keeps_main = has_main(alloc, rt, folder)?;
+    write_project(alloc, outside, folder, texts, exported, keeps_main)
+}
+
+/// Writes the C of a text of a configuration, and gives the status.
+fn give<O: Outside, R: Files>(
+    alloc: Global,
+    outside: &mut O,
+    rt: &R,
+    folder: &str,
+    texts: Texts<'_>,
+    exported: &Exported,
+) -> u8
+    ensures { result ≡ 0 → (keeps_main : Bool) × Does (O.done outside.old)
+        (project folder.now texts.entry exported.now keeps_main) (O.done outside.new) }
+{
+    match make_project(alloc, outside, rt, folder, texts, exported) {
+        Ok(()) => 0,
+        Err(failure) => end(outside, &failure),
+    }
+}
+
+/// Exports two texts, or prints their first fault, with status 1.
+fn export_texts<O: Outside, R: Files>(
+    alloc: Global,
+    outside: &mut O,
+    rt: &R,
+    texts: Texts<'_>,
+    exporting: Exporting<'_>,
+) -> u8
+    ensures { result ≡ 0 → HasExportedTexts texts.entry exporting.entry.folder.now
+        (O.done outside.old) (O.done outside.new) }
+{
+    match exported(alloc, texts.cfg, texts.src) {
+        Ok(exported) => give(alloc, outside, rt, exporting.folder, texts, &exported),
+        Err(BuildFault::Memory) => end(outside, &Failure::Memory(AllocError)),
+        Err(BuildFault::At(..)) => print_fault(alloc, outside, exporting.names, Form::Text).max(1),
+    }
+}
+
+/// Exports the texts of two files, or prints their first fault, with status 1.
+fn export_files<O: Outside, R: Files>(
+    alloc: Global,
+    outside: &mut O,
+    rt: &R,
+    exporting: Exporting<'_>,
+) -> u8
+    ensures { result ≡ 0 → HasExported (O.files outside.old) exporting.entry
+        (O.done outside.old) (O.done outside.new) }
+{
+    match read_both(alloc, outside, exporting.names.cfg, exporting.names.src) {
+        Ok((cfg, src)) => {
+            let texts = Texts {
+                cfg: &cfg,
+                src: &src,
+            };
+            export_texts(alloc, outside, rt, texts, exporting)
+        }
+        Err(failure) => end(outside, &failure),
+    }
+}
+
+/// Exports the texts of two files to a folder that this runtime reaches, or prints their first fault, with status 1.
+pub fn run_export<O: Outside, R: Files>(
+    alloc: Global,
+    outside: &mut O,
+    rt: &R,
+    exporting: Exporting<'_>,
+) -> u8
+    ensures { result ≡ 0 → HasExported (O.files outside.old) exporting.entry
+        (O.done outside.old) (O.done outside.new) }
+{
+    match is_over_input(alloc, outside, exporting) {
+        Ok(false) => export_files(alloc, outside, rt, exporting),
+        Ok(true) => refuse_mistake(outside, files_over_input(alloc)),
+        Err(error) => end(outside, &Failure::Memory(error)),
+    }
+}
