@@ -1,7 +1,7 @@
 #!/bin/sh
 # Runs the proved program that looks at systems on the examples, and compares its status, its standard output, its
-# standard error and the files that it leaves, each to the byte. What is expected is written out here, and of dumps in
-# the folder dumps: worked out by hand from the rules and the traces of the examples, never taken from the program.
+# standard error and the files that it leaves, each to the byte. What is expected is written out here, of dumps in the
+# folder dumps, and of traces for viewers in the folder slices: worked out by hand from the rules and the traces of the examples, never taken from the program.
 #
 #   checks/program/view.sh [PROGRAM [FMP]]
 #
@@ -15,7 +15,9 @@ subject=$(located fmp_view "${1:-}")
 fmp=$(located fmp "${2:-}")
 pictures=$root/checks/program/pictures.py
 dumps=$root/checks/program/dumps
+slices_by_hand=$root/checks/program/slices
 records=$root/checks/program/records.py
+slices=$root/checks/program/slices.py
 
 # built NAME: the image of the two texts of this name.
 built() { "$fmp" build "$1.cfg" "$1.src" "$1.img" > /dev/null; }
@@ -62,7 +64,7 @@ gives() {
 }
 
 # The names and checksums of all files but those that each run writes.
-files() { cksum ./* | grep -v ' \./\(output\|errors\)$'; }
+files() { find . -type f -exec cksum {} + | grep -v ' \./\(output\|errors\)$'; }
 
 # refused NAME MESSAGE WORD..: these words are refused with status 2 and this message, and no file is written.
 refused() {
@@ -1226,6 +1228,21 @@ shows 'waves: lengths' 0 waves lengths.img lengths.steps lengths.vcd
 cp "$dumps/lengths.values" wanted
 gives 'waves: lengths, values' sed -n '/module objects/,$p' lengths.vcd
 
+# Runs for viewers of traces: the slices of each track and the arrows, and the lines of the log, each object of which
+# stands in the resource file.
+for system in interrupt watchdog; do
+    shows "waves: $system for Perfetto" 0 waves "$system.img" "$system.steps" "$system.json" --format perfetto
+    cp "$slices_by_hand/$system.txt" wanted
+    gives "waves: slices of $system" "$slices" perfetto "$system.json"
+done
+shows 'waves: interrupt as a log' 0 waves interrupt.img interrupt.steps interrupt.log --format tlv
+shows 'waves: the resources of interrupt' 0 waves interrupt.img interrupt.steps interrupt.res --format res
+cp "$slices_by_hand/interrupt.log" wanted
+gives 'waves: the log of interrupt' "$slices" tlv interrupt.log interrupt.res
+shows 'waves: the format that needs no word' 0 waves queue.img queue.steps dump.vcd --format vcd
+same 'waves: a value change dump' queue.vcd dump.vcd
+refused 'waves: no such format' 'svg' waves queue.img queue.steps none.svg --format svg
+
 # The picture of the queue: its lanes in order, each with what its boxes and its calls say first. The urgent task stands
 # above the other.
 shows 'timeline: queue' 0 timeline queue.img queue.steps queue.svg --objects
@@ -1613,6 +1630,42 @@ shows 'recording: an expectation fails' 4 expect --recording queue.rec queue.cfg
 shows 'recording: waves' 0 waves --recording queue.rec queue.cfg recorded.vcd
 shows 'waves: the queue once more' 0 waves queue.img queue.steps again.vcd
 same 'recording: the same waves' again.vcd recorded.vcd
+awk '{ print $0 " @" 15 * NR - 5 }' queue.rec > timed.rec
+cat > wanted <<'END'
+events: ticks
+events: interrupts
+processors: processor 1
+  0 to 10 PRODUCER
+  10 to 25 CONSUMER
+  25 to 40 PRODUCER
+  40 to 70 CONSUMER
+  70 to 85 PRODUCER
+tasks: PRODUCER
+  0 to 10 running
+  10 to 25 ready
+  25 to 40 running
+  40 to 70 ready
+  70 to 85 running
+  85 to 86 dormant
+tasks: CONSUMER
+  0 to 10 dormant
+  10 to 25 running
+  25 to 40 waiting for a word of data queue QUEUE
+  40 to 70 running
+  70 to 86 dormant
+tasks: PRODUCER at 9 starts tasks: CONSUMER at 10
+tasks: PRODUCER at 39 releases tasks: CONSUMER at 40
+END
+cp wanted timed.txt
+: > wanted
+shows 'recording: for Perfetto' 0 waves --recording timed.rec queue.cfg timed.json --format perfetto
+cp timed.txt wanted
+gives 'recording: slices at their times' "$slices" perfetto timed.json
+for way in "--recording queue.rec queue.cfg untimed.json" "queue.img queue.steps counted.json"; do
+    # shellcheck disable=SC2086 # words of the command line
+    shows "waves: for Perfetto by number: $way" 0 waves $way --format perfetto
+done
+same 'recording: without times as over the steps' counted.json untimed.json
 shows 'recording: timeline' 0 timeline --recording queue.rec queue.cfg recorded.svg --objects
 shows 'timeline: the queue once more' 0 timeline queue.img queue.steps again.svg --objects
 same 'recording: the same picture' again.svg recorded.svg
@@ -1645,6 +1698,42 @@ shows 'recording: no such processor' 1 why --recording wrong.rec queue.cfg
 refused 'recording: with steps' 'cannot be used with' stats --recording queue.rec queue.cfg queue.steps
 refused 'recording: neither that nor steps' 'not provided' stats queue.img
 refused 'recording: over the recording' 'one of the two that are read' waves --recording queue.rec queue.cfg ./queue.rec
+
+# The bodies of a text as C: a folder gets them, the two texts and a makefile. A main program that is there is kept.
+shows 'export: queue' 0 export queue.cfg queue.src --c project
+printf '%s\n' Makefile bodies.c main.c system.cfg system.src > wanted
+gives 'export: its files' ls project
+same 'export: the configuration' queue.cfg project/system.cfg
+same 'export: the text' queue.src project/system.src
+is_in() { grep -q -F -e "$1" "project/$2"; }
+holds 'export: a function for each body' 'there is none' is_in 'void consume_body(' bodies.c
+holds 'export: a row for each body' 'there is none' is_in '{"consume", consume_body},' main.c
+holds 'export: what builds the program' 'there is none' is_in 'exported:' Makefile
+cp project/bodies.c bodies.before
+echo kept > project/main.c
+echo replaced > project/bodies.c
+shows 'export: once more' 0 export queue.cfg queue.src --c project
+echo kept > wanted
+gives 'export: its main program is kept' cat project/main.c
+same 'export: what is replaced' bodies.before project/bodies.c
+cat > wanted <<'END'
+unknown.src:1:20: B3: `y` is neither a variable of this body, an object nor a constant
+    task produce { put(y); } task consume { }
+                       ^
+END
+shows 'export: a fault of a text' 1 export queue.cfg unknown.src --c faulty
+absent 'export: no folder after a fault' faulty
+echo 'file: nowhere.src' > said
+shows 'export: no text' 3 export queue.cfg nowhere.src --c faulty
+echo 'file: none/project' > said
+shows 'export: a folder that cannot be made' 3 export queue.cfg queue.src --c none/project
+echo 'file: ok/bodies.c' > said
+shows 'export: a file in the place of the folder' 3 export queue.cfg queue.src --c ok
+refused 'export: no folder is named' 'not provided' export queue.cfg queue.src
+refused 'export: over the configuration' "a file of the folder DIR is one of the two that are read" \
+    export project/system.cfg queue.src --c project
+refused 'export: over the text by another name' "a file of the folder DIR is one of the two that are read" \
+    export queue.cfg project/main.c --c ./project/
 
 # Each step of a drive does something: a run of them has as many events.
 for seed in 1 2 3 4 5 6 7 8; do

@@ -10,6 +10,7 @@ use crate::faults::{FileNames, Form};
 use crate::form::{EVENTS_MAX, export_command, program, timeline_command, waves_command};
 use crate::given::{bound_of, entered, flag_of, text_of, word_of, word32_of, word64_of};
 use crate::sources::Exploring;
+use crate::viewing::{Format, TraceFormat};
 use clap::{ArgMatches, Error};
 use fmp_files::{mistake, mistake_of};
 use fmp_timeline::Choice;
@@ -112,8 +113,8 @@ pub enum Asked<'a> {
     Diff(Runs<'a>),
     /// Print the table of a run.
     Stats(Run<'a>),
-    /// Write the waveform of a run to a file.
-    Waves(Run<'a>, &'a str),
+    /// Write a run to a file, for viewers of waveforms or of traces.
+    Waves(Run<'a>, &'a str, Format),
     /// Write the picture of a run to a file.
     Timeline(Run<'a>, &'a str, Drawing),
 }
@@ -163,6 +164,16 @@ fn drawing_of(words: &ArgMatches<'_>) -> Drawing {
             last: word32_of(words, "to").unwrap_or(EVENTS_MAX),
         },
         objects: flag_of(words, "objects"),
+    }
+}
+
+/// The format that the command line asks for: where it names none, that of waveforms.
+fn format_of(words: &ArgMatches<'_>) -> Format {
+    match word_of(words, "format") {
+        "perfetto" => Format::Trace(TraceFormat::Events),
+        "tlv" => Format::Trace(TraceFormat::Log),
+        "res" => Format::Trace(TraceFormat::Resources),
+        _ => Format::Dump,
     }
 }
 
@@ -231,7 +242,7 @@ fn look_of<'a>(name: &str, words: &ArgMatches<'a>) -> Asked<'a> {
         "diff" => Asked::Diff(runs_of(words)),
         "stats" => Asked::Stats(run_of(words)),
         "timeline" => Asked::Timeline(run_of(words), behind_run(words, "OUT"), drawing_of(words)),
-        _ => Asked::Waves(run_of(words), behind_run(words, "OUT")),
+        _ => Asked::Waves(run_of(words), behind_run(words, "OUT"), format_of(words)),
     }
 }
 

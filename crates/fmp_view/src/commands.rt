@@ -241,6 +241,7 @@ impl Look for Output {
         alloc: Global,
         opened: &O,
         events: &[T],
+        _times: &[Option<u64>],
     ) -> Result<Vec<u8>, Exit> {
         output_of(alloc, opened, events, *self).map_err(|error| memory(error))
     }

@@ -193,6 +193,7 @@ impl Look for Expectations<'_> {
         alloc: Global,
         opened: &O,
         events: &[T],
+        _times: &[Option<u64>],
     ) -> Result<Option<Vec<u8>>, Exit> {
         let expected = expected_of(alloc, opened.system(), self.text)?;
         checked(alloc, opened, events, self.name, self.text, &expected).map_err(|e| memory(e))

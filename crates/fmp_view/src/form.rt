@@ -115,6 +115,13 @@ const TICKS: &str =
 /// The words for when the clock may advance.
 const TICKS_WHEN: &[&str] = &["any", "idle"];
 
+/// The formats of `waves`.
+const FORMAT: &str = "A value change dump, for viewers of waveforms; a trace for Perfetto;
+a log for TraceLogVisualizer; or the resource file of such a log";
+
+/// The words for these formats.
+const FORMATS: &[&str] = &["vcd", "perfetto", "tlv", "res"];
+
 /// How many interrupts there may be.
 const INTS: &str = "How many interrupts there may be, 0 to 255; without it any number";
 
@@ -143,6 +150,8 @@ enum Value {
     Text,
     /// When the clock may advance.
     When,
+    /// A format of `waves`.
+    Format,
     /// A number: the lowest, and the highest.
     Number(u64, u64),
     /// Such a number, and the one where none is given.
@@ -367,17 +376,14 @@ static STATS: Form = Form {
 
 static WAVES: Form = Form {
     name: "waves",
-    about: "Writes a run as a value change dump, which waveform viewers show",
+    about: "Writes a run for viewers of waveforms and of traces",
     arguments: &[
         OF_SYSTEM,
         BEFORE_MORE,
         RECORDED,
         BOUNDED,
-        Argument(
-            "OUT",
-            Kind::WordNoRecording,
-            "File that the dump is written to",
-        ),
+        Argument("OUT", Kind::WordNoRecording, "File that is written"),
+        Argument("format", Kind::Option("FORMAT", Value::Format), FORMAT),
     ],
     example: "Example: fmp_view waves queue.img drive.steps queue.vcd",
 };
@@ -419,6 +425,7 @@ fn with_value<'a>(option: Arg<'a>, value: Value) -> Arg<'a> {
     match value {
         Value::Text => option,
         Value::When => option.value_parser(TICKS_WHEN).default_value("any"),
+        Value::Format => option.value_parser(FORMATS).default_value("vcd"),
         Value::Number(low, high) => option.value_parser(ValueParser::unsigned(low, high)),
         Value::Default(low, high, number) => option
             .value_parser(ValueParser::unsigned(low, high))

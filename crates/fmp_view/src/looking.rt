@@ -1,7 +1,7 @@
 //! Looks at runs: of an image over a steps text, and of a recording.
 ghost use Rattle.std.specs.Prelude.{◌≤◌, ◌^◌, IfOk, length};
 
-use crate::exit::Exit;
+use crate::exit::{Exit, memory};
 use crate::open_image::OpenImage;
 use crate::open_system::OpenSystem;
 use crate::opened::Opened;
@@ -9,7 +9,7 @@ use crate::opening::{events_of, image_of};
 use fmp_coming::Coming;
 use fmp_image_bytes::Image;
 use fmp_outside::Given;
-use fmp_recording::{MOST_LINES, RecordingFault, read_recording};
+use fmp_recording::{MOST_LINES, RecordingFault, read_recording, read_times};
 use std::alloc::Global;
 
 /// A look at a run of a system, whatever its bodies are.
@@ -17,12 +17,14 @@ pub trait Look {
     /// What it makes of a run.
     type Made;
 
-    /// What it makes of what comes to a system.
+    /// What it makes of what comes to a system. The times are those of a recording, in microseconds, in the same order;
+    /// an image has none.
     fn of<O: Opened, T: Coming<O::Bodies>>(
         &self,
         alloc: Global,
         opened: &O,
         events: &[T],
+        times: &[Option<u64>],
     ) -> Result<Self::Made, Exit>
         requires { length events.now ≤ 2 ^ 31 };
 }
@@ -36,7 +38,7 @@ fn over_steps<L: Look>(
     bound: u64,
 ) -> Result<L::Made, Exit> {
     match events_of(alloc, steps, image.system().processors) {
-        Ok(events) => look.of(alloc, &OpenImage::new(image, bound), &events),
+        Ok(events) => look.of(alloc, &OpenImage::new(image, bound), &events, &[]),
         Err(fault) => Err(Exit::Sim(fault)),
     }
 }
@@ -80,6 +82,11 @@ pub fn recording_of(alloc: Global, text: &[u8], processors: u8) -> Result<Vec<Gi
     }
 }
 
+/// When each line of a recording came, where it says so.
+fn times_of(alloc: Global, recording: &[u8]) -> Result<Vec<Option<u64>>, Exit> {
+    read_times(alloc, recording).map_err(|error| memory(error))
+}
+
 /// What a look makes of a recorded run of a system.
 fn over_recording<L: Look>(
     alloc: Global,
@@ -88,7 +95,8 @@ fn over_recording<L: Look>(
     recording: &[u8],
 ) -> Result<L::Made, Exit> {
     let events = recording_of(alloc, recording, opened.system().processors)?;
-    look.of(alloc, opened, &events)
+    let times = times_of(alloc, recording)?;
+    look.of(alloc, opened, &events, &times)
 }
 
 /// What a look makes of a recorded run of the system of a configuration.

@@ -39,6 +39,7 @@ mod telling;
 mod texts;
 mod timeline;
 mod tracing;
+mod viewing;
 mod why;
 
 use fmp_files::{Host, refuse_words, words_of};

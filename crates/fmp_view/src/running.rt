@@ -20,6 +20,7 @@ use crate::searching::run_explore;
 use crate::telling::{print_made, print_run};
 use crate::texts::{print_fault, run_step, run_texts};
 use crate::timeline::{Cut, Picture, Titled};
+use crate::viewing::Format;
 use crate::why::Why;
 use clap::ArgMatches;
 use fmp_engine::SimFault;
@@ -93,13 +94,32 @@ fn is_read<O: Outside>(outside: &O, out: &str, run: Run<'_>) -> bool {
     outside.is_one_file(out, one) || outside.is_one_file(out, other)
 }
 
-/// Writes a dump to its file.
-fn write_waves<O: Outside>(alloc: Global, outside: &mut O, run: Run<'_>, out: &str) -> u8 {
+/// A run in a format for viewers.
+fn waves_of<O: Outside>(
+    alloc: Global,
+    outside: &O,
+    run: Run<'_>,
+    format: Format,
+) -> Result<Vec<u8>, Exit> {
+    match format {
+        Format::Dump => made_of_run(alloc, outside, run, &Output::Dump),
+        Format::Trace(format) => made_of_run(alloc, outside, run, &format),
+    }
+}
+
+/// Writes a run for viewers to its file.
+fn write_waves<O: Outside>(
+    alloc: Global,
+    outside: &mut O,
+    run: Run<'_>,
+    out: &str,
+    format: Format,
+) -> u8 {
     if is_read(outside, out, run) {
         return refuse_mistake(outside, dump_over_input(alloc));
     }
-    match made_of_run(alloc, outside, run, &Output::Dump) {
-        Ok(dump) => write(alloc, outside, out, &dump),
+    match waves_of(alloc, outside, run, format) {
+        Ok(waves) => write(alloc, outside, out, &waves),
         Err(exit) => end(outside, &exit),
     }
 }
@@ -284,7 +304,7 @@ fn look_at<O: Outside, R: Input + Files>(
         Asked::Expect(run, name) => print_failure(alloc, outside, run, name),
         Asked::Diff(runs) => print_diff(alloc, outside, runs),
         Asked::Stats(run) => print_stats(alloc, outside, run),
-        Asked::Waves(run, out) => write_waves(alloc, outside, run, out),
+        Asked::Waves(run, out, format) => write_waves(alloc, outside, run, out, format),
         Asked::Timeline(run, out, drawing) => write_timeline(alloc, outside, run, out, drawing),
     }
 }

@@ -152,7 +152,7 @@ fn run_with<O: Opened, T: Coming<O::Bodies>>(
 }
 
 /// A run of a system.
-fn run_of<O: Opened, T: Coming<O::Bodies>>(
+pub fn run_of<O: Opened, T: Coming<O::Bodies>>(
     alloc: Global,
     opened: &O,
     events: &[T],
@@ -206,6 +206,7 @@ impl Look for Titled<'_> {
         alloc: Global,
         opened: &O,
         events: &[T],
+        _times: &[Option<u64>],
     ) -> Result<Picture, Exit> {
         match run_of(alloc, opened, events, self.drawing.objects) {
             Ok(run) => {

@@ -238,6 +238,7 @@ impl Look for Form {
         alloc: Global,
         opened: &O,
         events: &[T],
+        _times: &[Option<u64>],
     ) -> Result<Recorded, Exit> {
         told_of(alloc, *self, opened, events).map_err(|error| memory(error))
     }

@@ -86,6 +86,7 @@ impl Look for Why {
         alloc: Global,
         opened: &O,
         events: &[T],
+        _times: &[Option<u64>],
     ) -> Result<Vec<u8>, Exit> {
         let place = place_of(alloc, opened, events, self.at)?;
         why_of(alloc, opened, &events[..place]).map_err(|error| memory(error))
