@@ -329,6 +329,45 @@ cat > wanted <<'END'
 END
 echo 'CONSUMER waits for a word of data queue QUEUE, since event 2' > said
 shows 'run: as JSON' 0 run queue.cfg queue.src two.steps --json
+# Who made which call how often, and what was answered: at once, or at the end of a wait. A task that is terminated while
+# it waits gets no answer.
+cat > wanted <<'END'
+task      call          times   waits  answers
+PRODUCER  act_tsk           1       0  E_OK 1
+PRODUCER  snd_dtq           1       0  E_OK 1
+CONSUMER  rcv_dtq           1       1  E_OK 1
+CONSUMER  put               1       0  E_OK 1
+END
+cp wanted queue.calls
+echo 'every task has ended' > said
+shows 'run: the calls of the queue' 0 run queue.cfg queue.src queue.steps --calls
+cat > wanted <<'END'
+task      call          times   waits  answers
+PRODUCER  act_tsk           1       0  E_OK 1
+CONSUMER  rcv_dtq           1       1
+END
+echo 'CONSUMER waits for a word of data queue QUEUE, since event 2' > said
+shows 'run: a call that waits has no answer' 0 run queue.cfg queue.src two.steps --calls
+cat > wanted <<'END'
+task      call          times   waits  answers
+WATCHDOG  tslp_tsk          4       4  E_OK 3, E_TMOUT 1
+WATCHDOG  put               1       0  E_OK 1
+WATCHDOG  ter_tsk           1       0  E_OK 1
+WATCHDOG  act_tsk           1       0  E_OK 1
+WORKER    wup_tsk           3       0  E_OK 3
+WORKER    dly_tsk           2       2  E_OK 2
+WORKER    wai_sem           1       1
+END
+gives 'run: the calls of the watchdog' "$subject" run watchdog.cfg watchdog.src watchdog.steps --calls
+cat > wanted <<'END'
+task      call          times   waits  answers
+CONTROL   wai_flg           4       3  E_OK 3
+CONTROL   put               1       0  E_OK 1
+SAMPLER   iset_flg          2       0  E_OK 2
+REPORTER  iset_flg          1       0  E_OK 1
+END
+gives 'run: the calls of handlers' "$subject" run flags.cfg flags.src flags.steps --calls
+refused 'run: calls as JSON' 'cannot be used with' run queue.cfg queue.src --calls --json
 printf 'run 1\nrun 2\n' > beyond.steps
 cat > wanted <<'END'
 beyond.steps:2:5: S2: the number is out of range; processors are numbered from 1 to 1, interrupts from 1 to 32
@@ -1616,6 +1655,8 @@ END
 cp queue.named wanted
 echo 'every task has ended' > said
 shows 'recording: run' 0 run --recording queue.rec queue.cfg
+cp queue.calls wanted
+shows 'recording: calls' 0 run --recording queue.rec queue.cfg --calls
 cat > wanted <<'END'
 task      starts   calls   waits  time-outs  preemptions    kept   spins  events   share
 PRODUCER       1       2       0          0            2       0       0       3   50.0%

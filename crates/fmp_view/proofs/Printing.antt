@@ -22,7 +22,7 @@ no_image f (x ∷ xs) e = cc
 
 -- ---- deeds that print nothing
 
-does_then : (a b c : Option (List Deed)) (x y : List Deed) → Does a x b → Does b y c → Does a (x ++ y) c
+pub does_then : (a b c : Option (List Deed)) (x y : List Deed) → Does a x b → Does b y c → Does a (x ++ y) c
 does_then None b c x y h k = tt
 does_then (Some a) None c x y h k = absurd h
 does_then (Some a) (Some b) None x y h k = absurd k

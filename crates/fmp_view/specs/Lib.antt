@@ -1,3 +1,4 @@
+pub mod Called
 pub mod Claimed
 pub mod Drives
 pub mod Exits

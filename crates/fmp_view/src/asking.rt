@@ -96,6 +96,8 @@ pub enum Asked<'a> {
     Run(FileNames<'a>, Running),
     /// Print the trace of a recorded run of a system.
     Recorded(Run<'a>, Form),
+    /// Print the table of the calls of a recorded run of a system.
+    Calls(Run<'a>),
     /// Take events of standard input on the system of the texts of these files, with this bound, 1 to 2^48.
     Step(FileNames<'a>, u64),
     /// Print steps of an image: at most `events`, 0 to 2^20, in turn or at random.
@@ -206,9 +208,19 @@ fn exporting_of<'a>(words: &ArgMatches<'a>) -> Exporting<'a> {
 fn running_of(words: &ArgMatches<'_>) -> Running {
     Running {
         form: form_of(words),
+        calls: flag_of(words, "calls"),
         events: word32_of(words, "events").unwrap_or(0),
         seed: word64_of(words, "seed"),
         bound: bound_of(words),
+    }
+}
+
+/// What `run` asks for of a recorded run.
+fn recorded_asked<'a>(words: &ArgMatches<'a>, run: Run<'a>) -> Asked<'a> {
+    if flag_of(words, "calls") {
+        Asked::Calls(run)
+    } else {
+        Asked::Recorded(run, form_of(words))
     }
 }
 
@@ -217,7 +229,7 @@ fn run_asked<'a>(words: &ArgMatches<'a>) -> Asked<'a> {
     match text_of(words, "recording") {
         Some(recording) => {
             let cfg = word_of(words, "CFG");
-            Asked::Recorded(Run::Recording { cfg, recording }, form_of(words))
+            recorded_asked(words, Run::Recording { cfg, recording })
         }
         None => Asked::Run(names_of(words), running_of(words)),
     }

@@ -6,7 +6,7 @@ ghost use Rattle.fmp_instructions.specs.Machine.{code_meaning};
 ghost use Rattle.fmp_replay.specs.Replays.{kernel_after};
 ghost use Rattle.fmp_view.specs.Traces.{IsTrace};
 
-use crate::commands::Ending;
+use crate::commands::{Ending, Output, output_of};
 use crate::driving::driven;
 use crate::faults::Form;
 use crate::open_image::OpenImage;
@@ -25,6 +25,8 @@ use std::alloc::{AllocError, Global};
 #[derive(Clone, Copy)]
 pub struct Running {
     pub form: Form,
+    /// Whether the table of calls is printed in place of the trace.
+    pub calls: bool,
     /// How many events are done at most where there are no steps, 0 to 2^20.
     pub events: u32,
     /// Whether processors go at random there, and by which number.
@@ -144,6 +146,22 @@ fn steps_for(
     }
 }
 
+/// The trace of a run of an image over events, or the table of its calls.
+fn printed(
+    alloc: Global,
+    image: &Image,
+    events: &[Event],
+    run: Running,
+) -> Result<Vec<u8>, AllocError>
+    requires { length events.now ≤ 2 ^ 20 }
+{
+    let bound = kept_bound(run.bound);
+    if run.calls {
+        return output_of(alloc, &OpenImage::new(image, bound), events, Output::Calls);
+    }
+    image_trace(alloc, run.form, image, events, bound)
+}
+
 /// What is printed of a run of an image over steps.
 fn traced_over(
     alloc: Global,
@@ -153,13 +171,7 @@ fn traced_over(
 ) -> Result<Traced, AllocError>
     requires { length stepped.now.events.items ≤ 2 ^ 20 }
 {
-    let text = image_trace(
-        alloc,
-        run.form,
-        image,
-        &stepped.events,
-        kept_bound(run.bound),
-    )?;
+    let text = printed(alloc, image, &stepped.events, run)?;
     let opened = OpenImage::new(image, run.bound);
     let why = why_of(alloc, &opened, &stepped.events)?;
     Ok(Traced {

@@ -4,6 +4,7 @@ ghost use Rattle.fmp_frames.specs.Counting.{counts_of, first_counts};
 ghost use Rattle.fmp_frames.specs.Shown.{WasShown};
 ghost use Rattle.fmp_frames.specs.Values.{values_of};
 
+use crate::calling::calls_on;
 use crate::driving::driven;
 use crate::exit::{Exit, memory};
 use crate::looking::Look;
@@ -184,6 +185,8 @@ pub enum Output {
     Table,
     /// The waveform, as a value change dump.
     Dump,
+    /// The table of calls.
+    Calls,
 }
 
 /// What is made of a run of a kernel of this system over what comes to it.
@@ -204,12 +207,13 @@ fn output_on<B: Body, T: Coming<B>>(
     match output {
         Output::Table => table_on(alloc, sys, kernel, body, n, events),
         Output::Dump => dump_on(alloc, sys, kernel, body, n, events),
+        Output::Calls => calls_on(alloc, sys, kernel, body, n, events),
     }
 }
 
 /// What is made of what comes to a system.
 #[tactic(none)]
-fn output_of<O: Opened, T: Coming<O::Bodies>>(
+pub fn output_of<O: Opened, T: Coming<O::Bodies>>(
     alloc: Global,
     opened: &O,
     events: &[T],

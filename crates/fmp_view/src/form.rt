@@ -53,6 +53,10 @@ what came, one a line, with the calls that the bodies made";
 /// What a number of events is.
 const EVENTS: &str = "How many events are done at most, 0 to 2^20";
 
+/// What the table of calls is.
+const CALLS: &str =
+    "Print a table in place of the trace: who made which call, how often, and what was answered";
+
 /// What a seed is.
 const SEED: &str = "Order of processors at random by this number, with ticks and interrupts between;
 without it they run in turn, and the clock ticks where all are idle";
@@ -171,6 +175,8 @@ enum Kind {
     WordOrNegative,
     /// An option without a value.
     Flag,
+    /// An option without a value that does not go with this other one.
+    FlagWithout(&'static str),
     /// An option with a value, which help calls so.
     Option(&'static str, Value),
     /// An option with a text, which help calls so, that may be given again.
@@ -260,6 +266,7 @@ static RUN: Form = Form {
         ),
         RECORDED,
         JSON,
+        Argument("calls", Kind::FlagWithout("json"), CALLS),
         AT_MOST,
         AT_RANDOM,
         BOUNDED,
@@ -442,6 +449,10 @@ fn argument_of<'a>(alloc: Global, argument: &Argument) -> Result<Arg<'a>, AllocE
         Kind::MayBeWord => made,
         Kind::WordOrNegative => made.required(true).allow_negative_numbers(true),
         Kind::Flag => made.long(id).action(ArgAction::SetTrue),
+        Kind::FlagWithout(other) => made
+            .long(id)
+            .action(ArgAction::SetTrue)
+            .conflicts_with(other)?,
         Kind::Option(name, value) => with_value(made.long(id).value_name(name), value),
         Kind::Again(name) => made.long(id).value_name(name).action(ArgAction::Append),
         Kind::Needed(name) => made.long(id).value_name(name).required(true),

@@ -8,6 +8,7 @@
 
 mod asking;
 mod built;
+mod calling;
 mod commands;
 mod comparing;
 mod covering;

@@ -223,6 +223,12 @@ fn print_recorded<O: Outside>(alloc: Global, outside: &mut O, run: Run<'_>, form
     }
 }
 
+/// Prints the table of the calls of a run.
+fn print_calls<O: Outside>(alloc: Global, outside: &mut O, run: Run<'_>) -> u8 {
+    let made = made_of_run(alloc, outside, run, &Output::Calls);
+    print_made(alloc, outside, made)
+}
+
 /// The picture of a run.
 fn run_timeline<O: Outside>(
     alloc: Global,
@@ -294,6 +300,7 @@ fn look_at<O: Outside, R: Input + Files>(
         Asked::Fault(names, form) => print_fault(alloc, outside, names, form),
         Asked::Run(names, run) => run_texts(alloc, outside, names, run),
         Asked::Recorded(run, form) => print_recorded(alloc, outside, run, form),
+        Asked::Calls(run) => print_calls(alloc, outside, run),
         Asked::Drive {
             image,
             events,

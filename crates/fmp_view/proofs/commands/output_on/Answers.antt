@@ -17,3 +17,12 @@ dump_on-requires-clause-body g c = c.requires.body
 
 pub dump_on-requires-clause-bound : goal.dump_on-requires-clause-bound
 dump_on-requires-clause-bound g c = c.requires.bound
+
+pub calls_on-requires-clause-few : goal.calls_on-requires-clause-few
+calls_on-requires-clause-few g c = c.requires.few
+
+pub calls_on-requires-clause-body : goal.calls_on-requires-clause-body
+calls_on-requires-clause-body g c = c.requires.body
+
+pub calls_on-requires-clause-bound : goal.calls_on-requires-clause-bound
+calls_on-requires-clause-bound g c = c.requires.bound

@@ -1,0 +1,80 @@
+//! The table of the calls of a run.
+ghost use Rattle.std.specs.Prelude.{◌≡◌, ◌+◌, ◌≤◌, ◌^◌, IfOk, length};
+ghost use Rattle.fmp_call_table.specs.Told.{told_after_all, told_of};
+ghost use Rattle.fmp_frames.specs.Shown.{WasShown};
+ghost use Rattle.fmp_view.specs.Called.{begins_called};
+
+use fmp_base::System;
+use fmp_call_table::{Calls, append_table};
+use fmp_coming::Coming;
+use fmp_frames::{Frame, Viewer, last_frame, show_all};
+use fmp_kernel::{Body, Kernel};
+use std::alloc::{AllocError, Global};
+
+/// The calls of a run so far.
+#[derive(Drop)]
+pub struct Called {
+    pub calls: Calls,
+}
+
+impl Called {
+    /// The calls of a run after setup, which makes none. `AllocError` if memory runs out.
+    fn new(alloc: Global, setup: &Frame) -> Result<Called, AllocError>
+        ensures { IfOk result (λ made. told_of made.calls ≡ begins_called (length setup.now.states.items)) }
+    {
+        Ok(Called {
+            calls: Calls::new(alloc, setup.states.len())?,
+        })
+    }
+}
+
+impl Viewer for Called {
+    ghost shown = { λ x f y. told_of y.calls ≡ told_after_all (told_of x.calls) f.lines };
+
+    /// One event more.
+    fn show(&mut self, _alloc: Global, frame: &Frame) -> Result<(), AllocError> {
+        self.calls.tell(&frame.lines)
+    }
+}
+
+/// What is told of the calls of a run of a kernel over what comes to it.
+#[tactic(none)]
+fn called<B: Body, T: Coming<B>>(
+    alloc: Global,
+    kernel: &mut Kernel<B>,
+    body: &B,
+    n: u64,
+    events: &[T],
+) -> Result<Called, AllocError>
+    requires few { kernel.old.taken + length events.now ≤ 2 ^ 31 }
+    requires body { body.now ≡ kernel.old.body }
+    requires bound { n ≡ kernel.old.bound }
+    ensures { IfOk result (λ called. WasShown (λ x f. told_of x.calls ≡ begins_called (length f.states))
+        ⟦<Called as Viewer>⟧.shown B.meaning T.reaction kernel.old events.now called) }
+{
+    let setup = last_frame(alloc, kernel, body, n)?;
+    let mut called = Called::new(alloc, &setup)?;
+    drop(setup);
+    show_all(alloc, kernel, body, n, events, &mut called)?;
+    Ok(called)
+}
+
+/// The table of the calls of a run of a kernel of this system over what comes to it.
+#[tactic(none)]
+pub fn calls_on<B: Body, T: Coming<B>>(
+    alloc: Global,
+    sys: &System,
+    kernel: &mut Kernel<B>,
+    body: &B,
+    n: u64,
+    events: &[T],
+) -> Result<Vec<u8>, AllocError>
+    requires few { kernel.old.taken + length events.now ≤ 2 ^ 31 }
+    requires body { body.now ≡ kernel.old.body }
+    requires bound { n ≡ kernel.old.bound }
+{
+    let called = called(alloc, kernel, body, n, events)?;
+    let mut out = Vec::new(alloc);
+    append_table(alloc, sys, &called.calls, &mut out)?;
+    Ok(out)
+}
