@@ -1742,12 +1742,13 @@ refused 'recording: over the recording' 'one of the two that are read' waves --r
 
 # The bodies of a text as C: a folder gets them, the two texts and a makefile. A main program that is there is kept.
 shows 'export: queue' 0 export queue.cfg queue.src --c project
-printf '%s\n' Makefile bodies.c main.c system.cfg system.src > wanted
+printf '%s\n' Makefile bodies.c bodies.h main.c system.cfg system.src > wanted
 gives 'export: its files' ls project
 same 'export: the configuration' queue.cfg project/system.cfg
 same 'export: the text' queue.src project/system.src
 is_in() { grep -q -F -e "$1" "project/$2"; }
 holds 'export: a function for each body' 'there is none' is_in 'void consume_body(' bodies.c
+holds 'export: a number for each object' 'there is none' is_in 'QUEUE = 1' bodies.h
 holds 'export: a row for each body' 'there is none' is_in '{"consume", consume_body},' main.c
 holds 'export: what builds the program' 'there is none' is_in 'exported:' Makefile
 cp project/bodies.c bodies.before
@@ -1768,7 +1769,7 @@ echo 'file: nowhere.src' > said
 shows 'export: no text' 3 export queue.cfg nowhere.src --c faulty
 echo 'file: none/project' > said
 shows 'export: a folder that cannot be made' 3 export queue.cfg queue.src --c none/project
-echo 'file: ok/bodies.c' > said
+echo 'file: ok/bodies.h' > said
 shows 'export: a file in the place of the folder' 3 export queue.cfg queue.src --c ok
 refused 'export: no folder is named' 'not provided' export queue.cfg queue.src
 refused 'export: over the configuration' "a file of the folder DIR is one of the two that are read" \

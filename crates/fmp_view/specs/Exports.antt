@@ -29,11 +29,12 @@ main_file folder e false = wrote (in_folder folder (codes "main.c")) e.main.item
 -- the files of a folder are written
 abbrev pub project : (folder : List ℕ) → Texts → Exported → (keeps_main : Bool) → List Deed
 project folder t e keeps_main =
-    wrote (in_folder folder (codes "bodies.c")) e.bodies.items
+    wrote (in_folder folder (codes "bodies.h")) e.header.items
+    ∷ (wrote (in_folder folder (codes "bodies.c")) e.bodies.items
     ∷ (wrote (in_folder folder (codes "system.cfg")) t.cfg.now
     ∷ (wrote (in_folder folder (codes "system.src")) t.src.now
     ∷ (wrote (in_folder folder (codes "Makefile")) MAKEFILE.now
-    ∷ main_file folder e keeps_main)))
+    ∷ main_file folder e keeps_main))))
 
 -- the files of a folder are those of two texts
 pub record HasExportedTexts (t : Texts) (folder : List ℕ) (before after : Option (List Deed)) : Type 0 where

@@ -27,7 +27,14 @@ pub struct Exporting<'a> {
 }
 
 /// The files of the folder.
-const FILES: [&str; 5] = ["bodies.c", "system.cfg", "system.src", "Makefile", "main.c"];
+const FILES: [&str; 6] = [
+    "bodies.h",
+    "bodies.c",
+    "system.cfg",
+    "system.src",
+    "Makefile",
+    "main.c",
+];
 
 /// The name of a file of a folder.
 fn name_in(alloc: Global, folder: &str, file: &str) -> Result<String, AllocError>
@@ -108,6 +115,7 @@ fn write_project<O: Outside>(
     ensures { OnOk result (Does (O.done outside.old)
         (project folder.now texts.entry exported.now keeps_main) (O.done outside.new)) }
 {
+    write_in(alloc, outside, folder, "bodies.h", &exported.header)?;
     write_in(alloc, outside, folder, "bodies.c", &exported.bodies)?;
     write_in(alloc, outside, folder, "system.cfg", texts.cfg)?;
     write_in(alloc, outside, folder, "system.src", texts.src)?;

@@ -138,8 +138,8 @@ of CFG, with '.found' in place of '.cfg'";
 
 /// Where exported C goes.
 const DIR: &str =
-    "Folder that gets bodies.c, main.c, Makefile, and the two texts as system.cfg and system.src, in place of
-files of these names; but a main.c that is there is kept. The folder is made if it is not there";
+    "Folder that gets bodies.h, bodies.c, main.c, Makefile, and the two texts as system.cfg and system.src, in
+place of files of these names; but a main.c that is there is kept. The folder is made if it is not there";
 
 /// The largest bound, 2^48.
 pub const BOUND_MAX: u64 = 281_474_976_710_656;
