@@ -173,7 +173,7 @@ class Checker:
         crates = re.findall(r"^(\w+)[^:#\n]*:", (ROOT / "crates.txt").read_text(), re.M)
         for self.document in ("docs/MAP.md", "docs/PROVED.md"):
             lines = (ROOT / self.document).read_text().splitlines()
-            told = " ".join(line for line in lines if line.startswith(("| `", "**`")))
+            told = " ".join(line for line in lines if line.startswith(("| `", "- `", "**`")))
             for crate in crates:
                 self.verdict(0, f"the crate {crate}", True, f"`{crate}`" in told)
 

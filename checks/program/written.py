@@ -33,6 +33,10 @@ COLUMNS = 120
 LINKED = ("*.md", "docs/*.md", "checks/*.md", "examples/*.md")  # the documents whose links are followed
 PATHS = ("docs/MAP.md", "CONTRIBUTING.md")  # the documents whose paths are looked up
 SHORT = 50  # characters of a sentence that needs the next one
+LEAST = 4  # words that stand before a colon at which a sentence may be cut
+CLOSER = r", (?=(?:as|at|but|by|each|however|in|none|of|one|so|where|which|who|whose|with|without)\b)"
+NEW = 3  # words beyond those of its name that a sentence has which tells nothing new
+LITTLE = set("a all an and are as at by for from how in is it its of on or that the their them they this to what which who with".split())
 BEGIN, END = "<!-- begin: {} -->", "<!-- end: {} -->"
 IMPORT = re.compile(r"use Rattle\.(fmp\w*)\.specs\.(\w+)\.\{([^}]*)\}")
 DEFINITION = re.compile(r"^(?:abbrev pub|pub record|pub data) (\S+)", re.M)
@@ -100,16 +104,16 @@ def imported(crate):
     return found
 
 
-def named_in(lines):
-    """The definitions that lines of docs/PROVED.md name, each with its file. A name is that of a definition which the
-    crate cites that the line is about: the one in bold type last, or the second cell of the line's row."""
+def named_in(text):
+    """The definitions that a text of docs/PROVED.md names, each with its file. A name is that of a definition which a
+    crate cites that the part is about: one in bold type last, or the second cell of the part's row."""
     all_crates = {crate for floor in floors() for crate in floor.crates}
     crates, found = [], set()
-    for line in lines:
-        cells = [cell.strip(" `") for cell in line.split("|")]
-        crates = re.findall(r"\*\*`(\w+)`", line) or crates
+    for _, part in items(text):
+        cells = [cell.strip(" `") for cell in part.split("|")]
+        crates = re.findall(r"\*\*`(\w+)`", part) or crates
         about = cells[2:3] if cells[2:3] and cells[2] in all_crates else crates
-        words = {word for quoted in re.findall(r"`([^`]+)`", line) for word in re.findall(r"\b[A-Z]\w+", quoted)}
+        words = {word for quoted in re.findall(r"`([^`]+)`", part) for word in re.findall(r"\b[A-Z]\w+", quoted)}
         for crate in about:
             cited = imported(crate)
             found |= {(path, word) for word in words for path in cited.get(word, ())}
@@ -125,6 +129,34 @@ def specs(crate):
     return [path for path in paths if not LEFT_OUT.search(path.stem)]
 
 
+def stems(text):
+    """The words of a text that say something, without the endings of their forms."""
+    found = re.findall(r"[A-Z]?[a-z]+", text.replace("fmp_", ""))
+    return {re.sub(r"(ies|es|s|y|ed|ing)$", "", word.lower()) for word in found if word.lower() not in LITTLE}
+
+
+def cut(text, pattern):
+    """A sentence up to a pattern, where it has some words in front of it."""
+    before, _, behind = re.sub(pattern, "\n", text).partition("\n")
+    return f"{before}." if behind and len(before.split()) >= LEAST else text
+
+
+def without_brackets(text):
+    return re.sub(r" \([^()]*\)", "", text)
+
+
+def crate_sentence(path):
+    """What a crate has, by the head of its root file: up to the colon where it is longer than a line."""
+    told = without_brackets(first_sentences(head(path, "//!"), SHORT))
+    return cut(told, r"[:;] ") if len(told) > COLUMNS else told
+
+
+def file_sentence(path):
+    """What a file of definitions is about, by its head: up to a colon, or to a comma behind which it is told closer."""
+    told = without_brackets(head(path, "--")).partition(". ")[0].removesuffix(".") + "."
+    return cut(cut(told.removeprefix(f"{path.stem}: "), r"[:;] "), CLOSER)
+
+
 def item(text):
     """An item of a list, in lines that fit."""
     return textwrap.fill(text, COLUMNS, initial_indent="- ", subsequent_indent="  ", break_on_hyphens=False,
@@ -134,37 +166,43 @@ def item(text):
 def crates_list():
     parts = []
     for floor in floors():
-        parts += ["", f"### {floor.name}", "", "| Crate | What it has |", "|---|---|"]
+        parts += ["", f"### {floor.name}", ""]
         for crate in floor.crates:
             roots = [CRATES / crate / "src" / name for name in ("lib.rt", "main.rt")]
-            told = first_sentences(head(next(path for path in roots if path.exists()), "//!"), SHORT)
-            parts.append(f"| `{crate}` | {told} |")
+            told = crate_sentence(next(path for path in roots if path.exists()))
+            parts.append(item(f"`{crate}`: {told}"))
     return parts
 
 
 def headline_list():
     """The definitions of the headline: the name, the file and the comment of each."""
     section = PROVED.read_text().partition(HEADLINE)[2].partition("\n## ")[0]
-    named, parts = named_in(section.splitlines()), [""]
+    named, parts = named_in(section), [""]
     by_hand = re.findall(r"^- `(\w+)` \(", DEFINITIONS.read_text().partition(BEGIN.format("headline"))[0], re.M)
     for path in (path for floor in floors() for crate in floor.crates for path in specs(crate)):
         for name in DEFINITION.findall(path.read_text()):
             told = comment(path, name) if (path, name) in named and name not in by_hand else ""
             if told:
-                parts.append(item(f"`{name}` (`{path.parts[-3]}`, `{path.stem}`): {told}"))
+                parts.append(item(f"`{name}` (`{path.parts[-3]}`, `{path.stem}`): {first_sentences(told, 2 * SHORT)}"))
     return parts
 
 
 def definitions_list():
-    named, parts = named_in(PROVED.read_text().splitlines()), []
+    named, parts = named_in(PROVED.read_text()), []
     for floor in floors():
         parts += ["", f"### {floor.name}"]
         for crate in (it for it in floor.crates if it != WORKED and specs(it)):
             parts += ["", f"**`{crate}`**", ""]
+            untold = []
             for path in specs(crate):
                 names = [name for name in DEFINITION.findall(path.read_text()) if (path, name) in named]
-                told = ", ".join(f"`{name}`" for name in names)
-                parts.append(item(f"`{path.stem}`: {first_sentences(head(path, '--'))} {told}".rstrip()))
+                told = file_sentence(path)
+                if not names and len(stems(told) - stems(f"{path.stem} {crate}")) <= NEW:
+                    untold.append(f"`{path.stem}`")
+                else:
+                    parts.append(item(" ".join([f"`{path.stem}`: {told}", *(f"`{name}`" for name in names)])))
+            if untold:
+                parts.append(item(", ".join(untold)))
     return parts
 
 
@@ -261,10 +299,10 @@ def clauses(crate):
 def check_clauses(tally):
     """The clauses that are named behind a function are its own, or those of the last function of several."""
     crates, part = [], PROVED.read_text().partition(HEADLINE)[2].partition("\n## ")[2]
-    for line in part.splitlines():
-        crates = re.findall(r"\*\*`(\w+)`", line) or crates
-        cells = line.split("|")
-        for name, told in re.findall(r"`([\w:]+)` \(((?:`[a-z]\w*`(?:, )?)+)\)", cells[1] if cells[2:] else ""):
+    for _, text in items(part):
+        crates = re.findall(r"\*\*`(\w+)`", text) or crates
+        functions = text.partition(": ")[0] if text.startswith("- ") else ""
+        for name, told in re.findall(r"`([\w:]+)` \(((?:`[a-z]\w*`(?:, )?)+)\)", functions):
             own = set().union(*(clauses(crate).get(name.split("::")[-1], set()) for crate in crates))
             named = set(re.findall(r"\w+", told))
             tally.holds(f"docs/PROVED.md: {name} of {crates} has no clause {named - own}", named <= own)
