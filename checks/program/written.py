@@ -4,13 +4,14 @@
     checks/program/written.py [--write]
 
 The list of crates in docs/MAP.md has the floors of crates.txt, and of each crate the first sentence of its `//!` head.
-The list in docs/DEFINITIONS.md has the first sentence of each file of `specs/`, and the names of its definitions that
-docs/PROVED.md names; above it stand the definitions that the table of README's sentences there names, with their
-comments, but for those that are told above the list by hand. With `--write` the lists are written: after each change of
-such a head, and after one of docs/PROVED.md. Without it they are compared. The paths in docs/MAP.md and CONTRIBUTING.md
-are looked up then too: one is below crates/ or the root; a bare name is that of a file of the crate or the folder that
-was named last; and what stands as `NAME` in `PATH` is a name that this file has. In docs/PROVED.md the names in
-brackets behind a function are clauses of its contract. Links between documents are followed.
+The list in docs/DEFINITIONS.md has the first sentence of each file of `specs/` that says more than the file's name, and
+the names of its definitions that docs/PROVED.md names; above it stand the definitions that the table of README's
+sentences there names, with the front of their comments, but for those that are told above the list by hand. What is
+long is cut at a colon. With `--write` the lists are written: after each change of such a head, and after one of
+docs/PROVED.md. Without it they are compared. The paths in docs/MAP.md and CONTRIBUTING.md are looked up then too: one is
+below crates/ or the root; a bare name is that of a file of the crate or the folder that was named last; and what stands
+as `NAME` in `PATH` is a name that this file has. In docs/PROVED.md the names in brackets behind a function, in front of
+the colon of its item, are clauses of its contract. Links between documents are followed.
 """
 
 import argparse
@@ -33,10 +34,11 @@ COLUMNS = 120
 LINKED = ("*.md", "docs/*.md", "checks/*.md", "examples/*.md")  # the documents whose links are followed
 PATHS = ("docs/MAP.md", "CONTRIBUTING.md")  # the documents whose paths are looked up
 SHORT = 50  # characters of a sentence that needs the next one
-LEAST = 4  # words that stand before a colon at which a sentence may be cut
+LEAST = 4  # words that stand in front of the place at which a sentence is cut
 CLOSER = r", (?=(?:as|at|but|by|each|however|in|none|of|one|so|where|which|who|whose|with|without)\b)"
-NEW = 3  # words beyond those of its name that a sentence has which tells nothing new
-LITTLE = set("a all an and are as at by for from how in is it its of on or that the their them they this to what which who with".split())
+NEW = 3  # at most so many words has a sentence beside those of its file's name that tells nothing new
+LITTLE = set("""a all an and are as at by for from how in is it its of on or that the their them they this to what which
+who with""".split())
 BEGIN, END = "<!-- begin: {} -->", "<!-- end: {} -->"
 IMPORT = re.compile(r"use Rattle\.(fmp\w*)\.specs\.(\w+)\.\{([^}]*)\}")
 DEFINITION = re.compile(r"^(?:abbrev pub|pub record|pub data) (\S+)", re.M)
@@ -187,22 +189,21 @@ def headline_list():
     return parts
 
 
+def definitions_line(crate, path, named):
+    """The item of a file of definitions, if there is more to tell than its name."""
+    names = [name for name in DEFINITION.findall(path.read_text()) if (path, name) in named]
+    told = file_sentence(path)
+    tells = names or len(stems(told) - stems(f"{path.stem} {crate}")) > NEW
+    return item(" ".join([f"`{path.stem}`: {told}", *(f"`{name}`" for name in names)])) if tells else ""
+
+
 def definitions_list():
     named, parts = named_in(PROVED.read_text()), []
     for floor in floors():
         parts += ["", f"### {floor.name}"]
-        for crate in (it for it in floor.crates if it != WORKED and specs(it)):
-            parts += ["", f"**`{crate}`**", ""]
-            untold = []
-            for path in specs(crate):
-                names = [name for name in DEFINITION.findall(path.read_text()) if (path, name) in named]
-                told = file_sentence(path)
-                if not names and len(stems(told) - stems(f"{path.stem} {crate}")) <= NEW:
-                    untold.append(f"`{path.stem}`")
-                else:
-                    parts.append(item(" ".join([f"`{path.stem}`: {told}", *(f"`{name}`" for name in names)])))
-            if untold:
-                parts.append(item(", ".join(untold)))
+        for crate in (it for it in floor.crates if it != WORKED):
+            told = [line for path in specs(crate) if (line := definitions_line(crate, path, named))]
+            parts += ["", f"**`{crate}`**", "", *told] if told else []
     return parts
 
 
