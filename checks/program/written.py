@@ -8,7 +8,7 @@ The list in docs/DEFINITIONS.md has the first sentence of each file of `specs/` 
 the names of its definitions that docs/PROVED.md names; above it stand the definitions that the table of README's
 sentences there names, with the front of their comments, but for those that are told above the list by hand. What is
 long is cut at a colon. With `--write` the lists are written: after each change of such a head, and after one of
-docs/PROVED.md. Without it they are compared. The paths in docs/MAP.md and CONTRIBUTING.md are looked up then too: one is
+docs/PROVED.md. Without it they are compared. The paths in docs/MAP.md and CONTRIBUTING.md are looked up too: one is
 below crates/ or the root; a bare name is that of a file of the crate or the folder that was named last; and what stands
 as `NAME` in `PATH` is a name that this file has. In docs/PROVED.md the names in brackets behind a function, in front of
 the colon of its item, are clauses of its contract. Links between documents are followed.
