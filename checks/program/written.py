@@ -5,8 +5,8 @@
 
 The list of crates in docs/MAP.md has the floors of crates.txt, and of each crate the first sentence of its `//!` head.
 The list in docs/DEFINITIONS.md has the first sentence of each file of `specs/` that says more than the file's name, and
-the names of its definitions that docs/PROVED.md names; above it stand the definitions that the table of README's
-sentences there names, with the front of their comments, but for those that are told above the list by hand. What is
+the names of its definitions that docs/PROVED.md names; above it stand the definitions that README's sentences there
+name, with the front of their comments, but for those that are told above the list by hand. What is
 long is cut at a colon. With `--write` the lists are written: after each change of such a head, and after one of
 docs/PROVED.md. Without it they are compared. The paths in docs/MAP.md and CONTRIBUTING.md are looked up too: one is
 below crates/ or the root; a bare name is that of a file of the crate or the folder that was named last; and what stands
@@ -108,13 +108,12 @@ def imported(crate):
 
 def named_in(text):
     """The definitions that a text of docs/PROVED.md names, each with its file. A name is that of a definition which a
-    crate cites that the part is about: one in bold type last, or the second cell of the part's row."""
+    crate cites that the part is about: one that it names itself, or one in bold type above it."""
     all_crates = {crate for floor in floors() for crate in floor.crates}
     crates, found = [], set()
     for _, part in items(text):
-        cells = [cell.strip(" `") for cell in part.split("|")]
         crates = re.findall(r"\*\*`(\w+)`", part) or crates
-        about = cells[2:3] if cells[2:3] and cells[2] in all_crates else crates
+        about = [name for name in re.findall(r"`(\w+)`", part) if name in all_crates] or crates
         words = {word for quoted in re.findall(r"`([^`]+)`", part) for word in re.findall(r"\b[A-Z]\w+", quoted)}
         for crate in about:
             cited = imported(crate)
