@@ -34,7 +34,8 @@ COLUMNS = 120
 LINKED = ("*.md", "docs/*.md", "checks/*.md", "examples/*.md")  # the documents whose links are followed
 PATHS = ("docs/MAP.md", "CONTRIBUTING.md")  # the documents whose paths are looked up
 SHORT = 50  # characters of a sentence that needs the next one
-LEAST = 4  # words that stand in front of the place at which a sentence is cut
+LEAST = 4  # words that stand in front of the place at which the sentence of a file is cut
+LEAST_OF_CRATE = 6
 CLOSER = r", (?=(?:as|at|but|by|each|however|in|none|of|one|so|where|which|who|whose|with|without)\b)"
 NEW = 3  # at most so many words has a sentence beside those of its file's name that tells nothing new
 LITTLE = set("""a all an and are as at by for from how in is it its of on or that the their them they this to what which
@@ -136,10 +137,10 @@ def stems(text):
     return {re.sub(r"(ies|es|s|y|ed|ing)$", "", word.lower()) for word in found if word.lower() not in LITTLE}
 
 
-def cut(text, pattern):
-    """A sentence up to a pattern, where it has some words in front of it."""
+def cut(text, pattern, least=LEAST):
+    """A sentence up to a pattern, where it has at least so many words in front of it."""
     before, _, behind = re.sub(pattern, "\n", text).partition("\n")
-    return f"{before}." if behind and len(before.split()) >= LEAST else text
+    return f"{before}." if behind and len(before.split()) >= least else text
 
 
 def without_brackets(text):
@@ -149,7 +150,7 @@ def without_brackets(text):
 def crate_sentence(path):
     """What a crate has, by the head of its root file: up to the colon where it is longer than a line."""
     told = without_brackets(first_sentences(head(path, "//!"), SHORT))
-    return cut(told, r"[:;] ") if len(told) > COLUMNS else told
+    return cut(told, r"[:;] ", LEAST_OF_CRATE) if len(told) > COLUMNS else told
 
 
 def file_sentence(path):
