@@ -31,6 +31,16 @@
 #pragma GCC diagnostic ignored "-Wunused-but-set-variable"
 #pragma GCC diagnostic ignored "-Wshadow"
 
+/* Lines of the text that stands above a function may end in a backslash: the next line is a comment too. */
+#pragma GCC diagnostic ignored "-Wcomment"
+#pragma GCC diagnostic ignored "-Wtrigraphs"
+#ifdef __clang__
+#pragma clang diagnostic ignored "-Wbackslash-newline-escape"
+#if __has_warning("-Winvalid-utf8")
+#pragma clang diagnostic ignored "-Winvalid-utf8"
+#endif
+#endif
+
 /*
  * A loop of a text. The body may be interrupted at every sixteenth turn: a poll in each would take longer than a turn.
  */

@@ -1,4 +1,5 @@
 pub mod Appended
 pub mod Blocks
+pub mod Exports
 pub mod Passed
 pub mod Views

@@ -4,3 +4,4 @@ pub mod Expressions
 pub mod Statements
 pub mod Bodies
 pub mod Files
+pub mod Quotes

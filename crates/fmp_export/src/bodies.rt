@@ -45,7 +45,7 @@ fn append_variables(variables: &[Declaration], out: &mut Vec<u8>) -> Result<(), 
 
 /// Appends the function of a body.
 #[tactic(auto, unfolding(crate::specs::Bodies::c_body))]
-fn append_body(alloc: Global, body: &Body, out: &mut Vec<u8>) -> Result<(), AllocError>
+pub fn append_body(alloc: Global, body: &Body, out: &mut Vec<u8>) -> Result<(), AllocError>
     ensures { OnOk result (out.new.items ≡ out.old.items ++ c_body (body_view body.now)) }
 {
     append(b"\nvoid ", out)?;

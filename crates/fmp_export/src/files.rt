@@ -4,11 +4,12 @@ ghost use Rattle.fmp_base.specs.Systems.{tables_of};
 ghost use Rattle.fmp_tasklang.specs.Views.{program_view};
 ghost use Rattle.fmp_export.specs.Files.{AreFiles, IsExported, c_file, c_header, c_main};
 
-use crate::bodies::{append_bodies, append_prototypes, append_rows};
+use crate::bodies::{append_prototypes, append_rows};
 use crate::objects::append_enumeration;
+use crate::quotes::append_quoted_bodies;
 use crate::text::append;
 use fmp_base::System;
-use fmp_lex::BuildFault;
+use fmp_lex::{BuildFault, Tokens, tokens};
 use fmp_tasklang::{Program, read_tasks};
 use std::alloc::{AllocError, Global};
 
@@ -68,8 +69,8 @@ int main(int argc, char **argv)
 }
 ";
 
-/// Appends the header of a program and its configuration: the numbers of the objects, and a prototype for each body. The
-/// error is out of memory.
+/// Appends the header of a program and its configuration: the numbers of the objects, and a prototype for each body.
+/// The error is out of memory.
 #[tactic(auto, unfolding(crate::specs::Files::c_header))]
 pub fn append_header(
     alloc: Global,
@@ -86,13 +87,21 @@ pub fn append_header(
     append(b"\n#endif\n", out)
 }
 
-/// Appends the C of a program: a function for each body. The error is out of memory.
+/// Appends the C of a program that these tokens of a text spell: a function for each body, below the body's text. The
+/// error is out of memory.
 #[tactic(auto, unfolding(crate::specs::Files::c_file))]
-pub fn append_c(alloc: Global, program: &Program, out: &mut Vec<u8>) -> Result<(), AllocError>
-    ensures { OnOk result (out.new.items ≡ out.old.items ++ c_file (program_view program.now)) }
+pub fn append_c(
+    alloc: Global,
+    text: &[u8],
+    tokens: &Tokens<'_>,
+    program: &Program,
+    out: &mut Vec<u8>,
+) -> Result<(), AllocError>
+    ensures { OnOk result (out.new.items
+        ≡ out.old.items ++ c_file text.now tokens.now (program_view program.now)) }
 {
     append(b"#include \"bodies.h\"\n#include \"task.h\"\n", out)?;
-    append_bodies(alloc, &program.bodies, out)
+    append_quoted_bodies(alloc, text, tokens, &program.bodies, out)
 }
 
 /// Appends the C program that runs these bodies in virtual or in real time. The error is out of memory.
@@ -106,13 +115,19 @@ pub fn append_main(program: &Program, out: &mut Vec<u8>) -> Result<(), AllocErro
 }
 
 /// All files.
-fn files(alloc: Global, system: &System, program: &Program) -> Result<Exported, AllocError>
-    ensures { IfOk result (λ e. AreFiles (tables_of system.now) (program_view program.now) e) }
+fn files(
+    alloc: Global,
+    text: &[u8],
+    tokens: &Tokens<'_>,
+    system: &System,
+    program: &Program,
+) -> Result<Exported, AllocError>
+    ensures { IfOk result (AreFiles (tables_of system.now) text.now tokens.now (program_view program.now)) }
 {
     let mut header = Vec::new(alloc);
     append_header(alloc, system, program, &mut header)?;
     let mut bodies = Vec::new(alloc);
-    append_c(alloc, program, &mut bodies)?;
+    append_c(alloc, text, tokens, program, &mut bodies)?;
     let mut main = Vec::new(alloc);
     append_main(program, &mut main)?;
     Ok(Exported {
@@ -124,12 +139,16 @@ fn files(alloc: Global, system: &System, program: &Program) -> Result<Exported, 
 
 /// The C of a task text for the system of its configuration, or the first fault of the text's syntax: B1 or B5.
 /// `Memory` if an allocation is refused. That the text is one of the configuration is left to who checks it.
+#[tactic(auto, using(crate::proofs::Exports::is_exported))]
 pub fn export_c(alloc: Global, text: &[u8], system: &System) -> Result<Exported, BuildFault>
     ensures { IsExported (tables_of system.now) text.now result }
 {
     let program = read_tasks(alloc, text)?;
-    match files(alloc, system, &program) {
-        Ok(exported) => Ok(exported),
-        Err(AllocError) => Err(BuildFault::Memory),
+    match tokens(alloc, text) {
+        Ok(list) => match files(alloc, text, &list.tokens, system, &program) {
+            Ok(exported) => Ok(exported),
+            Err(AllocError) => Err(BuildFault::Memory),
+        },
+        Err(_) => Err(BuildFault::Memory),
     }
 }
