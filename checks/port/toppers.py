@@ -1,42 +1,37 @@
 #!/usr/bin/env python3
-"""Compiles the C that is exported for TOPPERS/FMP, and runs it.
+"""Compares the C that `fmp_view export` writes for TOPPERS/FMP with the run of the code of the same task text.
 
-    checks/port/toppers.py VIEW PROGRAM LIBRARY [COUNT [SEED]]
+    checks/port/toppers.py [COUNT [SEED]] [--view VIEW] [--program PROGRAM] [--library LIBRARY]
 
-VIEW is `fmp_view`, PROGRAM is `fmp`, and LIBRARY the library for C. The systems are those of examples/ and COUNT random
-ones (40), one from each seed from SEED (1) on.
+Each example and COUNT random systems (40), one from each seed from SEED (1) on, are exported for FMP 1 and for FMP3.
+The C compiles without a warning by gcc and by clang, whichever there are, against headers with the types and prototypes
+of the public specification, in toppers/include; and system.cfg has the objects of the configuration. What is for FMP 1
+is run, in virtual time over toppers/shim.c: its trace and its states at the end are those of `fmp sim`. No kernel of
+TOPPERS is run.
 
-For FMP 1 and for FMP3 the C is compiled against the headers in toppers/include, by gcc and by clang, whichever there
-are, and a warning is a fault; and system.cfg has the objects of the configuration. What is for FMP 1 is run too, in
-virtual time over toppers/shim.c: its trace and the states at the end are those of `fmp sim`.
-
-At the first difference it prints the system and the line, and its status is 1.
+The programs and the library are those of crates/*/out where they are not given. Where there is no C compiler the script
+says that it did not run, with status 0. At the first difference it prints the system, the line and both texts.
 """
 
-import random
+import argparse
 import re
 import shutil
 import subprocess
 import sys
 import tempfile
-from itertools import zip_longest
 from pathlib import Path
 
 sys.dont_write_bytecode = True  # the folders of the checks stay as they are
-ROOT = Path(__file__).resolve().parents[2]
-sys.path[0] = str(ROOT / "checks")  # the folder `checks`, whose folders are packages
+sys.path[0] = str(Path(__file__).resolve().parents[1])  # the folder `checks`, whose folders are packages
 
-from model.systems import Generator  # noqa: E402
+from common.program import ROOT, located  # noqa: E402
+from port.export import BOUND, COMPILER, ODD, Bench, Difference, compared, examples, named, texts_of  # noqa: E402
 
+SCRIPT = "checks/port/toppers.py"
 STUB = ROOT / "checks/port/toppers"
-STRICT = ("-std=c99", "-O1", "-Wall", "-Wextra", "-Wconversion", "-Werror")
+STRICT = ("-std=c99", "-O1", "-Wall", "-Wextra", "-Wconversion", "-Werror", *ODD)
 CREATED = re.compile(r"\bCRE_(\w+)\((\w+),")
 COMMENT = re.compile(r"/\*.*?\*/|//[^\n]*", re.DOTALL)
-STEPS = 250
-
-
-class Difference(Exception):
-    """A system is not as it should be."""
 
 
 def created(text):
@@ -52,124 +47,95 @@ def numbers(kinds):
     return "".join(f"#define {name} {number}\n" for names in kinds.values() for number, name in enumerate(names, 1))
 
 
-def steps_of(chooser, processors):
-    """Random steps: mostly runs."""
-    for _ in range(STEPS):
-        kind = chooser.random()
-        if kind < 0.8:
-            yield f"run {chooser.randint(1, processors)}\n"
-        else:
-            yield "tick\n" if kind < 0.95 else f"int {chooser.randint(1, 32)}\n"
-
-
-class Bench:
+class TargetBench(Bench):
     """The programs, and a folder for what they read and write."""
 
-    def __init__(self, view, program, library, folder):
-        self.view, self.program = (str(Path(it).resolve()) for it in (view, program))
-        self.folder = folder
-        self.compilers = [it for it in ("gcc", "clang") if shutil.which(it)] or ["cc"]
-        kit = Path(shutil.which("rt")).resolve().parents[1]
-        port = f"-I{ROOT / 'port'}", f"-I{ROOT / 'port/include'}"
-        objects = [self.compiled(it, "-std=c11", *port) for it in sorted((ROOT / "port").glob("*.c"))]
-        shim = self.compiled(STUB / "shim.c", "-std=c11", "-DFMP_GENERATION=1", f"-I{STUB / 'include'}")
-        self.behind = [shim, *objects, str(Path(library).resolve()), str(kit / "c/liblibc_c.a"), "-lpthread"]
-
-    def compiled(self, source, *flags, compiler=None):
-        """The object of a source."""
-        made = str(self.folder / f"{Path(source).stem}.o")
-        self.run(compiler or self.compilers[0], *flags, "-c", str(source), "-o", made)
+    def object(self, compiler, source, *flags):
+        """The object of a source against the headers of TOPPERS."""
+        made = self.folder / f"{source.stem}.o"
+        self.run(compiler, *flags, f"-I{STUB / 'include'}", "-c", source, "-o", made)
         return made
 
-    def run(self, *words):
-        """What a command prints; a failure ends the check."""
-        done = subprocess.run(words, capture_output=True, check=False, timeout=120)
-        if done.returncode:
-            raise Difference(f"status {done.returncode} of {' '.join(words[:4])}: {done.stderr.decode()[:2000]}")
-        return done.stdout.decode()
-
-    def bodies(self, texts, *flags):
-        """The object of the bodies for a target."""
+    def target(self, cfg, src, *flags):
+        """The object of the C for a target."""
         folder = self.folder / "target"
         shutil.rmtree(folder, ignore_errors=True)
-        self.run(self.view, "export", *texts, "--toppers", str(folder), *flags)
-        wanted = created(Path(texts[0]).read_text())
-        for kind in ("MSG", "SHR"):
-            wanted.pop(kind, None)
+        self.run(self.view, "export", cfg, src, "--toppers", folder, *flags)
+        wanted = {kind: names for kind, names in created(cfg.read_text()).items() if kind not in ("MSG", "SHR")}
         given = created((folder / "system.cfg").read_text())
         if {kind: [name.rstrip("_") for name in names] for kind, names in given.items()} != wanted:
             raise Difference(f"system.cfg has the objects {given}")
         (folder / "kernel_cfg.h").write_text(numbers(given))
-        shutil.copy(ROOT / "port/include/fmp_toppers.h", folder)
-        headers = "-include", str(STUB / "seen.h"), f"-I{STUB / 'include'}"
+        shutil.copy(self.prefix / "include/fmp/fmp_toppers.h", folder)
         for compiler in self.compilers:
-            made = self.compiled(folder / "bodies.c", *STRICT, *headers, compiler=compiler)
+            made = self.object(compiler, folder / "bodies.c", *STRICT, "-include", STUB / "seen.h")
         return made
 
-    def compare(self, cfg, src, steps):
+    def refused(self, cfg, src, name):
+        """FMP3 has no mailboxes: the first is named, and nothing is written."""
+        folder = self.folder / "refused"
+        words = [self.view, "export", cfg, src, "--toppers", folder, "--fmp3"]
+        done = subprocess.run(words, capture_output=True, text=True, check=False)
+        if (done.returncode, done.stderr) != (1, f"{name}: FMP3 has no mailboxes\n") or folder.exists():
+            raise Difference(f"the mailbox {name} is not refused: {done}")
+
+    def try_system(self, cfg, src, steps):
         """How many lines the traces of a system have; none if its texts are refused."""
-        image = str(self.folder / "a.img")
-        if subprocess.run([self.program, "build", cfg, src, image], capture_output=True, check=False).returncode:
+        image = self.image(cfg, src)
+        if image is None:
             return None
-        self.compile_for_fmp3((cfg, src))
-        bodies = self.bodies((cfg, src))
-        plain = self.folder / "plain"
-        shutil.rmtree(plain, ignore_errors=True)
-        self.run(self.view, "export", cfg, src, "--c", str(plain))
-        main = self.compiled(plain / "main.c", "-std=c11", f"-I{ROOT / 'port/include'}")
-        made = str(self.folder / "exported")
-        self.run(self.compilers[0], main, bodies, *self.behind, "-o", made)
-        wanted = self.run(self.program, "sim", image, steps)
-        given = self.run(made, cfg, steps)
-        if given != wanted:
-            raise Difference(first_difference(given, wanted))
+        mailboxes = created(cfg.read_text()).get("MBX")
+        if mailboxes:
+            self.refused(cfg, src, mailboxes[0])
+        else:
+            self.target(cfg, src, "--fmp3")
+        bodies = self.target(cfg, src)
+        shim = self.object(COMPILER, STUB / "shim.c", "-std=c11", "-DFMP_GENERATION=1")
+        program = self.made("ported", 0, [self.exported(cfg, src) / "main.c", bodies, shim])
+        wanted = self.run(self.program, "sim", image, steps, "--bound", BOUND)
+        compared("the trace of the C", self.run(program, cfg, steps), wanted)
         return wanted.count("\n")
 
-    def compile_for_fmp3(self, texts):
-        """The bodies compile for FMP3; a system with a mailbox is refused by its name."""
-        boxes = created(Path(texts[0]).read_text()).get("MBX")
-        if not boxes:
-            self.bodies(texts, "--fmp3")
-            return
-        folder = self.folder / "refused"
-        words = [self.view, "export", *texts, "--toppers", str(folder), "--fmp3"]
-        done = subprocess.run(words, capture_output=True, check=False)
-        if done.returncode != 1 or boxes[0] not in done.stderr.decode() or folder.exists():
-            raise Difference(f"the mailbox {boxes[0]} is not refused: {done}")
 
-    def texts(self, seed):
-        """The files of a random system."""
-        case = Generator(seed).case()
-        steps = "".join(steps_of(random.Random(seed), case.system.processor_count))
-        paths = [self.folder / name for name in ("a.cfg", "a.src", "a.steps")]
-        for path, text in zip(paths, (case.configuration, case.source, steps)):
-            path.write_text(text)
-        return [str(it) for it in paths]
+def tried(words, folder):
+    """What was tried."""
+    bench = TargetBench(located("fmp_view", words.view), located("fmp", words.program), words.library.resolve(), folder)
+    lines = 0
+    for example in examples():
+        with named(example.name):
+            lines += bench.try_system(*(example.with_suffix(ending) for ending in (".cfg", ".src", ".steps")))
+    yield f"{len(examples())} examples, {lines} lines of traces: the C and the code agree"
+    counts = []
+    for seed in range(words.seed, words.seed + words.count):
+        with named(seed):
+            counts.append(bench.try_system(*bench.written(*texts_of(seed))))
+    lines, refused = sum(filter(None, counts)), counts.count(None)
+    yield f"{words.count - refused} random systems, {lines} lines: the C and the code agree; {refused} are refused"
 
 
-def first_difference(given, wanted):
-    lines = list(zip_longest(given.splitlines(), wanted.splitlines()))
-    at = next(place for place, (left, right) in enumerate(lines) if left != right)
-    before = "\n".join(right for _, right in lines[max(0, at - 5):at])
-    return f"line {at + 1} is {lines[at][0]!r}, not {lines[at][1]!r}, behind\n{before}"
+def arguments():
+    parser = argparse.ArgumentParser(description=__doc__, formatter_class=argparse.RawDescriptionHelpFormatter)
+    parser.add_argument("count", metavar="COUNT", type=int, nargs="?", default=40)
+    parser.add_argument("seed", metavar="SEED", type=int, nargs="?", default=1)
+    parser.add_argument("--view", metavar="VIEW", help="crates/fmp_view/out/fmp_view")
+    parser.add_argument("--program", metavar="PROGRAM", help="crates/fmp/out/fmp")
+    parser.add_argument("--library", metavar="LIBRARY", type=Path, default=ROOT / "crates/fmp_c/out/libfmp_c.a",
+                        help="crates/fmp_c/out/libfmp_c.a")
+    return parser.parse_args()
 
 
 def main():
-    view, program, library, *more = sys.argv[1:]
-    count, seed = (int(it) for it in [*more, *("40", "1")[len(more):]])
+    words = arguments()
+    if shutil.which(COMPILER) is None:
+        print(f"{SCRIPT}: it did not run: there is no C compiler")
+        return 0
     with tempfile.TemporaryDirectory() as room:
-        bench = Bench(view, program, library, Path(room))
-        steps = sorted((ROOT / "examples").glob("*.steps"))
-        systems = [(it.stem, [str(it.with_suffix(end)) for end in (".cfg", ".src", ".steps")]) for it in steps]
-        counts = []
-        for name, paths in (*systems, *((f"seed {at}", at) for at in range(seed, seed + count))):
-            try:
-                counts.append(bench.compare(*(bench.texts(paths) if isinstance(paths, int) else paths)))
-            except Difference as found:
-                print(f"{name}: {found}")
-                return 1
-    lines = [it for it in counts if it is not None]
-    print(f"{len(lines)} systems, {sum(lines)} lines of traces: no difference; {len(counts) - len(lines)} are refused")
+        try:
+            for line in tried(words, Path(room)):
+                print(f"{SCRIPT}: {line}", flush=True)
+        except Difference as found:
+            print(f"{SCRIPT}: {found}")
+            return 1
     return 0
 
 

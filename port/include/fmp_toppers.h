@@ -34,9 +34,9 @@
 #pragma GCC diagnostic ignored "-Wunused-variable"
 #pragma GCC diagnostic ignored "-Wunused-but-set-variable"
 
-/* What a check of this file is told: a call that is answered here and not by the kernel, and a turn of a loop. */
-#ifndef FMP_SEEN
-#define FMP_SEEN(service, a, b) ((void)0)
+/* For a check of this file: the code of a call that is answered here and not by the kernel, and a turn of a loop. */
+#ifndef FMP_ANSWER
+#define FMP_ANSWER(code, service, a, b) (code)
 #define FMP_TURN() ((void)0)
 #endif
 
@@ -170,10 +170,9 @@ static inline ER ld_shr(int32_t number, int32_t *place)
         code = E_OK;
     }
 #endif
-    FMP_SEEN(2, number, *place);
     (void)number;
     (void)place;
-    return code;
+    return FMP_ANSWER(code, 2, number, *place);
 }
 
 static inline ER st_shr(int32_t number, int32_t value)
@@ -185,10 +184,9 @@ static inline ER st_shr(int32_t number, int32_t value)
         code = E_OK;
     }
 #endif
-    FMP_SEEN(3, number, value);
     (void)number;
     (void)value;
-    return code;
+    return FMP_ANSWER(code, 3, number, value);
 }
 
 /*
@@ -329,10 +327,9 @@ static inline ER fmp_snd_mbx(ID mbxid, int32_t number)
         return snd_mbx(mbxid, (T_MSG *)&fmp_messages[number - 1]);
     }
 #endif
-    FMP_SEEN(36, mbxid, number);
     (void)mbxid;
     (void)number;
-    return E_ID;
+    return FMP_ANSWER(E_ID, 36, mbxid, number);
 }
 
 static inline int32_t fmp_number(const T_MSG *message)

@@ -1,8 +1,8 @@
-/* seen.h: what fmp_toppers.h answers by itself is told to the shim, and the turns of loops. */
+/* seen.h: the shim answers what fmp_toppers.h answers by itself, and is told of the turns of loops. */
 #include <stdint.h>
 
-void shim_seen(uint8_t service, int32_t a, int32_t b);
+int32_t shim_answer(int32_t code, uint8_t service, int32_t a, int32_t b);
 void shim_turn(void);
 
-#define FMP_SEEN(service, a, b) shim_seen(service, a, b)
+#define FMP_ANSWER(code, service, a, b) shim_answer(code, service, a, b)
 #define FMP_TURN() shim_turn()

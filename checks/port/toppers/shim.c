@@ -62,17 +62,18 @@ ER ext_tsk(void)
 }
 
 /*
- * What the header answers by itself: service calls of which it has told. A shared word there must be the kernel's.
+ * What the header answers by itself. Its answer for a shared word, and the word that it has read, must be the kernel's.
  */
 
-void shim_seen(uint8_t service, int32_t a, int32_t b)
+int32_t shim_answer(int32_t code, uint8_t service, int32_t a, int32_t b)
 {
     int32_t word = b;
-    ER code = fmp_service(service, a, b, 0, 0, &word);
-    if (service == 2 && code == E_OK && word != b) {
-        fprintf(stderr, "shared word %d is %d, and %d in the kernel\n", (int)a, (int)b, (int)word);
+    ER answer = fmp_service(service, a, b, 0, 0, &word);
+    if (service <= 3 && (answer != code || word != b)) {
+        fprintf(stderr, "shared word %d: %d and %d, but %d and %d\n", (int)a, (int)code, (int)b, (int)answer, (int)word);
         exit(1);
     }
+    return answer;
 }
 
 void shim_turn(void) { fmp_poll(); }
