@@ -58,33 +58,33 @@ fn append_more(source: &[u8], items: &[Item], out: &mut Vec<u8>) -> Result<(), A
 
 /// Appends what stands before the attribute of an object.
 #[tactic(auto, unfolding(crate::specs::Written::front_text))]
-fn append_front(source: &[u8], record: &Record, out: &mut Vec<u8>) -> Result<(), AllocError>
-    ensures { OnOk result (out.new.items ≡ out.old.items ++ spec.front_text source.now (record_view record.now)) }
+fn append_front(source: &[u8], object: &Record, out: &mut Vec<u8>) -> Result<(), AllocError>
+    ensures { OnOk result (out.new.items ≡ out.old.items ++ spec.front_text source.now (record_view object.now)) }
 {
     append(b"    ", out)?;
-    append(record.api.name().as_bytes(), out)?;
+    append(object.api.name().as_bytes(), out)?;
     append(b"(", out)?;
-    append_item(source, record.subject, out)?;
+    append_item(source, object.subject, out)?;
     append(b", { ", out)
 }
 
 /// Appends an object.
 #[tactic(auto, unfolding(crate::specs::Written::record_text))]
-fn append_record(source: &[u8], record: &Record, out: &mut Vec<u8>) -> Result<(), AllocError>
-    ensures { OnOk result (out.new.items ≡ out.old.items ++ record_text source.now (record_view record.now)) }
+fn append_record(source: &[u8], object: &Record, out: &mut Vec<u8>) -> Result<(), AllocError>
+    ensures { OnOk result (out.new.items ≡ out.old.items ++ record_text source.now (record_view object.now)) }
 {
-    append_front(source, record, out)?;
-    append_item(source, record.attribute, out)?;
-    append_more(source, &record.rest, out)?;
+    append_front(source, object, out)?;
+    append_item(source, object.attribute, out)?;
+    append_more(source, &object.rest, out)?;
     append(b" });\n", out)
 }
 
 /// Appends objects.
-fn append_records(source: &[u8], records: &[Record], out: &mut Vec<u8>) -> Result<(), AllocError>
-    ensures { OnOk result (out.new.items ≡ out.old.items ++ records_text source.now (map record_view records.now)) }
+fn append_records(source: &[u8], objects: &[Record], out: &mut Vec<u8>) -> Result<(), AllocError>
+    ensures { OnOk result (out.new.items ≡ out.old.items ++ records_text source.now (map record_view objects.now)) }
 {
-    for record in records {
-        append_record(source, record, out)?;
+    for object in objects {
+        append_record(source, object, out)?;
     }
     Ok(())
 }

@@ -8,9 +8,9 @@ pub returns : goal.returns
 unfolding record_text
 returns c =
     let source = c.args.source.now in
-    let p = front_text source (record_view c.args.record.now) in
-    let q = item_text source c.args.record.now.attribute in
-    let r = more_text source c.args.record.now.rest.items in
+    let p = front_text source (record_view c.args.object.now) in
+    let q = item_text source c.args.object.now.attribute in
+    let r = more_text source c.args.object.now.rest.items in
     let s = codes " });\n" in
     let more = c.in_ok-append_more.ensures
     ∙ ap (λ is. c.append_item.new.out.items ++ more_text source is) c.deref.ensures.value in
