@@ -12,5 +12,5 @@
 #define STACK_SIZE      (4 * 1024)
 #define MASK(n)         (1 << (n))
 
-extern void task(intptr_t exinf);
+extern void worker(intptr_t exinf);
 #endif

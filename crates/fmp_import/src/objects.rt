@@ -399,23 +399,38 @@ impl Parameters<'_> {
         Ok(Object { record, changes })
     }
 
+    /// Whether a field is a kind of notification of FMP3.
+    fn notifies(&self, field: Field) -> bool {
+        match self.reading.word_of(field) {
+            Some(word) => self.reading.bytes(word).starts_with(b"TNFY_"),
+            None => false,
+        }
+    }
+
+    /// Whether a field is the notification by a handler.
+    fn calls_handler(&self, field: Field) -> bool {
+        match self.reading.word_of(field) {
+            Some(word) => self.reading.bytes(word) == b"TNFY_HANDLER".as_slice(),
+            None => false,
+        }
+    }
+
     /// A cyclic handler, also in the form of FMP3, whose times are in microseconds.
     fn any_cyclic(&self, fields: &[Field]) -> Result<Object, Stop> {
         match fields {
-            [name, attribute, information, entry, period, phase] => self.cyclic(
-                [*name, *attribute, *information, *entry, *period, *phase],
-                false,
-            ),
-            [name, attribute, kind, information, entry, period, phase] => match self
-                .reading
-                .word_of(*kind)
-            {
-                Some(word) if self.reading.bytes(word) == b"TNFY_HANDLER".as_slice() => self.cyclic(
-                    [*name, *attribute, *information, *entry, *period, *phase],
-                    true,
-                ),
-                _ => Err(Stop::Left("it notifies by something else than a handler", None)),
-            },
+            [name, attribute, kind, information, entry, period, phase]
+                if self.calls_handler(*kind) => {
+                let fields = [*name, *attribute, *information, *entry, *period, *phase];
+                self.cyclic(fields, true)
+            }
+            [_, _, kind, ..] if self.notifies(*kind) => Err(Stop::Left(
+                "it notifies by something else than a handler",
+                None,
+            )),
+            [name, attribute, information, entry, period, phase] => {
+                let fields = [*name, *attribute, *information, *entry, *period, *phase];
+                self.cyclic(fields, false)
+            }
             _ => Err(WRONG_COUNT),
         }
     }
