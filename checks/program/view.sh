@@ -1740,6 +1740,38 @@ refused 'recording: with steps' 'cannot be used with' stats --recording queue.re
 refused 'recording: neither that nor steps' 'not provided' stats queue.img
 refused 'recording: over the recording' 'one of the two that are read' waves --recording queue.rec queue.cfg ./queue.rec
 
+# The events of the interrupts at times: interrupt 3 is requested at 30 and DRIVER runs at 60, then at 110 and at 125.
+cat > interrupt.rec <<'END'
+run 2 slp_tsk @10
+run 1 loc_cpu @20
+int 3 @30
+run 1 unl_cpu @40
+run 2 put 4 @50
+run 1 iwup_tsk 2 @60
+run 1 end @70
+run 2 put 3 @80
+run 1 put 1 @90
+run 2 slp_tsk @100
+int 3 @110
+run 1 iwup_tsk 2 @125
+run 1 end @130
+run 1 end @140
+run 2 put 3 @150
+END
+cat > wanted <<'END'
+task    starts   calls   waits  time-outs  preemptions    kept   spins  events   share
+MAIN         1       3       0          0            0       0       0       4   26.6%
+DRIVER       1       4       2          0            0       0       0       4   26.6%
+OTHER        1       1       0          0            2       0       0       1    6.6%
+
+request  responses  median us  worst us
+#3               2         15        30
+END
+shows 'recording: how long responses took' 0 stats --recording interrupt.rec interrupt.cfg
+shows 'recording: a picture with times' 0 timeline --recording interrupt.rec interrupt.cfg timed.svg
+holds 'recording: the times of its events' 'they are not there' grep -q '>0.125</text>' timed.svg
+holds 'recording: the time that it takes' 'it is not there' grep -q ' · 0.000–0.150 ms · ' timed.svg
+
 # The bodies of a text as C: a folder gets them, the two texts and a makefile. A main program that is there is kept.
 shows 'export: queue' 0 export queue.cfg queue.src --c project
 printf '%s\n' Makefile bodies.c bodies.h main.c system.cfg system.src > wanted
@@ -1772,6 +1804,17 @@ shows 'export: a folder that cannot be made' 3 export queue.cfg queue.src --c no
 echo 'file: ok/bodies.h' > said
 shows 'export: a file in the place of the folder' 3 export queue.cfg queue.src --c ok
 refused 'export: no folder is named' 'not provided' export queue.cfg queue.src
+refused 'export: two folders' 'cannot be used with' export queue.cfg queue.src --c faulty --toppers faulty
+refused 'export: FMP3 without TOPPERS' 'cannot be used with' export queue.cfg queue.src --c faulty --fmp3
+shows 'export: for TOPPERS/FMP' 0 export queue.cfg queue.src --toppers target
+printf '%s\n' bodies.c bodies.h system.cfg > wanted
+gives 'export: the files for TOPPERS/FMP' ls target
+holds 'export: the classes of FMP' 'there are none' grep -q 'CLASS(TCL_1)' target/system.cfg
+shows 'export: for TOPPERS/FMP3' 0 export queue.cfg queue.src --toppers target --fmp3
+holds 'export: the classes of FMP3' 'there are none' grep -q 'CLASS(CLS_PRC1)' target/system.cfg
+echo 'M: FMP3 has no mailboxes' > said
+shows 'export: a mailbox for FMP3' 1 export lengths.cfg lengths.src --toppers faulty --fmp3
+absent 'export: no folder for a mailbox' faulty
 refused 'export: over the configuration' "a file of the folder DIR is one of the two that are read" \
     export project/system.cfg queue.src --c project
 refused 'export: over the text by another name' "a file of the folder DIR is one of the two that are read" \

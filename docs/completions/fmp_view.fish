@@ -65,5 +65,7 @@ complete -c fmp_view -n '__fish_seen_subcommand_from timeline' -l to -x -d 'Last
 complete -c fmp_view -n '__fish_seen_subcommand_from timeline' -l objects -d 'Draw semaphores, eventflags, data queues, mailboxes and shared words too'
 complete -c fmp_view -n '__fish_seen_subcommand_from timeline' -s h -l help -d 'Print help'
 complete -c fmp_view -n '__fish_seen_subcommand_from export' -l c -x -d 'Folder that gets bodies.h, bodies.c, main.c, Makefile, and the two texts as system.cfg and system.src, in place of files of these names; but a main.c that is there is kept. The folder is made if it is not there'
+complete -c fmp_view -n '__fish_seen_subcommand_from export' -l toppers -x -d 'Folder that gets system.cfg, bodies.h and bodies.c for TOPPERS/FMP 1, in place of files of these names. The folder is made if it is not there'
+complete -c fmp_view -n '__fish_seen_subcommand_from export' -l fmp3 -d 'Write them for TOPPERS/FMP3'
 complete -c fmp_view -n '__fish_seen_subcommand_from export' -s h -l help -d 'Print help'
 complete -c fmp_view -f -n '__fish_seen_subcommand_from code' -a 'E_OK E_SYS E_NOSPT E_RSATR E_PAR E_ID E_CTX E_ILUSE E_OBJ E_QOVR E_RLWAI E_TMOUT F_OVF F_DIV F_IDX B1 B2 B3 B4 B5 B6 B7 B9 L1 L2 L3 L4 L5 L6 S1 S2 S3 H4 H5'

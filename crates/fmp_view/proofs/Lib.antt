@@ -1,4 +1,6 @@
 pub mod Fresh
 pub mod GivenWords
 pub mod Printing
+pub mod Projects
 pub mod StuckLemmas
+pub mod TargetLemmas

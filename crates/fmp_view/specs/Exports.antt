@@ -22,9 +22,9 @@ abbrev pub in_folder : (folder file : List ℕ) → List ℕ
 in_folder folder file = folder ++ (codes "/" ++ file)
 
 -- the main program is written, unless it is kept
-abbrev pub main_file : (folder : List ℕ) → Exported → (keeps_main : Bool) → List Deed
-main_file folder e true = []
-main_file folder e false = wrote (in_folder folder (codes "main.c")) e.main.items ∷ []
+abbrev pub main_file : (folder main : List ℕ) → (keeps_main : Bool) → List Deed
+main_file folder main true = []
+main_file folder main false = wrote (in_folder folder (codes "main.c")) main ∷ []
 
 -- the files of a folder are written
 abbrev pub project : (folder : List ℕ) → Texts → Exported → (keeps_main : Bool) → List Deed
@@ -34,7 +34,7 @@ project folder t e keeps_main =
     ∷ (wrote (in_folder folder (codes "system.cfg")) t.cfg.now
     ∷ (wrote (in_folder folder (codes "system.src")) t.src.now
     ∷ (wrote (in_folder folder (codes "Makefile")) MAKEFILE.now
-    ∷ main_file folder e keeps_main))))
+    ∷ main_file folder e.main.items keeps_main))))
 
 -- the files of a folder are those of two texts
 pub record HasExportedTexts (t : Texts) (folder : List ℕ) (before after : Option (List Deed)) : Type 0 where

@@ -10,4 +10,5 @@ pub mod Fresh
 pub mod Given
 pub mod OpenSystems
 pub mod Stepped
+pub mod Targets
 pub mod Traces

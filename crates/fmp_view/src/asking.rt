@@ -10,10 +10,12 @@ use crate::faults::{FileNames, Form};
 use crate::form::{EVENTS_MAX, export_command, program, timeline_command, waves_command};
 use crate::given::{bound_of, entered, flag_of, text_of, word_of, word32_of, word64_of};
 use crate::sources::Exploring;
+use crate::targeting::Targeting;
 use crate::viewing::{Format, TraceFormat};
 use clap::{ArgMatches, Error};
 use fmp_files::{mistake, mistake_of};
 use fmp_timeline::Choice;
+use fmp_toppers::Target;
 use std::alloc::{AllocError, Global};
 
 /// The message for a word that is no code.
@@ -90,6 +92,8 @@ pub enum Asked<'a> {
     Code(&'a str),
     /// Write the bodies of a text as C to a folder.
     Export(Exporting<'a>),
+    /// Write the files of a system for TOPPERS/FMP to a folder.
+    Target(Targeting<'a>),
     /// Show the fault of the texts of these files, and of steps if there are steps, or their warnings.
     Fault(FileNames<'a>, Form),
     /// Print the trace of a run of the texts of these files, over the steps if there are steps.
@@ -205,6 +209,27 @@ fn exporting_of<'a>(words: &ArgMatches<'a>) -> Exporting<'a> {
     }
 }
 
+/// The kernel that is exported for.
+fn target_of(words: &ArgMatches<'_>) -> Target {
+    if flag_of(words, "fmp3") {
+        Target::Fmp3
+    } else {
+        Target::Fmp1
+    }
+}
+
+/// Which export is asked for.
+fn export_asked<'a>(words: &ArgMatches<'a>) -> Asked<'a> {
+    match text_of(words, "toppers") {
+        Some(folder) => Asked::Target(Targeting {
+            names: names_of(words),
+            folder,
+            target: target_of(words),
+        }),
+        None => Asked::Export(exporting_of(words)),
+    }
+}
+
 fn running_of(words: &ArgMatches<'_>) -> Running {
     Running {
         form: form_of(words),
@@ -239,7 +264,7 @@ fn run_asked<'a>(words: &ArgMatches<'a>) -> Asked<'a> {
 fn look_of<'a>(name: &str, words: &ArgMatches<'a>) -> Asked<'a> {
     match name {
         "code" => Asked::Code(word_of(words, "CODE")),
-        "export" => Asked::Export(exporting_of(words)),
+        "export" => export_asked(words),
         "fault" => Asked::Fault(names_of(words), form_of(words)),
         "run" => run_asked(words),
         "step" => Asked::Step(names_of(words), bound_of(words)),

@@ -13,22 +13,22 @@ use std::alloc::{AllocError, Global};
 
 /// The calls of a run so far.
 #[derive(Drop)]
-pub struct Called {
+pub struct CallView {
     pub calls: Calls,
 }
 
-impl Called {
+impl CallView {
     /// The calls of a run after setup, which makes none. `AllocError` if memory runs out.
-    fn new(alloc: Global, setup: &Frame) -> Result<Called, AllocError>
+    fn new(alloc: Global, setup: &Frame) -> Result<CallView, AllocError>
         ensures { IfOk result (λ made. told_of made.calls ≡ begins_called (length setup.now.states.items)) }
     {
-        Ok(Called {
+        Ok(CallView {
             calls: Calls::new(alloc, setup.states.len())?,
         })
     }
 }
 
-impl Viewer for Called {
+impl Viewer for CallView {
     ghost shown = { λ x f y. told_of y.calls ≡ told_after_all (told_of x.calls) f.lines };
 
     /// One event more.
@@ -45,15 +45,15 @@ fn called<B: Body, T: Coming<B>>(
     body: &B,
     n: u64,
     events: &[T],
-) -> Result<Called, AllocError>
+) -> Result<CallView, AllocError>
     requires few { kernel.old.taken + length events.now ≤ 2 ^ 31 }
     requires body { body.now ≡ kernel.old.body }
     requires bound { n ≡ kernel.old.bound }
     ensures { IfOk result (λ called. WasShown (λ x f. told_of x.calls ≡ begins_called (length f.states))
-        ⟦<Called as Viewer>⟧.shown B.meaning T.reaction kernel.old events.now called) }
+        ⟦<CallView as Viewer>⟧.shown B.meaning T.reaction kernel.old events.now called) }
 {
     let setup = last_frame(alloc, kernel, body, n)?;
-    let mut called = Called::new(alloc, &setup)?;
+    let mut called = CallView::new(alloc, &setup)?;
     drop(setup);
     show_all(alloc, kernel, body, n, events, &mut called)?;
     Ok(called)

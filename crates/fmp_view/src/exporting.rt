@@ -2,7 +2,7 @@
 ghost use Rattle.std.specs.Prelude.{◌≡◌, ◌∷◌, [], Bool, IfOk, OnOk};
 ghost use Rattle.std.specs.String.{string_bytes};
 ghost use Rattle.fmp_files.specs.Deeds.{Does, wrote};
-ghost use Rattle.fmp_view.specs.Exports.{HasExported, HasExportedTexts, IsExportOf, in_folder, project};
+ghost use Rattle.fmp_view.specs.Exports.{HasExported, HasExportedTexts, IsExportOf, in_folder, main_file, project};
 
 use crate::asking::files_over_input;
 use crate::faults::{FileNames, Form};
@@ -27,7 +27,7 @@ pub struct Exporting<'a> {
 }
 
 /// The files of the folder.
-const FILES: [&str; 6] = [
+const FILES: &[&str] = &[
     "bodies.h",
     "bodies.c",
     "system.cfg",
@@ -43,16 +43,18 @@ fn name_in(alloc: Global, folder: &str, file: &str) -> Result<String, AllocError
     format!(in alloc; "{folder}/{file}")
 }
 
-/// Whether one of the files of the folder is one of the two that are read.
-fn is_over_input<O: Outside>(
+/// Whether one of these files of a folder is one of the two that are read.
+pub fn is_over_input<O: Outside>(
     alloc: Global,
     outside: &O,
-    exporting: Exporting<'_>,
+    names: FileNames<'_>,
+    folder: &str,
+    files: &[&str],
 ) -> Result<bool, AllocError> {
-    let FileNames { cfg, src, .. } = exporting.names;
-    for file in FILES {
-        let name = name_in(alloc, exporting.folder, file)?;
-        if outside.is_one_file(name.as_str(), cfg) || outside.is_one_file(name.as_str(), src) {
+    for file in files {
+        let name = name_in(alloc, folder, file)?;
+        let name = name.as_str();
+        if outside.is_one_file(name, names.cfg) || outside.is_one_file(name, names.src) {
             return Ok(true);
         }
     }
@@ -74,7 +76,7 @@ fn exported(alloc: Global, cfg: &[u8], src: &[u8]) -> Result<Exported, BuildFaul
 }
 
 /// Makes a folder, unless it is there.
-fn make_folder<R: Files>(alloc: Global, rt: &R, folder: &str) -> Result<(), Failure> {
+pub fn make_folder<R: Files>(alloc: Global, rt: &R, folder: &str) -> Result<(), Failure> {
     match fs::create_dir(rt, folder) {
         Ok(()) => Ok(()),
         Err(error) if error.kind() == ErrorKind::AlreadyExists => Ok(()),
@@ -89,7 +91,7 @@ fn has_main<R: Files>(alloc: Global, rt: &R, folder: &str) -> Result<bool, Alloc
 }
 
 /// Writes a file of a folder.
-fn write_in<O: Outside>(
+pub fn write_in<O: Outside>(
     alloc: Global,
     outside: &mut O,
     folder: &str,
@@ -101,6 +103,24 @@ fn write_in<O: Outside>(
 {
     let name = name_in(alloc, folder, file)?;
     write_file(alloc, outside, name.as_str(), bytes)
+}
+
+/// Writes the main program of a folder, unless it is kept.
+#[tactic(auto, using(fmp_files::specs::PrintsLaws::does_nothing))]
+fn write_main<O: Outside>(
+    alloc: Global,
+    outside: &mut O,
+    folder: &str,
+    main: &[u8],
+    keeps_main: bool,
+) -> Result<(), Failure>
+    ensures { OnOk result (Does (O.done outside.old) (main_file folder.now main.now keeps_main)
+        (O.done outside.new)) }
+{
+    if keeps_main {
+        return Ok(());
+    }
+    write_in(alloc, outside, folder, "main.c", main)
 }
 
 /// Writes the files of a folder, but for a main program that is kept.
@@ -120,10 +140,7 @@ fn write_project<O: Outside>(
     write_in(alloc, outside, folder, "system.cfg", texts.cfg)?;
     write_in(alloc, outside, folder, "system.src", texts.src)?;
     write_in(alloc, outside, folder, "Makefile", MAKEFILE)?;
-    if keeps_main {
-        return Ok(());
-    }
-    write_in(alloc, outside, folder, "main.c", &exported.main)
+    write_main(alloc, outside, folder, &exported.main, keeps_main)
 }
 
 /// Makes a folder and writes its files.
@@ -211,7 +228,7 @@ pub fn run_export<O: Outside, R: Files>(
     ensures { result ≡ 0 → HasExported (O.files outside.old) exporting.entry
         (O.done outside.old) (O.done outside.new) }
 {
-    match is_over_input(alloc, outside, exporting) {
+    match is_over_input(alloc, outside, exporting.names, exporting.folder, FILES) {
         Ok(false) => export_files(alloc, outside, rt, exporting),
         Ok(true) => refuse_mistake(outside, files_over_input(alloc)),
         Err(error) => end(outside, &Failure::Memory(error)),

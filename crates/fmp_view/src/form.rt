@@ -141,6 +141,14 @@ const DIR: &str =
     "Folder that gets bodies.h, bodies.c, main.c, Makefile, and the two texts as system.cfg and system.src, in
 place of files of these names; but a main.c that is there is kept. The folder is made if it is not there";
 
+/// Where what is exported for TOPPERS/FMP goes.
+const TARGET_DIR: &str =
+    "Folder that gets system.cfg, bodies.h and bodies.c for TOPPERS/FMP 1, in place of
+files of these names. The folder is made if it is not there";
+
+/// Another target.
+const FMP3: &str = "Write them for TOPPERS/FMP3";
+
 /// The largest bound, 2^48.
 pub const BOUND_MAX: u64 = 281_474_976_710_656;
 
@@ -181,8 +189,8 @@ enum Kind {
     Option(&'static str, Value),
     /// An option with a text, which help calls so, that may be given again.
     Again(&'static str),
-    /// An option with a text, which help calls so, that has to be given.
-    Needed(&'static str),
+    /// An option with a text, which help calls so: it or the other option has to be given, and not both.
+    Either(&'static str, &'static str),
 }
 
 /// An argument of a command: its name, what it is, and what help says of it.
@@ -340,7 +348,13 @@ static EXPLORE: Form = Form {
 static EXPORT: Form = Form {
     name: "export",
     about: "Writes the bodies of a text as C, with what builds and runs them on the library for C",
-    arguments: &[CFG, SRC, Argument("c", Kind::Needed("DIR"), DIR)],
+    arguments: &[
+        CFG,
+        SRC,
+        Argument("c", Kind::Either("DIR", "toppers"), DIR),
+        Argument("toppers", Kind::Either("DIR", "c"), TARGET_DIR),
+        Argument("fmp3", Kind::FlagWithout("c"), FMP3),
+    ],
     example: "Example: fmp_view export examples/queue.cfg examples/queue.src --c queue",
 };
 
@@ -455,7 +469,11 @@ fn argument_of<'a>(alloc: Global, argument: &Argument) -> Result<Arg<'a>, AllocE
             .conflicts_with(other)?,
         Kind::Option(name, value) => with_value(made.long(id).value_name(name), value),
         Kind::Again(name) => made.long(id).value_name(name).action(ArgAction::Append),
-        Kind::Needed(name) => made.long(id).value_name(name).required(true),
+        Kind::Either(name, other) => made
+            .long(id)
+            .value_name(name)
+            .required_unless_present(other)?
+            .conflicts_with(other)?,
         Kind::WordNoRecording => made
             .required_unless_present("recording")?
             .conflicts_with("recording")?,

@@ -10,6 +10,7 @@ use fmp_coming::Coming;
 use fmp_image_bytes::Image;
 use fmp_outside::Given;
 use fmp_recording::{MOST_LINES, RecordingFault, read_recording, read_times};
+use fmp_responses::known_times;
 use std::alloc::Global;
 
 /// A look at a run of a system, whatever its bodies are.
@@ -85,6 +86,11 @@ pub fn recording_of(alloc: Global, text: &[u8], processors: u8) -> Result<Vec<Gi
 /// When each line of a recording came, where it says so.
 fn times_of(alloc: Global, recording: &[u8]) -> Result<Vec<Option<u64>>, Exit> {
     read_times(alloc, recording).map_err(|error| memory(error))
+}
+
+/// When setup and each event of a run came; nothing where that is not known.
+pub fn known_of(alloc: Global, times: &[Option<u64>]) -> Result<Vec<u64>, Exit> {
+    known_times(alloc, times).map_err(|error| memory(error))
 }
 
 /// What a look makes of a recorded run of a system.

@@ -17,9 +17,11 @@ use crate::faults::Form;
 use crate::looking::{Look, look_at_image, look_at_recording};
 use crate::reading::read_both;
 use crate::searching::run_explore;
+use crate::targeting::run_target;
 use crate::telling::{print_made, print_run};
 use crate::texts::{print_fault, run_step, run_texts};
 use crate::timeline::{Cut, Picture, Titled};
+use crate::timing::Stats;
 use crate::viewing::Format;
 use crate::why::Why;
 use clap::ArgMatches;
@@ -199,7 +201,7 @@ fn print_why<O: Outside>(alloc: Global, outside: &mut O, run: Run<'_>, at: Optio
 
 /// Prints the table of a run.
 fn print_stats<O: Outside>(alloc: Global, outside: &mut O, run: Run<'_>) -> u8 {
-    let made = made_of_run(alloc, outside, run, &Output::Table);
+    let made = made_of_run(alloc, outside, run, &Stats);
     print_made(alloc, outside, made)
 }
 
@@ -295,6 +297,7 @@ fn look_at<O: Outside, R: Input + Files>(
 ) -> u8 {
     match asked {
         Asked::Export(exporting) => run_export(alloc, outside, rt, exporting),
+        Asked::Target(targeting) => run_target(alloc, outside, rt, targeting),
         Asked::Step(names, bound) => run_step(alloc, outside, rt, names, bound),
         Asked::Code(word) => say_code(alloc, outside, word),
         Asked::Fault(names, form) => print_fault(alloc, outside, names, form),

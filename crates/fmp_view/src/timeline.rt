@@ -5,12 +5,12 @@ ghost use Rattle.fmp_frames.specs.Shown.{WasShown};
 
 use crate::asking::Drawing;
 use crate::exit::{Exit, exit_of, memory};
-use crate::looking::Look;
+use crate::looking::{Look, known_of};
 use crate::opened::Opened;
 use crate::recording::Recorder;
 use fmp_base::System;
 use fmp_coming::Coming;
-use fmp_drawing::{DrawFault, MOST_BYTES, draw};
+use fmp_drawing::{DrawFault, MOST_BYTES, draw_timed};
 use fmp_engine::SimFault;
 use fmp_frames::{Viewer, last_frame, show_all};
 use fmp_kernel::{Body, Kernel};
@@ -164,20 +164,31 @@ pub fn run_of<O: Opened, T: Coming<O::Bodies>>(
     run_with(alloc, opened, events, objects, &turns)
 }
 
-/// The picture that is asked for of a run.
+/// These times, if they are those of a run's events.
+fn times_for<'a>(run: &Run, times: &'a [u64]) -> &'a [u64] {
+    if times.len() == run.next_event() as usize {
+        times
+    } else {
+        &[]
+    }
+}
+
+/// The picture that is asked for of a run, whose events came at these times if these are known.
 fn picture_of(
     alloc: Global,
     sys: &System,
     run: &Run,
     name: &[u8],
     drawing: Drawing,
+    times: &[u64],
 ) -> Result<Picture, TimelineFault> {
     let last = run.next_event().saturating_sub(1);
     if drawing.choice.first > last {
         return Err(TimelineFault::NoEvent(last));
     }
     let page = Page::new(sys, run, drawing.choice);
-    match draw(alloc, sys, run, name, page) {
+    let times = times_for(run, times);
+    match draw_timed(alloc, sys, run, name, page, times) {
         Ok(bytes) => Ok(Picture {
             bytes,
             cut: cut_of(&page, drawing, last),
@@ -206,11 +217,13 @@ impl Look for Titled<'_> {
         alloc: Global,
         opened: &O,
         events: &[T],
-        _times: &[Option<u64>],
+        times: &[Option<u64>],
     ) -> Result<Picture, Exit> {
+        let times = known_of(alloc, times)?;
         match run_of(alloc, opened, events, self.drawing.objects) {
             Ok(run) => {
-                let picture = picture_of(alloc, opened.system(), &run, self.title, self.drawing);
+                let sys = opened.system();
+                let picture = picture_of(alloc, sys, &run, self.title, self.drawing, &times);
                 drop(run);
                 picture.map_err(|fault| exit_of(fault))
             }

@@ -1,0 +1,42 @@
+-- What `export --toppers` writes.
+use Rattle.std.specs.Prelude.{ℕ, List, [], ◌∷◌, Ok, Option, codes}
+use Rattle.fmp_diagnosis.specs.declared.sentence.Texts.{Texts}
+use Rattle.fmp_files.specs.Deeds.{Deed, Does, wrote}
+use Rattle.fmp_files.specs.Outside.{Files}
+use Rattle.fmp_image.specs.Building.{Builds}
+use Rattle.fmp_image_bytes.specs.Images.{ImageTables}
+use Rattle.fmp_toppers.specs.declared.files.Exported.{Exported}
+use Rattle.fmp_toppers.specs.declared.target.Target.{Target}
+use Rattle.fmp_toppers.specs.Files.{IsExported}
+use Rattle.fmp_view.specs.declared.targeting.Targeting.{Targeting}
+use Rattle.fmp_view.specs.Claimed.{IsFile}
+use Rattle.fmp_view.specs.Exports.{in_folder}
+
+-- the files of a target, for the system that a text builds with a configuration
+pub record IsTargetOf (k : Target) (cfg src : List ℕ) (e : Exported) : Type 0 where
+  pub image : ImageTables
+  pub builds : Builds cfg src image
+  pub exported : IsExported k image.system src (Ok e)
+
+-- the files of a folder are written
+abbrev pub target_files : (folder : List ℕ) → Exported → List Deed
+target_files folder e =
+    wrote (in_folder folder (codes "system.cfg")) e.configuration.items
+    ∷ (wrote (in_folder folder (codes "bodies.h")) e.header.items
+    ∷ (wrote (in_folder folder (codes "bodies.c")) e.bodies.items ∷ []))
+
+-- the files of a folder are those of two texts
+pub record HasTargetedTexts
+    (k : Target) (t : Texts) (folder : List ℕ) (before after : Option (List Deed))
+    : Type 0
+  where
+    pub exported : Exported
+    pub is : IsTargetOf k t.cfg.now t.src.now exported
+    pub written : Does before (target_files folder exported) after
+
+-- the same of the texts of two files
+pub record HasTargeted (files : Files) (x : Targeting) (before after : Option (List Deed)) : Type 0 where
+  pub texts : Texts
+  pub is_cfg : IsFile files x.names.cfg.now texts.cfg.now
+  pub is_src : IsFile files x.names.src.now texts.src.now
+  pub has : HasTargetedTexts x.target texts x.folder.now before after

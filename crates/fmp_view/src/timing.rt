@@ -1,0 +1,129 @@
+//! The table of a run: what each task did, and how long responses took where the times of a recording tell it.
+ghost use Rattle.std.specs.Prelude.{◌≡◌, ◌+◌, ◌≤◌, ◌^◌, IfOk, length};
+ghost use Rattle.fmp_frames.specs.Shown.{WasShown};
+ghost use Rattle.fmp_frames.specs.Timing.{first_timed, timed_of};
+
+use crate::commands::{Output, output_of};
+use crate::exit::{Exit, memory};
+use crate::looking::Look;
+use crate::opened::Opened;
+use fmp_base::System;
+use fmp_coming::Coming;
+use fmp_frames::{Timing, Viewer, append_responses, last_frame, show_all};
+use fmp_kernel::{Body, Kernel};
+use fmp_responses::known_times;
+use std::alloc::{AllocError, Global};
+
+/// What is told of the responses of a run of a kernel over what comes to it at these times.
+#[tactic(none)]
+fn timed<'a, B: Body, T: Coming<B>>(
+    alloc: Global,
+    kernel: &mut Kernel<B>,
+    body: &B,
+    n: u64,
+    events: &[T],
+    times: &'a [u64],
+) -> Result<Timing<'a>, AllocError>
+    requires few { kernel.old.taken + length events.now ≤ 2 ^ 31 }
+    requires body { body.now ≡ kernel.old.body }
+    requires bound { n ≡ kernel.old.bound }
+    ensures { IfOk result (λ timing. WasShown (λ x f. timed_of x ≡ first_timed times.now f)
+        ⟦<Timing<'a> as Viewer>⟧.shown B.meaning T.reaction kernel.old events.now timing) }
+{
+    let setup = last_frame(alloc, kernel, body, n)?;
+    let mut timing = Timing::new(alloc, times, &setup)?;
+    drop(setup);
+    show_all(alloc, kernel, body, n, events, &mut timing)?;
+    Ok(timing)
+}
+
+/// The table of responses behind an empty line; nothing where some times are not those of events.
+fn responses_text(alloc: Global, sys: &System, timing: &Timing<'_>) -> Result<Vec<u8>, AllocError> {
+    let mut out = Vec::new(alloc);
+    if timing.times.is_empty() {
+        out.push(b'\n')?;
+        append_responses(alloc, sys, &timing.responses, &mut out)?;
+    }
+    Ok(out)
+}
+
+/// The table of the responses of a run of a kernel of this system over what comes to it at these times.
+#[tactic(none)]
+fn responses_on<B: Body, T: Coming<B>>(
+    alloc: Global,
+    sys: &System,
+    kernel: &mut Kernel<B>,
+    body: &B,
+    n: u64,
+    events: &[T],
+    times: &[u64],
+) -> Result<Vec<u8>, AllocError>
+    requires few { kernel.old.taken + length events.now ≤ 2 ^ 31 }
+    requires body { body.now ≡ kernel.old.body }
+    requires bound { n ≡ kernel.old.bound }
+{
+    let timing = timed(alloc, kernel, body, n, events, times)?;
+    responses_text(alloc, sys, &timing)
+}
+
+/// The table of the responses of a run of a system at these times.
+#[tactic(none)]
+fn responses_of<O: Opened, T: Coming<O::Bodies>>(
+    alloc: Global,
+    opened: &O,
+    events: &[T],
+    times: &[u64],
+) -> Result<Vec<u8>, AllocError>
+    requires { length events.now ≤ 2 ^ 31 }
+{
+    let mut kernel = opened.kernel(alloc)?;
+    let bodies = opened.bodies();
+    let made = responses_on(
+        alloc,
+        opened.system(),
+        &mut kernel,
+        &bodies,
+        opened.bound(),
+        events,
+        times,
+    );
+    drop(bodies);
+    drop(kernel);
+    made
+}
+
+/// The table of what each task of a run did, and behind it that of the responses where the times are known.
+fn stats_of<O: Opened, T: Coming<O::Bodies>>(
+    alloc: Global,
+    opened: &O,
+    events: &[T],
+    times: &[Option<u64>],
+) -> Result<Vec<u8>, AllocError>
+    requires { length events.now ≤ 2 ^ 31 }
+{
+    let mut table = output_of(alloc, opened, events, Output::Table)?;
+    let times = known_times(alloc, times)?;
+    if !times.is_empty() {
+        let responses = responses_of(alloc, opened, events, &times)?;
+        table.extend_from_slice(&responses)?;
+    }
+    Ok(table)
+}
+
+/// The table of a run.
+#[derive(Clone, Copy)]
+pub struct Stats;
+
+impl Look for Stats {
+    type Made = Vec<u8>;
+
+    fn of<O: Opened, T: Coming<O::Bodies>>(
+        &self,
+        alloc: Global,
+        opened: &O,
+        events: &[T],
+        times: &[Option<u64>],
+    ) -> Result<Vec<u8>, Exit> {
+        stats_of(alloc, opened, events, times).map_err(|error| memory(error))
+    }
+}
