@@ -18,6 +18,7 @@ dumps=$root/checks/program/dumps
 slices_by_hand=$root/checks/program/slices
 records=$root/checks/program/records.py
 slices=$root/checks/program/slices.py
+import=$root/checks/program/import
 
 # built NAME: the image of the two texts of this name.
 built() { "$fmp" build "$1.cfg" "$1.src" "$1.img" > /dev/null; }
@@ -1771,6 +1772,21 @@ shows 'recording: how long responses took' 0 stats --recording interrupt.rec int
 shows 'recording: a picture with times' 0 timeline --recording interrupt.rec interrupt.cfg timed.svg
 holds 'recording: the times of its events' 'they are not there' grep -q '>0.125</text>' timed.svg
 holds 'recording: the time that it takes' 'it is not there' grep -q ' · 0.000–0.150 ms · ' timed.svg
+
+# Configurations of others: what each becomes, and what is left out.
+for sample in sample1 fmp3 uitron; do
+    set --
+    [ "$sample" != fmp3 ] || set -- --define RX_PRIORITY=4
+    cp "$import/$sample.wanted" wanted
+    cp "$import/$sample.said" said
+    shows "import: $sample" 0 import "$import/$sample.cfg" "$@"
+done
+cp "$import/uitron.said" said
+shows 'import: to a file' 0 import "$import/uitron.cfg" --out imported.cfg
+same 'import: what the file has' "$import/uitron.wanted" imported.cfg
+refused 'import: a constant without a value' '--define wants NAME=VALUE' import "$import/uitron.cfg" --define RX_PRIORITY
+cp "$import/uitron.cfg" same.cfg
+refused 'import: over the configuration' 'the file OUT is the one that is read' import same.cfg --out ./same.cfg
 
 # The bodies of a text as C: a folder gets them, the two texts and a makefile. A main program that is there is kept.
 shows 'export: queue' 0 export queue.cfg queue.src --c project

@@ -7,8 +7,11 @@ use crate::built::Running;
 use crate::exploration::exploring_of;
 use crate::exporting::Exporting;
 use crate::faults::{FileNames, Form};
-use crate::form::{EVENTS_MAX, export_command, program, timeline_command, waves_command};
-use crate::given::{bound_of, entered, flag_of, text_of, word_of, word32_of, word64_of};
+use crate::form::{
+    EVENTS_MAX, export_command, import_command, program, timeline_command, waves_command,
+};
+use crate::given::{bound_of, entered, flag_of, text_of, word_of, word32_of, word64_of, words_of};
+use crate::importing::Importing;
 use crate::sources::Exploring;
 use crate::targeting::Targeting;
 use crate::viewing::{Format, TraceFormat};
@@ -26,6 +29,13 @@ const OUT_OVER_INPUT: &str = "the file OUT is one of the two that are read";
 
 /// The message for files of a folder that would replace one that is read.
 const FILES_OVER_INPUT: &str = "a file of the folder DIR is one of the two that are read";
+
+/// The message for a constant that has no value.
+const NO_CONSTANT: &str =
+    "--define wants NAME=VALUE, where VALUE is a number or made of known constants";
+
+/// The message for a configuration that would replace the one that is read.
+const OUT_OVER_CONFIGURATION: &str = "the file OUT is the one that is read";
 
 /// The message for a picture that ends before it begins.
 const FROM_AFTER_TO: &str = "--from is later than --to";
@@ -94,6 +104,8 @@ pub enum Asked<'a> {
     Export(Exporting<'a>),
     /// Write the files of a system for TOPPERS/FMP to a folder.
     Target(Targeting<'a>),
+    /// Make a configuration of TOPPERS or uITRON one of this project.
+    Import(Importing<'a>),
     /// Show the fault of the texts of these files, and of steps if there are steps, or their warnings.
     Fault(FileNames<'a>, Form),
     /// Print the trace of a run of the texts of these files, over the steps if there are steps.
@@ -230,6 +242,15 @@ fn export_asked<'a>(words: &ArgMatches<'a>) -> Asked<'a> {
     }
 }
 
+/// What is imported.
+fn importing_of<'m>(words: &'m ArgMatches<'_>) -> Importing<'m> {
+    Importing {
+        cfg: word_of(words, "CFG"),
+        constants: words_of(words, "define"),
+        out: text_of(words, "out"),
+    }
+}
+
 fn running_of(words: &ArgMatches<'_>) -> Running {
     Running {
         form: form_of(words),
@@ -261,10 +282,11 @@ fn run_asked<'a>(words: &ArgMatches<'a>) -> Asked<'a> {
 }
 
 /// What a subcommand of this name other than `explore` asks for with its words.
-fn look_of<'a>(name: &str, words: &ArgMatches<'a>) -> Asked<'a> {
+fn look_of<'m>(name: &str, words: &'m ArgMatches<'_>) -> Asked<'m> {
     match name {
         "code" => Asked::Code(word_of(words, "CODE")),
         "export" => export_asked(words),
+        "import" => Asked::Import(importing_of(words)),
         "fault" => Asked::Fault(names_of(words), form_of(words)),
         "run" => run_asked(words),
         "step" => Asked::Step(names_of(words), bound_of(words)),
@@ -296,6 +318,20 @@ pub fn dump_over_input(alloc: Global) -> Result<Error, AllocError> {
 /// The error for C that would replace a file that is read, which has the status 2.
 pub fn files_over_input(alloc: Global) -> Result<Error, AllocError> {
     mistake_of(export_command(alloc), "fmp_view export", FILES_OVER_INPUT)
+}
+
+/// The error for a constant that has no value, which has the status 2.
+pub fn no_constant(alloc: Global) -> Result<Error, AllocError> {
+    mistake_of(import_command(alloc), "fmp_view import", NO_CONSTANT)
+}
+
+/// The error for a configuration that would replace the one that is read, which has the status 2.
+pub fn out_over_configuration(alloc: Global) -> Result<Error, AllocError> {
+    mistake_of(
+        import_command(alloc),
+        "fmp_view import",
+        OUT_OVER_CONFIGURATION,
+    )
 }
 
 /// The error for words of `timeline` that have the right form.

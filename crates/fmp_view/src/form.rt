@@ -22,6 +22,7 @@ const EXAMPLE_AND_STATUS: &str = "Example, with the image of the example of 'fmp
   fmp_view waves queue.img drive.steps queue.vcd
   fmp_view timeline queue.img drive.steps queue.svg
   fmp_view export examples/queue.cfg examples/queue.src --c queue
+  fmp_view import sample1.cfg --out sample1.fmp.cfg
 
 Status, and the line on standard error with it:
   0        done; help or the version was asked for
@@ -148,6 +149,16 @@ files of these names. The folder is made if it is not there";
 
 /// Another target.
 const FMP3: &str = "Write them for TOPPERS/FMP3";
+
+/// A constant of a configuration.
+const DEFINE: &str =
+    "Value of a constant of CFG, before those of the files that it includes; it may be given again";
+
+/// What is imported.
+const FOREIGN: &str = "Configuration of TOPPERS or uITRON; files that it includes stand beside it";
+
+/// Where the configuration goes.
+const IMPORTED: &str = "File that gets the configuration; without it standard output does";
 
 /// The largest bound, 2^48.
 pub const BOUND_MAX: u64 = 281_474_976_710_656;
@@ -358,6 +369,17 @@ static EXPORT: Form = Form {
     example: "Example: fmp_view export examples/queue.cfg examples/queue.src --c queue",
 };
 
+static IMPORT: Form = Form {
+    name: "import",
+    about: "Makes a configuration of TOPPERS/FMP, FMP3 or uITRON 4.0 one of this project, and says what is left out",
+    arguments: &[
+        Argument("CFG", Kind::Word, FOREIGN),
+        Argument("define", Kind::Again("NAME=VALUE"), DEFINE),
+        Argument("out", Kind::Option("OUT", Value::Text), IMPORTED),
+    ],
+    example: "Example: fmp_view import sample1.cfg --define LOGTASK_PRIORITY=3 --out sample1.fmp.cfg",
+};
+
 static DIFF: Form = Form {
     name: "diff",
     about: "Shows the first event in which two runs of a system differ, and the states then",
@@ -509,6 +531,11 @@ pub fn export_command<'a>(alloc: Global) -> Made<'a> {
     command_of(alloc, &EXPORT)
 }
 
+/// The command `import`.
+pub fn import_command<'a>(alloc: Global) -> Made<'a> {
+    command_of(alloc, &IMPORT)
+}
+
 /// The command `explore`.
 pub fn explore_command<'a>(alloc: Global) -> Made<'a> {
     command_of(alloc, &EXPLORE)
@@ -528,7 +555,7 @@ fn bare<'a>(alloc: Global) -> Command<'a> {
 pub fn program<'a>(alloc: Global) -> Made<'a> {
     let forms = [
         &CODE, &FAULT, &RUN, &STEP, &DRIVE, &WHY, &EXPLORE, &DIFF, &EXPECTED, &STATS, &WAVES,
-        &TIMELINE, &EXPORT,
+        &TIMELINE, &EXPORT, &IMPORT,
     ];
     let mut program = bare(alloc);
     for form in forms {

@@ -23,6 +23,7 @@ mod finding;
 mod flaws;
 mod form;
 mod given;
+mod importing;
 mod looking;
 mod open_image;
 mod open_system;

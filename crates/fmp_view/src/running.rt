@@ -14,6 +14,7 @@ use crate::exit::Exit;
 use crate::expecting::Expectations;
 use crate::exporting::run_export;
 use crate::faults::Form;
+use crate::importing::run_import;
 use crate::looking::{Look, look_at_image, look_at_recording};
 use crate::reading::read_both;
 use crate::searching::run_explore;
@@ -298,6 +299,7 @@ fn look_at<O: Outside, R: Input + Files>(
     match asked {
         Asked::Export(exporting) => run_export(alloc, outside, rt, exporting),
         Asked::Target(targeting) => run_target(alloc, outside, rt, targeting),
+        Asked::Import(importing) => run_import(alloc, outside, importing),
         Asked::Step(names, bound) => run_step(alloc, outside, rt, names, bound),
         Asked::Code(word) => say_code(alloc, outside, word),
         Asked::Fault(names, form) => print_fault(alloc, outside, names, form),
