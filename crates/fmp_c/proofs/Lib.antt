@@ -2,3 +2,4 @@ pub mod Rows
 pub mod Short
 pub mod Steps
 pub mod Taken
+pub mod Restarted
