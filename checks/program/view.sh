@@ -1784,7 +1784,7 @@ done
 cp "$import/uitron.said" said
 shows 'import: to a file' 0 import "$import/uitron.cfg" --out imported.cfg
 same 'import: what the file has' "$import/uitron.wanted" imported.cfg
-refused 'import: a constant without a value' '--define wants NAME=VALUE' import "$import/uitron.cfg" --define RX_PRIORITY
+refused 'import: a constant without a value' '--define wants NAME=VALUE' import "$import/uitron.cfg" --define RX_PRIORITY=
 cp "$import/uitron.cfg" same.cfg
 refused 'import: over the configuration' 'the file OUT is the one that is read' import same.cfg --out ./same.cfg
 
@@ -1827,7 +1827,7 @@ printf '%s\n' bodies.c bodies.h system.cfg > wanted
 gives 'export: the files for TOPPERS/FMP' ls target
 holds 'export: the classes of FMP' 'there are none' grep -q 'CLASS(TCL_1)' target/system.cfg
 shows 'export: for TOPPERS/FMP3' 0 export queue.cfg queue.src --toppers target --fmp3
-holds 'export: the classes of FMP3' 'there are none' grep -q 'CLASS(CLS_PRC1)' target/system.cfg
+holds 'export: the classes of FMP3' 'there are none' grep -q 'CLASS(CLS_ALL_PRC1)' target/system.cfg
 echo 'M: FMP3 has no mailboxes' > said
 shows 'export: a mailbox for FMP3' 1 export lengths.cfg lengths.src --toppers faulty --fmp3
 absent 'export: no folder for a mailbox' faulty
