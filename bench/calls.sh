@@ -15,8 +15,8 @@ trap 'rm -rf "$room"' EXIT
 
 compiled() {
     "${CC:-cc}" -std=c11 -O2 -I"$root/port/include" -I"$root/port" "$root/bench/$1.c" "$root/port/virtual.c" \
-        "$root/port/system.c" "$root/port/recording.c" "$root/port/overflow.c" "$root/port/checked.c" \
-        "$root/port/coroutine.c" "$library" "$glue" -o "$room/$1"
+        "$root/port/system.c" "$root/port/files.c" "$root/port/recording.c" "$root/port/overflow.c" \
+        "$root/port/checked.c" "$root/port/coroutine.c" "$library" "$glue" -o "$room/$1"
 }
 
 # counted PROGRAM KIND CALLS: the instructions of a run.
