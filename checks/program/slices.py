@@ -5,8 +5,8 @@
     checks/program/slices.py tlv LOG RESOURCES
 
 `perfetto`: each track with its slices, from a time to another, and its instants; and then the arrows. Slices of a track
-must follow one another. `tlv`: the lines of the log, once each is of the standard form, none goes back in time, and each
-object is a resource.
+must follow one another. `tlv`: the lines of the log, once each is of the standard form, none goes back in time, and
+each object is a resource.
 """
 
 import json

@@ -1,7 +1,8 @@
 #!/bin/sh
 # Runs the proved program that looks at systems on the examples, and compares its status, its standard output, its
 # standard error and the files that it leaves, each to the byte. What is expected is written out here, of dumps in the
-# folder dumps, and of traces for viewers in the folder slices: worked out by hand from the rules and the traces of the examples, never taken from the program.
+# folder dumps, and of traces for viewers in the folder slices: worked out by hand from the rules and the traces of the
+# examples, never taken from the program.
 #
 #   checks/program/view.sh [PROGRAM [FMP]]
 #
@@ -330,8 +331,8 @@ cat > wanted <<'END'
 END
 echo 'CONSUMER waits for a word of data queue QUEUE, since event 2' > said
 shows 'run: as JSON' 0 run queue.cfg queue.src two.steps --json
-# Who made which call how often, and what was answered: at once, or at the end of a wait. A task that is terminated while
-# it waits gets no answer.
+# Who made which call how often, and what was answered: at once, or at the end of a wait. A task that is terminated
+# while it waits gets no answer.
 cat > wanted <<'END'
 task      call          times   waits  answers
 PRODUCER  act_tsk           1       0  E_OK 1
@@ -1784,7 +1785,8 @@ done
 cp "$import/uitron.said" said
 shows 'import: to a file' 0 import "$import/uitron.cfg" --out imported.cfg
 same 'import: what the file has' "$import/uitron.wanted" imported.cfg
-refused 'import: a constant without a value' '--define wants NAME=VALUE' import "$import/uitron.cfg" --define RX_PRIORITY=
+refused 'import: a constant without a value' '--define wants NAME=VALUE' \
+    import "$import/uitron.cfg" --define RX_PRIORITY=
 cp "$import/uitron.cfg" same.cfg
 refused 'import: over the configuration' 'the file OUT is the one that is read' import same.cfg --out ./same.cfg
 

@@ -70,7 +70,8 @@ int32_t shim_answer(int32_t code, uint8_t service, int32_t a, int32_t b)
     int32_t word = b;
     ER answer = fmp_service(service, a, b, 0, 0, &word);
     if (service <= 3 && (answer != code || word != b)) {
-        fprintf(stderr, "shared word %d: %d and %d, but %d and %d\n", (int)a, (int)code, (int)b, (int)answer, (int)word);
+        fprintf(stderr, "shared word %d: %d and %d, but %d and %d\n", (int)a, (int)code, (int)b, (int)answer,
+            (int)word);
         exit(1);
     }
     return answer;
