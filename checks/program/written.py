@@ -3,15 +3,14 @@
 
     checks/program/written.py [--write]
 
-The list of crates in docs/MAP.md has the floors of crates.txt, and of each crate the first sentence of its `//!` head.
-The list in docs/DEFINITIONS.md has the first sentence of each file of `specs/` that says more than the file's name, and
-the names of its definitions that docs/PROVED.md names; above it stand the definitions that README's sentences there
-name, with the front of their comments, but for those that are told above the list by hand. What is
-long is cut at a colon. With `--write` the lists are written: after each change of such a head, and after one of
-docs/PROVED.md. Without it they are compared. The paths in docs/MAP.md and CONTRIBUTING.md are looked up too: one is
-below crates/ or the root; a bare name is that of a file of the crate or the folder that was named last; and what stands
-as `NAME` in `PATH` is a name that this file has. In docs/PROVED.md the names in brackets behind a function, in front of
-the colon of its item, are clauses of its contract. Links between documents are followed.
+The list of crates in docs/MAP.md has the floors of crates.txt, and of each crate the first sentence of its `//!` head,
+up to a colon where it is long. The lists in docs/DEFINITIONS.md have the definitions of `specs/` that docs/PROVED.md
+names, those of README's sentences first: the name, the crate, the file, and the front of the comment. Definitions that
+the document tells by hand are left out of them. `--write` writes the lists: after each change of such a head or
+comment, and of docs/PROVED.md. Without it they are compared. The paths in docs/MAP.md and CONTRIBUTING.md are looked up
+too: one is below crates/ or the root; a bare name is that of a file of the crate or the folder that was named last; and
+what stands as `NAME` in `PATH` is a name that this file has. In docs/PROVED.md the names in brackets behind a function,
+in front of the colon of its item, are clauses of its contract. Links between documents are followed.
 """
 
 import argparse
@@ -34,19 +33,12 @@ COLUMNS = 120
 LINKED = ("*.md", "docs/*.md", "checks/*.md", "examples/*.md")  # the documents whose links are followed
 PATHS = ("docs/MAP.md", "CONTRIBUTING.md")  # the documents whose paths are looked up
 SHORT = 50  # characters of a sentence that needs the next one
-LEAST = 4  # words that stand in front of the place at which the sentence of a file is cut
-LEAST_OF_CRATE = 6
-CLOSER = r", (?=(?:as|at|but|by|each|however|in|none|of|one|so|where|which|who|whose|with|without)\b)"
-NEW = 3  # at most so many words has a sentence beside those of its file's name that tells nothing new
-LITTLE = set("""a all an and are as at by for from how in is it its of on or that the their them they this to what which
-who with""".split())
+LEAST = 6  # words that stand in front of the place at which the sentence of a crate is cut
 BEGIN, END = "<!-- begin: {} -->", "<!-- end: {} -->"
 IMPORT = re.compile(r"use Rattle\.(fmp\w*)\.specs\.(\w+)\.\{([^}]*)\}")
 DEFINITION = re.compile(r"^(?:abbrev pub|pub record|pub data) (\S+)", re.M)
 HEADLINE = "## The sentences of README"
 FILE = re.compile(r"[\w./*]*\w\.(?:rt|antt|py|sh|md|h|c|txt)|[\w.]+(?:/[\w.]+)+/?")
-LEFT_OUT = re.compile(r"Laws|Lemmas|Lib")  # files of laws define what they prove
-WORKED = "fmp_worked_traces"  # its definitions are examples
 
 
 @dataclass
@@ -75,13 +67,13 @@ def first_sentences(text, least=0):
     return told
 
 
-def head(path, mark):
-    """The first paragraph of the comment with which a file begins."""
+def head(path):
+    """The first paragraph of the comment with which a file of code begins."""
     lines = []
     for line in path.read_text().splitlines():
-        if not line.startswith(mark) or line == mark:
+        if not line.startswith("//!") or line == "//!":
             break
-        lines.append(line[len(mark):].strip())
+        lines.append(line[3:].strip())
     return " ".join(lines)
 
 
@@ -115,7 +107,8 @@ def named_in(text):
     for _, part in items(text):
         crates = re.findall(r"\*\*`(\w+)`", part) or crates
         about = [name for name in re.findall(r"`(\w+)`", part) if name in all_crates] or crates
-        words = {word for quoted in re.findall(r"`([^`]+)`", part) for word in re.findall(r"\b[A-Z]\w+", quoted)}
+        quoted = " ".join(re.findall(r"`([^`]+)`", part))
+        words = set(re.findall(r"\b[A-Z]\w+\b(?!::)", quoted))
         for crate in about:
             cited = imported(crate)
             found |= {(path, word) for word in words for path in cited.get(word, ())}
@@ -127,36 +120,14 @@ def words_in(path):
 
 
 def specs(crate):
-    paths = sorted((CRATES / crate / "specs").glob("*.antt"))
-    return [path for path in paths if not LEFT_OUT.search(path.stem)]
-
-
-def stems(text):
-    """The words of a text that say something, without the endings of their forms."""
-    found = re.findall(r"[A-Z]?[a-z]+", text.replace("fmp_", ""))
-    return {re.sub(r"(ies|es|s|y|ed|ing)$", "", word.lower()) for word in found if word.lower() not in LITTLE}
-
-
-def cut(text, pattern, least=LEAST):
-    """A sentence up to a pattern, where it has at least so many words in front of it."""
-    before, _, behind = re.sub(pattern, "\n", text).partition("\n")
-    return f"{before}." if behind and len(before.split()) >= least else text
-
-
-def without_brackets(text):
-    return re.sub(r" \([^()]*\)", "", text)
+    return sorted((CRATES / crate / "specs").glob("*.antt"))
 
 
 def crate_sentence(path):
     """What a crate has, by the head of its root file: up to the colon where it is longer than a line."""
-    told = without_brackets(first_sentences(head(path, "//!"), SHORT))
-    return cut(told, r"[:;] ", LEAST_OF_CRATE) if len(told) > COLUMNS else told
-
-
-def file_sentence(path):
-    """What a file of definitions is about, by its head: up to a colon, or to a comma behind which it is told closer."""
-    told = without_brackets(head(path, "--")).partition(". ")[0].removesuffix(".") + "."
-    return cut(cut(told.removeprefix(f"{path.stem}: "), r"[:;] "), CLOSER)
+    told = re.sub(r" \([^()]*\)", "", first_sentences(head(path), SHORT))
+    front = re.split("[:;] ", told)[0]
+    return f"{front}." if len(told) > COLUMNS and front != told and len(front.split()) >= LEAST else told
 
 
 def item(text):
@@ -176,41 +147,36 @@ def crates_list():
     return parts
 
 
-def headline_list():
-    """The definitions of the headline: the name, the file and the comment of each."""
-    section = PROVED.read_text().partition(HEADLINE)[2].partition("\n## ")[0]
-    named, parts = named_in(section), [""]
-    by_hand = re.findall(r"^- `(\w+)` \(", DEFINITIONS.read_text().partition(BEGIN.format("headline"))[0], re.M)
+def definitions_list(wanted, left_out=frozenset()):
+    """The definitions that are wanted and have a comment, the lowest first."""
+    written = "|".join(f"{BEGIN.format(name)}.*?{END.format(name)}" for _, name in LISTS)
+    by_hand = set(re.findall(r"^- `(\w+)` \(", re.sub(written, "", DEFINITIONS.read_text(), flags=re.S), re.M))
+    parts = [""]
     for path in (path for floor in floors() for crate in floor.crates for path in specs(crate)):
         for name in DEFINITION.findall(path.read_text()):
-            told = comment(path, name) if (path, name) in named and name not in by_hand else ""
+            told = comment(path, name) if (path, name) in wanted - left_out and name not in by_hand else ""
             if told:
                 parts.append(item(f"`{name}` (`{path.parts[-3]}`, `{path.stem}`): {first_sentences(told, 2 * SHORT)}"))
     return parts
 
 
-def definitions_line(crate, path, named):
-    """The item of a file of definitions, if there is more to tell than its name."""
-    names = [name for name in DEFINITION.findall(path.read_text()) if (path, name) in named]
-    told = file_sentence(path)
-    tells = names or len(stems(told) - stems(f"{path.stem} {crate}")) > NEW
-    return item(" ".join([f"`{path.stem}`: {told}", *(f"`{name}`" for name in names)])) if tells else ""
+def named_in_headline():
+    return named_in(PROVED.read_text().partition(HEADLINE)[2].partition("\n## ")[0])
 
 
-def definitions_list():
-    named, parts = named_in(PROVED.read_text()), []
-    for floor in floors():
-        parts += ["", f"### {floor.name}"]
-        for crate in (it for it in floor.crates if it != WORKED):
-            told = [line for path in specs(crate) if (line := definitions_line(crate, path, named))]
-            parts += ["", f"**`{crate}`**", "", *told] if told else []
-    return parts
+def headline_list():
+    return definitions_list(named_in_headline())
+
+
+def others_list():
+    """The definitions that docs/PROVED.md names further down."""
+    return definitions_list(named_in(PROVED.read_text()), named_in_headline())
 
 
 LISTS = {
     ("docs/MAP.md", "crates"): crates_list,
     ("docs/DEFINITIONS.md", "headline"): headline_list,
-    ("docs/DEFINITIONS.md", "definitions"): definitions_list,
+    ("docs/DEFINITIONS.md", "others"): others_list,
 }
 
 
