@@ -34,6 +34,7 @@ LINKED = ("*.md", "docs/*.md", "checks/*.md", "examples/*.md")  # the documents 
 PATHS = ("docs/MAP.md", "CONTRIBUTING.md")  # the documents whose paths are looked up
 SHORT = 50  # characters of a sentence that needs the next one
 LEAST = 6  # words that stand in front of the place at which the sentence of a crate is cut
+LONG = 100  # characters of a sentence of a crate that is cut at a colon
 BEGIN, END = "<!-- begin: {} -->", "<!-- end: {} -->"
 IMPORT = re.compile(r"use Rattle\.(fmp\w*)\.specs\.(\w+)\.\{([^}]*)\}")
 DEFINITION = re.compile(r"^(?:abbrev pub|pub record|pub data) (\S+)", re.M)
@@ -124,10 +125,10 @@ def specs(crate):
 
 
 def crate_sentence(path):
-    """What a crate has, by the head of its root file: up to the colon where it is longer than a line."""
+    """What a crate has, by the head of its root file: up to a colon where it is long."""
     told = re.sub(r" \([^()]*\)", "", first_sentences(head(path), SHORT))
     front = re.split("[:;] ", told)[0]
-    return f"{front}." if len(told) > COLUMNS and front != told and len(front.split()) >= LEAST else told
+    return f"{front}." if len(told) > LONG and front != told and len(front.split()) >= LEAST else told
 
 
 def item(text):
