@@ -9,8 +9,9 @@ names, those of README's sentences first: the name, the crate, the file, and the
 the document tells by hand are left out of them. `--write` writes the lists: after each change of such a head or
 comment, and of docs/PROVED.md. Without it they are compared. The paths in docs/MAP.md and CONTRIBUTING.md are looked up
 too: one is below crates/ or the root; a bare name is that of a file of the crate or the folder that was named last; and
-what stands as `NAME` in `PATH` is a name that this file has. In docs/PROVED.md the names in brackets behind a function,
-in front of the colon of its item, are clauses of its contract. Links between documents are followed.
+what stands as `NAME` in `PATH` is a name that this file has. So are the definitions that docs/DEFINITIONS.md tells by
+hand. In docs/PROVED.md the names in brackets behind a function, in front of the colon of its item, are clauses of its
+contract. Links between documents are followed.
 """
 
 import argparse
@@ -148,14 +149,20 @@ def crates_list():
     return parts
 
 
+def told_by_hand():
+    """The definitions that docs/DEFINITIONS.md tells outside of its lists, each with its file."""
+    lists = "|".join(f"{BEGIN.format(name)}.*?{END.format(name)}" for _, name in LISTS)
+    text = re.sub(lists, "", DEFINITIONS.read_text(), flags=re.S)
+    found = re.findall(r"^- `(\w+)` \(`(\w+)`, `(\w+)`\):", text, re.M)
+    return {(CRATES / crate / "specs" / f"{file}.antt", name) for name, crate, file in found}
+
+
 def definitions_list(wanted, left_out=frozenset()):
     """The definitions that are wanted and have a comment, the lowest first."""
-    written = "|".join(f"{BEGIN.format(name)}.*?{END.format(name)}" for _, name in LISTS)
-    by_hand = set(re.findall(r"^- `(\w+)` \(", re.sub(written, "", DEFINITIONS.read_text(), flags=re.S), re.M))
-    parts = [""]
+    by_hand, parts = told_by_hand(), [""]
     for path in (path for floor in floors() for crate in floor.crates for path in specs(crate)):
         for name in DEFINITION.findall(path.read_text()):
-            told = comment(path, name) if (path, name) in wanted - left_out and name not in by_hand else ""
+            told = comment(path, name) if (path, name) in wanted - left_out - by_hand else ""
             if told:
                 parts.append(item(f"`{name}` (`{path.parts[-3]}`, `{path.stem}`): {first_sentences(told, 2 * SHORT)}"))
     return parts
@@ -215,6 +222,13 @@ def items(text):
             found.append((number, line))
         inside = bool(line)
     return found
+
+
+def check_told_by_hand(tally):
+    """Each definition that is told by hand stands in the file that is named."""
+    for path, name in told_by_hand():
+        stands = path.exists() and name in DEFINITION.findall(path.read_text())
+        tally.holds(f"docs/DEFINITIONS.md: {path.relative_to(CRATES)} has no definition {name}", stands)
 
 
 def check_paths(tally):
@@ -282,6 +296,7 @@ def main():
     write, tally = parser.parse_args().write, Tally()
     for (document, name), make in LISTS.items():
         check_list(tally, document, name, make(), write)
+    check_told_by_hand(tally)
     check_paths(tally)
     check_links(tally)
     check_clauses(tally)
