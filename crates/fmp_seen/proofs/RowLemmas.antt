@@ -107,16 +107,6 @@ groups-more count i f v lt =
     ∙ ap (λ (s : ℕ). mask_of (group_at (i * 8) f) (group_at (i * 8) v)
     ∷ (changes_of (group_at (i * 8) f) (group_at (i * 8) v) ++ groups_from (count - (i + 1)) s f v)) next
 
--- no value differs where the mask is 0
-pub changes-none : (f v : List ℕ) → mask_of f v ≡ 0 → changes_of f v ≡ []
-changes-none [] v e = refl
-changes-none (b ∷ f) [] e = refl
-changes-none (b ∷ f) (a ∷ v) e = by_test (nat_eq a b) e (changes-none f v) where
-  by_test : (s : Bool) → cond s 0 1 + 2 * mask_of f v ≡ 0 → (mask_of f v ≡ 0 → changes_of f v ≡ [])
-      → cond s [] (bytes_of a) ++ changes_of f v ≡ []
-  by_test true k rest = rest (omega arith)
-  by_test false k rest = absurd (omega arith)
-
 -- ---- the mask of a group, bit by bit
 
 pub mask-small : (most : ℕ) (f v : List ℕ) → length f ≤ most → mask_of f v < 2 ^ most
@@ -203,12 +193,29 @@ pub mask-whole : (k mask bit : ℕ) (f v : List ℕ) → min (length f) (length 
 mask-whole k mask bit f v le e =
     sym (ap (λ (n : ℕ). mask + n) (ap (λ (n : ℕ). bit * n) (mask-end k f v le) ∙ mul-zero bit) ∙ add-zero mask) ∙ e
 
--- a group of which no value differs
-pub group-none : (row new f v : List ℕ) (m : ℕ) → new ≡ row ++ m ∷ [] → m ≡ mask_of f v → m ≡ 0
-    → new ≡ row ++ mask_of f v ∷ changes_of f v
-group-none row new f v m e same none =
-    e ∙ (ap (λ (n : ℕ). row ++ n ∷ []) same
-    ∙ ap (λ (bytes : List ℕ). row ++ mask_of f v ∷ bytes) (sym (changes-none f v (sym same ∙ none))))
+-- the bytes of a value that differs
+pub changes-set : (k : ℕ) (row new f v all : List ℕ) → k < length f → k < length v
+    → (get_or v k 0 ≡ get_or f k 0 → ⊥) → new ≡ row ++ bytes_of (get_or v k 0)
+    → row ++ changes_of (drop k f) (drop k v) ≡ all
+    → new ++ changes_of (drop (k + 1) f) (drop (k + 1) v) ≡ all
+changes-set k row new f v all in_first in_values differs e done =
+    let rest : List ℕ = changes_of (drop (k + 1) f) (drop (k + 1) v) in
+    let here : changes_of (drop k f) (drop k v) ≡ bytes_of (get_or v k 0) ++ rest =
+    changes-more k f v in_first in_values
+    ∙ ap (λ (s : Bool). cond s [] (bytes_of (get_or v k 0)) ++ rest) (ne_eqb (get_or v k 0) (get_or f k 0) differs) in
+    ap (λ (bytes : List ℕ). bytes ++ rest) e
+    ∙ (append_assoc row (bytes_of (get_or v k 0)) rest ∙ (ap (λ (bytes : List ℕ). row ++ bytes) (sym here) ∙ done))
+
+-- those of one that does not
+pub changes-clear : (k : ℕ) (row f v all : List ℕ) → k < length f → k < length v → get_or v k 0 ≡ get_or f k 0
+    → row ++ changes_of (drop k f) (drop k v) ≡ all
+    → row ++ changes_of (drop (k + 1) f) (drop (k + 1) v) ≡ all
+changes-clear k row f v all in_first in_values same done =
+    let rest : List ℕ = changes_of (drop (k + 1) f) (drop (k + 1) v) in
+    let here : changes_of (drop k f) (drop k v) ≡ rest =
+    changes-more k f v in_first in_values
+    ∙ ap (λ (s : Bool). cond s [] (bytes_of (get_or v k 0)) ++ rest) (eq-eqb (get_or v k 0) (get_or f k 0) same) in
+    ap (λ (bytes : List ℕ). row ++ bytes) (sym here) ∙ done
 
 pub changes-whole : (k : ℕ) (row front f v all : List ℕ) → min (length f) (length v) ≤ k
     → row ++ changes_of (drop k f) (drop k v) ≡ front ++ all → row ≡ front ++ all

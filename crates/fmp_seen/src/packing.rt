@@ -20,45 +20,24 @@ pub fn group_of(values: &[u32], start: usize) -> &[u32]
     &values[start..start + count]
 }
 
-/// The mask of the fields of a group: a bit for each that differs.
-fn mask(first: &[u32], values: &[u32]) -> u8
-    requires { length first.now ≤ 8 }
-    ensures { result ≡ mask_of first.now values.now }
-{
-    let mut mask: u32 = 0;
-    let mut bit: u32 = 1;
-    for k in 0..first.len().min(values.len()) {
-        if values[k] != first[k] {
-            mask += bit;
-        }
-        bit *= 2;
-    }
-    mask as u8
-}
-
-/// Appends the values of a group that differ.
-fn push_changes(row: &mut Vec<u8>, first: &[u32], values: &[u32]) -> Result<(), AllocError>
-    ensures { OnOk result (row.new.items ≡ row.old.items ++ changes_of first.now values.now) }
-{
-    for k in 0..first.len().min(values.len()) {
-        if values[k] != first[k] {
-            push_number(row, values[k])?;
-        }
-    }
-    Ok(())
-}
-
-/// Appends the mask of a group and the values that differ.
+/// Appends the mask of a group, with a bit for each value that differs, and these values.
 fn push_group(row: &mut Vec<u8>, first: &[u32], values: &[u32]) -> Result<(), AllocError>
     requires { length first.now ≤ 8 }
     ensures { OnOk result (row.new.items ≡ row.old.items ++ mask_of first.now values.now
         ∷ changes_of first.now values.now) }
 {
-    let mask = mask(first, values);
-    row.push(mask)?;
-    if mask != 0 {
-        push_changes(row, first, values)?;
+    let place = row.len();
+    row.push(0)?;
+    let mut mask: u32 = 0;
+    let mut bit: u32 = 1;
+    for k in 0..first.len().min(values.len()) {
+        if values[k] != first[k] {
+            push_number(row, values[k])?;
+            mask += bit;
+        }
+        bit *= 2;
     }
+    row[place] = mask as u8;
     Ok(())
 }
 

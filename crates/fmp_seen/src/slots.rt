@@ -1,5 +1,5 @@
 //! The slots, which say where the state with a hash stands.
-ghost use Rattle.std.specs.Prelude.{◌≡◌, ◌<◌, ◌↔◌, Some, IsTrue, IfSome, length, slice_get};
+ghost use Rattle.std.specs.Prelude.{◌≡◌, ◌+◌, ◌<◌, ◌≤◌, ◌↔◌, Some, IsTrue, IfSome, length, slice_get};
 ghost use Rattle.fmp_seen.specs.Slots.{IsSlotFor};
 
 use crate::kept::Kept;
@@ -7,6 +7,9 @@ use std::alloc::{AllocError, Global};
 
 /// The number in a slot with no state.
 const EMPTY: u32 = u32::MAX;
+
+/// What a hash is multiplied by: odd, and 2^64 times the golden ratio.
+const SPREAD: u64 = 0x9e37_79b9_7f4a_7c15;
 
 /// Where a row belongs.
 #[derive(Clone, Copy)]
@@ -17,11 +20,37 @@ pub enum Slot {
     Free(usize),
 }
 
-/// A hash of a row (FNV-1a).
+/// The eight bytes of a row from a place on, as one number.
+fn word_at(row: &[u8], place: usize) -> u64
+    requires { place + 8 ≤ length row.now }
+{
+    u64::from_le_bytes([
+        row[place],
+        row[place + 1],
+        row[place + 2],
+        row[place + 3],
+        row[place + 4],
+        row[place + 5],
+        row[place + 6],
+        row[place + 7],
+    ])
+}
+
+/// The hash of a row that goes on with this number.
+fn mixed(hash: u64, number: u64) -> u64 {
+    let product = (hash ^ number).wrapping_mul(SPREAD);
+    product ^ (product >> 29)
+}
+
+/// A hash of a row: eight bytes at a time, then the bytes that are left.
 fn hash_of(row: &[u8]) -> u64 {
-    let mut hash: u64 = 0xcbf2_9ce4_8422_2325;
-    for byte in row {
-        hash = (hash ^ u64::from(*byte)).wrapping_mul(0x0100_0000_01b3);
+    let mut hash = SPREAD;
+    let words = row.len() / 8;
+    for word in 0..words {
+        hash = mixed(hash, word_at(row, word * 8));
+    }
+    for byte in &row[words * 8..] {
+        hash = mixed(hash, u64::from(*byte));
     }
     hash ^ (hash >> 32)
 }
@@ -45,13 +74,10 @@ fn has_row(kept: &Kept, state: u32, row: &[u8]) -> bool
 pub fn slot_of(slots: &[u32], kept: &Kept, row: &[u8]) -> Option<Slot>
     ensures { IfSome result (IsSlotFor (length slots.now) kept.now.rows row.now) }
 {
-    let count = slots.len();
-    if count == 0 {
-        return None;
-    }
-    let first = (hash_of(row) % count as u64) as usize;
-    for i in 0..count {
-        let at = first.wrapping_add(i) % count;
+    let last = slots.len().checked_sub(1)?;
+    let first = hash_of(row) as usize;
+    for i in 0..slots.len() {
+        let at = first.wrapping_add(i) & last;
         let state = slots[at];
         if state == EMPTY {
             return Some(Slot::Free(at));
