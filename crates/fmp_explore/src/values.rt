@@ -4,7 +4,7 @@ use fmp_seen::{Seen, unpack};
 use std::alloc::{AllocError, Global};
 
 /// How many values a field has.
-#[derive(Clone, Copy, Debug)]
+#[derive(Clone, Copy)]
 pub struct Variety {
     pub what: What,
     pub values: usize,

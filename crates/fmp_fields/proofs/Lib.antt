@@ -3,6 +3,7 @@ pub mod BodyFields
 pub mod FieldLaws
 pub mod Lists
 pub mod Places
+pub mod ReadLaws
 pub mod Rooms
 pub mod StateFields
 pub mod WordLaws

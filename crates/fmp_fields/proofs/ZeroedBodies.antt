@@ -8,20 +8,24 @@ use Rattle.fmp_base.specs.declared.bodies.Held.TheVariants.{Goes, Awaits}
 use Rattle.fmp_base.specs.declared.states.Handler.{Handler}
 use Rattle.fmp_base.specs.declared.states.Phase.{Phase}
 use Rattle.fmp_base.specs.declared.states.Phase.TheVariants.{Dormant, Ready, Waiting}
-use Rattle.fmp_base.specs.Meanings.{World, context_at, context_in, kept_context, task_body}
+use Rattle.fmp_base.specs.Meanings.{World, body_in, context_at, context_in, kept_context, task_body}
 use Rattle.fmp_base.specs.States.{processor_at, task_at}
 use Rattle.fmp_base.specs.Systems.{SystemTables}
 use Rattle.fmp_base.specs.TaskCalls.{is_dormant}
+use Rattle.fmp_contexts.specs.Contexts.{is_going}
+use Rattle.fmp_fields.specs.declared.owner.Owner.{Owner}
 use Rattle.fmp_fields.specs.declared.owner.Owner.TheVariants as owner
 use Rattle.fmp_fields.specs.FieldNumbers.{owned_by, unless}
 use Rattle.fmp_fields.specs.Fields.{IsReadable}
+use Rattle.fmp_fields.specs.Reading.{body_by, kept_by, with_zeros}
 use Rattle.fmp_instructions.specs.declared.instructions.MachineContext.{MachineContext}
 use Rattle.fmp_instructions.specs.Instructions.{BodyTables}
-use Rattle.fmp_live.specs.LiveLocals.{LiveTable, table_at}
-use Rattle.fmp_live.specs.Zeroed.{if_live, zeroed, zeroed_context, zeroed_handler, zeroed_held, zeroed_task}
+use Rattle.fmp_live.specs.LiveLocals.{LiveTable, row_of, table_at}
+use Rattle.fmp_live.specs.Zeroed.{if_live, zeroed, zeroed_by, zeroed_context, zeroed_handler, zeroed_held, zeroed_task}
 use Rattle.fmp_live.proofs.LikeLaws.{context_at-each, length-each}
 use Rattle.fmp_live.proofs.RowLaws.{get_or-zeroed, length-zeroed}
 use Rattle.fmp_rooms.specs.Rooms.{IsGoingWithin, IsHandlerWithin, IsKeptWithin, IsWithin}
+use Rattle.fmp_rows.specs.Numbers.{unsigned}
 use Rattle.fmp_rows.specs.Worlds.{IsHeldBy}
 
 context_at-map : {A : Type 0} (f : Option A → Option A) → f None ≡ None → (cs : List (Option A)) (p : ℕ)
@@ -44,6 +48,43 @@ held-zeroed Ready t (Some (Goes c)) h = tt
 held-zeroed Ready t (Some (Awaits c)) h = absurd h
 held-zeroed (Waiting w) t (Some (Goes c)) h = absurd h
 held-zeroed (Waiting w) t (Some (Awaits c)) h = tt
+
+-- a context with 0 for each dead local, from the row of live ones
+context-zeroed : (t : LiveTable) (k : Option (Held MachineContext)) (c : MachineContext) → kept_context k ≡ Some c
+    → with_zeros (row_of t c.pc (is_going k)) (Some c) ≡ kept_context (zeroed_task t k)
+context-zeroed t None c e = absurd cc
+context-zeroed t (Some (Goes d)) c e =
+    let same : c ≡ d = cc in
+    ap (λ (x : MachineContext). Some (zeroed_context t.goes x)) same
+context-zeroed t (Some (Awaits d)) c e =
+    let same : c ≡ d = cc in
+    ap (λ (x : MachineContext). Some (zeroed_context t.awaits x)) same
+
+context-none : (t : LiveTable) (k : Option (Held MachineContext)) → kept_context k ≡ None
+    → None ≡ kept_context (zeroed_task t k)
+context-none t None e = refl
+context-none t (Some (Goes d)) e = absurd cc
+context-none t (Some (Awaits d)) e = absurd cc
+
+context_in-zeroed : (tables : List LiveTable) (h : Option (HandlerContext (Held MachineContext)))
+    → context_in (zeroed_handler tables h) ≡ zeroed_task (table_at tables (body_in h)) (context_in h)
+context_in-zeroed tables None = refl
+context_in-zeroed tables (Some h) = refl
+
+-- a local with 0 for each dead one
+pub local_live : (row : List Bool) (locals : List ℤ) (l : ℕ) → get_or row l true ≡ true
+    → unsigned (get_or locals l (pos 0)) ≡ unsigned (get_or (zeroed_by row locals) l (pos 0))
+local_live row locals l e =
+    sym
+    (ap (λ (x : ℤ). unsigned x)
+    (get_or-zeroed row locals l ∙ ap (λ (b : Bool). if_live b (get_or locals l (pos 0))) e))
+
+pub local_dead : (row : List Bool) (locals : List ℤ) (l : ℕ) → get_or row l true ≡ false
+    → 0 ≡ unsigned (get_or (zeroed_by row locals) l (pos 0))
+local_dead row locals l e =
+    sym
+    (ap (λ (x : ℤ). unsigned x)
+    (get_or-zeroed row locals l ∙ ap (λ (b : Bool). if_live b (get_or locals l (pos 0))) e))
 
 module _ (bodies : List BodyTables) (body : ℕ) where
   within-zeroed : (rows : List (List Bool)) (c : MachineContext) → IsWithin bodies body c
@@ -95,35 +136,49 @@ module _ (sys : SystemTables) (tables : List LiveTable) (w : World MachineContex
       → context_at (zeroed sys tables w).contexts.handlers p ≡ zeroed_handler tables (context_at w.contexts.handlers p)
   handler-there p = context_at-map (zeroed_handler tables) refl w.contexts.handlers p
 
-  -- what is read of the body of a task that is started
-  pub task_started : (t : ℕ) → is_dormant (task_at w.state.tasks t).phase ≡ false
-      → kept_context (zeroed_task (table_at tables (task_body sys t)) (context_at w.contexts.tasks t))
-      ≡ owned_by (zeroed sys tables w) (owner.Task t)
-  task_started t on =
-      sym
-      (ap (λ (b : Bool). unless b (kept_context (context_at (zeroed sys tables w).contexts.tasks t))) on
-      ∙ ap (λ (c : Option (Held MachineContext)). kept_context c) (task-there t))
+  -- what is read of the body of an owner, where its context is this one
+  pub owned_zeroed : (o : Owner) (c : MachineContext) → owned_by w o ≡ Some c
+      → with_zeros (row_of (table_at tables (body_by sys w.contexts o)) c.pc (is_going (kept_by w.contexts o))) (Some c)
+      ≡ owned_by (zeroed sys tables w) o
+  owned_zeroed (owner.Task t) c e =
+      by_phase (is_dormant (task_at w.state.tasks t).phase) refl e where
+        by_phase : (b : Bool) → is_dormant (task_at w.state.tasks t).phase ≡ b
+            → unless b (kept_context (context_at w.contexts.tasks t)) ≡ Some c
+            → with_zeros (row_of (table_at tables (task_body sys t)) c.pc (is_going (context_at w.contexts.tasks t))) (Some c)
+            ≡ owned_by (zeroed sys tables w) (owner.Task t)
+        by_phase true off there = absurd cc
+        by_phase false on there =
+            context-zeroed (table_at tables (task_body sys t)) (context_at w.contexts.tasks t) c there
+            ∙ sym
+            (ap (λ (b : Bool). unless b (kept_context (context_at (zeroed sys tables w).contexts.tasks t))) on
+            ∙ ap (λ (x : Option (Held MachineContext)). kept_context x) (task-there t))
+  owned_zeroed (owner.Handler p) c e =
+      let h : Option (HandlerContext (Held MachineContext)) = context_at w.contexts.handlers p in
+      context-zeroed (table_at tables (body_in h)) (context_in h) c e
+      ∙ sym
+      (ap (λ (x : Option (HandlerContext (Held MachineContext))). kept_context (context_in x)) (handler-there p)
+      ∙ ap (λ (x : Option (Held MachineContext)). kept_context x) (context_in-zeroed tables h))
 
-  pub task_dormant : (t : ℕ) → is_dormant (task_at w.state.tasks t).phase ≡ true
-      → None ≡ owned_by (zeroed sys tables w) (owner.Task t)
-  task_dormant t off =
-      sym (ap (λ (b : Bool). unless b (kept_context (context_at (zeroed sys tables w).contexts.tasks t))) off)
-
-  -- what is read of the body of a handler that runs
-  pub handler_runs : (p : ℕ) (h : HandlerContext (Held MachineContext)) → context_at w.contexts.handlers p ≡ Some h
-      → kept_context (zeroed_task (table_at tables h.body) (Some h.context))
-      ≡ owned_by (zeroed sys tables w) (owner.Handler p)
-  handler_runs p h e =
-      sym
-      (ap (λ (c : Option (HandlerContext (Held MachineContext))). kept_context (context_in c))
-      (handler-there p ∙ ap (λ (c : Option (HandlerContext (Held MachineContext))). zeroed_handler tables c) e))
-
-  pub handler_rests : (p : ℕ) → context_at w.contexts.handlers p ≡ None
-      → None ≡ owned_by (zeroed sys tables w) (owner.Handler p)
-  handler_rests p e =
-      sym
-      (ap (λ (c : Option (HandlerContext (Held MachineContext))). kept_context (context_in c))
-      (handler-there p ∙ ap (λ (c : Option (HandlerContext (Held MachineContext))). zeroed_handler tables c) e))
+  -- and where it has none
+  pub none_zeroed : (o : Owner) → owned_by w o ≡ None → None ≡ owned_by (zeroed sys tables w) o
+  none_zeroed (owner.Task t) e =
+      by_phase (is_dormant (task_at w.state.tasks t).phase) refl e where
+        by_phase : (b : Bool) → is_dormant (task_at w.state.tasks t).phase ≡ b
+            → unless b (kept_context (context_at w.contexts.tasks t)) ≡ None
+            → None ≡ owned_by (zeroed sys tables w) (owner.Task t)
+        by_phase true off there =
+            sym (ap (λ (b : Bool). unless b (kept_context (context_at (zeroed sys tables w).contexts.tasks t))) off)
+        by_phase false on there =
+            context-none (table_at tables (task_body sys t)) (context_at w.contexts.tasks t) there
+            ∙ sym
+            (ap (λ (b : Bool). unless b (kept_context (context_at (zeroed sys tables w).contexts.tasks t))) on
+            ∙ ap (λ (x : Option (Held MachineContext)). kept_context x) (task-there t))
+  none_zeroed (owner.Handler p) e =
+      let h : Option (HandlerContext (Held MachineContext)) = context_at w.contexts.handlers p in
+      context-none (table_at tables (body_in h)) (context_in h) e
+      ∙ sym
+      (ap (λ (x : Option (HandlerContext (Held MachineContext))). kept_context (context_in x)) (handler-there p)
+      ∙ ap (λ (x : Option (Held MachineContext)). kept_context x) (context_in-zeroed tables h))
 
   -- a world that may be read may be read with dead locals as 0
   pub readable-zeroed : (bodies : List BodyTables) → IsReadable sys bodies w → IsReadable sys bodies (zeroed sys tables w)

@@ -1,5 +1,6 @@
 -- The numbers of fields: what a row tells of a world.
 use Rattle.std.specs.Prelude.{ℕ, ◌%◌, [], pos, Bool, true, false, Option, Some, None, length, get_or, nat_lt, ◌&&◌}
+use Rattle.fmp_base.specs.declared.states.TaskBlock.{TaskBlock}
 use Rattle.fmp_base.specs.Queues.{first_of}
 use Rattle.fmp_base.specs.Meanings.{World, context_at, context_in, kept_context}
 use Rattle.fmp_base.specs.States.{KernelState, processor_at, task_at}
@@ -26,6 +27,34 @@ owner_of (what.HandlerLocal p l) = Some (owner.Handler p)
 owner_of (what.HandlerOperands p) = Some (owner.Handler p)
 owner_of (what.HandlerOperand p i) = Some (owner.Handler p)
 owner_of _ = None
+
+-- the task whose block tells a field, if one does
+abbrev pub task_of : What → Option ℕ
+task_of (what.Phase t) = Some t
+task_of (what.Object t) = Some t
+task_of (what.Wanted t) = Some t
+task_of (what.Suspended t) = Some t
+task_of (what.Priority t) = Some t
+task_of (what.Processor t) = Some t
+task_of (what.Activations t) = Some t
+task_of (what.NextProcessor t) = Some t
+task_of (what.Wakeups t) = Some t
+task_of (what.TicksLeft t) = Some t
+task_of _ = None
+
+-- a field that this block tells at this clock
+abbrev pub block_number : (clock : ℕ) → TaskBlock → What → ℕ
+block_number clock x (what.Phase t) = phase_kind x.phase
+block_number clock x (what.Object t) = place (wait_object x.phase)
+block_number clock x (what.Wanted t) = wait_value x.phase
+block_number clock x (what.Suspended t) = bit x.suspended
+block_number clock x (what.Priority t) = x.priority
+block_number clock x (what.Processor t) = x.processor
+block_number clock x (what.Activations t) = x.activations
+block_number clock x (what.NextProcessor t) = place x.next_processor
+block_number clock x (what.Wakeups t) = x.wakeups
+block_number clock x (what.TicksLeft t) = ticks_to clock x.deadline
+block_number clock x _ = 0
 
 abbrev pub unless : {A : Type 0} → Bool → Option A → Option A
 unless true a = None

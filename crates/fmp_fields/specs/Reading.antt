@@ -1,10 +1,36 @@
--- What is read of bodies.
-use Rattle.std.specs.Prelude.{◌≡◌, IfSome}
-use Rattle.fmp_base.specs.Meanings.{World}
-use Rattle.fmp_fields.specs.declared.reading.Reading.{Reading}
-use Rattle.fmp_fields.specs.FieldNumbers.{owned_by}
+-- How the fields of a state are read: from one block or one context those that it tells.
+use Rattle.std.specs.Prelude.{◌≡◌, ℕ, ◌<◌, Option, Some, None, Bool, List, length, map, take}
+use Rattle.fmp_base.specs.declared.bodies.Held.{Held}
+use Rattle.fmp_base.specs.Meanings.{Contexts, World, body_in, context_at, context_in, task_body}
+use Rattle.fmp_base.specs.Systems.{SystemTables}
+use Rattle.fmp_fields.specs.declared.field.What.{What}
+use Rattle.fmp_fields.specs.declared.owner.Owner.{Owner}
+use Rattle.fmp_fields.specs.declared.owner.Owner.TheVariants as owner
+use Rattle.fmp_fields.specs.FieldNumbers.{number_of}
 use Rattle.fmp_instructions.specs.declared.instructions.MachineContext.{MachineContext}
+use Rattle.fmp_live.specs.Zeroed.{zeroed_by}
 
--- the context of the owner that was read last, if any, was read in this world
-abbrev pub IsReadOf : World MachineContext → Reading → Type 0
-IsReadOf w r = IfSome r.owner (λ o. r.context ≡ owned_by w o)
+-- what is kept of an owner
+abbrev pub kept_by : Contexts (Held MachineContext) → Owner → Option (Held MachineContext)
+kept_by cs (owner.Task t) = context_at cs.tasks t
+kept_by cs (owner.Handler p) = context_in (context_at cs.handlers p)
+
+-- the number of its body
+abbrev pub body_by : SystemTables → Contexts (Held MachineContext) → Owner → ℕ
+body_by sys cs (owner.Task t) = task_body sys t
+body_by sys cs (owner.Handler p) = body_in (context_at cs.handlers p)
+
+-- a task that an owner is, is one of the system
+abbrev pub IsOwned : SystemTables → Owner → Type 0
+IsOwned sys (owner.Task t) = t < length sys.tasks
+IsOwned sys (owner.Handler p) = Unit {0}
+
+-- a context with 0 for each local that a row calls dead
+abbrev pub with_zeros : List Bool → Option MachineContext → Option MachineContext
+with_zeros row None = None
+with_zeros row (Some c) = Some (record c { locals = zeroed_by row c.locals })
+
+-- the first values, this many, are those of the first fields in this world
+abbrev pub AreRead : SystemTables → World MachineContext → (came : ℕ) → List What → (values : List ℕ) → (count : ℕ)
+    → Type 0
+AreRead sys w came fields values count = take count values ≡ map (number_of sys w came) (take count fields)

@@ -4,7 +4,7 @@ ghost use Rattle.std.specs.Prelude.{◌≡◌, ◌%◌};
 
 /// A field of a state, and of what it is. Tasks, processors and objects go by their places, from 0. A number that may
 /// be missing is stored with 1 added, and as 0 where it is missing.
-#[derive(Clone, Copy, Debug, PartialEq, Eq)]
+#[derive(Clone, Copy, PartialEq, Eq)]
 pub enum What {
     /// How many interrupts came, where their number is limited.
     Interrupts,

@@ -1,6 +1,7 @@
 //! The fields of a state: everything in it that a later event can show, and their values.
 #![tactic(auto)]
 
+mod body_values;
 mod field;
 pub mod laws;
 mod listing;

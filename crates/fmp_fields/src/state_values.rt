@@ -1,9 +1,9 @@
-//! The values of the fields that are of no body.
-ghost use Rattle.std.specs.Prelude.{◌≡◌, ◌≤◌, ◌^◌, ◌&&◌, [], IfNone, IfSome, get_or, length, nat_lt, pos};
+//! The values of the fields that are of no body: of a task's block, and of the objects.
+ghost use Rattle.std.specs.Prelude.{◌≡◌, ◌≤◌, ◌^◌, ◌&&◌, [], IfNone, None, IfSome, get_or, length, nat_lt, pos};
 ghost use Rattle.fmp_base.specs.Queues.{first_of};
 ghost use Rattle.fmp_base.specs.States.{processor_at, task_at};
 ghost use Rattle.fmp_base.specs.Ticks.{is_pending};
-ghost use Rattle.fmp_fields.specs.FieldNumbers.{state_number};
+ghost use Rattle.fmp_fields.specs.FieldNumbers.{block_number, state_number, task_of as task_by};
 ghost use Rattle.fmp_rows.specs.Behind.{mailbox_at};
 ghost use Rattle.fmp_rows.specs.Numbers as numbers;
 ghost use Rattle.fmp_rows.specs.Rows.{due_at};
@@ -17,7 +17,7 @@ use fmp_rows::numbers::{
 use fmp_tasks::Tables;
 
 /// The task at a place; a dormant one if there is none.
-fn task(tables: &Tables, t: u8) -> TaskBlock
+pub fn task(tables: &Tables, t: u8) -> TaskBlock
     ensures { result ≡ task_at tables.now.state.tasks t }
 {
     if usize::from(t) < tables.task_count() {
@@ -144,23 +144,36 @@ fn is_interrupt_pending(tables: &Tables, i: u8) -> bool
     i < 32 && tables.is_interrupt_pending(i)
 }
 
-/// A field that is of no body, where this many interrupts came; 0 of any other one. `None` if this is 2^32 or more.
-pub fn state_value(tables: &Tables, came: usize, what: What) -> Option<u32>
+/// A field that the block of its task tells, at this clock; 0 of any other one. `None` if this is 2^32 or more.
+pub fn block_value(clock: u32, block: &TaskBlock, what: What) -> Option<u32>
+    ensures value { IfSome result (λ n. n ≡ block_number clock block.now what) }
+    ensures far { IfNone result (2 ^ 32 ≤ block_number clock block.now what) }
+{
+    let value = match what {
+        What::Phase(_) => phase_kind(block.phase),
+        What::Object(_) => place(wait_object(block.phase)),
+        What::Wanted(_) => wait_value(block.phase),
+        What::Suspended(_) => bit(block.suspended),
+        What::Priority(_) => u32::from(block.priority),
+        What::Processor(_) => u32::from(block.processor),
+        What::Activations(_) => u32::from(block.activations),
+        What::NextProcessor(_) => place(block.next_processor),
+        What::Wakeups(_) => u32::from(block.wakeups),
+        What::TicksLeft(_) => return ticks_to(clock, block.deadline),
+        _ => 0,
+    };
+    Some(value)
+}
+
+/// A field that is of no block and no body, where this many interrupts came; 0 of one of a body. `None` if this is 2^32
+/// or more.
+pub fn object_value(tables: &Tables, came: usize, what: What) -> Option<u32>
+    requires { task_by what ≡ None }
     ensures value { IfSome result (λ n. n ≡ state_number tables.now.system tables.now.state came what) }
     ensures far { IfNone result (2 ^ 32 ≤ state_number tables.now.system tables.now.state came what) }
 {
     let value = match what {
         What::Interrupts => u32::from(low_byte(came)),
-        What::Phase(t) => phase_kind(task(tables, t).phase),
-        What::Object(t) => place(wait_object(task(tables, t).phase)),
-        What::Wanted(t) => wait_value(task(tables, t).phase),
-        What::Suspended(t) => bit(task(tables, t).suspended),
-        What::Priority(t) => u32::from(task(tables, t).priority),
-        What::Processor(t) => u32::from(task(tables, t).processor),
-        What::Activations(t) => u32::from(task(tables, t).activations),
-        What::NextProcessor(t) => place(task(tables, t).next_processor),
-        What::Wakeups(t) => u32::from(task(tables, t).wakeups),
-        What::TicksLeft(t) => return ticks_to(tables.clock(), task(tables, t).deadline),
         What::Behind(t) => place(tables.behind(t)),
         What::Runs(p) => place(processor(tables, p).run),
         What::Lock(p) => lock_number(processor(tables, p).lock),
@@ -177,7 +190,17 @@ pub fn state_value(tables: &Tables, came: usize, what: What) -> Option<u32>
         What::TicksToDue(c) => return ticks_to(tables.clock(), due_time(tables, c)),
         What::PendingCyclic(c) => bit(is_cyclic_pending(tables, c)),
         What::PendingInterrupt(i) => bit(is_interrupt_pending(tables, i)),
-        What::Pc(_)
+        What::Phase(_)
+        | What::Object(_)
+        | What::Wanted(_)
+        | What::Suspended(_)
+        | What::Priority(_)
+        | What::Processor(_)
+        | What::Activations(_)
+        | What::NextProcessor(_)
+        | What::Wakeups(_)
+        | What::TicksLeft(_)
+        | What::Pc(_)
         | What::Local(..)
         | What::Operands(_)
         | What::Operand(..)

@@ -4,4 +4,3 @@ pub mod MachineLaws
 pub mod RowLaws
 pub mod StepLaws
 pub mod Tables
-pub mod ZeroedLocals

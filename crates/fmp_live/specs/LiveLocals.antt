@@ -23,6 +23,11 @@ live_tables l = map live_table l.bodies.items
 abbrev pub table_at : List LiveTable → ℕ → LiveTable
 table_at tables body = get_or tables body (record { goes = []; awaits = [] })
 
+-- which locals are live at a place of a body, where it goes on from there or awaits a reply there
+abbrev pub row_of : LiveTable → (place : ℕ) → (goes : Bool) → List Bool
+row_of t place true = get_or t.goes place []
+row_of t place false = get_or t.awaits place []
+
 -- whether a local is live at a place; one that the rows leave out is
 abbrev pub is_live : List (List Bool) → ℕ → ℕ → Bool
 is_live rows place v = get_or (get_or rows place []) v true

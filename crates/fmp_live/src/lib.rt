@@ -6,7 +6,6 @@ mod judging;
 pub mod laws;
 mod live_rows;
 mod tracing;
-mod zeroing;
 
 pub use live_rows::{LiveLocals, LiveRows};
 pub use tracing::live_locals;
