@@ -8,9 +8,9 @@ program's list does something in the model, and after the last one the model sho
 ever end no search: both find as many. Up to what was found, or where they find nothing in all, they have seen as many
 states and as many events that did something, as deep. Of three systems one has sections: tasks put the values by which
 they enter and leave them. In one some tasks may wait forever, so that fewer deadlocks are found first and more tasks
-that can never go on; of these some ask for few interrupts or for ticks where nobody can do anything. Every other system
-runs at a small bound. COUNT is the number of systems that were compared: systems with more than MOST states are left
-out.
+that can never go on; of these some ask for few interrupts, for ticks where nobody can do anything, or for few
+activations and wakeups that are queued. Every other system runs at a small bound. COUNT is the number of systems that
+were compared: systems with more than MOST states are left out.
 """
 
 import random
@@ -71,6 +71,7 @@ def asked(case, kind, chosen):
         rest = frozenset(chosen.sample(numbers, chosen.randint(1, len(numbers))))
         interrupts = chosen.choice((None, None, 0, 1, 2))
         question = replace(question, rest=rest, idle_ticks=chosen.random() < 0.3, interrupts=interrupts)
+        question = replace(question, queued=chosen.choice((None, 0, 1, 2)))
     return case, question
 
 
@@ -81,6 +82,7 @@ def explored(trial, bound, question):
     words += [word for number in sorted(question.rest) for word in ("--rest", f"T{number}")]
     words += ["--ticks", "idle"] if question.idle_ticks else []
     words += ["--ints", str(question.interrupts)] if question.interrupts is not None else []
+    words += ["--queued", str(question.queued)] if question.queued is not None else []
     words += ["--bound", str(bound), "--states", str(MOST)]
     done = subprocess.run([trial.programs["fmp_view"], "explore", "system.cfg", "system.src", *words], cwd=trial.folder,
                           capture_output=True, text=True, check=False, timeout=SECONDS)

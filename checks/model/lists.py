@@ -5,8 +5,9 @@ found nothing: nor do they.
     checks/model/lists.py [COUNT [SEED]] [--view PATH] [--program PATH]
 
 Of each system it is asked whether one code is ever answered, and tasks may wait forever, since most random systems have
-a deadlock. COUNT is the number of systems that were searched whole and have nothing to be found. Each has LISTS lists
-of up to LONG events, and every other system runs at a small bound.
+a deadlock; and of every third system in lists of events in which few activations and wakeups are queued: its lists end
+before an event that would queue more. COUNT is the number of systems that were searched whole and have nothing to be
+found. Each has LISTS lists of up to LONG events, and every other system runs at a small bound.
 """
 
 import copy
@@ -22,7 +23,7 @@ sys.path[0] = str(Path(__file__).resolve().parents[1])  # the folder `checks`, w
 from model.explore import BOUND, FAULTS, MOST  # noqa: E402
 from model.harness import SECONDS, expect, main  # noqa: E402
 from model.kernel import Kernel  # noqa: E402
-from model.schedules import goes_on_for_ever, tells, tries_of  # noqa: E402
+from model.schedules import Question, goes_on_for_ever, tells, tries_of  # noqa: E402
 from model.systems import Generator  # noqa: E402
 
 LISTS = 1_000  # of each system
@@ -30,25 +31,31 @@ LONG = 60  # events at most
 CODES = ("E_CTX", "E_ILUSE", "E_OBJ", "E_QOVR", "E_RLWAI", "E_TMOUT")
 
 
-def has_nothing(trial, case, bound, never):
+def has_nothing(trial, case, bound, never, question):
     """Whether `fmp_view explore` examines every state and finds nothing."""
     rests = [word for name in re.findall(r"CRE_TSK\((\w+)", case.configuration) for word in ("--rest", name)]
     words = ["explore", "system.cfg", "system.src", "--never", never, *rests, "--bound", str(bound)]
+    words += ["--queued", str(question.queued)] if question.queued is not None else []
     done = subprocess.run([trial.programs["fmp_view"], *words, "--states", str(MOST)], cwd=trial.folder,
                           capture_output=True, text=True, check=False, timeout=SECONDS)
     expect(done.returncode in (0, 4, 5), f"it ends with status {done.returncode}: {done.stderr.rstrip()}")
     return done.returncode == 0
 
 
-def show_nothing(start, never, events):
-    """No line of these events shows what was looked for, and no handler goes on for ever. Each task may."""
+def show_nothing(start, never, question, events):
+    """No line of these events shows what was looked for, and no handler goes on for ever. Each task may. They end
+    before the first one that the question leaves out."""
     bodies = start.system.bodies
-    kernel = copy.deepcopy(start, {id(bodies): bodies})
+    kernel, told = copy.deepcopy(start, {id(bodies): bodies}), 0
     for event in events:
         is_of_handler = event.startswith("run") and kernel.world.processors[int(event.split()[1]) - 1].handler
         expect(not is_of_handler or not goes_on_for_ever(kernel, event), f"{event} goes on for ever")
+        told = len(kernel.world.lines)
         kernel.step(event)
-    for line in kernel.world.lines:
+        if not question.lets_queue(kernel.world):
+            break
+        told = len(kernel.world.lines)
+    for line in kernel.world.lines[:told]:
         expect(not any(tells(line, word) for word in (never, *FAULTS)), f"'{line}' is told")
 
 
@@ -63,10 +70,11 @@ def check(trial):
         bound = trial.bound(seed, BOUND)
         chosen, tries = random.Random(f"lists {seed}"), tries_of(case.system)
         never = chosen.choice(CODES)
-        if has_nothing(trial, case, bound, never):
+        question = Question(queued=chosen.choice((0, 1, 2)) if seed % 3 == 0 else None)
+        if has_nothing(trial, case, bound, never, question):
             start = Kernel(case.system, bound)
             for _ in range(LISTS):
-                show_nothing(start, never, chosen.choices(tries, k=chosen.randint(1, LONG)))
+                show_nothing(start, never, question, chosen.choices(tries, k=chosen.randint(1, LONG)))
             clean += 1
         seed += 1
     trial.at = ""

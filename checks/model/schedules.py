@@ -33,19 +33,26 @@ class Searched:
 class Question:
     """What is asked: what must never be told, the sections in which one task at a time may be, each the values by
     which a task enters and leaves, the numbers of the tasks that may wait forever, whether the clock ticks only where
-    no processor can do anything, and how many interrupts may come, if that is limited."""
+    no processor can do anything, and how many interrupts may come and how many activations and wakeups of a task may be
+    queued after an event, if those are limited."""
 
     nevers: tuple = ()
     sections: tuple = ()
     rest: frozenset = frozenset()
     idle_ticks: bool = False
     interrupts: int | None = None
+    queued: int | None = None
 
     def lets(self, event, came, done):
         """Whether an event may come where this many interrupts came, and events of these kinds did something."""
         if event == "tick":
             return not self.idle_ticks or "run" not in done
         return not event.startswith("int") or self.interrupts is None or came < self.interrupts
+
+    def lets_queue(self, world):
+        """Whether an event may come that leaves as much queued."""
+        most = inf if self.queued is None else self.queued
+        return all(max(task.activations, task.wakeups) <= most for task in world.tasks)
 
 
 def place_of_queues(system):
@@ -195,7 +202,7 @@ class Search:
     """A search under way. The keys of the states that were seen, in the order in which they were, have the key before
     them, the event between, and the depth. The key of a state has who is in each section, and how many interrupts came
     where that is limited. An edge has the key before an event that did something, the one after it, and the tasks that
-    went on by it."""
+    went on by it. Of the states in which an event was left out, since it would queue too much, the keys are kept."""
 
     def __init__(self, system, bound, question, most):
         self.start, self.question, self.most = Kernel(system, bound), question, most
@@ -203,7 +210,7 @@ class Search:
         self.codes = [Code(body) for body in system.bodies]
         self.first = state_key(self.start, self.codes), len(question.sections) * (None,), 0
         self.seen = {self.first: (None, None, 0)}
-        self.edges = []
+        self.edges, self.cut = [], set()
         self.queue = deque([(self.start, self.first)])
         self.result = Searched()
 
@@ -251,6 +258,10 @@ class Search:
             if reached is None:
                 continue
             done.add(event.split()[0])
+            if not self.question.lets_queue(reached.world):
+                self.result.events += 1
+                self.cut.add(key)
+                continue
             self.note(reached, key, event, self.note_endless(kernel, key, event))
         if "run" not in done and is_stuck(kernel.world, self.question.rest):
             if "int" in done:
@@ -260,12 +271,12 @@ class Search:
 
     def never_going_on(self, number):
         """The keys of the states, in order, in which a task is started and from which no events let it go on: what is
-        left where those are taken away from which an event lets it or in which it goes on for ever, or an event leads
-        to one that was taken away."""
+        left where those are taken away from which an event lets it, in which it goes on for ever or an event was left
+        out, or from which an event leads to one that was taken away."""
         before = {}
         for key, reached, _ in self.edges:
             before.setdefault(reached, set()).add(key)
-        taken = {key for key, _, actors in self.edges if number in actors}
+        taken = {key for key, _, actors in self.edges if number in actors} | self.cut
         left = deque(taken)
         while left:
             new = before.get(left.popleft(), set()) - taken

@@ -596,6 +596,7 @@ shows 'diff: a fault of the steps' 1 diff queue.img queue.steps beyond.steps
 lists=': over all lists of events'
 bounded=', at bound 100000'
 idle=' in which the clock ticks only where no processor can do anything'
+of=' of a task are queued'
 unstuck='no stuck task was found (searched, not proved)'
 # claimed NAME CLAIM WORD..: nothing is found in the system of the queue with these words, and this is claimed.
 claimed() {
@@ -648,6 +649,12 @@ claimed 'an answer, a call and a section, in another order' \
     --alone 1,2 --never E_TMOUT:9 --never E_OBJ
 claimed 'no interrupts' "no deadlock, no fault$lists with at most 0 interrupts$bounded" --ints 0
 claimed 'one interrupt' "no deadlock, no fault$lists with at most 1 interrupt$bounded" --ints 1
+claimed 'nothing queued' \
+    "no deadlock, no fault$lists in which at most 0 activations and 0 wakeups$of$bounded" --queued 0
+claimed 'one queued' "no deadlock, no fault$lists in which at most 1 activation and 1 wakeup$of$bounded" --queued 1
+claimed 'two interrupts and two queued' \
+    "no deadlock, no fault$lists with at most 2 interrupts, in which at most 2 activations and 2 wakeups$of$bounded" \
+    --queued 2 --ints 2
 claimed 'ticks at any time' "no deadlock, no fault$lists$bounded" --ticks any
 claimed 'as many states as there are' "no deadlock, no fault$lists$bounded" --states 7
 claimed 'the greatest bound' "no deadlock, no fault$lists, at bound 281474976710656" --bound 281474976710656
@@ -660,6 +667,12 @@ END
 claimed 'idle ticks' "no deadlock, no fault$lists$idle$bounded" --ticks idle
 claimed 'idle ticks and two interrupts' \
     "no deadlock, no fault$lists with at most 2 interrupts,$idle$bounded" --ticks idle --ints 2
+claimed 'idle ticks and one queued' \
+    "no deadlock, no fault$lists$idle and at most 1 activation and 1 wakeup$of$bounded" --ticks idle --queued 1
+few=' with at most 2 interrupts,'
+claimed 'idle ticks, two interrupts and many queued' \
+    "no deadlock, no fault$lists$few$idle and at most 255 activations and 255 wakeups$of$bounded" \
+    --ticks idle --ints 2 --queued 255
 
 # Values that are put, and others with the same digits.
 finds 'a value that is put' 'queue.src:10: 4 p1 CONSUMER put(42) E_OK: after 4 steps, in queue.found.1' \
@@ -1050,6 +1063,7 @@ done
 for line in 0 1 1000; do
     refused "explore: no call at line $line" 'no call' explore queue.cfg queue.src --never E_OK:$line
 done
+refused 'explore: too much queued' '0..=255' explore queue.cfg queue.src --queued 256
 refused 'explore: no such task' 'no task' explore queue.cfg queue.src --rest NOBODY
 refused 'explore: no such task beside one' 'no task' explore queue.cfg queue.src --rest CONSUMER --rest consumer
 for word in 1 '1,' 1,2,3 1,1 01,+1 1,2147483648; do

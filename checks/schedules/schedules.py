@@ -322,7 +322,17 @@ class Search:
         ints = self.given("--ints")
         few = f" with at most {ints[0]} interrupt{'' if ints[0] == '1' else 's'}" if ints else ""
         idle = " in which the clock ticks only where no processor can do anything"
-        return f"all lists of events{few}" + (f"{',' if few else ''}{idle}" if "idle" in self.given("--ticks") else "")
+        idle = f"{',' if few else ''}{idle}" if "idle" in self.given("--ticks") else ""
+        return f"all lists of events{few}{idle}{self.queued(few, idle)}"
+
+    def queued(self, few, idle):
+        """How much may be queued, behind how many interrupts may come and when the clock ticks."""
+        if not self.given("--queued"):
+            return ""
+        most = self.given("--queued")[0]
+        joint = " and" if idle else f"{',' if few else ''} in which"
+        activations, wakeups = (f"{most} {word}{'' if most == '1' else 's'}" for word in ("activation", "wakeup"))
+        return f"{joint} at most {activations} and {wakeups} of a task are queued"
 
     def claim(self):
         """The line where something holds, by what was asked."""

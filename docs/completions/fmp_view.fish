@@ -40,6 +40,7 @@ complete -c fmp_view -n '__fish_seen_subcommand_from explore' -l alone -x -d 'On
 complete -c fmp_view -n '__fish_seen_subcommand_from explore' -l rest -x -d 'Name of a task that may wait forever, as servers do: it makes no deadlock, may be stuck, and may go on for ever without a call; it may be given again'
 complete -c fmp_view -n '__fish_seen_subcommand_from explore' -l ticks -x -d 'When the clock may advance: at any time, or only where all processors are idle [default: any] [possible values: any, idle]'
 complete -c fmp_view -n '__fish_seen_subcommand_from explore' -l ints -x -d 'How many interrupts there may be, 0 to 255; without it any number'
+complete -c fmp_view -n '__fish_seen_subcommand_from explore' -l queued -x -d 'How many activations and how many wakeups of a task may be queued, 0 to 255: events that would queue more do not come; without it any number'
 complete -c fmp_view -n '__fish_seen_subcommand_from explore' -l bound -x -d 'How many instructions a body may take in a step, 1 to 2^48; where its next service call is farther, its next step goes on from there [default: 100000]'
 complete -c fmp_view -n '__fish_seen_subcommand_from explore' -l states -x -d 'How many states are kept at most, 1 to 2^31 [default: 16777216]'
 complete -c fmp_view -n '__fish_seen_subcommand_from explore' -l all -d 'Go on after the first finding, for the first of each kind at each call'

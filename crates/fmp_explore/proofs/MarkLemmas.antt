@@ -7,23 +7,27 @@ use Rattle.fmp_base.specs.declared.events.Event.TheVariants as event
 use Rattle.fmp_base.specs.declared.systems.InterruptConfig.{InterruptConfig}
 use Rattle.fmp_base.specs.Meanings.{World}
 use Rattle.fmp_base.specs.Ranges.{InterruptInRange, IsInRange}
-use Rattle.fmp_base.specs.Steps.{Nothing, interrupted}
+use Rattle.fmp_base.specs.Steps.{Reaction, Nothing, interrupted, step}
 use Rattle.fmp_base.specs.Systems.{defined_for}
 use Rattle.fmp_question.specs.declared.question.Question.{Question}
 use Rattle.fmp_question.specs.declared.question.Ticks.{Ticks}
 use Rattle.fmp_question.specs.declared.question.Ticks.TheVariants as ticks
 use Rattle.fmp_explore.specs.declared.trying.Marks.{Marks}
-use Rattle.fmp_question.specs.Rules.{is_idle}
+use Rattle.fmp_question.specs.Rules.{is_idle, rules_of}
 use Rattle.fmp_explore.specs.Searching.{AreMarks, HasRequest, MayRequest, marked}
 use Rattle.fmp_question.specs.Standing.{StandsStill}
-use Rattle.fmp_explore.specs.States.{AreFew, IsStuckAfter, MayCome, came_of}
+use Rattle.fmp_explore.specs.States.{AreFew, IsStuckAfter, MayCome, came_of, watched_of}
 use Rattle.fmp_image_bytes.specs.Images.{ImageTables, IsImage}
 use Rattle.fmp_image_bytes.proofs.InRange.{image_in_range}
+use Rattle.fmp_instructions.proofs.Conjunctions.{and-left, and-right}
+use Rattle.fmp_instructions.specs.Instructions.{BodyTables}
 use Rattle.fmp_instructions.specs.Machine.{code_meaning}
 use Rattle.fmp_instructions.specs.declared.instructions.MachineContext.{MachineContext}
+use Rattle.fmp_kernel.specs.KernelViews.{KernelView}
+use Rattle.fmp_paths.specs.Followed.{HasDone}
 use Rattle.fmp_replay.specs.Replays.{reaction, replay}
 use Rattle.fmp_schedules.specs.Deadlocks.{is_interrupt, may_interrupt}
-use Rattle.fmp_schedules.specs.Schedules.{may_still, none_runs}
+use Rattle.fmp_schedules.specs.Schedules.{are_within, may_still, may_try, none_runs, stays_within}
 use Rattle.fmp_schedules.proofs.IdleLaws.{each-none, none-each}
 use Rattle.fmp_schedules.proofs.TriedLaws.{other-nothing}
 use Rattle.fmp_readable.proofs.ReadableLaws.{readable}
@@ -123,16 +127,38 @@ module _ (i : ImageTables) (n : ℕ) (q : Question) (es : List Event) where
 
   -- ---- the rules
 
+  -- an event that may come may be tried, and leaves no more queued than may be
+  may_parts : (e : Event) → MayCome i n q es e
+      → (may_try (rules_of q) i.system (code_meaning i.code) n world (watched_of i n q es) e ≡ true)
+      × (stays_within q.queued (step i.system (code_meaning i.code) n world e) ≡ true)
+  may_parts e may = (
+    and-left (may_try (rules_of q) i.system (code_meaning i.code) n world (watched_of i n q es) e)
+        (stays_within q.queued (step i.system (code_meaning i.code) n world e)) may,
+    and-right (may_try (rules_of q) i.system (code_meaning i.code) n world (watched_of i n q es) e)
+        (stays_within q.queued (step i.system (code_meaning i.code) n world e)) may,
+  )
+
+  -- one that leaves more queued may not come
+  pub left_out : (k : KernelView (List BodyTables) MachineContext) (e : Event) → HasDone i n es e k
+      → are_within q.queued k.world.state.tasks ≡ false → MayCome i n q es e → ⊥
+  unfolding reaction
+  left_out k e h more may =
+      let stays : are_within q.queued k.world.state.tasks ≡ true =
+      ap (λ (w : World MachineContext). are_within q.queued w.state.tasks) h.world
+      ∙ sym (ap (λ (r : Reaction MachineContext). stays_within q.queued r) h.did) ∙ (may_parts e may).1 in
+      cc (more, stays)
+
   -- where the code lets the clock not advance, the rules do not
   pub tick_never : (m : Marks) → AreMarks i n q es m → q.ticks ≢ ticks.Any → m.idle ≡ false
       → MayCome i n q es event.Tick → ⊥
-  tick_never m h some busy may = by_ticks q.ticks some may where
+  tick_never m h some busy may = by_ticks q.ticks some (may_parts event.Tick may).0 where
     by_ticks : (t : Ticks) → t ≢ ticks.Any → (not (is_idle t) || idle) ≡ true → ⊥
     by_ticks ticks.Any other e = absurd (other refl)
     by_ticks ticks.Idle other e = cc (e, h.idle busy)
 
   pub interrupt_never : (number : ℕ) → may_interrupt q.interrupts es ≡ false → MayCome i n q es (event.Int number) → ⊥
-  interrupt_never number never may = cc (sym (still_may q.interrupts es) ∙ may, never)
+  interrupt_never number never may =
+      cc (sym (still_may q.interrupts es) ∙ (may_parts (event.Int number) may).0, never)
 
   -- ---- how many interrupts come
 

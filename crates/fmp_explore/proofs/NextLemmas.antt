@@ -18,7 +18,7 @@ use Rattle.std.specs.declared.alloc.Global.{Global}
 use Rattle.std.specs.declared.vec.Vec.{Vec}
 use Rattle.fmp_explore.specs.Searching.{AreHeld, HasDealt, HasKept, IsAt, IsBegun, IsClean, IsFresh, IsNext, IsSurvey, Stays}
 use Rattle.fmp_paths.specs.Followed.{HasDone, HasKeptPlace}
-use Rattle.fmp_explore.specs.States.{AreFew, came_of, path_by, path_to, sections_of, watched_of}
+use Rattle.fmp_explore.specs.States.{AreFew, MayCome, came_of, path_by, path_to, sections_of, watched_of}
 use Rattle.fmp_fields.specs.declared.field.What.{What}
 use Rattle.fmp_fields.specs.Fields.{AreAllFields}
 use Rattle.fmp_image_bytes.specs.Images.{ImageTables}
@@ -100,7 +100,7 @@ module _ (i : ImageTables) (n : ℕ) (q : Question) where
       record {
         survey = kept.survey;
         grows = grows_on a b c (stays_grows a b stays) kept.grows;
-        leads = λ sure.
+        leads = λ sure may.
             leads_done i n q c.seen.links es e h.done h.did
             (subst (λ (ls : List Line). list_any (forbids q.nevers.items) ls ≡ false) h.lines
             (none-anywhere i.system q k.world k.lines (clean (kept.grows.sure sure))))
@@ -121,10 +121,20 @@ module _ (i : ImageTables) (n : ℕ) (q : Question) where
       record {
         survey = kept.survey;
         grows = grows_on a b c (stays_grows a b stays) kept.grows;
-        leads = λ sure.
+        leads = λ sure may.
             leads_kept i n q c.seen.links es e h.place h.world h.keeps
             (kept_by_no_interrupt i n es e h.place h.world h.keeps)
             (kept.known sure);
+      }
+
+  -- an event that may not come is left out
+  pub dealt_not : (a b : Survey) (es : List Event) (e : Event) → Stays a b → IsSurvey i n q a
+      → (MayCome i n q es e → ⊥) → HasDealt i n q a b es e
+  dealt_not a b es e stays survey never =
+      record {
+        survey = stays_survey i n q a b stays survey;
+        grows = stays_grows a b stays;
+        leads = λ sure may. absurd (never may);
       }
 
   -- what an event leads to is kept, where something was noted before

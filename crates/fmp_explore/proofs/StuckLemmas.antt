@@ -27,10 +27,10 @@ use Rattle.fmp_kernel.specs.KernelViews.{KernelView}
 use Rattle.fmp_live.specs.Zeroed.{IsLike}
 use Rattle.fmp_replay.proofs.Replaying.{world_of}
 use Rattle.fmp_schedules.specs.Deadlocks.{is_interrupt}
-use Rattle.fmp_schedules.specs.Schedules.{Rules, Watched, is_told, may_come, reached, watch}
+use Rattle.fmp_schedules.specs.Schedules.{Watched, is_told, may_come, reached, watch}
 use Rattle.fmp_schedules.specs.declared.section.Section.{Section}
 use Rattle.fmp_schedules.specs.Stuck.{MayFollow, acts}
-use Rattle.fmp_schedules.proofs.HoldLaws.{or-none}
+use Rattle.fmp_schedules.proofs.HoldLaws.{or-none, rules_with}
 use Rattle.fmp_schedules.proofs.RuleLaws.{watch-blind}
 use Rattle.fmp_schedules.proofs.StuckLaws.{SameCame, none-behind, told-too}
 use Rattle.fmp_schedules.proofs.TriedLaws.{tried-closed}
@@ -70,13 +70,10 @@ module _ (i : ImageTables) (n : ℕ) (q : Question) (image : IsImage i) (s : Sur
       (watched_of i n q q.after.items) refl (came_counted q.interrupts q.after.items) first follow
 
 -- the rules let the same events follow, whatever sections are watched
-abbrev limited : Bool → Option ℕ → List Section → Rules
-limited idle most sections = record { idle_ticks = idle; most = most; sections = sections }
-
-follow_too : (i : ImageTables) (n : ℕ) (idle : Bool) (most : Option ℕ) (ss ts : List Section) (es more : List Event)
-    → MayFollow (limited idle most ss) i.system (code_meaning i.code) n es more
-    → MayFollow (limited idle most ts) i.system (code_meaning i.code) n es more
-follow_too i n idle most ss ts es more h = h
+follow_too : (i : ImageTables) (n : ℕ) (idle : Bool) (most queued : Option ℕ) (ss ts : List Section)
+    (es more : List Event) → MayFollow (rules_with idle most queued ss) i.system (code_meaning i.code) n es more
+    → MayFollow (rules_with idle most queued ts) i.system (code_meaning i.code) n es more
+follow_too i n idle most queued ss ts es more h = h
 
 -- the task of which a question forbids the acts never acts
 pub none_acts : (i : ImageTables) (n : ℕ) (q about : Question) (es : List Event) (t : ℕ) → IsAbout q es t about
@@ -85,21 +82,24 @@ none_acts i n q about es t is none more follow =
     let told : List Event → Bool =
     λ (fs : List Event). is_told (acts t)
     (run i.system (code_meaning i.code) n (reached i.system (code_meaning i.code) n fs) more).events in
-    let moved : MayFollow (limited (is_idle about.ticks) about.interrupts q.sections.items) i.system
+    let moved : MayFollow (rules_with (is_idle about.ticks) about.interrupts about.queued q.sections.items) i.system
     (code_meaning i.code) n about.after.items more =
-    subst (λ (fs : List Event). MayFollow (limited (is_idle about.ticks) about.interrupts q.sections.items) i.system
-    (code_meaning i.code) n fs more) (sym is.after)
-    (subst (λ (most : Option ℕ). MayFollow (limited (is_idle about.ticks) most q.sections.items) i.system
+    subst
+    (λ (fs : List Event). MayFollow (rules_with (is_idle about.ticks) about.interrupts about.queued q.sections.items)
+    i.system (code_meaning i.code) n fs more) (sym is.after)
+    (subst (λ (queued : Option ℕ). MayFollow (rules_with (is_idle about.ticks) about.interrupts queued q.sections.items)
+    i.system (code_meaning i.code) n es more) (sym is.queued)
+    (subst (λ (most : Option ℕ). MayFollow (rules_with (is_idle about.ticks) most q.queued q.sections.items) i.system
     (code_meaning i.code) n es more) (sym is.interrupts)
-    (subst (λ (ticks : Ticks). MayFollow (limited (is_idle ticks) q.interrupts q.sections.items) i.system
-    (code_meaning i.code) n es more) (sym is.ticks) follow)) in
+    (subst (λ (ticks : Ticks). MayFollow (rules_with (is_idle ticks) q.interrupts q.queued q.sections.items) i.system
+    (code_meaning i.code) n es more) (sym is.ticks) follow))) in
     ap told (sym is.after)
     ∙ told-too (acts t) (forbids about.nevers.items)
     (λ l. or-none (acts t l) ∙ ap (λ (nevers : List Never). forbids nevers l) (sym is.nevers))
     (run i.system (code_meaning i.code) n (reached i.system (code_meaning i.code) n about.after.items) more).events
     ∙ none more
-    (follow_too i n (is_idle about.ticks) about.interrupts q.sections.items about.sections.items about.after.items more
-    moved)
+    (follow_too i n (is_idle about.ticks) about.interrupts about.queued q.sections.items about.sections.items
+    about.after.items more moved)
 
 awake : (phase : Phase) → phase ≡ Dormant → not (is_dormant phase) ≡ true → ⊥
 awake phase e started = cc (ap (λ (x : Phase). not (is_dormant x)) e, started)

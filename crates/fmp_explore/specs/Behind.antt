@@ -30,4 +30,5 @@ pub record IsAbout (q : Question) (es : List Event) (t : ℕ) (about : Question)
   pub nevers : about.nevers.items ≡ kind.Acts t ∷ []
   pub ticks : about.ticks ≡ q.ticks
   pub interrupts : about.interrupts ≡ q.interrupts
+  pub queued : about.queued ≡ q.queued
   pub after : about.after.items ≡ es

@@ -100,12 +100,12 @@ pub record IsAt (q : Question) (links : List Link) (state : ℕ) (es : List Even
   pub path : es ≡ path_to q links state
   pub deep : length es < 1048575
 
--- what an event leads to is kept
+-- what an event leads to is kept, if it may come
 pub record HasDealt (i : ImageTables) (n : ℕ) (q : Question) (old new : Survey) (es : List Event) (e : Event) :
     Type 0 where
   pub survey : IsSurvey i n q new
   pub grows : Grows old new
-  pub leads : new.sure ≡ true → LeadsOn i n q new.seen.links es e
+  pub leads : new.sure ≡ true → MayCome i n q es e → LeadsOn i n q new.seen.links es e
 
 -- an interrupt that may come after these events does something
 pub record HasRequest (i : ImageTables) (n : ℕ) (q : Question) (es : List Event) : Type 0 where

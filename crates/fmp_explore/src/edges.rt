@@ -13,8 +13,9 @@ pub struct Edges {
     firsts: Vec<u32>,
     /// For each of them, a bit for each task: whether it acts by one of the events.
     acting: Vec<u8>,
-    /// The states that were examined and are deadlocks.
-    deadlocks: Vec<u32>,
+    /// The states that were examined and are deadlocks, or in which an event was left out that may not come, though it
+    /// does something.
+    ends: Vec<u32>,
     /// The states that were examined and can go on only by an interrupt.
     waiting: Vec<u32>,
     /// How many bytes the bits of a state take.
@@ -72,7 +73,7 @@ impl Edges {
             targets: Vec::new(alloc),
             firsts: Vec::new(alloc),
             acting: Vec::new(alloc),
-            deadlocks: Vec::new(alloc),
+            ends: Vec::new(alloc),
             waiting: Vec::new(alloc),
             width: tasks / 8 + 1,
             lost: false,
@@ -95,7 +96,7 @@ impl Edges {
         self.targets = Vec::new(alloc);
         self.firsts = Vec::new(alloc);
         self.acting = Vec::new(alloc);
-        self.deadlocks = Vec::new(alloc);
+        self.ends = Vec::new(alloc);
         self.waiting = Vec::new(alloc);
     }
 
@@ -189,10 +190,14 @@ impl Edges {
         low_word(self.firsts.len().saturating_sub(1))
     }
 
-    /// The state that is examined is a deadlock: no task is told to be stuck from which it can be reached.
-    pub fn note_deadlock(&mut self, alloc: Global) {
+    /// The state that is examined is a deadlock, or an event is left out in it: no task is told to be stuck from which
+    /// it can be reached.
+    pub fn note_end(&mut self, alloc: Global) {
         let state = self.state();
-        if !self.lost && self.deadlocks.push(state).is_err() {
+        if self.lost || self.ends.last() == Some(&state) {
+            return;
+        }
+        if self.ends.push(state).is_err() {
             self.lose(alloc);
         }
     }
@@ -205,9 +210,9 @@ impl Edges {
         }
     }
 
-    /// The states that are deadlocks.
-    pub fn deadlocks(&self) -> &[u32] {
-        &self.deadlocks
+    /// The states that are deadlocks, or in which an event was left out.
+    pub fn ends(&self) -> &[u32] {
+        &self.ends
     }
 
     /// The states that can go on only by an interrupt, though a task that may not rest waits.

@@ -2,6 +2,7 @@
 //! list of events that shows each finding.
 #![tactic(auto)]
 
+mod beginning;
 mod edges;
 mod exploring;
 mod finding;

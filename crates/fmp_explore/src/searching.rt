@@ -61,7 +61,7 @@ pub enum Ending {
 }
 
 /// Whether an event may be tried in a state where this was done.
-fn may_come(subject: &Subject<'_>, steps: &[Event], marks: Marks, event: Event) -> bool
+fn may_try(subject: &Subject<'_>, steps: &[Event], marks: Marks, event: Event) -> bool
     requires marks { AreMarks subject.now.image.now subject.now.n subject.now.question.now steps.now marks }
     requires few { AreFew subject.now.question.now steps.now }
     ensures few { IsTrue result → AreFew subject.now.question.now (steps.now ++ event ∷ []) }
@@ -170,7 +170,7 @@ impl Survey {
         ensures over { IsOver subject.now.image.now subject.now.n kernel.new }
     {
         let event = self.tries[place];
-        if !may_come(subject, steps, *marks, event) {
+        if !may_try(subject, steps, *marks, event) {
             return Ok(false);
         }
         let attempt = Attempt {
@@ -302,7 +302,7 @@ impl Survey {
             return Ok(());
         }
         self.sure = false;
-        self.edges.note_deadlock(alloc);
+        self.edges.note_end(alloc);
         let path = Path { steps, last: None };
         self.notes.note_sight(alloc, path, Sight::Deadlock, None)
     }

@@ -142,7 +142,7 @@ fn suspects_of(
         if may_rest(question, t) {
             continue;
         }
-        let marked = goes_on_from(alloc, edges, sources, t, edges.deadlocks())?;
+        let marked = goes_on_from(alloc, edges, sources, t, edges.ends())?;
         if let Some(suspect) = suspect_of(alloc, survey, sys, &marked, t)? {
             suspects.push(suspect)?;
         }
@@ -262,6 +262,7 @@ fn question_of(
         rest,
         ticks: question.ticks,
         interrupts: question.interrupts,
+        queued: question.queued,
         all: false,
         states: question.states,
         after,

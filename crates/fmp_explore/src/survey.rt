@@ -2,12 +2,11 @@
 ghost use Rattle.std.specs.Prelude.{◌≡◌, [], ◌∷◌, ◌++◌, IfOk, OnOk, count_by, false, true};
 ghost use Rattle.std.specs.List.{list_any};
 ghost use Rattle.fmp_schedules.specs.Deadlocks.{is_interrupt as is_request};
-ghost use Rattle.fmp_replay.specs.Replays.{kernel_after};
 ghost use Rattle.fmp_schedules.specs.Schedules.{is_any_met};
 ghost use Rattle.fmp_explore.specs.States.{AreFew, path_by, path_to, sections_of};
 ghost use Rattle.fmp_paths.specs.Followed.{IsFollowed};
 ghost use Rattle.fmp_question.specs.Places.{is_bad};
-ghost use Rattle.fmp_explore.specs.Searching.{HasDealt, HasKept, IsAt, IsBegun, IsClean, IsFresh, IsNext, IsSurvey, Stays};
+ghost use Rattle.fmp_explore.specs.Searching.{HasDealt, HasKept, IsAt, IsFresh, IsNext, IsSurvey, Stays};
 ghost use Rattle.fmp_paths.specs.Followed.{HasDone, HasKeptPlace, HasStepped};
 
 use crate::edges::Edges;
@@ -23,9 +22,7 @@ use fmp_code::Vm;
 use fmp_coverage::Coverage;
 use fmp_findings::{Finding, Sight};
 use fmp_kernel::Kernel;
-use fmp_paths::follow;
-use fmp_question::{Outlook, Question, Site, interrupt_count, may_rest};
-use fmp_replay::kernel_of;
+use fmp_question::{Outlook, Question, Site, may_rest, queues_within};
 use fmp_schedules::Section;
 use fmp_seen::{Entry, Link, Seen};
 use fmp_tries::tries_of;
@@ -110,7 +107,7 @@ impl Survey {
 
     /// Keeps the state of a kernel to which this link leads, with its sections, if it is new. This many interrupts
     /// came. `AllocError` if memory runs out.
-    fn keep(
+    pub fn keep(
         &mut self,
         alloc: Global,
         subject: &Subject<'_>,
@@ -149,7 +146,7 @@ impl Survey {
 
     /// Notes what a list of events leads to, whose last one left these lines by a stretch that made this call, if it
     /// made one, and found these sections: whether a task enters one while another holds it.
-    fn note_meetings(
+    pub fn note_meetings(
         &mut self,
         alloc: Global,
         lines: &[Line],
@@ -165,123 +162,6 @@ impl Survey {
             .note_meetings(alloc, lines, path, sections, made)?;
         self.sure &= !found;
         Ok(())
-    }
-
-    /// Notes the lines of setup.
-    fn note_setup(
-        &mut self,
-        alloc: Global,
-        subject: &Subject<'_>,
-        kernel: &Kernel<Vm<'_>>,
-    ) -> Result<(), AllocError>
-        ensures stays { OnOk result (Stays self.old self.new) }
-        ensures clean { OnOk result (self.new.sure ≡ true →
-            list_any (is_bad subject.now.image.now.system subject.now.question.now kernel.now.world) kernel.now.lines
-            ≡ false) }
-        ensures alone { OnOk result (self.new.sure ≡ true →
-            is_any_met subject.now.question.now.sections.items kernel.now.lines ≡ false) }
-    {
-        let setup = Path {
-            steps: &[],
-            last: None,
-        };
-        let found = self.notes.note_lines(alloc, subject, kernel, setup, None)?;
-        self.sure &= !found;
-        self.note_meetings(
-            alloc,
-            kernel.lines(),
-            setup,
-            &subject.question.sections,
-            None,
-        )
-    }
-
-    /// Keeps the first state, that of a kernel which has taken the events behind which the search begins, with its
-    /// sections. `AllocError` if memory runs out.
-    fn keep_first(
-        &mut self,
-        alloc: Global,
-        subject: &Subject<'_>,
-        kernel: &Kernel<Vm<'_>>,
-        sections: Vec<Section>,
-    ) -> Result<(), AllocError>
-        requires survey { IsSurvey subject.now.image.now subject.now.n subject.now.question.now self.old }
-        requires none { self.old.seen.links ≡ [] }
-        requires followed { IsFollowed subject.now.image.now subject.now.n subject.now.question.now.after.items
-            kernel.now }
-        requires few { AreFew subject.now.question.now subject.now.question.now.after.items }
-        requires sections { sections.items ≡ sections_of subject.now.image.now subject.now.n subject.now.question.now
-            subject.now.question.now.after.items }
-        ensures { OnOk result (HasKept subject.now.image.now subject.now.n subject.now.question.now self.old self.new
-            subject.now.question.now.after.items) }
-    {
-        let link = Link {
-            parent: 0,
-            event: Event::Tick,
-            kept: false,
-            depth: 0,
-        };
-        let came = interrupt_count(&subject.question.after);
-        self.keep(alloc, subject, kernel, came, sections, link)
-    }
-
-    /// Takes the events behind which the search begins on a kernel that was just set up, and keeps the state after
-    /// them, where the sections are these at setup. `AllocError` if memory runs out.
-    fn begin_behind(
-        &mut self,
-        alloc: Global,
-        subject: &Subject<'_>,
-        kernel: &mut Kernel<Vm<'_>>,
-        sections: Vec<Section>,
-    ) -> Result<(), AllocError>
-        requires survey { IsSurvey subject.now.image.now subject.now.n subject.now.question.now self.old }
-        requires none { self.old.seen.links ≡ [] }
-        requires kernel { kernel.old ≡ kernel_after subject.now.image.now subject.now.n [] }
-        requires sections { sections.items ≡ sections_of subject.now.image.now subject.now.n
-            subject.now.question.now [] }
-        requires clean { self.old.sure ≡ true → IsClean subject.now.image.now subject.now.n subject.now.question.now }
-        ensures { OnOk result (IsBegun subject.now.image.now subject.now.n subject.now.question.now self.new) }
-    {
-        let question = subject.question;
-        if !question.can_begin() {
-            self.sure = false;
-            return Ok(());
-        }
-        if !follow(kernel, subject.image, subject.n, &question.after) {
-            self.sure = false;
-            return Ok(());
-        }
-        self.keep_first(alloc, subject, kernel, sections)
-    }
-
-    /// Keeps the state after the events behind which the search begins, on a kernel that was just set up. `AllocError`
-    /// if memory runs out.
-    fn begin_on(
-        &mut self,
-        alloc: Global,
-        subject: &Subject<'_>,
-        kernel: &mut Kernel<Vm<'_>>,
-    ) -> Result<(), AllocError>
-        requires fresh { IsFresh subject.now.image.now subject.now.question.now self.old }
-        requires kernel { kernel.old ≡ kernel_after subject.now.image.now subject.now.n [] }
-        ensures { OnOk result (IsBegun subject.now.image.now subject.now.n subject.now.question.now self.new) }
-    {
-        self.notes.cover(alloc, subject, kernel)?;
-        self.note_setup(alloc, subject, kernel)?;
-        let sections = sections_after(alloc, &subject.question.sections, kernel.lines())?;
-        self.rows.begin(kernel, &subject.live, &sections)?;
-        self.begin_behind(alloc, subject, kernel, sections)
-    }
-
-    /// Keeps the state after the events behind which the search begins. `AllocError` if memory runs out.
-    pub fn begin(&mut self, alloc: Global, subject: &Subject<'_>) -> Result<(), AllocError>
-        requires { IsFresh subject.now.image.now subject.now.question.now self.old }
-        ensures { OnOk result (IsBegun subject.now.image.now subject.now.n subject.now.question.now self.new) }
-    {
-        let mut kernel = kernel_of(alloc, subject.image, subject.n)?;
-        let begun = self.begin_on(alloc, subject, &mut kernel);
-        drop(kernel);
-        begun
     }
 
     /// Keeps the state of a kernel to which an attempt led, whose event kept a place or was done, with its sections.
@@ -362,6 +242,30 @@ impl Survey {
         self.note_lines(alloc, subject, kernel, attempt, made, &before)?;
         let sections = sections_after(alloc, &before, kernel.lines())?;
         self.keep_next(alloc, subject, kernel, attempt, false, sections)
+    }
+
+    /// An event is done, by a stretch that made this call, if it made one. If it leaves more queued than may be, it may
+    /// not come, and is left out.
+    fn note_done_within(
+        &mut self,
+        alloc: Global,
+        subject: &Subject<'_>,
+        kernel: &Kernel<Vm<'_>>,
+        attempt: Attempt<'_>,
+        made: Option<Site>,
+    ) -> Result<(), AllocError>
+        requires survey { IsSurvey subject.now.image.now subject.now.n subject.now.question.now self.old }
+        requires at { IsAt subject.now.question.now self.old.seen.links attempt.state attempt.steps.now }
+        requires few { AreFew subject.now.question.now (attempt.steps.now ++ attempt.event ∷ []) }
+        requires done { HasDone subject.now.image.now subject.now.n attempt.steps.now attempt.event kernel.now }
+        ensures { OnOk result (HasDealt subject.now.image.now subject.now.n subject.now.question.now self.old self.new
+            attempt.entry.steps.now attempt.entry.event) }
+    {
+        if !queues_within(kernel, subject.question) {
+            self.edges.note_end(alloc);
+            return Ok(());
+        }
+        self.note_done(alloc, subject, kernel, attempt, made)
     }
 
     /// Notes that the actor of a processor goes on for ever. It is this task or a handler, and its body is this one.
@@ -493,7 +397,9 @@ impl Survey {
     {
         match effect {
             Effect::Nothing => Ok(()),
-            Effect::Done => self.note_done(alloc, subject, kernel, attempt, ahead.made),
+            Effect::Done => {
+                self.note_done_within(alloc, subject, kernel, attempt, ahead.made)
+            }
             Effect::Kept => self.note_kept(alloc, subject, kernel, attempt, ahead.outlook),
         }
     }

@@ -134,9 +134,33 @@ ticks_text ticks.Any limited = []
 ticks_text ticks.Idle limited =
     (if limited then codes "," else []) ++ codes " in which the clock ticks only where no processor can do anything"
 
+-- what stands in front of how much is queued: `and` behind when the clock ticks, else as in front of that
+unfoldable pub joint_text : Ticks → (limited : Bool) → List ℕ
+joint_text ticks.Any limited = (if limited then codes "," else []) ++ codes " in which"
+joint_text ticks.Idle limited = codes " and"
+
+unfoldable pub activations_word : ℕ → List ℕ
+activations_word n = if nat_eq n 1 then codes " activation and " else codes " activations and "
+
+unfoldable pub wakeups_word : ℕ → List ℕ
+wakeups_word n = if nat_eq n 1 then codes " wakeup" else codes " wakeups"
+
+-- at most this many activations and wakeups are queued
+unfoldable pub queue_text : ℕ → List ℕ
+queue_text n =
+    codes " at most "
+    ++ (decimal n ++ (activations_word n ++ (decimal n ++ (wakeups_word n ++ codes " of a task are queued"))))
+
+-- how much may be queued, behind when the clock ticks
+unfoldable pub queued_text : Option ℕ → Ticks → (limited : Bool) → List ℕ
+queued_text None ticks limited = []
+queued_text (Some n) ticks limited = joint_text ticks limited ++ queue_text n
+
 -- which events the lists have
 unfoldable pub rules_text : Question → List ℕ
-rules_text q = interrupts_text q.interrupts ++ ticks_text q.ticks (is_some q.interrupts)
+rules_text q =
+    interrupts_text q.interrupts
+    ++ (ticks_text q.ticks (is_some q.interrupts) ++ queued_text q.queued q.ticks (is_some q.interrupts))
 
 unfoldable pub bound_text : ℕ → List ℕ
 bound_text bound = codes ", at bound " ++ (decimal bound ++ codes "\n")

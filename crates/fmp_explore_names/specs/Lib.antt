@@ -1,5 +1,6 @@
 pub mod Answers
 pub mod Claims
+pub mod Fields
 pub mod Questions
 pub mod Sites
 pub mod Stuck

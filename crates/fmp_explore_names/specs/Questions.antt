@@ -107,6 +107,7 @@ pub record IsQuestionOf (a : Asked) (system : SystemTables) (code : List BodyTab
   pub rest : q.rest.items ≡ marks system.tasks a.rest.now
   pub ticks : q.ticks ≡ a.ticks
   pub interrupts : q.interrupts ≡ a.interrupts
+  pub queued : q.queued ≡ a.queued
   pub all : q.all ≡ a.all
   pub states : q.states ≡ a.states
   pub after : q.after.items ≡ []

@@ -28,6 +28,8 @@ pub struct Asked<'a> {
     pub ticks: Ticks,
     /// How many interrupts there may be; any number, if none is given.
     pub interrupts: Option<u8>,
+    /// How many activations and how many wakeups of a task may be queued after an event; any number, if none is given.
+    pub queued: Option<u8>,
     /// Whether the search goes on after the first finding.
     pub all: bool,
     /// How many states may be kept.
@@ -294,6 +296,7 @@ fn question_of(
         rest: marks(alloc, &sys.tasks, asked.rest)?,
         ticks: asked.ticks,
         interrupts: asked.interrupts,
+        queued: asked.queued,
         all: asked.all,
         states: asked.states,
         after: Vec::new(alloc),

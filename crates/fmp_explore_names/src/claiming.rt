@@ -6,10 +6,11 @@ ghost use Rattle.fmp_base.specs.Texts.{fault_text};
 ghost use Rattle.fmp_instructions.specs.Instructions.{code_tables};
 ghost use Rattle.fmp_explore_names.specs.Claims as spec;
 
+use crate::lists::append_lists;
 use crate::sites::CallLines;
 use fmp_base::{Fault, Service, System, TaskConfig};
 use fmp_code::{Code, Instruction};
-use fmp_explore::{Never, NeverAt, Question, Report, Section, Site, Ticks};
+use fmp_explore::{Never, NeverAt, Question, Report, Section, Site};
 use fmp_image_bytes::Image;
 use fmp_named::append_task;
 use itoa::Buffer;
@@ -22,7 +23,7 @@ pub(crate) fn append(text: &[u8], out: &mut Vec<u8>) -> Result<(), AllocError>
     out.extend_from_slice(text)
 }
 
-fn append_number(number: u64, out: &mut Vec<u8>) -> Result<(), AllocError>
+pub(crate) fn append_number(number: u64, out: &mut Vec<u8>) -> Result<(), AllocError>
     ensures { OnOk result (out.new.items ≡ out.old.items ++ decimal number) }
 {
     append(Buffer::new().format(number).as_bytes(), out)
@@ -209,7 +210,7 @@ fn may_come(interrupts: Option<u8>) -> bool
 }
 
 /// Appends a text where this is so.
-fn append_where(is_so: bool, text: &[u8], out: &mut Vec<u8>) -> Result<(), AllocError>
+pub(crate) fn append_where(is_so: bool, text: &[u8], out: &mut Vec<u8>) -> Result<(), AllocError>
     ensures { OnOk result (out.new.items ≡ out.old.items ++ (if is_so then text.now else [])) }
 {
     if is_so { append(text, out) } else { Ok(()) }
@@ -312,93 +313,6 @@ fn append_faults(nevers: &[Never], out: &mut Vec<u8>) -> Result<(), AllocError>
     append_fault(nevers, Fault::Overflow, out)?;
     append_fault(nevers, Fault::Division, out)?;
     append_fault(nevers, Fault::Index, out)
-}
-
-/// The word for this many interrupts.
-#[tactic(auto, unfolding(crate::specs::Claims::interrupt_word))]
-fn interrupt_word(count: u8) -> &'static [u8]
-    ensures { result.now ≡ spec.interrupt_word count }
-{
-    if count == 1 {
-        b" interrupt"
-    } else {
-        b" interrupts"
-    }
-}
-
-/// Appends that there are at most this many.
-#[tactic(auto, unfolding(crate::specs::Claims::most_text))]
-fn append_most(count: u8, out: &mut Vec<u8>) -> Result<(), AllocError>
-    ensures { OnOk result (out.new.items ≡ out.old.items ++ spec.most_text count) }
-{
-    append(b" with at most ", out)?;
-    append_number(u64::from(count), out)
-}
-
-/// Appends that there are at most this many interrupts.
-#[tactic(auto, unfolding(crate::specs::Claims::count_text))]
-fn append_count(count: u8, out: &mut Vec<u8>) -> Result<(), AllocError>
-    ensures { OnOk result (out.new.items ≡ out.old.items ++ spec.count_text count) }
-{
-    append_most(count, out)?;
-    append(interrupt_word(count), out)
-}
-
-/// Appends how many interrupts there may be, if that is limited.
-#[tactic(auto, unfolding(crate::specs::Claims::interrupts_text))]
-fn append_interrupts(interrupts: Option<u8>, out: &mut Vec<u8>) -> Result<(), AllocError>
-    ensures { OnOk result (out.new.items ≡ out.old.items ++ spec.interrupts_text interrupts) }
-{
-    match interrupts {
-        Some(count) => append_count(count, out),
-        None => Ok(()),
-    }
-}
-
-/// Appends when the clock ticks.
-#[tactic(auto, unfolding(crate::specs::Claims::ticks_text))]
-fn append_ticks(ticks: Ticks, limited: bool, out: &mut Vec<u8>) -> Result<(), AllocError>
-    ensures { OnOk result (out.new.items ≡ out.old.items ++ spec.ticks_text ticks limited) }
-{
-    match ticks {
-        Ticks::Any => Ok(()),
-        Ticks::Idle => {
-            append_where(limited, b",", out)?;
-            append(
-                b" in which the clock ticks only where no processor can do anything",
-                out,
-            )
-        }
-    }
-}
-
-/// Appends which events lists have.
-#[tactic(auto, unfolding(crate::specs::Claims::rules_text))]
-fn append_rules(question: &Question, out: &mut Vec<u8>) -> Result<(), AllocError>
-    ensures { OnOk result (out.new.items ≡ out.old.items ++ spec.rules_text question.now) }
-{
-    append_interrupts(question.interrupts, out)?;
-    append_ticks(question.ticks, question.interrupts.is_some(), out)
-}
-
-/// Appends a bound, and the end of the line.
-#[tactic(auto, unfolding(crate::specs::Claims::bound_text))]
-fn append_bound(bound: u64, out: &mut Vec<u8>) -> Result<(), AllocError>
-    ensures { OnOk result (out.new.items ≡ out.old.items ++ spec.bound_text bound) }
-{
-    append(b", at bound ", out)?;
-    append_number(bound, out)?;
-    append(b"\n", out)
-}
-
-/// Appends over which lists of events something is claimed, and at which bound.
-#[tactic(auto, unfolding(crate::specs::Claims::lists_text))]
-fn append_lists(question: &Question, bound: u64, out: &mut Vec<u8>) -> Result<(), AllocError>
-    ensures { OnOk result (out.new.items ≡ out.old.items ++ spec.lists_text question.now bound) }
-{
-    append(b": over all lists of events", out)?;
-    append_rules(question, out)?;
-    append_bound(bound, out)
 }
 
 /// Appends what the words ask for.

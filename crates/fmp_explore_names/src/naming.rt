@@ -1,4 +1,7 @@
 //! The names of fields, in the words of the two texts.
+ghost use Rattle.std.specs.Prelude.{◌≡◌};
+ghost use Rattle.fmp_explore_names.specs.Fields.{counts_queued};
+
 use crate::sites::begins_body;
 use fmp_base::{Entry, Name, System};
 use fmp_fields::What;
@@ -219,6 +222,16 @@ fn task_of(what: What) -> Option<u8> {
         | What::Operands(t)
         | What::Operand(t, _) => Some(t),
         _ => None,
+    }
+}
+
+/// Whether a field is how many activations or wakeups of a task are queued.
+pub fn is_queue(what: What) -> bool
+    ensures { result ≡ counts_queued what }
+{
+    match what {
+        What::Activations(_) | What::Wakeups(_) => true,
+        _ => false,
     }
 }
 

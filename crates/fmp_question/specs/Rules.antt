@@ -11,4 +11,5 @@ is_idle ticks.Any = false
 is_idle ticks.Idle = true
 
 abbrev pub rules_of : Question → Rules
-rules_of q = record { idle_ticks = is_idle q.ticks; most = q.interrupts; sections = q.sections.items }
+rules_of q =
+    record { idle_ticks = is_idle q.ticks; most = q.interrupts; queued = q.queued; sections = q.sections.items }

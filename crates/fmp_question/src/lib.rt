@@ -4,11 +4,13 @@
 mod endless;
 mod placing;
 mod question;
+mod queueing;
 mod site;
 mod standing;
 
 pub use endless::{Outlook, is_endless, is_same, outlook_of};
 pub use placing::{body_of, first_bad_at, is_bad, is_started, last_call};
 pub use question::{ANSWERS, Never, NeverAt, Question, Ticks, first_forbidden, interrupt_count};
+pub use queueing::queues_within;
 pub use site::Site;
 pub use standing::{is_deadlock, may_rest, stands_still};

@@ -71,6 +71,8 @@ pub struct Question {
     pub ticks: Ticks,
     /// How many interrupts there may be; any number, if none is given.
     pub interrupts: Option<u8>,
+    /// How many activations and how many wakeups of a task may be queued after an event; any number, if none is given.
+    pub queued: Option<u8>,
     /// Whether the search goes on after the first finding, for the first of each kind and place.
     pub all: bool,
     /// How many states may be kept.
@@ -82,7 +84,8 @@ pub struct Question {
 
 impl Question {
     /// Deadlocks and bodies that go on for ever without a call are looked for, and nothing else. No task may wait
-    /// forever. Ticks and interrupts come at any time. The search stops at the first finding, or at 2^24 states.
+    /// forever. Ticks and interrupts come at any time, and any number of activations and wakeups may be queued. The
+    /// search stops at the first finding, or at 2^24 states.
     pub fn new(alloc: Global) -> Question
         ensures nevers { result.nevers.items ≡ [] }
         ensures nevers_at { result.nevers_at.items ≡ [] }
@@ -90,6 +93,7 @@ impl Question {
         ensures rest { result.rest.items ≡ [] }
         ensures ticks { result.ticks ≡ Ticks.Any }
         ensures interrupts { result.interrupts ≡ None }
+        ensures queued { result.queued ≡ None }
         ensures all { result.all ≡ false }
         ensures states { result.states ≡ 2 ^ 24 }
         ensures after { result.after.items ≡ [] }
@@ -101,6 +105,7 @@ impl Question {
             rest: Vec::new(alloc),
             ticks: Ticks::Any,
             interrupts: None,
+            queued: None,
             all: false,
             states: 1 << 24,
             after: Vec::new(alloc),

@@ -25,12 +25,13 @@ use Rattle.fmp_base.specs.Ties.{ContextsTied, HeldTied}
 use Rattle.fmp_schedules.specs.Beside.{AreBeside, DoesBeside, HoldsThereAtAll, IsSilentBeside}
 use Rattle.fmp_schedules.specs.Completed.{AllStand, AreCompleted, DoneThen, Ends, EndsAs, EndsFrom, HoldsAtAll, IsCompleted, IsLastingDeadlock, MayBe}
 use Rattle.fmp_schedules.specs.Deadlocks.{IsDeadlock, IsStuck}
-use Rattle.fmp_schedules.specs.Schedules.{Holds, HoldsThere, IsSilent, Rules, Watched, came_after, is_request, is_told, lines_after, may_come, may_still, none_runs, reached, requests, watch, watched_at_setup, watched_on}
+use Rattle.fmp_schedules.specs.Schedules.{Holds, HoldsThere, IsSilent, Rules, Watched, are_within, came_after, is_request, is_told, lines_after, may_come, may_still, may_try, none_runs, reached, requests, stays_within, watch, watched_at_setup, watched_on}
 use Rattle.fmp_schedules.specs.Sections.{is_met_along}
 use Rattle.fmp_schedules.proofs.Catching.{At, Behind, BothDo, both-do, catch, keeps-tie, nothing-of, stand}
 use Rattle.fmp_schedules.proofs.EventLines.{setup-counts}
 use Rattle.fmp_schedules.proofs.IdleLaws.{each-none}
 use Rattle.fmp_schedules.proofs.KeptPlaces.{Keeps, ends_}
+use Rattle.fmp_schedules.proofs.RuleLaws.{both}
 use Rattle.fmp_schedules.proofs.LeadLaws.{Leads, kept-way, no-way, one-done, way-allowed, way-done, way-lines, way-on, way-world}
 
 module _ {D : Type 0} (sys : SystemTables) (M : Meaning D) (t : ℕ) where
@@ -133,10 +134,20 @@ module _ {C D : Type 0} (rules : Rules) (sys : SystemTables) (R S : ℕ → C �
   same-of : (x : Reaction D) (d : Done D) (y : Reaction C) → x ≡ Did d → BothDo R N sys x y → Same y d
   same-of x d y e h = same-did d y (subst (λ (r : Reaction D). BothDo R N sys r y) e h)
 
-  next-of : (w : World D) (v x : World C) (a : Watched) (e : Event) (d : Done D) (es : List Event)
-      → Keeps sys N n v es x → AreBeside R N sys w x → may_come rules sys N n x a e ≡ true
-      → Same (step sys N n x e) d → Next w v a e d
-  next-of w v x a e d es way before may s =
+  -- as much is queued after both
+  stays-too : (d : Done D) (x : Reaction D) (y : Reaction C) → x ≡ Did d → stays_within rules.queued x ≡ true
+      → Same y d → stays_within rules.queued y ≡ true
+  stays-too d x y is stays s =
+      ap (λ (r : Reaction C). stays_within rules.queued r) s.does
+      ∙ ap (λ (u : KernelState). are_within rules.queued u.tasks) (sym s.beside.states)
+      ∙ sym (ap (λ (r : Reaction D). stays_within rules.queued r) is) ∙ stays
+
+  next-of : (t : ℕ) (w : World D) (v x : World C) (a : Watched) (e : Event) (d : Done D) (es : List Event)
+      → Keeps sys N n v es x → AreBeside R N sys w x → may_try rules sys N n x a e ≡ true
+      → stays_within rules.queued (step sys M t w e) ≡ true → step sys M t w e ≡ Did d
+      → BothDo R N sys (step sys M t w e) (step sys N n x e) → Next w v a e d
+  next-of t w v x a e d es way before now stays is h =
+      let s = same-of (step sys M t w e) d (step sys N n x e) is h in
       record {
         events = es;
         world = x;
@@ -146,14 +157,16 @@ module _ {C D : Type 0} (rules : Rules) (sys : SystemTables) (R S : ℕ → C �
         does = s.does;
         lines = s.lines;
         beside = s.beside;
-        may = may;
+        may = both (may_try rules sys N n x a e) (stays_within rules.queued (step sys N n x e)) now
+            (stays-too d (step sys M t w e) (step sys N n x e) is stays s);
       }
 
   next-run : (t : ℕ) (w : World D) (v : World C) (a : Watched) (p : ℕ) (d : Done D) → AreBeside R N sys w v
+      → stays_within rules.queued (step sys M t w (event.Run (suc p))) ≡ true
       → step sys M t w (event.Run (suc p)) ≡ Did d → Next w v a (event.Run (suc p)) d
-  next-run t w v a p d h is =
+  next-run t w v a p d h stays is =
       let c = catch sys R S N M size f n one t w v p h (did-ends sys M t w p d is) in
-      next-of w v c.world a (event.Run (suc p)) d c.events c.way c.beside refl (same-of _ d _ is c.both)
+      next-of t w v c.world a (event.Run (suc p)) d c.events c.way c.beside refl stays is c.both
 
   tick-both : (t : ℕ) (s : KernelState) (a : Contexts (Held D)) (b : Contexts (Held C))
       → ContextsTied sys (HeldTied (At sys R S N M size f n one) (Behind sys R S N M size f n one)) a b
@@ -208,31 +221,32 @@ module _ {C D : Type 0} (rules : Rules) (sys : SystemTables) (R S : ℕ → C �
   or-none false none h = refl
 
   next-tick : (idle : Bool) → rules.idle_ticks ≡ idle → (t : ℕ) (w : World D) (v : World C) (a : Watched) (d : Done D)
-      → AreBeside R N sys w v → (idle ≡ true → AllStand sys M t w) → step sys M t w event.Tick ≡ Did d
+      → AreBeside R N sys w v → (idle ≡ true → AllStand sys M t w)
+      → stays_within rules.queued (step sys M t w event.Tick) ≡ true → step sys M t w event.Tick ≡ Did d
       → Next w v a event.Tick d
-  next-tick false e t w v a d h stands is =
-      next-of w v v a event.Tick d [] (ends_ v) h
-      (ap (λ (idle : Bool). not idle || none_runs sys N n v sys.processors) e)
-      (same-of _ d _ is (tick-beside t w v h))
-  next-tick true e t w v a d h stands is =
+  next-tick false e t w v a d h stands stays is =
+      next-of t w v v a event.Tick d [] (ends_ v) h
+      (ap (λ (idle : Bool). not idle || none_runs sys N n v sys.processors) e) stays is (tick-beside t w v h)
+  next-tick true e t w v a d h stands stays is =
       let all = stands refl in
       let r = stand sys R S N M size f n one t w v sys.processors h all.ended all.nothing in
-      next-of w v r.world a event.Tick d r.events r.way r.beside
+      next-of t w v r.world a event.Tick d r.events r.way r.beside
       (or-none rules.idle_ticks (none_runs sys N n r.world sys.processors)
-      (each-none sys N n r.world sys.processors (numbers r.world sys.processors r.nothing)))
-      (same-of _ d _ is (tick-beside t w r.world r.beside))
+      (each-none sys N n r.world sys.processors (numbers r.world sys.processors r.nothing))) stays is
+      (tick-beside t w r.world r.beside)
 
   -- what M does within t units N does too
   pub go-next : (t : ℕ) (w : World D) (v : World C) (a : Watched) (came : ℕ) (e : Event) (d : Done D)
       → AreBeside R N sys w v → a.came ≡ came → MayBe rules sys M t w came e → step sys M t w e ≡ Did d
       → Next w v a e d
   go-next t w v a came (event.Run zero) d h same may is = absurd (cc is)
-  go-next t w v a came (event.Run (suc p)) d h same may is = next-run t w v a p d h is
-  go-next t w v a came event.Tick d h same may is = next-tick rules.idle_ticks refl t w v a d h may is
+  go-next t w v a came (event.Run (suc p)) d h same may is = next-run t w v a p d h may.1 is
+  go-next t w v a came event.Tick d h same may is =
+      next-tick rules.idle_ticks refl t w v a d h may.0 may.1 is
   go-next t w v a came (event.Int zero) d h same may is = absurd (cc is)
   go-next t w v a came (event.Int (suc i)) d h same may is =
-      next-of w v v a (event.Int (suc i)) d [] (ends_ v) h (came-still rules.most a came same may)
-      (same-of _ d _ is (interrupt-beside t i w v h))
+      next-of t w v v a (event.Int (suc i)) d [] (ends_ v) h (came-still rules.most a came same may.0) may.1 is
+      (interrupt-beside t i w v h)
 
   -- N does what M completes from here on
   pub record DoesAll (t : ℕ) (w : World D) (v : World C) (a : Watched) (came : ℕ) (es : List Event) : Type 0 where

@@ -49,27 +49,29 @@ pub neither : (a b : Bool) → (a || b) ≡ false → (a ≡ false) × (b ≡ fa
 neither true b h = cc
 neither false b h = (refl, h)
 
-abbrev limited : Bool → ℕ → List Section → Rules
-limited idle most sections = record { idle_ticks = idle; most = Some most; sections = sections }
+abbrev pub rules_with : Bool → Option ℕ → Option ℕ → List Section → Rules
+rules_with idle most queued sections =
+    record { idle_ticks = idle; most = most; queued = queued; sections = sections }
 
-pub came-watched : (idle : Bool) (most : ℕ) (sections : List Section) (forbidden : Line → Bool) (a : Watched)
-    (events : List (List Line))
-    → (watched (watch (limited idle most sections) forbidden) a events).came ≡ a.came + requests events
-came-watched idle most sections forbidden a [] = omega arith
-came-watched idle most sections forbidden a (ls ∷ rest) =
+pub came-watched : (idle : Bool) (most : ℕ) (queued : Option ℕ) (sections : List Section) (forbidden : Line → Bool)
+    (a : Watched) (events : List (List Line))
+    → (watched (watch (rules_with idle (Some most) queued sections) forbidden) a events).came ≡ a.came + requests events
+came-watched idle most queued sections forbidden a [] = omega arith
+came-watched idle most queued sections forbidden a (ls ∷ rest) =
     let e : (a.came + count_by is_request ls) + requests rest ≡ a.came + (count_by is_request ls + requests rest) =
     omega arith in
-    came-watched idle most sections forbidden (watched_on (limited idle most sections) forbidden a ls) rest
+    came-watched idle most queued sections forbidden
+    (watched_on (rules_with idle (Some most) queued sections) forbidden a ls) rest
     ∙ e
     ∙ ap (λ (k : ℕ). a.came + k) (sym (sum_by-cons (λ (events : List Line). count_by is_request events) ls rest))
 
-still-watched : (idle : Bool) (most : Option ℕ) (sections : List Section) (forbidden : Line → Bool) (a : Watched)
-    (events : List (List Line)) → may_still most
-    (watched (watch (record { idle_ticks = idle; most = most; sections = sections }) forbidden) a events).came
+still-watched : (idle : Bool) (most queued : Option ℕ) (sections : List Section) (forbidden : Line → Bool)
+    (a : Watched) (events : List (List Line))
+    → may_still most (watched (watch (rules_with idle most queued sections) forbidden) a events).came
     ≡ may_still most (a.came + requests events)
-still-watched idle None sections forbidden a events = refl
-still-watched idle (Some most) sections forbidden a events =
-    ap (λ (came : ℕ). nat_lt came most) (came-watched idle most sections forbidden a events)
+still-watched idle None queued sections forbidden a events = refl
+still-watched idle (Some most) queued sections forbidden a events =
+    ap (λ (came : ℕ). nat_lt came most) (came-watched idle most queued sections forbidden a events)
 
 module _ {C : Type 0} (rules : Rules) (sys : SystemTables) (M : Meaning C) (n : ℕ) (forbidden : Line → Bool)
     (rest : List Bool) (K : World C → Watched → Type 0) (even : IsTimeless forbidden) (R : World C → World C → Type 0)
@@ -92,7 +94,7 @@ module _ {C : Type 0} (rules : Rules) (sys : SystemTables) (M : Meaning C) (n : 
       let e : requests (lines_after sys M n es) ≡ 0 + requests (lines_after sys M n es) = omega arith in
       ap (λ (came : ℕ). may_still rules.most came) e
       ∙ sym
-      (still-watched rules.idle_ticks rules.most rules.sections forbidden (at_first rules.sections)
+      (still-watched rules.idle_ticks rules.most rules.queued rules.sections forbidden (at_first rules.sections)
       (lines_after sys M n es))
 
   pub closed-holds : NoneIsBad (watch rules forbidden) K → NoneIsDeadlock rules sys M n rest K

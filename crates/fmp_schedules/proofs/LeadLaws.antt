@@ -9,7 +9,7 @@ use Rattle.fmp_base.specs.Steps.{Done, Reaction, Did, Kept, step, with_place}
 use Rattle.fmp_base.specs.Stretches as ends
 use Rattle.fmp_base.specs.Systems.{SystemTables}
 use Rattle.fmp_alike.specs.Closed.{AreAllowed, allowed_after}
-use Rattle.fmp_schedules.specs.Schedules.{Rules, Watched, may_come, watch, watched_on}
+use Rattle.fmp_schedules.specs.Schedules.{Rules, Watched, may_come, stays_within, watch, watched_on}
 use Rattle.fmp_schedules.proofs.KeptPlaces.{Keeps, ends_, keeps, run-is}
 
 -- From v, where a is watched, these events may come one after the other, and lead to x, where b is watched, by these
@@ -61,7 +61,7 @@ module _ {C : Type 0} (rules : Rules) (sys : SystemTables) (N : Meaning C) (n : 
   one-kept v u a p q e =
       record {
         allowed = λ fs h. (
-          refl,
+          ap (λ (r : Reaction C). stays_within rules.queued r) e,
           subst (λ (r : Reaction C). allowed_after (watch rules forbidden) v a r (λ t b. Allowed t b fs)) (sym e) h,
         );
         world = λ fs. ap (λ (r : Reaction C). (run_on v r (λ t. run sys N n t fs)).world) e;

@@ -1,18 +1,20 @@
 -- The rules let the same events come to alike worlds, and what is watched does not look at the number of the clock.
-use Rattle.std.proofs.Common.{◌≡◌, ◌+◌, ℕ, zero, suc, List, [], ◌∷◌, Option, Some, None, Bool, true, false, ◌&&◌, ◌||◌, not, refl, sym, ◌∙◌, ap, cond, count_by}
+use Rattle.std.proofs.Common.{◌≡◌, ◌+◌, ℕ, zero, suc, List, [], ◌∷◌, Option, Some, None, Bool, true, false, ◌&&◌, ◌||◌, not, refl, sym, ◌∙◌, ap, ap₂, cond, count_by}
 use Rattle.std.proofs.lemmas.List.Sums.{sum_by-cons}
-use Rattle.std.specs.List.{list_any}
+use Rattle.std.specs.List.{list_all, list_any}
 use Rattle.fmp_base.specs.declared.events.Event.{Event}
 use Rattle.fmp_base.specs.declared.events.Event.TheVariants as event
 use Rattle.fmp_base.specs.declared.events.Line.{Line}
 use Rattle.fmp_base.specs.declared.events.Line.TheVariants as line
+use Rattle.fmp_base.specs.declared.states.TaskBlock.{TaskBlock}
 use Rattle.fmp_base.specs.Meanings.{Meaning, World}
 use Rattle.fmp_base.specs.Setups.{setup}
 use Rattle.fmp_base.specs.Steps.{Reaction, Nothing, Did, Kept, step}
 use Rattle.fmp_base.specs.Systems.{SystemTables}
+use Rattle.fmp_alike.specs.Alike.{AlikeStates, SameBlocks}
 use Rattle.fmp_alike.specs.Closed.{AreAllowed, BothAlike, IsBlind, IsRule, Watch, all_timeless, allowed_after, timeless}
 use Rattle.fmp_schedules.specs.Likeness.{IsLikeness}
-use Rattle.fmp_schedules.specs.Schedules.{IsSchedule, Rules, Watched, watched_at_setup, came_after, is_any_met, is_nothing, is_request, may_come, may_still, none_runs, sections_after, watch, watched_on}
+use Rattle.fmp_schedules.specs.Schedules.{IsSchedule, Rules, Watched, watched_at_setup, came_after, are_within, is_any_met, is_nothing, is_request, is_within, may_come, may_still, may_try, none_runs, sections_after, stays_within, watch, watched_on}
 use Rattle.fmp_schedules.specs.declared.section.Section.{Section}
 use Rattle.fmp_schedules.specs.Tried.{IsTimeless}
 use Rattle.fmp_schedules.proofs.SectionLaws.{any_met-timeless, sections-timeless}
@@ -29,8 +31,36 @@ nothing-same R (Did a) (Kept q w) h = absurd h
 nothing-same R (Kept p v) Nothing h = absurd h
 nothing-same R (Kept p v) (Did b) h = absurd h
 
+all_within-same : (most now other : ℕ) (xs ys : List TaskBlock) → SameBlocks now other xs ys
+    → list_all (is_within most) xs ≡ list_all (is_within most) ys
+all_within-same most now other [] [] h = refl
+all_within-same most now other (x ∷ xs) (y ∷ ys) (h, k) =
+    ap (λ (b : Bool). b && list_all (is_within most) xs) (ap (λ (z : TaskBlock). is_within most z) h.rest)
+    ∙ ap (λ (b : Bool). is_within most y && b) (all_within-same most now other xs ys k)
+all_within-same most now other [] (y ∷ ys) h = absurd h
+all_within-same most now other (x ∷ xs) [] h = absurd h
+
+within-same : (most : Option ℕ) (now other : ℕ) (xs ys : List TaskBlock) → SameBlocks now other xs ys
+    → are_within most xs ≡ are_within most ys
+within-same None now other xs ys h = refl
+within-same (Some most) now other xs ys h = all_within-same most now other xs ys h
+
 module _ {C : Type 0} (sys : SystemTables) (M : Meaning C) (n : ℕ) (R : World C → World C → Type 0)
     (like : IsLikeness sys M n R) where
+  -- as much is queued after what the same event does in alike worlds
+  stays-same : (most : Option ℕ) (x y : Reaction C) → BothAlike R x y → stays_within most x ≡ stays_within most y
+  stays-same most Nothing Nothing h = refl
+  stays-same most (Did c) (Did d) (lines, r) =
+      within-same most _ _ c.world.state.tasks d.world.state.tasks
+      (let s : AlikeStates sys c.world.state d.world.state = like.states c.world d.world r in s.tasks)
+  stays-same most (Kept p v) (Kept q w) h = refl
+  stays-same most Nothing (Did d) h = absurd h
+  stays-same most Nothing (Kept q w) h = absurd h
+  stays-same most (Did c) Nothing h = absurd h
+  stays-same most (Did c) (Kept q w) h = absurd h
+  stays-same most (Kept p v) Nothing h = absurd h
+  stays-same most (Kept p v) (Did d) h = absurd h
+
   none_runs-same : (v w : World C) → R v w → (processors : ℕ)
       → none_runs sys M n v processors ≡ none_runs sys M n w processors
   none_runs-same v w h zero = refl
@@ -40,11 +70,16 @@ module _ {C : Type 0} (sys : SystemTables) (M : Meaning C) (n : ℕ) (R : World 
       (like.keeps v w (event.Run (suc p)) h))
       ∙ ap (λ (b : Bool). is_nothing (step sys M n w (event.Run (suc p))) && b) (none_runs-same v w h p)
 
-  pub may_come-same : (rules : Rules) → IsRule R (may_come rules sys M n)
-  may_come-same rules v w a (event.Run p) h = refl
-  may_come-same rules v w a event.Tick h =
+  may_try-same : (rules : Rules) → IsRule R (may_try rules sys M n)
+  may_try-same rules v w a (event.Run p) h = refl
+  may_try-same rules v w a event.Tick h =
       ap (λ (b : Bool). not rules.idle_ticks || b) (none_runs-same v w h sys.processors)
-  may_come-same rules v w a (event.Int i) h = refl
+  may_try-same rules v w a (event.Int i) h = refl
+
+  pub may_come-same : (rules : Rules) → IsRule R (may_come rules sys M n)
+  may_come-same rules v w a e h =
+      ap₂ (λ (b c : Bool). b && c) (may_try-same rules v w a e h)
+      (stays-same rules.queued (step sys M n v e) (step sys M n w e) (like.keeps v w e h))
 
 request-timeless : (l : Line) → is_request l ≡ is_request (timeless l)
 request-timeless (line.Tick clock) = refl
@@ -122,12 +157,28 @@ still-any : (most : Option ℕ) (came : ℕ) → most ≡ None → may_still mos
 still-any None came h = refl
 still-any (Some most) came h = cc
 
+stays-any : {C : Type 0} (most : Option ℕ) (x : Reaction C) → most ≡ None → stays_within most x ≡ true
+stays-any None Nothing h = refl
+stays-any None (Did d) h = refl
+stays-any None (Kept p w) h = refl
+stays-any (Some most) x h = cc
+
+pub both : (b c : Bool) → b ≡ true → c ≡ true → (b && c) ≡ true
+both true c h k = k
+both false c h k = h
+
 pub all-scheduled : {C : Type 0} (rules : Rules) (sys : SystemTables) (M : Meaning C) (n : ℕ) (forbidden : Line → Bool)
-    (es : List Event) → rules.idle_ticks ≡ false → rules.most ≡ None → IsSchedule rules sys M n forbidden es
-all-scheduled {C} rules sys M n forbidden es ticks most =
+    (es : List Event) → rules.idle_ticks ≡ false → rules.most ≡ None → rules.queued ≡ None
+    → IsSchedule rules sys M n forbidden es
+all-scheduled {C} rules sys M n forbidden es ticks most queued =
     all-allowed (watch rules forbidden) (may_come rules sys M n) (step sys M n) free (setup sys M).world
     (watched_at_setup rules sys M forbidden) es where
+      tried : (w : World C) (a : Watched) (e : Event) → may_try rules sys M n w a e ≡ true
+      tried w a (event.Run p) = refl
+      tried w a event.Tick = or-not rules.idle_ticks (none_runs sys M n w sys.processors) ticks
+      tried w a (event.Int i) = still-any rules.most a.came most
+
       free : (w : World C) (a : Watched) (e : Event) → may_come rules sys M n w a e ≡ true
-      free w a (event.Run p) = refl
-      free w a event.Tick = or-not rules.idle_ticks (none_runs sys M n w sys.processors) ticks
-      free w a (event.Int i) = still-any rules.most a.came most
+      free w a e =
+          both (may_try rules sys M n w a e) (stays_within rules.queued (step sys M n w e)) (tried w a e)
+          (stays-any rules.queued (step sys M n w e) queued)

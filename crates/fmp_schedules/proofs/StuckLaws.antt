@@ -1,5 +1,5 @@
 -- A closed set in whose worlds no forbidden line was told shows that none is told behind events that lead to it.
-use Rattle.std.proofs.Common.{◌≡◌, ◌+◌, ℕ, List, [], ◌∷◌, Option, Some, None, Bool, false, ◌||◌, nat_lt, refl, sym, ◌∙◌, ap, ap₂, count_by}
+use Rattle.std.proofs.Common.{◌≡◌, ◌+◌, ℕ, List, [], ◌∷◌, Option, Some, None, Bool, false, ◌&&◌, ◌||◌, nat_lt, refl, sym, ◌∙◌, ap, ap₂, count_by}
 use Rattle.std.specs.List.{list_any}
 use Rattle.fmp_base.specs.declared.events.Event.{Event}
 use Rattle.fmp_base.specs.declared.events.Event.TheVariants as event
@@ -12,7 +12,7 @@ use Rattle.fmp_alike.specs.Closed.{AreAllowed, IsClosed, IsCovered, NoneIsBad, a
 use Rattle.fmp_alike.proofs.ClosedLaws.{run-covers}
 use Rattle.fmp_schedules.specs.Likeness.{IsLikeness}
 use Rattle.fmp_schedules.specs.Deadlocks.{is_interrupt}
-use Rattle.fmp_schedules.specs.Schedules.{Rules, Watched, came_after, is_request, is_told, may_come, may_still, reached, watch, watched_on}
+use Rattle.fmp_schedules.specs.Schedules.{Rules, Watched, came_after, is_request, is_told, may_come, may_still, may_try, reached, stays_within, watch, watched_on}
 use Rattle.fmp_schedules.specs.Stuck.{MayFollow}
 use Rattle.fmp_schedules.specs.Tried.{IsTimeless}
 use Rattle.fmp_schedules.proofs.HoldLaws.{neither, told-watched}
@@ -33,11 +33,16 @@ came-too None came other ls same = tt
 came-too (Some most) came other ls same = ap (λ (k : ℕ). k + count_by is_request ls) same
 
 module _ {C : Type 0} (rules : Rules) (sys : SystemTables) (M : Meaning C) (n : ℕ) where
+  may_try-too : (w : World C) (a b : Watched) (e : Event) → SameCame rules.most a.came b.came
+      → may_try rules sys M n w a e ≡ may_try rules sys M n w b e
+  may_try-too w a b (event.Run p) same = refl
+  may_try-too w a b event.Tick same = refl
+  may_try-too w a b (event.Int i) same = still-too rules.most a.came b.came same
+
   may_come-too : (w : World C) (a b : Watched) (e : Event) → SameCame rules.most a.came b.came
       → may_come rules sys M n w a e ≡ may_come rules sys M n w b e
-  may_come-too w a b (event.Run p) same = refl
-  may_come-too w a b event.Tick same = refl
-  may_come-too w a b (event.Int i) same = still-too rules.most a.came b.came same
+  may_come-too w a b e same =
+      ap (λ (now : Bool). now && stays_within rules.queued (step sys M n w e)) (may_try-too w a b e same)
 
   module _ (f g : Line → Bool) where
     abbrev Allowed : (Line → Bool) → World C → Watched → List Event → Type 0

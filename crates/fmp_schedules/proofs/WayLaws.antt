@@ -21,7 +21,7 @@ use Rattle.fmp_schedules.specs.declared.section.Section.{Section}
 use Rattle.fmp_schedules.specs.Stuck.{MayGoOn, NoneIsStuck, acts}
 use Rattle.fmp_schedules.specs.Tried.{IsSearched, IsTimeless}
 use Rattle.fmp_schedules.specs.WaysOn.{HasWay, HaveWays, IsNearer, LeadsNearer}
-use Rattle.fmp_schedules.proofs.HoldLaws.{came-watched, searched-covered}
+use Rattle.fmp_schedules.proofs.HoldLaws.{came-watched, rules_with, searched-covered}
 use Rattle.fmp_schedules.proofs.RuleLaws.{may_come-same, watch-blind}
 use Rattle.fmp_schedules.proofs.StuckLaws.{SameCame, allowed-too}
 
@@ -55,15 +55,13 @@ or-either : (a : Bool) → (a || true) ≡ true
 or-either true = refl
 or-either false = refl
 
-same-came : (idle : Bool) (most : Option ℕ) (sections : List Section) (forbidden : Line → Bool) (a : Watched)
+same-came : (idle : Bool) (most queued : Option ℕ) (sections : List Section) (forbidden : Line → Bool) (a : Watched)
     (events : List (List Line)) → a.came ≡ 0
-    → SameCame most
-    (watched (watch (record { idle_ticks = idle; most = most; sections = sections }) forbidden) a events).came
-    (requests events)
-same-came idle None sections forbidden a events none = tt
-same-came idle (Some most) sections forbidden a events none =
+    → SameCame most (watched (watch (rules_with idle most queued sections) forbidden) a events).came (requests events)
+same-came idle None queued sections forbidden a events none = tt
+same-came idle (Some most) queued sections forbidden a events none =
     let e : a.came + requests events ≡ requests events = omega (arith, none) in
-    came-watched idle most sections forbidden a events ∙ e
+    came-watched idle most queued sections forbidden a events ∙ e
 
 no-sections : (most : Option ℕ) (k : ℕ) → SameCame most k k
 no-sections None k = tt
@@ -200,7 +198,7 @@ module _ {C : Type 0} (rules : Rules) (sys : SystemTables) (M : Meaning C) (n : 
         more = g.more;
         follow = allowed-too rules sys M n forbidden (λ l. false) v a
             (record { came = requests (lines_after sys M n es); told = false; sections = []; met = false }) g.more
-            (same-came rules.idle_ticks rules.most rules.sections forbidden (at_first rules.sections)
+            (same-came rules.idle_ticks rules.most rules.queued rules.sections forbidden (at_first rules.sections)
             (lines_after sys M n es) refl) g.allowed;
         told = g.told;
       }

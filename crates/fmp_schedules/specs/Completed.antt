@@ -15,7 +15,7 @@ use Rattle.fmp_base.specs.Steps.{Done, Reaction, Nothing, Did, Kept, actor_of, s
 use Rattle.fmp_base.specs.Stretches.{is_over}
 use Rattle.fmp_base.specs.Systems.{SystemTables}
 use Rattle.fmp_schedules.specs.Deadlocks.{IsDeadlock}
-use Rattle.fmp_schedules.specs.Schedules.{Rules, came_after, is_told, lines_after, may_still, reached, requests}
+use Rattle.fmp_schedules.specs.Schedules.{Rules, came_after, is_told, lines_after, may_still, reached, requests, stays_within}
 use Rattle.fmp_schedules.specs.Sections.{is_met_along}
 
 -- from this context, if a stretch begins in it, the body ends its stretch within the bound
@@ -37,11 +37,17 @@ pub record AllStand {C : Type 0} (sys : SystemTables) (M : Meaning C) (bound : �
   pub ended : (p : ℕ) → p < sys.processors → Ends sys M bound w p
   pub nothing : (p : ℕ) → p < sys.processors → step sys M bound w (event.Run (suc p)) ≡ Nothing
 
+-- the rules let an event be tried in a world, where this many interrupts came
+abbrev pub MayTry : {C : Type 0} → Rules → SystemTables → Meaning C → (bound : ℕ) → World C → (came : ℕ) → Event
+    → Type 0
+MayTry rules sys M bound w came (event.Run p) = Unit {0}
+MayTry rules sys M bound w came event.Tick = rules.idle_ticks ≡ true → AllStand sys M bound w
+MayTry rules sys M bound w came (event.Int i) = may_still rules.most came ≡ true
+
 -- the rules let an event come to a world, where this many interrupts came
 abbrev pub MayBe : {C : Type 0} → Rules → SystemTables → Meaning C → (bound : ℕ) → World C → (came : ℕ) → Event → Type 0
-MayBe rules sys M bound w came (event.Run p) = Unit {0}
-MayBe rules sys M bound w came event.Tick = rules.idle_ticks ≡ true → AllStand sys M bound w
-MayBe rules sys M bound w came (event.Int i) = may_still rules.most came ≡ true
+MayBe rules sys M bound w came e =
+    MayTry rules sys M bound w came e × (stays_within rules.queued (step sys M bound w e) ≡ true)
 
 -- it is done, and then this is so
 abbrev pub DoneThen : {C : Type 0} → Reaction C → (Done C → Type 0) → Type 0

@@ -1,10 +1,11 @@
 -- Which lists of events are looked at, and what holds along all of them.
-use Rattle.std.specs.Prelude.{ℕ, zero, suc, ◌+◌, ◌≡◌, List, [], ◌∷◌, ◌++◌, Option, Some, None, Bool, true, false, count_by, map, sum_by, nat_lt, not, ◌&&◌, ◌||◌}
-use Rattle.std.specs.List.{list_any}
+use Rattle.std.specs.Prelude.{ℕ, zero, suc, ◌+◌, ◌≡◌, List, [], ◌∷◌, ◌++◌, Option, Some, None, Bool, true, false, count_by, map, sum_by, nat_le, nat_lt, not, ◌&&◌, ◌||◌}
+use Rattle.std.specs.List.{list_all, list_any}
 use Rattle.fmp_base.specs.declared.events.Event.{Event}
 use Rattle.fmp_base.specs.declared.events.Event.TheVariants as event
 use Rattle.fmp_base.specs.declared.events.Line.{Line}
 use Rattle.fmp_base.specs.declared.events.Line.TheVariants as line
+use Rattle.fmp_base.specs.declared.states.TaskBlock.{TaskBlock}
 use Rattle.fmp_base.specs.Meanings.{Meaning, World}
 use Rattle.fmp_base.specs.Runs.{run}
 use Rattle.fmp_base.specs.Setups.{setup}
@@ -16,12 +17,14 @@ use Rattle.fmp_schedules.specs.Deadlocks.{IsDeadlock}
 use Rattle.fmp_schedules.specs.Sections.{is_met, is_met_along, section_after}
 
 -- Which events may come, and which sections are watched. Processors run in any order, any number of times; the rules
--- say when the clock may advance, and how many interrupts may come.
+-- say when the clock may advance, how many interrupts may come, and how much may be queued.
 pub record Rules : Type 0 where
   -- the clock may advance only where no processor can do anything; else at any time
   pub idle_ticks : Bool
   -- how many interrupts may do something; any number, if none is given
   pub most : Option ℕ
+  -- how many activations and how many wakeups of a task may be queued after an event; any number, if none is given
+  pub queued : Option ℕ
   -- the sections in which one task at a time may be, as they are before setup
   pub sections : List Section
 
@@ -85,11 +88,29 @@ watched_on rules forbidden a ls =
 abbrev pub watch : Rules → (Line → Bool) → Watch Watched
 watch rules forbidden = record { next = watched_on rules forbidden; is_bad = λ a. a.told || a.met }
 
+-- at most this many activations and wakeups of a task are queued
+abbrev pub is_within : (most : ℕ) → TaskBlock → Bool
+is_within most x = nat_le x.activations most && nat_le x.wakeups most
+
+abbrev pub are_within : Option ℕ → List TaskBlock → Bool
+are_within None tasks = true
+are_within (Some most) tasks = list_all (is_within most) tasks
+
+-- no more are queued after an event that is done; one that keeps a place queues nothing
+abbrev pub stays_within : {C : Type 0} → Option ℕ → Reaction C → Bool
+stays_within most Nothing = true
+stays_within most (Did d) = are_within most d.world.state.tasks
+stays_within most (Kept p w) = true
+
+-- the rules let an event be tried in a world: nothing is said yet of what it queues
+abbrev pub may_try : {C : Type 0} → Rules → SystemTables → Meaning C → (n : ℕ) → World C → Watched → Event → Bool
+may_try rules sys M n w a (event.Run p) = true
+may_try rules sys M n w a event.Tick = not rules.idle_ticks || none_runs sys M n w sys.processors
+may_try rules sys M n w a (event.Int i) = may_still rules.most a.came
+
 -- the rules let an event come to a world
 abbrev pub may_come : {C : Type 0} → Rules → SystemTables → Meaning C → (n : ℕ) → World C → Watched → Event → Bool
-may_come rules sys M n w a (event.Run p) = true
-may_come rules sys M n w a event.Tick = not rules.idle_ticks || none_runs sys M n w sys.processors
-may_come rules sys M n w a (event.Int i) = may_still rules.most a.came
+may_come rules sys M n w a e = may_try rules sys M n w a e && stays_within rules.queued (step sys M n w e)
 
 -- what is watched at setup
 abbrev pub watched_at_setup : {C : Type 0} → Rules → SystemTables → Meaning C → (Line → Bool) → Watched

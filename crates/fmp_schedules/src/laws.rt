@@ -38,10 +38,11 @@ ghost use Rattle.fmp_schedules.specs.Tried.{
 };
 ghost use Rattle.fmp_schedules.specs.WaysOn.{HaveWays, IsNoted};
 
-/// Where the clock may advance at any time and any number of interrupts may come, every list of events is a schedule.
+/// Where the clock may advance at any time, any number of interrupts may come, and any number of activations and
+/// wakeups may be queued, every list of events is a schedule.
 pub fn all_lists_are_schedules<C>()
     ensures { (rules : Rules) (sys : SystemTables) (M : Meaning C) (n : ℕ) (forbidden : Line → Bool)
-        (es : List Event) → rules.idle_ticks ≡ false → rules.most ≡ None →
+        (es : List Event) → rules.idle_ticks ≡ false → rules.most ≡ None → rules.queued ≡ None →
         IsSchedule rules sys M n forbidden es }
 {}
 

@@ -22,6 +22,7 @@ pub record IsAsked (rows : List Row) (a : Asked) : Type 0 where
   pub rest : map (λ word. word.now) a.rest.now ≡ words_for rows (codes "rest")
   pub ticks : a.ticks ≡ ticks_by (first_of (codes "ticks") rows)
   pub interrupts : HasNumber 8 rows (codes "ints") a.interrupts
+  pub queued : HasNumber 8 rows (codes "queued") a.queued
   pub all : HasFlag rows (codes "all") a.all
   pub states : HasNumberOr 32 1 rows (codes "states") a.states
 

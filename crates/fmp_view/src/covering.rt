@@ -1,8 +1,8 @@
 //! What a search saw: how far it went, what was never made or run, the greatest counts and lengths, and the answers.
 use crate::sources::{Sources, say, say_made, say_place};
 use fmp_base::{Name, System};
-use fmp_explore::{Coverage, Report};
-use fmp_explore_names::{answered_calls, append_answers, append_name};
+use fmp_explore::{Coverage, Report, Variety};
+use fmp_explore_names::{answered_calls, append_answers, append_name, is_queue};
 use std::alloc::{AllocError, Global};
 
 /// Appends how much a search saw.
@@ -168,6 +168,15 @@ pub fn say_coverage(
     say_lengths(alloc, out, sys, coverage)
 }
 
+/// What is said of how a field has fewer values.
+fn hint_of(variety: &Variety) -> &'static str {
+    if is_queue(variety.what) {
+        " (fewer with --queued)"
+    } else {
+        ""
+    }
+}
+
 /// Appends how many values the most varied fields have, where the search stopped at a limit.
 pub fn say_varieties(
     alloc: Global,
@@ -190,6 +199,7 @@ pub fn say_varieties(
                 sources.names,
                 variety.what,
             )?;
+            say(out, hint_of(variety))?;
             say(out, "\n")?;
         }
     }

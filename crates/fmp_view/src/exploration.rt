@@ -50,6 +50,7 @@ fn asked_of<'m>(words: &'m ArgMatches<'_>) -> Asked<'m>
         rest: words_of(words, "rest"),
         ticks: ticks_of(words),
         interrupts: byte_of(words, "ints"),
+        queued: byte_of(words, "queued"),
         all: flag_of(words, "all"),
         states: word32_of(words, "states").unwrap_or(1),
     }

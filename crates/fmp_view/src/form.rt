@@ -130,6 +130,11 @@ const FORMATS: &[&str] = &["vcd", "perfetto", "tlv", "res"];
 /// How many interrupts there may be.
 const INTS: &str = "How many interrupts there may be, 0 to 255; without it any number";
 
+/// How much may be queued.
+const QUEUED: &str =
+    "How many activations and how many wakeups of a task may be queued, 0 to 255: events that
+would queue more do not come; without it any number";
+
 /// How many states are kept.
 const STATES: &str = "How many states are kept at most, 1 to 2^31";
 
@@ -335,6 +340,7 @@ static EXPLORE: Form = Form {
         Argument("rest", Kind::Again("TASK"), REST),
         Argument("ticks", Kind::Option("WHEN", Value::When), TICKS),
         Argument("ints", Kind::Option("K", Value::Number(0, 255)), INTS),
+        Argument("queued", Kind::Option("K", Value::Number(0, 255)), QUEUED),
         BOUNDED,
         Argument(
             "states",

@@ -15,13 +15,13 @@ returns-in-Nothing c =
     record {
       survey = c.requires.survey;
       grows = same_grows c.args.self.now;
-      leads = λ _.
+      leads = λ _ may.
           leads_nowhere s.image.now s.n s.question.now c.args.self.now.seen.links a.steps.now a.event
           (stepped_none s.image.now s.n a.steps.now a.event c.args.kernel.now at);
     }
 
-pub note_done-requires-clause-done : goal.note_done-requires-clause-done
-note_done-requires-clause-done c =
+pub note_done_within-requires-clause-done : goal.note_done_within-requires-clause-done
+note_done_within-requires-clause-done c =
     let s = c.args.subject.now in
     let a = c.args.attempt in
     stepped_done s.image.now s.n a.steps.now a.event c.args.kernel.now

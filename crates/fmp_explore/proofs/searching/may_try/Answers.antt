@@ -1,5 +1,5 @@
 use Rattle.fmp_explore.proofs.MarkLemmas.{few_more}
-use Rattle.fmp_explore.proofs.searching.may_come.Goals as goal
+use Rattle.fmp_explore.proofs.searching.may_try.Goals as goal
 
 pub returns-in-Int-clause-few : goal.returns-in-Int-clause-few
 returns-in-Int-clause-few c = λ yes limited.

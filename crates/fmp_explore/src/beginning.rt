@@ -1,0 +1,142 @@
+//! How a search begins: the state behind the events where it does is kept.
+ghost use Rattle.std.specs.Prelude.{◌≡◌, [], OnOk, false, true};
+ghost use Rattle.std.specs.List.{list_any};
+ghost use Rattle.fmp_replay.specs.Replays.{kernel_after};
+ghost use Rattle.fmp_schedules.specs.Schedules.{is_any_met};
+ghost use Rattle.fmp_explore.specs.States.{AreFew, sections_of};
+ghost use Rattle.fmp_paths.specs.Followed.{IsFollowed};
+ghost use Rattle.fmp_question.specs.Places.{is_bad};
+ghost use Rattle.fmp_explore.specs.Searching.{HasKept, IsBegun, IsClean, IsFresh, IsSurvey, Stays};
+
+use crate::holding::sections_after;
+use crate::notes::Path;
+use crate::subject::Subject;
+use crate::survey::Survey;
+use fmp_base::Event;
+use fmp_code::Vm;
+use fmp_kernel::Kernel;
+use fmp_paths::follow;
+use fmp_question::interrupt_count;
+use fmp_replay::kernel_of;
+use fmp_schedules::Section;
+use fmp_seen::Link;
+use std::alloc::{AllocError, Global};
+
+impl Survey {
+    /// Notes the lines of setup.
+    fn note_setup(
+        &mut self,
+        alloc: Global,
+        subject: &Subject<'_>,
+        kernel: &Kernel<Vm<'_>>,
+    ) -> Result<(), AllocError>
+        ensures stays { OnOk result (Stays self.old self.new) }
+        ensures clean { OnOk result (self.new.sure ≡ true →
+            list_any (is_bad subject.now.image.now.system subject.now.question.now kernel.now.world) kernel.now.lines
+            ≡ false) }
+        ensures alone { OnOk result (self.new.sure ≡ true →
+            is_any_met subject.now.question.now.sections.items kernel.now.lines ≡ false) }
+    {
+        let setup = Path {
+            steps: &[],
+            last: None,
+        };
+        let found = self.notes.note_lines(alloc, subject, kernel, setup, None)?;
+        self.sure &= !found;
+        self.note_meetings(
+            alloc,
+            kernel.lines(),
+            setup,
+            &subject.question.sections,
+            None,
+        )
+    }
+
+    /// Keeps the first state, that of a kernel which has taken the events behind which the search begins, with its
+    /// sections. `AllocError` if memory runs out.
+    fn keep_first(
+        &mut self,
+        alloc: Global,
+        subject: &Subject<'_>,
+        kernel: &Kernel<Vm<'_>>,
+        sections: Vec<Section>,
+    ) -> Result<(), AllocError>
+        requires survey { IsSurvey subject.now.image.now subject.now.n subject.now.question.now self.old }
+        requires none { self.old.seen.links ≡ [] }
+        requires followed { IsFollowed subject.now.image.now subject.now.n subject.now.question.now.after.items
+            kernel.now }
+        requires few { AreFew subject.now.question.now subject.now.question.now.after.items }
+        requires sections { sections.items ≡ sections_of subject.now.image.now subject.now.n subject.now.question.now
+            subject.now.question.now.after.items }
+        ensures { OnOk result (HasKept subject.now.image.now subject.now.n subject.now.question.now self.old self.new
+            subject.now.question.now.after.items) }
+    {
+        let link = Link {
+            parent: 0,
+            event: Event::Tick,
+            kept: false,
+            depth: 0,
+        };
+        let came = interrupt_count(&subject.question.after);
+        self.keep(alloc, subject, kernel, came, sections, link)
+    }
+
+    /// Takes the events behind which the search begins on a kernel that was just set up, and keeps the state after
+    /// them, where the sections are these at setup. `AllocError` if memory runs out.
+    fn begin_behind(
+        &mut self,
+        alloc: Global,
+        subject: &Subject<'_>,
+        kernel: &mut Kernel<Vm<'_>>,
+        sections: Vec<Section>,
+    ) -> Result<(), AllocError>
+        requires survey { IsSurvey subject.now.image.now subject.now.n subject.now.question.now self.old }
+        requires none { self.old.seen.links ≡ [] }
+        requires kernel { kernel.old ≡ kernel_after subject.now.image.now subject.now.n [] }
+        requires sections { sections.items ≡ sections_of subject.now.image.now subject.now.n
+            subject.now.question.now [] }
+        requires clean { self.old.sure ≡ true → IsClean subject.now.image.now subject.now.n subject.now.question.now }
+        ensures { OnOk result (IsBegun subject.now.image.now subject.now.n subject.now.question.now self.new) }
+    {
+        let question = subject.question;
+        if !question.can_begin() {
+            self.sure = false;
+            return Ok(());
+        }
+        if !follow(kernel, subject.image, subject.n, &question.after) {
+            self.sure = false;
+            return Ok(());
+        }
+        self.keep_first(alloc, subject, kernel, sections)
+    }
+
+    /// Keeps the state after the events behind which the search begins, on a kernel that was just set up. `AllocError`
+    /// if memory runs out.
+    fn begin_on(
+        &mut self,
+        alloc: Global,
+        subject: &Subject<'_>,
+        kernel: &mut Kernel<Vm<'_>>,
+    ) -> Result<(), AllocError>
+        requires fresh { IsFresh subject.now.image.now subject.now.question.now self.old }
+        requires kernel { kernel.old ≡ kernel_after subject.now.image.now subject.now.n [] }
+        ensures { OnOk result (IsBegun subject.now.image.now subject.now.n subject.now.question.now self.new) }
+    {
+        self.notes.cover(alloc, subject, kernel)?;
+        self.note_setup(alloc, subject, kernel)?;
+        let sections = sections_after(alloc, &subject.question.sections, kernel.lines())?;
+        self.rows.begin(kernel, &subject.live, &sections)?;
+        self.begin_behind(alloc, subject, kernel, sections)
+    }
+
+    /// Keeps the state after the events behind which the search begins. `AllocError` if memory runs out.
+    pub fn begin(&mut self, alloc: Global, subject: &Subject<'_>) -> Result<(), AllocError>
+        requires { IsFresh subject.now.image.now subject.now.question.now self.old }
+        ensures { OnOk result (IsBegun subject.now.image.now subject.now.n subject.now.question.now self.new) }
+    {
+        let mut kernel = kernel_of(alloc, subject.image, subject.n)?;
+        let begun = self.begin_on(alloc, subject, &mut kernel);
+        drop(kernel);
+        begun
+    }
+}
