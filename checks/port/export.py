@@ -7,7 +7,8 @@ Each example and COUNT random systems (500), one from each seed from SEED (1) on
 warning by the usual compiler or by the other one of gcc and clang. The C is run in virtual time over the steps of the
 example, or over random ones: its trace and its states at the end are those of `fmp sim`. The C on docs/EXPORT.md is
 that of its example. Half of the random systems have the bodies of the model; the others have nested expressions, loops,
-arrays, and operands that fault by different faults. The files of one example are built and run by their own Makefile,
+arrays, and operands that fault by different faults. All of them have hexadecimal numbers and comments at random places,
+and the C has all comments, in the order of the text. The files of one example are built and run by their own Makefile,
 with what `make install-c` copies.
 
 LIVE systems more (60) are run by threads for 12 ms each, with random interrupts. They are checked against their texts:
@@ -19,8 +20,10 @@ says that it did not run, with status 0. At the first difference it prints the s
 """
 
 import argparse
+import itertools
 import os
 import random
+import re
 import shutil
 import subprocess
 import sys
@@ -120,12 +123,37 @@ def random_steps(chooser, processors):
             yield f"int {chooser.randint(1, 32)}\n"
 
 
+def random_gaps(chooser):
+    """What may stand between two tokens: space, and comments that are counted."""
+    for count in itertools.count():
+        kind = chooser.random()
+        if kind < 0.8:
+            yield chooser.choice(" \n")
+        elif kind < 0.9:
+            yield f" // remark{count}_ \\\n"
+        else:
+            yield f" /* remark{count}_ */ " if kind < 0.95 else f"\n/* first\n * remark{count}_\n */"
+
+
+def remarked(chooser, source):
+    """The same text with comments at random places, and with some of its numbers hexadecimal."""
+    tokens = re.findall(r"\w+|&&|\|\||[=!<>]=|[^\w\s]", re.sub(r"//.*|(?s:/\*.*?\*/)", " ", source))
+    words = (hex(int(it)) if it.isdecimal() and chooser.random() < 0.2 else it for it in tokens)
+    return "".join(part for pair in zip(random_gaps(chooser), words) for part in pair)
+
+
+def remarks(text):
+    """The counted comments of a text."""
+    return re.findall(r"remark\d+_", text)
+
+
 def texts_of(seed):
     """The configuration, the bodies and the steps of a seed."""
     case = Generator(seed).case()
     chooser = random.Random(seed)
     source = case.source if seed % 2 else Texts(chooser, case.configuration).source(case.system.bodies)
-    return case.configuration, source, "".join(random_steps(chooser, case.system.processor_count))
+    steps = "".join(random_steps(chooser, case.system.processor_count))
+    return case.configuration, remarked(chooser, source), steps
 
 
 def steps_of(recording):
@@ -185,6 +213,8 @@ class Bench:
         folder = self.folder / "exported"
         shutil.rmtree(folder, ignore_errors=True)
         self.run(self.view, "export", cfg, src, "--c", folder)
+        compared("the comments of the C", "\n".join(remarks((folder / "bodies.c").read_text())),
+                 "\n".join(remarks(src.read_text())))
         return folder
 
     def compare(self, cfg, src, steps, turn, *flags):

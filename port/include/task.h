@@ -31,15 +31,28 @@
 #pragma GCC diagnostic ignored "-Wunused-but-set-variable"
 #pragma GCC diagnostic ignored "-Wshadow"
 
-/* Lines of the text that stands above a function may end in a backslash: the next line is a comment too. */
-#pragma GCC diagnostic ignored "-Wcomment"
-#pragma GCC diagnostic ignored "-Wtrigraphs"
+/* A text may compare constants of different kinds. Its comments may have bytes that are no characters. */
+#pragma GCC diagnostic ignored "-Wenum-compare"
 #ifdef __clang__
-#pragma clang diagnostic ignored "-Wbackslash-newline-escape"
 #if __has_warning("-Winvalid-utf8")
 #pragma clang diagnostic ignored "-Winvalid-utf8"
 #endif
 #endif
+
+/* Constants of a text that kernel.h does not have: attributes of objects. */
+enum {
+    TA_NULL = 0,
+    TA_HLNG = 0,
+    TA_TFIFO = 0,
+    TA_TPRI = 1,
+    TA_MFIFO = 0,
+    TA_MPRI = 2,
+    TA_ACT = 2,
+    TA_WSGL = 0,
+    TA_WMUL = 2,
+    TA_CLR = 4,
+    TA_STA = 2
+};
 
 /*
  * A loop of a text. The body may be interrupted at every sixteenth turn: a poll in each would take longer than a turn.

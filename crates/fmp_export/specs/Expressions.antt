@@ -1,20 +1,28 @@
 -- Expressions of a text in C.
-use Rattle.std.specs.Prelude.{List, [], ◌∷◌}
+use Rattle.std.specs.Prelude.{ℕ, List, [], ◌∷◌}
 use Rattle.fmp_tasklang.specs.declared.trees.Operator.{Operator}
 use Rattle.fmp_tasklang.specs.declared.trees.Operator.TheVariants as operator
 use Rattle.fmp_tasklang.specs.Trees.{ExpressionTree, number, named, element, unary, binary, both, either}
 use Rattle.fmp_tasklang.specs.Views.{LinkTree}
 use Rattle.fmp_export.specs.Pieces.{PieceText, number_piece, name_piece, element_piece, unary_piece, binary_piece, both_piece, either_piece}
+use Rattle.fmp_export.specs.Sources.{SourceText}
 use Rattle.fmp_export.specs.Words.{c_name}
 
-abbrev pub c_expression : ExpressionTree → PieceText
-c_expression (number k) = number_piece k
-c_expression (named w) = name_piece (c_name w.name)
-c_expression (element w e) = element_piece (c_name w.name) (c_expression e)
-c_expression (unary op e) = unary_piece op (c_expression e)
-c_expression (binary op a b) = binary_piece op (c_expression a) (c_expression b)
-c_expression (both a b) = both_piece (c_expression a) (c_expression b)
-c_expression (either a b) = either_piece (c_expression a) (c_expression b)
+-- an expression whose numbers are those of the text from a place on: each operand goes on where the one before it ends
+abbrev pub c_expression : SourceText → (at : ℕ) → ExpressionTree → PieceText
+c_expression s at (number k) = number_piece s at k
+c_expression s at (named w) = name_piece at (c_name w.name)
+c_expression s at (element w e) = element_piece (c_name w.name) (c_expression s at e)
+c_expression s at (unary op e) = unary_piece op (c_expression s at e)
+c_expression s at (binary op a b) =
+    binary_piece op (c_expression s at a) (c_expression s ((c_expression s at a).next) b)
+c_expression s at (both a b) = both_piece (c_expression s at a) (c_expression s ((c_expression s at a).next) b)
+c_expression s at (either a b) = either_piece (c_expression s at a) (c_expression s ((c_expression s at a).next) b)
+
+-- expressions, one behind another
+abbrev pub c_expressions : SourceText → (at : ℕ) → List ExpressionTree → List PieceText
+c_expressions s at [] = []
+c_expressions s at (e ∷ es) = c_expression s at e ∷ c_expressions s ((c_expression s at e).next) es
 
 -- an operator between two pieces
 abbrev pub joined : Operator → PieceText → PieceText → PieceText
@@ -23,6 +31,6 @@ joined operator.Both a b = both_piece a b
 joined operator.Either a b = either_piece a b
 
 -- a piece with the further operands of its chain
-abbrev pub c_chain : PieceText → List LinkTree → PieceText
-c_chain a [] = a
-c_chain a (l ∷ more) = c_chain (joined l.operator a (c_expression l.operand)) more
+abbrev pub c_chain : SourceText → PieceText → List LinkTree → PieceText
+c_chain s a [] = a
+c_chain s a (l ∷ more) = c_chain s (joined l.operator a (c_expression s a.next l.operand)) more

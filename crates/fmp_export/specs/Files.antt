@@ -10,8 +10,8 @@ use Rattle.fmp_tasklang.specs.Reading.{IsRead}
 use Rattle.fmp_tasklang.specs.Trees.{BodyTree}
 use Rattle.fmp_export.specs.declared.files.Exported.{Exported}
 use Rattle.fmp_export.specs.declared.files.TheConstants.{HEADER_START, MAIN_START, MAIN_END}
-use Rattle.fmp_export.specs.Bodies.{c_prototypes, c_rows}
-use Rattle.fmp_export.specs.Quotes.{c_quoted_bodies}
+use Rattle.fmp_export.specs.Bodies.{c_commented_bodies, c_prototypes, c_rows}
+use Rattle.fmp_export.specs.Sources.{SourceText, head_of}
 use Rattle.fmp_export.specs.Words.{c_name}
 
 -- an object by its number
@@ -51,9 +51,9 @@ unfoldable pub c_header : SystemTables → List BodyTree → List ℕ
 c_header s bodies =
     HEADER_START.now ++ (c_enumeration (c_kinds s) ++ (c_prototypes bodies ++ codes "\n#endif\n"))
 
--- a function for each body, below the body's text
-unfoldable pub c_file : (text : List ℕ) → List Token → List BodyTree → List ℕ
-c_file text ts bodies = codes "#include \"bodies.h\"\n#include \"task.h\"\n" ++ c_quoted_bodies text ts bodies
+-- a function for each body, and all comments
+unfoldable pub c_file : SourceText → List BodyTree → List ℕ
+c_file s bodies = codes "#include \"bodies.h\"\n#include \"task.h\"\n" ++ c_commented_bodies s (head_of s) bodies
 
 -- the program that runs the bodies
 unfoldable pub c_main : List BodyTree → List ℕ
@@ -63,7 +63,7 @@ c_main bodies = MAIN_START.now ++ (c_rows bodies ++ MAIN_END.now)
 pub record AreFiles
     (s : SystemTables) (text : List ℕ) (ts : List Token) (bodies : List BodyTree) (e : Exported) : Type 0 where
   pub header : e.header.items ≡ c_header s bodies
-  pub file : e.bodies.items ≡ c_file text ts bodies
+  pub file : e.bodies.items ≡ c_file (record { text = text; tokens = ts }) bodies
   pub main : e.main.items ≡ c_main bodies
 
 -- the C of the bodies that the text spells, or the fault of a text that spells none

@@ -1,25 +1,30 @@
--- Expressions in C: the text of each, the faults that its evaluation may end with, and whether an operator stands
--- outermost.
-use Rattle.std.specs.Prelude.{ℕ, ℤ, pos, negsuc, List, ◌++◌, codes, Bool, true, false, Option, Some, None}
+-- Expressions in C: the text of each, the faults that its evaluation may end with, whether an operator stands outermost,
+-- and where the task text goes on behind its numbers.
+use Rattle.std.specs.Prelude.{ℕ, ℤ, pos, negsuc, List, ◌++◌, codes, drop, take, Bool, true, false, Option, Some, None}
 use Rattle.std.specs.Fmt.{signed_decimal}
 use Rattle.fmp_base.specs.declared.operators.UnaryOperator.{UnaryOperator}
 use Rattle.fmp_base.specs.declared.operators.UnaryOperator.TheVariants as unary
 use Rattle.fmp_base.specs.declared.operators.BinaryOperator.{BinaryOperator}
 use Rattle.fmp_base.specs.declared.operators.BinaryOperator.TheVariants as binary
+use Rattle.fmp_lex.specs.declared.token.Token.{Token}
 use Rattle.fmp_export.specs.declared.pieces.Risk.{Risk}
 use Rattle.fmp_export.specs.declared.pieces.Risk.TheVariants as risk
 use Rattle.fmp_export.specs.declared.pieces.Shape.{Shape}
 use Rattle.fmp_export.specs.declared.pieces.Shape.TheVariants as shape
 use Rattle.fmp_export.specs.declared.pieces.Piece as declared
+use Rattle.fmp_export.specs.declared.source.Landmark.TheVariants as landmark
+use Rattle.fmp_export.specs.Sources.{SourceText, behind, landmark_in}
 
 pub record PieceText : Type 0 where
   pub text : List ℕ
   pub risk : Risk
   pub shape : Shape
+  -- the place behind the last number of the expression in the list of tokens, or where the expression was begun
+  pub next : ℕ
 
 -- what a `Piece` holds
 abbrev pub piece_view : declared.Piece → PieceText
-piece_view p = record { text = p.text.items; risk = p.risk; shape = p.shape }
+piece_view p = record { text = p.text.items; risk = p.risk; shape = p.shape; next = p.next }
 
 -- the faults of two evaluations
 abbrev pub joint_risk : Risk → Risk → Risk
@@ -46,17 +51,32 @@ operand_of shape.Number t = t
 abbrev pub operand : PieceText → List ℕ
 operand p = operand_of p.shape p.text
 
--- a number, or the value of a constant
+-- a number by its token, or by its value if it has none
+abbrev pub token_text : (text : List ℕ) → Option Token → ℤ → List ℕ
+token_text text (Some t) k = drop t.start (take t.end text)
+token_text text None k = signed_decimal k
+
+-- a number as it is written at the next number or constant from a place on
+unfoldable pub number_text : SourceText → (at : ℕ) → ℤ → List ℕ
+number_text s at k = token_text s.text (landmark_in landmark.Number (drop at s.tokens)) k
+
+-- a number, or a constant by its value
 abbrev pub number_shape : ℤ → Shape
 number_shape (pos n) = shape.Number
 number_shape (negsuc n) = shape.Closed
 
-abbrev pub number_piece : ℤ → PieceText
-number_piece k = record { text = signed_decimal k; risk = risk.Safe; shape = number_shape k }
+abbrev pub number_piece : SourceText → (at : ℕ) → ℤ → PieceText
+number_piece s at k =
+    record {
+      text = number_text s at k;
+      risk = risk.Safe;
+      shape = number_shape k;
+      next = behind landmark.Number s at;
+    }
 
 -- a variable or an object of this name in C
-abbrev pub name_piece : List ℕ → PieceText
-name_piece name = record { text = name; risk = risk.Safe; shape = shape.Closed }
+abbrev pub name_piece : (at : ℕ) → List ℕ → PieceText
+name_piece at name = record { text = name; risk = risk.Safe; shape = shape.Closed; next = at }
 
 -- an element of the array of this name in C
 unfoldable pub element_piece : List ℕ → PieceText → PieceText
@@ -65,21 +85,23 @@ element_piece name index =
       text = codes "fmp_at(" ++ (name ++ (codes ", " ++ (index.text ++ codes ")")));
       risk = joint_risk index.risk risk.Index;
       shape = shape.Closed;
+      next = index.next;
     }
 
 -- minus: of a number it is one in C too
 abbrev pub negated : Shape → PieceText → PieceText
-negated shape.Number p = record { text = codes "-" ++ p.text; risk = p.risk; shape = shape.Closed }
+negated shape.Number p = record { text = codes "-" ++ p.text; risk = p.risk; shape = shape.Closed; next = p.next }
 negated _ p =
     record {
       text = codes "fmp_neg(" ++ (p.text ++ codes ")");
       risk = joint_risk p.risk risk.Overflow;
       shape = shape.Closed;
+      next = p.next;
     }
 
 -- an operator of C before its operand
 abbrev pub prefixed : List ℕ → PieceText → PieceText
-prefixed sign p = record { text = sign ++ operand p; risk = p.risk; shape = shape.Open }
+prefixed sign p = record { text = sign ++ operand p; risk = p.risk; shape = shape.Open; next = p.next }
 
 abbrev pub unary_by : UnaryOperator → PieceText → PieceText
 unary_by unary.Negate p = negated p.shape p
@@ -139,6 +161,7 @@ infixed sign a b =
       text = operand a ++ (sign ++ operand b);
       risk = joint_risk a.risk b.risk;
       shape = shape.Open;
+      next = b.next;
     }
 
 -- what stands before the arguments of the function of an operator
@@ -156,6 +179,7 @@ applied ordered op a b =
       text = front_of ordered (function_of op) ++ arguments_of a b;
       risk = joint_risk (joint_risk a.risk b.risk) (risk_of op);
       shape = shape.Closed;
+      next = b.next;
     }
 
 -- C leaves open which argument of a function, or operand of an operator, is evaluated first; `fmp_ordered` does not

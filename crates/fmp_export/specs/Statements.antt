@@ -1,13 +1,17 @@
--- Statements of a text in C. Each line begins with its margin.
-use Rattle.std.specs.Prelude.{ℕ, zero, suc, ◌+◌, List, [], ◌∷◌, ◌++◌, codes, decimal, map, take, drop, Bool, true, false, ◌||◌, Option, Some, None}
+-- Statements of a text in C. Each line begins with its margin, and ends with the comments of its tokens. The place of a
+-- statement is where its line begins in the list of tokens.
+use Rattle.std.specs.Prelude.{ℕ, zero, suc, ◌+◌, List, [], ◌∷◌, ◌++◌, codes, decimal, take, drop, Bool, true, false, ◌||◌, ◌&&◌, not, Option, Some, None}
 use Rattle.fmp_base.specs.Services.{service_name, out_place}
 use Rattle.fmp_base.specs.Systems.{found}
 use Rattle.fmp_tasklang.specs.declared.trees.Word.{Word}
 use Rattle.fmp_tasklang.specs.Trees.{ExpressionTree, CallTree, StatementTree, assign, assign_element, service_call, if_then, if_else, while, break, continue, return, Block, empty, next}
 use Rattle.fmp_export.specs.declared.pieces.Risk.{Risk}
 use Rattle.fmp_export.specs.declared.pieces.Risk.TheVariants as risk
-use Rattle.fmp_export.specs.Expressions.{c_expression}
+use Rattle.fmp_export.specs.declared.source.Landmark.TheVariants as landmark
+use Rattle.fmp_export.specs.Expressions.{c_expression, c_expressions}
 use Rattle.fmp_export.specs.Pieces.{PieceText, joint_risk, matters}
+use Rattle.fmp_export.specs.Remarks.{c_finish}
+use Rattle.fmp_export.specs.Sources.{SourceText, behind, stands_at}
 use Rattle.fmp_export.specs.Words.{c_name, tab}
 
 -- the call of a function, or the macro that evaluates the index first
@@ -20,7 +24,7 @@ unfoldable pub c_store : (margin name : List ℕ) → (index value : PieceText) 
 c_store margin name index value =
     margin
     ++ (set_front (matters index.risk value.risk)
-    ++ (name ++ (codes ", " ++ (index.text ++ (codes ", " ++ (value.text ++ codes ");\n"))))))
+    ++ (name ++ (codes ", " ++ (index.text ++ (codes ", " ++ (value.text ++ codes ");"))))))
 
 -- the order of these evaluations can be seen, after others
 abbrev pub any_matters : Risk → List PieceText → Bool
@@ -79,7 +83,7 @@ c_invocation ordered margin c ps =
     margin
     ++ (c_result c.result
     ++ (service_name c.service
-    ++ (codes "(" ++ (c_arguments ordered (found 0 (out_place c.service)) c.out ps ++ codes ");\n"))))
+    ++ (codes "(" ++ (c_arguments ordered (found 0 (out_place c.service)) c.out ps ++ codes ");"))))
 
 abbrev pub c_call_by : (ordered : Bool) → (front margin : List ℕ) → CallTree → List PieceText → List ℕ
 c_call_by false front margin c ps = c_invocation false front c ps
@@ -87,23 +91,37 @@ c_call_by true front margin c ps =
     front
     ++ (codes "{\n"
     ++ (c_values (margin ++ tab) 0 ps
-    ++ (c_invocation true (margin ++ tab) c ps ++ (margin ++ codes "}\n"))))
+    ++ (c_invocation true (margin ++ tab) c ps ++ (codes "\n" ++ (margin ++ codes "}")))))
 
 -- C leaves open which argument is evaluated first: where that can be seen, each is evaluated before the call
-unfoldable pub c_call : (front margin : List ℕ) → CallTree → List ℕ
-c_call front margin c =
-    c_call_by (any_matters risk.Safe (map c_expression c.arguments)) front margin c (map c_expression c.arguments)
+abbrev pub c_call_of : (front margin : List ℕ) → CallTree → List PieceText → List ℕ
+c_call_of front margin c ps = c_call_by (any_matters risk.Safe ps) front margin c ps
+
+unfoldable pub c_call : SourceText → (front margin : List ℕ) → (at : ℕ) → CallTree → List ℕ
+c_call s front margin at c = c_call_of front margin c (c_expressions s at c.arguments)
 
 -- `if` or the like, a condition and `{`
-unfoldable pub c_head : (margin word : List ℕ) → ExpressionTree → List ℕ
-c_head margin word e = margin ++ (word ++ ((c_expression e).text ++ codes ") {\n"))
+unfoldable pub c_head : SourceText → (front margin word : List ℕ) → (at : ℕ) → ExpressionTree → List ℕ
+c_head s front margin word at e =
+    front
+    ++ (word ++ ((c_expression s at e).text ++ (codes ") {" ++ c_finish (margin ++ tab) landmark.LeftBrace s at)))
 
-abbrev pub c_end : (margin : List ℕ) → List ℕ
-c_end margin = margin ++ codes "}\n"
+-- the `}` at a place
+unfoldable pub c_close : SourceText → (margin : List ℕ) → (at : ℕ) → List ℕ
+c_close s margin at = margin ++ (codes "}" ++ c_finish margin landmark.RightBrace s at)
+
+-- a word alone
+unfoldable pub c_jump : SourceText → (front margin word : List ℕ) → (at : ℕ) → List ℕ
+c_jump s front margin word at = front ++ (word ++ c_finish margin landmark.Semicolon s at)
 
 -- an assignment to a variable
-unfoldable pub c_assign : (margin : List ℕ) → Word → ExpressionTree → List ℕ
-c_assign margin w e = margin ++ (c_name w.name ++ (codes " = " ++ ((c_expression e).text ++ codes ";\n")))
+unfoldable pub c_assign : SourceText → (front : List ℕ) → (at : ℕ) → Word → ExpressionTree → List ℕ
+c_assign s front at w e = front ++ (c_name w.name ++ (codes " = " ++ ((c_expression s at e).text ++ codes ";")))
+
+-- an assignment to an element, whose index stands before its value
+unfoldable pub c_assign_element : SourceText → (front : List ℕ) → (at : ℕ) → Word → (i e : ExpressionTree) → List ℕ
+c_assign_element s front at w i e =
+    c_store front (c_name w.name) (c_expression s at i) (c_expression s ((c_expression s at i).next) e)
 
 abbrev pub is_if : StatementTree → Bool
 is_if (if_then e b) = true
@@ -116,32 +134,95 @@ is_chain empty = false
 is_chain (next s empty) = is_if s
 is_chain (next s (next t b)) = false
 
+-- the same, but for an `if` in braces of its own; its `else` stands behind the `}` at this place
+abbrev pub goes_on : SourceText → (at : ℕ) → Block → Bool
+goes_on s at o = is_chain o && not (stands_at landmark.LeftBrace s (behind landmark.Else s at))
+
+-- where a block ends, given where its last statement does: behind its `}`
+abbrev pub else_end : (chain : Bool) → (chained block : ℕ) → SourceText → ℕ
+else_end true chained block s = chained
+else_end false chained block s = behind landmark.RightBrace s block
+
+-- where a choice ends whose `}` before the `else` stands at a place, given where its other block ends that begins at one
+abbrev pub choice_end_by : (end : ℕ → ℕ) → SourceText → (at : ℕ) → Block → ℕ
+choice_end_by end s at o = else_end (goes_on s at o) (end at) (end (behind landmark.LeftBrace s at)) s
+
+-- the place behind a statement, and behind the statements of a block
+abbrev mutual
+  pub statement_end : SourceText → (at : ℕ) → StatementTree → ℕ
+  statement_end s at (assign w e) = behind landmark.Semicolon s at
+  statement_end s at (assign_element w i e) = behind landmark.Semicolon s at
+  statement_end s at (service_call c) = behind landmark.Semicolon s at
+  statement_end s at (if_then e b) = behind landmark.RightBrace s (block_end s (behind landmark.LeftBrace s at) b)
+  statement_end s at (if_else e b o) =
+      choice_end_by (λ i. block_end s i o) s (block_end s (behind landmark.LeftBrace s at) b) o
+  statement_end s at (while e b) = behind landmark.RightBrace s (block_end s (behind landmark.LeftBrace s at) b)
+  statement_end s at break = behind landmark.Semicolon s at
+  statement_end s at continue = behind landmark.Semicolon s at
+  statement_end s at return = behind landmark.Semicolon s at
+
+  pub block_end : SourceText → (at : ℕ) → Block → ℕ
+  block_end s at empty = at
+  block_end s at (next t b) = block_end s (statement_end s at t) b
+
+abbrev pub choice_end : SourceText → (at : ℕ) → Block → ℕ
+choice_end s at o = choice_end_by (λ i. block_end s i o) s at o
+
+-- a block of a statement with this margin, and its `}`
+abbrev pub c_closed : SourceText → (margin block : List ℕ) → (end : ℕ) → List ℕ
+c_closed s margin block end = block ++ c_close s margin end
+
+-- the `{` behind the `else` that stands behind the `}` at a place
+unfoldable pub c_else_head : SourceText → (margin : List ℕ) → (at : ℕ) → List ℕ
+c_else_head s margin at = margin ++ (codes "} else {" ++ c_finish (margin ++ tab) landmark.LeftBrace s at)
+
 -- what stands behind the `if` of a choice: an `if` in the line of the `else`, or a block
-abbrev pub c_else : (chain : Bool) → (margin chained block : List ℕ) → List ℕ
-c_else true margin chained block = chained
-c_else false margin chained block = (margin ++ codes "} else {\n") ++ (block ++ c_end margin)
+abbrev pub c_else : (chain : Bool) → (chained head block : List ℕ) → List ℕ
+c_else true chained head block = chained
+c_else false chained head block = head ++ block
+
+abbrev pub c_choice_by : (chained block : ℕ → List ℕ) → SourceText → (margin : List ℕ) → (at : ℕ) → Block → List ℕ
+c_choice_by chained block s margin at o =
+    c_else (goes_on s at o) (chained at) (c_else_head s margin at)
+    (c_closed s margin (block (behind landmark.LeftBrace s at)) (block_end s (behind landmark.LeftBrace s at) o))
 
 -- a statement, of which the first line begins with `front` and each other line with the margin
 abbrev mutual
-  pub c_statement : (front margin : List ℕ) → StatementTree → List ℕ
-  c_statement front margin (assign w e) = c_assign front w e
-  c_statement front margin (assign_element w i e) = c_store front (c_name w.name) (c_expression i) (c_expression e)
-  c_statement front margin (service_call c) = c_call front margin c
-  c_statement front margin (if_then e b) = c_head front (codes "if (") e ++ (c_block (margin ++ tab) b ++ c_end margin)
-  c_statement front margin (if_else e b o) =
-      c_head front (codes "if (") e
-      ++ (c_block (margin ++ tab) b
-      ++ c_else (is_chain o) margin (c_chained (margin ++ codes "} else ") margin o) (c_block (margin ++ tab) o))
-  c_statement front margin (while e b) =
-      c_head front (codes "fmp_while (") e ++ (c_block (margin ++ tab) b ++ c_end margin)
-  c_statement front margin break = front ++ codes "break;\n"
-  c_statement front margin continue = front ++ codes "continue;\n"
-  c_statement front margin return = front ++ codes "return;\n"
+  pub c_statement : SourceText → (front margin : List ℕ) → (at : ℕ) → StatementTree → List ℕ
+  c_statement s front margin at (assign w e) = c_assign s front at w e ++ c_finish margin landmark.Semicolon s at
+  c_statement s front margin at (assign_element w i e) =
+      c_assign_element s front at w i e ++ c_finish margin landmark.Semicolon s at
+  c_statement s front margin at (service_call c) =
+      c_call s front margin at c ++ c_finish margin landmark.Semicolon s at
+  c_statement s front margin at (if_then e b) =
+      c_head s front margin (codes "if (") at e
+      ++ c_closed s margin (c_block s (margin ++ tab) (behind landmark.LeftBrace s at) b)
+      (block_end s (behind landmark.LeftBrace s at) b)
+  c_statement s front margin at (if_else e b o) =
+      c_head s front margin (codes "if (") at e
+      ++ (c_block s (margin ++ tab) (behind landmark.LeftBrace s at) b
+      ++ c_choice_by (λ i. c_chained s (margin ++ codes "} else ") margin i o) (λ i. c_block s (margin ++ tab) i o) s
+      margin (block_end s (behind landmark.LeftBrace s at) b) o)
+  c_statement s front margin at (while e b) =
+      c_head s front margin (codes "fmp_while (") at e
+      ++ c_closed s margin (c_block s (margin ++ tab) (behind landmark.LeftBrace s at) b)
+      (block_end s (behind landmark.LeftBrace s at) b)
+  c_statement s front margin at break = c_jump s front margin (codes "break;") at
+  c_statement s front margin at continue = c_jump s front margin (codes "continue;") at
+  c_statement s front margin at return = c_jump s front margin (codes "return;") at
 
-  pub c_chained : (front margin : List ℕ) → Block → List ℕ
-  c_chained front margin empty = []
-  c_chained front margin (next s b) = c_statement front margin s ++ c_chained front margin b
+  pub c_chained : SourceText → (front margin : List ℕ) → (at : ℕ) → Block → List ℕ
+  c_chained s front margin at empty = []
+  c_chained s front margin at (next t b) =
+      c_statement s front margin at t ++ c_chained s front margin (statement_end s at t) b
 
-  pub c_block : (margin : List ℕ) → Block → List ℕ
-  c_block margin empty = []
-  c_block margin (next s b) = c_statement margin margin s ++ c_block margin b
+  pub c_block : SourceText → (margin : List ℕ) → (at : ℕ) → Block → List ℕ
+  c_block s margin at empty = []
+  c_block s margin at (next t b) =
+      c_statement s margin margin at t ++ c_block s margin (statement_end s at t) b
+
+-- what stands behind the `if` of a choice, whose `}` stands at a place
+abbrev pub c_choice : SourceText → (margin : List ℕ) → (at : ℕ) → Block → List ℕ
+c_choice s margin at o =
+    c_choice_by (λ i. c_chained s (margin ++ codes "} else ") margin i o) (λ i. c_block s (margin ++ tab) i o) s margin at
+    o

@@ -1,73 +1,208 @@
 //! The functions of bodies in C.
-ghost use Rattle.std.specs.Prelude.{◌≡◌, ◌++◌, map, OnOk};
+ghost use Rattle.std.specs.Prelude.{◌≡◌, ◌++◌, map, IfOk, OnOk};
 ghost use Rattle.fmp_tasklang.specs.Views.{body_view};
-ghost use Rattle.fmp_export.specs.Bodies.{c_bodies, c_body, c_initial, c_prototype, c_prototypes, c_row, c_rows, c_variable, c_variables};
+ghost use Rattle.fmp_export.specs.Bodies.{body_end, c_bodies, c_body, c_commented, c_commented_bodies, c_declared, c_heading, c_initial, c_inside, c_prototype, c_prototypes, c_row, c_rows, c_variable, c_variables, gap_behind, inside_end, variables_end};
+ghost use Rattle.fmp_export.specs.Sources.{source_view};
 
+use crate::pieces::append_number;
+use crate::remarks::{append_above, append_behind, append_own_lines, other_lines};
+use crate::source::{Landmark, Source, behind, gaps_between};
 use crate::statements::append_block;
-use crate::text::{append, append_signed};
+use crate::text::append;
 use crate::words::{append_function, append_name};
+use fmp_base::Name;
 use fmp_tasklang::{Body, Declaration, Length};
 use std::alloc::{AllocError, Global};
 
 /// Appends the values of a variable when its body begins.
-fn append_initial(length: Option<Length>, out: &mut Vec<u8>) -> Result<(), AllocError>
-    ensures { OnOk result (out.new.items ≡ out.old.items ++ c_initial length) }
+fn append_initial(
+    source: &Source<'_>,
+    length: Option<Length>,
+    out: &mut Vec<u8>,
+) -> Result<(), AllocError>
+    ensures { OnOk result (out.new.items ≡ out.old.items ++ c_initial (source_view source.now) length) }
 {
     match length {
-        None => append(b" = 0;\n", out),
+        None => append(b" = 0;", out),
         Some(length) => {
             append(b"[", out)?;
-            append_signed(length.places, out)?;
-            append(b"] = {0};\n", out)
+            append_number(source, length.at as usize, length.places, out)?;
+            append(b"] = {0};", out)
         }
     }
 }
 
 /// Appends the declaration of a variable.
 #[tactic(auto, unfolding(crate::specs::Bodies::c_variable))]
-fn append_variable(variable: &Declaration, out: &mut Vec<u8>) -> Result<(), AllocError>
-    ensures { OnOk result (out.new.items ≡ out.old.items ++ c_variable variable.now) }
+fn append_variable(
+    source: &Source<'_>,
+    variable: &Declaration,
+    out: &mut Vec<u8>,
+) -> Result<(), AllocError>
+    ensures { OnOk result (out.new.items ≡ out.old.items ++ c_variable (source_view source.now) variable.now) }
 {
     append(b"    int32_t ", out)?;
     append_name(&variable.name.name, out)?;
-    append_initial(variable.length, out)
+    append_initial(source, variable.length, out)
 }
 
-/// Appends the declarations of variables.
-fn append_variables(variables: &[Declaration], out: &mut Vec<u8>) -> Result<(), AllocError>
-    ensures { OnOk result (out.new.items ≡ out.old.items ++ c_variables variables.now) }
+/// Appends a declaration below the comments of a gap, with the comment of another behind it.
+#[tactic(auto, unfolding(crate::specs::Bodies::c_declared))]
+fn append_declared(
+    alloc: Global,
+    source: &Source<'_>,
+    before: &[u8],
+    gap: &[u8],
+    variable: &Declaration,
+    out: &mut Vec<u8>,
+) -> Result<(), AllocError>
+    ensures { OnOk result (out.new.items
+        ≡ out.old.items ++ c_declared (source_view source.now) before.now gap.now variable.now) }
 {
+    append_above(alloc, b"    ", before, out)?;
+    append_variable(source, variable, out)?;
+    append_behind(alloc, gap, out)?;
+    append(b"\n", out)
+}
+
+/// Appends the declarations of variables from a place on, and an empty line. The first line of the gap before them is
+/// written already. Gives the place behind them.
+fn append_variables(
+    alloc: Global,
+    source: &Source<'_>,
+    before: &[u8],
+    at: usize,
+    variables: &[Declaration],
+    out: &mut Vec<u8>,
+) -> Result<usize, AllocError>
+    ensures text { OnOk result (out.new.items
+        ≡ out.old.items ++ c_variables (source_view source.now) before.now at variables.now) }
+    ensures next { IfOk result (λ next. next ≡ variables_end (source_view source.now) at variables.now) }
+{
+    let mut place = at;
+    let mut written = Vec::new(alloc);
+    append(before, &mut written)?;
     for variable in variables {
-        append_variable(variable, out)?;
+        let next = behind(Landmark::Semicolon, source, place);
+        let gap = gaps_between(alloc, source, place, next)?;
+        append_declared(alloc, source, &written, &gap, variable, out)?;
+        place = next;
+        written = gap;
     }
-    Ok(())
-}
-
-/// Appends the function of a body.
-#[tactic(auto, unfolding(crate::specs::Bodies::c_body))]
-pub fn append_body(alloc: Global, body: &Body, out: &mut Vec<u8>) -> Result<(), AllocError>
-    ensures { OnOk result (out.new.items ≡ out.old.items ++ c_body (body_view body.now)) }
-{
-    append(b"\nvoid ", out)?;
-    append_function(&body.name.name, out)?;
-    append(
-        b"(intptr_t fmp_exinf)\n{\n    int32_t exinf = (int32_t)fmp_exinf;\n",
-        out,
-    )?;
-    append_variables(&body.variables, out)?;
     append(b"\n", out)?;
-    append_block(alloc, b"    ", &body.statements, out)?;
-    append(b"}\n", out)
+    append_above(alloc, b"    ", &written, out)?;
+    Ok(place)
 }
 
-/// Appends the functions of bodies.
+/// Appends the first lines of a body.
+#[tactic(auto, unfolding(crate::specs::Bodies::c_heading))]
+fn append_heading(
+    alloc: Global,
+    name: &Name,
+    before: &[u8],
+    out: &mut Vec<u8>,
+) -> Result<(), AllocError>
+    ensures { OnOk result (out.new.items ≡ out.old.items ++ c_heading name.now before.now) }
+{
+    append(b"void ", out)?;
+    append_function(name, out)?;
+    append(b"(intptr_t fmp_exinf)\n{", out)?;
+    append_behind(alloc, before, out)?;
+    append(b"\n    int32_t exinf = (int32_t)fmp_exinf;\n", out)
+}
+
+/// Appends what a body has from a place on, and gives the place of its `}`.
+#[tactic(auto, unfolding(crate::specs::Bodies::c_inside))]
+fn append_inside(
+    alloc: Global,
+    source: &Source<'_>,
+    before: &[u8],
+    at: usize,
+    body: &Body,
+    out: &mut Vec<u8>,
+) -> Result<usize, AllocError>
+    ensures text { OnOk result (out.new.items
+        ≡ out.old.items ++ c_inside (source_view source.now) before.now at (body_view body.now)) }
+    ensures end { IfOk result (λ end. end ≡ inside_end (source_view source.now) at (body_view body.now)) }
+{
+    append_heading(alloc, &body.name.name, before, out)?;
+    let next = append_variables(alloc, source, before, at, &body.variables, out)?;
+    let end = append_block(alloc, source, b"    ", next, &body.statements, out)?;
+    append(b"}", out)?;
+    Ok(end)
+}
+
+/// Appends the function of a body up to its `}`, and gives the place of that.
+fn append_body(
+    alloc: Global,
+    source: &Source<'_>,
+    body: &Body,
+    out: &mut Vec<u8>,
+) -> Result<usize, AllocError>
+    ensures text { OnOk result (out.new.items
+        ≡ out.old.items ++ c_body (source_view source.now) (body_view body.now)) }
+    ensures end { IfOk result (λ end. end ≡ body_end (source_view source.now) (body_view body.now)) }
+{
+    let start = body.at as usize;
+    let at = behind(Landmark::LeftBrace, source, start);
+    let before = gaps_between(alloc, source, start, at)?;
+    append_inside(alloc, source, &before, at, body, out)
+}
+
+/// Appends the function of a body below the comments of these lines, and gives what stands behind the body in the text.
+#[tactic(auto, unfolding(crate::specs::Bodies::c_commented))]
+fn append_commented(
+    alloc: Global,
+    source: &Source<'_>,
+    above: &[u8],
+    body: &Body,
+    out: &mut Vec<u8>,
+) -> Result<Vec<u8>, AllocError>
+    ensures text { OnOk result (out.new.items
+        ≡ out.old.items ++ c_commented (source_view source.now) above.now (body_view body.now)) }
+    ensures gap { IfOk result (λ gap. gap.items ≡ gap_behind (source_view source.now) (body_view body.now)) }
+{
+    append(b"\n", out)?;
+    append_own_lines(alloc, b"", above, out)?;
+    let end = append_body(alloc, source, body, out)?;
+    let gap = gaps_between(
+        alloc,
+        source,
+        end,
+        behind(Landmark::RightBrace, source, end),
+    )?;
+    append_behind(alloc, &gap, out)?;
+    append(b"\n", out)?;
+    Ok(gap)
+}
+
+/// Appends the functions of bodies, and the comments that stand above, between and below them. Those of the lines `above`
+/// come first.
+pub fn append_commented_bodies(
+    alloc: Global,
+    source: &Source<'_>,
+    above: &[u8],
+    bodies: &[Body],
+    out: &mut Vec<u8>,
+) -> Result<(), AllocError>
+    ensures { OnOk result (out.new.items ≡ out.old.items
+        ++ c_commented_bodies (source_view source.now) above.now (map body_view bodies.now)) }
+{
+    let mut lines = Vec::new(alloc);
+    append(above, &mut lines)?;
+    for body in bodies {
+        let gap = append_commented(alloc, source, &lines, body, out)?;
+        lines.clear();
+        append(other_lines(&gap), &mut lines)?;
+    }
+    append_own_lines(alloc, b"", &lines, out)
+}
+
+/// Appends the functions of bodies without their text: numbers are written by their values, and there are no comments.
 pub fn append_bodies(alloc: Global, bodies: &[Body], out: &mut Vec<u8>) -> Result<(), AllocError>
     ensures { OnOk result (out.new.items ≡ out.old.items ++ c_bodies (map body_view bodies.now)) }
 {
-    for body in bodies {
-        append_body(alloc, body, out)?;
-    }
-    Ok(())
+    append_commented_bodies(alloc, &Source::none(alloc), b"", bodies, out)
 }
 
 /// Appends the prototype of the function of a body.

@@ -2,10 +2,12 @@
 ghost use Rattle.std.specs.Prelude.{◌≡◌, map, IfOk};
 ghost use Rattle.fmp_tasklang.specs.Views.{expression_view, link_view};
 ghost use Rattle.fmp_export.specs.Expressions as spec;
-ghost use Rattle.fmp_export.specs.Expressions.{c_chain, c_expression};
+ghost use Rattle.fmp_export.specs.Expressions.{c_chain, c_expression, c_expressions};
 ghost use Rattle.fmp_export.specs.Pieces.{piece_view};
+ghost use Rattle.fmp_export.specs.Sources.{source_view};
 
 use crate::pieces::{Piece, binary, both, either, element, name, number, unary};
+use crate::source::Source;
 use fmp_tasklang::{Expression, Link, Operator};
 use std::alloc::{AllocError, Global};
 
@@ -20,38 +22,69 @@ fn joined(alloc: Global, operator: Operator, a: &Piece, b: &Piece) -> Result<Pie
     }
 }
 
-/// An expression in C.
+/// An expression in C, whose numbers are those of the text from a place on.
 #[cycle(expressions_in_c)]
-pub fn expression(alloc: Global, e: &Expression) -> Result<Piece, AllocError>
-    ensures { IfOk result (λ p. piece_view p ≡ c_expression (expression_view e.now)) }
+pub fn expression(
+    alloc: Global,
+    source: &Source<'_>,
+    at: usize,
+    e: &Expression,
+) -> Result<Piece, AllocError>
+    ensures { IfOk result (λ p. piece_view p ≡ c_expression (source_view source.now) at (expression_view e.now)) }
 {
     match e {
-        Expression::Number(k) => number(alloc, *k),
-        Expression::Name(word) => name(alloc, &word.name),
+        Expression::Number(k) => number(alloc, source, at, *k),
+        Expression::Name(word) => name(alloc, at, &word.name),
         Expression::Element { array, index } => {
-            let inner = expression(alloc, index)?;
+            let inner = expression(alloc, source, at, index)?;
             element(alloc, &array.name, &inner)
         }
         Expression::Unary { operator, operand } => {
-            let inner = expression(alloc, operand)?;
+            let inner = expression(alloc, source, at, operand)?;
             unary(alloc, *operator, &inner)
         }
         Expression::Chain { first, rest } => {
-            let inner = expression(alloc, first)?;
-            chain(alloc, inner, rest)
+            let inner = expression(alloc, source, at, first)?;
+            chain(alloc, source, inner, rest)
         }
     }
 }
 
 /// An expression with the further operands of its chain.
 #[cycle(expressions_in_c)]
-fn chain(alloc: Global, first: Piece, links: &[Link]) -> Result<Piece, AllocError>
-    ensures { IfOk result (λ p. piece_view p ≡ c_chain (piece_view first) (map link_view links.now)) }
+fn chain(
+    alloc: Global,
+    source: &Source<'_>,
+    first: Piece,
+    links: &[Link],
+) -> Result<Piece, AllocError>
+    ensures { IfOk result (λ p. piece_view p
+        ≡ c_chain (source_view source.now) (piece_view first) (map link_view links.now)) }
 {
     let mut piece = first;
     for link in links {
-        let operand = expression(alloc, &link.operand)?;
+        let operand = expression(alloc, source, piece.next, &link.operand)?;
         piece = joined(alloc, link.operator, &piece, &operand)?;
     }
     Ok(piece)
+}
+
+/// Expressions, one behind another.
+pub fn expressions(
+    alloc: Global,
+    source: &Source<'_>,
+    at: usize,
+    list: &[Expression],
+) -> Result<Vec<Piece>, AllocError>
+    ensures { IfOk result (λ ps. map piece_view ps.items
+        ≡ c_expressions (source_view source.now) at (map expression_view list.now)) }
+{
+    let mut pieces = Vec::new(alloc);
+    let mut next = at;
+    for e in list {
+        let piece = expression(alloc, source, next, e)?;
+        next = piece.next;
+        pieces.push(piece)?;
+    }
+    Ok(pieces)
 }

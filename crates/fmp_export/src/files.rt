@@ -3,10 +3,11 @@ ghost use Rattle.std.specs.Prelude.{◌≡◌, ◌++◌, IfOk, OnOk};
 ghost use Rattle.fmp_base.specs.Systems.{tables_of};
 ghost use Rattle.fmp_tasklang.specs.Views.{program_view};
 ghost use Rattle.fmp_export.specs.Files.{AreFiles, IsExported, c_file, c_header, c_main};
+ghost use Rattle.fmp_export.specs.Sources.{source_view};
 
-use crate::bodies::{append_prototypes, append_rows};
+use crate::bodies::{append_commented_bodies, append_prototypes, append_rows};
 use crate::objects::append_enumeration;
-use crate::quotes::append_quoted_bodies;
+use crate::source::{Source, head};
 use crate::text::append;
 use fmp_base::System;
 use fmp_lex::{BuildFault, Tokens, tokens};
@@ -87,9 +88,23 @@ pub fn append_header(
     append(b"\n#endif\n", out)
 }
 
-/// Appends the C of a program that these tokens of a text spell: a function for each body, below the body's text. The
-/// error is out of memory.
+/// Appends the C of a program that a text spells: a function for each body, and all comments. The error is out of
+/// memory.
 #[tactic(auto, unfolding(crate::specs::Files::c_file))]
+fn append_file(
+    alloc: Global,
+    source: &Source<'_>,
+    program: &Program,
+    out: &mut Vec<u8>,
+) -> Result<(), AllocError>
+    ensures { OnOk result (out.new.items
+        ≡ out.old.items ++ c_file (source_view source.now) (program_view program.now)) }
+{
+    append(b"#include \"bodies.h\"\n#include \"task.h\"\n", out)?;
+    append_commented_bodies(alloc, source, head(source), &program.bodies, out)
+}
+
+/// Appends the same, given the tokens of the text.
 pub fn append_c(
     alloc: Global,
     text: &[u8],
@@ -97,11 +112,11 @@ pub fn append_c(
     program: &Program,
     out: &mut Vec<u8>,
 ) -> Result<(), AllocError>
-    ensures { OnOk result (out.new.items
-        ≡ out.old.items ++ c_file text.now tokens.now (program_view program.now)) }
+    ensures { OnOk result (out.new.items ≡ out.old.items
+        ++ c_file (record { text = text.now; tokens = tokens.now }) (program_view program.now)) }
 {
-    append(b"#include \"bodies.h\"\n#include \"task.h\"\n", out)?;
-    append_quoted_bodies(alloc, text, tokens, &program.bodies, out)
+    let source = Source::new(alloc, text, tokens)?;
+    append_file(alloc, &source, program, out)
 }
 
 /// Appends the C program that runs these bodies in virtual or in real time. The error is out of memory.

@@ -3,12 +3,14 @@
 #![tactic(auto)]
 
 mod bodies;
+mod calls;
 mod expressions;
 mod files;
 mod objects;
 mod pieces;
 pub mod project;
-mod quotes;
+mod remarks;
+mod source;
 mod statements;
 mod text;
 mod words;
@@ -17,6 +19,5 @@ pub use bodies::{append_bodies, append_prototypes};
 pub use files::{Exported, append_c, append_header, append_main, export_c};
 pub use objects::append_kind;
 pub use pieces::{Piece, Risk, Shape};
-pub use quotes::append_quoted_bodies;
 pub use text::{append, append_count, append_signed};
 pub use words::{append_function, append_name, is_among};

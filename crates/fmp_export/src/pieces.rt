@@ -1,11 +1,13 @@
-//! Expressions in C: the text of each, which faults its evaluation may end with, and whether an operator stands
-//! outermost in it.
+//! Expressions in C: the text of each, which faults its evaluation may end with, whether an operator stands outermost in
+//! it, and where the task text goes on behind its numbers.
 ghost use Rattle.std.specs.Prelude.{◌≡◌, ◌++◌, IfOk, OnOk};
 ghost use Rattle.std.specs.Option.{option_map};
+ghost use Rattle.fmp_export.specs.Sources.{source_view};
 ghost use Rattle.fmp_export.specs.Pieces as spec;
 ghost use Rattle.fmp_export.specs.Pieces.{piece_view, operand, number_piece, name_piece, element_piece, unary_piece, binary_piece, both_piece, either_piece};
 ghost use Rattle.fmp_export.specs.Words.{c_name};
 
+use crate::source::{Landmark, Source, before, behind, from, landmark_from};
 use crate::text::{append, append_signed};
 use crate::words::append_name;
 use fmp_base::{BinaryOperator, Name, UnaryOperator};
@@ -44,6 +46,8 @@ pub struct Piece {
     pub risk: Risk,
     /// What stands outermost in it.
     pub shape: Shape,
+    /// The place behind its last number in the list of tokens; if it has none, where it was begun.
+    pub next: usize,
 }
 
 /// The faults of two evaluations.
@@ -87,27 +91,62 @@ fn append_operand(piece: &Piece, out: &mut Vec<u8>) -> Result<(), AllocError>
     }
 }
 
-/// A number, or the value of a constant.
-pub fn number(alloc: Global, number: i32) -> Result<Piece, AllocError>
-    ensures { IfOk result (λ p. piece_view p ≡ number_piece number) }
+/// Appends a number as it is written at the next number or constant from a place on, or by its value if there is none.
+#[tactic(auto, unfolding(crate::specs::Pieces::number_text))]
+pub fn append_number(
+    source: &Source<'_>,
+    at: usize,
+    number: i32,
+    out: &mut Vec<u8>,
+) -> Result<(), AllocError>
+    ensures { OnOk result (out.new.items
+        ≡ out.old.items ++ spec.number_text (source_view source.now) at number) }
 {
-    let shape = if number < 0 {
+    match landmark_from(Landmark::Number, source, at) {
+        Some(token) => append(
+            from(
+                before(source.text, token.end as usize),
+                token.start as usize,
+            ),
+            out,
+        ),
+        None => append_signed(number, out),
+    }
+}
+
+/// The shape of a number, or of the value of a constant.
+fn number_shape(number: i32) -> Shape
+    ensures { result ≡ spec.number_shape number }
+{
+    if number < 0 {
         Shape::Closed
     } else {
         Shape::Number
-    };
+    }
+}
+
+/// A number, or a constant, which is the next one from a place on.
+pub fn number(
+    alloc: Global,
+    source: &Source<'_>,
+    at: usize,
+    number: i32,
+) -> Result<Piece, AllocError>
+    ensures { IfOk result (λ p. piece_view p ≡ number_piece (source_view source.now) at number) }
+{
     let mut text = Vec::new(alloc);
-    append_signed(number, &mut text)?;
+    append_number(source, at, number, &mut text)?;
     Ok(Piece {
         text,
         risk: Risk::Safe,
-        shape,
+        shape: number_shape(number),
+        next: behind(Landmark::Number, source, at),
     })
 }
 
 /// A variable or an object.
-pub fn name(alloc: Global, name: &Name) -> Result<Piece, AllocError>
-    ensures { IfOk result (λ p. piece_view p ≡ name_piece (c_name name.now)) }
+pub fn name(alloc: Global, at: usize, name: &Name) -> Result<Piece, AllocError>
+    ensures { IfOk result (λ p. piece_view p ≡ name_piece at (c_name name.now)) }
 {
     let mut text = Vec::new(alloc);
     append_name(name, &mut text)?;
@@ -115,6 +154,7 @@ pub fn name(alloc: Global, name: &Name) -> Result<Piece, AllocError>
         text,
         risk: Risk::Safe,
         shape: Shape::Closed,
+        next: at,
     })
 }
 
@@ -133,6 +173,7 @@ pub fn element(alloc: Global, array: &Name, index: &Piece) -> Result<Piece, Allo
         text,
         risk: joint_risk(index.risk, Risk::Index),
         shape: Shape::Closed,
+        next: index.next,
     })
 }
 
@@ -148,6 +189,7 @@ fn negated(alloc: Global, piece: &Piece) -> Result<Piece, AllocError>
             text,
             risk: piece.risk,
             shape: Shape::Closed,
+            next: piece.next,
         });
     }
     append(b"fmp_neg(", &mut text)?;
@@ -157,6 +199,7 @@ fn negated(alloc: Global, piece: &Piece) -> Result<Piece, AllocError>
         text,
         risk: joint_risk(piece.risk, Risk::Overflow),
         shape: Shape::Closed,
+        next: piece.next,
     })
 }
 
@@ -171,6 +214,7 @@ fn prefixed(alloc: Global, sign: &[u8], piece: &Piece) -> Result<Piece, AllocErr
         text,
         risk: piece.risk,
         shape: Shape::Open,
+        next: piece.next,
     })
 }
 
@@ -253,6 +297,7 @@ fn infixed(alloc: Global, sign: &[u8], a: &Piece, b: &Piece) -> Result<Piece, Al
         text,
         risk: joint_risk(a.risk, b.risk),
         shape: Shape::Open,
+        next: b.next,
     })
 }
 
@@ -297,6 +342,7 @@ fn applied(
         text,
         risk: joint_risk(joint_risk(a.risk, b.risk), risk_of(operator)),
         shape: Shape::Closed,
+        next: b.next,
     })
 }
 
