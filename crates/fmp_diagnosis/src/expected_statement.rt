@@ -37,7 +37,7 @@ pub fn head_name(tokens: &Tokens<'_>) -> Option<Name> {
 }
 
 /// Whether all bodies are closed.
-fn is_outside(tokens: &Tokens<'_>) -> bool {
+pub fn is_outside(tokens: &Tokens<'_>) -> bool {
     let mut open = 0usize;
     for at in 0..tokens.len() {
         match tokens.kind(at) {

@@ -126,8 +126,9 @@ fn known_at(known: &[Name], place: Option<usize>) -> Option<Name>
     }
 }
 
-/// The known name that was meant by a name.
-fn name_meant(alloc: Global, name: &Name, known: &[Name]) -> Result<Option<Name>, AllocError>
+/// The known name that was meant by a name: the nearest one if one is near, else one with the same letters in another
+/// case; none if there is neither. `AllocError` if memory runs out.
+pub fn name_meant(alloc: Global, name: &Name, known: &[Name]) -> Result<Option<Name>, AllocError>
     ensures { IfOk result (IsMeantName name.now known.now) }
 {
     let place = meant(alloc, name, known)?;

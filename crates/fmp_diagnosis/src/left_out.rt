@@ -26,6 +26,7 @@ enum LeftOut {
     Processors,
     CountedSuspensions,
     LocksOfHandlers,
+    Printing,
     Loops,
     Choices,
     Jumps,
@@ -33,7 +34,7 @@ enum LeftOut {
 }
 
 /// All of it.
-const LEFT_OUT: [LeftOut; 20] = [
+const LEFT_OUT: [LeftOut; 21] = [
     LeftOut::Alarms,
     LeftOut::Mutexes,
     LeftOut::MessageBuffers,
@@ -50,6 +51,7 @@ const LEFT_OUT: [LeftOut; 20] = [
     LeftOut::Processors,
     LeftOut::CountedSuspensions,
     LeftOut::LocksOfHandlers,
+    LeftOut::Printing,
     LeftOut::Loops,
     LeftOut::Choices,
     LeftOut::Jumps,
@@ -57,7 +59,7 @@ const LEFT_OUT: [LeftOut; 20] = [
 ];
 
 /// The words of each, in order.
-static WORDS: [&[&str]; 20] = [
+static WORDS: [&[&str]; 21] = [
     &["CRE_ALM", "sta_alm", "stp_alm", "ista_alm", "istp_alm"],
     &["CRE_MTX", "loc_mtx", "ploc_mtx", "tloc_mtx", "unl_mtx"],
     &[
@@ -92,17 +94,20 @@ static WORDS: [&[&str]; 20] = [
     &["get_pid"],
     &["frsm_tsk"],
     &["iloc_cpu", "iunl_cpu"],
+    &["syslog", "printf", "puts", "putchar"],
     &["for", "do"],
     &["switch", "case"],
     &["goto"],
     &[
         "int", "char", "short", "long", "unsigned", "signed", "float", "double", "bool", "void",
-        "const", "static", "struct",
+        "const", "static", "struct", "volatile", "extern", "enum", "union", "typedef", "int8_t",
+        "int16_t", "int32_t", "uint8_t", "uint16_t", "uint32_t", "int_t", "uint_t", "bool_t",
+        "intptr_t", "ER", "ID", "PRI", "TMO", "RELTIM", "FLGPTN",
     ],
 ];
 
 /// What there is in the place of each, in order.
-static SAID: [&str; 20] = [
+static SAID: [&str; 21] = [
     "there are no alarm handlers",
     "there are no mutexes; a semaphore with one count excludes too",
     "there are no message buffers",
@@ -119,6 +124,7 @@ static SAID: [&str; 20] = [
     "no call tells the processor",
     "a suspension is ended by `rsm_tsk`",
     "no handler locks the CPU",
+    "`put` prints a number, and nothing prints a text",
     "the only loop is `while`",
     "the only choice is `if`, with or without `else`",
     "the only jumps are `break`, `continue` and `return`",

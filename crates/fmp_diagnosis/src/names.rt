@@ -173,12 +173,17 @@ fn say_unknown_constant(
     ensures said { OnOk result (IsSaid out.old.items out.new.items) }
     ensures names { OnOk result (IsSaidFirst (quoted (name_text name)) out.old.items out.new.items) }
 {
+    let (none, value) = if field == Field::Attribute {
+        (" is no constant: ", " is a value")
+    } else {
+        (" is no constant, and none can be defined: ", " is a number")
+    };
     let words = [
-        Word::Text(" is no constant: "),
+        Word::Text(none),
         Word::The(field.called()),
         Word::Text(" of "),
         Word::Quoted(api.name()),
-        Word::Text(" is a value"),
+        Word::Text(value),
     ];
     let known = constants(alloc)?;
     say_unknown_of(alloc, &name, &words, &known, out)

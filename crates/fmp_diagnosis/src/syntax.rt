@@ -4,11 +4,10 @@ ghost use Rattle.fmp_diagnosis.specs.Words.{IsSaid, IsSaidFirst, MaySay, quoted}
 ghost use Rattle.fmp_base.specs.Names.{name_text};
 
 use crate::around::{Around, name_at};
+use crate::habits::{said_of_declaration, say_habit};
 use crate::known::{apis, keywords, say_nearest, say_unknown_of, services};
 use crate::left_out::{say_left_out, why_left_out};
-use crate::words::{
-    BYTE_ORDER_MARK, Word, append_quoted, counted, say, say_quoted, say_text, say_token,
-};
+use crate::words::{BYTE_ORDER_MARK, Word, counted, say, say_quoted, say_text, say_token};
 use crate::{expected_api, expected_statement};
 use fmp_base::Name;
 use fmp_lex::{Keyword, LexFault, Symbol, TextFile, TokenKind, Tokens};
@@ -34,6 +33,29 @@ fn first_of(bytes: &[u8]) -> u8 {
     bytes.first().copied().unwrap_or(b' ')
 }
 
+/// Why these bytes of a word that begins with a digit are no number.
+fn why_no_number(number: &[u8]) -> &'static str {
+    if number.starts_with(b"0x") || number.starts_with(b"0X") {
+        "; a hexadecimal number is `0x` and its digits"
+    } else if number.starts_with(b"0") {
+        "; a decimal number does not begin with 0, and there are no octal numbers"
+    } else {
+        "; a number has no suffix and no unit: times are in ticks"
+    }
+}
+
+/// What stands in the place of a token of C that begins with this character.
+fn in_place_of(first: u8) -> &'static str {
+    match first {
+        b'#' => "; there is no preprocessor",
+        b'"' => "; there are no strings, and `put` prints a number",
+        b'\'' => "; a character is written as its number",
+        b'?' => "; the only choice is `if`, with or without `else`",
+        b'.' => "; numbers are whole, and there are no structures",
+        _ => "",
+    }
+}
+
 /// Says why no token begins with these bytes.
 fn say_no_token(bytes: &[u8], out: &mut Vec<u8>) -> Result<(), AllocError>
     ensures { OnOk result (IsSaid out.old.items out.new.items) }
@@ -41,7 +63,11 @@ fn say_no_token(bytes: &[u8], out: &mut Vec<u8>) -> Result<(), AllocError>
     let first = first_of(bytes);
     if first.is_ascii_digit() {
         let number = &bytes[..word_length(bytes).min(bytes.len())];
-        return say_quoted(number, &[Word::Text(" is no number")], out);
+        let words = [
+            Word::Text(" is no number"),
+            Word::Text(why_no_number(number)),
+        ];
+        return say_quoted(number, &words, out);
     }
     if first == b'/' {
         return say_text("the comment that begins here is not closed", out);
@@ -52,12 +78,9 @@ fn say_no_token(bytes: &[u8], out: &mut Vec<u8>) -> Result<(), AllocError>
             out,
         );
     }
-    if first == b'#' {
-        return say_text("no token begins with `#`; there is no preprocessor", out);
-    }
     if first.is_ascii_graphic() {
         say_text("no token begins with ", out)?;
-        return append_quoted(&[first], out);
+        return say_quoted(&[first], &[Word::Text(in_place_of(first))], out);
     }
     say(
         &[
@@ -279,20 +302,30 @@ pub fn wants_semicolon(
     if is_strange(file, around) {
         return Ok(false);
     }
-    let mut expected = Vec::new(alloc);
-    say_expected(file, &around.before.tokens, &mut expected)?;
+    let expected = expected_behind(alloc, file, &around.before.tokens)?;
     Ok(expected.windows(3).any(|word| word == b"`;`".as_slice()))
 }
 
-/// Says what may stand behind these tokens of a text.
-fn say_expected(file: TextFile, tokens: &Tokens<'_>, out: &mut Vec<u8>) -> Result<(), AllocError>
+/// What may stand behind these tokens of a text.
+fn expected_behind(
+    alloc: Global,
+    file: TextFile,
+    tokens: &Tokens<'_>,
+) -> Result<Vec<u8>, AllocError> {
+    let mut expected = Vec::new(alloc);
+    match file {
+        TextFile::Configuration => expected_api::say_expected(tokens, &mut expected)?,
+        TextFile::Source => expected_statement::say_expected(tokens, &mut expected)?,
+    }
+    Ok(expected)
+}
+
+/// Says what may stand at the place.
+fn say_expected(expected: &[u8], out: &mut Vec<u8>) -> Result<(), AllocError>
     ensures { OnOk result (IsSaid out.old.items out.new.items) }
 {
     say_text("expected ", out)?;
-    match file {
-        TextFile::Configuration => expected_api::say_expected(tokens, out),
-        TextFile::Source => expected_statement::say_expected(tokens, out),
-    }
+    out.extend_from_slice(expected)
 }
 
 /// Says what may stand at the place, and what does.
@@ -304,9 +337,11 @@ fn say_unexpected(
 ) -> Result<(), AllocError>
     ensures { OnOk result (IsSaid out.old.items out.new.items) }
 {
-    say_expected(file, &around.before.tokens, out)?;
+    let expected = expected_behind(alloc, file, &around.before.tokens)?;
+    say_expected(&expected, out)?;
     say_found(around, out)?;
-    say_keyword(alloc, file, around, out)
+    say_keyword(alloc, file, around, out)?;
+    say_habit(file, around, &expected, out)
 }
 
 /// What a configuration has at the place, and what it may have there.
@@ -356,6 +391,9 @@ fn say_in_text(
 ) -> Result<(), AllocError>
     ensures { OnOk result (IsSaid out.old.items out.new.items) }
 {
+    if let Some(said) = said_of_declaration(file, around) {
+        return say_text(said, out);
+    }
     if let Some(name) = left_out(file, around) {
         return say_word_left_out(&name, out);
     }

@@ -35,7 +35,7 @@ fn append(text: &str, out: &mut Vec<u8>) -> Result<(), AllocError>
 }
 
 /// Appends bytes in quotes.
-pub fn append_quoted(bytes: &[u8], out: &mut Vec<u8>) -> Result<(), AllocError>
+fn append_quoted(bytes: &[u8], out: &mut Vec<u8>) -> Result<(), AllocError>
     ensures { OnOk result (out.new.items ≡ out.old.items ++ spec.quoted bytes.now) }
 {
     append("`", out)?;

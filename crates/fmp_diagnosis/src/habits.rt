@@ -1,0 +1,226 @@
+//! What is written by habit from C or for other kernels, and what stands in its place.
+ghost use Rattle.std.specs.Prelude.{◌<◌, length, IfSome, OnOk};
+ghost use Rattle.fmp_diagnosis.specs.Words.{MaySay};
+
+use crate::around::{Around, line_of, name_at};
+use crate::expected_statement::is_outside;
+use crate::words::{Word, say};
+use fmp_lex::{Keyword, Symbol, TextFile, TokenKind, Tokens};
+use std::alloc::AllocError;
+
+/// What is written by habit in a place: how the words begin that say what is expected there, the beginnings of what is
+/// written instead, and what is said of that.
+struct Habit(&'static str, &'static [&'static str], &'static str);
+
+/// Habits in configurations.
+static IN_CONFIGURATIONS: [Habit; 8] = [
+    Habit(
+        "`NUM_PRC`",
+        &["task ", "handler "],
+        "; this is a task text, which comes second",
+    ),
+    Habit("`NUM_PRC`", &["run ", "tick"], "; this is a steps text"),
+    Habit("`NUM_PRC`", &["FMPI"], "; this is an image"),
+    Habit(
+        "`NUM_PRC`",
+        &["INCLUDE"],
+        "; no file is included, but `fmp_view import` makes one configuration of several",
+    ),
+    Habit(
+        "`CLASS` or",
+        &["CRE_", "DEF_"],
+        "; a static API stands in a class, as in `CLASS(TCL_1) { .. }`",
+    ),
+    Habit(
+        "`,` and",
+        &["+", "-", "*", "/", "<<"],
+        "; only `|` joins values",
+    ),
+    Habit(
+        "`}` behind",
+        &["+", "-", "*", "/", "<<"],
+        "; only `|` joins values",
+    ),
+    Habit("the ", &["("], "; a value has no parentheses and no cast"),
+];
+
+/// Habits in task texts.
+static IN_TASK_TEXTS: [Habit; 13] = [
+    Habit(
+        "`task` or",
+        &["NUM_PRC"],
+        "; this is a configuration, which comes first",
+    ),
+    Habit("`task` or", &["run ", "tick"], "; this is a steps text"),
+    Habit("`task` or", &["FMPI"], "; this is an image"),
+    Habit(
+        "`{`",
+        &["()", "(intptr_t", "(VP_INT"],
+        "; a body has no parameters: `exinf` is its first variable",
+    ),
+    Habit(
+        "`;` or `[`",
+        &["="],
+        "; a variable is 0 at first, and a statement gives it another value",
+    ),
+    Habit(
+        "`;` or `[`",
+        &[","],
+        "; each variable has a `var` of its own",
+    ),
+    Habit("an operator or `)`", &["="], "; `==` compares"),
+    Habit(
+        "an operator or `;`",
+        &["="],
+        "; an assignment is a statement, and no part of an expression",
+    ),
+    Habit(
+        "a statement",
+        &["("],
+        "; there are no casts: a call may stand alone",
+    ),
+    Habit("a statement", &[";"], "; there is no empty statement"),
+    Habit(
+        "an operand",
+        &["+"],
+        "; only `=` changes a variable, as in `x = x + 1`",
+    ),
+    Habit(
+        "",
+        &[
+            "++", "--", "+=", "-=", "*=", "/=", "%=", "|=", "&=", "^=", "<<=", ">>=",
+        ],
+        "; only `=` changes a variable, as in `x = x + 1`",
+    ),
+    Habit("", &["*", "->"], "; there are no pointers"),
+];
+
+/// Whether bytes begin with one of these texts.
+fn begins_with_one(bytes: &[u8], texts: &[&str]) -> bool {
+    texts.iter().any(|text| bytes.starts_with(text.as_bytes()))
+}
+
+/// What is said of what is written by habit in a place of a text, behind the words that say what is expected there;
+/// nothing of anything else.
+fn said_of_habit(file: TextFile, expected: &[u8], written: &[u8]) -> &'static str {
+    let habits: &'static [Habit] = match file {
+        TextFile::Configuration => &IN_CONFIGURATIONS,
+        TextFile::Source => &IN_TASK_TEXTS,
+    };
+    for habit in habits {
+        if expected.starts_with(habit.0.as_bytes()) && begins_with_one(written, habit.1) {
+            return habit.2;
+        }
+    }
+    ""
+}
+
+/// The brace that is open behind tokens, the last one of several.
+fn open_brace(tokens: &Tokens<'_>) -> Option<usize> {
+    let mut closed = 0usize;
+    for at in (0..tokens.len()).rev() {
+        match tokens.kind(at) {
+            Some(TokenKind::Symbol(Symbol::RightBrace)) => closed = closed.saturating_add(1),
+            Some(TokenKind::Symbol(Symbol::LeftBrace)) if closed == 0 => return Some(at),
+            Some(TokenKind::Symbol(Symbol::LeftBrace)) => closed = closed.saturating_sub(1),
+            _ => {}
+        }
+    }
+    None
+}
+
+/// Whether the text ends at the place or goes on with the next class or body, where `}` was to come first.
+fn is_unclosed(around: &Around<'_>, expected: &[u8]) -> bool {
+    expected.ends_with(b" or `}`")
+        && matches!(
+            around.here(),
+            None | Some(TokenKind::Keyword(Keyword::Class | Keyword::Task | Keyword::Handler))
+        )
+}
+
+/// Says which brace is not closed behind these tokens of a text: that of a class, or one of a body.
+fn say_open_brace(
+    file: TextFile,
+    tokens: &Tokens<'_>,
+    at: usize,
+    out: &mut Vec<u8>,
+) -> Result<(), AllocError>
+    ensures { OnOk result (MaySay out.old.items out.new.items) }
+{
+    let line = Word::Number(i64::from(line_of(tokens, at).unwrap_or(1)));
+    let is_open = Word::Text(" is not closed");
+    match (file, name_at(tokens, at.saturating_sub(2))) {
+        (TextFile::Configuration, Some(name)) => {
+            let class = [
+                Word::Text("; the class "),
+                Word::Name(name),
+                Word::Text(" at line "),
+            ];
+            say(&class, out)?;
+            say(&[line, is_open], out)
+        }
+        _ => say(&[Word::Text("; the `{` at line "), line, is_open], out),
+    }
+}
+
+/// Says what stands in the place of what is written by habit at the place of a text, behind the words that say what is
+/// expected there; or which brace is to be closed first.
+pub fn say_habit(
+    file: TextFile,
+    around: &Around<'_>,
+    expected: &[u8],
+    out: &mut Vec<u8>,
+) -> Result<(), AllocError>
+    ensures { OnOk result (MaySay out.old.items out.new.items) }
+{
+    if is_unclosed(around, expected) {
+        if let Some(at) = open_brace(&around.before.tokens) {
+            return say_open_brace(file, &around.before.tokens, at, out);
+        }
+    }
+    say(
+        &[Word::Text(said_of_habit(file, expected, around.bytes))],
+        out,
+    )
+}
+
+/// How many names stand at the head of tokens, or `var` in the place of one.
+fn names_at_head(tokens: &Tokens<'_>) -> usize {
+    for at in 0..tokens.len() {
+        match tokens.kind(at) {
+            Some(TokenKind::Name(_) | TokenKind::Keyword(Keyword::Var)) => {}
+            _ => return at,
+        }
+    }
+    tokens.len()
+}
+
+/// Whether the place stands before, between or behind the bodies of a task text.
+fn is_between_bodies(around: &Around<'_>) -> bool {
+    match around.back(1) {
+        None => true,
+        Some(TokenKind::Symbol(Symbol::RightBrace)) => is_outside(&around.before.tokens),
+        _ => false,
+    }
+}
+
+/// What is said of a declaration as of C that stands at the place of a text outside bodies.
+pub fn said_of_declaration(file: TextFile, around: &Around<'_>) -> Option<&'static str>
+    ensures { IfSome result (λ text. 0 < length text.now) }
+{
+    let names = names_at_head(&around.rest.tokens);
+    if file == TextFile::Configuration || names < 2 || !is_between_bodies(around) {
+        return None;
+    }
+    match around.rest.tokens.kind(names) {
+        Some(TokenKind::Symbol(Symbol::LeftParen)) => {
+            Some("there are no functions; a body begins `task NAME {` or `handler NAME {`")
+        }
+        Some(
+            TokenKind::Symbol(
+                Symbol::Semicolon | Symbol::Comma | Symbol::Assign | Symbol::LeftBracket,
+            ),
+        ) => Some("a variable stands in a body; `CRE_SHR` makes a word that bodies share"),
+        _ => None,
+    }
+}
