@@ -1064,8 +1064,15 @@ for line in 0 1 1000; do
     refused "explore: no call at line $line" 'no call' explore queue.cfg queue.src --never E_OK:$line
 done
 refused 'explore: too much queued' '0..=255' explore queue.cfg queue.src --queued 256
-refused 'explore: no such task' 'no task' explore queue.cfg queue.src --rest NOBODY
-refused 'explore: no such task beside one' 'no task' explore queue.cfg queue.src --rest CONSUMER --rest consumer
+for word in E_TIMEOUT E_TIMEOUT:12; do
+    refused "explore: nearly a code: $word" "as 'put(99)': \`$word\`; did you mean \`E_TMOUT\`?$" \
+        explore queue.cfg queue.src --never E_OK --never $word
+done
+refused 'explore: fewer than 0' "invalid value '-1' for '--ints <K>'" explore queue.cfg queue.src --ints -1
+no_task='--rest names no task of the configuration'
+refused 'explore: no such task' "$no_task: \`NOBODY\`$" explore queue.cfg queue.src --rest NOBODY
+refused 'explore: no such task beside one' "$no_task: \`consumer\`; did you mean \`CONSUMER\`?$" \
+    explore queue.cfg queue.src --rest CONSUMER --rest consumer
 for word in 1 '1,' 1,2,3 1,1 01,+1 1,2147483648; do
     refused "explore: no two values: $word" 'two different values' explore queue.cfg queue.src --alone "$word"
 done
@@ -1628,7 +1635,8 @@ shows 'waves: a wrong step' 1 waves queue.img wrong.steps none.vcd
 absent 'waves: no file after a fault' none.vcd
 echo 'file: none.img' > said
 shows 'drive: no image' 3 drive none.img
-for code in B8 E_PA F_ID 1 -51 017; do refused "code: $code" 'no code is printed so' code $code; done
+for code in B8 E_PA F_ID 1 -51 017; do refused "code: $code" "no code is printed so: \`$code\`" code $code; done
+refused 'code: nearly a code' '^error: no code is printed so: `EPAR`; did you mean `E_PAR`?$' code EPAR
 is_read='the file OUT is one of the two that are read'
 cp queue.img same.img
 cp queue.steps same.steps

@@ -13,6 +13,7 @@ use crate::form::{
 use crate::given::{bound_of, entered, flag_of, text_of, word_of, word32_of, word64_of, words_of};
 use crate::importing::Importing;
 use crate::sources::Exploring;
+use crate::suggesting::said_of_code;
 use crate::targeting::Targeting;
 use crate::viewing::{Format, TraceFormat};
 use clap::{ArgMatches, Error};
@@ -306,8 +307,9 @@ fn look_of<'m>(name: &str, words: &'m ArgMatches<'_>) -> Asked<'m> {
 }
 
 /// The error for a word that is no code, which has the status 2.
-pub fn no_code(alloc: Global) -> Result<Error, AllocError> {
-    mistake(program(alloc), NO_CODE)
+pub fn no_code(alloc: Global, word: &str) -> Result<Error, AllocError> {
+    let why = said_of_code(alloc, NO_CODE, word)?;
+    mistake(program(alloc), &why)
 }
 
 /// The error for a dump that would replace a file that is read, which has the status 2.

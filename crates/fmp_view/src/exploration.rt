@@ -7,9 +7,11 @@ use crate::form::explore_command;
 use crate::given::{bound_of, byte_of, flag_of, text_of, word_of, word32_of, words_of};
 use crate::ranges::kept_bound;
 use crate::sources::Exploring;
+use crate::suggesting::{said_of_never, said_of_task};
 use clap::{ArgMatches, Error};
+use fmp_base::TaskConfig;
 use fmp_explore::Ticks;
-use fmp_explore_names::{Asked, Mistake};
+use fmp_explore_names::{Asked, Mistake, never_at_named, never_named};
 use fmp_files::mistake_of;
 use std::alloc::{AllocError, Global};
 
@@ -75,15 +77,53 @@ fn wrong_words(alloc: Global, why: &str) -> Result<Error, AllocError> {
     mistake_of(explore_command(alloc), "fmp_view explore", why)
 }
 
-/// The error for words that ask for no question, which has the status 2.
-pub fn no_question(alloc: Global, mistake: Mistake) -> Result<Error, AllocError> {
-    let why = match mistake {
-        Mistake::Never => NO_NEVER,
-        Mistake::Alone => NO_SECTION,
-        Mistake::Rest => NO_TASK,
-        Mistake::Call => NO_CALL,
-    };
-    wrong_words(alloc, why)
+/// The first of these words that says nothing of what must never happen.
+fn wrong_never<'m>(words: &[&'m str]) -> &'m str {
+    for word in words {
+        if never_named(word).is_none() && never_at_named(word).is_none() {
+            return word;
+        }
+    }
+    ""
+}
+
+/// The first of these words that is the name of no task.
+fn wrong_task<'m>(words: &[&'m str], tasks: &[TaskConfig]) -> &'m str {
+    for word in words {
+        if !tasks
+            .iter()
+            .any(|task| task.name.as_bytes() == word.as_bytes())
+        {
+            return word;
+        }
+    }
+    ""
+}
+
+/// What is said of words that ask for no question about a system with these tasks.
+fn said_of_mistake(
+    alloc: Global,
+    asked: &Asked<'_>,
+    tasks: &[TaskConfig],
+    mistake: Mistake,
+) -> Result<String, AllocError> {
+    match mistake {
+        Mistake::Never => said_of_never(alloc, NO_NEVER, wrong_never(asked.nevers)),
+        Mistake::Alone => String::from_str(alloc, NO_SECTION),
+        Mistake::Rest => said_of_task(alloc, NO_TASK, wrong_task(asked.rest, tasks), tasks),
+        Mistake::Call => String::from_str(alloc, NO_CALL),
+    }
+}
+
+/// The error for words that ask for no question about a system with these tasks, which has the status 2.
+pub fn no_question(
+    alloc: Global,
+    asked: &Asked<'_>,
+    tasks: &[TaskConfig],
+    mistake: Mistake,
+) -> Result<Error, AllocError> {
+    let why = said_of_mistake(alloc, asked, tasks, mistake)?;
+    wrong_words(alloc, &why)
 }
 
 /// The error for steps that would replace a file that is read, which has the status 2.

@@ -1,11 +1,11 @@
 //! What is said of a flaw of a text of expectations: what is expected, what stands there, and the nearest known word.
-use fmp_base::{Name, System};
+use fmp_base::{Name, System, TaskConfig};
 use fmp_diagnosis::nearest;
 use fmp_expect::{CODES, Expects, FAULTS, Flaw, STATES, fault_name, faulty_word, state_name};
 use std::alloc::{AllocError, Global};
 
 /// Adds a word, if it can be a name.
-fn add(known: &mut Vec<Name>, word: &str) -> Result<(), AllocError> {
+pub fn add_name(known: &mut Vec<Name>, word: &str) -> Result<(), AllocError> {
     match Name::new(word.as_bytes()) {
         Some(name) => {
             known.push(name)?;
@@ -16,25 +16,26 @@ fn add(known: &mut Vec<Name>, word: &str) -> Result<(), AllocError> {
 }
 
 /// Adds the codes, and the faults of bodies.
-fn add_deeds(known: &mut Vec<Name>) -> Result<(), AllocError> {
+pub fn add_deeds(known: &mut Vec<Name>) -> Result<(), AllocError> {
     for code in CODES {
-        add(known, code.name())?;
+        add_name(known, code.name())?;
     }
     for fault in FAULTS {
-        add(known, fault_name(fault))?;
+        add_name(known, fault_name(fault))?;
     }
     Ok(())
 }
 
 fn add_states(known: &mut Vec<Name>) -> Result<(), AllocError> {
     for state in STATES {
-        add(known, state_name(state))?;
+        add_name(known, state_name(state))?;
     }
     Ok(())
 }
 
-fn add_tasks(known: &mut Vec<Name>, sys: &System) -> Result<(), AllocError> {
-    for task in &sys.tasks {
+/// Adds the names of tasks.
+pub fn add_tasks(known: &mut Vec<Name>, tasks: &[TaskConfig]) -> Result<(), AllocError> {
+    for task in tasks {
         known.push(task.name)?;
     }
     Ok(())
@@ -42,7 +43,7 @@ fn add_tasks(known: &mut Vec<Name>, sys: &System) -> Result<(), AllocError> {
 
 /// Adds the tasks and the cyclic handlers.
 fn add_actors(known: &mut Vec<Name>, sys: &System) -> Result<(), AllocError> {
-    add_tasks(known, sys)?;
+    add_tasks(known, &sys.tasks)?;
     for cyclic in &sys.cyclics {
         known.push(cyclic.name)?;
     }
@@ -51,15 +52,15 @@ fn add_actors(known: &mut Vec<Name>, sys: &System) -> Result<(), AllocError> {
 
 /// Adds the words that may begin a sentence.
 fn add_beginnings(known: &mut Vec<Name>, sys: &System) -> Result<(), AllocError> {
-    add(known, "never")?;
-    add(known, "end")?;
+    add_name(known, "never")?;
+    add_name(known, "end")?;
     add_deeds(known)?;
     add_actors(known, sys)
 }
 
 fn add_before_or_by(known: &mut Vec<Name>) -> Result<(), AllocError> {
-    add(known, "before")?;
-    add(known, "by")
+    add_name(known, "before")?;
+    add_name(known, "by")
 }
 
 /// Adds the words of a system that are known where this is expected.
@@ -68,16 +69,16 @@ fn add_known(known: &mut Vec<Name>, sys: &System, expects: Expects) -> Result<()
         Expects::Sentence => add_beginnings(known, sys),
         Expects::Deed => add_deeds(known),
         Expects::Actor => add_actors(known, sys),
-        Expects::Task => add_tasks(known, sys),
+        Expects::Task => add_tasks(known, &sys.tasks),
         Expects::State => add_states(known),
-        Expects::Runs => add(known, "runs"),
-        Expects::Within => add(known, "within"),
-        Expects::Ticks => add(known, "ticks"),
-        Expects::Of => add(known, "of"),
-        Expects::Int => add(known, "int"),
-        Expects::Before => add(known, "before"),
+        Expects::Runs => add_name(known, "runs"),
+        Expects::Within => add_name(known, "within"),
+        Expects::Ticks => add_name(known, "ticks"),
+        Expects::Of => add_name(known, "of"),
+        Expects::Int => add_name(known, "int"),
+        Expects::Before => add_name(known, "before"),
         Expects::BeforeOrBy => add_before_or_by(known),
-        Expects::EndOrBy => add(known, "by"),
+        Expects::EndOrBy => add_name(known, "by"),
         Expects::End | Expects::Count | Expects::Interrupt => Ok(()),
     }
 }
@@ -118,7 +119,7 @@ fn found_text(alloc: Global, word: Option<&[u8]>) -> Result<String, AllocError> 
 }
 
 /// The question whether a known word was meant, if one is near.
-fn question_text(alloc: Global, meant: Option<Name>) -> Result<String, AllocError> {
+pub fn question_text(alloc: Global, meant: Option<Name>) -> Result<String, AllocError> {
     match meant {
         Some(name) => {
             let name = String::from_utf8_lossy(alloc, name.as_bytes())?;

@@ -469,16 +469,21 @@ static TIMELINE: Form = Form {
     example: "Example: fmp_view timeline queue.img drive.steps queue.svg --from 2 --to 5",
 };
 
+/// An option with a number in this range. A number below 0 is no option, but refused as its value.
+fn with_number<'a>(option: Arg<'a>, low: u64, high: u64) -> Arg<'a> {
+    option
+        .value_parser(ValueParser::unsigned(low, high))
+        .allow_negative_numbers(true)
+}
+
 /// An option with a value of this kind.
 fn with_value<'a>(option: Arg<'a>, value: Value) -> Arg<'a> {
     match value {
         Value::Text => option,
         Value::When => option.value_parser(TICKS_WHEN).default_value("any"),
         Value::Format => option.value_parser(FORMATS).default_value("vcd"),
-        Value::Number(low, high) => option.value_parser(ValueParser::unsigned(low, high)),
-        Value::Default(low, high, number) => option
-            .value_parser(ValueParser::unsigned(low, high))
-            .default_value(number),
+        Value::Number(low, high) => with_number(option, low, high),
+        Value::Default(low, high, number) => with_number(option, low, high).default_value(number),
     }
 }
 

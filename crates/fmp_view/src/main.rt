@@ -37,6 +37,7 @@ mod searching;
 mod sources;
 mod stepping;
 mod stuck;
+mod suggesting;
 mod targeting;
 mod telling;
 mod texts;

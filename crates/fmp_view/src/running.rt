@@ -284,7 +284,7 @@ fn write_timeline<O: Outside>(
 fn say_code<O: Outside>(alloc: Global, outside: &mut O, word: &str) -> u8 {
     match code(alloc, word) {
         Ok(Some(text)) => print(alloc, outside, &text),
-        Ok(None) => refuse_mistake(outside, no_code(alloc)),
+        Ok(None) => refuse_mistake(outside, no_code(alloc, word)),
         Err(_) => end(outside, &Failure::Memory(AllocError)),
     }
 }
@@ -344,7 +344,7 @@ fn carry_out<O: Outside, R: Input + Files>(
 {
     match command(words) {
         Some(cmd) => obey(alloc, outside, rt, cmd),
-        None => refuse_mistake(outside, no_code(alloc)),
+        None => refuse_mistake(outside, no_code(alloc, "")),
     }
 }
 

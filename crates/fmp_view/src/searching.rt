@@ -180,7 +180,10 @@ fn explore_image<O: Outside>(
         Ok(question) => {
             explore_question(alloc, outside, image, src, &lines, &question, exploring)
         }
-        Err(mistake) => Ok(refuse_mistake(outside, no_question(alloc, mistake))),
+        Err(mistake) => {
+            let error = no_question(alloc, &exploring.asked, &image.system().tasks, mistake);
+            Ok(refuse_mistake(outside, error))
+        }
     }
 }
 
@@ -252,7 +255,10 @@ pub fn run_explore<O: Outside>(alloc: Global, outside: &mut O, exploring: &Explo
 {
     match wanted_by(alloc, &exploring.asked) {
         Ok(Ok(wanted)) => explore_files(alloc, outside, exploring, &wanted),
-        Ok(Err(mistake)) => refuse_mistake(outside, no_question(alloc, mistake)),
+        Ok(Err(mistake)) => refuse_mistake(
+            outside,
+            no_question(alloc, &exploring.asked, &[], mistake),
+        ),
         Err(error) => end(outside, &Failure::Memory(error)),
     }
 }
