@@ -486,15 +486,16 @@ PRODUCER READY p1 10
 CONSUMER RUNNING p1 5
 taken back: run 1
 nothing: there is no event to take back
-run P      processor P goes on, to its next service call
-tick       the clock advances
-int N      interrupt N is raised
-back [K]   the last event is taken back, or the last K
-why        what each task waits or spins for
-state      the states of the tasks
-save FILE  the events that did something, as steps for 'fmp sim' with the same bound
-help       these lines
-quit       the end, as the end of the input is
+run P [xK]   processor P goes on, to its next service call; K times, or until it does nothing
+tick [K]     the clock advances, K times
+int N [xK]   interrupt N is raised; N may be the body of its handler
+back [K]     the last event is taken back, or the last K
+why          what each task waits or spins for
+state [X]    the states of the tasks, or that of the task or object X
+load FILE    the events of a steps text
+save FILE    the events that did something, as steps for 'fmp sim' with the same bound
+help         these lines
+quit         the end, as the end of the input is
 END
 types 'step: back to setup' 0 step queue.cfg queue.src
 
@@ -509,7 +510,10 @@ int 33
 back 0
 back 1048577
 why not
-tick 1
+tick 0
+run 1 x0
+int 33 x2
+load
 save
 save queue.cfg
 save nowhere/queue.saved
@@ -528,18 +532,142 @@ line 2: `next` is no command; `help` prints them
 line 3: `run` wants the number of a processor, 1 to 1
 line 4: `run` wants the number of a processor, 1 to 1
 line 5: `run` wants the number of a processor, 1 to 1
-line 6: `int` wants the number of an interrupt, 1 to 32
+line 6: `int` wants the number of an interrupt, 1 to 32, or the body of its handler
 line 7: `back` wants how many events, 1 to 1048576, or nothing
 line 8: `back` wants how many events, 1 to 1048576, or nothing
 line 9: nothing stands behind `why`
-line 10: nothing stands behind `tick`
-line 11: `save` wants the name of a file
-line 12: the file is one of the two that are read
+line 10: `tick` wants how many events, 1 to 1048576, or nothing
+line 11: `run` wants nothing behind its number, or how often, x1 to x1048576
+line 12: `int` wants the number of an interrupt, 1 to 32, or the body of its handler
+line 13: `load` wants the name of a file
+line 14: `save` wants the name of a file
+line 15: the file is one of the two that are read
 file: nowhere/queue.saved
 END
 cp queue.cfg queue.before
 types 'step: lines that are no commands' 3 step queue.cfg queue.src
 same 'step: a text is not written over' queue.before queue.cfg
+
+# An event several times, up to the first time that it does nothing; a task and an object by name.
+printf 'run 1 x2\nstate QUEUE\nstate CONSUMER\ntick 2\nrun 1 x9\nstate QUEUE\nback 3\n' > typed
+cat > wanted <<'END'
+0 p1 PRODUCER starts
+0 p1 > PRODUCER
+1 p1 PRODUCER act_tsk(CONSUMER) E_OK
+1 p1 CONSUMER starts
+1 p1 > CONSUMER
+2 p1 CONSUMER rcv_dtq(QUEUE) wait
+2 p1 > PRODUCER
+data queue QUEUE: words 0
+CONSUMER WAITING p1 5 for a word of data queue QUEUE
+CONSUMER WAITING p1 5 for a word of data queue QUEUE
+3 tick 1
+4 tick 2
+5 p1 PRODUCER snd_dtq(QUEUE,42) E_OK
+5 p1 CONSUMER gets E_OK 42
+5 p1 > CONSUMER
+6 p1 CONSUMER put(42) E_OK
+7 p1 CONSUMER end
+7 p1 > PRODUCER
+8 p1 PRODUCER end
+nothing: processor 1 is idle
+data queue QUEUE: words 0
+taken back: run 1
+taken back: run 1
+taken back: run 1
+END
+types 'step: several times' 0 step queue.cfg queue.src
+
+# An interrupt by the body of its handler.
+printf 'run 2\nint receive\nrun 1 x2\nstate MAIN\nint receive x2\n' > typed
+cat > wanted <<'END'
+0 p1 MAIN starts
+0 p2 DRIVER starts
+0 p2 OTHER starts
+0 p1 > MAIN
+0 p2 > DRIVER
+1 p2 DRIVER slp_tsk() wait
+1 p2 > OTHER
+2 int 3
+2 p1 begin #3
+3 p1 #3 iwup_tsk(DRIVER) E_OK
+3 p2 DRIVER gets E_OK
+3 p2 > DRIVER
+4 p1 #3 end
+MAIN RUNNING p1 10
+5 int 3
+5 p1 begin #3
+6 int 3
+END
+types 'step: an interrupt by its handler' 0 step interrupt.cfg interrupt.src
+
+# Steps are taken from a file, all or none. A line that fails gives the status 1.
+printf 'load beyond.steps\nload nowhere\nload queue.steps\nstate PRODUCER\n' > typed
+cat > wanted <<'END'
+0 p1 PRODUCER starts
+0 p1 > PRODUCER
+1 p1 PRODUCER act_tsk(CONSUMER) E_OK
+1 p1 CONSUMER starts
+1 p1 > CONSUMER
+2 p1 CONSUMER rcv_dtq(QUEUE) wait
+2 p1 > PRODUCER
+3 p1 PRODUCER snd_dtq(QUEUE,42) E_OK
+3 p1 CONSUMER gets E_OK 42
+3 p1 > CONSUMER
+4 p1 CONSUMER put(42) E_OK
+5 p1 CONSUMER end
+5 p1 > PRODUCER
+6 p1 PRODUCER end
+nothing: processor 1 is idle
+PRODUCER DORMANT p1 10
+END
+printf 'line 1: beyond.steps: steps:2: S2\nfile: nowhere\n' > said
+types 'step: steps of a file' 3 step queue.cfg queue.src
+printf 'state NONE\ntick\n' > typed
+printf '0 p1 PRODUCER starts\n0 p1 > PRODUCER\n1 tick 1\n' > wanted
+echo 'line 1: no task or object of the configuration has this name' > said
+types 'step: a line that fails' 1 step queue.cfg queue.src
+
+# Each line has one answer, an object of JSON.
+printf 'run 1 x2\nstate QUEUE\nback 2\nrun 2\n\nsave nowhere/q\nsave json.saved\nback\nquit\ntick\n' > typed
+cat > wanted <<'END'
+{"events":0,"records":[{"event":0,"what":"starts","processor":1,"actor":"PRODUCER"},{"event":0,"what":"runs","processor":1,"actor":"PRODUCER"}]}
+{"events":2,"records":[{"event":1,"what":"call","processor":1,"actor":"PRODUCER","call":"act_tsk","arguments":[2],"names":["CONSUMER"],"reply":"E_OK"},{"event":1,"what":"starts","processor":1,"actor":"CONSUMER"},{"event":1,"what":"runs","processor":1,"actor":"CONSUMER"},{"event":2,"what":"call","processor":1,"actor":"CONSUMER","call":"rcv_dtq","arguments":[1],"names":["QUEUE"],"reply":null},{"event":2,"what":"runs","processor":1,"actor":"PRODUCER"}]}
+{"events":2,"records":[{"what":"object","kind":"data queue","name":"QUEUE","value":0},{"what":"state","task":"CONSUMER","state":"WAITING","processor":1,"priority":5,"waits":"for a word of data queue QUEUE"}]}
+{"events":0,"records":[{"what":"taken back","text":"run 1"},{"what":"taken back","text":"run 1"}]}
+{"events":0,"error":"`run` wants the number of a processor, 1 to 1"}
+{"events":0,"records":[]}
+{"events":0,"error":"file: nowhere/q"}
+{"events":0,"records":[{"what":"saved","text":"json.saved"}]}
+{"events":0,"records":[{"what":"nothing","text":"there is no event to take back"}]}
+END
+types 'step: as JSON' 3 step queue.cfg queue.src --json
+
+# On a terminal there is a prompt, and a line that fails leaves the status 0.
+cat > terminal.py <<'END'
+import os, pty, subprocess, sys
+
+terminal, end = pty.openpty()
+os.write(terminal, b"rnu\nquit\n")
+program = subprocess.Popen(sys.argv[1:], stdin=end, stdout=subprocess.PIPE, stderr=subprocess.PIPE)
+output, errors = program.communicate()
+sys.stdout.buffer.write(output + errors)
+sys.exit(program.returncode)
+END
+cat > wanted <<'END'
+0 p1 PRODUCER starts
+0 p1 > PRODUCER
+> line 1: `rnu` is no command; did you mean `run`?
+END
+printf '> ' >> wanted
+gives 'step: a terminal' python3 terminal.py "$subject" step queue.cfg queue.src
+
+# A motor outside of the kernel, whose speed the controller of a system holds.
+echo '105 marks' > wanted
+gives 'step: a plant in Python' sh -c 'python3 "$1" 200 "$2" > plant.told && tail -n 1 plant.told' \
+    sh "$root/examples/plant/plant.py" "$subject"
+printf 'tick 190: duty 600, speed 600\ntick 200: duty 600, speed 600\n' > wanted
+gives 'step: its speed' sed -n '19,20p' plant.told
 : > typed
 cat > wanted <<'END'
 unknown.src:1:20: B3: `y` is neither a variable of this body, an object nor a constant

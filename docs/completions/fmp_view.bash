@@ -11,7 +11,7 @@ _fmp_view() {
         code) words="-h --help"; [[ $word == -* ]] || { COMPREPLY=($(compgen -W "E_OK E_SYS E_NOSPT E_RSATR E_PAR E_ID E_CTX E_ILUSE E_OBJ E_QOVR E_RLWAI E_TMOUT F_OVF F_DIV F_IDX B1 B2 B3 B4 B5 B6 B7 B9 L1 L2 L3 L4 L5 L6 S1 S2 S3 H4 H5" -- "$word")); return; } ;;
         fault) words="--json -h --help" ;;
         run) words="--recording --json --calls --events --seed --bound -h --help" ;;
-        step) words="--bound -h --help" ;;
+        step) words="--json --bound -h --help" ;;
         drive) words="--events --seed --bound -h --help" ;;
         why) words="--recording --bound --at -h --help" ;;
         explore) words="--never --alone --rest --ticks --ints --queued --bound --states --all --answers --out -h --help" ;;

@@ -25,6 +25,7 @@ complete -c fmp_view -n '__fish_seen_subcommand_from run' -l events -x -d 'How m
 complete -c fmp_view -n '__fish_seen_subcommand_from run' -l seed -x -d 'Order of processors at random by this number, with ticks and interrupts between; without it they run in turn, and the clock ticks where all are idle'
 complete -c fmp_view -n '__fish_seen_subcommand_from run' -l bound -x -d 'How many instructions a body may take in a step, 1 to 2^48; where its next service call is farther, its next step goes on from there [default: 100000]'
 complete -c fmp_view -n '__fish_seen_subcommand_from run' -s h -l help -d 'Print help'
+complete -c fmp_view -n '__fish_seen_subcommand_from step' -l json -d 'Print an object of JSON a line, for other programs'
 complete -c fmp_view -n '__fish_seen_subcommand_from step' -l bound -x -d 'How many instructions a body may take in a step, 1 to 2^48; where its next service call is farther, its next step goes on from there [default: 100000]'
 complete -c fmp_view -n '__fish_seen_subcommand_from step' -s h -l help -d 'Print help'
 complete -c fmp_view -n '__fish_seen_subcommand_from drive' -l events -x -d 'How many events are done at most, 0 to 2^20 [default: 1000]'

@@ -1,12 +1,16 @@
 -- The commands of a session, one a line.
-use Rattle.std.specs.Prelude.{ℕ, ◌+◌, List, [], ◌∷◌, Option, Some, None, Result, Ok, Err, ◌&&◌, if◌then◌else◌, nat_eq, nat_le, min, codes, bytes_eq, position, take, drop}
+use Rattle.std.specs.Prelude.{ℕ, ◌+◌, List, [], ◌∷◌, Option, Some, None, Result, Ok, Err, ◌&&◌, if◌then◌else◌, nat_eq, nat_le, min, codes, bytes_eq, position, take, drop, slice_get}
+use Rattle.std.specs.Option.{option_and_then, option_map, option_or}
 use Rattle.fmp_base.specs.declared.events.Event.{Event}
+use Rattle.fmp_base.specs.declared.events.Event.TheVariants as event
+use Rattle.fmp_base.specs.Names.{name_text}
 use Rattle.fmp_steps.specs.declared.faults.StepsFault.{StepsFault}
 use Rattle.fmp_steps.specs.Steps.{behind, numeral_value, steps_of}
 use Rattle.fmp_session.specs.declared.command.Command.{Command}
 use Rattle.fmp_session.specs.declared.command.Command.TheVariants as command
 use Rattle.fmp_session.specs.declared.command.Mistake.{Mistake}
 use Rattle.fmp_session.specs.declared.command.Mistake.TheVariants as mistake
+use Rattle.fmp_session.specs.declared.interrupts.NamedInterrupt.{NamedInterrupt}
 
 -- the event, if there is one and no other
 abbrev pub only : Result (List Event) StepsFault → Option Event
@@ -19,15 +23,6 @@ only (Err f) = None
 abbrev pub event_of : (processors : ℕ) → List ℕ → Option Event
 event_of processors line = only (steps_of processors line)
 
-abbrev pub name_of : Option (List ℕ) → Option (List ℕ)
-name_of None = None
-name_of (Some []) = None
-name_of (Some (b ∷ bs)) = Some (b ∷ bs)
-
--- the name behind `save `
-abbrev pub saved_name : List ℕ → Option (List ℕ)
-saved_name line = name_of (behind (codes "save ") line)
-
 -- the place of the first blank
 abbrev pub blank_of : List ℕ → Option ℕ
 blank_of line = position (λ b. nat_eq b 32) line
@@ -36,7 +31,7 @@ abbrev pub word_before : Option ℕ → List ℕ → List ℕ
 word_before None line = line
 word_before (Some k) line = take k line
 
--- what stands before the first blank of a line
+-- what stands before the first blank of a text
 abbrev pub word_of : List ℕ → List ℕ
 word_of line = word_before (blank_of line) line
 
@@ -44,9 +39,17 @@ abbrev pub rest_behind : Option ℕ → List ℕ → Option (List ℕ)
 rest_behind None line = None
 rest_behind (Some k) line = Some (drop (k + 1) line)
 
--- what stands behind the first blank of a line, if there is one
+-- what stands behind the first blank of a text, if there is one
 abbrev pub rest_of : List ℕ → Option (List ℕ)
 rest_of line = rest_behind (blank_of line) line
+
+abbrev pub or_nothing : Option (List ℕ) → List ℕ
+or_nothing None = []
+or_nothing (Some text) = text
+
+-- what stands behind the first blank of a line, or nothing
+abbrev pub argument_of : List ℕ → List ℕ
+argument_of line = or_nothing (rest_of line)
 
 -- a number, or 2^20 + 1 for a greater one
 abbrev pub capped : Option ℕ → Option ℕ
@@ -61,44 +64,111 @@ counted (Some n) = if nat_le 1 n && nat_le n 1048576 then Some n else None
 abbrev pub count_of : List ℕ → Option ℕ
 count_of text = counted (numeral_value text)
 
+abbrev pub at_most : (most : ℕ) → Option ℕ → Option ℕ
+at_most most None = None
+at_most most (Some n) = if nat_le n most then Some n else None
+
+-- the number from 1 to most that a text spells
+abbrev pub number_of : (most : ℕ) → List ℕ → Option ℕ
+number_of most text = at_most most (count_of text)
+
+-- the place of the first interrupt whose handler has the body of this name
+abbrev pub place_of : (name : List ℕ) → List NamedInterrupt → Option ℕ
+place_of name is = position (λ i. bytes_eq (name_text i.body) name) is
+
+abbrev pub unless : {A B : Type 0} → Option A → Option B → Option B
+unless (Some other) x = None
+unless None x = x
+
+abbrev pub only_at : (name : List ℕ) → List NamedInterrupt → Option ℕ → Option ℕ
+only_at name is None = None
+only_at name is (Some k) = unless (place_of name (drop (k + 1) is)) (option_map (λ i. i.number) (slice_get is k))
+
+-- the number of the only interrupt whose handler has the body of this name
+abbrev pub number_named : (name : List ℕ) → List NamedInterrupt → Option ℕ
+number_named name is = only_at name is (place_of name is)
+
+-- the interrupt of a word: its number from 1 to 32, or the name of a body that only its handler has
+abbrev pub interrupt_of : List NamedInterrupt → (word : List ℕ) → Option ℕ
+interrupt_of is word = option_or (number_of 32 word) (number_named word is)
+
+-- how many, by what stands behind a word: one, or the number that it spells
+abbrev pub count_behind : Option (List ℕ) → Option ℕ
+count_behind None = Some 1
+count_behind (Some text) = count_of text
+
+-- how often, by what stands behind an event: once, or K times where it is `xK`
+abbrev pub times_behind : Option (List ℕ) → Option ℕ
+times_behind None = Some 1
+times_behind (Some text) = option_and_then count_of (behind (codes "x") text)
+
+-- `back` with how many
 abbrev pub back_by : Option ℕ → Result Command Mistake
 back_by None = Err mistake.Count
 back_by (Some n) = Ok (command.Back n)
 
--- `back` with what stands behind it
-abbrev pub back_of : Option (List ℕ) → Result Command Mistake
-back_of None = Ok (command.Back 1)
-back_of (Some text) = back_by (count_of text)
+-- `tick` with how many
+abbrev pub tick_by : Option ℕ → Result Command Mistake
+tick_by None = Err mistake.Count
+tick_by (Some n) = Ok (command.Take event.Tick n)
+
+-- an event, and how often it is taken
+abbrev pub taken : Event → Option ℕ → Result Command Mistake
+taken e None = Err mistake.Times
+taken e (Some n) = Ok (command.Take e n)
+
+abbrev pub run_by : Option ℕ → Option ℕ → Result Command Mistake
+run_by None times = Err mistake.Processor
+run_by (Some p) times = taken (event.Run p) times
+
+-- `run` with what stands behind it: a processor, and how often it runs
+abbrev pub run_of : (processors : ℕ) → (text : List ℕ) → Result Command Mistake
+run_of processors text = run_by (number_of processors (word_of text)) (times_behind (rest_of text))
+
+abbrev pub int_by : Option ℕ → Option ℕ → Result Command Mistake
+int_by None times = Err mistake.Interrupt
+int_by (Some i) times = taken (event.Int i) times
+
+-- `int` with what stands behind it: an interrupt, and how often it is raised
+abbrev pub int_of : List NamedInterrupt → (text : List ℕ) → Result Command Mistake
+int_of is text = int_by (interrupt_of is (word_of text)) (times_behind (rest_of text))
 
 -- a command of one word, with what stands behind it
 abbrev pub alone : Command → Option (List ℕ) → Result Command Mistake
 alone c None = Ok c
 alone c (Some rest) = Err mistake.Alone
 
--- the command by a first word and by what stands behind it, where the line is no event and no command to save
-abbrev pub by_word : (word : List ℕ) → (rest : Option (List ℕ)) → Result Command Mistake
-by_word word rest =
+-- a command with the name of a file, which is not empty
+abbrev pub named : Command → (argument : List ℕ) → Result Command Mistake
+named c [] = Err mistake.Name
+named c (b ∷ bs) = Ok c
+
+-- `state` alone, or with the name of a task or an object
+abbrev pub state_of : Option (List ℕ) → Result Command Mistake
+state_of None = Ok command.State
+state_of (Some name) = Ok command.StateOf
+
+-- the command by a first word and by what stands behind it, where the line is no event of a steps text
+abbrev pub by_word : (processors : ℕ) → List NamedInterrupt → (word : List ℕ) → (rest : Option (List ℕ)) → Result Command Mistake
+by_word processors is word rest =
     if bytes_eq word [] then alone command.Skip rest
-    else if bytes_eq word (codes "back") then back_of rest
+    else if bytes_eq word (codes "run") then run_of processors (or_nothing rest)
+    else if bytes_eq word (codes "tick") then tick_by (count_behind rest)
+    else if bytes_eq word (codes "int") then int_of is (or_nothing rest)
+    else if bytes_eq word (codes "back") then back_by (count_behind rest)
     else if bytes_eq word (codes "why") then alone command.Why rest
-    else if bytes_eq word (codes "state") then alone command.State rest
+    else if bytes_eq word (codes "state") then state_of rest
+    else if bytes_eq word (codes "load") then named command.Load (or_nothing rest)
+    else if bytes_eq word (codes "save") then named command.Save (or_nothing rest)
     else if bytes_eq word (codes "help") then alone command.Help rest
     else if bytes_eq word (codes "quit") then alone command.Quit rest
-    else if bytes_eq word (codes "run") then Err mistake.Processor
-    else if bytes_eq word (codes "int") then Err mistake.Interrupt
-    else if bytes_eq word (codes "save") then Err mistake.Name
-    else if bytes_eq word (codes "tick") then Err mistake.Alone
     else Err mistake.Unknown
 
-abbrev pub save_or : Option (List ℕ) → Result Command Mistake → Result Command Mistake
-save_or (Some name) other = Ok command.Save
-save_or None other = other
-
-abbrev pub take_or : Option Event → Result Command Mistake → Result Command Mistake
-take_or (Some e) other = Ok (command.Take e)
-take_or None other = other
+abbrev pub once_or : Option Event → Result Command Mistake → Result Command Mistake
+once_or (Some e) other = Ok (command.Take e 1)
+once_or None other = other
 
 -- the command of a line
-abbrev pub command_of : (processors : ℕ) → List ℕ → Result Command Mistake
-command_of processors line =
-    take_or (event_of processors line) (save_or (saved_name line) (by_word (word_of line) (rest_of line)))
+abbrev pub command_of : (processors : ℕ) → List NamedInterrupt → List ℕ → Result Command Mistake
+command_of processors is line =
+    once_or (event_of processors line) (by_word processors is (word_of line) (rest_of line))

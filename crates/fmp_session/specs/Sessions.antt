@@ -6,6 +6,7 @@ use Rattle.fmp_instructions.specs.declared.instructions.MachineContext.{MachineC
 use Rattle.fmp_instructions.specs.Instructions.{BodyTables}
 use Rattle.fmp_kernel.specs.KernelViews.{KernelView}
 use Rattle.fmp_named.specs.Lines.{named_lines}
+use Rattle.fmp_named.specs.Records.{line_records}
 use Rattle.fmp_replay.specs.Replays.{IsLegal, kernel_after, reaction}
 use Rattle.fmp_session.specs.declared.session.Session.{Session}
 use Rattle.fmp_session.specs.declared.session.Taken.{Taken}
@@ -42,3 +43,7 @@ IsTakenAs s e taken.Nothing = taken.Nothing ≡ taken_by (reaction s.image.now s
 -- the lines of the last event of a kernel that was done, with names
 abbrev pub lines_now : KernelView (List BodyTables) MachineContext → List ℕ
 lines_now k = named_lines k.system k.done k.lines
+
+-- the same as objects of JSON
+abbrev pub records_now : KernelView (List BodyTables) MachineContext → List ℕ
+records_now k = line_records k.system k.done k.lines

@@ -1,23 +1,28 @@
 //! The commands of a session, one a line.
-ghost use Rattle.std.specs.Prelude.{◌≡◌, nat_eq, position, None, Some, Ok, Err, MatchOption};
+ghost use Rattle.std.specs.Prelude.{◌≡◌, nat_eq, position, None, Some, MatchOption};
 ghost use Rattle.fmp_session.specs.Commands as spec;
 
-use crate::numbers::count_in;
+use crate::interrupts::{NamedInterrupt, interrupt_of};
+use crate::numbers::{count_in, number_in};
 use fmp_base::Event;
 use fmp_steps::Steps;
 
 /// What a line asks for.
-#[derive(Clone, Copy, Debug, PartialEq, Eq)]
+#[derive(Clone, Copy)]
 pub enum Command {
-    /// Take this event.
-    Take(Event),
+    /// Take this event this many times, 1 to 2^20, up to the first time that it does nothing.
+    Take(Event, u32),
     /// Take back this many events, 1 to 2^20.
     Back(u32),
     /// Say what each task waits or spins for.
     Why,
     /// Print the states of the tasks.
     State,
-    /// Write the events to a file: its name is what `saved_name` gives.
+    /// Print the state of one task or object: its name is what `argument_of` gives.
+    StateOf,
+    /// Take the events of a file: its name is what `argument_of` gives.
+    Load,
+    /// Write the events to a file: its name is what `argument_of` gives.
     Save,
     /// Say which commands there are.
     Help,
@@ -28,17 +33,19 @@ pub enum Command {
 }
 
 /// What is wrong with a line that is no command.
-#[derive(Clone, Copy, Debug, PartialEq, Eq)]
+#[derive(Clone, Copy)]
 pub enum Mistake {
     /// No command begins with its first word.
     Unknown,
     /// Behind `run` there is no number of a processor.
     Processor,
-    /// Behind `int` there is no number of an interrupt, 1 to 32.
+    /// Behind `int` there is neither a number of an interrupt, 1 to 32, nor the name of the body of one handler.
     Interrupt,
-    /// What stands behind `back` is no number from 1 to 2^20.
+    /// What stands behind the processor or the interrupt is not `xK` with K from 1 to 2^20.
+    Times,
+    /// What stands behind `tick` or `back` is no number from 1 to 2^20.
     Count,
-    /// There is no name behind `save`.
+    /// There is no name behind `load` or `save`.
     Name,
     /// Something stands behind a command of one word.
     Alone,
@@ -55,17 +62,6 @@ fn event_of(line: &[u8], processors: u8) -> Option<Event>
     match steps.next_event() {
         Some(_) => None,
         None => Some(event),
-    }
-}
-
-/// The name of a file that stands behind `save ` in a line: it is not empty.
-pub fn saved_name(line: &[u8]) -> Option<&[u8]>
-    ensures { MatchOption result (spec.saved_name line.now ≡ None)
-        (λ name. spec.saved_name line.now ≡ Some name.now) }
-{
-    match line {
-        [b's', b'a', b'v', b'e', b' ', name @ ..] if !name.is_empty() => Some(name),
-        _ => None,
     }
 }
 
@@ -93,16 +89,84 @@ fn rest_of(line: &[u8]) -> Option<&[u8]>
     Some(&line[place + 1..])
 }
 
-/// The command that takes back as many events as a line says, or one.
-fn back_of(line: &[u8]) -> Result<Command, Mistake>
-    ensures { result ≡ spec.back_of (spec.rest_of line.now) }
+/// What stands behind the first word of a line; empty if nothing does.
+pub fn argument_of(line: &[u8]) -> &[u8]
+    ensures { result.now ≡ spec.argument_of line.now }
 {
     match rest_of(line) {
-        Some(text) => match count_in(text) {
-            Some(count) => Ok(Command::Back(count)),
-            None => Err(Mistake::Count),
-        },
-        None => Ok(Command::Back(1)),
+        Some(rest) => rest,
+        None => &[],
+    }
+}
+
+/// How many a line asks for behind its first word.
+fn count_behind(line: &[u8]) -> Option<u32>
+    ensures { result ≡ spec.count_behind (spec.rest_of line.now) }
+{
+    match rest_of(line) {
+        Some(text) => count_in(text),
+        None => Some(1),
+    }
+}
+
+/// How often a text asks for its first word.
+fn times_behind(text: &[u8]) -> Option<u32>
+    ensures { result ≡ spec.times_behind (spec.rest_of text.now) }
+{
+    match rest_of(text) {
+        Some([b'x', digits @ ..]) => count_in(digits),
+        Some(_) => None,
+        None => Some(1),
+    }
+}
+
+/// The command that takes back as many events as a line says, or one.
+fn back_of(line: &[u8]) -> Result<Command, Mistake>
+    ensures { result ≡ spec.back_by (spec.count_behind (spec.rest_of line.now)) }
+{
+    match count_behind(line) {
+        Some(count) => Ok(Command::Back(count)),
+        None => Err(Mistake::Count),
+    }
+}
+
+/// The command of as many ticks as a line says, or of one.
+fn tick_of(line: &[u8]) -> Result<Command, Mistake>
+    ensures { result ≡ spec.tick_by (spec.count_behind (spec.rest_of line.now)) }
+{
+    match count_behind(line) {
+        Some(count) => Ok(Command::Take(Event::Tick, count)),
+        None => Err(Mistake::Count),
+    }
+}
+
+/// The command that takes an event as often as a text says behind its first word.
+fn taken(event: Event, text: &[u8]) -> Result<Command, Mistake>
+    ensures { result ≡ spec.taken event (spec.times_behind (spec.rest_of text.now)) }
+{
+    match times_behind(text) {
+        Some(times) => Ok(Command::Take(event, times)),
+        None => Err(Mistake::Times),
+    }
+}
+
+/// The command of what stands behind `run`: a processor, and how often it runs.
+fn run_of(text: &[u8], processors: u8) -> Result<Command, Mistake>
+    ensures { result ≡ spec.run_of processors text.now }
+{
+    match number_in(word_of(text), processors) {
+        Some(processor) => taken(Event::Run(processor), text),
+        None => Err(Mistake::Processor),
+    }
+}
+
+/// The command of what stands behind `int`: an interrupt, and how often it is raised.
+fn int_of(text: &[u8], interrupts: &[NamedInterrupt]) -> Result<Command, Mistake>
+    ensures { result ≡ spec.int_of interrupts.now text.now }
+{
+    match interrupt_of(interrupts, word_of(text)) {
+        Some(interrupt) => taken(Event::Int(interrupt), text),
+        None => Err(Mistake::Interrupt),
     }
 }
 
@@ -116,35 +180,65 @@ fn alone(command: Command, line: &[u8]) -> Result<Command, Mistake>
     }
 }
 
-/// The command of a line that is neither an event nor a command to save: its first word says which.
-fn by_word(line: &[u8]) -> Result<Command, Mistake>
-    ensures { result ≡ spec.by_word (spec.word_of line.now) (spec.rest_of line.now) }
+/// A command, if a name stands behind it.
+fn named(command: Command, argument: &[u8]) -> Result<Command, Mistake>
+    ensures { result ≡ spec.named command argument.now }
+{
+    match argument {
+        [] => Err(Mistake::Name),
+        _ => Ok(command),
+    }
+}
+
+/// The command of a line that begins with `state`.
+fn state_of(line: &[u8]) -> Result<Command, Mistake>
+    ensures { result ≡ spec.state_of (spec.rest_of line.now) }
+{
+    match rest_of(line) {
+        Some(_) => Ok(Command::StateOf),
+        None => Ok(Command::State),
+    }
+}
+
+/// The command of a line that is no event of a steps text: its first word says which.
+fn by_word(line: &[u8], processors: u8, interrupts: &[NamedInterrupt]) -> Result<Command, Mistake>
+    ensures { result ≡ spec.by_word processors interrupts.now (spec.word_of line.now) (spec.rest_of line.now) }
 {
     match word_of(line) {
         b"" => alone(Command::Skip, line),
+        b"run" => run_of(argument_of(line), processors),
+        b"tick" => tick_of(line),
+        b"int" => int_of(argument_of(line), interrupts),
         b"back" => back_of(line),
         b"why" => alone(Command::Why, line),
-        b"state" => alone(Command::State, line),
+        b"state" => state_of(line),
+        b"load" => named(Command::Load, argument_of(line)),
+        b"save" => named(Command::Save, argument_of(line)),
         b"help" => alone(Command::Help, line),
         b"quit" => alone(Command::Quit, line),
-        b"run" => Err(Mistake::Processor),
-        b"int" => Err(Mistake::Interrupt),
-        b"save" => Err(Mistake::Name),
-        b"tick" => Err(Mistake::Alone),
         _ => Err(Mistake::Unknown),
     }
 }
 
-/// The command of a line, without its line feed and the blanks at its ends, in a system with this many processors: a
-/// step, as in a steps text; `back`, or `back N` with N from 1 to 2^20; `why`, `state`, `help`, `quit`; or `save FILE`.
-pub fn command_of(line: &[u8], processors: u8) -> Result<Command, Mistake>
-    ensures { result ≡ spec.command_of processors line.now }
+/// The command of a line, without its line feed and the blanks at its ends, in a system with this many processors and
+/// these interrupts. It is one of:
+///
+/// - a line of a steps text
+/// - `run P xK`; `tick K`; `int N xK`, where `xK` may be left out and N may be the name of the body of one handler
+/// - `back`, `back K`
+/// - `why`, `state`, `help`, `quit`
+/// - `state NAME`, `load FILE`, `save FILE`
+///
+/// Each K is a number from 1 to 2^20.
+pub fn command_of(
+    line: &[u8],
+    processors: u8,
+    interrupts: &[NamedInterrupt],
+) -> Result<Command, Mistake>
+    ensures { result ≡ spec.command_of processors interrupts.now line.now }
 {
-    if let Some(event) = event_of(line, processors) {
-        return Ok(Command::Take(event));
-    }
-    match saved_name(line) {
-        Some(_) => Ok(Command::Save),
-        None => by_word(line),
+    match event_of(line, processors) {
+        Some(event) => Ok(Command::Take(event, 1)),
+        None => by_word(line, processors, interrupts),
     }
 }

@@ -1,12 +1,16 @@
 //! A session: events that a system takes one by one, and that are taken back; and the commands that ask for it.
 #![tactic(auto)]
 
+mod answers;
 mod command;
+mod interrupts;
 mod numbers;
 mod replaying;
 mod session;
 mod telling;
 
-pub use command::{Command, Mistake, command_of, saved_name, word_of};
+pub use answers::{answer_line, failure_line, note, object_record};
+pub use command::{Command, Mistake, argument_of, command_of, word_of};
+pub use interrupts::NamedInterrupt;
 pub use session::{Session, Taken};
 pub use telling::{append_kept, append_nothing};

@@ -1,7 +1,7 @@
 //! Numbers in decimal digits.
 ghost use Rattle.std.specs.Prelude.{◌≡◌};
 ghost use Rattle.fmp_steps.specs.Steps.{digits_number, numeral_value};
-ghost use Rattle.fmp_session.specs.Commands.{capped, count_of};
+ghost use Rattle.fmp_session.specs.Commands.{capped, count_of, number_of};
 
 /// The greatest number of events, 2^20.
 const MOST: u32 = 1 << 20;
@@ -38,6 +38,18 @@ pub fn count_in(text: &[u8]) -> Option<u32>
     let number = numeral_in(text)?;
     if number >= 1 && number <= MOST {
         Some(number)
+    } else {
+        None
+    }
+}
+
+/// The number from 1 to `most` that a text spells.
+pub fn number_in(text: &[u8], most: u8) -> Option<u8>
+    ensures { result ≡ number_of most text.now }
+{
+    let number = count_in(text)?;
+    if number <= u32::from(most) {
+        Some(number as u8)
     } else {
         None
     }

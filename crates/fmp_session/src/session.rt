@@ -3,7 +3,7 @@ ghost use Rattle.std.specs.Prelude.{◌≡◌, ◌≤◌, ◌^◌, ◌-◌, ◌+
 ghost use Rattle.fmp_drive.specs.NextRuns.{AreNext};
 ghost use Rattle.fmp_instructions.specs.Machine.{code_meaning};
 ghost use Rattle.fmp_steps.specs.Steps.{steps_text};
-ghost use Rattle.fmp_session.specs.Sessions.{IsSession, IsTakenAs, lines_now, with_event};
+ghost use Rattle.fmp_session.specs.Sessions.{IsSession, IsTakenAs, lines_now, records_now, with_event};
 
 use crate::replaying::kernel_over;
 use fmp_base::{Effect, Event};
@@ -11,7 +11,7 @@ use fmp_code::Vm;
 use fmp_drive::{NextRun, next_runs};
 use fmp_image_bytes::Image;
 use fmp_kernel::Kernel;
-use fmp_named::append_lines;
+use fmp_named::{append_lines, append_records};
 use fmp_replay::kernel_of;
 use fmp_trace::print_steps;
 use std::alloc::{AllocError, Global};
@@ -21,7 +21,7 @@ use std::mem;
 const MOST: u32 = 1 << 20;
 
 /// What an event came to.
-#[derive(Clone, Copy, Debug, PartialEq, Eq)]
+#[derive(Clone, Copy)]
 pub enum Taken {
     /// It was done: its lines are those of the kernel.
     Done,
@@ -151,6 +151,20 @@ impl<'a> Session<'a> {
         ensures { OnOk result (out.new.items ≡ out.old.items ++ lines_now self.now.kernel) }
     {
         append_lines(
+            self.image.system(),
+            self.kernel.done(),
+            self.kernel.lines(),
+            out,
+        )
+    }
+
+    /// The same as objects of JSON, each in a line.
+    pub fn append_last_records(&self, alloc: Global, out: &mut Vec<u8>) -> Result<(), AllocError>
+        requires { IsSession self.now }
+        ensures { OnOk result (out.new.items ≡ out.old.items ++ records_now self.now.kernel) }
+    {
+        append_records(
+            alloc,
             self.image.system(),
             self.kernel.done(),
             self.kernel.lines(),

@@ -1,15 +1,36 @@
--- What a session prints of its kernel.
-use Rattle.std.specs.Prelude.{ℕ, List, length}
+-- What a session tells of its kernel, and what it leaves.
+use Rattle.std.specs.Prelude.{ℕ, ◌≡◌, List, length}
 use Rattle.fmp_base.specs.Runs.{task_state}
 use Rattle.fmp_base.specs.States.{task_at}
 use Rattle.fmp_frames.specs.Frames.{each}
 use Rattle.fmp_instructions.specs.declared.instructions.MachineContext.{MachineContext}
 use Rattle.fmp_instructions.specs.Instructions.{BodyTables}
 use Rattle.fmp_kernel.specs.KernelViews.{KernelView}
+use Rattle.fmp_named.specs.Records.{state_records}
 use Rattle.fmp_named.specs.States.{named_states}
+use Rattle.fmp_session.specs.declared.session.Session.{Session}
+use Rattle.fmp_session.specs.Sessions.{lines_now, records_now}
+use Rattle.fmp_view.specs.declared.answering.Answer.{Answer}
+use Rattle.fmp_view.specs.declared.answering.Answer.TheVariants as answer
+use Rattle.fmp_view.specs.declared.faults.Form.{Form}
+use Rattle.fmp_view.specs.declared.faults.Form.TheVariants as form
 
--- the states of the tasks of a kernel, with names
-abbrev pub states_now : KernelView (List BodyTables) MachineContext → List ℕ
-states_now k =
+-- the lines of the last event, or the objects of JSON
+abbrev pub first_text_of : Form → KernelView (List BodyTables) MachineContext → List ℕ
+first_text_of form.Text k = lines_now k
+first_text_of form.Json k = records_now k
+
+-- the states of the tasks of a kernel, with names, as lines or as objects of JSON
+abbrev pub states_text_of : Form → KernelView (List BodyTables) MachineContext → List ℕ
+states_text_of form.Text k =
     named_states k.system 0 (each (task_state k.world.state) (length k.system.tasks))
     (each (task_at k.world.state.tasks) (length k.system.tasks))
+states_text_of form.Json k =
+    state_records k.system 0 (each (task_state k.world.state) (length k.system.tasks))
+    (each (task_at k.world.state.tasks) (length k.system.tasks))
+
+-- a line that fails leaves the events of the session as they were
+abbrev pub Leaves : (before after : Session) → Answer → Type 0
+Leaves before after (answer.Told text) = Unit {0}
+Leaves before after (answer.Refused reason) = after.events.items ≡ before.events.items
+Leaves before after (answer.NoFile failure) = after.events.items ≡ before.events.items

@@ -115,8 +115,8 @@ pub enum Asked<'a> {
     Recorded(Run<'a>, Form),
     /// Print the table of the calls of a recorded run of a system.
     Calls(Run<'a>),
-    /// Take events of standard input on the system of the texts of these files, with this bound, 1 to 2^48.
-    Step(FileNames<'a>, u64),
+    /// Take commands of standard input on the system of the texts of these files, with this bound, 1 to 2^48.
+    Step(FileNames<'a>, Form, u64),
     /// Print steps of an image: at most `events`, 0 to 2^20, in turn or at random.
     Drive {
         image: &'a str,
@@ -290,7 +290,7 @@ fn look_of<'m>(name: &str, words: &'m ArgMatches<'_>) -> Asked<'m> {
         "import" => Asked::Import(importing_of(words)),
         "fault" => Asked::Fault(names_of(words), form_of(words)),
         "run" => run_asked(words),
-        "step" => Asked::Step(names_of(words), bound_of(words)),
+        "step" => Asked::Step(names_of(words), form_of(words), bound_of(words)),
         "drive" => Asked::Drive {
             image: word_of(words, "IMAGE"),
             events: word32_of(words, "events").unwrap_or(0),

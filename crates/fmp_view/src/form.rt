@@ -28,7 +28,8 @@ Status, and the line on standard error with it:
   0        done; help or the version was asked for
   1        a fault of what was read: 'image: L2', 'steps:4: S1',
            'expect:3: expected ..'; with 'fault', 'run', 'step' and 'export',
-           which print it on standard output, a fault of the texts or steps, and not for warnings
+           which print it on standard output, a fault of the texts or steps, and not for warnings;
+           with 'step', a line that failed, unless standard input is a terminal
   2        a mistake in the command line; a word that is no code; OUT is a file that is read, or steps
            or a file of DIR are; a picture that begins behind the last event, or has more than 40,000,000 bytes
   3        'file: NAME', a file could not be read or written ('-' is standard output, 'stdin' standard input);
@@ -85,15 +86,16 @@ const EXPECT: &str = "Text of expectations, one a line, with comments from # on:
 
 /// The commands of a session.
 const LINES: &str = "Commands, one a line of standard input:
-  run P      processor P goes on, to its next service call
-  tick       the clock advances
-  int N      interrupt N is raised
-  back [K]   the last event is taken back, or the last K
-  why        what each task waits or spins for, as 'fmp_view why' says it
-  state      the states of the tasks
-  save FILE  the events that did something, as steps for 'fmp sim' with the same bound
-  help       these lines
-  quit       the end, as the end of the input is
+  run P [xK]   processor P goes on, to its next service call; K times, or until it does nothing
+  tick [K]     the clock advances, K times
+  int N [xK]   interrupt N is raised; N may be the body of its handler
+  back [K]     the last event is taken back, or the last K
+  why          what each task waits or spins for, as 'fmp_view why' says it
+  state [X]    the states of the tasks, or that of the task or object X
+  load FILE    the events of a steps text
+  save FILE    the events that did something, as steps for 'fmp sim' with the same bound
+  help         these lines
+  quit         the end, as the end of the input is
 
 Example: fmp_view step examples/queue.cfg examples/queue.src";
 
@@ -301,7 +303,7 @@ static RUN: Form = Form {
 static STEP: Form = Form {
     name: "step",
     about: "Takes events one by one as they are typed, and tells what each of them does",
-    arguments: &[CFG, SRC, BOUNDED],
+    arguments: &[CFG, SRC, JSON, BOUNDED],
     example: LINES,
 };
 

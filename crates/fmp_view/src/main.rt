@@ -6,6 +6,7 @@
 //! was asked to compare, or a run fails an expectation.
 #![tactic(auto)]
 
+mod answering;
 mod asking;
 mod built;
 mod calling;
@@ -25,6 +26,7 @@ mod form;
 mod given;
 mod importing;
 mod looking;
+mod mistakes;
 mod open_image;
 mod open_system;
 mod opened;
@@ -34,6 +36,8 @@ mod reading;
 mod recording;
 mod running;
 mod searching;
+mod session_files;
+mod session_objects;
 mod sources;
 mod stepping;
 mod stuck;

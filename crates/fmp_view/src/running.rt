@@ -29,7 +29,7 @@ use clap::ArgMatches;
 use fmp_engine::SimFault;
 use fmp_files::{Failure, Outside, end, print, read_file, refuse, refuse_mistake, write_file};
 use std::alloc::{AllocError, Global};
-use std::io::Input;
+use std::io::{Input, IsTerminal};
 use std::rt::Files;
 
 /// What was made of files, or the fault of what was read.
@@ -295,12 +295,15 @@ fn look_at<O: Outside, R: Input + Files>(
     outside: &mut O,
     rt: &R,
     asked: Asked<'_>,
-) -> u8 {
+) -> u8
+where
+    R::Reader: IsTerminal,
+{
     match asked {
         Asked::Export(exporting) => run_export(alloc, outside, rt, exporting),
         Asked::Target(targeting) => run_target(alloc, outside, rt, targeting),
         Asked::Import(importing) => run_import(alloc, outside, importing),
-        Asked::Step(names, bound) => run_step(alloc, outside, rt, names, bound),
+        Asked::Step(names, form, bound) => run_step(alloc, outside, rt, names, form, bound),
         Asked::Code(word) => say_code(alloc, outside, word),
         Asked::Fault(names, form) => print_fault(alloc, outside, names, form),
         Asked::Run(names, run) => run_texts(alloc, outside, names, run),
@@ -323,6 +326,8 @@ fn look_at<O: Outside, R: Input + Files>(
 
 /// Does what a command asks for, and gives the status.
 fn obey<O: Outside, R: Input + Files>(alloc: Global, outside: &mut O, rt: &R, cmd: Cmd<'_>) -> u8
+where
+    R::Reader: IsTerminal,
     ensures { (rows : List Row) → AsksToExplore rows cmd.entry → result ≡ 0 →
         HoldsOfWords (O.files outside.old) rows (O.done outside.new) }
 {
@@ -339,6 +344,8 @@ fn carry_out<O: Outside, R: Input + Files>(
     rt: &R,
     words: &ArgMatches<'_>,
 ) -> u8
+where
+    R::Reader: IsTerminal,
     ensures { (rows : List Row) → subcommand_rows_of words.now ≡ Some (codes "explore", rows) → result ≡ 0 →
         HoldsOfWords (O.files outside.old) rows (O.done outside.new) }
 {
@@ -355,7 +362,10 @@ pub fn run<O: Outside, R: Input + Files>(
     outside: &mut O,
     rt: &R,
     words: &[String],
-) -> u8 {
+) -> u8
+where
+    R::Reader: IsTerminal,
+{
     match parsed(alloc, words) {
         Ok(words) => carry_out(alloc, outside, rt, &words),
         Err(error) => refuse(alloc, outside, &error),

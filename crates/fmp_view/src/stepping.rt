@@ -1,288 +1,128 @@
-//! A session over the system of two texts: events that are typed one by one, what each of them does, and back again.
+//! A session over the system of two texts: commands that are typed or sent one by one, and what each of them answers.
 ghost use Rattle.std.specs.Prelude.{◌≡◌, IfOk};
-ghost use Rattle.fmp_session.specs.Sessions.{IsSession, lines_now};
-ghost use Rattle.fmp_view.specs.Stepped.{states_now};
+ghost use Rattle.fmp_session.specs.Sessions.{IsSession};
+ghost use Rattle.fmp_view.specs.Stepped.{first_text_of};
 
-use crate::faults::FileNames;
-use crate::open_image::OpenImage;
+use crate::answering::{Answer, Stepping, answer_of};
+use crate::faults::Form;
+use crate::mistakes::mistake_text;
 use crate::ranges::kept_bound;
-use crate::why::why_of;
-use fmp_base::{Event, Name};
-use fmp_diagnosis::nearest;
-use fmp_files::{Failure, Outside, end, failed, print, write_file};
-use fmp_frames::last_frame;
+use fmp_files::{Failure, Outside, end, failed, print};
 use fmp_image_bytes::Image;
-use fmp_named::append_states;
-use fmp_session::{
-    Command, Mistake, Session, Taken, append_kept, append_nothing, command_of, saved_name, word_of,
-};
-use fmp_trace::print_steps;
+use fmp_session::{Command, Session, answer_line, command_of, failure_line};
 use std::alloc::{AllocError, Global};
 use std::io::{BufRead, BufReader, ErrorKind, Input};
 
-/// The commands, as `help` prints them.
-pub const COMMANDS: &str = "run P      processor P goes on, to its next service call
-tick       the clock advances
-int N      interrupt N is raised
-back [K]   the last event is taken back, or the last K
-why        what each task waits or spins for
-state      the states of the tasks
-save FILE  the events that did something, as steps for 'fmp sim' with the same bound
-help       these lines
-quit       the end, as the end of the input is
-";
+/// The status at the end of a session over standard input that is no terminal, where a line failed.
+const LINE_FAILED: u8 = 1;
 
-/// The words that commands begin with.
-const WORDS: [&str; 9] = [
-    "run", "tick", "int", "back", "why", "state", "save", "help", "quit",
-];
-
-/// What is said where a session has as many events as it may have.
-const FULL: &[u8] = b"nothing: a session has at most 1048576 events\n";
-
-/// What is said where there is nothing to take back.
-const NONE_LEFT: &[u8] = b"nothing: there is no event to take back\n";
-
-/// Takes an event, and gives what is told of it.
-fn taken_text(alloc: Global, session: &mut Session<'_>, e: Event) -> Result<Vec<u8>, AllocError>
-    requires { IsSession session.old }
-    ensures { IsSession session.new }
-{
-    let mut out = Vec::new(alloc);
-    match session.take(e)? {
-        Taken::Done => session.append_last(&mut out)?,
-        Taken::Kept => append_kept(e, &mut out)?,
-        Taken::Nothing => {
-            append_nothing(session.image().system(), e, &session.next_runs(), &mut out)?;
-        }
-        Taken::Full => out.extend_from_slice(FULL)?,
-    }
-    Ok(out)
-}
-
-/// What is told of events that are taken back, the last one first.
-fn back_lines(alloc: Global, events: &[Event]) -> Result<Vec<u8>, AllocError> {
-    let mut out = Vec::new(alloc);
-    for e in events.iter().rev() {
-        out.extend_from_slice(b"taken back: ")?;
-        print_steps(&[*e], &mut out)?;
-    }
-    Ok(out)
-}
-
-/// Takes the last events back, and gives what is told of them.
-fn back_text(alloc: Global, session: &mut Session<'_>, count: u32) -> Result<Vec<u8>, AllocError>
-    requires { IsSession session.old }
-    ensures { IsSession session.new }
-{
-    let events = session.events();
-    let left = events.len().saturating_sub(count as usize);
-    if left == events.len() {
-        return Vec::from_slice(alloc, NONE_LEFT);
-    }
-    let out = back_lines(alloc, &events[left..])?;
-    session.back(alloc, count as usize)?;
-    Ok(out)
-}
-
-/// The states of the tasks.
-fn states_text(alloc: Global, session: &Session<'_>) -> Result<Vec<u8>, AllocError>
-    requires { IsSession session.now }
-    ensures { IfOk result (λ out. out.items ≡ states_now session.now.kernel) }
-{
-    let image = session.image();
-    let frame = last_frame(alloc, session.kernel(), &image.vm(), session.bound())?;
-    let mut out = Vec::new(alloc);
-    let told = append_states(image.system(), &frame.states, &frame.blocks, &mut out);
-    drop(frame);
-    told?;
-    Ok(out)
-}
-
-/// The lines of setup, with which a session begins.
-fn first_text(alloc: Global, session: &Session<'_>) -> Result<Vec<u8>, AllocError>
-    requires { IsSession session.now }
-    ensures { IfOk result (λ out. out.items ≡ lines_now session.now.kernel) }
-{
-    let mut out = Vec::new(alloc);
-    session.append_last(&mut out)?;
-    Ok(out)
-}
-
-/// What each task waits or spins for.
-fn why_text(alloc: Global, session: &Session<'_>) -> Result<Vec<u8>, AllocError>
-    requires { IsSession session.now }
-{
-    let opened = OpenImage::new(session.image(), session.bound());
-    why_of(alloc, &opened, session.events())
-}
-
-/// Carries out a command that reaches nothing outside, and gives what is printed of it.
-fn told(alloc: Global, session: &mut Session<'_>, command: Command) -> Result<Vec<u8>, AllocError>
-    requires { IsSession session.old }
-    ensures { IsSession session.new }
-{
-    match command {
-        Command::Take(e) => taken_text(alloc, session, e),
-        Command::Back(count) => back_text(alloc, session, count),
-        Command::Why => why_text(alloc, session),
-        Command::State => states_text(alloc, session),
-        Command::Help => Vec::from_slice(alloc, COMMANDS.as_bytes()),
-        Command::Save | Command::Quit | Command::Skip => Ok(Vec::new(alloc)),
-    }
-}
-
-/// The names of the commands.
-fn known_words(alloc: Global) -> Result<Vec<Name>, AllocError> {
-    let mut known = Vec::new(alloc);
-    for word in WORDS {
-        if let Some(name) = Name::new(word.as_bytes()) {
-            known.push(name)?;
-        }
-    }
-    Ok(known)
-}
-
-/// The nearest word that a command begins with, if one is near.
-fn meant(alloc: Global, name: &Name) -> Result<Option<&'static str>, AllocError> {
-    let known = known_words(alloc)?;
-    match nearest(alloc, name, &known)? {
-        Some(place) => Ok(WORDS.get(place).copied()),
-        None => Ok(None),
-    }
-}
-
-/// What is said of a word that no command begins with, and of the nearest one that a command does begin with.
-fn unknown_text(alloc: Global, word: &[u8]) -> Result<String, AllocError> {
-    let Some(name) = Name::new(word) else {
-        return String::from_str(alloc, "no command begins so");
-    };
-    let word = String::from_utf8_lossy(alloc, word)?;
-    match meant(alloc, &name)? {
-        Some(meant) => format!(in alloc; "`{word}` is no command; did you mean `{meant}`?"),
-        None => format!(in alloc; "`{word}` is no command; `help` prints them"),
-    }
-}
-
-/// What is said of a line that is no command.
-fn mistake_text(
-    alloc: Global,
-    mistake: Mistake,
-    line: &[u8],
-    processors: u8,
-) -> Result<String, AllocError> {
-    match mistake {
-        Mistake::Unknown => unknown_text(alloc, word_of(line)),
-        Mistake::Processor => {
-            format!(in alloc; "`run` wants the number of a processor, 1 to {processors}")
-        }
-        Mistake::Interrupt => {
-            String::from_str(alloc, "`int` wants the number of an interrupt, 1 to 32")
-        }
-        Mistake::Count => String::from_str(
-            alloc,
-            "`back` wants how many events, 1 to 1048576, or nothing",
-        ),
-        Mistake::Name => String::from_str(alloc, "`save` wants the name of a file"),
-        Mistake::Alone => {
-            let word = String::from_utf8_lossy(alloc, word_of(line))?;
-            format!(in alloc; "nothing stands behind `{word}`")
-        }
-    }
-}
-
-/// Says what is wrong with the line of this number.
-fn say_mistake<O: Outside>(
-    alloc: Global,
-    outside: &mut O,
-    number: u32,
-    text: Result<String, AllocError>,
-) -> u8 {
-    match text {
-        Ok(text) => {
-            outside.say(format_args!("line {number}: {text}\n"));
-            0
-        }
-        Err(error) => end(outside, &Failure::Memory(error)),
-    }
-}
-
-/// Prints what was told, and gives the status.
-fn print_told<O: Outside>(alloc: Global, outside: &mut O, text: Result<Vec<u8>, AllocError>) -> u8 {
-    match text {
-        Ok(text) => print(alloc, outside, &text),
-        Err(error) => end(outside, &Failure::Memory(error)),
-    }
-}
+/// The status at the end of a session where a file could not be read or written.
+const FILE_FAILED: u8 = 3;
 
 /// What comes after a line of a session.
 #[derive(Clone, Copy)]
 enum Next {
     /// The next line.
     Line,
-    /// The next line; a file could not be written.
-    Failed,
+    /// The next line; the session does not end with a status below this one.
+    Failed(u8),
     /// The end, with this status.
     End(u8),
 }
 
-/// What comes after a line that ended with this status.
-fn next_after(status: u8) -> Next {
+/// What comes after a line that ended with this status, where it would be this.
+fn next_after(status: u8, next: Next) -> Next {
     match status {
-        0 => Next::Line,
+        0 => next,
         status => Next::End(status),
     }
 }
 
-/// Writes a file, and says so.
-fn write_named<O: Outside>(alloc: Global, outside: &mut O, name: &str, text: &[u8]) -> Next {
-    match write_file(alloc, outside, name, text) {
-        Ok(()) => {
-            let line = format!(in alloc; "saved: {name}\n");
-            next_after(print_told(alloc, outside, line.map(|line| line.into_bytes())))
-        }
-        Err(Failure::Memory(error)) => Next::End(end(outside, &Failure::Memory(error))),
-        Err(failure) => {
-            end(outside, &failure);
-            Next::Failed
-        }
+/// Prints an answer, and gives the status.
+fn print_answer<O: Outside>(
+    alloc: Global,
+    outside: &mut O,
+    answer: Result<Vec<u8>, AllocError>,
+) -> u8 {
+    match answer {
+        Ok(text) => print(alloc, outside, &text),
+        Err(error) => end(outside, &Failure::Memory(error)),
     }
 }
 
-/// Writes the events of a session to the file of this name, which is none of those that are read.
-fn save_as<O: Outside>(
+/// Prints what a line has told, in a session of this many events.
+fn print_told<O: Outside>(
     alloc: Global,
     outside: &mut O,
-    session: &Session<'_>,
-    names: FileNames<'_>,
-    name: &str,
-    number: u32,
-) -> Next {
-    if outside.is_one_file(name, names.cfg) || outside.is_one_file(name, names.src) {
-        let text = String::from_str(alloc, "the file is one of the two that are read");
-        return next_after(say_mistake(alloc, outside, number, text));
+    form: Form,
+    events: usize,
+    told: Vec<u8>,
+) -> u8 {
+    match form {
+        Form::Text => print(alloc, outside, &told),
+        Form::Json => print_answer(alloc, outside, answer_line(alloc, events, told)),
     }
-    match session.steps(alloc) {
-        Ok(text) => write_named(alloc, outside, name, &text),
+}
+
+/// Says why the line of this number failed, in a session of this many events.
+fn say_failed<O: Outside>(
+    alloc: Global,
+    outside: &mut O,
+    form: Form,
+    (number, events): (u32, usize),
+    reason: &str,
+) -> u8 {
+    match form {
+        Form::Text => {
+            outside.say(format_args!("line {number}: {reason}\n"));
+            0
+        }
+        Form::Json => print_answer(alloc, outside, failure_line(alloc, events, reason)),
+    }
+}
+
+/// Says which file could not be read or written, in a session of this many events.
+fn say_file<O: Outside>(
+    alloc: Global,
+    outside: &mut O,
+    form: Form,
+    events: usize,
+    failure: &Failure,
+) -> u8 {
+    match form {
+        Form::Text => {
+            end(outside, failure);
+            0
+        }
+        Form::Json => match format!(in alloc; "{failure}") {
+            Ok(reason) => print_answer(alloc, outside, failure_line(alloc, events, &reason)),
+            Err(error) => end(outside, &Failure::Memory(error)),
+        },
+    }
+}
+
+/// Answers the line of this number, in a session of this many events, and gives what comes after it.
+fn give_answer<O: Outside>(
+    alloc: Global,
+    outside: &mut O,
+    form: Form,
+    (number, events): (u32, usize),
+    answer: Result<Answer, AllocError>,
+) -> Next {
+    match answer {
+        Ok(Answer::Told(told)) => next_after(
+            print_told(alloc, outside, form, events, told),
+            Next::Line,
+        ),
+        Ok(Answer::Refused(reason)) => next_after(
+            say_failed(alloc, outside, form, (number, events), &reason),
+            Next::Failed(LINE_FAILED),
+        ),
+        Ok(Answer::NoFile(failure)) => next_after(
+            say_file(alloc, outside, form, events, &failure),
+            Next::Failed(FILE_FAILED),
+        ),
         Err(error) => Next::End(end(outside, &Failure::Memory(error))),
-    }
-}
-
-/// Writes the events of a session to the file that a line names.
-fn save<O: Outside>(
-    alloc: Global,
-    outside: &mut O,
-    session: &Session<'_>,
-    names: FileNames<'_>,
-    line: &[u8],
-    number: u32,
-) -> Next {
-    match str::from_utf8(saved_name(line).unwrap_or(b"")) {
-        Ok(name) => save_as(alloc, outside, session, names, name, number),
-        Err(_) => {
-            let text = String::from_str(alloc, "the name is not UTF-8");
-            next_after(say_mistake(alloc, outside, number, text))
-        }
     }
 }
 
@@ -291,7 +131,7 @@ fn carry_out_line<O: Outside>(
     alloc: Global,
     outside: &mut O,
     session: &mut Session<'_>,
-    names: FileNames<'_>,
+    stepping: Stepping<'_>,
     line: &[u8],
     number: u32,
 ) -> Next
@@ -299,18 +139,16 @@ fn carry_out_line<O: Outside>(
     ensures { IsSession session.new }
 {
     let processors = session.image().system().processors;
-    match command_of(line, processors) {
-        Ok(Command::Quit) => Next::End(0),
-        Ok(Command::Save) => save(alloc, outside, session, names, line, number),
-        Ok(command) => {
-            let text = told(alloc, session, command);
-            next_after(print_told(alloc, outside, text))
-        }
-        Err(mistake) => {
-            let text = mistake_text(alloc, mistake, line, processors);
-            next_after(say_mistake(alloc, outside, number, text))
-        }
-    }
+    let answer = match command_of(line, processors, stepping.interrupts) {
+        Ok(Command::Quit) => return Next::End(0),
+        Ok(command) => answer_of(alloc, outside, session, stepping, command, line),
+        Err(mistake) => match mistake_text(alloc, mistake, line, processors) {
+            Ok(reason) => Ok(Answer::Refused(reason)),
+            Err(error) => Err(error),
+        },
+    };
+    let events = session.events().len();
+    give_answer(alloc, outside, stepping.form, (number, events), answer)
 }
 
 /// The next line of the input with its line feed, which the last may lack; nothing at its end.
@@ -323,32 +161,63 @@ fn next_line<I: BufRead>(alloc: Global, input: &mut I) -> Result<Vec<u8>, Failur
     }
 }
 
-/// Carries out the lines of the input, one after the other, and gives the status.
+/// The status of a session that ends, where lines have failed with this one at most. On a terminal only files count.
+fn status_of(terminal: bool, worst: u8) -> u8 {
+    if terminal && worst == LINE_FAILED {
+        0
+    } else {
+        worst
+    }
+}
+
+/// Carries out the lines of the input, one after the other, and gives the status. On a terminal it asks for each.
 fn carry_out_lines<O: Outside, I: BufRead>(
     alloc: Global,
     outside: &mut O,
     input: &mut I,
     session: &mut Session<'_>,
-    names: FileNames<'_>,
+    stepping: Stepping<'_>,
 ) -> u8
     requires { IsSession session.old }
 {
-    let mut status = 0;
+    let mut worst = 0;
     for number in 1..u32::MAX {
+        ask(outside, stepping, "> ");
         let line = match next_line(alloc, input) {
             Ok(line) => line,
             Err(failure) => return end(outside, &failure),
         };
         if line.is_empty() {
-            return status;
+            ask(outside, stepping, "\n");
+            return status_of(stepping.terminal, worst);
         }
-        match carry_out_line(alloc, outside, session, names, line.trim_ascii(), number) {
+        match carry_out_line(alloc, outside, session, stepping, line.trim_ascii(), number) {
             Next::Line => {}
-            Next::Failed => status = 3,
-            Next::End(last) => return last.max(status),
+            Next::Failed(status) => worst = worst.max(status),
+            Next::End(last) => return last.max(status_of(stepping.terminal, worst)),
         }
     }
-    status
+    status_of(stepping.terminal, worst)
+}
+
+/// Says a text for the person at a terminal, on standard error.
+fn ask<O: Outside>(outside: &mut O, stepping: Stepping<'_>, text: &'static str) {
+    if stepping.terminal && matches!(stepping.form, Form::Text) {
+        outside.say(text);
+    }
+}
+
+/// The lines of setup, with which a session begins.
+fn first_text(alloc: Global, session: &Session<'_>, form: Form) -> Result<Vec<u8>, AllocError>
+    requires { IsSession session.now }
+    ensures { IfOk result (λ out. out.items ≡ first_text_of form session.now.kernel) }
+{
+    let mut out = Vec::new(alloc);
+    match form {
+        Form::Text => session.append_last(&mut out)?,
+        Form::Json => session.append_last_records(alloc, &mut out)?,
+    }
+    Ok(out)
 }
 
 /// A session from its first lines on, which are those of setup.
@@ -357,13 +226,16 @@ fn begin<O: Outside, I: BufRead>(
     outside: &mut O,
     input: &mut I,
     session: &mut Session<'_>,
-    names: FileNames<'_>,
+    stepping: Stepping<'_>,
 ) -> u8
     requires { IsSession session.old }
 {
-    let text = first_text(alloc, session);
-    match print_told(alloc, outside, text) {
-        0 => carry_out_lines(alloc, outside, input, session, names),
+    let text = match first_text(alloc, session, stepping.form) {
+        Ok(text) => text,
+        Err(error) => return end(outside, &Failure::Memory(error)),
+    };
+    match print_told(alloc, outside, stepping.form, 0, text) {
+        0 => carry_out_lines(alloc, outside, input, session, stepping),
         status => status,
     }
 }
@@ -375,11 +247,11 @@ fn session_over<O: Outside, I: BufRead>(
     outside: &mut O,
     input: &mut I,
     image: &Image,
-    names: FileNames<'_>,
+    stepping: Stepping<'_>,
     bound: u64,
 ) -> Result<u8, AllocError> {
     let mut session = Session::new(alloc, image, kept_bound(bound))?;
-    let status = begin(alloc, outside, input, &mut session, names);
+    let status = begin(alloc, outside, input, &mut session, stepping);
     drop(session);
     Ok(status)
 }
@@ -390,11 +262,11 @@ pub fn step_image<O: Outside, R: Input>(
     outside: &mut O,
     rt: &R,
     image: &Image,
-    names: FileNames<'_>,
+    stepping: Stepping<'_>,
     bound: u64,
 ) -> Result<u8, AllocError> {
     match BufReader::new(alloc, rt.reader()) {
-        Ok(mut input) => session_over(alloc, outside, &mut input, image, names, bound),
+        Ok(mut input) => session_over(alloc, outside, &mut input, image, stepping, bound),
         Err(_) => Err(AllocError),
     }
 }

@@ -1,15 +1,20 @@
 //! The commands over the two texts of a system: its fault, a run of it, and a session.
+use crate::answering::Stepping;
 use crate::built::{NoTrace, Running, Traced, traced_texts};
 use crate::faults::{FileNames, Form, Shown, shown_fault};
 use crate::reading::{read_both, read_named};
 use crate::stepping::step_image;
 use crate::telling::print_run;
+use fmp_base::{Entry, System};
+use fmp_cfgparse::read_cfg;
 use fmp_diagnosis::Texts;
 use fmp_files::{Failure, Outside, end, print, read_file};
 use fmp_image::build;
 use fmp_image_bytes::Image;
+use fmp_lex::BuildFault;
+use fmp_session::NamedInterrupt;
 use std::alloc::{AllocError, Global};
-use std::io::Input;
+use std::io::{Input, IsTerminal};
 
 /// What is shown of two texts, and of the steps of a file if there are steps.
 fn shown_over<O: Outside>(
@@ -96,50 +101,94 @@ pub fn run_texts<O: Outside>(
     }
 }
 
-/// Takes events of standard input on an image, and gives the status.
+/// The interrupts of a configuration that have handlers, with the names of the bodies of these.
+fn interrupts_of(alloc: Global, sys: &System) -> Result<Vec<NamedInterrupt>, AllocError> {
+    let mut named = Vec::new(alloc);
+    for interrupt in &sys.interrupts {
+        if let Entry::Named(body) = interrupt.entry {
+            let number = interrupt.number;
+            named.push(NamedInterrupt { number, body })?;
+        }
+    }
+    Ok(named)
+}
+
+/// The interrupts of the text of a configuration that have handlers; none where the text has a fault. `AllocError` if
+/// memory runs out.
+fn interrupts_in(alloc: Global, cfg: &[u8]) -> Result<Vec<NamedInterrupt>, AllocError> {
+    match read_cfg(alloc, cfg) {
+        Ok(sys) => {
+            let named = interrupts_of(alloc, &sys);
+            drop(sys);
+            named
+        }
+        Err(BuildFault::Memory) => Err(AllocError),
+        Err(_) => Ok(Vec::new(alloc)),
+    }
+}
+
+/// Takes commands of standard input on an image whose configuration this is, and gives the status.
 fn step_status<O: Outside, R: Input>(
     alloc: Global,
     outside: &mut O,
     rt: &R,
-    image: &Image,
-    names: FileNames<'_>,
+    (image, cfg): (&Image, &[u8]),
+    (names, form): (FileNames<'_>, Form),
     bound: u64,
-) -> u8 {
-    match step_image(alloc, outside, rt, image, names, bound) {
-        Ok(status) => status,
-        Err(error) => end(outside, &Failure::Memory(error)),
-    }
+) -> Result<u8, AllocError>
+where
+    R::Reader: IsTerminal,
+{
+    let interrupts = interrupts_in(alloc, cfg)?;
+    let stepping = Stepping {
+        names,
+        form,
+        interrupts: &interrupts,
+        terminal: rt.reader().is_terminal(),
+    };
+    step_image(alloc, outside, rt, image, stepping, bound)
 }
 
-/// Takes events of standard input on the system of two texts, or prints their first fault, with status 1.
+/// Takes commands of standard input on the system of two texts, or prints their first fault, with status 1.
 fn step_texts<O: Outside, R: Input>(
     alloc: Global,
     outside: &mut O,
     rt: &R,
     (cfg, src): (&[u8], &[u8]),
-    names: FileNames<'_>,
+    (names, form): (FileNames<'_>, Form),
     bound: u64,
-) -> u8 {
+) -> u8
+where
+    R::Reader: IsTerminal,
+{
     match build(alloc, cfg, src) {
         Ok(image) => {
-            let status = step_status(alloc, outside, rt, &image, names, bound);
+            let status = step_status(alloc, outside, rt, (&image, cfg), (names, form), bound);
             drop(image);
-            status
+            match status {
+                Ok(status) => status,
+                Err(error) => end(outside, &Failure::Memory(error)),
+            }
         }
-        Err(_) => print_fault(alloc, outside, names, Form::Text),
+        Err(_) => print_fault(alloc, outside, names, form),
     }
 }
 
-/// Takes events of standard input on the system of the texts of two files, or prints their first fault, with status 1.
+/// Takes commands of standard input on the system of the texts of two files, or prints their first fault, with status
+/// 1.
 pub fn run_step<O: Outside, R: Input>(
     alloc: Global,
     outside: &mut O,
     rt: &R,
     names: FileNames<'_>,
+    form: Form,
     bound: u64,
-) -> u8 {
+) -> u8
+where
+    R::Reader: IsTerminal,
+{
     match read_both(alloc, outside, names.cfg, names.src) {
-        Ok((cfg, src)) => step_texts(alloc, outside, rt, (&cfg, &src), names, bound),
+        Ok((cfg, src)) => step_texts(alloc, outside, rt, (&cfg, &src), (names, form), bound),
         Err(failure) => end(outside, &failure),
     }
 }

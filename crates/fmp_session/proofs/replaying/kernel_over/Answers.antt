@@ -1,4 +1,4 @@
-use Rattle.std.proofs.Common.{◌≡◌, ◌∙◌, ap}
+use Rattle.std.proofs.Common.{◌∙◌, ap}
 use Rattle.std.proofs.lemmas.Result.{err_from_is_err_and}
 use Rattle.fmp_instructions.specs.Machine.{code_meaning}
 use Rattle.fmp_kernel.specs.KernelViews.{view_after_all}

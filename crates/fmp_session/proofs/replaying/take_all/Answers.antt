@@ -1,4 +1,4 @@
-use Rattle.std.proofs.Common.{◌≡◌, ◌∙◌, ◌≤◌, ap, arith, refl, sym, length}
+use Rattle.std.proofs.Common.{◌∙◌, ◌≤◌, ap, arith, refl, sym, length}
 use Rattle.std.proofs.lemmas.List.{drop_all}
 use Rattle.fmp_kernel.specs.KernelViews.{view_after_all}
 use Rattle.fmp_session.proofs.Following.{state_step, taken_step}

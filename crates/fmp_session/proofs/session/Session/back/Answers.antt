@@ -1,4 +1,4 @@
-use Rattle.std.proofs.Common.{◌≡◌, ◌∙◌, ◌≤◌, ◌^◌, List, length, take, ap, arith}
+use Rattle.std.proofs.Common.{◌∙◌, List, take, ap, arith}
 use Rattle.std.proofs.lemmas.List.{length-take}
 use Rattle.fmp_base.specs.declared.events.Event.{Event}
 use Rattle.fmp_replay.specs.Replays.{kernel_after}

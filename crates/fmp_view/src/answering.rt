@@ -1,0 +1,314 @@
+//! What the commands of a session answer.
+ghost use Rattle.std.specs.Prelude.{◌≡◌, IfOk};
+ghost use Rattle.fmp_session.specs.Sessions.{IsSession};
+ghost use Rattle.fmp_view.specs.Stepped.{Leaves, states_text_of};
+
+use crate::faults::{FileNames, Form};
+use crate::open_image::OpenImage;
+use crate::session_files::{load, save};
+use crate::session_objects::state_of;
+use crate::why::why_of;
+use fmp_base::Event;
+use fmp_files::{Failure, Outside};
+use fmp_frames::last_frame;
+use fmp_named::{append_state_records, append_states};
+use fmp_session::{
+    Command, NamedInterrupt, Session, Taken, append_kept, append_nothing, argument_of, note,
+};
+use fmp_trace::print_steps;
+use std::alloc::{AllocError, Global};
+
+/// The commands, as `help` prints them.
+const COMMANDS: &str =
+    "run P [xK]   processor P goes on, to its next service call; K times, or until it does nothing
+tick [K]     the clock advances, K times
+int N [xK]   interrupt N is raised; N may be the body of its handler
+back [K]     the last event is taken back, or the last K
+why          what each task waits or spins for
+state [X]    the states of the tasks, or that of the task or object X
+load FILE    the events of a steps text
+save FILE    the events that did something, as steps for 'fmp sim' with the same bound
+help         these lines
+quit         the end, as the end of the input is
+";
+
+/// What is said where a session has as many events as it may have.
+const FULL: &[u8] = b"nothing: a session has at most 1048576 events\n";
+
+/// What is said where there is nothing to take back.
+const NONE_LEFT: &[u8] = b"nothing: there is no event to take back\n";
+
+/// How the lines of a session are carried out and answered.
+#[derive(Clone, Copy)]
+pub struct Stepping<'a> {
+    /// The names of the two files of the system.
+    pub names: FileNames<'a>,
+    /// Whether answers are for readers, or objects of JSON.
+    pub form: Form,
+    /// The interrupts that have handlers.
+    pub interrupts: &'a [NamedInterrupt],
+    /// Whether standard input is a terminal.
+    pub terminal: bool,
+}
+
+/// What a line answers.
+#[derive(Drop)]
+pub enum Answer {
+    /// What is told: text, or records, each an object of JSON in a line.
+    Told(Vec<u8>),
+    /// Why the line failed; it changed nothing.
+    Refused(String),
+    /// A file could not be read or written; the events are as before.
+    NoFile(Failure),
+}
+
+/// The kind of a line, and what it says: of `nothing: ..` what stands before the colon, and what stands behind it.
+fn parts_of(line: &[u8]) -> (&str, &[u8]) {
+    let parts = match str::from_utf8(line) {
+        Ok(text) => text.split_once(':'),
+        Err(_) => None,
+    };
+    match parts {
+        Some((what, rest)) => (what, rest.as_bytes().trim_ascii()),
+        None => ("line", line),
+    }
+}
+
+/// Appends a line, or the record of it.
+pub fn append_told(
+    alloc: Global,
+    form: Form,
+    line: &[u8],
+    out: &mut Vec<u8>,
+) -> Result<(), AllocError> {
+    match form {
+        Form::Text => out.extend_from_slice(line),
+        Form::Json => {
+            let (what, text) = parts_of(line);
+            let record = note(alloc, what, text)?;
+            out.extend_from_slice(&record)
+        }
+    }
+}
+
+/// A text of several lines, or one record of it.
+fn noted(alloc: Global, form: Form, what: &str, text: Vec<u8>) -> Result<Vec<u8>, AllocError> {
+    match form {
+        Form::Text => Ok(text),
+        Form::Json => note(alloc, what, &text),
+    }
+}
+
+/// A line that is all that is told.
+fn line_told(alloc: Global, form: Form, line: &[u8]) -> Result<Vec<u8>, AllocError> {
+    let mut out = Vec::new(alloc);
+    append_told(alloc, form, line, &mut out)?;
+    Ok(out)
+}
+
+/// Appends the lines of the last event that was done.
+fn append_last(
+    alloc: Global,
+    session: &Session<'_>,
+    form: Form,
+    out: &mut Vec<u8>,
+) -> Result<(), AllocError>
+    requires { IsSession session.now }
+{
+    match form {
+        Form::Text => session.append_last(out),
+        Form::Json => session.append_last_records(alloc, out),
+    }
+}
+
+/// The line of an event that left none.
+fn line_of(
+    alloc: Global,
+    session: &Session<'_>,
+    e: Event,
+    taken: Taken,
+) -> Result<Vec<u8>, AllocError>
+    requires { IsSession session.now }
+{
+    let mut line = Vec::new(alloc);
+    match taken {
+        Taken::Done | Taken::Full => line.extend_from_slice(FULL)?,
+        Taken::Kept => append_kept(e, &mut line)?,
+        Taken::Nothing => {
+            append_nothing(session.image().system(), e, &session.next_runs(), &mut line)?;
+        }
+    }
+    Ok(line)
+}
+
+/// Appends what is told of an event that came to this.
+fn append_taken(
+    alloc: Global,
+    session: &Session<'_>,
+    form: Form,
+    e: Event,
+    taken: Taken,
+    out: &mut Vec<u8>,
+) -> Result<(), AllocError>
+    requires { IsSession session.now }
+{
+    if let Taken::Done = taken {
+        return append_last(alloc, session, form, out);
+    }
+    let line = line_of(alloc, session, e, taken)?;
+    append_told(alloc, form, &line, out)
+}
+
+/// Takes an event, and appends what is told of it. The answer is whether it did something.
+pub fn take_one(
+    alloc: Global,
+    session: &mut Session<'_>,
+    form: Form,
+    e: Event,
+    out: &mut Vec<u8>,
+) -> Result<bool, AllocError>
+    requires { IsSession session.old }
+    ensures { IsSession session.new }
+{
+    let taken = session.take(e)?;
+    append_taken(alloc, session, form, e, taken, out)?;
+    Ok(matches!(taken, Taken::Done | Taken::Kept))
+}
+
+/// Takes an event this many times, up to the first time that it does nothing, and gives what is told of it.
+fn taken_text(
+    alloc: Global,
+    session: &mut Session<'_>,
+    form: Form,
+    e: Event,
+    times: u32,
+) -> Result<Vec<u8>, AllocError>
+    requires { IsSession session.old }
+    ensures { IsSession session.new }
+{
+    let mut out = Vec::new(alloc);
+    for _turn in 0..times {
+        if !take_one(alloc, session, form, e, &mut out)? {
+            break;
+        }
+    }
+    Ok(out)
+}
+
+/// Appends that an event is taken back.
+fn append_back(alloc: Global, form: Form, e: Event, out: &mut Vec<u8>) -> Result<(), AllocError> {
+    let mut line = Vec::from_slice(alloc, b"taken back: ")?;
+    print_steps(&[e], &mut line)?;
+    append_told(alloc, form, &line, out)
+}
+
+/// What is told of events that are taken back, the last one first.
+fn back_lines(alloc: Global, form: Form, events: &[Event]) -> Result<Vec<u8>, AllocError> {
+    let mut out = Vec::new(alloc);
+    for e in events.iter().rev() {
+        append_back(alloc, form, *e, &mut out)?;
+    }
+    Ok(out)
+}
+
+/// Takes the last events back, and gives what is told of them.
+fn back_text(
+    alloc: Global,
+    session: &mut Session<'_>,
+    form: Form,
+    count: u32,
+) -> Result<Vec<u8>, AllocError>
+    requires { IsSession session.old }
+    ensures { IsSession session.new }
+{
+    let events = session.events();
+    let left = events.len().saturating_sub(count as usize);
+    if left == events.len() {
+        return line_told(alloc, form, NONE_LEFT);
+    }
+    let out = back_lines(alloc, form, &events[left..])?;
+    session.back(alloc, count as usize)?;
+    Ok(out)
+}
+
+/// The states of the tasks.
+pub fn states_text(alloc: Global, session: &Session<'_>, form: Form) -> Result<Vec<u8>, AllocError>
+    requires { IsSession session.now }
+    ensures { IfOk result (λ out. out.items ≡ states_text_of form session.now.kernel) }
+{
+    let image = session.image();
+    let frame = last_frame(alloc, session.kernel(), &image.vm(), session.bound())?;
+    let mut out = Vec::new(alloc);
+    let appended = match form {
+        Form::Text => append_states(image.system(), &frame.states, &frame.blocks, &mut out),
+        Form::Json => append_state_records(
+            alloc,
+            image.system(),
+            &frame.states,
+            &frame.blocks,
+            &mut out,
+        ),
+    };
+    drop(frame);
+    appended?;
+    Ok(out)
+}
+
+/// What each task waits or spins for.
+fn why_text(alloc: Global, session: &Session<'_>, form: Form) -> Result<Vec<u8>, AllocError>
+    requires { IsSession session.now }
+{
+    let opened = OpenImage::new(session.image(), session.bound());
+    let text = why_of(alloc, &opened, session.events())?;
+    noted(alloc, form, "why", text)
+}
+
+/// The commands.
+fn help_text(alloc: Global, form: Form) -> Result<Vec<u8>, AllocError> {
+    let text = Vec::from_slice(alloc, COMMANDS.as_bytes())?;
+    noted(alloc, form, "help", text)
+}
+
+/// Carries out a command that reaches nothing outside and names nothing, and gives what is told of it.
+fn told(
+    alloc: Global,
+    session: &mut Session<'_>,
+    form: Form,
+    command: Command,
+) -> Result<Vec<u8>, AllocError>
+    requires { IsSession session.old }
+    ensures { IsSession session.new }
+{
+    match command {
+        Command::Take(e, times) => taken_text(alloc, session, form, e, times),
+        Command::Back(count) => back_text(alloc, session, form, count),
+        Command::Why => why_text(alloc, session, form),
+        Command::State => states_text(alloc, session, form),
+        Command::Help => help_text(alloc, form),
+        Command::StateOf | Command::Load | Command::Save | Command::Quit | Command::Skip => {
+            Ok(Vec::new(alloc))
+        }
+    }
+}
+
+/// Carries out a command of a line, and gives its answer.
+pub fn answer_of<O: Outside>(
+    alloc: Global,
+    outside: &mut O,
+    session: &mut Session<'_>,
+    stepping: Stepping<'_>,
+    command: Command,
+    line: &[u8],
+) -> Result<Answer, AllocError>
+    requires { IsSession session.old }
+    ensures session { IsSession session.new }
+    ensures leaves { IfOk result (Leaves session.old session.new) }
+{
+    let form = stepping.form;
+    match command {
+        Command::StateOf => state_of(alloc, session, form, argument_of(line)),
+        Command::Load => load(alloc, outside, session, form, argument_of(line)),
+        Command::Save => save(alloc, outside, session, stepping, argument_of(line)),
+        command => Ok(Answer::Told(told(alloc, session, form, command)?)),
+    }
+}
