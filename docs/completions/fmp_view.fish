@@ -66,6 +66,7 @@ complete -c fmp_view -n '__fish_seen_subcommand_from timeline' -l bound -x -d 'H
 complete -c fmp_view -n '__fish_seen_subcommand_from timeline' -l from -x -d 'First event that is drawn, 0 to 2^20; setup is 0 [default: 0]'
 complete -c fmp_view -n '__fish_seen_subcommand_from timeline' -l to -x -d 'Last event that is drawn, 0 to 2^20; without it the last of the run. At most 10,000 events are drawn'
 complete -c fmp_view -n '__fish_seen_subcommand_from timeline' -l objects -d 'Draw semaphores, eventflags, data queues, mailboxes and shared words too'
+complete -c fmp_view -n '__fish_seen_subcommand_from timeline' -l html -d 'Write a page around the picture that shows each state and what happened; objects are drawn too'
 complete -c fmp_view -n '__fish_seen_subcommand_from timeline' -s h -l help -d 'Print help'
 complete -c fmp_view -n '__fish_seen_subcommand_from export' -l c -x -d 'Folder that gets bodies.h, bodies.c, main.c, Makefile, and the two texts as system.cfg and system.src, in place of files of these names; but a main.c that is there is kept. The folder is made if it is not there'
 complete -c fmp_view -n '__fish_seen_subcommand_from export' -l toppers -x -d 'Folder that gets system.cfg, bodies.h and bodies.c for TOPPERS/FMP 1, in place of files of these names. The folder is made if it is not there'

@@ -85,6 +85,8 @@ pub struct Drawing {
     pub choice: Choice,
     /// Whether the objects have lanes too.
     pub objects: bool,
+    /// Whether the picture stands in a page.
+    pub html: bool,
 }
 
 /// What the program is asked to do.
@@ -176,13 +178,16 @@ fn runs_of<'a>(words: &ArgMatches<'a>) -> Runs<'a> {
     }
 }
 
+/// What is drawn: a page has the objects too.
 fn drawing_of(words: &ArgMatches<'_>) -> Drawing {
+    let html = flag_of(words, "html");
     Drawing {
         choice: Choice {
             first: word32_of(words, "from").unwrap_or(0),
             last: word32_of(words, "to").unwrap_or(EVENTS_MAX),
         },
-        objects: flag_of(words, "objects"),
+        objects: html || flag_of(words, "objects"),
+        html,
     }
 }
 

@@ -450,7 +450,7 @@ static TIMELINE: Form = Form {
         Argument(
             "OUT",
             Kind::WordNoRecording,
-            "File that the picture, an SVG, is written to",
+            "File that the picture, an SVG, or the page is written to",
         ),
         Argument(
             "from",
@@ -466,6 +466,11 @@ static TIMELINE: Form = Form {
             "objects",
             Kind::Flag,
             "Draw semaphores, eventflags, data queues, mailboxes and shared words too",
+        ),
+        Argument(
+            "html",
+            Kind::Flag,
+            "Write a page around the picture that shows each state and what happened; objects are drawn too",
         ),
     ],
     example: "Example: fmp_view timeline queue.img drive.steps queue.svg --from 2 --to 5",

@@ -14,6 +14,7 @@ use fmp_drawing::{DrawFault, MOST_BYTES, draw_timed};
 use fmp_engine::SimFault;
 use fmp_frames::{Viewer, last_frame, show_all};
 use fmp_kernel::{Body, Kernel};
+use fmp_page::page_of;
 use fmp_timeline::{Page, Run};
 use fmp_watch::{IdleTurn, idle_turns};
 use std::alloc::{AllocError, Global};
@@ -173,6 +174,23 @@ fn times_for<'a>(run: &Run, times: &'a [u64]) -> &'a [u64] {
     }
 }
 
+/// A picture as it is asked for: alone, or in a page of its run.
+fn framed(
+    alloc: Global,
+    sys: &System,
+    run: &Run,
+    name: &[u8],
+    measures: Page,
+    html: bool,
+    picture: Vec<u8>,
+) -> Result<Vec<u8>, AllocError> {
+    if html {
+        page_of(alloc, sys, run, name, measures, &picture)
+    } else {
+        Ok(picture)
+    }
+}
+
 /// The picture that is asked for of a run, whose events came at these times if these are known.
 fn picture_of(
     alloc: Global,
@@ -189,10 +207,13 @@ fn picture_of(
     let page = Page::new(sys, run, drawing.choice);
     let times = times_for(run, times);
     match draw_timed(alloc, sys, run, name, page, times) {
-        Ok(bytes) => Ok(Picture {
-            bytes,
-            cut: cut_of(&page, drawing, last),
-        }),
+        Ok(picture) => {
+            let cut = cut_of(&page, drawing, last);
+            match framed(alloc, sys, run, name, page, drawing.html, picture) {
+                Ok(bytes) => Ok(Picture { bytes, cut }),
+                Err(_) => Err(TimelineFault::Sim(SimFault::Memory)),
+            }
+        }
         Err(DrawFault::Memory(_)) => Err(TimelineFault::Sim(SimFault::Memory)),
         Err(DrawFault::TooLarge) => {
             let half = page.last.saturating_sub(page.first) / 2;
