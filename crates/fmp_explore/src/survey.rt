@@ -397,9 +397,7 @@ impl Survey {
     {
         match effect {
             Effect::Nothing => Ok(()),
-            Effect::Done => {
-                self.note_done_within(alloc, subject, kernel, attempt, ahead.made)
-            }
+            Effect::Done => self.note_done_within(alloc, subject, kernel, attempt, ahead.made),
             Effect::Kept => self.note_kept(alloc, subject, kernel, attempt, ahead.outlook),
         }
     }

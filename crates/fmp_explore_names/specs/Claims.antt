@@ -145,11 +145,15 @@ activations_word n = if nat_eq n 1 then codes " activation and " else codes " ac
 unfoldable pub wakeups_word : ℕ → List ℕ
 wakeups_word n = if nat_eq n 1 then codes " wakeup" else codes " wakeups"
 
+unfoldable pub activations_text : ℕ → List ℕ
+activations_text n = decimal n ++ activations_word n
+
+unfoldable pub wakeups_text : ℕ → List ℕ
+wakeups_text n = decimal n ++ wakeups_word n
+
 -- at most this many activations and wakeups are queued
 unfoldable pub queue_text : ℕ → List ℕ
-queue_text n =
-    codes " at most "
-    ++ (decimal n ++ (activations_word n ++ (decimal n ++ (wakeups_word n ++ codes " of a task are queued"))))
+queue_text n = codes " at most " ++ (activations_text n ++ (wakeups_text n ++ codes " of a task are queued"))
 
 -- how much may be queued, behind when the clock ticks
 unfoldable pub queued_text : Option ℕ → Ticks → (limited : Bool) → List ℕ

@@ -31,7 +31,7 @@ fn append_most(count: u8, out: &mut Vec<u8>) -> Result<(), AllocError>
     ensures { OnOk result (out.new.items ≡ out.old.items ++ spec.most_text count) }
 {
     append(b" with at most ", out)?;
-    append_small(count, out)
+    append_number(u64::from(count), out)
 }
 
 /// Appends that there are at most this many interrupts.
@@ -105,16 +105,32 @@ fn wakeups_word(count: u8) -> &'static [u8]
     if count == 1 { b" wakeup" } else { b" wakeups" }
 }
 
+/// Appends this many activations.
+#[tactic(auto, unfolding(crate::specs::Claims::activations_text))]
+fn append_activations(count: u8, out: &mut Vec<u8>) -> Result<(), AllocError>
+    ensures { OnOk result (out.new.items ≡ out.old.items ++ spec.activations_text count) }
+{
+    append_small(count, out)?;
+    append(activations_word(count), out)
+}
+
+/// Appends this many wakeups.
+#[tactic(auto, unfolding(crate::specs::Claims::wakeups_text))]
+fn append_wakeups(count: u8, out: &mut Vec<u8>) -> Result<(), AllocError>
+    ensures { OnOk result (out.new.items ≡ out.old.items ++ spec.wakeups_text count) }
+{
+    append_small(count, out)?;
+    append(wakeups_word(count), out)
+}
+
 /// Appends that at most this many activations and wakeups are queued.
 #[tactic(auto, unfolding(crate::specs::Claims::queue_text))]
 fn append_queue(count: u8, out: &mut Vec<u8>) -> Result<(), AllocError>
     ensures { OnOk result (out.new.items ≡ out.old.items ++ spec.queue_text count) }
 {
     append(b" at most ", out)?;
-    append_small(count, out)?;
-    append(activations_word(count), out)?;
-    append_small(count, out)?;
-    append(wakeups_word(count), out)?;
+    append_activations(count, out)?;
+    append_wakeups(count, out)?;
     append(b" of a task are queued", out)
 }
 
@@ -160,7 +176,11 @@ fn append_bound(bound: u64, out: &mut Vec<u8>) -> Result<(), AllocError>
 
 /// Appends over which lists of events something is claimed, and at which bound.
 #[tactic(auto, unfolding(crate::specs::Claims::lists_text))]
-pub(crate) fn append_lists(question: &Question, bound: u64, out: &mut Vec<u8>) -> Result<(), AllocError>
+pub(crate) fn append_lists(
+    question: &Question,
+    bound: u64,
+    out: &mut Vec<u8>,
+) -> Result<(), AllocError>
     ensures { OnOk result (out.new.items ≡ out.old.items ++ spec.lists_text question.now bound) }
 {
     append(b": over all lists of events", out)?;
