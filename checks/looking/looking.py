@@ -168,7 +168,7 @@ def wanted(moment, tasks, cyclics):
             priority = f", priority {moment[f'{scope}/priority']}" if value else ""
             yield last, (STATES[value], f", processor {moment[f'{scope}/processor']}{priority}")
         elif variable == "handling":
-            yield last.replace("i", "interrupt ") if scope.startswith("interrupts") else last, HANDLING[value]
+            yield last if scope.startswith("cyclic/") else last.replace("i", "interrupt "), HANDLING[value]
         elif variable in ("count", "pattern", "words", "messages", "value"):
             yield last, (str(value), "")
 

@@ -2,7 +2,7 @@
 use Rattle.std.specs.Prelude.{ℕ, ◌==◌, if◌then◌else◌, List, [], ◌∷◌, codes, flat_map}
 
 -- a byte, or the escape of JSON for `<`
-pub escaped_byte : ℕ → List ℕ
+abbrev pub escaped_byte : ℕ → List ℕ
 escaped_byte byte = if byte == 60 then 92 ∷ codes "u003c" else byte ∷ []
 
 -- a text of JSON with each `<` as an escape

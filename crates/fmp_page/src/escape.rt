@@ -8,9 +8,11 @@ use std::alloc::{AllocError, Global};
 fn append_escaped(byte: u8, out: &mut Vec<u8>) -> Result<(), AllocError>
     ensures { OnOk result (out.new.items ≡ out.old.items ++ spec.escaped_byte byte) }
 {
-    match byte {
-        b'<' => out.extend_from_slice(b"\\u003c"),
-        _ => out.push(byte),
+    if byte == b'<' {
+        out.extend_from_slice(b"\\u003c")
+    } else {
+        out.push(byte)?;
+        Ok(())
     }
 }
 
