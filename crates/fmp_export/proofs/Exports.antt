@@ -1,5 +1,5 @@
 -- The files of the bodies that a text spells.
-use Rattle.std.proofs.Common.{◌≡◌, sym, subst, ℕ, List, Ok}
+use Rattle.std.proofs.Common.{◌≡◌, sym, subst, ℕ, Bool, List, Ok}
 use Rattle.fmp_base.specs.Systems.{SystemTables}
 use Rattle.fmp_lex.specs.declared.token.Token.{Token}
 use Rattle.fmp_lex.specs.Cutting.{Cuts}
@@ -7,14 +7,17 @@ use Rattle.fmp_tasklang.specs.declared.trees.Program.{Program}
 use Rattle.fmp_tasklang.specs.Reading.{IsRead}
 use Rattle.fmp_tasklang.specs.Views.{program_view}
 use Rattle.fmp_export.specs.declared.files.Exported.{Exported}
-use Rattle.fmp_export.specs.Files.{AreFiles, IsExported}
+use Rattle.fmp_export.specs.Files.{AreFiles, IsExportedWith}
 
 pub is_exported :
-    (s : SystemTables) (text : List ℕ) (p : Program) (us : List Token) (e : Exported) →
-    IsRead text (Ok p) → ((ts : List Token) → Cuts text 0 ts → ts ≡ us) → AreFiles s text us (program_view p) e →
-    IsExported s text (Ok e)
-is_exported s text p us e read only files =
+    (s : SystemTables) (text : List ℕ) (p : Program) (us : List Token) (lines : Bool) (e : Exported) →
+    IsRead text (Ok p) → ((ts : List Token) → Cuts text 0 ts → ts ≡ us) →
+    AreFiles s (record { text = text; tokens = us; lines = lines }) (program_view p) e →
+    IsExportedWith lines s text (Ok e)
+is_exported s text p us lines e read only files =
     let ts = read.0.0 in
     let spells = read.0.1 in
-    let same = subst (λ vs. AreFiles s text vs (program_view p) e) (sym (only ts spells.1)) files in
+    let same =
+    subst (λ vs. AreFiles s (record { text = text; tokens = vs; lines = lines }) (program_view p) e)
+    (sym (only ts spells.1)) files in
     (ts, program_view p, spells, same)

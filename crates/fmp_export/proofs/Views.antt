@@ -15,6 +15,7 @@ use Rattle.fmp_tasklang.proofs.Views.{expression_view-Element, expression_view-U
 use Rattle.fmp_scopes.proofs.ViewTrees.{links-step, block-step}
 use Rattle.fmp_export.specs.Expressions.{c_chain, c_expression, joined}
 use Rattle.fmp_export.specs.Pieces.{PieceText, element_piece, unary_piece}
+use Rattle.fmp_export.specs.Remarks.{c_directive}
 use Rattle.fmp_export.specs.Sources.{SourceText}
 use Rattle.fmp_export.specs.Statements.{block_end, c_block, c_chained, c_statement, statement_end}
 use Rattle.fmp_export.specs.Words.{c_name}
@@ -65,7 +66,7 @@ pub block_step :
     (s : SourceText) (margin : List ℕ) (at : ℕ) (ss : List Statement) (i : ℕ) (t : Statement) → i < length ss →
     t ≡ get_or ss i t →
     c_block s margin at (block_view (drop i ss)) ≡
-    c_statement s margin margin at (statement_view t)
+    (c_directive s at ++ c_statement s margin margin at (statement_view t))
     ++ c_block s margin (statement_end s at (statement_view t)) (block_view (drop (i + 1) ss))
 block_step s margin at ss i t h e = ap (c_block s margin at) (block-step ss i t h e)
 

@@ -7,7 +7,7 @@ use Rattle.fmp_tasklang.specs.declared.trees.Length.{Length}
 use Rattle.fmp_tasklang.specs.Trees.{BodyTree}
 use Rattle.fmp_export.specs.declared.source.Landmark.TheVariants as landmark
 use Rattle.fmp_export.specs.Pieces.{number_text}
-use Rattle.fmp_export.specs.Remarks.{c_above, c_behind, other_lines, own_lines}
+use Rattle.fmp_export.specs.Remarks.{c_above, c_behind, c_directive, other_lines, own_lines}
 use Rattle.fmp_export.specs.Sources.{SourceText, behind, gaps, no_source}
 use Rattle.fmp_export.specs.Statements.{block_end, c_block}
 use Rattle.fmp_export.specs.Words.{c_function, c_name, tab}
@@ -57,7 +57,8 @@ inside_end s at b = block_end s (variables_end s at b.variables) b.statements
 
 abbrev pub c_body : SourceText → BodyTree → List ℕ
 c_body s b =
-    c_inside s (gaps s b.at (behind landmark.LeftBrace s b.at)) (behind landmark.LeftBrace s b.at) b
+    c_directive s b.at
+    ++ c_inside s (gaps s b.at (behind landmark.LeftBrace s b.at)) (behind landmark.LeftBrace s b.at) b
 
 abbrev pub body_end : SourceText → BodyTree → ℕ
 body_end s b = inside_end s (behind landmark.LeftBrace s b.at) b

@@ -1,5 +1,5 @@
 -- The C of a text and its configuration.
-use Rattle.std.specs.Prelude.{◌≡◌, ℕ, ◌+◌, List, [], ◌∷◌, ◌++◌, codes, decimal, map, Result, Ok, Err}
+use Rattle.std.specs.Prelude.{◌≡◌, ℕ, ◌+◌, List, [], ◌∷◌, ◌++◌, codes, decimal, map, Bool, false, Result, Ok, Err}
 use Rattle.fmp_base.specs.declared.names.Name.{Name}
 use Rattle.fmp_base.specs.Systems.{SystemTables}
 use Rattle.fmp_lex.specs.declared.fault.BuildFault.{BuildFault}
@@ -59,15 +59,20 @@ c_file s bodies = codes "#include \"bodies.h\"\n#include \"task.h\"\n" ++ c_comm
 unfoldable pub c_main : List BodyTree → List ℕ
 c_main bodies = MAIN_START.now ++ (c_rows bodies ++ MAIN_END.now)
 
--- the files of these bodies, which these tokens of the text spell
+-- the files of these bodies, which these tokens of the text spell, with its lines for a debugger or without
 pub record AreFiles
-    (s : SystemTables) (text : List ℕ) (ts : List Token) (bodies : List BodyTree) (e : Exported) : Type 0 where
+    (s : SystemTables) (source : SourceText) (bodies : List BodyTree) (e : Exported) : Type 0 where
   pub header : e.header.items ≡ c_header s bodies
-  pub file : e.bodies.items ≡ c_file (record { text = text; tokens = ts }) bodies
+  pub file : e.bodies.items ≡ c_file source bodies
   pub main : e.main.items ≡ c_main bodies
 
 -- the C of the bodies that the text spells, or the fault of a text that spells none
+abbrev pub IsExportedWith : (lines : Bool) → SystemTables → List ℕ → Result Exported BuildFault → Type 0
+IsExportedWith lines s text (Ok e) =
+    (ts : List Token) × (bodies : List BodyTree) × Spells Bodies text ts bodies
+    × AreFiles s (record { text = text; tokens = ts; lines = lines }) bodies e
+IsExportedWith lines s text (Err f) = IsRead text (Err f)
+
+-- the same without the lines of the text for a debugger
 abbrev pub IsExported : SystemTables → List ℕ → Result Exported BuildFault → Type 0
-IsExported s text (Ok e) =
-    (ts : List Token) × (bodies : List BodyTree) × Spells Bodies text ts bodies × AreFiles s text ts bodies e
-IsExported s text (Err f) = IsRead text (Err f)
+IsExported s text r = IsExportedWith false s text r

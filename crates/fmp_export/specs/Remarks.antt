@@ -1,7 +1,8 @@
--- The comments of a text in C: lines that begin with `//`.
-use Rattle.std.specs.Prelude.{ℕ, ◌-◌, ◌==◌, nat_eq, nat_lt, List, [], ◌∷◌, ◌++◌, codes, length, drop, take, Bool, true, false, ◌||◌, ◌&&◌, not, if◌then◌else◌}
+-- The comments of a text in C, which are lines that begin with `//`, and its lines for a debugger.
+use Rattle.std.specs.Prelude.{ℕ, ◌-◌, ◌==◌, nat_eq, nat_lt, List, [], ◌∷◌, ◌++◌, codes, decimal, length, drop, slice_get, take, Bool, true, false, ◌||◌, ◌&&◌, not, if◌then◌else◌, Option, Some, None}
 use Rattle.std.specs.Char.{is_ascii_whitespace}
 use Rattle.std.specs.List.{prefix_len, suffix_len, starts_with, ends_with}
+use Rattle.fmp_lex.specs.declared.token.Token.{Token}
 use Rattle.fmp_export.specs.declared.source.Landmark.{Landmark}
 use Rattle.fmp_export.specs.Sources.{SourceText, behind, gaps}
 
@@ -93,3 +94,16 @@ c_line_end margin gap = c_behind gap ++ (codes "\n" ++ c_above margin gap)
 -- the end of a line of C for the tokens from a place up to a landmark: all comments that stand behind one of them
 abbrev pub c_finish : (margin : List ℕ) → Landmark → SourceText → (at : ℕ) → List ℕ
 c_finish margin l s at = c_line_end margin (gaps s at (behind l s at))
+
+-- the next line of C is this one of the text
+unfoldable pub line_directive : (line : ℕ) → List ℕ
+line_directive line = codes "#line " ++ (decimal line ++ codes " \"system.src\"\n")
+
+-- what tells a debugger that the next line of C is that of a token
+abbrev pub directive : Option Token → (lines : Bool) → List ℕ
+directive None lines = []
+directive (Some t) true = line_directive t.line
+directive (Some t) false = []
+
+abbrev pub c_directive : SourceText → (at : ℕ) → List ℕ
+c_directive s at = directive (slice_get s.tokens at) s.lines

@@ -12,14 +12,16 @@ use Rattle.fmp_export.specs.declared.source.Source as declared
 pub record SourceText : Type 0 where
   pub text : List ℕ
   pub tokens : List Token
+  -- C tells its debugger the lines of the text
+  pub lines : Bool
 
 -- what a `Source` holds
 abbrev pub source_view : declared.Source → SourceText
-source_view s = record { text = s.text.now; tokens = s.tokens.items }
+source_view s = record { text = s.text.now; tokens = s.tokens.items; lines = s.lines }
 
 -- no text at all: numbers are written by their values, and there are no comments
 abbrev pub no_source : SourceText
-no_source = record { text = []; tokens = [] }
+no_source = record { text = []; tokens = []; lines = false }
 
 -- a token is what is looked for; a number may be a constant
 abbrev pub is_landmark : Landmark → TokenKind → Bool

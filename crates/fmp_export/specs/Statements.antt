@@ -10,7 +10,7 @@ use Rattle.fmp_export.specs.declared.pieces.Risk.TheVariants as risk
 use Rattle.fmp_export.specs.declared.source.Landmark.TheVariants as landmark
 use Rattle.fmp_export.specs.Expressions.{c_expression, c_expressions}
 use Rattle.fmp_export.specs.Pieces.{PieceText, joint_risk, matters}
-use Rattle.fmp_export.specs.Remarks.{c_finish}
+use Rattle.fmp_export.specs.Remarks.{c_directive, c_finish}
 use Rattle.fmp_export.specs.Sources.{SourceText, behind, stands_at}
 use Rattle.fmp_export.specs.Words.{c_name, tab}
 
@@ -219,7 +219,7 @@ abbrev mutual
   pub c_block : SourceText → (margin : List ℕ) → (at : ℕ) → Block → List ℕ
   c_block s margin at empty = []
   c_block s margin at (next t b) =
-      c_statement s margin margin at t ++ c_block s margin (statement_end s at t) b
+      (c_directive s at ++ c_statement s margin margin at t) ++ c_block s margin (statement_end s at t) b
 
 -- what stands behind the `if` of a choice, whose `}` stands at a place
 abbrev pub c_choice : SourceText → (margin : List ℕ) → (at : ℕ) → Block → List ℕ

@@ -5,7 +5,9 @@ ghost use Rattle.fmp_export.specs.Bodies.{body_end, c_bodies, c_body, c_commente
 ghost use Rattle.fmp_export.specs.Sources.{source_view};
 
 use crate::pieces::append_number;
-use crate::remarks::{append_above, append_behind, append_own_lines, other_lines};
+use crate::remarks::{
+    append_above, append_behind, append_directive, append_own_lines, other_lines,
+};
 use crate::source::{Landmark, Source, behind, gaps_between};
 use crate::statements::append_block;
 use crate::text::append;
@@ -146,6 +148,7 @@ fn append_body(
     let start = body.at as usize;
     let at = behind(Landmark::LeftBrace, source, start);
     let before = gaps_between(alloc, source, start, at)?;
+    append_directive(source, start, out)?;
     append_inside(alloc, source, &before, at, body, out)
 }
 

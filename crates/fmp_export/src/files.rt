@@ -2,7 +2,7 @@
 ghost use Rattle.std.specs.Prelude.{◌≡◌, ◌++◌, IfOk, OnOk};
 ghost use Rattle.fmp_base.specs.Systems.{tables_of};
 ghost use Rattle.fmp_tasklang.specs.Views.{program_view};
-ghost use Rattle.fmp_export.specs.Files.{AreFiles, IsExported, c_file, c_header, c_main};
+ghost use Rattle.fmp_export.specs.Files.{AreFiles, IsExported, IsExportedWith, c_file, c_header, c_main};
 ghost use Rattle.fmp_export.specs.Sources.{source_view};
 
 use crate::bodies::{append_commented_bodies, append_prototypes, append_rows};
@@ -104,18 +104,19 @@ fn append_file(
     append_commented_bodies(alloc, source, head(source), &program.bodies, out)
 }
 
-/// Appends the same, given the tokens of the text.
+/// Appends the same, given the tokens of the text; with its lines for a debugger if `lines` says so.
 pub fn append_c(
     alloc: Global,
     text: &[u8],
     tokens: &Tokens<'_>,
+    lines: bool,
     program: &Program,
     out: &mut Vec<u8>,
 ) -> Result<(), AllocError>
     ensures { OnOk result (out.new.items ≡ out.old.items
-        ++ c_file (record { text = text.now; tokens = tokens.now }) (program_view program.now)) }
+        ++ c_file (record { text = text.now; tokens = tokens.now; lines = lines }) (program_view program.now)) }
 {
-    let source = Source::new(alloc, text, tokens)?;
+    let source = Source::new(alloc, text, tokens, lines)?;
     append_file(alloc, &source, program, out)
 }
 
@@ -134,15 +135,17 @@ fn files(
     alloc: Global,
     text: &[u8],
     tokens: &Tokens<'_>,
+    lines: bool,
     system: &System,
     program: &Program,
 ) -> Result<Exported, AllocError>
-    ensures { IfOk result (AreFiles (tables_of system.now) text.now tokens.now (program_view program.now)) }
+    ensures { IfOk result (AreFiles (tables_of system.now)
+        (record { text = text.now; tokens = tokens.now; lines = lines }) (program_view program.now)) }
 {
     let mut header = Vec::new(alloc);
     append_header(alloc, system, program, &mut header)?;
     let mut bodies = Vec::new(alloc);
-    append_c(alloc, text, tokens, program, &mut bodies)?;
+    append_c(alloc, text, tokens, lines, program, &mut bodies)?;
     let mut main = Vec::new(alloc);
     append_main(program, &mut main)?;
     Ok(Exported {
@@ -153,17 +156,30 @@ fn files(
 }
 
 /// The C of a task text for the system of its configuration, or the first fault of the text's syntax: B1 or B5.
-/// `Memory` if an allocation is refused. That the text is one of the configuration is left to who checks it.
+/// `Memory` if an allocation is refused. That the text is one of the configuration is left to who checks it. With
+/// `lines`, a debugger shows the lines of the text, which it finds in the file `system.src`.
 #[tactic(auto, using(crate::proofs::Exports::is_exported))]
-pub fn export_c(alloc: Global, text: &[u8], system: &System) -> Result<Exported, BuildFault>
-    ensures { IsExported (tables_of system.now) text.now result }
+pub fn export_c_with_lines(
+    alloc: Global,
+    text: &[u8],
+    lines: bool,
+    system: &System,
+) -> Result<Exported, BuildFault>
+    ensures { IsExportedWith lines (tables_of system.now) text.now result }
 {
     let program = read_tasks(alloc, text)?;
     match tokens(alloc, text) {
-        Ok(list) => match files(alloc, text, &list.tokens, system, &program) {
+        Ok(list) => match files(alloc, text, &list.tokens, lines, system, &program) {
             Ok(exported) => Ok(exported),
             Err(AllocError) => Err(BuildFault::Memory),
         },
         Err(_) => Err(BuildFault::Memory),
     }
+}
+
+/// The same without the lines of the text.
+pub fn export_c(alloc: Global, text: &[u8], system: &System) -> Result<Exported, BuildFault>
+    ensures { IsExported (tables_of system.now) text.now result }
+{
+    export_c_with_lines(alloc, text, false, system)
 }

@@ -1,11 +1,11 @@
-//! The comments of a text in C: lines that begin with `//`.
+//! The comments of a text in C, which are lines that begin with `//`, and its lines for a debugger.
 ghost use Rattle.std.specs.Prelude.{◌≡◌, ◌++◌, [], IfOk, OnOk};
 ghost use Rattle.fmp_export.specs.Remarks as spec;
-ghost use Rattle.fmp_export.specs.Remarks.{c_above, c_behind, c_finish, c_line_end, own_line, own_lines};
+ghost use Rattle.fmp_export.specs.Remarks.{c_above, c_behind, c_directive, c_finish, c_line_end, own_line, own_lines};
 ghost use Rattle.fmp_export.specs.Sources.{behind, source_view};
 
 use crate::source::{Landmark, Source, before, behind, from, gaps_between};
-use crate::text::append;
+use crate::text::{append, append_count};
 use std::alloc::{AllocError, Global};
 
 /// Whether no editor shows a byte.
@@ -232,4 +232,30 @@ pub fn finish(
     let gap = gaps_between(alloc, source, at, next)?;
     append_line_end(alloc, margin, &gap, out)?;
     Ok(next)
+}
+
+/// Appends what tells a debugger that the next line of C is this one of the text.
+#[tactic(auto, unfolding(crate::specs::Remarks::line_directive))]
+fn append_line_directive(line: u32, out: &mut Vec<u8>) -> Result<(), AllocError>
+    ensures { OnOk result (out.new.items ≡ out.old.items ++ spec.line_directive line) }
+{
+    append(b"#line ", out)?;
+    append_count(line as usize, out)?;
+    append(b" \"system.src\"\n", out)
+}
+
+/// Appends what tells a debugger that the next line of C is that of the token at a place, if the debugger is to know.
+pub fn append_directive(source: &Source<'_>, at: usize, out: &mut Vec<u8>) -> Result<(), AllocError>
+    ensures { OnOk result (out.new.items ≡ out.old.items ++ c_directive (source_view source.now) at) }
+{
+    match source.tokens.get(at) {
+        Some(token) => {
+            if source.lines {
+                append_line_directive(token.line, out)
+            } else {
+                Ok(())
+            }
+        }
+        None => Ok(()),
+    }
 }

@@ -14,6 +14,8 @@ pub struct Source<'a> {
     pub text: &'a [u8],
     /// Its tokens, in order.
     pub tokens: Vec<Token>,
+    /// Whether C tells its debugger the lines of the text.
+    pub lines: bool,
 }
 
 /// A token that is looked for.
@@ -89,11 +91,21 @@ fn all_tokens(alloc: Global, tokens: &Tokens<'_>) -> Result<Vec<Token>, AllocErr
 
 impl<'a> Source<'a> {
     /// A text and its tokens, so that each is looked up at once.
-    pub fn new(alloc: Global, text: &'a [u8], tokens: &Tokens<'_>) -> Result<Source<'a>, AllocError>
-        ensures { IfOk result (λ s. source_view s ≡ record { text = text.now; tokens = tokens.now }) }
+    pub fn new(
+        alloc: Global,
+        text: &'a [u8],
+        tokens: &Tokens<'_>,
+        lines: bool,
+    ) -> Result<Source<'a>, AllocError>
+        ensures { IfOk result (λ s. source_view s
+            ≡ record { text = text.now; tokens = tokens.now; lines = lines }) }
     {
         let tokens = all_tokens(alloc, tokens)?;
-        Ok(Source { text, tokens })
+        Ok(Source {
+            text,
+            tokens,
+            lines,
+        })
     }
 
     /// No text at all.
@@ -103,6 +115,7 @@ impl<'a> Source<'a> {
         Source {
             text: b"",
             tokens: Vec::new(alloc),
+            lines: false,
         }
     }
 }

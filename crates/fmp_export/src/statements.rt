@@ -11,7 +11,7 @@ ghost use Rattle.fmp_export.specs.Words.{c_name, tab};
 use crate::calls::append_call;
 use crate::expressions::expression;
 use crate::pieces::{Piece, matters};
-use crate::remarks::finish;
+use crate::remarks::{append_directive, finish};
 use crate::source::{Landmark, Source, behind, stands_at};
 use crate::text::{append, inner_margin};
 use crate::words::append_name;
@@ -360,6 +360,7 @@ pub fn append_block(
 {
     let mut next = at;
     for s in statements {
+        append_directive(source, next, out)?;
         next = append_statement(alloc, source, margin, margin, next, s, out)?;
     }
     Ok(next)
