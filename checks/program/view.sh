@@ -1951,6 +1951,10 @@ holds 'export: a function for each body' 'there is none' is_in 'void consume_bod
 holds 'export: a number for each object' 'there is none' is_in 'QUEUE = 1' bodies.h
 holds 'export: a row for each body' 'there is none' is_in '{"consume", consume_body},' main.c
 holds 'export: what builds the program' 'there is none' is_in 'exported:' Makefile
+shows 'export: with lines of the text' 0 export queue.cfg queue.src --c lined --line-directives
+holds 'export: the lines of the text' 'there are none' grep -q -F '#line 1 "system.src"' lined/bodies.c
+refused 'export: lines of the text for TOPPERS' 'cannot be used with' \
+    export queue.cfg queue.src --toppers faulty --line-directives
 cp project/bodies.c bodies.before
 echo kept > project/main.c
 echo replaced > project/bodies.c

@@ -20,7 +20,7 @@ _fmp_view() {
         stats) words="--recording --bound -h --help" ;;
         waves) words="--recording --bound --format -h --help" ;;
         timeline) words="--recording --bound --from --to --objects --html -h --help" ;;
-        export) words="--c --toppers --fmp3 -h --help" ;;
+        export) words="--c --toppers --fmp3 --line-directives -h --help" ;;
         import) words="--define --out -h --help" ;;
         help) COMPREPLY=($(compgen -W "code fault run step drive why explore diff expect stats waves timeline export import" -- "$word")); return ;;
     esac

@@ -1,7 +1,7 @@
 -- What an export writes.
-use Rattle.std.proofs.Common.{◌≡◌, ℕ, IfOk, List, [], ◌∷◌, Option, Result, Ok, Err, subst}
+use Rattle.std.proofs.Common.{◌≡◌, ℕ, Bool, IfOk, List, [], ◌∷◌, Option, Result, Ok, Err, subst}
 use Rattle.fmp_export.specs.declared.files.Exported.{Exported}
-use Rattle.fmp_export.specs.Files.{IsExported}
+use Rattle.fmp_export.specs.Files.{IsExportedWith}
 use Rattle.fmp_files.specs.Deeds.{Deed, Does, wrote}
 use Rattle.fmp_image.specs.Building.{Builds}
 use Rattle.fmp_image_bytes.specs.Images.{ImageTables}
@@ -10,10 +10,10 @@ use Rattle.fmp_view.specs.Exports.{IsExportOf}
 use Rattle.fmp_view.proofs.Printing.{does_then}
 
 -- the C of the system that two texts build is their C
-pub exports_of : (cfg src : List ℕ) (i : ImageTables) → Builds cfg src i → (r : Result Exported BuildFault)
-    → IsExported i.system src r → IfOk r (IsExportOf cfg src)
-exports_of cfg src i builds (Ok e) exported = record { image = i; builds = builds; exported = exported }
-exports_of cfg src i builds (Err fault) exported = tt
+pub exports_of : (lines : Bool) (cfg src : List ℕ) (i : ImageTables) → Builds cfg src i
+    → (r : Result Exported BuildFault) → IsExportedWith lines i.system src r → IfOk r (IsExportOf lines cfg src)
+exports_of lines cfg src i builds (Ok e) exported = record { image = i; builds = builds; exported = exported }
+exports_of lines cfg src i builds (Err fault) exported = tt
 
 -- a file was written, and then others
 pub written : (a b c : Option (List Deed)) (name bytes same : List ℕ) (deeds : List Deed) → bytes ≡ same

@@ -7,15 +7,15 @@ use Rattle.fmp_image.specs.Building.{Builds}
 use Rattle.fmp_image_bytes.specs.Images.{ImageTables}
 use Rattle.fmp_export.specs.declared.files.Exported.{Exported}
 use Rattle.fmp_export.specs.declared.project.TheConstants.{MAKEFILE}
-use Rattle.fmp_export.specs.Files.{IsExported}
+use Rattle.fmp_export.specs.Files.{IsExportedWith}
 use Rattle.fmp_view.specs.declared.exporting.Exporting.{Exporting}
 use Rattle.fmp_view.specs.Claimed.{IsFile}
 
--- the C of the bodies of a text, for the system that it builds with a configuration
-pub record IsExportOf (cfg src : List ℕ) (e : Exported) : Type 0 where
+-- the C of the bodies of a text, for the system that it builds with a configuration, with the text's lines or without
+pub record IsExportOf (lines : Bool) (cfg src : List ℕ) (e : Exported) : Type 0 where
   pub image : ImageTables
   pub builds : Builds cfg src image
-  pub exported : IsExported image.system src (Ok e)
+  pub exported : IsExportedWith lines image.system src (Ok e)
 
 -- the name of a file of a folder
 abbrev pub in_folder : (folder file : List ℕ) → List ℕ
@@ -37,9 +37,10 @@ project folder t e keeps_main =
     ∷ main_file folder e.main.items keeps_main))))
 
 -- the files of a folder are those of two texts
-pub record HasExportedTexts (t : Texts) (folder : List ℕ) (before after : Option (List Deed)) : Type 0 where
+pub record HasExportedTexts
+    (lines : Bool) (t : Texts) (folder : List ℕ) (before after : Option (List Deed)) : Type 0 where
   pub exported : Exported
-  pub is : IsExportOf t.cfg.now t.src.now exported
+  pub is : IsExportOf lines t.cfg.now t.src.now exported
   pub keeps_main : Bool
   pub written : Does before (project folder t exported keeps_main) after
 
@@ -48,4 +49,4 @@ pub record HasExported (files : Files) (x : Exporting) (before after : Option (L
   pub texts : Texts
   pub is_cfg : IsFile files x.names.cfg.now texts.cfg.now
   pub is_src : IsFile files x.names.src.now texts.src.now
-  pub has : HasExportedTexts texts x.folder.now before after
+  pub has : HasExportedTexts x.lines texts x.folder.now before after

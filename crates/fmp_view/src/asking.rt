@@ -224,6 +224,7 @@ fn exporting_of<'a>(words: &ArgMatches<'a>) -> Exporting<'a> {
     Exporting {
         names: names_of(words),
         folder: word_of(words, "c"),
+        lines: flag_of(words, "line-directives"),
     }
 }
 

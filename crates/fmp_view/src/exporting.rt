@@ -10,7 +10,7 @@ use crate::reading::read_both;
 use crate::texts::print_fault;
 use fmp_diagnosis::Texts;
 use fmp_export::project::MAKEFILE;
-use fmp_export::{Exported, export_c};
+use fmp_export::{Exported, export_c_with_lines};
 use fmp_files::{Failure, Outside, end, failed, refuse_mistake, write_file};
 use fmp_image::build;
 use fmp_lex::BuildFault;
@@ -19,11 +19,13 @@ use std::fs;
 use std::io::ErrorKind;
 use std::rt::Files;
 
-/// What is exported: the names of the files of two texts, and of a folder.
+/// What is exported: the names of the files of two texts, and of a folder, and whether a debugger is to show the lines
+/// of the text.
 #[derive(Clone, Copy)]
 pub struct Exporting<'a> {
     pub names: FileNames<'a>,
     pub folder: &'a str,
+    pub lines: bool,
 }
 
 /// The files of the folder.
@@ -62,12 +64,12 @@ pub fn is_over_input<O: Outside>(
 }
 
 /// The C of the bodies of a text, for the system that it builds with a configuration; or the first fault of the two.
-fn exported(alloc: Global, cfg: &[u8], src: &[u8]) -> Result<Exported, BuildFault>
-    ensures { IfOk result (IsExportOf cfg.now src.now) }
+fn exported(alloc: Global, lines: bool, cfg: &[u8], src: &[u8]) -> Result<Exported, BuildFault>
+    ensures { IfOk result (IsExportOf lines cfg.now src.now) }
 {
     match build(alloc, cfg, src) {
         Ok(image) => {
-            let exported = export_c(alloc, src, image.system());
+            let exported = export_c_with_lines(alloc, src, lines, image.system());
             drop(image);
             exported
         }
@@ -186,10 +188,10 @@ fn export_texts<O: Outside, R: Files>(
     texts: Texts<'_>,
     exporting: Exporting<'_>,
 ) -> u8
-    ensures { result ≡ 0 → HasExportedTexts texts.entry exporting.entry.folder.now
+    ensures { result ≡ 0 → HasExportedTexts exporting.entry.lines texts.entry exporting.entry.folder.now
         (O.done outside.old) (O.done outside.new) }
 {
-    match exported(alloc, texts.cfg, texts.src) {
+    match exported(alloc, exporting.lines, texts.cfg, texts.src) {
         Ok(exported) => give(alloc, outside, rt, exporting.folder, texts, &exported),
         Err(BuildFault::Memory) => end(outside, &Failure::Memory(AllocError)),
         Err(BuildFault::At(..)) => print_fault(alloc, outside, exporting.names, Form::Text).max(1),

@@ -154,6 +154,9 @@ const TARGET_DIR: &str =
     "Folder that gets system.cfg, bodies.h and bodies.c for TOPPERS/FMP 1, in place of
 files of these names. The folder is made if it is not there";
 
+/// Whose lines a debugger shows.
+const LINE_DIRECTIVES: &str = "Let a debugger show the lines of system.src";
+
 /// Another target.
 const FMP3: &str = "Write them for TOPPERS/FMP3";
 
@@ -373,6 +376,11 @@ static EXPORT: Form = Form {
         Argument("c", Kind::Either("DIR", "toppers"), DIR),
         Argument("toppers", Kind::Either("DIR", "c"), TARGET_DIR),
         Argument("fmp3", Kind::FlagWithout("c"), FMP3),
+        Argument(
+            "line-directives",
+            Kind::FlagWithout("toppers"),
+            LINE_DIRECTIVES,
+        ),
     ],
     example: "Example: fmp_view export examples/queue.cfg examples/queue.src --c queue",
 };
