@@ -1,7 +1,10 @@
 -- What a session tells of its kernel, and what it leaves.
 use Rattle.std.specs.Prelude.{ℕ, ◌≡◌, List, length}
+use Rattle.fmp_base.specs.declared.events.TaskState.{TaskState}
+use Rattle.fmp_base.specs.declared.states.TaskBlock.{TaskBlock}
 use Rattle.fmp_base.specs.Runs.{task_state}
 use Rattle.fmp_base.specs.States.{task_at}
+use Rattle.fmp_base.specs.Systems.{SystemTables}
 use Rattle.fmp_frames.specs.Frames.{each}
 use Rattle.fmp_instructions.specs.declared.instructions.MachineContext.{MachineContext}
 use Rattle.fmp_instructions.specs.Instructions.{BodyTables}
@@ -16,17 +19,19 @@ use Rattle.fmp_view.specs.declared.faults.Form.{Form}
 use Rattle.fmp_view.specs.declared.faults.Form.TheVariants as form
 
 -- the lines of the last event, or the objects of JSON
-abbrev pub first_text_of : Form → KernelView (List BodyTables) MachineContext → List ℕ
-first_text_of form.Text k = lines_now k
-first_text_of form.Json k = records_now k
+abbrev pub last_lines : Form → KernelView (List BodyTables) MachineContext → List ℕ
+last_lines form.Text k = lines_now k
+last_lines form.Json k = records_now k
 
--- the states of the tasks of a kernel, with names, as lines or as objects of JSON
+-- states of tasks, with names, as lines or as objects of JSON
+abbrev pub states_in : Form → SystemTables → List TaskState → List TaskBlock → List ℕ
+states_in form.Text sys xs bs = named_states sys 0 xs bs
+states_in form.Json sys xs bs = state_records sys 0 xs bs
+
+-- the states of the tasks of a kernel
 abbrev pub states_text_of : Form → KernelView (List BodyTables) MachineContext → List ℕ
-states_text_of form.Text k =
-    named_states k.system 0 (each (task_state k.world.state) (length k.system.tasks))
-    (each (task_at k.world.state.tasks) (length k.system.tasks))
-states_text_of form.Json k =
-    state_records k.system 0 (each (task_state k.world.state) (length k.system.tasks))
+states_text_of f k =
+    states_in f k.system (each (task_state k.world.state) (length k.system.tasks))
     (each (task_at k.world.state.tasks) (length k.system.tasks))
 
 -- a line that fails leaves the events of the session as they were

@@ -1,14 +1,15 @@
 //! What the commands of a session answer.
-ghost use Rattle.std.specs.Prelude.{◌≡◌, IfOk};
+ghost use Rattle.std.specs.Prelude.{◌≡◌, ◌++◌, IfOk, OnOk};
+ghost use Rattle.fmp_base.specs.Systems.{tables_of};
 ghost use Rattle.fmp_session.specs.Sessions.{IsSession};
-ghost use Rattle.fmp_view.specs.Stepped.{Leaves, states_text_of};
+ghost use Rattle.fmp_view.specs.Stepped.{Leaves, last_lines, states_in, states_text_of};
 
 use crate::faults::{FileNames, Form};
 use crate::open_image::OpenImage;
 use crate::session_files::{load, save};
 use crate::session_objects::state_of;
 use crate::why::why_of;
-use fmp_base::Event;
+use fmp_base::{Event, System, TaskBlock, TaskState};
 use fmp_files::{Failure, Outside};
 use fmp_frames::last_frame;
 use fmp_named::{append_state_records, append_states};
@@ -106,14 +107,15 @@ fn line_told(alloc: Global, form: Form, line: &[u8]) -> Result<Vec<u8>, AllocErr
     Ok(out)
 }
 
-/// Appends the lines of the last event that was done.
-fn append_last(
+/// Appends the lines of setup, or of the last event that was done.
+pub fn append_last(
     alloc: Global,
     session: &Session<'_>,
     form: Form,
     out: &mut Vec<u8>,
 ) -> Result<(), AllocError>
     requires { IsSession session.now }
+    ensures { OnOk result (out.new.items ≡ out.old.items ++ last_lines form session.now.kernel) }
 {
     match form {
         Form::Text => session.append_last(out),
@@ -189,7 +191,7 @@ fn taken_text(
     let mut out = Vec::new(alloc);
     for _turn in 0..times {
         if !take_one(alloc, session, form, e, &mut out)? {
-            break;
+            return Ok(out);
         }
     }
     Ok(out)
@@ -231,6 +233,24 @@ fn back_text(
     Ok(out)
 }
 
+/// Appends the states of the tasks, from what is shown and what is kept of them.
+fn append_states_in(
+    alloc: Global,
+    form: Form,
+    sys: &System,
+    states: &[TaskState],
+    blocks: &[TaskBlock],
+    out: &mut Vec<u8>,
+) -> Result<(), AllocError>
+    ensures { OnOk result (out.new.items
+        ≡ out.old.items ++ states_in form (tables_of sys.now) states.now blocks.now) }
+{
+    match form {
+        Form::Text => append_states(sys, states, blocks, out),
+        Form::Json => append_state_records(alloc, sys, states, blocks, out),
+    }
+}
+
 /// The states of the tasks.
 pub fn states_text(alloc: Global, session: &Session<'_>, form: Form) -> Result<Vec<u8>, AllocError>
     requires { IsSession session.now }
@@ -239,18 +259,16 @@ pub fn states_text(alloc: Global, session: &Session<'_>, form: Form) -> Result<V
     let image = session.image();
     let frame = last_frame(alloc, session.kernel(), &image.vm(), session.bound())?;
     let mut out = Vec::new(alloc);
-    let appended = match form {
-        Form::Text => append_states(image.system(), &frame.states, &frame.blocks, &mut out),
-        Form::Json => append_state_records(
-            alloc,
-            image.system(),
-            &frame.states,
-            &frame.blocks,
-            &mut out,
-        ),
-    };
+    let told = append_states_in(
+        alloc,
+        form,
+        image.system(),
+        &frame.states,
+        &frame.blocks,
+        &mut out,
+    );
     drop(frame);
-    appended?;
+    told?;
     Ok(out)
 }
 
@@ -292,6 +310,7 @@ fn told(
 }
 
 /// Carries out a command of a line, and gives its answer.
+#[tactic(auto, using(crate::proofs::SessionLemmas::leaves_all))]
 pub fn answer_of<O: Outside>(
     alloc: Global,
     outside: &mut O,

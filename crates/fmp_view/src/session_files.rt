@@ -53,6 +53,7 @@ fn take_all(
 }
 
 /// Takes the events of a steps text, if there is room for all of them.
+#[tactic(auto, using(crate::proofs::SessionLemmas::leaves_all))]
 fn take_events(
     alloc: Global,
     session: &mut Session<'_>,
@@ -70,6 +71,7 @@ fn take_events(
 }
 
 /// Takes the events of the steps text of a file of this name, if it has no fault.
+#[tactic(auto, using(crate::proofs::SessionLemmas::leaves_all))]
 fn take_text(
     alloc: Global,
     session: &mut Session<'_>,
@@ -89,6 +91,7 @@ fn take_text(
 }
 
 /// Takes the events of the steps text of a file.
+#[tactic(auto, using(crate::proofs::SessionLemmas::leaves_all))]
 pub fn load<O: Outside>(
     alloc: Global,
     outside: &O,

@@ -1,9 +1,9 @@
 //! A session over the system of two texts: commands that are typed or sent one by one, and what each of them answers.
 ghost use Rattle.std.specs.Prelude.{◌≡◌, IfOk};
 ghost use Rattle.fmp_session.specs.Sessions.{IsSession};
-ghost use Rattle.fmp_view.specs.Stepped.{first_text_of};
+ghost use Rattle.fmp_view.specs.Stepped.{last_lines};
 
-use crate::answering::{Answer, Stepping, answer_of};
+use crate::answering::{Answer, Stepping, answer_of, append_last};
 use crate::faults::Form;
 use crate::mistakes::mistake_text;
 use crate::ranges::kept_bound;
@@ -107,22 +107,42 @@ fn give_answer<O: Outside>(
     outside: &mut O,
     form: Form,
     (number, events): (u32, usize),
-    answer: Result<Answer, AllocError>,
+    answer: Result<Option<Answer>, AllocError>,
 ) -> Next {
     match answer {
-        Ok(Answer::Told(told)) => next_after(
+        Ok(None) => Next::End(0),
+        Ok(Some(Answer::Told(told))) => next_after(
             print_told(alloc, outside, form, events, told),
             Next::Line,
         ),
-        Ok(Answer::Refused(reason)) => next_after(
+        Ok(Some(Answer::Refused(reason))) => next_after(
             say_failed(alloc, outside, form, (number, events), &reason),
             Next::Failed(LINE_FAILED),
         ),
-        Ok(Answer::NoFile(failure)) => next_after(
+        Ok(Some(Answer::NoFile(failure))) => next_after(
             say_file(alloc, outside, form, events, &failure),
             Next::Failed(FILE_FAILED),
         ),
         Err(error) => Next::End(end(outside, &Failure::Memory(error))),
+    }
+}
+
+/// What a line answers; nothing where it ends the session.
+fn answered<O: Outside>(
+    alloc: Global,
+    outside: &mut O,
+    session: &mut Session<'_>,
+    stepping: Stepping<'_>,
+    line: &[u8],
+) -> Result<Option<Answer>, AllocError>
+    requires { IsSession session.old }
+    ensures { IsSession session.new }
+{
+    let processors = session.image().system().processors;
+    match command_of(line, processors, stepping.interrupts) {
+        Ok(Command::Quit) => Ok(None),
+        Ok(command) => Ok(Some(answer_of(alloc, outside, session, stepping, command, line)?)),
+        Err(mistake) => Ok(Some(Answer::Refused(mistake_text(alloc, mistake, line, processors)?))),
     }
 }
 
@@ -138,15 +158,7 @@ fn carry_out_line<O: Outside>(
     requires { IsSession session.old }
     ensures { IsSession session.new }
 {
-    let processors = session.image().system().processors;
-    let answer = match command_of(line, processors, stepping.interrupts) {
-        Ok(Command::Quit) => return Next::End(0),
-        Ok(command) => answer_of(alloc, outside, session, stepping, command, line),
-        Err(mistake) => match mistake_text(alloc, mistake, line, processors) {
-            Ok(reason) => Ok(Answer::Refused(reason)),
-            Err(error) => Err(error),
-        },
-    };
+    let answer = answered(alloc, outside, session, stepping, line);
     let events = session.events().len();
     give_answer(alloc, outside, stepping.form, (number, events), answer)
 }
@@ -210,13 +222,10 @@ fn ask<O: Outside>(outside: &mut O, stepping: Stepping<'_>, text: &'static str) 
 /// The lines of setup, with which a session begins.
 fn first_text(alloc: Global, session: &Session<'_>, form: Form) -> Result<Vec<u8>, AllocError>
     requires { IsSession session.now }
-    ensures { IfOk result (λ out. out.items ≡ first_text_of form session.now.kernel) }
+    ensures { IfOk result (λ out. out.items ≡ last_lines form session.now.kernel) }
 {
     let mut out = Vec::new(alloc);
-    match form {
-        Form::Text => session.append_last(&mut out)?,
-        Form::Json => session.append_last_records(alloc, &mut out)?,
-    }
+    append_last(alloc, session, form, &mut out)?;
     Ok(out)
 }
 
