@@ -165,8 +165,10 @@ def wanted(moment, tasks, cyclics):
             if lock is not None:
                 yield f"processor {last[1:]}", actor + lock + dispatch
         elif variable == "state":
+            processor = moment[f"{scope}/processor"]
+            is_under = STATES[value] == "running" and moment[f"p{processor}/handler"]
             priority = f", priority {moment[f'{scope}/priority']}" if value else ""
-            yield last, (STATES[value], f", processor {moment[f'{scope}/processor']}{priority}")
+            yield last, ("interrupted by " if is_under else STATES[value], f", processor {processor}{priority}")
         elif variable == "handling":
             yield last if scope.startswith("cyclic/") else last.replace("i", "interrupt "), HANDLING[value]
         elif variable in ("count", "pattern", "words", "messages", "value"):
