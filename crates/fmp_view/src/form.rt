@@ -478,7 +478,8 @@ static TIMELINE: Form = Form {
         Argument(
             "html",
             Kind::Flag,
-            "Write a page around the picture that shows each state and what happened; objects are drawn too",
+            "Write a page around the picture that shows each state and what happened;
+objects are drawn too",
         ),
     ],
     example: "Example: fmp_view timeline queue.img drive.steps queue.svg --from 2 --to 5",
