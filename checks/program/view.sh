@@ -1593,6 +1593,42 @@ END
 marks interrupt
 same 'timeline: the picture of the README' "$root/docs/timeline.svg" interrupt.svg
 
+# A page has the picture as it is, and the states of each thing as lists of changes.
+shows 'timeline: a page' 0 timeline --html interrupt.img interrupt.steps interrupt.html
+sed -n '/^<svg /,/^<\/svg>/p' interrupt.html > page.svg
+same 'timeline: the picture of a page' interrupt.svg page.svg
+shows 'timeline: the page of queue' 0 timeline --html queue.img queue.steps queue.html
+things_of() { grep -o '{"name":[^}]*}' "$1" | sed 's/\],\[/],\n[/g'; }
+cat > wanted <<'END'
+{"name":"1","states":[[[0,"PRODUCER"],
+[1,"CONSUMER"],
+[2,"PRODUCER"],
+[3,"CONSUMER"],
+[5,"PRODUCER"],
+[6,"idle"]],
+[[0,""]],
+[[0,""]]]}
+{"name":"PRODUCER","states":[[[0,"running, processor 1"],
+[1,"ready, processor 1"],
+[2,"running, processor 1"],
+[3,"ready, processor 1"],
+[5,"running, processor 1"],
+[6,"dormant, processor 1"]],
+[[0,"priority 10"]]]}
+{"name":"CONSUMER","states":[[[0,"dormant, processor 1"],
+[1,"running, processor 1"],
+[2,"waiting for a word of data queue QUEUE, processor 1"],
+[3,"running, processor 1"],
+[5,"dormant, processor 1"]],
+[[1,"priority 5"]]]}
+{"name":"QUEUE","states":[[[0,"0"],
+[2,"0, waiting: CONSUMER"],
+[3,"0"]]]}
+END
+gives 'timeline: the states of a page' things_of queue.html
+begin='"lines":"0 p1 PRODUCER starts\\n0 p1 > PRODUCER\\n1 p1'
+holds 'timeline: the lines of a page' 'they differ' grep -q "$begin" queue.html
+
 # Who holds a lock, and who spins for it: from when its next call asks for the lock that is held, whether or not a step
 # tries it, up to the call that gets it. FILL would ask for it at event 12.
 drawn pipeline
