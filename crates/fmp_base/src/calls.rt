@@ -10,7 +10,7 @@ use crate::services::Service;
 /// Objects, tasks, processors and messages go by their numbers, from 1; `task` 0 is TSK_SELF, the caller, where a call
 /// allows it. A `limit` is in ticks, or -1 (TMO_FEVR) or 0 (TMO_POL); a `delay` is in ticks; a `priority` is 1 to 16,
 /// or 0 (TPRI_INI, TPRI_SELF) where a call allows it.
-#[derive(Clone, Copy, PartialEq, Eq)]
+#[derive(Clone, Copy)]
 pub enum Call {
     /// Prints a value into the trace (this kernel's own).
     Put {

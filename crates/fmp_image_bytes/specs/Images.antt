@@ -49,15 +49,23 @@ abbrev pub also : {F A B : Type 0} → RowForm F A → (RowContext → List Key 
 also form behind context taken =
     chained (table_of form context taken) (λ rows. behind context (taken ++ map form.key_of rows))
 
+abbrev pub TheLaterTables : Type 0
+TheLaterTables = List MessageConfig × (List SharedWordConfig × (List SpinLockConfig × (List CyclicConfig
+    × List InterruptConfig)))
+
 abbrev pub TheTables : Type 0
 TheTables = List TaskConfig × (List SemaphoreConfig × (List FlagConfig × (List DataQueueConfig × (List MailboxConfig
-    × (List MessageConfig
-    × (List SharedWordConfig × (List SpinLockConfig × (List CyclicConfig × List InterruptConfig))))))))
+    × TheLaterTables))))
+
+-- the tables from that of messages on, in order
+abbrev pub later_tables : RowContext → List Key → Field TheLaterTables
+later_tables = also message_form (also shared_word_form (also spin_lock_form (also cyclic_form
+    (table_of interrupt_form))))
 
 -- all tables in order
 abbrev pub tables : RowContext → List Key → Field TheTables
-tables = also task_form (also semaphore_form (also flag_form (also data_queue_form (also mailbox_form (also message_form
-    (also shared_word_form (also spin_lock_form (also cyclic_form (table_of interrupt_form)))))))))
+tables = also task_form (also semaphore_form (also flag_form (also data_queue_form (also mailbox_form
+    later_tables))))
 
 abbrev pub Parts : Type 0
 Parts = (List ℕ × (ℕ × ℕ)) × ((List BodyHead × List BodyTables) × TheTables)

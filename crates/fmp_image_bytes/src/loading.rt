@@ -6,12 +6,15 @@ ghost use Rattle.fmp_instructions.specs.Instructions.{code_tables};
 ghost use Rattle.fmp_image_parts.specs.Fields.{Gives};
 ghost use Rattle.fmp_image_parts.specs.Versions as versions;
 ghost use Rattle.fmp_image_rows.specs.Rows.{context_of};
-ghost use Rattle.fmp_image_bytes.specs.Images.{ImageTables, Spells, tables, tables_in, image_tables, image_at};
+ghost use Rattle.fmp_image_bytes.specs.Images.{◌▹◌, ImageTables, Spells};
+ghost use Rattle.fmp_image_bytes.specs.Images.{image_at, image_tables, later_tables, tables, tables_in};
 ghost use Rattle.fmp_image_bytes.specs.OlderImages.{MeansTheSame};
 
 use crate::image::Image;
 use crate::laws::older_images_mean_the_same;
-use fmp_base::System;
+use fmp_base::{
+    CyclicConfig, InterruptConfig, MessageConfig, SharedWordConfig, SpinLockConfig, System,
+};
 use fmp_image_parts::fault::{ImageFault, LoadFault};
 use fmp_image_parts::keys::TakenKeys;
 use fmp_image_parts::{BodyHead, read_bodies};
@@ -19,6 +22,47 @@ use fmp_image_rows::read_table;
 use fmp_image_rules::{is_end, queue_limit_of, read_header};
 use fmp_instructions::Code;
 use std::alloc::Global;
+
+/// The tables of a system from that of messages on.
+struct LaterTables {
+    messages: Vec<MessageConfig>,
+    shared_words: Vec<SharedWordConfig>,
+    spin_locks: Vec<SpinLockConfig>,
+    cyclics: Vec<CyclicConfig>,
+    interrupts: Vec<InterruptConfig>,
+}
+
+/// Reads the tables from that of messages on, behind those whose keys are taken.
+fn read_later_tables<'a>(
+    alloc: Global,
+    version: u16,
+    processors: u8,
+    heads: &[BodyHead],
+    taken: &mut TakenKeys,
+    bytes: &'a [u8],
+) -> Result<(LaterTables, &'a [u8]), LoadFault>
+    ensures { Gives
+        (λ x. (
+          (x.0.messages.items ▹ x.0.shared_words.items ▹ x.0.spin_locks.items ▹ x.0.cyclics.items
+              ▹ x.0.interrupts.items),
+          x.1.now,
+        ))
+        result ((later_tables (context_of version processors heads.now) taken.old.keys).read bytes.now) }
+{
+    let (messages, rest) = read_table(alloc, version, processors, heads, taken, bytes)?;
+    let (shared_words, rest) = read_table(alloc, version, processors, heads, taken, rest)?;
+    let (spin_locks, rest) = read_table(alloc, version, processors, heads, taken, rest)?;
+    let (cyclics, rest) = read_table(alloc, version, processors, heads, taken, rest)?;
+    let (interrupts, rest) = read_table(alloc, version, processors, heads, taken, rest)?;
+    let later = LaterTables {
+        messages,
+        shared_words,
+        spin_locks,
+        cyclics,
+        interrupts,
+    };
+    Ok((later, rest))
+}
 
 /// Reads all tables of a system. Its queue limit is that of the version.
 fn read_tables<'a>(
@@ -39,11 +83,14 @@ fn read_tables<'a>(
     let (flags, rest) = read_table(alloc, version, processors, heads, &mut taken, rest)?;
     let (data_queues, rest) = read_table(alloc, version, processors, heads, &mut taken, rest)?;
     let (mailboxes, rest) = read_table(alloc, version, processors, heads, &mut taken, rest)?;
-    let (messages, rest) = read_table(alloc, version, processors, heads, &mut taken, rest)?;
-    let (shared_words, rest) = read_table(alloc, version, processors, heads, &mut taken, rest)?;
-    let (spin_locks, rest) = read_table(alloc, version, processors, heads, &mut taken, rest)?;
-    let (cyclics, rest) = read_table(alloc, version, processors, heads, &mut taken, rest)?;
-    let (interrupts, rest) = read_table(alloc, version, processors, heads, &mut taken, rest)?;
+    let (later, rest) = read_later_tables(alloc, version, processors, heads, &mut taken, rest)?;
+    let LaterTables {
+        messages,
+        shared_words,
+        spin_locks,
+        cyclics,
+        interrupts,
+    } = later;
     let system = System {
         processors,
         queue_limit: queue_limit_of(version),

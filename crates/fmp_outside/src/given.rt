@@ -6,7 +6,7 @@ ghost use Rattle.fmp_outside.specs.Outside.{act_of as act_by, event_of};
 use fmp_base::{Call, Event, Fault, Stretch};
 
 /// What a body does at the end of a stretch.
-#[derive(Clone, Copy, PartialEq, Eq)]
+#[derive(Clone, Copy)]
 pub enum Act {
     /// It makes this service call.
     Call(Call),
@@ -17,7 +17,7 @@ pub enum Act {
 }
 
 /// What comes to a kernel whose bodies run outside.
-#[derive(Clone, Copy, PartialEq, Eq)]
+#[derive(Clone, Copy)]
 pub enum Given {
     /// The actor of the processor of this number, from 1, does this.
     Act(u8, Act),
