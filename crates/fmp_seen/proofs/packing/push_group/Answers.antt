@@ -1,16 +1,20 @@
-use Rattle.std.proofs.Common.{◌≡◌, ◌<◌, ◌+◌, ◌∷◌, ◌++◌, ℕ, List, length, ap, pow-suc, add-one, ◌^◌, ◌∙◌, arith, length-append}
+use Rattle.std.proofs.Common.{◌≡◌, ◌<◌, ◌+◌, ◌^◌, ◌∷◌, ◌++◌, ℕ, List, length, ap, ◌∙◌, add-one, pow-suc, arith}
+use Rattle.std.proofs.lemmas.List.{length-append}
 use Rattle.std.proofs.lemmas.List.{set_at}
 use Rattle.std.specs.Prelude.{slice_set}
 use Rattle.fmp_seen.specs.Rows.{changes_of, mask_of}
-use Rattle.fmp_seen.proofs.RowLemmas.{bit-clear, bit-set, changes-clear, changes-set, changes-whole, mask-fits, mask-small, mask-whole}
+use Rattle.fmp_seen.proofs.RowLemmas.{bit-clear, bit-set, changes-clear, changes-set, changes-whole}
+use Rattle.fmp_seen.proofs.RowLemmas.{mask-fits, mask-small, mask-whole}
 use Rattle.fmp_seen.proofs.packing.push_group.Goals as goal
 use Rattle.fmp_seen.proofs.packing.push_group.Goals.{then-values-k+in_ok-push_number, else-values-k}
 
 pub overflow_add-mask : goal.overflow_add-mask
 overflow_add-mask c =
     let l = c.loop-k in
+    let f = c.args.first.now in
+    let v = c.args.values.now in
     let low : l.mask + l.bit < 4294967296 =
-    mask-fits l.k l.mask l.bit c.args.first.now c.args.values.now c.requires (omega arith) l.invariant.unit l.invariant.told in
+    mask-fits l.k l.mask l.bit f v c.requires (omega arith) l.invariant.unit l.invariant.told in
     omega (arith, low)
 
 pub loop-k-preserved : goal.loop-k-preserved
@@ -25,9 +29,11 @@ loop-k-preserved c =
       told =
           elim c.if-values-k.branch [
             | then-values-k+in_ok-push_number w ↦
-                rw w.mask-is (bit-set l.k l.mask l.bit (mask_of f v) f v in_first in_values w.if-values-k.true l.invariant.told)
+                rw w.mask-is
+                (bit-set l.k l.mask l.bit (mask_of f v) f v in_first in_values w.if-values-k.true l.invariant.told)
             | else-values-k w ↦
-                rw w.mask-is (bit-clear l.k l.mask l.bit (mask_of f v) f v in_first in_values w.if-values-k.false l.invariant.told)
+                rw w.mask-is
+                (bit-clear l.k l.mask l.bit (mask_of f v) f v in_first in_values w.if-values-k.false l.invariant.told)
           ];
       unit = omega (arith, l.invariant.unit, pow-suc 2 l.k, ap (λ (n : ℕ). 2 ^ n) (add-one l.k));
       bytes =
@@ -37,16 +43,18 @@ loop-k-preserved c =
                 (changes-set l.k l.row.items w.push_number.new.row.items f v all in_first in_values w.if-values-k.true
                 w.in_ok-push_number.ensures l.invariant.bytes)
             | else-values-k w ↦
-                rw w.row-is (changes-clear l.k l.row.items f v all in_first in_values w.if-values-k.false l.invariant.bytes)
+                rw w.row-is
+                (changes-clear l.k l.row.items f v all in_first in_values w.if-values-k.false l.invariant.bytes)
           ];
     }
 
 pub overflow_cast-mask : goal.overflow_cast-mask
 overflow_cast-mask c =
     let l = c.loop-k in
-    let whole : l.mask ≡ mask_of c.args.first.now c.args.values.now =
-    mask-whole l.k l.mask l.bit c.args.first.now c.args.values.now (omega arith) l.invariant.told in
-    let small : mask_of c.args.first.now c.args.values.now < 256 = mask-small 8 c.args.first.now c.args.values.now c.requires in
+    let f = c.args.first.now in
+    let v = c.args.values.now in
+    let whole : l.mask ≡ mask_of f v = mask-whole l.k l.mask l.bit f v (omega arith) l.invariant.told in
+    let small : mask_of f v < 256 = mask-small 8 f v c.requires in
     omega (arith, whole, small)
 
 pub index_mut-requires : goal.index_mut-requires
