@@ -1,5 +1,6 @@
 -- The values of fields of a body, one by one.
-use Rattle.std.proofs.Common.{◌≡◌, ◌<◌, ◌+◌, ℕ, List, [], ◌∷◌, ◌++◌, Option, Some, length, map, sym, ap, ◌∙◌, take, arith}
+use Rattle.std.proofs.Common.{◌≡◌, ◌<◌, ◌+◌, ℕ, List, [], ◌∷◌, ◌++◌, Option, Some, length, map, sym, ap, ◌∙◌, take}
+use Rattle.std.proofs.Common.{arith}
 use Rattle.std.specs.Prelude.{get_or, slice_set}
 use Rattle.std.proofs.lemmas.List.{map-append, take_more, take_more_set}
 use Rattle.fmp_base.specs.Meanings.{World}
@@ -19,7 +20,8 @@ body-more sys w came o c fields values at v d lt long own of_body is read =
     let f : What = get_or fields at d in
     let told : number_of sys w came f ≡ body_number (owned_by w o) f =
     ap (λ (x : Option Owner). number_by x sys w came f) of_body in
-    let value : v ≡ number_of sys w came f = is ∙ (ap (λ (x : Option MachineContext). body_number x f) own ∙ sym told) in
+    let value : v ≡ number_of sys w came f =
+    is ∙ (ap (λ (x : Option MachineContext). body_number x f) own ∙ sym told) in
     take_more_set values at v (omega (arith, lt, long))
     ∙ (ap (λ (xs : List ℕ). xs ++ v ∷ []) read
     ∙ (ap (λ (n : ℕ). map (number_of sys w came) (take at fields) ++ n ∷ []) value

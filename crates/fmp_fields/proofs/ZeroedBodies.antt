@@ -144,8 +144,8 @@ module _ (sys : SystemTables) (tables : List LiveTable) (w : World MachineContex
       by_phase (is_dormant (task_at w.state.tasks t).phase) refl e where
         by_phase : (b : Bool) → is_dormant (task_at w.state.tasks t).phase ≡ b
             → unless b (kept_context (context_at w.contexts.tasks t)) ≡ Some c
-            → with_zeros (row_of (table_at tables (task_body sys t)) c.pc (is_going (context_at w.contexts.tasks t))) (Some c)
-            ≡ owned_by (zeroed sys tables w) (owner.Task t)
+            → with_zeros (row_of (table_at tables (task_body sys t)) c.pc (is_going (context_at w.contexts.tasks t)))
+            (Some c) ≡ owned_by (zeroed sys tables w) (owner.Task t)
         by_phase true off there = absurd cc
         by_phase false on there =
             context-zeroed (table_at tables (task_body sys t)) (context_at w.contexts.tasks t) c there

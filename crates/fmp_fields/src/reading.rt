@@ -1,5 +1,5 @@
-//! The values of the fields in a state. Fields that one block or one context tells stand side by side, so it is looked up
-//! once for all of them.
+//! The values of the fields in a state. The fields of a task stand side by side, so its block and its context are looked
+//! up once for all of them.
 ghost use Rattle.std.specs.Prelude.{◌≡◌, ◌<◌, ◌≤◌, ℕ, IfOk, IfSome, None, Some, length, map, slice_get};
 ghost use Rattle.fmp_base.specs.Meanings.{World};
 ghost use Rattle.fmp_fields.specs.FieldNumbers.{number_of, owner_of as owner_by, task_of as task_by};
