@@ -1,5 +1,5 @@
--- Expressions in C: the text of each, the faults that its evaluation may end with, whether an operator stands outermost,
--- and where the task text goes on behind its numbers.
+-- Expressions in C: the text of each, the faults that its evaluation may end with, whether an operator stands
+-- outermost, and where the task text goes on behind its numbers.
 use Rattle.std.specs.Prelude.{ℕ, ℤ, pos, negsuc, List, ◌++◌, codes, drop, take, Bool, true, false, Option, Some, None}
 use Rattle.std.specs.Fmt.{signed_decimal}
 use Rattle.fmp_base.specs.declared.operators.UnaryOperator.{UnaryOperator}

@@ -143,7 +143,7 @@ abbrev pub else_end : (chain : Bool) → (chained block : ℕ) → SourceText �
 else_end true chained block s = chained
 else_end false chained block s = behind landmark.RightBrace s block
 
--- where a choice ends whose `}` before the `else` stands at a place, given where its other block ends that begins at one
+-- where a choice ends whose `}` before the `else` stands at a place, given where its other block ends
 abbrev pub choice_end_by : (end : ℕ → ℕ) → SourceText → (at : ℕ) → Block → ℕ
 choice_end_by end s at o = else_end (goes_on s at o) (end at) (end (behind landmark.LeftBrace s at)) s
 
@@ -224,5 +224,5 @@ abbrev mutual
 -- what stands behind the `if` of a choice, whose `}` stands at a place
 abbrev pub c_choice : SourceText → (margin : List ℕ) → (at : ℕ) → Block → List ℕ
 c_choice s margin at o =
-    c_choice_by (λ i. c_chained s (margin ++ codes "} else ") margin i o) (λ i. c_block s (margin ++ tab) i o) s margin at
-    o
+    c_choice_by (λ i. c_chained s (margin ++ codes "} else ") margin i o) (λ i. c_block s (margin ++ tab) i o) s margin
+    at o

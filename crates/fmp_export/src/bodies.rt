@@ -179,8 +179,8 @@ fn append_commented(
     Ok(gap)
 }
 
-/// Appends the functions of bodies, and the comments that stand above, between and below them. Those of the lines `above`
-/// come first.
+/// Appends the functions of bodies, and the comments that stand above, between and below them. Those of the lines
+/// `above` come first.
 pub fn append_commented_bodies(
     alloc: Global,
     source: &Source<'_>,

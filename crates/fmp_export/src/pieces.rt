@@ -1,5 +1,5 @@
-//! Expressions in C: the text of each, which faults its evaluation may end with, whether an operator stands outermost in
-//! it, and where the task text goes on behind its numbers.
+//! Expressions in C: the text of each, which faults its evaluation may end with, whether an operator stands outermost,
+//! and where the task text goes on behind its numbers.
 ghost use Rattle.std.specs.Prelude.{◌≡◌, ◌++◌, IfOk, OnOk};
 ghost use Rattle.std.specs.Option.{option_map};
 ghost use Rattle.fmp_export.specs.Sources.{source_view};

@@ -204,8 +204,8 @@ fn goes_on(source: &Source<'_>, at: usize, otherwise: &[Statement]) -> bool
         )
 }
 
-/// Appends a statement at a place, of which the first line begins with `front` and each other line with the margin. Gives
-/// the place behind it.
+/// Appends a statement at a place, of which the first line begins with `front` and each other line with the margin.
+/// Gives the place behind it.
 #[cycle(statements_in_c)]
 fn append_statement(
     alloc: Global,

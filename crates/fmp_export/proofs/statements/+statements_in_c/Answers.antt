@@ -40,7 +40,8 @@ append_statement-returns-in_ok-next-in-If-clause-next t c =
     (λ next e. e ∙ ap (λ i. behind landmark.RightBrace s (block_end s i b)) c.in_ok-next-in-If.ensures.next
     ∙ ap (λ x. statement_end s at x) (sym view)) c.append_closed.ensures.next
 
-pub append_statement-returns-in_ok-next-in-IfElse-2-clause-text : goal.append_statement-returns-in_ok-next-in-IfElse-2-clause-text
+pub append_statement-returns-in_ok-next-in-IfElse-2-clause-text :
+    goal.append_statement-returns-in_ok-next-in-IfElse-2-clause-text
 append_statement-returns-in_ok-next-in-IfElse-2-clause-text t c =
     let s = source_view c.args.source.now in
     let front = c.args.front.now in
@@ -65,7 +66,8 @@ append_statement-returns-in_ok-next-in-IfElse-2-clause-text t c =
     (e ∙ ap (λ i. c.append_inner.new.out.items ++ c_choice s margin i o) end))
     ∙ ap (λ x. c.args.out.now.items ++ c_statement s front margin at x) (sym view)) c.append_choice.ensures.text
 
-pub append_statement-returns-in_ok-next-in-IfElse-2-clause-next : goal.append_statement-returns-in_ok-next-in-IfElse-2-clause-next
+pub append_statement-returns-in_ok-next-in-IfElse-2-clause-next :
+    goal.append_statement-returns-in_ok-next-in-IfElse-2-clause-next
 append_statement-returns-in_ok-next-in-IfElse-2-clause-next t c =
     let s = source_view c.args.source.now in
     let at = c.args.at in
@@ -80,7 +82,8 @@ append_statement-returns-in_ok-next-in-IfElse-2-clause-next t c =
     (λ next e. e ∙ ap (λ i. choice_end s i o) end ∙ ap (λ x. statement_end s at x) (sym view))
     c.append_choice.ensures.next
 
-pub append_statement-returns-in_ok-next-in-While-clause-text : goal.append_statement-returns-in_ok-next-in-While-clause-text
+pub append_statement-returns-in_ok-next-in-While-clause-text :
+    goal.append_statement-returns-in_ok-next-in-While-clause-text
 append_statement-returns-in_ok-next-in-While-clause-text t c =
     let s = source_view c.args.source.now in
     let front = c.args.front.now in
@@ -99,9 +102,11 @@ append_statement-returns-in_ok-next-in-While-clause-text t c =
     ∙ ap
     (λ i. c.append_head-in-While.new.out.items ++ c_closed s margin (c_block s (margin ++ tab) i b) (block_end s i b))
     c.in_ok-next-in-While.ensures.next)
-    ∙ ap (λ x. c.args.out.now.items ++ c_statement s front margin at x) (sym view)) c.append_closed-in-While.ensures.text
+    ∙ ap (λ x. c.args.out.now.items ++ c_statement s front margin at x) (sym view))
+    c.append_closed-in-While.ensures.text
 
-pub append_statement-returns-in_ok-next-in-While-clause-next : goal.append_statement-returns-in_ok-next-in-While-clause-next
+pub append_statement-returns-in_ok-next-in-While-clause-next :
+    goal.append_statement-returns-in_ok-next-in-While-clause-next
 append_statement-returns-in_ok-next-in-While-clause-next t c =
     let s = source_view c.args.source.now in
     let at = c.args.at in
