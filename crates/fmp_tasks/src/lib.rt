@@ -11,6 +11,8 @@ mod messages;
 pub mod order;
 mod queues;
 mod restart;
+pub mod restoring;
+pub mod saved;
 mod setup;
 pub mod tables;
 pub mod tasks;
@@ -19,4 +21,5 @@ mod words;
 
 pub use config::copied_system;
 pub use order::Order;
+pub use saved::{SavedMessage, SavedState, SavedWord};
 pub use tables::Tables;

@@ -20,7 +20,7 @@ use fmp_waitq::{ObjectCounts, WaitQueues};
 use std::alloc::{AllocError, Global};
 
 /// A task that has been created and not started.
-fn created(config: &TaskConfig) -> TaskBlock
+pub fn created(config: &TaskConfig) -> TaskBlock
     ensures { result ≡ created_block config.now }
 {
     TaskBlock {

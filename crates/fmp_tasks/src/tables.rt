@@ -24,6 +24,7 @@ use std::marker::Model;
 mod clock;
 mod configs;
 mod copying;
+mod laws;
 mod processors;
 mod queued;
 mod tasks;

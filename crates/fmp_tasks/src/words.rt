@@ -71,6 +71,13 @@ impl Words {
         self.ring.push_back_reserved(word);
     }
 
+    /// Takes all words out.
+    pub fn clear(&mut self)
+        ensures { self.new ≡ [] }
+    {
+        self.ring.clear();
+    }
+
     /// Takes the oldest word out, if there is one.
     pub fn drop_oldest(&mut self)
         ensures { self.new ≡ without_oldest self.old }

@@ -73,6 +73,14 @@ impl Tables {
         self.words[d as usize].force(word);
     }
 
+    /// Takes all words out of a data queue.
+    pub fn clear_words(&mut self, d: u8)
+        requires { d < length self.old.system.data_queues }
+        ensures { self.new ≡ record self.old { state = with_words self.old.state d [] } }
+    {
+        self.words[d as usize].clear();
+    }
+
     /// Takes the oldest word out of a data queue, if it has one.
     pub fn drop_oldest(&mut self, d: u8)
         requires { d < length self.old.system.data_queues }
