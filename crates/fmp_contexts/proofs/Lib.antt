@@ -1,3 +1,4 @@
 pub mod ContextLemmas
 pub mod HeldLemmas
 pub mod RangeLemmas
+pub mod RestoreLemmas

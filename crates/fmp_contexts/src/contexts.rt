@@ -1,5 +1,5 @@
 //! What is kept of the bodies between their stretches.
-ghost use Rattle.std.specs.Prelude.{◌≡◌, ◌<◌, ◌≤◌, length, replicate, slice_set, true, IfOk, Some, None};
+ghost use Rattle.std.specs.Prelude.{◌≡◌, ◌<◌, ◌≤◌, is_some, length, replicate, slice_set, true, IfOk, Some, None};
 ghost use Rattle.std.specs.Option.{option_copied};
 ghost use Rattle.fmp_base.specs.declared.bodies.Held.TheVariants.{Goes};
 ghost use Rattle.fmp_base.specs.Meanings.{body_in, context_at, context_for, context_in, context_of, kept_context, task_body, told as told_by, with_context, with_handler_context};
@@ -210,6 +210,43 @@ impl<C: Copy> BodyContexts<C> {
                 context: handler.kept.held(),
             }),
             _ => None,
+        }
+    }
+
+    /// Whether something is kept of a task.
+    pub fn has_task(&self, t: u8) -> bool
+        ensures { result ≡ is_some (context_at self.now.tasks t) }
+    {
+        match self.tasks.get(t as usize) {
+            Some(Some(_)) => true,
+            _ => false,
+        }
+    }
+
+    /// Whether something is kept of a handler on a processor.
+    pub fn has_handler(&self, p: u8) -> bool
+        ensures { result ≡ is_some (context_at self.now.handlers p) }
+    {
+        match self.handlers.get(p as usize) {
+            Some(Some(_)) => true,
+            _ => false,
+        }
+    }
+
+    /// This context is kept of a task, if there is one, and awaits a reply, or does not.
+    pub fn put_task(&mut self, t: u8, context: &C, awaits: bool)
+        ensures { self.new
+            ≡ record self.old { tasks = slice_set self.old.tasks t (Some (held_by awaits context.now)) } }
+    {
+        if (t as usize) < self.tasks.len() {
+            match &mut self.tasks[t as usize] {
+                Some(kept) => kept.put(context, awaits),
+                None => {
+                    let mut kept = Kept::going_from(*context);
+                    kept.put(context, awaits);
+                    self.tasks[t as usize] = Some(kept);
+                }
+            }
         }
     }
 

@@ -11,7 +11,7 @@ use fmp_tasks::Tables;
 
 /// How a handler begins, where the system has it.
 #[tactic(auto, using(crate::proofs::RangeLemmas::no_interrupt_beyond))]
-fn handler_start(tables: &Tables, h: Handler) -> Option<HandlerStart>
+pub fn handler_start(tables: &Tables, h: Handler) -> Option<HandlerStart>
     requires { IsInRange tables.now.system }
     ensures { result ≡ start_of_handler tables.now.system h }
 {

@@ -5,6 +5,8 @@
 mod contexts;
 mod deliveries;
 mod kept;
+mod restoring;
 
 pub use contexts::{BodyContexts, stretch};
 pub use deliveries::{carry_out, end_context, entry_of};
+pub use restoring::{ContextTest, SavedContexts, restore_contexts};
