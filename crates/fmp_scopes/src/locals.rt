@@ -6,12 +6,12 @@ ghost use Rattle.fmp_tasklang.specs.Layout.{first_place, total_places};
 ghost use Rattle.fmp_tasklang.specs.Scopes.{place_of};
 ghost use Rattle.fmp_scopes.specs.Scopes.{AreNumbers, ArePlaces, IsHeld, locals_with, scope_view};
 
+use crate::lengths::places_of_length;
 use crate::names::{Names, place_in};
 use crate::numbers::{ObjectNumbers, number_rows};
 use crate::places::first_place_in;
 use fmp_base::Name;
 use fmp_lex::ObjectName;
-use fmp_places::places_of_length;
 use fmp_tasklang::Declaration;
 use std::alloc::{AllocError, Global};
 use std::collections::HashMap;

@@ -4,7 +4,7 @@ ghost use Rattle.std.specs.Prelude.{◌≡◌, ◌≤◌, map};
 ghost use Rattle.fmp_tasklang.specs.Layout.{first_place, local_of, places_at, total_places};
 ghost use Rattle.fmp_scopes.specs.Scopes.{locals_with};
 
-use fmp_places::places_of_length;
+use crate::lengths::places_of_length;
 use fmp_tasklang::Declaration;
 
 /// How many places variables have together.
