@@ -1,3 +1,4 @@
 mod Arms
 mod BreakLemmas
+pub mod Emitted
 pub mod Lengths

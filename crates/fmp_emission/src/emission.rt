@@ -13,7 +13,7 @@ ghost use Rattle.fmp_scopes.specs.Scopes.{IsHeld, scope_view};
 ghost use Rattle.fmp_scopes.specs.Sizes.{expression_size, arguments_size, statement_size, block_size};
 ghost use Rattle.fmp_emission.specs.Breaks.{statement_breaks, block_breaks, led_to};
 
-use fmp_expressions::{Output, emit_element, emit_expression, place, put};
+use crate::expressions::{Output, emit_element, emit_expression, place, put};
 use fmp_instructions::Instruction;
 use fmp_scopes::{Meaning, Names, first_place_of, meaning_in};
 use fmp_tasklang::{Expression, ServiceCall, Statement, Word};

@@ -1,7 +1,8 @@
-//! The stack code of the statements of a body.
+//! The stack code of the statements of a body, and of its expressions, whose order of evaluation is theirs.
 #![tactic(auto)]
 
 mod emission;
+mod expressions;
 
 pub use emission::emit_statements;
-pub use fmp_expressions::{Output, put};
+pub use expressions::{Output, put};

@@ -6,8 +6,8 @@ use Rattle.fmp_scopes.specs.Depths.{expression_depth}
 use Rattle.fmp_scopes.specs.Scopes.{scope_view}
 use Rattle.fmp_scopes.specs.Sizes.{expression_size}
 use Rattle.fmp_scopes.proofs.ViewTrees.{size-Chain, depth-Chain, unary-emitted, unary-deep, chain-emitted, chain-deep}
-use Rattle.fmp_expressions.proofs.Emitted.{element-emitted, load-named, element-deep}
-use Rattle.fmp_expressions.proofs.expressions.+expression_emission.Goals as goal
+use Rattle.fmp_emission.proofs.Emitted.{element-emitted, load-named, element-deep}
+use Rattle.fmp_emission.proofs.expressions.+expression_emission.Goals as goal
 
 pub emit_expression-emit_expression-requires-in-Chain : goal.emit_expression-emit_expression-requires-in-Chain
 emit_expression-emit_expression-requires-in-Chain t c =

@@ -2,7 +2,7 @@ use Rattle.std.proofs.Common.{◌≡◌, ◌+◌, ◌≤◌, ◌++◌, length, d
 use Rattle.fmp_tasklang.specs.Views.{link_view}
 use Rattle.fmp_scopes.specs.Chains.{links_size, links_depth, links_code, links_depths}
 use Rattle.fmp_scopes.specs.Scopes.{scope_view}
-use Rattle.fmp_expressions.proofs.expressions.+expression_emission.Given as goal
+use Rattle.fmp_emission.proofs.expressions.+expression_emission.Given as goal
 
 abbrev pub invariant-emit_links-loop-link : goal.invariant-emit_links-loop-link
 invariant-emit_links-loop-link l =
