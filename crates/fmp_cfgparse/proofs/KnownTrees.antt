@@ -17,14 +17,14 @@ use Rattle.fmp_base.specs.Words.{constant_value}
 use Rattle.fmp_lex.specs.Forms.{put}
 use Rattle.fmp_lex.specs.declared.marks.Mark.{Mark}
 use Rattle.fmp_lex.specs.declared.marks.Mark.TheVariants as mark
-use Rattle.fmp_cfgsyntax.specs.declared.forms.Part.{Part}
-use Rattle.fmp_cfgsyntax.specs.declared.forms.Part.TheVariants as part
-use Rattle.fmp_cfgsyntax.specs.declared.tree.Item.{Item}
-use Rattle.fmp_cfgsyntax.specs.declared.tree.Item.TheVariants as item
+use Rattle.fmp_cfgparse.specs.declared.forms.Part.{Part}
+use Rattle.fmp_cfgparse.specs.declared.forms.Part.TheVariants as part
+use Rattle.fmp_cfgparse.specs.declared.tree.Item.{Item}
+use Rattle.fmp_cfgparse.specs.declared.tree.Item.TheVariants as item
 use Rattle.fmp_cfgparse.specs.Apis.{gives_name}
-use Rattle.fmp_cfgsyntax.specs.Grammar.{name_of, plain_item_of, OneItem, MoreItem, OneValue, OnePart, Parts, api_parts, OneApi, OneClass, Config}
+use Rattle.fmp_cfgparse.specs.Grammar.{name_of, plain_item_of, OneItem, MoreItem, OneValue, OnePart, Parts, api_parts, OneApi, OneClass, Config}
 use Rattle.fmp_cfgparse.specs.Tables.{IsObjectName}
-use Rattle.fmp_cfgsyntax.specs.Trees.{FieldTree, value, name, ApiTree, ClassTree, ConfigurationTree}
+use Rattle.fmp_cfgparse.specs.Trees.{FieldTree, value, name, ApiTree, ClassTree, ConfigurationTree}
 use Rattle.fmp_cfgparse.specs.Values.{item_number, joined, joined_items, value_number, or_zero, field_number, number_at, name_at}
 use Rattle.fmp_cfgparse.proofs.KnownTokens.{IsKnown, IsKnownAt, known_at}
 

@@ -1,8 +1,13 @@
+pub mod Classes
+pub mod Items
 pub mod KnownTokens
 pub mod KnownTrees
 pub mod MadeObjects
 pub mod OneAnswer
 pub mod OneMore
+pub mod Parses
+pub mod Parts
+pub mod Single
 pub mod Tables
 pub mod UsedNames
 pub mod Walks

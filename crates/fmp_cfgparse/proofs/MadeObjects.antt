@@ -11,7 +11,7 @@ use Rattle.fmp_base.specs.declared.words.Api.TheVariants as api
 use Rattle.fmp_cfgparse.specs.declared.places.ClassProcessors.{ClassProcessors}
 use Rattle.fmp_cfgparse.specs.Apis.{count_of, gives_name, parameters_fit, is_taken, with_object, with_name}
 use Rattle.fmp_cfgparse.specs.Tables.{TaskConfigured, SharedWordConfigured, CyclicConfigured, InterruptConfigured, object_names, interrupt_number, task_name, semaphore_name, flag_name, data_queue_name, mailbox_name, message_name, shared_word_name, spin_lock_name, cyclic_name}
-use Rattle.fmp_cfgsyntax.specs.Trees.{FieldTree}
+use Rattle.fmp_cfgparse.specs.Trees.{FieldTree}
 use Rattle.fmp_cfgparse.specs.Values.{number_at, name_at, between, held}
 use Rattle.fmp_cfgparse.proofs.KnownTrees.{IsKnownField, number_fits}
 use Rattle.fmp_cfgparse.proofs.OneMore.{both, held_lies, all_more, count_more, row_more, name_here, name_last, name_later, number_more}

@@ -18,11 +18,11 @@ use Rattle.fmp_lex.proofs.Unique.{cuts_unique}
 use Rattle.fmp_cfgparse.specs.Apis.{Making}
 use Rattle.fmp_cfgparse.specs.Configurations.{Describes, IsOffence, IsFault}
 use Rattle.fmp_cfgparse.specs.Configuring.{Offence, configured}
-use Rattle.fmp_cfgsyntax.specs.Grammar.{Config}
+use Rattle.fmp_cfgparse.specs.Grammar.{Config}
 use Rattle.fmp_cfgparse.specs.Laws.{HasOneAnswer}
-use Rattle.fmp_cfgsyntax.specs.Trees.{ConfigurationTree}
-use Rattle.fmp_cfgsyntax.proofs.Classes.{config_framed}
-use Rattle.fmp_cfgsyntax.proofs.Single.{config_single}
+use Rattle.fmp_cfgparse.specs.Trees.{ConfigurationTree}
+use Rattle.fmp_cfgparse.proofs.Classes.{config_framed}
+use Rattle.fmp_cfgparse.proofs.Single.{config_single}
 
 module _ {A : Type 0} (X : Rel A) (framed : Framed X) where
   -- fewer tokens of a list begin something too

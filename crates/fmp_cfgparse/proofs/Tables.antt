@@ -8,9 +8,9 @@ use Rattle.fmp_lex.specs.declared.token.Token.{Token}
 use Rattle.fmp_cfgparse.specs.Apis.{Making}
 use Rattle.fmp_cfgparse.specs.Configurations.{Describes}
 use Rattle.fmp_cfgparse.specs.Configuring.{configured}
-use Rattle.fmp_cfgsyntax.specs.Grammar.{Config}
+use Rattle.fmp_cfgparse.specs.Grammar.{Config}
 use Rattle.fmp_cfgparse.specs.Tables.{IsConfiguration}
-use Rattle.fmp_cfgsyntax.specs.Trees.{ConfigurationTree}
+use Rattle.fmp_cfgparse.specs.Trees.{ConfigurationTree}
 use Rattle.fmp_cfgparse.proofs.KnownTokens.{cuts_known}
 use Rattle.fmp_cfgparse.proofs.KnownTrees.{tree_known}
 use Rattle.fmp_cfgparse.proofs.Walks.{configured_keeps}

@@ -17,7 +17,7 @@ use Rattle.fmp_cfgparse.specs.declared.places.ClassProcessors.{ClassProcessors}
 use Rattle.fmp_cfgparse.specs.Apis.{Making, class_of, class_name, only_name, is_used, count_of, gives_name, attribute_fits, parameters_fit, is_taken, refusal, api_fault, with_object, with_name, made}
 use Rattle.fmp_cfgparse.specs.Configuring.{Offence, unless, walk_apis, walk_class, and_then, walk_classes, nothing_made, configured}
 use Rattle.fmp_cfgparse.specs.Tables.{IsConfiguration, IsObjectName, TaskConfigured, SharedWordConfigured, CyclicConfigured, InterruptConfigured, same_name, object_names, interrupt_number}
-use Rattle.fmp_cfgsyntax.specs.Trees.{FieldTree, ApiTree, ClassTree, ConfigurationTree}
+use Rattle.fmp_cfgparse.specs.Trees.{FieldTree, ApiTree, ClassTree, ConfigurationTree}
 use Rattle.fmp_cfgparse.specs.Values.{all_known, number_at, name_at, between, held}
 use Rattle.fmp_cfgparse.proofs.KnownTrees.{IsKnownField, IsKnownApi, IsKnownClass}
 use Rattle.fmp_cfgparse.proofs.MadeObjects.{ranges_more, processors_stay, queue_limit_stays, tasks_more, shared_words_more, cyclics_more, interrupts_more, numbers_more, names_more}

@@ -13,7 +13,7 @@ use Rattle.fmp_cfgparse.specs.declared.places.ClassProcessors.{ClassProcessors}
 use Rattle.fmp_lex.specs.declared.fault.FaultKind.{FaultKind}
 use Rattle.fmp_lex.specs.declared.fault.FaultKind.TheVariants as fault
 use Rattle.fmp_cfgparse.specs.Objects.{task, semaphore, flag, data_queue, mailbox, message, shared_word, spin_lock, cyclic, interrupt}
-use Rattle.fmp_cfgsyntax.specs.Trees.{FieldTree, ApiTree}
+use Rattle.fmp_cfgparse.specs.Trees.{FieldTree, ApiTree}
 use Rattle.fmp_cfgparse.specs.Values.{number_at, name_at, all_known, between, held}
 
 -- TCL_n, and TCL_n_ONLY, by the digit n

@@ -9,8 +9,8 @@ use Rattle.fmp_lex.specs.declared.fault.TextFile.TheVariants as file
 use Rattle.fmp_lex.specs.Faults.{Spells, IsSyntaxFault, offence_fault}
 use Rattle.fmp_cfgparse.specs.Apis.{Making}
 use Rattle.fmp_cfgparse.specs.Configuring.{Offence, configured}
-use Rattle.fmp_cfgsyntax.specs.Grammar.{Config}
-use Rattle.fmp_cfgsyntax.specs.Trees.{ConfigurationTree}
+use Rattle.fmp_cfgparse.specs.Grammar.{Config}
+use Rattle.fmp_cfgparse.specs.Trees.{ConfigurationTree}
 
 -- the text spells a tree that makes these tables
 abbrev pub Describes : List ℕ → System → Type 0

@@ -6,8 +6,8 @@ use Rattle.fmp_lex.specs.Faults.{Spells}
 use Rattle.fmp_cfgparse.specs.declared.reading.Configured.{Configured}
 use Rattle.fmp_cfgparse.specs.Apis.{Making}
 use Rattle.fmp_cfgparse.specs.Configuring.{configured}
-use Rattle.fmp_cfgsyntax.specs.Grammar.{Config}
-use Rattle.fmp_cfgsyntax.specs.Trees.{ConfigurationTree, configuration_view}
+use Rattle.fmp_cfgparse.specs.Grammar.{Config}
+use Rattle.fmp_cfgparse.specs.Trees.{ConfigurationTree, configuration_view}
 
 -- a configuration without a fault: its tokens, the tree that they spell, and what the tree makes
 pub record ReadConfiguration (cfg : List ℕ) : Type 0 where

@@ -10,7 +10,7 @@ use Rattle.fmp_cfgparse.specs.declared.places.ClassProcessors.{ClassProcessors}
 use Rattle.fmp_cfgparse.specs.declared.making.Making as declared
 use Rattle.fmp_cfgparse.specs.Apis.{Making, class_of, api_fault, made}
 use Rattle.fmp_cfgparse.specs.Making.{making_of}
-use Rattle.fmp_cfgsyntax.specs.Trees.{ApiTree, ClassTree, ConfigurationTree}
+use Rattle.fmp_cfgparse.specs.Trees.{ApiTree, ClassTree, ConfigurationTree}
 use Rattle.fmp_cfgparse.specs.Values.{between, held}
 
 -- a fault and the place of its token

@@ -7,9 +7,9 @@ use Rattle.fmp_lex.specs.declared.fault.BuildFault.{BuildFault}
 use Rattle.fmp_lex.specs.declared.token.TokenKind.{TokenKind}
 use Rattle.fmp_lex.specs.Reading.{IsWhole}
 use Rattle.fmp_cfgparse.specs.Configurations.{Describes, IsFault}
-use Rattle.fmp_cfgsyntax.specs.Grammar.{Config}
+use Rattle.fmp_cfgparse.specs.Grammar.{Config}
 use Rattle.fmp_cfgparse.specs.Tables.{IsConfiguration}
-use Rattle.fmp_cfgsyntax.specs.Trees.{ConfigurationTree}
+use Rattle.fmp_cfgparse.specs.Trees.{ConfigurationTree}
 
 abbrev pub SpellsOneTree : Type 0
 SpellsOneTree = (ts : List TokenKind) (a b : ConfigurationTree) → IsWhole Config ts a → IsWhole Config ts b → b ≡ a

@@ -2,9 +2,13 @@ pub mod Apis
 pub mod Configurations
 pub mod Configured
 pub mod Configuring
+pub mod Grammar
 pub mod Laws
 pub mod Making
 pub mod Objects
+pub mod Parsing
+pub mod Reading
 pub mod Tables
+pub mod Trees
 pub mod UsedNames
 pub mod Values

@@ -14,7 +14,7 @@ use Rattle.fmp_base.specs.declared.systems.SharedWordConfig.{SharedWordConfig}
 use Rattle.fmp_base.specs.declared.systems.SpinLockConfig.{SpinLockConfig}
 use Rattle.fmp_base.specs.declared.systems.TaskConfig.{TaskConfig}
 use Rattle.fmp_cfgparse.specs.declared.places.ClassProcessors.{ClassProcessors}
-use Rattle.fmp_cfgsyntax.specs.Trees.{FieldTree}
+use Rattle.fmp_cfgparse.specs.Trees.{FieldTree}
 use Rattle.fmp_cfgparse.specs.Values.{number_at, name_at, held}
 
 -- an attribute has this bit

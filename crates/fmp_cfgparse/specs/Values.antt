@@ -4,9 +4,9 @@ use Rattle.std.specs.Int.{w32, int_bit_or, int_wrapping_neg}
 use Rattle.fmp_base.specs.declared.names.Name.{Name}
 use Rattle.fmp_base.specs.Systems.{no_name}
 use Rattle.fmp_base.specs.Words.{constant_value}
-use Rattle.fmp_cfgsyntax.specs.declared.tree.Item.{Item}
-use Rattle.fmp_cfgsyntax.specs.declared.tree.Item.TheVariants as item
-use Rattle.fmp_cfgsyntax.specs.Trees.{FieldTree, value, name}
+use Rattle.fmp_cfgparse.specs.declared.tree.Item.{Item}
+use Rattle.fmp_cfgparse.specs.declared.tree.Item.TheVariants as item
+use Rattle.fmp_cfgparse.specs.Trees.{FieldTree, value, name}
 
 -- the number of an item on 32 bits; a name has none
 abbrev pub item_number : Item → Option ℤ

@@ -3,16 +3,16 @@ ghost use Rattle.std.specs.Prelude.{◌≡◌, ◌≤◌, map, None, IfOk, IfErr
 ghost use Rattle.fmp_cfgparse.specs.Apis.{made, api_fault};
 ghost use Rattle.fmp_cfgparse.specs.Making.{making_of};
 ghost use Rattle.fmp_cfgparse.specs.Configuring.{IsWalk, IsConfigured, walk_apis, walk_classes, nothing_made, configured};
-ghost use Rattle.fmp_cfgsyntax.specs.Trees.{api_view, class_view, configuration_view};
+ghost use Rattle.fmp_cfgparse.specs.Trees.{api_view, class_view, configuration_view};
 ghost use Rattle.fmp_cfgparse.specs.declared.objects.Stop.TheVariants.{Memory};
 
 use crate::making::{Making, find_fault, gives_name};
 use crate::objects::{Stop, create};
 use crate::places::{ClassProcessors, find_class};
+use crate::tree::{Class, Configuration, StaticApi};
 use crate::used_names::add_name;
 use crate::values::{between, byte_of, name_at};
 use fmp_base::System;
-use fmp_cfgsyntax::{Class, Configuration, StaticApi};
 use fmp_lex::FaultKind;
 use indexmap::IndexSet;
 use std::alloc::{AllocError, Global};

@@ -1,20 +1,25 @@
-//! The meaning of a configuration: the tables of the system that its tree describes. The meaning of the static APIs
-//! stands in `specs/`, the grammar in `fmp_cfgsyntax`, whose tree and reader are given out here too.
+//! Configurations: the grammar, the tree and the reader of a text, and the tables of the system that a tree describes.
+//! The grammar and the meaning of the static APIs stand in `specs/`.
 #![tactic(auto)]
 
 mod configuring;
+mod forms;
 pub mod laws;
 mod making;
 mod objects;
+mod parsing;
 mod places;
 mod reading;
+mod syntax;
+mod tree;
 mod used_names;
 mod values;
 
 pub use configuring::configure;
-pub use fmp_cfgsyntax::{Class, Configuration, Field, Item, Parsed, StaticApi, Value, parse};
 pub use fmp_lex::ObjectName;
 pub use making::Making;
 pub use objects::Stop;
+pub use parsing::{Parsed, parse};
 pub use reading::{Configured, read_cfg, read_configuration};
+pub use tree::{Class, Configuration, Field, Item, StaticApi, Value};
 pub use values::{name_at, number_at, word_of};

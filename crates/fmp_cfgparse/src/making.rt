@@ -4,12 +4,12 @@ ghost use Rattle.fmp_base.specs.Systems.{tables_of};
 ghost use Rattle.fmp_cfgparse.specs.Apis as spec;
 ghost use Rattle.fmp_cfgparse.specs.Apis.{api_fault};
 ghost use Rattle.fmp_cfgparse.specs.Making.{making_of};
-ghost use Rattle.fmp_cfgsyntax.specs.Trees.{field_view, api_view};
+ghost use Rattle.fmp_cfgparse.specs.Trees.{field_view, api_view};
 
+use crate::tree::{Field, StaticApi};
 use crate::used_names::is_used;
 use crate::values::{all_known, between, byte_of, half_of, name_at, number_at};
 use fmp_base::{Er, InterruptConfig, System};
-use fmp_cfgsyntax::{Field, StaticApi};
 use fmp_lex::{Api, FaultKind, ObjectName};
 use indexmap::IndexSet;
 

@@ -3,17 +3,17 @@ ghost use Rattle.std.specs.Prelude.{◌≡◌, ◌<◌, ◌++◌, ◌∷◌, [],
 ghost use Rattle.fmp_base.specs.Systems.{tables_of};
 ghost use Rattle.fmp_cfgparse.specs.Apis.{with_object};
 ghost use Rattle.fmp_cfgparse.specs.Objects as spec;
-ghost use Rattle.fmp_cfgsyntax.specs.Trees.{field_view};
+ghost use Rattle.fmp_cfgparse.specs.Trees.{field_view};
 ghost use Rattle.fmp_cfgparse.specs.declared.objects.Stop.TheVariants.{Memory};
 
 use crate::places::ClassProcessors;
+use crate::tree::Field;
 use crate::values::{byte_of, half_of, name_at, number_at, word_of};
 use fmp_base::{
     CyclicConfig, DataQueueConfig, Entry, FlagConfig, InterruptConfig, MailboxConfig,
     MessageConfig, QueueOrder, SemaphoreConfig, SharedWordConfig, SpinLockConfig, System,
     TaskConfig,
 };
-use fmp_cfgsyntax::Field;
 use fmp_lex::{Api, FaultKind};
 use std::alloc::AllocFailed;
 

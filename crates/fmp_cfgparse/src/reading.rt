@@ -7,8 +7,8 @@ ghost use Rattle.fmp_cfgparse.specs.Tables.{IsConfiguration};
 
 use crate::configuring::configure;
 use crate::objects::Stop;
+use crate::parsing::{Parsed, parse};
 use fmp_base::System;
-use fmp_cfgsyntax::{Parsed, parse};
 use fmp_lex::{BuildFault, TextFile, offence_at};
 use std::alloc::Global;
 

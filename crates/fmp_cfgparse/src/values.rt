@@ -1,10 +1,10 @@
 //! The values of fields, and which of their constants are unknown.
 ghost use Rattle.std.specs.Prelude.{◌≡◌, map, Some, slice_get};
-ghost use Rattle.fmp_cfgsyntax.specs.Trees.{field_view, items_view};
+ghost use Rattle.fmp_cfgparse.specs.Trees.{field_view, items_view};
 ghost use Rattle.fmp_cfgparse.specs.Values as spec;
 
+use crate::tree::{Field, Item, Value};
 use fmp_base::Name;
-use fmp_cfgsyntax::{Field, Item, Value};
 
 /// The number of an item on 32 bits; a name has none.
 fn item_number(item: Item) -> Option<i32>

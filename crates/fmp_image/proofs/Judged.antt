@@ -10,7 +10,7 @@ use Rattle.fmp_lex.specs.declared.token.Token.{Token}
 use Rattle.fmp_cfgparse.specs.Configured.{ReadConfiguration, Reads}
 use Rattle.fmp_cfgparse.specs.Configurations as configuration
 use Rattle.fmp_cfgparse.specs.Tables.{IsConfiguration}
-use Rattle.fmp_cfgsyntax.specs.Trees.{configuration_view}
+use Rattle.fmp_cfgparse.specs.Trees.{configuration_view}
 use Rattle.fmp_cfgparse.proofs.Tables.{made_keeps}
 use Rattle.fmp_tasklang.specs.Trees.{BodyTree}
 use Rattle.fmp_scopes.specs.declared.entries.EntryUse.{EntryUse}

@@ -12,7 +12,7 @@ use Rattle.fmp_cfgparse.specs.declared.places.ClassProcessors.{ClassProcessors}
 use Rattle.fmp_cfgparse.specs.Apis.{Making, class_of, api_fault, with_object, made}
 use Rattle.fmp_cfgparse.specs.Configuring as walk
 use Rattle.fmp_cfgparse.specs.Configuring.{unless, walk_apis, walk_class, and_then, walk_classes, nothing_made, configured}
-use Rattle.fmp_cfgsyntax.specs.Trees.{FieldTree, ApiTree, ClassTree, ConfigurationTree}
+use Rattle.fmp_cfgparse.specs.Trees.{FieldTree, ApiTree, ClassTree, ConfigurationTree}
 use Rattle.fmp_cfgparse.specs.Values.{between, held, number_at, name_at}
 use Rattle.fmp_tasklang.specs.declared.trees.BodyKind.{BodyKind}
 use Rattle.fmp_tasklang.specs.declared.trees.BodyKind.TheVariants.{Task, Handler}

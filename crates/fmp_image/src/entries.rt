@@ -1,7 +1,7 @@
 //! The bodies that the static APIs of a configuration name.
 
 ghost use Rattle.std.specs.Prelude.{◌≡◌, ◌++◌, map, IfOk, OnOk};
-ghost use Rattle.fmp_cfgsyntax.specs.Trees.{field_view, api_view, class_view, configuration_view};
+ghost use Rattle.fmp_cfgparse.specs.Trees.{field_view, api_view, class_view, configuration_view};
 ghost use Rattle.fmp_image.specs.Entries as spec;
 
 use fmp_cfgparse::{Class, Configuration, StaticApi, name_at, number_at, word_of};

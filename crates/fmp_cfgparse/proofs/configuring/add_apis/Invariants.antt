@@ -1,7 +1,7 @@
 use Rattle.std.proofs.Common.{◌≡◌, drop, map}
 use Rattle.fmp_cfgparse.specs.Configuring.{walk_apis}
 use Rattle.fmp_cfgparse.specs.Making.{making_of}
-use Rattle.fmp_cfgsyntax.specs.Trees.{api_view}
+use Rattle.fmp_cfgparse.specs.Trees.{api_view}
 use Rattle.fmp_cfgparse.proofs.configuring.add_apis.Given as goal
 
 abbrev pub invariant-loop-api : goal.invariant-loop-api

@@ -1,7 +1,7 @@
 use Rattle.std.proofs.Common.{◌≡◌, drop, map}
 use Rattle.fmp_cfgparse.specs.Configuring.{walk_classes}
 use Rattle.fmp_cfgparse.specs.Making.{making_of}
-use Rattle.fmp_cfgsyntax.specs.Trees.{class_view}
+use Rattle.fmp_cfgparse.specs.Trees.{class_view}
 use Rattle.fmp_cfgparse.proofs.configuring.add_classes.Given as goal
 
 abbrev pub invariant-loop-class : goal.invariant-loop-class

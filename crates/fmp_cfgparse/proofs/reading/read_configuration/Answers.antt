@@ -3,7 +3,7 @@ use Rattle.fmp_lex.specs.declared.fault.BuildFault.{BuildFault}
 use Rattle.fmp_lex.specs.declared.fault.BuildFault.TheVariants as build
 use Rattle.fmp_cfgparse.specs.Configurations.{IsOffence, IsRead}
 use Rattle.fmp_cfgparse.specs.Making.{making_of}
-use Rattle.fmp_cfgsyntax.specs.Trees.{configuration_view}
+use Rattle.fmp_cfgparse.specs.Trees.{configuration_view}
 use Rattle.fmp_cfgparse.proofs.Tables.{made_keeps}
 use Rattle.fmp_cfgparse.proofs.reading.read_configuration.Goals as goal
 

@@ -1,5 +1,5 @@
 use Rattle.std.proofs.Common.{◌≡◌, drop, map}
-use Rattle.fmp_cfgsyntax.specs.Trees.{field_view}
+use Rattle.fmp_cfgparse.specs.Trees.{field_view}
 use Rattle.fmp_cfgparse.specs.Values.{all_known}
 use Rattle.fmp_cfgparse.proofs.values.all_known.Given as goal
 

@@ -1,6 +1,6 @@
 use Rattle.std.proofs.Common.{◌≡◌, ◌++◌, map, take}
 use Rattle.std.specs.List.{flat_map}
-use Rattle.fmp_cfgsyntax.specs.Trees.{api_view}
+use Rattle.fmp_cfgparse.specs.Trees.{api_view}
 use Rattle.fmp_image.specs.Entries.{api_uses}
 use Rattle.fmp_image.proofs.entries.add_class.Given as goal
 

@@ -1,6 +1,6 @@
 use Rattle.std.proofs.Common.{◌≡◌, map, take}
 use Rattle.std.specs.List.{flat_map}
-use Rattle.fmp_cfgsyntax.specs.Trees.{class_view}
+use Rattle.fmp_cfgparse.specs.Trees.{class_view}
 use Rattle.fmp_image.specs.Entries.{class_uses}
 use Rattle.fmp_image.proofs.entries.entry_uses.Given as goal
 

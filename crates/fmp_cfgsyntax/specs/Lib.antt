@@ -1,4 +1,0 @@
-pub mod Grammar
-pub mod Parsing
-pub mod Reading
-pub mod Trees
