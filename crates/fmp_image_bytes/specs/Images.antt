@@ -20,7 +20,7 @@ use Rattle.fmp_image_parts.specs.declared.keys.Key.{Key}
 use Rattle.fmp_image_parts.specs.Fields.{Field, ◌>>=◌, chained}
 use Rattle.fmp_image_parts.specs.Keys.{are_new}
 use Rattle.fmp_image_parts.specs.Fields.{in_range}
-use Rattle.fmp_image_rules.specs.Header.{magic, header}
+use Rattle.fmp_image_parts.specs.Header.{magic, header}
 use Rattle.fmp_image_rows.specs.Rows.{RowContext, context_of, RowForm, row, task_form, semaphore_form, flag_form, data_queue_form, mailbox_form, message_form, shared_word_form, spin_lock_form, cyclic_form, interrupt_form}
 use Rattle.fmp_image_rows.specs.Tables.{table}
 use Rattle.fmp_image_parts.specs.Bodies.{bodies, IsBody}

@@ -17,9 +17,8 @@ use fmp_base::{
 };
 use fmp_image_parts::fault::{ImageFault, LoadFault};
 use fmp_image_parts::keys::TakenKeys;
-use fmp_image_parts::{BodyHead, read_bodies};
+use fmp_image_parts::{BodyHead, is_end, queue_limit_of, read_bodies, read_header};
 use fmp_image_rows::read_table;
-use fmp_image_rules::{is_end, queue_limit_of, read_header};
 use fmp_instructions::Code;
 use std::alloc::Global;
 

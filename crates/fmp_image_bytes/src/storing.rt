@@ -7,9 +7,8 @@ ghost use Rattle.fmp_image_bytes.specs.Images.{CanPut, tables, tables_in, spelli
 
 use crate::image::Image;
 use fmp_base::System;
-use fmp_image_parts::put_bodies;
+use fmp_image_parts::{put_bodies, put_header};
 use fmp_image_rows::put_table;
-use fmp_image_rules::put_header;
 use std::alloc::{AllocError, Global};
 
 fn put_tables(out: &mut Vec<u8>, system: &System) -> Result<(), AllocError>

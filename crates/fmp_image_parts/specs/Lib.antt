@@ -1,7 +1,9 @@
 pub mod Bodies
 pub mod Fields
+pub mod Header
 pub mod Instructions
 pub mod KeyLaws
 pub mod Keys
 pub mod Pairs
+pub mod Ranges
 pub mod Versions

@@ -23,7 +23,7 @@ use Rattle.fmp_image_parts.specs.declared.keys.Key.{Key}
 use Rattle.fmp_image_parts.specs.declared.keys.Key.TheVariants as key
 use Rattle.fmp_image_parts.specs.Fields.{Field, ◌>>=◌, ◌⊗◌, byte, short, long, word, text, in_range}
 use Rattle.fmp_image_parts.specs.Keys.{is_name}
-use Rattle.fmp_image_rules.specs.Ranges.{cyclic_numbers, mailbox_rules, semaphore_rules, task_numbers}
+use Rattle.fmp_image_parts.specs.Ranges.{cyclic_numbers, mailbox_rules, semaphore_rules, task_numbers}
 
 -- what rows refer to: the version, the number of processors, and what is said of each body
 pub record RowContext : Type 0 where

@@ -16,7 +16,7 @@ use fmp_image_parts::fields::{
 };
 use fmp_image_parts::heads::BodyHead;
 use fmp_image_parts::keys::{Key, name_of};
-use fmp_image_rules::{keeps_mailbox_rules, keeps_semaphore_rules};
+use fmp_image_parts::{keeps_mailbox_rules, keeps_semaphore_rules};
 use std::alloc::AllocError;
 
 fn order_bit(order: QueueOrder, number: u8) -> u8

@@ -15,7 +15,7 @@ use fmp_image_parts::fields::{
 };
 use fmp_image_parts::heads::{BodyHead, BodyKind};
 use fmp_image_parts::keys::{Key, name_of};
-use fmp_image_rules::{keeps_cyclic_numbers, keeps_task_numbers};
+use fmp_image_parts::{keeps_cyclic_numbers, keeps_task_numbers};
 use std::alloc::AllocError;
 
 fn is_task_body(heads: &[BodyHead], body: u8, stack: u32) -> bool

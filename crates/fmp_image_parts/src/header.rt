@@ -1,12 +1,12 @@
 //! The header of an image, and its end.
 ghost use Rattle.std.specs.Prelude.{◌≡◌, ◌++◌, ◌==◌, length, OnOk};
-ghost use Rattle.fmp_image_rules.specs.Header.{magic, is_magic, header};
+ghost use Rattle.fmp_image_parts.specs.Header.{magic, is_magic, header};
 ghost use Rattle.fmp_image_parts.specs.Fields.{Gives};
 ghost use Rattle.fmp_image_parts.specs.Versions as versions;
 
-use fmp_image_parts::fault::{ImageFault, LoadFault, TABLE};
-use fmp_image_parts::fields::{byte_at, bytes_at, in_range, put_byte, put_short, short_at};
-use fmp_image_parts::versions::is_version;
+use crate::fault::{ImageFault, LoadFault, TABLE};
+use crate::fields::{byte_at, bytes_at, in_range, put_byte, put_short, short_at};
+use crate::versions::is_version;
 use std::alloc::AllocError;
 
 fn is_magic(bytes: &[u8]) -> bool

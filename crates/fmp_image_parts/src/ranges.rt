@@ -1,8 +1,8 @@
 //! Whether the numbers of a row are in range, for each kind of row that has such numbers.
 ghost use Rattle.std.specs.Prelude.{◌≡◌};
-ghost use Rattle.fmp_image_rules.specs.Ranges.{cyclic_numbers, is_start_bit, mailbox_rules, semaphore_rules, task_numbers};
+ghost use Rattle.fmp_image_parts.specs.Ranges.{cyclic_numbers, is_start_bit, mailbox_rules, semaphore_rules, task_numbers};
 
-use fmp_image_parts::fields::in_range;
+use crate::fields::in_range;
 
 fn is_start_bit(attributes: u8) -> bool
     ensures { result ≡ is_start_bit attributes }
