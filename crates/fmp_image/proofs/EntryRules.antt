@@ -16,7 +16,7 @@ use Rattle.fmp_tasklang.specs.Trees.{BodyTree}
 use Rattle.fmp_scopes.specs.declared.entries.EntryUse.{EntryUse}
 use Rattle.fmp_scopes.specs.Depths.{body_depth}
 use Rattle.fmp_scopes.specs.Entries.{body_place, is_kind, holds, body_fault, entry_fault}
-use Rattle.fmp_image_rows.specs.Rows.{is_task, is_handler, is_task_body, is_handler_body}
+use Rattle.fmp_image_bytes.specs.Rows.{is_task, is_handler, is_task_body, is_handler_body}
 use Rattle.fmp_image.specs.Building.{built_kind, built_head, built_heads}
 use Rattle.fmp_image.proofs.Entering.{wanted}
 

@@ -25,7 +25,7 @@ use Rattle.fmp_cfgparse.specs.Tables.{is_identifier, IsObjectName, SharedWordCon
 use Rattle.fmp_image_bytes.specs.Images.{KeepRules}
 use Rattle.fmp_image_parts.specs.Keys.{begins_and_goes_on, is_service_of, is_reserved, is_name}
 use Rattle.fmp_image_parts.specs.Fields.{in_range}
-use Rattle.fmp_image_rows.specs.Rows.{RowContext, RowForm, row, bit, order_bit, order_of, semaphore_form, flag_form, data_queue_form, mailbox_form, message_form, shared_word_form, spin_lock_form}
+use Rattle.fmp_image_bytes.specs.Rows.{RowContext, RowForm, row, bit, order_bit, order_of, semaphore_form, flag_form, data_queue_form, mailbox_form, message_form, shared_word_form, spin_lock_form}
 use Rattle.fmp_image_parts.proofs.Verification.{both_true}
 
 -- ---- names

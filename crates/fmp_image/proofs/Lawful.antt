@@ -23,7 +23,7 @@ use Rattle.fmp_image_bytes.specs.Images.{image_tables, keys_of, KeepRules, IsIma
 use Rattle.fmp_image_parts.specs.Instructions.{HasWord}
 use Rattle.fmp_image_parts.specs.Versions.{newest}
 use Rattle.fmp_image_parts.specs.Keys.{are_new}
-use Rattle.fmp_image_rows.specs.Rows.{RowContext, context_of, row, task_form, cyclic_form, interrupt_form, semaphore_form, flag_form, data_queue_form, mailbox_form, message_form, shared_word_form, spin_lock_form}
+use Rattle.fmp_image_bytes.specs.Rows.{RowContext, context_of, row, task_form, cyclic_form, interrupt_form, semaphore_form, flag_form, data_queue_form, mailbox_form, message_form, shared_word_form, spin_lock_form}
 use Rattle.fmp_image.specs.Building.{built_entry, built_task, built_cyclic, built_interrupt, built_tables, built_heads, built_image}
 use Rattle.fmp_image.proofs.Entering.{Enters, TaskEnters, CyclicEnters, InterruptEnters, EachEnters}
 use Rattle.fmp_image.proofs.BodyRules.{are_bodies}

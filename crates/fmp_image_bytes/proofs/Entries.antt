@@ -10,7 +10,7 @@ use Rattle.fmp_base.specs.Systems.{body_of}
 use Rattle.fmp_image_parts.specs.declared.heads.BodyHead.{BodyHead}
 use Rattle.fmp_image_parts.specs.Bodies.{IsBody}
 use Rattle.fmp_image_bytes.specs.Images.{ImageTables, IsImage}
-use Rattle.fmp_image_rows.specs.Rows.{RowContext, context_of, row, is_task_body, is_handler_body, task_form, cyclic_form, interrupt_form}
+use Rattle.fmp_image_bytes.specs.Rows.{RowContext, context_of, row, is_task_body, is_handler_body, task_form, cyclic_form, interrupt_form}
 use Rattle.fmp_image_bytes.proofs.InRange.{all_map}
 use Rattle.fmp_image_parts.proofs.Names.{and_true}
 use Rattle.fmp_image_parts.proofs.PairLists.{same_length}

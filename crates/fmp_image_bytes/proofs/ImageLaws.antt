@@ -8,15 +8,15 @@ use Rattle.fmp_image_parts.specs.declared.keys.Key.{Key}
 use Rattle.fmp_image_parts.specs.Fields.{Field, chained}
 use Rattle.fmp_image_parts.specs.Keys.{are_new}
 use Rattle.fmp_image_parts.specs.Fields.{in_range}
-use Rattle.fmp_image_rows.specs.Rows.{RowContext, context_of, RowForm, row, task_form, semaphore_form, flag_form, data_queue_form, mailbox_form, message_form, shared_word_form, spin_lock_form, cyclic_form, interrupt_form}
-use Rattle.fmp_image_rows.specs.Tables.{AreRows}
+use Rattle.fmp_image_bytes.specs.Rows.{RowContext, context_of, RowForm, row, task_form, semaphore_form, flag_form, data_queue_form, mailbox_form, message_form, shared_word_form, spin_lock_form, cyclic_form, interrupt_form}
+use Rattle.fmp_image_bytes.specs.Tables.{AreRows}
 use Rattle.fmp_image_parts.specs.Bodies.{bodies}
 use Rattle.fmp_image_parts.specs.Versions.{is_version}
 use Rattle.fmp_image_parts.specs.Header.{plain, magic, is_magic, header}
 use Rattle.fmp_image_bytes.specs.Images.{◌▹◌, ImageTables, table_of, also, tables, Parts, layout, parts_of, image_of, spelling, all_read, image_at, KeepRules, IsImage, Spells}
 use Rattle.fmp_image_parts.proofs.FieldLaws.{IsBytes, Exact, bind_ok, pair_is, byte_exact, short_exact, bytes_take, bytes_again, tested_exact, both_exact, chained_exact}
-use Rattle.fmp_image_rows.proofs.RowLaws.{GoesBack, row_exact, task_back, semaphore_back, flag_back_row, data_queue_back, mailbox_back_row, message_back, shared_word_back, spin_lock_back, cyclic_back, interrupt_back}
-use Rattle.fmp_image_rows.proofs.TableLaws.{table_exact, new_append}
+use Rattle.fmp_image_bytes.proofs.RowLaws.{GoesBack, row_exact, task_back, semaphore_back, flag_back_row, data_queue_back, mailbox_back_row, message_back, shared_word_back, spin_lock_back, cyclic_back, interrupt_back}
+use Rattle.fmp_image_bytes.proofs.TableLaws.{table_exact, new_append}
 use Rattle.fmp_image_parts.proofs.BodyLaws.{bodies_exact}
 use Rattle.fmp_image_parts.proofs.Names.{and_true}
 use Rattle.fmp_image_parts.proofs.Verification.{both_true}

@@ -14,7 +14,7 @@ use Rattle.fmp_base.specs.Ranges.{Lies, IsTable, IsInRange, TaskInRange, Semapho
 use Rattle.fmp_image_bytes.specs.Images.{ImageTables, KeepRules, IsImage}
 use Rattle.fmp_image_parts.specs.Fields.{in_range}
 use Rattle.fmp_image_parts.specs.Versions.{queue_limit_of}
-use Rattle.fmp_image_rows.specs.Rows.{RowContext, context_of, RowForm, row, task_form, semaphore_form, flag_form, data_queue_form, mailbox_form, message_form, cyclic_form, interrupt_form}
+use Rattle.fmp_image_bytes.specs.Rows.{RowContext, context_of, RowForm, row, task_form, semaphore_form, flag_form, data_queue_form, mailbox_form, message_form, cyclic_form, interrupt_form}
 use Rattle.fmp_image_parts.proofs.Names.{and_true}
 
 lies : (low high n : ℕ) → in_range low high n ≡ true → Lies low high n

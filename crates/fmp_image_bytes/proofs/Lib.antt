@@ -1,5 +1,9 @@
+pub mod Chains
 pub mod Entries
 pub mod ImageLaws
 pub mod InRange
 pub mod OlderImages
 pub mod OlderNames
+pub mod RowLaws
+pub mod RowLoops
+pub mod TableLaws

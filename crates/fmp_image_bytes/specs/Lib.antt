@@ -1,2 +1,4 @@
 pub mod Images
 pub mod OlderImages
+pub mod Rows
+pub mod Tables

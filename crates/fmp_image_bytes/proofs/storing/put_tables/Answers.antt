@@ -1,7 +1,7 @@
 use Rattle.std.proofs.Common.{◌≡◌, ◌++◌, [], rules}
-use Rattle.fmp_image_rows.specs.Rows.{context_of, task_form, semaphore_form, flag_form, data_queue_form, mailbox_form, message_form, shared_word_form, spin_lock_form, cyclic_form, interrupt_form}
+use Rattle.fmp_image_bytes.specs.Rows.{context_of, task_form, semaphore_form, flag_form, data_queue_form, mailbox_form, message_form, shared_word_form, spin_lock_form, cyclic_form, interrupt_form}
 use Rattle.fmp_image_bytes.specs.Images.{table_of}
-use Rattle.fmp_image_rows.proofs.Chains.{chain_10}
+use Rattle.fmp_image_bytes.proofs.Chains.{chain_10}
 use Rattle.fmp_image_bytes.proofs.storing.put_tables.Goals as goal
 
 pub returns : goal.returns

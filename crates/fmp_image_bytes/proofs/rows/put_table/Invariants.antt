@@ -1,6 +1,6 @@
 use Rattle.std.proofs.Common.{◌≡◌, ◌++◌, ◌∷◌, [], length, take}
 use Rattle.std.specs.List.{flat_map}
-use Rattle.fmp_image_rows.proofs.rows.put_table.Given as goal
+use Rattle.fmp_image_bytes.proofs.rows.put_table.Given as goal
 
 abbrev pub invariant-loop-row : goal.invariant-loop-row
 invariant-loop-row g l =

@@ -5,7 +5,7 @@ ghost use Rattle.fmp_base.specs.Names.{name_text};
 ghost use Rattle.fmp_base.specs.Systems.{body_of};
 ghost use Rattle.fmp_image_parts.specs.Fields.{byte};
 ghost use Rattle.fmp_image_parts.specs.Fields.{in_range};
-ghost use Rattle.fmp_image_rows.specs.Rows.{row, is_task_body, is_handler_body, task_form, cyclic_form, interrupt_form};
+ghost use Rattle.fmp_image_bytes.specs.Rows.{row, is_task_body, is_handler_body, task_form, cyclic_form, interrupt_form};
 
 use crate::rows::{Row, put_bit, put_name};
 use fmp_base::{CyclicConfig, Entry, InterruptConfig, TaskConfig};

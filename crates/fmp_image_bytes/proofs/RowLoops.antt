@@ -8,7 +8,7 @@ use Rattle.fmp_image_parts.specs.declared.fault.LoadFault.TheVariants as load_fa
 use Rattle.fmp_image_parts.specs.declared.keys.Key.{Key}
 use Rattle.fmp_image_parts.specs.Fields.{◌>>=◌, Fails, Field}
 use Rattle.fmp_image_parts.specs.Keys.{is_taken}
-use Rattle.fmp_image_rows.specs.Tables.{rows_at}
+use Rattle.fmp_image_bytes.specs.Tables.{rows_at}
 
 -- what was read before, and what is still read
 abbrev pub with_front : {A : Type 0} → List A → Result (List A × List ℕ) ImageFault → Result (List A × List ℕ) ImageFault

@@ -2,7 +2,7 @@
 
 ghost use Rattle.std.specs.Prelude.{◌≡◌, ◌++◌, ◌+◌, ◌<◌, length, OnOk};
 ghost use Rattle.fmp_base.specs.Names.{name_text};
-ghost use Rattle.fmp_image_rows.specs.Rows.{row, order_bit, order_of, semaphore_form, flag_form, data_queue_form, mailbox_form, message_form, shared_word_form, spin_lock_form};
+ghost use Rattle.fmp_image_bytes.specs.Rows.{row, order_bit, order_of, semaphore_form, flag_form, data_queue_form, mailbox_form, message_form, shared_word_form, spin_lock_form};
 ghost use Rattle.fmp_image_parts.specs.Fields.{byte};
 
 use crate::rows::{Row, put_name};

@@ -2,10 +2,10 @@ use Rattle.std.proofs.Common.{◌≡◌, ◌++◌, ◌∷◌, [], false, true, m
 use Rattle.std.proofs.lemmas.List.{map_push}
 use Rattle.std.proofs.lemmas.Result.{err_from_is_err_and}
 use Rattle.fmp_image_parts.specs.Keys.{is_taken}
-use Rattle.fmp_image_rows.specs.Rows.{context_of}
-use Rattle.fmp_image_rows.specs.Tables.{rows_at}
-use Rattle.fmp_image_rows.proofs.RowLoops.{goes_on, ends, stands, is_done}
-use Rattle.fmp_image_rows.proofs.rows.read_rows.Goals as goal
+use Rattle.fmp_image_bytes.specs.Rows.{context_of}
+use Rattle.fmp_image_bytes.specs.Tables.{rows_at}
+use Rattle.fmp_image_bytes.proofs.RowLoops.{goes_on, ends, stands, is_done}
+use Rattle.fmp_image_bytes.proofs.rows.read_rows.Goals as goal
 
 pub returns-in_err-row-clause-read : goal.returns-in_err-row-clause-read
 returns-in_err-row-clause-read g c =

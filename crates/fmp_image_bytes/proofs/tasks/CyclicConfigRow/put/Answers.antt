@@ -2,9 +2,9 @@ use Rattle.std.proofs.Common.{◌≡◌, ◌++◌, ◌+◌, rules}
 use Rattle.fmp_base.specs.Names.{name_text}
 use Rattle.fmp_base.specs.Systems.{body_of}
 use Rattle.fmp_image_parts.specs.Fields.{byte, long, word, text}
-use Rattle.fmp_image_rows.specs.Rows.{bit}
-use Rattle.fmp_image_rows.proofs.Chains.{chain_7}
-use Rattle.fmp_image_rows.proofs.tasks.CyclicConfigRow.put.Goals as goal
+use Rattle.fmp_image_bytes.specs.Rows.{bit}
+use Rattle.fmp_image_bytes.proofs.Chains.{chain_7}
+use Rattle.fmp_image_bytes.proofs.tasks.CyclicConfigRow.put.Goals as goal
 
 pub returns : goal.returns
 returns c =

@@ -1,8 +1,8 @@
 use Rattle.std.proofs.Common.{◌≡◌, ◌++◌, ◌-◌, map}
-use Rattle.fmp_image_rows.specs.Rows.{context_of}
-use Rattle.fmp_image_rows.specs.Tables.{rows_at}
-use Rattle.fmp_image_rows.proofs.RowLoops.{with_front}
-use Rattle.fmp_image_rows.proofs.rows.read_rows.Given as goal
+use Rattle.fmp_image_bytes.specs.Rows.{context_of}
+use Rattle.fmp_image_bytes.specs.Tables.{rows_at}
+use Rattle.fmp_image_bytes.proofs.RowLoops.{with_front}
+use Rattle.fmp_image_bytes.proofs.rows.read_rows.Given as goal
 
 abbrev pub invariant-loop : goal.invariant-loop
 invariant-loop g l =

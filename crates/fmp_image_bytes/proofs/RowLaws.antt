@@ -8,7 +8,7 @@ use Rattle.fmp_image_parts.specs.declared.fault.ImageFault.TheVariants as fault
 use Rattle.fmp_image_parts.specs.Keys.{is_name}
 use Rattle.fmp_image_parts.specs.Fields.{in_range}
 use Rattle.fmp_image_parts.specs.Ranges.{is_start_bit}
-use Rattle.fmp_image_rows.specs.Rows.{RowContext, RowForm, row, is_handler_body, bit, order_bit, order_of, task_form, semaphore_form, flag_form, data_queue_form, mailbox_form, message_form, shared_word_form, spin_lock_form, cyclic_form, interrupt_form}
+use Rattle.fmp_image_bytes.specs.Rows.{RowContext, RowForm, row, is_handler_body, bit, order_bit, order_of, task_form, semaphore_form, flag_form, data_queue_form, mailbox_form, message_form, shared_word_form, spin_lock_form, cyclic_form, interrupt_form}
 use Rattle.fmp_image_parts.proofs.FieldLaws.{Exact, bind_ok, passed, byte_exact, short_exact, long_exact, word_exact, text_exact, both_exact}
 use Rattle.fmp_image_parts.proofs.Names.{and_true}
 

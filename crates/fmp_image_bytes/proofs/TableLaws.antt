@@ -7,7 +7,7 @@ use Rattle.fmp_image_parts.specs.declared.fault.ImageFault.TheVariants as fault
 use Rattle.fmp_image_parts.specs.declared.keys.Key.{Key}
 use Rattle.fmp_image_parts.specs.Fields.{Field, ◌>>=◌, byte_at}
 use Rattle.fmp_image_parts.specs.Keys.{is_taken, are_new}
-use Rattle.fmp_image_rows.specs.Tables.{new_row, rows_at, table}
+use Rattle.fmp_image_bytes.specs.Tables.{new_row, rows_at, table}
 use Rattle.fmp_image_parts.proofs.FieldLaws.{IsBytes, Exact, bind_ok, ok_is, byte_exact, tested_exact, rest_is_bytes}
 use Rattle.fmp_image_parts.proofs.Names.{and_true}
 use Rattle.fmp_image_parts.proofs.Verification.{both_true}

@@ -4,8 +4,8 @@ ghost use Rattle.std.specs.Prelude.{◌≡◌, ◌++◌, ◌∷◌, [], ◌<◌,
 ghost use Rattle.std.specs.List.{flat_map, AllByRecursion};
 ghost use Rattle.fmp_base.specs.Names.{name_text};
 ghost use Rattle.fmp_image_parts.specs.Fields.{Field, Gives, byte, text};
-ghost use Rattle.fmp_image_rows.specs.Rows.{RowContext, context_of, bit};
-ghost use Rattle.fmp_image_rows.specs.Tables.{rows_at, table};
+ghost use Rattle.fmp_image_bytes.specs.Rows.{RowContext, context_of, bit};
+ghost use Rattle.fmp_image_bytes.specs.Tables.{rows_at, table};
 ghost use Rattle.fmp_image_parts.specs.declared.keys.Key as spec_key;
 
 use fmp_base::Name;

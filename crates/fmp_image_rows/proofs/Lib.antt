@@ -1,4 +1,0 @@
-pub mod Chains
-pub mod RowLaws
-pub mod RowLoops
-pub mod TableLaws
