@@ -26,7 +26,7 @@ use Rattle.fmp_journal.specs.Seats.{events}
 use Rattle.fmp_worlds.specs.Stamps.{EndsSo, Going, actor_at, applied, stamp}
 use Rattle.fmp_worlds.proofs.SettledLaws.{run-settled, setup-settled}
 use Rattle.fmp_worlds.proofs.StampLaws.{applied-runs, equal_stamps}
-use Rattle.fmp_receipts.specs.Stamps.{is_current}
+use Rattle.fmp_journal.specs.Stamps.{is_current}
 use Rattle.fmp_board.specs.Boards.{IsReplay}
 use Rattle.fmp_board.specs.Outcomes.{HasNoActorAfter, TicketState, IsDrawn, IsTicketOf, OutcomeState, IsOutcome, actor_after, stamp_after, stamp_at}
 use Rattle.fmp_replay.specs.Replays.{kernel_after, reaction, replay, stamps_after}

@@ -14,8 +14,8 @@ use Rattle.fmp_image_bytes.specs.Images.{ImageTables}
 use Rattle.fmp_kernel.specs.KernelViews.{KernelView, view_after}
 use Rattle.fmp_journal.specs.declared.entry.JournalEntry.{JournalEntry}
 use Rattle.fmp_journal.specs.Seats.{events}
-use Rattle.fmp_receipts.specs.declared.receipt.Receipt.{Receipt}
-use Rattle.fmp_receipts.specs.Receipts.{call_reply, receipt, receipt_of}
+use Rattle.fmp_journal.specs.declared.receipt.Receipt.{Receipt}
+use Rattle.fmp_journal.specs.Receipts.{call_reply, receipt, receipt_of}
 use Rattle.fmp_board.specs.Boards.{IsJournal, IsReplay}
 use Rattle.fmp_replay.specs.Replays.{IsLegal, kernel_after, reaction}
 use Rattle.fmp_replay.proofs.Replaying.{step_of_replay, legal_last, kernel_last, none_legal}

@@ -13,10 +13,10 @@ use Rattle.fmp_journal.specs.declared.entry.JournalEntry.{JournalEntry}
 use Rattle.fmp_journal.specs.Seats.{RowId, SeatState}
 use Rattle.fmp_journal.specs.Views.{own, times, without}
 use Rattle.fmp_board.specs.declared.fault.BoardFault.{BoardFault}
-use Rattle.fmp_receipts.specs.declared.receipt.Receipt.{Receipt}
+use Rattle.fmp_journal.specs.declared.receipt.Receipt.{Receipt}
 use Rattle.fmp_board.specs.Boards.{BookState, HasCounted, IsAt, IsJournal}
 use Rattle.fmp_board.specs.Outcomes.{Drew, IsDrawn, TicketState, actor_after}
-use Rattle.fmp_receipts.specs.Receipts.{journal_after, marks_after, receipt_of}
+use Rattle.fmp_journal.specs.Receipts.{journal_after, marks_after, receipt_of}
 use Rattle.fmp_board.specs.Visits.{Kept, Visited, entered, journaled, shown, unmarked}
 
 pub prefix_then : (xs ys zs : List JournalEntry) → IsPrefix xs ys → IsPrefix ys zs → IsPrefix xs zs

@@ -15,9 +15,9 @@ use Rattle.fmp_journal.specs.Seats.{RowId, SeatState, events}
 use Rattle.fmp_journal.specs.Words.{entry}
 use Rattle.fmp_board.specs.declared.fault.BoardFault.{BoardFault}
 use Rattle.fmp_board.specs.declared.fault.BoardFault.TheVariants as fault
-use Rattle.fmp_receipts.specs.declared.receipt.Receipt.{Receipt}
+use Rattle.fmp_journal.specs.declared.receipt.Receipt.{Receipt}
 use Rattle.fmp_board.specs.Boards.{IsJournal}
-use Rattle.fmp_receipts.specs.Receipts.{receipt_of}
+use Rattle.fmp_journal.specs.Receipts.{receipt_of}
 use Rattle.fmp_replay.specs.Replays.{kernel_after, reaction, stamps_after}
 use Rattle.fmp_board.specs.Visits.{entered}
 

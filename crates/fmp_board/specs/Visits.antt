@@ -10,9 +10,9 @@ use Rattle.fmp_journal.specs.Views.{own, times, without}
 use Rattle.fmp_journal.specs.Words.{entry}
 use Rattle.fmp_board.specs.declared.fault.BoardFault.{BoardFault}
 use Rattle.fmp_board.specs.declared.fault.BoardFault.TheVariants as fault
-use Rattle.fmp_receipts.specs.declared.receipt.Receipt.{Receipt}
+use Rattle.fmp_journal.specs.declared.receipt.Receipt.{Receipt}
 use Rattle.fmp_board.specs.Boards.{BookState, IsJournal}
-use Rattle.fmp_receipts.specs.Receipts.{journal_after, receipt_of}
+use Rattle.fmp_journal.specs.Receipts.{journal_after, receipt_of}
 use Rattle.fmp_replay.specs.Replays.{reaction}
 
 -- a seat that is shown the journal of a book has seen all of it, and counted the entries that the marks name

@@ -9,8 +9,7 @@ use crate::outcome::{Outcome, Ticket, Workspace};
 use crate::site::Site;
 use fmp_base::Event;
 use fmp_image_bytes::Image;
-use fmp_journal::{Row, Seat};
-use fmp_receipts::Receipt;
+use fmp_journal::{Receipt, Row, Seat};
 use std::sync::{Mutex, Wait};
 
 /// A kernel that many threads share, with the journal of what they did on it. Both lie under one lock, as a

@@ -9,9 +9,8 @@ use crate::site::Site;
 use fmp_base::{Effect, Event};
 use fmp_code::Vm;
 use fmp_image_bytes::Image;
-use fmp_journal::{JournalEntry, Scribe, Seat};
+use fmp_journal::{JournalEntry, Receipt, Scribe, Seat};
 use fmp_kernel::Kernel;
-use fmp_receipts::Receipt;
 use std::marker::{Model, PhantomData};
 
 /// The kernel of a board, and the journal of the events that did something on it. Its type keeps that the image and the
@@ -46,7 +45,7 @@ impl<'a, S: Site> Book<'a, S> {
     ghost use Rattle.std.specs.Prelude.{◌≡◌, ◌<◌, ◌≤◌, ◌↔◌, [], length, slice_get, vec_capacity, IfOk, IsTrue, OnOk, OnErr, MatchResult};
     ghost use Rattle.fmp_board.specs.declared.fault.BoardFault.TheVariants.{Full};
     ghost use Rattle.fmp_board.specs.Boards.{IsAt, IsJournal, IsReplay, IsRoom};
-    ghost use Rattle.fmp_receipts.specs.Receipts.{journal_after, marks_after, receipt_of};
+    ghost use Rattle.fmp_journal.specs.Receipts.{journal_after, marks_after, receipt_of};
     ghost use Rattle.fmp_replay.specs.Replays.{kernel_after, reaction};
     ghost use Rattle.fmp_board.specs.Visits.{shown, unmarked};
     ghost use Rattle.fmp_journal.specs.Views.{own};

@@ -7,8 +7,7 @@ use crate::fault::BoardFault;
 use crate::outcome::{Ticket, Workspace};
 use crate::site::Site;
 use fmp_base::Event;
-use fmp_journal::Seat;
-use fmp_receipts::Receipt;
+use fmp_journal::{Receipt, Seat};
 
 /// A book in whose journal each seat has counted its entries: a seat that enters one is shown it before the lock is
 /// free. Its calls are those of the board.

@@ -16,7 +16,6 @@ pub use board::Board;
 pub use book::Book;
 pub use closed::Closed;
 pub use fault::BoardFault;
-pub use fmp_journal::Seat;
-pub use fmp_receipts::Receipt;
+pub use fmp_journal::{Receipt, Seat};
 pub use outcome::{Outcome, Ticket, Workspace};
 pub use site::Site;

@@ -5,7 +5,7 @@ ghost use Rattle.fmp_journal.specs.Seats.{events};
 ghost use Rattle.fmp_journal.specs.Words.{entry};
 ghost use Rattle.fmp_board.specs.Boards.{IsJournal};
 ghost use Rattle.fmp_board.specs.Outcomes.{AnsweredAfter, Drew, IsDrawn, IsOutcome, IsTicket, IsTicketOf, IsWhyRefused, actor_after, stamp_after, waiting};
-ghost use Rattle.fmp_receipts.specs.Receipts.{journal_after, marks_after, receipt_of};
+ghost use Rattle.fmp_journal.specs.Receipts.{journal_after, marks_after, receipt_of};
 ghost use Rattle.fmp_replay.specs.Replays.{reaction};
 
 use crate::book::Book;
@@ -13,7 +13,7 @@ use crate::fault::BoardFault;
 use crate::outcome::{Outcome, Ticket, Workspace};
 use crate::site::Site;
 use fmp_base::{Effect, Event};
-use fmp_receipts::{Receipt, is_current};
+use fmp_journal::{Receipt, is_current};
 
 impl<'a, S: Site> Book<'a, S> {
     /// A ticket for the stretch that the actor of processor p makes next. None exactly if there is no such processor,

@@ -17,9 +17,9 @@ use Rattle.fmp_journal.specs.Views.{own}
 use Rattle.fmp_journal.specs.Words.{entry}
 use Rattle.fmp_board.specs.declared.fault.BoardFault.{BoardFault}
 use Rattle.fmp_board.specs.declared.fault.BoardFault.TheVariants as fault
-use Rattle.fmp_receipts.specs.declared.receipt.Receipt.{Receipt}
+use Rattle.fmp_journal.specs.declared.receipt.Receipt.{Receipt}
 use Rattle.fmp_board.specs.Outcomes.{AnsweredAfter, Drew, HasNoActorAfter, IsWhyRefused, Submitted, TicketState, actor_after, stamp_after}
-use Rattle.fmp_receipts.specs.Receipts.{receipt_of}
+use Rattle.fmp_journal.specs.Receipts.{receipt_of}
 use Rattle.fmp_replay.specs.Replays.{reaction}
 use Rattle.fmp_board.specs.Visits.{FedAfter, Fed, Kept, Visited, entered, journaled}
 use Rattle.fmp_hostrun.specs.Works.{Added, DidOnce, DidTimes, IsCounted, IsFed, IsWhyStopped}

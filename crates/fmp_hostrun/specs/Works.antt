@@ -10,7 +10,7 @@ use Rattle.fmp_journal.specs.Views.{own}
 use Rattle.fmp_journal.specs.Words.{entry}
 use Rattle.fmp_board.specs.declared.fault.BoardFault.{BoardFault}
 use Rattle.fmp_board.specs.declared.fault.BoardFault.TheVariants as fault
-use Rattle.fmp_receipts.specs.declared.receipt.Receipt.{Receipt}
+use Rattle.fmp_journal.specs.declared.receipt.Receipt.{Receipt}
 use Rattle.fmp_board.specs.Outcomes.{Drew, Submitted, TicketState}
 use Rattle.fmp_board.specs.Boards.{HasCounted, IsJournal}
 use Rattle.fmp_board.specs.Visits.{Fed, Kept, Visited, journaled}

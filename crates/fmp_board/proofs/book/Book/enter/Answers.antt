@@ -6,7 +6,7 @@ use Rattle.fmp_journal.specs.declared.entry.JournalEntry.{JournalEntry}
 use Rattle.fmp_journal.specs.Seats.{events}
 use Rattle.fmp_journal.specs.Words.{entry}
 use Rattle.fmp_board.specs.Boards.{IsReplay}
-use Rattle.fmp_receipts.specs.Receipts.{call_reply, journal_after, marks_after}
+use Rattle.fmp_journal.specs.Receipts.{call_reply, journal_after, marks_after}
 use Rattle.fmp_replay.specs.Replays.{reaction}
 use Rattle.fmp_board.proofs.Entering.{done_by, kept_by, nothing_by, step_there, replay_more, receipt_done, receipt_kept, receipt_nothing}
 use Rattle.fmp_board.proofs.book.Book.enter.Goals as goal

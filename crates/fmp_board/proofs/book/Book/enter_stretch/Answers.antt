@@ -10,7 +10,7 @@ use Rattle.fmp_journal.specs.Seats.{events}
 use Rattle.fmp_journal.specs.Words.{entry}
 use Rattle.fmp_board.specs.Boards.{IsReplay}
 use Rattle.fmp_board.specs.Outcomes.{actor_after}
-use Rattle.fmp_receipts.specs.Receipts.{call_reply, journal_after, marks_after}
+use Rattle.fmp_journal.specs.Receipts.{call_reply, journal_after, marks_after}
 use Rattle.fmp_replay.specs.Replays.{reaction}
 use Rattle.fmp_board.proofs.Drawing.{outcome_runs, stamp_of_actor}
 use Rattle.fmp_board.proofs.Entering.{done_by, kept_by, nothing_by, replay_more, receipt_done, receipt_kept, receipt_nothing}

@@ -7,7 +7,7 @@ use Rattle.fmp_base.specs.declared.events.Line.{Line}
 use Rattle.fmp_base.specs.declared.events.Line.TheVariants.{Tick, Int, Call, End, Fault, Gets, Starts, Pends, Begins, Runs}
 use Rattle.fmp_base.specs.Steps.{Reaction, Nothing, Did, Kept}
 use Rattle.fmp_journal.specs.declared.entry.JournalEntry.{JournalEntry}
-use Rattle.fmp_receipts.specs.declared.receipt.Receipt.{Receipt}
+use Rattle.fmp_journal.specs.declared.receipt.Receipt.{Receipt}
 
 -- the reply of a call in its line; a caller that waits, or that ends by its call, has none
 abbrev pub reply_in : Line → Option Reply

@@ -1,6 +1,6 @@
 //! The answer to an event.
 ghost use Rattle.std.specs.Prelude.{◌≡◌};
-ghost use Rattle.fmp_receipts.specs.Receipts.{call_reply as reply_of_call};
+ghost use Rattle.fmp_journal.specs.Receipts.{call_reply as reply_of_call};
 
 use fmp_base::{Effect, Line, Reply};
 
@@ -28,7 +28,7 @@ fn call_reply(lines: &[Line]) -> Option<Reply>
 impl Receipt {
     ghost use Rattle.std.specs.Prelude.{◌≡◌, None};
     ghost use Rattle.fmp_base.specs.declared.events.Effect.TheVariants as effect;
-    ghost use Rattle.fmp_receipts.specs.Receipts.{call_reply as reply_of_call, receipt};
+    ghost use Rattle.fmp_journal.specs.Receipts.{call_reply as reply_of_call, receipt};
 
     /// The receipt of an event that did nothing.
     pub fn nothing() -> Receipt
