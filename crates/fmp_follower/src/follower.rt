@@ -8,11 +8,11 @@ ghost use Rattle.fmp_replay.specs.Replays.{kernel_after};
 ghost use Rattle.fmp_kernel.specs.KernelViews.{view_after};
 ghost use Rattle.fmp_journal.specs.Seats.{given};
 
+use crate::printing::{EVENT_ROOM, print_reserved};
 use fmp_base::{Effect, Event, System};
 use fmp_board::{Board, Seat, Site};
 use fmp_code::Vm;
 use fmp_kernel::Kernel;
-use fmp_printing::{EVENT_ROOM, print_reserved};
 use fmp_replay::kernel_of;
 use fmp_trace::print;
 use std::alloc::{AllocError, Global};
