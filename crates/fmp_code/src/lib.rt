@@ -16,9 +16,8 @@ mod vm;
 pub use decoded_code::DecodedCode;
 pub use delivery::{deliver, deliver_in_place};
 pub use fmp_instructions::{
-    BodyCode, Code, Instruction, MachineContext, keeps_table, verify, verify_body,
+    BodyCode, Code, Instruction, MachineContext, keeps_table, stretch_of, verify, verify_body,
 };
-pub use fmp_operands::stretch_of;
 pub use machine::start;
 pub use stretches::{stretch, stretch_in_place};
 pub use vm::Vm;

@@ -17,7 +17,7 @@ use Rattle.fmp_instructions.specs.declared.instructions.Instruction.TheVariants.
 use Rattle.fmp_instructions.specs.declared.instructions.MachineContext.{MachineContext}
 use Rattle.fmp_instructions.specs.Instructions.{BodyTables, instructions_at, found_instructions}
 use Rattle.fmp_instructions.specs.Machine.{Next, act, exec, gives, on_place, stack_of, unstacked, code_stretch, code_meaning}
-use Rattle.fmp_operands.proofs.Requests.{service_of-request}
+use Rattle.fmp_instructions.proofs.Requests.{service_of-request}
 use Rattle.fmp_image_parts.specs.declared.heads.BodyHead.{BodyHead}
 use Rattle.fmp_image_parts.specs.Bodies.{IsBody}
 use Rattle.fmp_image_parts.specs.Pairs.{AllPairs}

@@ -1,12 +1,15 @@
 pub mod Bodies
 pub mod Conjunctions
 pub mod Fetching
-pub mod Fitting
 pub mod Filling
+pub mod Fitting
 pub mod Frames
 pub mod Giving
 pub mod Meanings
+pub mod OperandLists
+pub mod OperandPlaces
 pub mod Operations
 pub mod Places
+pub mod Requests
 pub mod Steps
 pub mod Tables

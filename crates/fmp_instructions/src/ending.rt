@@ -3,8 +3,8 @@ ghost use Rattle.std.specs.Prelude.{◌≡◌};
 ghost use Rattle.fmp_base.specs.Contexts.{stopped};
 ghost use Rattle.fmp_base.specs.Stretches.{ending};
 
+use crate::instructions::MachineContext;
 use fmp_base::{Stop, Stretch};
-use fmp_instructions::MachineContext;
 
 /// The end of a stretch that stops so, in the context that it leaves.
 #[inline(always)]

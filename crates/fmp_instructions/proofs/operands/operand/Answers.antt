@@ -1,8 +1,8 @@
 use Rattle.std.proofs.Common.{rules, ◌≡◌, ◌+◌, ◌-◌, ap, sym, ◌∙◌, w32, [], pos, get_or, arith, FitsSigned}
 use Rattle.std.proofs.lemmas.Int.{to_z-of_z}
 use Rattle.fmp_instructions.specs.Machine.{tops, unstacked}
-use Rattle.fmp_operands.proofs.OperandLists.{get_or-unstacked_below, get_or-unstacked_above}
-use Rattle.fmp_operands.proofs.operands.operand.Goals as goal
+use Rattle.fmp_instructions.proofs.OperandLists.{get_or-unstacked_below, get_or-unstacked_above}
+use Rattle.fmp_instructions.proofs.operands.operand.Goals as goal
 
 pub returns-then-index-count : goal.returns-then-index-count
 returns-then-index-count c =

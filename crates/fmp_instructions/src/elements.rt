@@ -7,8 +7,8 @@ ghost use Rattle.fmp_instructions.specs.declared.instructions.MachineContext.{Ma
 ghost use Rattle.fmp_instructions.specs.Verify.{CleanAfter};
 
 use crate::operands::{pop, push};
+use crate::operators::place_of;
 use fmp_base::Stop;
-use fmp_instructions::place_of;
 
 /// Takes an index and pushes the value at that place of an array, or stops with its fault.
 #[inline(always)]

@@ -1,8 +1,8 @@
 use Rattle.std.proofs.Common.{rules, [], ◌∙◌, FitsSigned, w32}
 use Rattle.std.proofs.lemmas.Int.{to_z-of_z}
 use Rattle.fmp_instructions.specs.Machine.{tops, unstacked}
-use Rattle.fmp_operands.proofs.Requests.{request-arguments}
-use Rattle.fmp_operands.proofs.operands.call.Goals as goal
+use Rattle.fmp_instructions.proofs.Requests.{request-arguments}
+use Rattle.fmp_instructions.proofs.operands.call.Goals as goal
 
 pub returns : goal.returns
 returns c =

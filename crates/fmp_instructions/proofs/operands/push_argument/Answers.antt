@@ -1,8 +1,8 @@
 use Rattle.std.proofs.Common.{rules, ◌+◌, ◌<◌, ap, ◌∙◌, length, w32, slice_set}
 use Rattle.std.proofs.lemmas.Int.{to_z-of_z}
 use Rattle.fmp_instructions.specs.Machine.{tops}
-use Rattle.fmp_operands.proofs.OperandLists.{tops-push}
-use Rattle.fmp_operands.proofs.operands.push.Goals as goal
+use Rattle.fmp_instructions.proofs.OperandLists.{tops-push}
+use Rattle.fmp_instructions.proofs.operands.push_argument.Goals as goal
 
 pub returns-clause-value : goal.returns-clause-value
 returns-clause-value c =

@@ -1,3 +1,0 @@
-pub mod OperandLists
-pub mod Places
-pub mod Requests
