@@ -8,13 +8,13 @@ use Rattle.fmp_explore.specs.declared.survey.Survey.{Survey}
 use Rattle.fmp_explore.specs.declared.trying.Marks.{Marks}
 use Rattle.fmp_explore.specs.Searching.{AreMarks, Grows, HasExamined, HasLooked, HasTried, IsAt, IsSurvey, IsTrying, Stays}
 use Rattle.fmp_explore.specs.States.{AreFew, HasRow, LeadsOn, MayCome, path_to}
-use Rattle.fmp_tries.specs.Tries.{all_tries}
+use Rattle.fmp_schedules.specs.Tries.{all_tries}
 use Rattle.fmp_image_bytes.specs.Images.{ImageTables, IsImage}
 use Rattle.fmp_image_bytes.proofs.InRange.{image_in_range}
 use Rattle.fmp_seen.specs.declared.link.Link.{Link}
 use Rattle.fmp_seen.specs.Links.{AreLinked}
 use Rattle.fmp_explore.proofs.StateLemmas.{leads_on_more}
-use Rattle.fmp_tries.proofs.TryLemmas.{each-tried}
+use Rattle.fmp_schedules.proofs.TryLemmas.{each-tried}
 use Rattle.fmp_explore.proofs.SurveyLemmas.{grows_at, grows_on, stays_at, stays_grows, stays_survey}
 
 module _ (i : ImageTables) (n : ℕ) (q : Question) (state : ℕ) (es : List Event) where

@@ -15,7 +15,7 @@ use Rattle.fmp_question.specs.Forbidden.{forbids}
 use Rattle.fmp_question.specs.Places.{forbids_there}
 use Rattle.fmp_question.specs.Rules.{rules_of}
 use Rattle.fmp_explore.specs.States.{AreFew, AreKept, IsExamined, IsKnown, IsStuckAfter, LeadsOn, MayCome, path_by, path_to, sections_of, watched_of}
-use Rattle.fmp_tries.specs.Tries.{all_tries}
+use Rattle.fmp_schedules.specs.Tries.{all_tries}
 use Rattle.fmp_fields.specs.Fields.{AreAllFields}
 use Rattle.fmp_image_bytes.specs.Images.{ImageTables}
 use Rattle.fmp_instructions.specs.Instructions.{BodyTables}

@@ -19,7 +19,7 @@ ghost use Rattle.fmp_explore.specs.Searching.{
   MayRequest,
 };
 ghost use Rattle.fmp_explore.specs.States.{AreFew, MayCome, path_to};
-ghost use Rattle.fmp_tries.specs.Tries.{all_tries};
+ghost use Rattle.fmp_schedules.specs.Tries.{all_tries};
 
 use crate::notes::Path;
 use crate::stretching::{Ahead, task_sites};

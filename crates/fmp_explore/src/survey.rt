@@ -23,9 +23,8 @@ use fmp_coverage::Coverage;
 use fmp_findings::{Finding, Sight};
 use fmp_kernel::Kernel;
 use fmp_question::{Outlook, Question, Site, may_rest, queues_within};
-use fmp_schedules::Section;
+use fmp_schedules::{Section, tries_of};
 use fmp_seen::{Entry, Link, Seen};
-use fmp_tries::tries_of;
 use std::alloc::{AllocError, Global};
 
 /// A search under way.

@@ -14,4 +14,5 @@ pub mod SectionSteps
 pub mod SilentLaws
 pub mod StuckLaws
 pub mod TriedLaws
+pub mod TryLemmas
 pub mod WayLaws

@@ -6,4 +6,5 @@ pub mod Schedules
 pub mod Sections
 pub mod Stuck
 pub mod Tried
+pub mod Tries
 pub mod WaysOn

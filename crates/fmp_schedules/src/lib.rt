@@ -1,9 +1,12 @@
-//! Which lists of events a search looks at, what holds along all of them, and what a search has to show for it.
+//! Which lists of events a search looks at and tries, what holds along all of them, and what a search has to show for
+//! it.
 #![tactic(auto)]
 
 mod acting;
 pub mod laws;
 mod section;
+mod tries;
 
 pub use acting::is_act;
 pub use section::{Meeting, Section};
+pub use tries::tries_of;

@@ -1,6 +1,6 @@
 use Rattle.std.proofs.Common.{◌≤◌, List, ap, arith, length}
 use Rattle.fmp_base.specs.declared.events.Event.{Event}
-use Rattle.fmp_tries.specs.Tries.{all_tries}
+use Rattle.fmp_schedules.specs.Tries.{all_tries}
 use Rattle.fmp_explore.proofs.TryingLemmas.{enough_tried}
 use Rattle.fmp_explore.proofs.survey.Survey.try_all.Goals as goal
 

@@ -1,10 +1,10 @@
 use Rattle.std.proofs.Common.{◌≡◌, ◌++◌, ℕ, List, ap, append-nil, arith, subst, sym, ◌∙◌}
 use Rattle.fmp_base.specs.declared.events.Event.{Event}
 use Rattle.fmp_base.specs.Systems.{tables_of}
-use Rattle.fmp_tries.specs.Tries.{requests}
-use Rattle.fmp_tries.proofs.TryLemmas.{no-requests, requests-added}
-use Rattle.fmp_tries.proofs.push_requests.Goals as goal
-use Rattle.fmp_tries.proofs.push_requests.Goals.{then-has_handler+in_ok-push, else-has_handler}
+use Rattle.fmp_schedules.specs.Tries.{requests}
+use Rattle.fmp_schedules.proofs.TryLemmas.{no-requests, requests-added}
+use Rattle.fmp_schedules.proofs.tries.push_requests.Goals as goal
+use Rattle.fmp_schedules.proofs.tries.push_requests.Goals.{then-has_handler+in_ok-push, else-has_handler}
 
 pub loop-i-init : goal.loop-i-init
 loop-i-init c =

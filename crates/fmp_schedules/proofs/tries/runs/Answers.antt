@@ -1,5 +1,5 @@
-use Rattle.fmp_tries.proofs.TryLemmas.{runs-more}
-use Rattle.fmp_tries.proofs.runs.Goals as goal
+use Rattle.fmp_schedules.proofs.TryLemmas.{runs-more}
+use Rattle.fmp_schedules.proofs.tries.runs.Goals as goal
 
 pub loop-p-preserved : goal.loop-p-preserved
 loop-p-preserved c =

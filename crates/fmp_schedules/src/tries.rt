@@ -1,9 +1,7 @@
 //! The events that a search tries in each state of a system.
-#![tactic(auto)]
-
 ghost use Rattle.std.specs.Prelude.{◌≡◌, ◌++◌, IfOk, OnOk, is_some};
 ghost use Rattle.fmp_base.specs.Systems.{defined_for, tables_of};
-ghost use Rattle.fmp_tries.specs.Tries.{all_tries, requests as requests_of, runs as runs_of};
+ghost use Rattle.fmp_schedules.specs.Tries.{all_tries, requests as requests_of, runs as runs_of};
 
 use fmp_base::{Event, System};
 use std::alloc::{AllocError, Global};

@@ -9,7 +9,7 @@ use Rattle.fmp_base.specs.declared.events.Event.TheVariants as event
 use Rattle.fmp_base.specs.declared.systems.InterruptConfig.{InterruptConfig}
 use Rattle.fmp_base.specs.Ranges.{InterruptInRange, IsInRange}
 use Rattle.fmp_base.specs.Systems.{SystemTables, defined_for}
-use Rattle.fmp_tries.specs.Tries.{all_tries, requests, runs}
+use Rattle.fmp_schedules.specs.Tries.{all_tries, requests, runs}
 use Rattle.fmp_schedules.specs.Tried.{is_event_of}
 
 -- one processor more
