@@ -30,7 +30,7 @@ use Rattle.fmp_schedules.specs.Deadlocks.{is_interrupt, may_interrupt}
 use Rattle.fmp_schedules.specs.Schedules.{are_within, may_still, may_try, none_runs, stays_within}
 use Rattle.fmp_schedules.proofs.IdleLaws.{each-none, none-each}
 use Rattle.fmp_schedules.proofs.TriedLaws.{other-nothing}
-use Rattle.fmp_readable.proofs.ReadableLaws.{readable}
+use Rattle.fmp_reachable.proofs.ReadableLaws.{readable}
 use Rattle.fmp_explore.proofs.StateLemmas.{count_one_more}
 
 -- as many interrupts may still come as what is watched says

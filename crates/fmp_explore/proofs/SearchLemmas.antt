@@ -28,7 +28,7 @@ use Rattle.fmp_schedules.proofs.HoldLaws.{searched-holds}
 use Rattle.fmp_schedules.proofs.SilentLaws.{searched-silent}
 use Rattle.fmp_seen.specs.declared.link.Link.{Link}
 use Rattle.fmp_seen.specs.Links.{AreLinked}
-use Rattle.fmp_readable.proofs.ReadableLaws.{readable}
+use Rattle.fmp_reachable.proofs.ReadableLaws.{readable}
 use Rattle.fmp_question.proofs.ForbiddenLemmas.{forbids-timeless}
 use Rattle.fmp_explore.proofs.MarkLemmas.{still_may}
 use Rattle.fmp_explore.proofs.PathLemmas.{path_to-depth, path_to-stays}

@@ -35,7 +35,7 @@ use Rattle.fmp_seen.specs.Links.{AreLinked, IsLink}
 use Rattle.fmp_seen.specs.Seen.{SeenStates, with_state}
 use Rattle.fmp_seen.proofs.LinkLemmas.{links-added}
 use Rattle.fmp_seen.proofs.RowLemmas.{rows-told}
-use Rattle.fmp_readable.proofs.ReadableLaws.{readable}
+use Rattle.fmp_reachable.proofs.ReadableLaws.{readable}
 use Rattle.fmp_schedules.proofs.EventLines.{done-counts}
 use Rattle.fmp_explore.proofs.PathLemmas.{path_to-stays}
 use Rattle.fmp_explore.proofs.SectionLemmas.{append-parts, sections-told, sections_done, sections_kept, sections_length}

@@ -21,13 +21,13 @@ use Rattle.fmp_fields.specs.declared.field.What.{What}
 use Rattle.fmp_fields.specs.declared.field.What.TheVariants as what
 use Rattle.fmp_fields.specs.declared.owner.Owner.TheVariants as owner
 use Rattle.fmp_fields.specs.FieldNumbers.{body_number, context_number, owned_by, unless}
-use Rattle.fmp_fields.specs.Fields.{IsReadable}
+use Rattle.fmp_reachable.specs.Readable.{IsReadable}
 use Rattle.fmp_fields.proofs.StateFields.{SameFields, within}
 use Rattle.fmp_instructions.specs.declared.instructions.MachineContext.{MachineContext}
 use Rattle.fmp_instructions.specs.Instructions.{BodyTables}
-use Rattle.fmp_rows.proofs.NumberLaws.{unsigned-told}
-use Rattle.fmp_rooms.specs.Rooms.{IsGoingWithin, IsHandlerWithin, IsKeptWithin, IsWithin, is_handler_of}
-use Rattle.fmp_rooms.specs.Told.{AreTold, SameTold}
+use Rattle.fmp_reachable.proofs.NumberLaws.{unsigned-told}
+use Rattle.fmp_reachable.specs.Rooms.{IsGoingWithin, IsHandlerWithin, IsKeptWithin, IsWithin, is_handler_of}
+use Rattle.fmp_reachable.specs.Told.{AreTold, SameTold}
 
 -- who is not dormant is one of the tasks
 is-task : (xs : List TaskBlock) (t : ℕ) → is_dormant (task_at xs t).phase ≡ false → t < length xs

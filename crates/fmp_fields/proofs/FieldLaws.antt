@@ -7,7 +7,8 @@ use Rattle.fmp_alike.specs.Alike.{Alike, AlikeStates}
 use Rattle.fmp_fields.specs.declared.field.What.{What}
 use Rattle.fmp_fields.specs.declared.field.What.TheVariants as what
 use Rattle.fmp_fields.specs.FieldNumbers.{number_of}
-use Rattle.fmp_fields.specs.Fields.{AreAllFields, IsReadable}
+use Rattle.fmp_reachable.specs.Readable.{IsReadable}
+use Rattle.fmp_fields.specs.Fields.{AreAllFields}
 use Rattle.fmp_fields.proofs.BodyFields.{bodies-told}
 use Rattle.fmp_fields.proofs.StateFields.{SameFields, row-same, same-at}
 use Rattle.fmp_fields.proofs.ZeroedBodies.{readable-zeroed}
@@ -16,10 +17,10 @@ use Rattle.fmp_instructions.specs.Instructions.{BodyTables}
 use Rattle.fmp_live.specs.LiveLocals.{AreLiveTables, LiveTable}
 use Rattle.fmp_live.specs.Zeroed.{IsLike, zeroed}
 use Rattle.fmp_live.proofs.LikeLaws.{zeroed-like}
-use Rattle.fmp_rows.proofs.RowLaws.{rows-told}
-use Rattle.fmp_rows.proofs.WorldLaws.{worlds-told}
-use Rattle.fmp_rows.specs.Rows.{SameRow}
-use Rattle.fmp_rooms.proofs.SameBodies.{bodies-same}
+use Rattle.fmp_reachable.proofs.RowLaws.{rows-told}
+use Rattle.fmp_reachable.proofs.AlikeWorlds.{worlds-told}
+use Rattle.fmp_reachable.specs.Rows.{SameRow}
+use Rattle.fmp_reachable.proofs.SameBodies.{bodies-same}
 
 pub fields-told : (sys : SystemTables) (bodies : List BodyTables) (limited : Bool) (fields : List What)
     (v w : World MachineContext) (came other : ℕ)

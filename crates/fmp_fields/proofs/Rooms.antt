@@ -14,7 +14,7 @@ use Rattle.fmp_base.specs.Systems.{SystemTables, body_of, defined_for, interrupt
 use Rattle.fmp_fields.specs.declared.room.Room.{Room}
 use Rattle.fmp_fields.specs.Listing.{HasHandlerRoom, HasRoom}
 use Rattle.fmp_instructions.specs.Instructions.{BodyTables}
-use Rattle.fmp_rooms.specs.Rooms.{is_handler_of}
+use Rattle.fmp_reachable.specs.Rooms.{is_handler_of}
 use Rattle.fmp_fields.proofs.Places.{EachBefore}
 
 -- what has room has it in a room that is no smaller

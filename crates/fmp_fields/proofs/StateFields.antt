@@ -13,12 +13,13 @@ use Rattle.fmp_base.specs.Ticks.{is_pending}
 use Rattle.fmp_fields.specs.declared.field.What.{What}
 use Rattle.fmp_fields.specs.declared.field.What.TheVariants as what
 use Rattle.fmp_fields.specs.FieldNumbers.{number_of}
-use Rattle.fmp_fields.specs.Fields.{IsField, IsReadable}
+use Rattle.fmp_reachable.specs.Readable.{IsReadable}
+use Rattle.fmp_fields.specs.Fields.{IsField}
 use Rattle.fmp_instructions.specs.declared.instructions.MachineContext.{MachineContext}
 use Rattle.fmp_instructions.specs.Instructions.{BodyTables}
-use Rattle.fmp_rows.specs.Numbers.{SameProcessorNumbers, SameTaskNumbers, bit}
-use Rattle.fmp_rows.specs.Rows.{SameNumbers, SameRow}
-use Rattle.fmp_rows.specs.Values.{SameSizes, SameValueNumbers}
+use Rattle.fmp_reachable.specs.Numbers.{SameProcessorNumbers, SameTaskNumbers, bit}
+use Rattle.fmp_reachable.specs.Rows.{SameNumbers, SameRow}
+use Rattle.fmp_reachable.specs.Values.{SameSizes, SameValueNumbers}
 use Rattle.fmp_worlds.specs.Settled.{IsThere}
 
 -- what two maps give of an element is the same where the maps are

@@ -16,7 +16,7 @@ use Rattle.fmp_contexts.specs.Contexts.{is_going}
 use Rattle.fmp_fields.specs.declared.owner.Owner.{Owner}
 use Rattle.fmp_fields.specs.declared.owner.Owner.TheVariants as owner
 use Rattle.fmp_fields.specs.FieldNumbers.{owned_by, unless}
-use Rattle.fmp_fields.specs.Fields.{IsReadable}
+use Rattle.fmp_reachable.specs.Readable.{IsReadable}
 use Rattle.fmp_fields.specs.Reading.{body_by, kept_by, with_zeros}
 use Rattle.fmp_instructions.specs.declared.instructions.MachineContext.{MachineContext}
 use Rattle.fmp_instructions.specs.Instructions.{BodyTables}
@@ -24,9 +24,9 @@ use Rattle.fmp_live.specs.LiveLocals.{LiveTable, row_of, table_at}
 use Rattle.fmp_live.specs.Zeroed.{if_live, zeroed, zeroed_by, zeroed_context, zeroed_handler, zeroed_held, zeroed_task}
 use Rattle.fmp_live.proofs.LikeLaws.{context_at-each, length-each}
 use Rattle.fmp_live.proofs.RowLaws.{get_or-zeroed, length-zeroed}
-use Rattle.fmp_rooms.specs.Rooms.{IsGoingWithin, IsHandlerWithin, IsKeptWithin, IsWithin}
-use Rattle.fmp_rows.specs.Numbers.{unsigned}
-use Rattle.fmp_rows.specs.Worlds.{IsHeldBy}
+use Rattle.fmp_reachable.specs.Rooms.{IsGoingWithin, IsHandlerWithin, IsKeptWithin, IsWithin}
+use Rattle.fmp_reachable.specs.Numbers.{unsigned}
+use Rattle.fmp_reachable.specs.Worlds.{IsHeldBy}
 
 context_at-map : {A : Type 0} (f : Option A → Option A) → f None ≡ None → (cs : List (Option A)) (p : ℕ)
     → context_at (map f cs) p ≡ f (context_at cs p)

@@ -1,17 +1,14 @@
--- The fields of the states of a system and its code, and what is asked of worlds whose fields are read.
-use Rattle.std.specs.Prelude.{◌≡◌, ℕ, ◌<◌, ◌≤◌, [], Bool, true, List, Some, length, get_or, slice_get}
+-- The fields of the states of a system and its code.
+use Rattle.std.specs.Prelude.{◌≡◌, ℕ, ◌<◌, Bool, true, List, Some, length, slice_get}
 use Rattle.std.specs.List.{Contains}
 use Rattle.fmp_base.specs.declared.bodies.HandlerStart.{HandlerStart}
 use Rattle.fmp_base.specs.declared.states.Handler.{Handler}
-use Rattle.fmp_base.specs.Meanings.{World, handler_start, task_body}
-use Rattle.fmp_base.specs.States.{KernelState}
+use Rattle.fmp_base.specs.Meanings.{handler_start, task_body}
 use Rattle.fmp_base.specs.Systems.{SystemTables, data_queue_config, interrupt_config}
 use Rattle.fmp_fields.specs.declared.field.What.{What}
 use Rattle.fmp_fields.specs.declared.field.What.TheVariants as what
-use Rattle.fmp_instructions.specs.declared.instructions.MachineContext.{MachineContext}
 use Rattle.fmp_instructions.specs.Instructions.{BodyTables, depths_at}
-use Rattle.fmp_rooms.specs.Rooms.{IsWithinRooms, is_handler_of, locals_at}
-use Rattle.fmp_rows.specs.Worlds.{IsRegularWorld}
+use Rattle.fmp_reachable.specs.Rooms.{is_handler_of, locals_at}
 use Rattle.fmp_worlds.specs.Settled.{IsThere}
 
 -- somewhere in a body an operand stands at place i
@@ -82,23 +79,3 @@ IsField sys bodies (what.PendingInterrupt i) = IsThere (interrupt_config sys i)
 pub record AreAllFields (sys : SystemTables) (bodies : List BodyTables) (limited : Bool) (fields : List What) : Type 0 where
   pub each : (f : What) → IsField sys bodies f → Contains fields f
   pub interrupts : limited ≡ true → Contains fields what.Interrupts
-
--- a state has as many of each as its system, and no data queue holds more than its capacity
-pub record IsSized (sys : SystemTables) (s : KernelState) : Type 0 where
-  pub tasks : length s.tasks ≡ length sys.tasks
-  pub processors : length s.processors ≡ sys.processors
-  pub cyclics : length s.due_times ≡ length sys.cyclics
-  pub semaphores : length s.semaphores ≡ length sys.semaphores
-  pub flags : length s.flags ≡ length sys.flags
-  pub data_queues : length s.data_queues ≡ length sys.data_queues
-  pub mailboxes : length s.mailboxes ≡ length sys.mailboxes
-  pub shared_words : length s.shared_words ≡ length sys.shared_words
-  pub pending_cyclics : length s.pending_cyclics ≡ length sys.cyclics
-  pub pending_interrupts : length s.pending_interrupts ≡ 32
-  pub words : (d : ℕ) → length (get_or s.data_queues d []) ≤ (data_queue_config sys d).capacity
-
--- what holds of every world of a kernel of this system and code between events
-pub record IsReadable (sys : SystemTables) (bodies : List BodyTables) (w : World MachineContext) : Type 0 where
-  pub regular : IsRegularWorld sys w
-  pub rooms : IsWithinRooms sys bodies w
-  pub sizes : IsSized sys w.state

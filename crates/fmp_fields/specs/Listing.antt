@@ -9,7 +9,7 @@ use Rattle.fmp_fields.specs.declared.field.What.TheVariants as what
 use Rattle.fmp_fields.specs.declared.room.Room.{Room}
 use Rattle.fmp_fields.specs.Fields.{IsHandlerLocal, IsHandlerOperand, IsOperand, IsStartOn}
 use Rattle.fmp_instructions.specs.Instructions.{BodyTables, depths_at}
-use Rattle.fmp_rooms.specs.Rooms.{locals_at}
+use Rattle.fmp_reachable.specs.Rooms.{locals_at}
 use Rattle.fmp_worlds.specs.Settled.{IsThere}
 
 -- a body's locals, and its operands at each of its places, fit into this room

@@ -9,7 +9,7 @@ ghost use Rattle.fmp_fields.specs.FieldNumbers.{body_number, owned_by};
 ghost use Rattle.fmp_fields.specs.Reading.{IsOwned, body_by, kept_by, with_zeros};
 ghost use Rattle.fmp_live.specs.LiveLocals.{live_tables};
 ghost use Rattle.fmp_live.specs.Zeroed.{zeroed, zeroed_by};
-ghost use Rattle.fmp_rows.specs.Numbers as numbers;
+ghost use Rattle.fmp_reachable.specs.Numbers as numbers;
 
 use crate::field::What;
 use crate::owner::Owner;
@@ -18,7 +18,7 @@ use fmp_base::{Body, Caller, Handler, Phase};
 use fmp_instructions::MachineContext;
 use fmp_kernel::Kernel;
 use fmp_live::LiveLocals;
-use fmp_rows::numbers::unsigned;
+use fmp_reachable::numbers::unsigned;
 use fmp_tasks::Tables;
 
 /// The handler that a processor runs, whichever it is: what is kept of it goes by its processor.

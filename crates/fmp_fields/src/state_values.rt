@@ -4,13 +4,13 @@ ghost use Rattle.fmp_base.specs.Queues.{first_of};
 ghost use Rattle.fmp_base.specs.States.{processor_at, task_at};
 ghost use Rattle.fmp_base.specs.Ticks.{is_pending};
 ghost use Rattle.fmp_fields.specs.FieldNumbers.{block_number, state_number, task_of as task_by};
-ghost use Rattle.fmp_rows.specs.Behind.{mailbox_at};
-ghost use Rattle.fmp_rows.specs.Numbers as numbers;
-ghost use Rattle.fmp_rows.specs.Rows.{due_at};
+ghost use Rattle.fmp_reachable.specs.Behind.{mailbox_at};
+ghost use Rattle.fmp_reachable.specs.Numbers as numbers;
+ghost use Rattle.fmp_reachable.specs.Rows.{due_at};
 
 use crate::field::{What, low_byte};
 use fmp_base::{Lock, Phase, Processor, TaskBlock};
-use fmp_rows::numbers::{
+use fmp_reachable::numbers::{
     bit, cyclic_of, interrupt_of, lock_number, phase_kind, place, ticks_to, unsigned, wait_object,
     wait_value,
 };

@@ -1,0 +1,9 @@
+pub mod Behind
+pub mod Numbers
+pub mod Readable
+pub mod Rooms
+pub mod Rows
+pub mod Sizes
+pub mod Told
+pub mod Values
+pub mod Worlds

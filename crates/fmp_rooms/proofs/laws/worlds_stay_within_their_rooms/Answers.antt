@@ -1,5 +1,0 @@
-use Rattle.fmp_rooms.proofs.WorldLaws.{world-within}
-use Rattle.fmp_rooms.proofs.laws.worlds_stay_within_their_rooms.Goals as goal
-
-pub returns : goal.returns
-returns c = λ sys bodies rooms there n sizes es. world-within sys bodies rooms there n es sizes

@@ -1,5 +1,0 @@
-use Rattle.fmp_rows.proofs.RowLaws.{rows-told}
-use Rattle.fmp_rows.proofs.laws.rows_tell_what_is_alike.Goals as goal
-
-pub returns : goal.returns
-returns c sys s u a b r = rows-told sys s u a b r

@@ -1,5 +1,0 @@
-use Rattle.fmp_rows.proofs.WorldLaws.{worlds-told}
-use Rattle.fmp_rows.proofs.laws.worlds_told_are_alike.Goals as goal
-
-pub returns : goal.returns
-returns g c = λ sys v w a b row bodies. worlds-told sys v w a b row bodies

@@ -1,5 +1,0 @@
-pub mod Behind
-pub mod Numbers
-pub mod Rows
-pub mod Values
-pub mod Worlds
