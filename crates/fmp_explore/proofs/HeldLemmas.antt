@@ -7,7 +7,7 @@ use Rattle.fmp_base.specs.declared.events.Event.{Event}
 use Rattle.fmp_base.specs.declared.events.Line.{Line}
 use Rattle.fmp_question.specs.declared.question.Question.{Question}
 use Rattle.fmp_explore.specs.Searching.{AreHeld, IsAt}
-use Rattle.fmp_paths.specs.Followed.{HasDone, HasKeptPlace}
+use Rattle.fmp_witness.specs.Followed.{HasDone, HasKeptPlace}
 use Rattle.fmp_explore.specs.States.{sections_of}
 use Rattle.fmp_image_bytes.specs.Images.{ImageTables}
 use Rattle.fmp_instructions.specs.Instructions.{BodyTables}

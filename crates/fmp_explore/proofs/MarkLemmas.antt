@@ -24,7 +24,7 @@ use Rattle.fmp_instructions.specs.Instructions.{BodyTables}
 use Rattle.fmp_instructions.specs.Machine.{code_meaning}
 use Rattle.fmp_instructions.specs.declared.instructions.MachineContext.{MachineContext}
 use Rattle.fmp_kernel.specs.KernelViews.{KernelView}
-use Rattle.fmp_paths.specs.Followed.{HasDone}
+use Rattle.fmp_witness.specs.Followed.{HasDone}
 use Rattle.fmp_replay.specs.Replays.{reaction, replay}
 use Rattle.fmp_schedules.specs.Deadlocks.{is_interrupt, may_interrupt}
 use Rattle.fmp_schedules.specs.Schedules.{are_within, may_still, may_try, none_runs, stays_within}

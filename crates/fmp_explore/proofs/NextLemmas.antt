@@ -10,14 +10,14 @@ use Rattle.fmp_base.specs.Setups.{setup}
 use Rattle.fmp_question.specs.declared.question.Question.{Question}
 use Rattle.fmp_explore.specs.declared.survey.Survey.{Survey}
 use Rattle.fmp_question.specs.Behind.{CanBegin}
-use Rattle.fmp_paths.specs.Followed.{IsFollowed}
+use Rattle.fmp_witness.specs.Followed.{IsFollowed}
 use Rattle.fmp_question.specs.Forbidden.{forbids}
 use Rattle.fmp_question.specs.Places.{forbids_there, is_bad}
 use Rattle.fmp_question.specs.Rules.{rules_of}
 use Rattle.std.specs.declared.alloc.Global.{Global}
 use Rattle.std.specs.declared.vec.Vec.{Vec}
 use Rattle.fmp_explore.specs.Searching.{AreHeld, HasDealt, HasKept, IsAt, IsBegun, IsClean, IsFresh, IsNext, IsSurvey, Stays}
-use Rattle.fmp_paths.specs.Followed.{HasDone, HasKeptPlace}
+use Rattle.fmp_witness.specs.Followed.{HasDone, HasKeptPlace}
 use Rattle.fmp_explore.specs.States.{AreFew, MayCome, came_of, path_by, path_to, sections_of, watched_of}
 use Rattle.fmp_fields.specs.declared.field.What.{What}
 use Rattle.fmp_fields.specs.Fields.{AreAllFields}
@@ -39,7 +39,7 @@ use Rattle.fmp_schedules.proofs.EventLines.{setup-counts}
 use Rattle.fmp_explore.proofs.PathLemmas.{path_to-depth}
 use Rattle.fmp_question.proofs.PlaceLemmas.{none-anywhere, none-there}
 use Rattle.fmp_explore.proofs.StateLemmas.{kept_none, leads_done, leads_kept}
-use Rattle.fmp_paths.proofs.StepLemmas.{kept_by_no_interrupt}
+use Rattle.fmp_witness.proofs.StepLemmas.{kept_by_no_interrupt}
 use Rattle.fmp_explore.proofs.SurveyLemmas.{grows_on, stays_grows, stays_survey}
 
 abbrev Kernels : Type 0

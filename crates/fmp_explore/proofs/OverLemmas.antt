@@ -5,10 +5,10 @@ use Rattle.fmp_base.specs.Steps.{Reaction}
 use Rattle.fmp_image_bytes.specs.Images.{ImageTables}
 use Rattle.fmp_instructions.specs.declared.instructions.MachineContext.{MachineContext}
 use Rattle.fmp_kernel.specs.KernelViews.{view_after}
-use Rattle.fmp_paths.specs.Followed.{IsFollowed}
-use Rattle.fmp_paths.specs.Ladders.{IsOver}
-use Rattle.fmp_paths.proofs.LadderLemmas as ladders
-use Rattle.fmp_paths.proofs.LadderLemmas.{Kernels}
+use Rattle.fmp_witness.specs.Followed.{IsFollowed}
+use Rattle.fmp_witness.specs.Ladders.{IsOver}
+use Rattle.fmp_witness.proofs.LadderLemmas as ladders
+use Rattle.fmp_witness.proofs.LadderLemmas.{Kernels}
 
 -- such a kernel is one of the image
 pub over_after : (i : ImageTables) (n : ℕ) (es : List Event) (k : Kernels) → IsFollowed i n es k → IsOver i n k

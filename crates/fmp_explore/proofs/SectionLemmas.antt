@@ -13,7 +13,7 @@ use Rattle.fmp_instructions.specs.Machine.{code_meaning}
 use Rattle.fmp_instructions.specs.declared.instructions.MachineContext.{MachineContext}
 use Rattle.fmp_replay.specs.Replays.{reaction}
 use Rattle.fmp_schedules.specs.declared.section.Section.{Section}
-use Rattle.fmp_paths.proofs.LineLemmas.{lines_last, lines_to}
+use Rattle.fmp_witness.proofs.LineLemmas.{lines_last, lines_to}
 use Rattle.fmp_schedules.specs.Schedules.{lines_after, sections_after}
 use Rattle.fmp_schedules.specs.Sections.{section_after, section_along, section_on}
 use Rattle.fmp_schedules.proofs.SectionLaws.{sections-last}

@@ -39,7 +39,7 @@ use Rattle.fmp_reachable.proofs.ReadableLaws.{readable}
 use Rattle.fmp_schedules.proofs.EventLines.{done-counts}
 use Rattle.fmp_explore.proofs.PathLemmas.{path_to-stays}
 use Rattle.fmp_explore.proofs.SectionLemmas.{append-parts, sections-told, sections_done, sections_kept, sections_length}
-use Rattle.fmp_paths.proofs.LineLemmas.{lines_to}
+use Rattle.fmp_witness.proofs.LineLemmas.{lines_to}
 
 -- an element of a list with one more is one that it had, or that one
 pub element_of_push : {X : Type 0} (xs : List X) (y : X) (i : ℕ) (x : X) → slice_get (xs ++ y ∷ []) i ≡ Some x

@@ -14,7 +14,7 @@ use Rattle.fmp_question.specs.declared.question.Question.{Question}
 use Rattle.fmp_explore.specs.declared.survey.Survey.{Survey}
 use Rattle.fmp_question.specs.declared.question.Ticks.{Ticks}
 use Rattle.fmp_explore.specs.Behind.{IsAbout, NeverActs, NoneFollows}
-use Rattle.fmp_paths.specs.Followed.{IsFollowed}
+use Rattle.fmp_witness.specs.Followed.{IsFollowed}
 use Rattle.fmp_question.specs.Forbidden.{forbids}
 use Rattle.fmp_question.specs.Rules.{is_idle, rules_of}
 use Rattle.fmp_explore.specs.Searching.{IsWhole}

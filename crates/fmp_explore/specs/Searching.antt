@@ -10,7 +10,7 @@ use Rattle.fmp_explore.specs.declared.searching.Ending.{Ending}
 use Rattle.fmp_explore.specs.declared.searching.Ending.TheVariants as ending
 use Rattle.fmp_explore.specs.declared.survey.Survey.{Survey}
 use Rattle.fmp_explore.specs.declared.trying.Marks.{Marks}
-use Rattle.fmp_paths.specs.Followed.{IsFollowed}
+use Rattle.fmp_witness.specs.Followed.{IsFollowed}
 use Rattle.fmp_question.specs.Forbidden.{forbids}
 use Rattle.fmp_question.specs.Places.{forbids_there}
 use Rattle.fmp_question.specs.Rules.{rules_of}

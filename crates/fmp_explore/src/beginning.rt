@@ -4,7 +4,7 @@ ghost use Rattle.std.specs.List.{list_any};
 ghost use Rattle.fmp_replay.specs.Replays.{kernel_after};
 ghost use Rattle.fmp_schedules.specs.Schedules.{is_any_met};
 ghost use Rattle.fmp_explore.specs.States.{AreFew, sections_of};
-ghost use Rattle.fmp_paths.specs.Followed.{IsFollowed};
+ghost use Rattle.fmp_witness.specs.Followed.{IsFollowed};
 ghost use Rattle.fmp_question.specs.Places.{is_bad};
 ghost use Rattle.fmp_explore.specs.Searching.{HasKept, IsBegun, IsClean, IsFresh, IsSurvey, Stays};
 
@@ -15,11 +15,11 @@ use crate::survey::Survey;
 use fmp_base::Event;
 use fmp_code::Vm;
 use fmp_kernel::Kernel;
-use fmp_paths::follow;
 use fmp_question::interrupt_count;
 use fmp_replay::kernel_of;
 use fmp_schedules::Section;
 use fmp_seen::Link;
+use fmp_witness::follow;
 use std::alloc::{AllocError, Global};
 
 impl Survey {

@@ -2,7 +2,7 @@
 ghost use Rattle.std.specs.Prelude.{◌≡◌, ◌≤◌, ◌^◌, [], All, IfOk, IsTrue, true};
 ghost use Rattle.fmp_instructions.specs.Machine.{code_meaning};
 ghost use Rattle.fmp_schedules.specs.Schedules.{Holds, HoldsThere};
-ghost use Rattle.fmp_findings.specs.Findings.{IsFound};
+ghost use Rattle.fmp_witness.specs.Findings.{IsFound};
 ghost use Rattle.fmp_question.specs.Forbidden.{forbids};
 ghost use Rattle.fmp_question.specs.Places.{forbids_there};
 ghost use Rattle.fmp_question.specs.Rules.{rules_of};
@@ -15,10 +15,9 @@ use crate::stuck::{Suspicions, suspected};
 use crate::subject::{Subject, live_in};
 use crate::survey::Survey;
 use crate::values::Variety;
-use fmp_coverage::Coverage;
-use fmp_findings::Finding;
 use fmp_image_bytes::Image;
 use fmp_question::Question;
+use fmp_witness::{Coverage, Finding};
 use std::alloc::{AllocError, Global};
 
 /// What a search came to.

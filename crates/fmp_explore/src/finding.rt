@@ -1,17 +1,17 @@
 //! Which of the candidates that a search has noted are so, and which of them are told.
 ghost use Rattle.std.specs.Prelude.{◌≡◌, ◌≤◌, ◌^◌, [], All, IfOk, IsTrue, OnOk};
 ghost use Rattle.fmp_replay.specs.Replays.{kernel_after};
-ghost use Rattle.fmp_findings.specs.Findings.{IsFound, IsSo};
+ghost use Rattle.fmp_witness.specs.Findings.{IsFound, IsSo};
 
 use crate::notes::is_beside;
 use crate::stuck::is_stuck;
 use fmp_base::Event;
 use fmp_code::Vm;
-use fmp_findings::{Finding, Sight, is_so};
 use fmp_image_bytes::Image;
 use fmp_kernel::Kernel;
 use fmp_question::Question;
 use fmp_replay::kernel_of;
+use fmp_witness::{Finding, Sight, is_so};
 use std::alloc::{AllocError, Global};
 
 /// Whether each of these events does something, and this is seen after them, on a kernel that was just set up.

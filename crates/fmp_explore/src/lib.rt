@@ -19,9 +19,8 @@ mod trying;
 mod values;
 
 pub use exploring::{Report, explore};
-pub use fmp_coverage::{Coverage, Peaks, Runs};
-pub use fmp_findings::{Finding, Left, Sight, Started, Together, left_by};
 pub use fmp_question::{ANSWERS, Never, NeverAt, Question, Site, Ticks};
 pub use fmp_schedules::{Meeting, Section};
+pub use fmp_witness::{Coverage, Finding, Left, Peaks, Runs, Sight, Started, Together, left_by};
 pub use searching::{Ending, Watcher};
 pub use values::Variety;

@@ -9,11 +9,10 @@ use crate::outlooks::Outlooks;
 use crate::subject::Subject;
 use fmp_base::{Event, Line};
 use fmp_code::Vm;
-use fmp_coverage::Coverage;
-use fmp_findings::{Finding, Sight, Together};
 use fmp_kernel::Kernel;
 use fmp_question::{Site, first_bad_at, first_forbidden, is_bad};
 use fmp_schedules::Section;
+use fmp_witness::{Coverage, Finding, Sight, Together};
 use std::alloc::{AllocError, Global};
 use std::mem;
 

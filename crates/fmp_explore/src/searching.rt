@@ -2,8 +2,8 @@
 ghost use Rattle.std.specs.Prelude.{◌≡◌, ◌≢◌, ◌+◌, ◌<◌, ◌≤◌, [], ◌∷◌, ◌++◌, IfNone, IfOk, IfSome, IsTrue, OnOk, false, length, true};
 ghost use Rattle.fmp_base.specs.Steps.{Nothing};
 ghost use Rattle.fmp_replay.specs.Replays.{kernel_after, reaction};
-ghost use Rattle.fmp_paths.specs.Followed.{IsFollowed};
-ghost use Rattle.fmp_paths.specs.Ladders.{IsLadder, IsOver};
+ghost use Rattle.fmp_witness.specs.Followed.{IsFollowed};
+ghost use Rattle.fmp_witness.specs.Ladders.{IsLadder, IsOver};
 ghost use Rattle.fmp_explore.specs.Searching.{
   AreMarks,
   Grows,
@@ -28,12 +28,11 @@ use crate::survey::Survey;
 use crate::trying::{Attempt, DEEPEST, Marks};
 use fmp_base::{Effect, Event};
 use fmp_code::Vm;
-use fmp_findings::Sight;
 use fmp_kernel::Kernel;
-use fmp_paths::Ladder;
 use fmp_question::{Question, Ticks, stands_still};
 use fmp_replay::kernel_of;
 use fmp_seen::Link;
+use fmp_witness::{Ladder, Sight};
 use std::alloc::{AllocError, Global};
 
 /// How many states there are when it is told first how far the search has come.

@@ -5,8 +5,8 @@ ghost use Rattle.fmp_instructions.specs.Machine.{code_meaning};
 ghost use Rattle.fmp_replay.specs.Replays.{kernel_after};
 ghost use Rattle.fmp_schedules.specs.Schedules.{reached};
 ghost use Rattle.fmp_explore.specs.Behind.{IsAbout, NeverActs, NoneFollows};
-ghost use Rattle.fmp_findings.specs.Findings.{IsSo};
-ghost use Rattle.fmp_paths.specs.Followed.{IsFollowed};
+ghost use Rattle.fmp_witness.specs.Findings.{IsSo};
+ghost use Rattle.fmp_witness.specs.Followed.{IsFollowed};
 ghost use Rattle.fmp_explore.specs.Searching.{IsBegun};
 
 use crate::edges::{Sources, goes_on_from};
@@ -17,12 +17,11 @@ use crate::survey::Survey;
 use fmp_base::{Event, Phase, System};
 use fmp_code::Vm;
 use fmp_fields::{What, low_byte};
-use fmp_findings::{Finding, Sight};
 use fmp_image_bytes::Image;
 use fmp_kernel::Kernel;
-use fmp_paths::follow;
 use fmp_question::{Never, Question, Site, body_of, is_started, may_rest};
 use fmp_seen::unpack;
+use fmp_witness::{Finding, Sight, follow};
 use std::alloc::{AllocError, Global};
 
 /// Nobody is told how far a search has come.

@@ -4,10 +4,10 @@ ghost use Rattle.std.specs.List.{list_any};
 ghost use Rattle.fmp_schedules.specs.Deadlocks.{is_interrupt as is_request};
 ghost use Rattle.fmp_schedules.specs.Schedules.{is_any_met};
 ghost use Rattle.fmp_explore.specs.States.{AreFew, path_by, path_to, sections_of};
-ghost use Rattle.fmp_paths.specs.Followed.{IsFollowed};
+ghost use Rattle.fmp_witness.specs.Followed.{IsFollowed};
 ghost use Rattle.fmp_question.specs.Places.{is_bad};
 ghost use Rattle.fmp_explore.specs.Searching.{HasDealt, HasKept, IsAt, IsFresh, IsNext, IsSurvey, Stays};
-ghost use Rattle.fmp_paths.specs.Followed.{HasDone, HasKeptPlace, HasStepped};
+ghost use Rattle.fmp_witness.specs.Followed.{HasDone, HasKeptPlace, HasStepped};
 
 use crate::edges::Edges;
 use crate::holding::sections_after;
@@ -19,12 +19,11 @@ use crate::trying::Attempt;
 use crate::values::{Variety, varieties};
 use fmp_base::{Effect, Event, Line};
 use fmp_code::Vm;
-use fmp_coverage::Coverage;
-use fmp_findings::{Finding, Sight};
 use fmp_kernel::Kernel;
 use fmp_question::{Outlook, Question, Site, may_rest, queues_within};
 use fmp_schedules::{Section, tries_of};
 use fmp_seen::{Entry, Link, Seen};
+use fmp_witness::{Coverage, Finding, Sight};
 use std::alloc::{AllocError, Global};
 
 /// A search under way.

@@ -14,9 +14,9 @@ use Rattle.fmp_base.specs.declared.systems.TaskConfig.{TaskConfig}
 use Rattle.fmp_explore.specs.declared.exploring.Report.{Report}
 use Rattle.fmp_explore.specs.declared.searching.Ending.{Ending}
 use Rattle.fmp_explore.specs.declared.searching.Ending.TheVariants as ending
-use Rattle.fmp_findings.specs.declared.finding.Finding.{Finding}
-use Rattle.fmp_findings.specs.declared.finding.Sight.{Sight}
-use Rattle.fmp_findings.specs.declared.finding.Sight.TheVariants as sight
+use Rattle.fmp_witness.specs.declared.finding.Finding.{Finding}
+use Rattle.fmp_witness.specs.declared.finding.Sight.{Sight}
+use Rattle.fmp_witness.specs.declared.finding.Sight.TheVariants as sight
 use Rattle.fmp_image_bytes.specs.Images.{ImageTables}
 use Rattle.fmp_instructions.specs.declared.instructions.Instruction.{Instruction}
 use Rattle.fmp_instructions.specs.declared.instructions.Instruction.TheVariants as instruction

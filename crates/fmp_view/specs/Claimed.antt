@@ -9,8 +9,8 @@ use Rattle.fmp_files.specs.Prints.{Prints}
 use Rattle.fmp_image.specs.Building.{Builds}
 use Rattle.fmp_image_bytes.specs.Images.{ImageTables}
 use Rattle.fmp_question.specs.declared.question.Question.{Question}
-use Rattle.fmp_findings.specs.declared.finding.Finding.{Finding}
-use Rattle.fmp_findings.specs.Findings.{IsFound}
+use Rattle.fmp_witness.specs.declared.finding.Finding.{Finding}
+use Rattle.fmp_witness.specs.Findings.{IsFound}
 use Rattle.fmp_steps.specs.Steps.{steps_text}
 use Rattle.fmp_explore.specs.declared.exploring.Report.{Report}
 use Rattle.fmp_explore.specs.Searching.{NothingIsFound}

@@ -1,5 +1,5 @@
 use Rattle.std.proofs.Common.{All}
-use Rattle.fmp_findings.specs.Findings.{IsFound}
+use Rattle.fmp_witness.specs.Findings.{IsFound}
 use Rattle.fmp_explore.proofs.finding.add_confirmed.Given as goal
 
 abbrev pub invariant-loop-candidate : goal.invariant-loop-candidate

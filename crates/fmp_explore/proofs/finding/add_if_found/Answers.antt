@@ -1,6 +1,6 @@
 use Rattle.std.proofs.Common.{IsTrue, rules}
 use Rattle.std.proofs.lemmas.List.Elements.{All-push}
-use Rattle.fmp_findings.specs.Findings.{IsFound}
+use Rattle.fmp_witness.specs.Findings.{IsFound}
 use Rattle.fmp_explore.proofs.finding.add_if_found.Goals as goal
 
 pub returns : goal.returns

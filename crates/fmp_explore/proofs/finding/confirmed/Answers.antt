@@ -1,6 +1,6 @@
 use Rattle.std.proofs.Common.{◌≡◌, [], rules}
 use Rattle.std.proofs.lemmas.List.Elements.{All-nil}
-use Rattle.fmp_findings.specs.Findings.{IsFound}
+use Rattle.fmp_witness.specs.Findings.{IsFound}
 use Rattle.fmp_explore.proofs.finding.confirmed.Goals as goal
 
 pub add_confirmed-requires-clause-found : goal.add_confirmed-requires-clause-found

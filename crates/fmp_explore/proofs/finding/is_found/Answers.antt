@@ -1,6 +1,6 @@
 use Rattle.std.proofs.Common.{IfOk, IsTrue, List, subst}
 use Rattle.fmp_base.specs.declared.events.Event.{Event}
-use Rattle.fmp_findings.specs.Findings.{IsSo}
+use Rattle.fmp_witness.specs.Findings.{IsSo}
 use Rattle.fmp_explore.proofs.finding.is_found.Goals as goal
 
 pub returns : goal.returns

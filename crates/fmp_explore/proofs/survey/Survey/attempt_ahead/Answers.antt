@@ -1,4 +1,4 @@
-use Rattle.fmp_paths.proofs.StepLemmas.{stepped, stepped_does}
+use Rattle.fmp_witness.proofs.StepLemmas.{stepped, stepped_does}
 use Rattle.fmp_explore.proofs.survey.Survey.attempt_ahead.Goals as goal
 
 pub note_effect-requires-clause-stepped : goal.note_effect-requires-clause-stepped

@@ -1,4 +1,4 @@
-use Rattle.fmp_paths.specs.Ladders.{IsLadder, IsOver}
+use Rattle.fmp_witness.specs.Ladders.{IsLadder, IsOver}
 use Rattle.fmp_explore.specs.Searching.{IsSearching}
 use Rattle.fmp_explore.proofs.survey.Survey.examine_all.Given as goal
 

@@ -1,8 +1,8 @@
 use Rattle.std.proofs.Common.{subst}
 use Rattle.fmp_base.specs.declared.events.Effect.{Effect}
-use Rattle.fmp_paths.specs.Followed.{HasStepped}
+use Rattle.fmp_witness.specs.Followed.{HasStepped}
 use Rattle.fmp_explore.proofs.StateLemmas.{leads_nowhere}
-use Rattle.fmp_paths.proofs.StepLemmas.{stepped_done, stepped_kept, stepped_none}
+use Rattle.fmp_witness.proofs.StepLemmas.{stepped_done, stepped_kept, stepped_none}
 use Rattle.fmp_explore.proofs.SurveyLemmas.{same_grows}
 use Rattle.fmp_explore.proofs.survey.Survey.note_effect.Goals as goal
 

@@ -1,5 +1,5 @@
 use Rattle.std.proofs.lemmas.Result.{err_from_is_err_and}
-use Rattle.fmp_paths.proofs.LadderLemmas.{over_first}
+use Rattle.fmp_witness.proofs.LadderLemmas.{over_first}
 use Rattle.fmp_explore.proofs.survey.Survey.run_on.Goals as goal
 
 pub kernel_of-requires-clause-low : goal.kernel_of-requires-clause-low

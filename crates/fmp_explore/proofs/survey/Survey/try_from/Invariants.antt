@@ -1,4 +1,4 @@
-use Rattle.fmp_paths.specs.Followed.{IsFollowed}
+use Rattle.fmp_witness.specs.Followed.{IsFollowed}
 use Rattle.fmp_explore.specs.Searching.{HasTried}
 use Rattle.fmp_explore.proofs.survey.Survey.try_from.Given as goal
 

@@ -1,2 +1,0 @@
-pub mod MeetLemmas
-pub mod SeenThere

@@ -1,4 +1,0 @@
-pub mod Following
-pub mod LadderLemmas
-pub mod LineLemmas
-pub mod StepLemmas

@@ -1,0 +1,139 @@
+-- A section along the events that a kernel takes.
+use Rattle.std.proofs.Common.{◌≡◌, ◌==◌, ◌+◌, ◌-◌, ◌<◌, ◌≤◌, ℕ, false, List, [], ◌∷◌, ◌++◌, Some, refl, sym, ap, ◌∙◌, append-nil, arith, get_or, length, slice_get, subst, take}
+use Rattle.std.proofs.lemmas.List.{take_all, take_more}
+use Rattle.fmp_base.specs.declared.events.Effect.TheVariants as effect
+use Rattle.fmp_base.specs.declared.events.Event.{Event}
+use Rattle.fmp_base.specs.declared.events.Line.{Line}
+use Rattle.fmp_base.specs.Meanings.{World}
+use Rattle.fmp_base.specs.Steps.{Done, Reaction, Nothing, Did, Kept, effect_of, step}
+use Rattle.fmp_drive.specs.Driving.{reaction as done_by}
+use Rattle.fmp_witness.specs.declared.finding.Sight.TheVariants as sight
+use Rattle.fmp_witness.specs.declared.finding.Together.{Together}
+use Rattle.fmp_question.specs.declared.question.Question.{Question}
+use Rattle.fmp_witness.specs.Findings.{HasSection, IsMetAfter, IsSectionOn, IsSo, section_by}
+use Rattle.fmp_witness.specs.Followed.{HasDone}
+use Rattle.fmp_image_bytes.specs.Images.{ImageTables}
+use Rattle.fmp_instructions.specs.Instructions.{BodyTables}
+use Rattle.fmp_instructions.specs.Machine.{code_meaning}
+use Rattle.fmp_instructions.specs.declared.instructions.MachineContext.{MachineContext}
+use Rattle.fmp_kernel.specs.KernelViews.{KernelView, view_after}
+use Rattle.fmp_replay.specs.Replays.{IsLegal, kernel_after, reaction, replay}
+use Rattle.fmp_replay.proofs.Replaying.{step_of_replay, world_of}
+use Rattle.fmp_schedules.specs.declared.section.Meeting.{Meeting}
+use Rattle.fmp_schedules.specs.declared.section.Section.{Section}
+use Rattle.fmp_schedules.specs.Sections.{IsMeeting, section_after, section_along}
+use Rattle.fmp_schedules.proofs.SectionLaws.{along-last}
+use Rattle.fmp_witness.proofs.Following.{followed_more, followed_none}
+use Rattle.fmp_witness.proofs.LineLemmas.{lines_last, lines_of, lines_to}
+
+abbrev Kernels : Type 0
+Kernels = KernelView (List BodyTables) MachineContext
+
+-- a section that stays, since the event kept a place
+pub section_kept : (s : Section) (r : Reaction MachineContext) → effect.Kept ≡ effect_of r → s ≡ section_by s r
+section_kept s Nothing h = refl
+section_kept s (Did d) h = absurd (cc (h))
+section_kept s (Kept p w) h = refl
+
+-- after the lines of an event that is done
+pub section_done : (s : Section) (r : Reaction MachineContext) (k k' : Kernels) → effect.Done ≡ effect_of r
+    → k' ≡ view_after k r → section_after s k'.lines ≡ section_by s r
+section_done s Nothing k k' h view = absurd (cc (h))
+section_done s (Did d) k k' h view = ap (λ (x : Kernels). section_after s x.lines) view
+section_done s (Kept p w) k k' h view = absurd (cc (h))
+
+along-by : (s : Section) (events : List (List Line)) (r : Reaction MachineContext)
+    → section_along s (events ++ lines_of r) ≡ section_by (section_along s events) r
+along-by s events Nothing = ap (λ (xs : List (List Line)). section_along s xs) (append-nil events)
+along-by s events (Did d) = along-last s events d.lines
+along-by s events (Kept p w) = ap (λ (xs : List (List Line)). section_along s xs) (append-nil events)
+
+module _ (i : ImageTables) (n : ℕ) (first : Section) where
+  -- no event is taken yet
+  pub section_begun : (k : Kernels) → k ≡ kernel_after i n [] → HasSection i n first [] k (section_after first k.lines)
+  unfolding replay
+  section_begun k h =
+      record {
+        followed = followed_none i n k h;
+        section = ap (λ (x : Kernels). section_after first x.lines) h;
+      }
+
+  -- one more event is taken
+  pub section_more : (es : List Event) (e : Event) (k k' : Kernels) (s r : Section) → HasSection i n first es k s
+      → IsSectionOn k k' s e r → HasSection i n first (es ++ e ∷ []) k' r
+  section_more es e k k' s r h on =
+      let there : done_by (λ bodies. code_meaning bodies) k e ≡ reaction i n es e =
+      step_of_replay i n es e k h.followed.kernel in
+      record {
+        followed = followed_more i n es e k k' h.followed on.taken;
+        section =
+            on.section
+            ∙ ap (λ (x : Reaction MachineContext). section_by s x) there
+            ∙ ap (λ (x : Section). section_by x (reaction i n es e)) h.section
+            ∙ sym (along-by first (lines_to i n es) (reaction i n es e))
+            ∙ ap (λ (xs : List (List Line)). section_along first xs)
+            (sym (lines_last i n es e (reaction i n es e) refl));
+      }
+
+  -- the same for one more of the events of a list
+  pub section_step : (es : List Event) (at : ℕ) (d : Event) (k k' : Kernels) (s r : Section)
+      → HasSection i n first (take at es) k s → at < length es → IsSectionOn k k' s (get_or es at d) r
+      → HasSection i n first (take (at + 1) es) k' r
+  section_step es at d k k' s r h low on =
+      subst (λ (xs : List Event). HasSection i n first xs k' r) (sym (take_more es at d low))
+      (section_more (take at es) (get_or es at d) k k' s r h on)
+
+  -- when all are taken
+  pub section_all : (es : List Event) (at : ℕ) (k : Kernels) (s : Section) → length es ≤ at
+      → HasSection i n first (take at es) k s → HasSection i n first es k s
+  section_all es at k s all h = subst (λ (xs : List Event). HasSection i n first xs k s) (take_all at es all) h
+
+  -- by the lines of one more event that is done a task enters while another holds the section
+  pub met_after : (es : List Event) (e : Event) (k k' : Kernels) (s : Section) (m : Meeting)
+      → HasSection i n first es k s → HasDone i n es e k' → IsMeeting s k'.lines m → IsMetAfter i n first es e m
+  met_after es e k k' s m h d met =
+      record {
+        legal = d.followed.legal;
+        done = d.done;
+        did = d.did;
+        met =
+            subst (λ (ls : List Line). IsMeeting (section_along first (lines_to i n es)) ls m) d.lines
+            (subst (λ (x : Section). IsMeeting x k'.lines m) h.section met);
+      }
+
+-- what is found of two tasks in one section is so
+pub so_together : (i : ImageTables) (n : ℕ) (q : Question) (es before : List Event) (last : Event) (s : Section)
+    (t : Together) → es ≡ before ++ last ∷ [] → slice_get q.sections.items t.section ≡ Some s
+    → IsMetAfter i n s before last t.meeting → IsSo i n q es (sight.Together t)
+unfolding reaction
+so_together i n q es before last s t parts there h =
+    record {
+      legal = subst (λ (fs : List Event). IsLegal i n fs) (sym parts) h.legal;
+      shown =
+          record {
+            section = s;
+            there = there;
+            before = before;
+            last = last;
+            parts = parts;
+            done = h.done;
+            did =
+                ap (λ (w : World MachineContext). step i.system (code_meaning i.code) n w last)
+                (sym (world_of i n before))
+                ∙ h.did;
+            met = h.met;
+          };
+    }
+
+-- the first events of a list, and the last one
+pub last_apart : (es : List Event) (end : ℕ) (d : Event) → length es ≡ end + 1
+    → es ≡ take end es ++ get_or es end d ∷ []
+last_apart es end d size =
+    let low : end < length es = omega arith in
+    let all : length es ≤ end + 1 = omega arith in
+    sym (take_all (end + 1) es all) ∙ take_more es end d low
+
+-- a list that is not empty has one more element than stand before its last one
+pub some_last : (es : List Event) → false ≡ (length es == 0) → length es ≡ (length es - 1) + 1
+some_last [] some = absurd (cc (some))
+some_last (e ∷ es) some = omega arith

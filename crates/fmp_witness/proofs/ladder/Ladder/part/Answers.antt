@@ -1,0 +1,35 @@
+use Rattle.std.proofs.Common.{◌≡◌, ◌≤◌, ◌*◌, ◌/◌, List, arith, length, rules, subst, sym, take}
+use Rattle.fmp_base.specs.declared.events.Event.{Event}
+use Rattle.fmp_witness.specs.Ladders.{BeginsWith}
+use Rattle.fmp_witness.proofs.LadderLemmas.{alike_fewer, begins_common, followed_rung, over_rung, rungs_cut}
+use Rattle.fmp_witness.proofs.ladder.Ladder.part.Goals as goal
+
+pub returns-clause-climbing : goal.returns-clause-climbing
+returns-clause-climbing c =
+    let i = c.args.image.now in
+    let n = c.args.n in
+    let l = c.args.self.now in
+    let es = c.args.steps.now in
+    let most = c.common_count-place.result in
+    let place = most / 8 in
+    let first = 8 * place in
+    let common : take most l.steps.items ≡ take most es =
+    subst (λ (xs : List Event). take most xs ≡ take most es) c.as_slice.ensures.value c.common_count-place.ensures.alike in
+    let fewer : first ≤ most = omega arith in
+    let low : first ≤ length l.steps.items = search rules in
+    let alike : take first l.steps.items ≡ take first es = alike_fewer l.steps.items es first most common fewer in
+    record {
+      ladder =
+          record {
+            rungs = rungs_cut i n l.rungs.items l.steps.items _ first c.requires.rungs low c.truncate.ensures.items;
+            top =
+                over_rung i n l.rungs.items l.steps.items place c.index.result.now _ c.requires.rungs low
+                c.index.ensures c.put_back.ensures;
+          };
+      begins =
+          subst (λ (xs : List Event). BeginsWith es xs) (sym c.truncate.ensures.items)
+          (begins_common l.steps.items es first alike low);
+      followed =
+          followed_rung i n l.rungs.items l.steps.items es place c.index.result.now _ c.requires.rungs low
+          c.index.ensures c.put_back.ensures alike;
+    }

@@ -1,0 +1,305 @@
+//! What a search has ever done: calls that were made, tasks and handlers that ran, and how full the queues became.
+use fmp_base::{Caller, Er, Handler, Line};
+use fmp_code::{Code, Instruction};
+use fmp_fields::low_byte;
+use fmp_question::{ANSWERS, Site};
+use fmp_tasks::Tables;
+use std::alloc::{AllocError, Global};
+
+/// What was ever done with the calls of bodies, by the place of the body and of the instruction in it.
+#[derive(Drop)]
+struct Calls {
+    /// Whether the call was made.
+    made: Vec<Vec<bool>>,
+    /// A bit for each code that it got.
+    answers: Vec<Vec<u16>>,
+}
+
+/// Who ever ran.
+#[derive(Drop)]
+pub struct Runs {
+    /// Whether each task ran.
+    pub tasks: Vec<bool>,
+    /// Whether the handler of each interrupt, from number 1 to 32, ran.
+    pub interrupts: Vec<bool>,
+    /// Whether each cyclic handler ran.
+    pub cyclics: Vec<bool>,
+}
+
+/// How full the objects ever were.
+#[derive(Drop)]
+pub struct Peaks {
+    /// The greatest count of each semaphore.
+    pub counts: Vec<u16>,
+    /// The most words that each data queue held.
+    pub words: Vec<u8>,
+    /// The most messages that each mailbox held.
+    pub messages: Vec<u8>,
+}
+
+/// What was ever done in the states that were examined.
+#[derive(Drop)]
+pub struct Coverage {
+    calls: Calls,
+    pub runs: Runs,
+    pub peaks: Peaks,
+}
+
+/// A mark that is not set for each instruction of each body.
+fn unmade(alloc: Global, code: &Code) -> Result<Vec<Vec<bool>>, AllocError> {
+    let mut made = Vec::new(alloc);
+    for body in &code.bodies {
+        made.push(vec![in alloc; false; body.instructions.len()]?)?;
+    }
+    Ok(made)
+}
+
+/// No answer for each instruction of each body.
+fn unanswered(alloc: Global, code: &Code) -> Result<Vec<Vec<u16>>, AllocError> {
+    let mut answers = Vec::new(alloc);
+    for body in &code.bodies {
+        answers.push(vec![in alloc; 0; body.instructions.len()]?)?;
+    }
+    Ok(answers)
+}
+
+/// The bit of a code; 0 for one that no call answers.
+fn bit_of(code: Er) -> u16 {
+    match code {
+        Er::Ok => 1,
+        Er::Par => 2,
+        Er::Id => 4,
+        Er::Ctx => 8,
+        Er::Iluse => 16,
+        Er::Obj => 32,
+        Er::Qovr => 64,
+        Er::Rlwai => 128,
+        Er::Tmout => 256,
+        Er::Sys | Er::Nospt | Er::Rsatr => 0,
+    }
+}
+
+/// Sets a mark, if it is there.
+fn mark(marks: &mut [bool], place: u8) {
+    if let Some(mark) = marks.get_mut(usize::from(place)) {
+        *mark = true;
+    }
+}
+
+/// The code that a line tells, if it tells one.
+fn code_in(line: &Line) -> Option<Er> {
+    match line {
+        Line::Call {
+            reply: Some(reply),
+            ..
+        } => Some(reply.code),
+        Line::Gets { reply, .. } => Some(reply.code),
+        _ => None,
+    }
+}
+
+impl Calls {
+    /// No call was made.
+    fn new(alloc: Global, code: &Code) -> Result<Calls, AllocError> {
+        let made = unmade(alloc, code)?;
+        let answers = unanswered(alloc, code)?;
+        Ok(Calls { made, answers })
+    }
+
+    /// A call was made here.
+    fn note(&mut self, site: Site) {
+        if let Some(body) = self.made.get_mut(usize::from(site.body))
+            && let Some(made) = body.get_mut(usize::from(site.pc))
+        {
+            *made = true;
+        }
+    }
+
+    /// The call here got this answer.
+    fn note_answer(&mut self, site: Site, code: Er) {
+        if let Some(body) = self.answers.get_mut(usize::from(site.body))
+            && let Some(answers) = body.get_mut(usize::from(site.pc))
+        {
+            *answers |= bit_of(code);
+        }
+    }
+}
+
+impl Runs {
+    /// Nobody ran.
+    fn new(alloc: Global, tables: &Tables) -> Result<Runs, AllocError> {
+        let tasks = vec![in alloc; false; tables.task_count()]?;
+        let interrupts = vec![in alloc; false; 32]?;
+        let cyclics = vec![in alloc; false; tables.cyclic_count()]?;
+        Ok(Runs {
+            tasks,
+            interrupts,
+            cyclics,
+        })
+    }
+
+    /// A handler ran.
+    fn note_handler(&mut self, handler: Handler) {
+        match handler {
+            Handler::Interrupt(i) => mark(self.interrupts.as_mut_slice(), i),
+            Handler::Cyclic(c) => mark(self.cyclics.as_mut_slice(), c),
+        }
+    }
+
+    /// A task or a handler ran.
+    fn note(&mut self, caller: Caller) {
+        match caller {
+            Caller::Task(t) => mark(self.tasks.as_mut_slice(), t),
+            Caller::Handler(h) => self.note_handler(h),
+        }
+    }
+}
+
+impl Peaks {
+    /// Nothing was there.
+    fn new(alloc: Global, tables: &Tables) -> Result<Peaks, AllocError> {
+        let counts = vec![in alloc; 0; tables.semaphore_count()]?;
+        let words = vec![in alloc; 0; tables.data_queue_count()]?;
+        let messages = vec![in alloc; 0; tables.mailbox_count()]?;
+        Ok(Peaks {
+            counts,
+            words,
+            messages,
+        })
+    }
+
+    /// The counts of the semaphores in a state.
+    fn note_counts(&mut self, tables: &Tables) {
+        for (s, most) in self.counts.iter_mut().enumerate() {
+            if s < tables.semaphore_count() {
+                *most = tables.count(low_byte(s)).max(*most);
+            }
+        }
+    }
+
+    /// The lengths of the data queues in a state.
+    fn note_words(&mut self, tables: &Tables) {
+        for (d, most) in self.words.iter_mut().enumerate() {
+            if d < tables.data_queue_count() {
+                *most = tables.data_queue_length(low_byte(d)).max(*most);
+            }
+        }
+    }
+
+    /// The lengths of the mailboxes in a state.
+    fn note_messages(&mut self, tables: &Tables) {
+        for (x, most) in self.messages.iter_mut().enumerate() {
+            if x < tables.mailbox_count() {
+                *most = tables.mailbox_length(low_byte(x)).max(*most);
+            }
+        }
+    }
+}
+
+impl Coverage {
+    /// Nothing was done in no system.
+    pub fn nothing(alloc: Global) -> Coverage {
+        Coverage {
+            calls: Calls {
+                made: Vec::new(alloc),
+                answers: Vec::new(alloc),
+            },
+            runs: Runs {
+                tasks: Vec::new(alloc),
+                interrupts: Vec::new(alloc),
+                cyclics: Vec::new(alloc),
+            },
+            peaks: Peaks {
+                counts: Vec::new(alloc),
+                words: Vec::new(alloc),
+                messages: Vec::new(alloc),
+            },
+        }
+    }
+
+    /// Nothing was done yet in a system of these tables and this code. `AllocError` if memory runs out.
+    pub fn new(alloc: Global, tables: &Tables, code: &Code) -> Result<Coverage, AllocError> {
+        let calls = Calls::new(alloc, code)?;
+        let runs = Runs::new(alloc, tables)?;
+        let peaks = Peaks::new(alloc, tables)?;
+        Ok(Coverage { calls, runs, peaks })
+    }
+
+    /// A call was made here.
+    pub fn note_call(&mut self, site: Site) {
+        self.calls.note(site);
+    }
+
+    /// What a line tells, which belongs to this call, if it belongs to one.
+    pub fn note_line(&mut self, line: &Line, site: Option<Site>) {
+        if let Some(code) = code_in(line)
+            && let Some(site) = site
+        {
+            self.calls.note_answer(site, code);
+        }
+        match line {
+            Line::Call { caller, .. } | Line::End { caller, .. } | Line::Fault { caller, .. } => {
+                self.runs.note(*caller);
+            }
+            _ => {}
+        }
+    }
+
+    /// How full the queues are in a state, and the counts of its semaphores.
+    pub fn note_state(&mut self, tables: &Tables) {
+        self.peaks.note_counts(tables);
+        self.peaks.note_words(tables);
+        self.peaks.note_messages(tables);
+    }
+
+    /// The answers that the call at a place ever got, in a fixed order. `AllocError` if memory runs out.
+    pub fn answers(&self, alloc: Global, site: Site) -> Result<Vec<Er>, AllocError> {
+        let bits = match self.calls.answers.get(usize::from(site.body)) {
+            Some(body) => body.get(usize::from(site.pc)).copied().unwrap_or(0),
+            None => 0,
+        };
+        let mut answers = Vec::new(alloc);
+        for code in ANSWERS {
+            if bits & bit_of(code) != 0 {
+                answers.push(code)?;
+            }
+        }
+        Ok(answers)
+    }
+
+    /// Whether the call at a place was made.
+    pub fn was_made(&self, site: Site) -> bool {
+        match self.calls.made.get(usize::from(site.body)) {
+            Some(body) => body.get(usize::from(site.pc)) == Some(&true),
+            None => false,
+        }
+    }
+
+    /// The calls of the code that were made, or those that were not, in order of body and place.
+    fn calls(&self, alloc: Global, code: &Code, made: bool) -> Result<Vec<Site>, AllocError> {
+        let mut sites = Vec::new(alloc);
+        for (body, text) in code.bodies.iter().enumerate() {
+            for (pc, instruction) in text.instructions.iter().enumerate() {
+                let site = Site {
+                    body: low_byte(body),
+                    pc: (pc % 65536) as u16,
+                };
+                let is_call = matches!(instruction, Instruction::Call { .. });
+                if is_call && self.was_made(site) == made {
+                    sites.push(site)?;
+                }
+            }
+        }
+        Ok(sites)
+    }
+
+    /// The calls of the code that were made, in order of body and place. `AllocError` if memory runs out.
+    pub fn made(&self, alloc: Global, code: &Code) -> Result<Vec<Site>, AllocError> {
+        self.calls(alloc, code, true)
+    }
+
+    /// The calls of the code that were never made, in order of body and place. `AllocError` if memory runs out.
+    pub fn never_made(&self, alloc: Global, code: &Code) -> Result<Vec<Site>, AllocError> {
+        self.calls(alloc, code, false)
+    }
+}

@@ -1,0 +1,287 @@
+//! What is found, and whether it is so.
+ghost use Rattle.std.specs.Prelude.{◌≡◌, ◌≤◌, ◌^◌, [], IfOk, IfSome, IsTrue};
+ghost use Rattle.fmp_base.specs.Systems.{tables_of};
+ghost use Rattle.fmp_instructions.specs.Machine.{code_meaning};
+ghost use Rattle.fmp_replay.specs.Replays.{kernel_after, replay};
+ghost use Rattle.fmp_schedules.specs.Sections.{IsMeeting};
+ghost use Rattle.fmp_schedules.specs.Deadlocks.{IsDeadlock, may_interrupt as may};
+ghost use Rattle.fmp_question.specs.Endless.{IsEndlessOn};
+ghost use Rattle.fmp_witness.specs.Findings.{HasForbidden, IsLeft, IsMetAfter, IsSeen, IsSo};
+ghost use Rattle.fmp_witness.specs.Followed.{IsFollowed};
+
+use crate::meeting::{follow_section, is_done};
+use crate::replaying::{TAKEN_MOST, follow};
+use crate::started::{Started, started_tasks};
+use fmp_base::{Event, Line, System};
+use fmp_code::Vm;
+use fmp_image_bytes::Image;
+use fmp_kernel::Kernel;
+use fmp_question::{Question, Site, is_bad, is_deadlock, is_endless};
+use fmp_replay::kernel_of;
+use fmp_schedules::{Meeting, Section};
+use std::alloc::{AllocError, Global};
+
+/// What is seen after a list of events.
+#[derive(Clone, Copy, Debug, PartialEq, Eq)]
+pub enum Sight {
+    /// The line at this place, from 0, tells what must never happen. It is one of the last event that was done, or of
+    /// setup if none was.
+    Line(usize),
+    /// No processor can do anything, no time limit runs, no cyclic handler is started, and a task that may not wait
+    /// forever is not dormant.
+    Deadlock,
+    /// The actor of the processor of this number goes on for ever without a call.
+    Endless(u8),
+    /// A task enters a section while another holds it, by a line of the last event.
+    Together(Together),
+    /// The task at this place is started, and whatever events follow, as the question lets them come, it never goes on.
+    Stuck(u8),
+}
+
+/// Two tasks in one section.
+#[derive(Clone, Copy, Debug, PartialEq, Eq)]
+pub struct Together {
+    /// The place of the section among those of the question.
+    pub section: usize,
+    /// The line by which a task enters, and the task that holds the section.
+    pub meeting: Meeting,
+}
+
+/// A list of events, each of which does something, and what is seen after them.
+#[derive(Drop)]
+pub struct Finding {
+    pub steps: Vec<Event>,
+    pub sight: Sight,
+    /// The call to which it belongs, if it belongs to one.
+    pub site: Option<Site>,
+}
+
+/// Whether the line at a place is forbidden, of those that a kernel has just told.
+fn has_forbidden(kernel: &Kernel<Vm<'_>>, sys: &System, question: &Question, place: usize) -> bool
+    ensures { IsTrue result → HasForbidden (tables_of sys.now) question.now kernel.now.world kernel.now.lines place }
+{
+    match kernel.lines().get(place) {
+        Some(line) => is_bad(kernel, sys, question, line),
+        None => false,
+    }
+}
+
+/// Whether the line at a place is forbidden, among those that these events left. The kernel of an image took them.
+fn tells_forbidden<'a>(
+    kernel: &Kernel<Vm<'a>>,
+    image: &'a Image,
+    n: u64,
+    question: &Question,
+    steps: &[Event],
+    place: usize,
+) -> bool
+    requires { IsFollowed image.now n steps.now kernel.now }
+    ensures { IsTrue result → HasForbidden image.now.system question.now (replay image.now n steps.now).world
+        (replay image.now n steps.now).lines place }
+{
+    has_forbidden(kernel, image.system(), question, place)
+}
+
+/// Whether the kernel of an image, which has taken these events, is a deadlock.
+fn stands<'a>(
+    kernel: &mut Kernel<Vm<'a>>,
+    image: &'a Image,
+    n: u64,
+    question: &Question,
+    steps: &[Event],
+) -> bool
+    requires { IsFollowed image.now n steps.now kernel.old }
+    ensures { IsTrue result → IsDeadlock image.now.system (code_meaning image.now.code) n
+        (replay image.now n steps.now).world question.now.rest.items (may question.now.interrupts steps.now) }
+{
+    if kernel.taken() >= TAKEN_MOST {
+        return false;
+    }
+    let interrupts = question.may_interrupt(steps);
+    is_deadlock(kernel, question, interrupts)
+}
+
+/// Whether the actor of a processor is known to go on for ever on the kernel of an image, which has taken these events.
+fn goes_on<'a>(kernel: &Kernel<Vm<'a>>, image: &'a Image, n: u64, steps: &[Event], p: u8) -> bool
+    requires { IsFollowed image.now n steps.now kernel.now }
+    ensures { IsTrue result → IsEndlessOn image.now.system (code_meaning image.now.code)
+        (replay image.now n steps.now).world p }
+{
+    is_endless(kernel, &image.vm(), p)
+}
+
+/// Whether this is seen on the kernel of an image, which has taken these events.
+fn is_seen<'a>(
+    kernel: &mut Kernel<Vm<'a>>,
+    image: &'a Image,
+    n: u64,
+    question: &Question,
+    steps: &[Event],
+    sight: Sight,
+) -> bool
+    requires { IsFollowed image.now n steps.now kernel.old }
+    ensures { IsTrue result → IsSeen image.now.system (code_meaning image.now.code) n question.now steps.now
+        (replay image.now n steps.now) sight }
+{
+    match sight {
+        Sight::Line(place) => tells_forbidden(kernel, image, n, question, steps, place),
+        Sight::Deadlock => stands(kernel, image, n, question, steps),
+        Sight::Endless(p) => goes_on(kernel, image, n, steps, p),
+        Sight::Together(_) | Sight::Stuck(_) => false,
+    }
+}
+
+/// Whether this is the first of these lines by which a task enters a section while another holds it.
+fn is_meeting(section: &Section, lines: &[Line], meeting: Meeting) -> bool
+    ensures { IsTrue result → IsMeeting section.now lines.now meeting }
+{
+    match section.first_meeting(lines) {
+        Some(first) => first.place == meeting.place && first.holder == meeting.holder,
+        None => false,
+    }
+}
+
+/// Whether the lines of the event after these steps tell this of a section, on the kernel of an image that was just set
+/// up.
+fn is_met<'a>(
+    kernel: &mut Kernel<Vm<'a>>,
+    image: &'a Image,
+    n: u64,
+    section: Section,
+    before: &[Event],
+    last: Event,
+    meeting: Meeting,
+) -> bool
+    requires { kernel.old ≡ kernel_after image.now n [] }
+    ensures { IsTrue result → IsMetAfter image.now n section before.now last meeting }
+{
+    let Some(section) = follow_section(kernel, image, n, section, before) else {
+        return false;
+    };
+    if kernel.taken() >= TAKEN_MOST {
+        return false;
+    }
+    if !is_done(kernel, image, n, before, last) {
+        return false;
+    }
+    is_meeting(&section, kernel.lines(), meeting)
+}
+
+/// Whether each of these events does something on the kernel of an image that was just set up, and by a line of the
+/// last one a task enters a section of the question while another holds it, as this tells.
+fn are_together<'a>(
+    kernel: &mut Kernel<Vm<'a>>,
+    image: &'a Image,
+    n: u64,
+    question: &Question,
+    steps: &[Event],
+    together: Together,
+) -> bool
+    requires { kernel.old ≡ kernel_after image.now n [] }
+    ensures { IsTrue result → IsSo image.now n question.now steps.now (Sight.Together together) }
+{
+    let Some(section) = question.sections.get(together.section) else {
+        return false;
+    };
+    if steps.is_empty() {
+        return false;
+    }
+    let end = steps.len() - 1;
+    is_met(
+        kernel,
+        image,
+        n,
+        *section,
+        &steps[..end],
+        steps[end],
+        together.meeting,
+    )
+}
+
+/// Whether each of these events does something on the kernel of an image that was just set up, and this is known to be
+/// seen then. No claims nothing: of a task that is stuck it is always the answer.
+pub fn is_so<'a>(
+    kernel: &mut Kernel<Vm<'a>>,
+    image: &'a Image,
+    n: u64,
+    question: &Question,
+    steps: &[Event],
+    sight: Sight,
+) -> bool
+    requires some { 1 ≤ n }
+    requires begun { kernel.old ≡ kernel_after image.now n [] }
+    ensures { IsTrue result → IsSo image.now n question.now steps.now sight }
+{
+    if let Sight::Together(together) = sight {
+        return are_together(kernel, image, n, question, steps, together);
+    }
+    if !follow(kernel, image, n, steps) {
+        return false;
+    }
+    is_seen(kernel, image, n, question, steps, sight)
+}
+
+/// What some events have left: the number in the trace of the last one that was done, or 0 for setup, its lines, and
+/// the tasks that are started then.
+#[derive(Drop)]
+pub struct Left {
+    pub number: u32,
+    pub lines: Vec<Line>,
+    pub started: Vec<Started>,
+}
+
+/// What the kernel of an image shows, which has taken these events.
+fn shown_by<'a>(
+    alloc: Global,
+    kernel: &Kernel<Vm<'a>>,
+    image: &'a Image,
+    n: u64,
+    steps: &[Event],
+) -> Result<Left, AllocError>
+    requires { IsFollowed image.now n steps.now kernel.now }
+    ensures { IfOk result (λ left. IsLeft image.now n steps.now left) }
+{
+    let started = started_tasks(alloc, kernel, image.system())?;
+    let lines = Vec::from_slice(alloc, kernel.lines())?;
+    Ok(Left {
+        number: kernel.done(),
+        lines,
+        started,
+    })
+}
+
+/// What these events leave on the kernel of an image that was just set up, if each of them does something.
+fn left_on<'a>(
+    alloc: Global,
+    kernel: &mut Kernel<Vm<'a>>,
+    image: &'a Image,
+    n: u64,
+    steps: &[Event],
+) -> Result<Option<Left>, AllocError>
+    requires { kernel.old ≡ kernel_after image.now n [] }
+    ensures { IfOk result (λ left. IfSome left (IsLeft image.now n steps.now)) }
+{
+    let is_legal = follow(kernel, image, n, steps);
+    if !is_legal {
+        return Ok(None);
+    }
+    let left = shown_by(alloc, kernel, image, n, steps)?;
+    Ok(Some(left))
+}
+
+/// What these events leave on an image, if each of them does something. `AllocError` if memory runs out.
+pub fn left_by(
+    alloc: Global,
+    image: &Image,
+    n: u64,
+    steps: &[Event],
+) -> Result<Option<Left>, AllocError>
+    requires low { 1 ≤ n }
+    requires high { n ≤ 2 ^ 48 }
+    ensures { IfOk result (λ left. IfSome left (IsLeft image.now n steps.now)) }
+{
+    let mut kernel = kernel_of(alloc, image, n)?;
+    let left = left_on(alloc, &mut kernel, image, n, steps);
+    drop(kernel);
+    left
+}

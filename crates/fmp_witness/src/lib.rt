@@ -1,0 +1,16 @@
+//! What a search shows for what it says. These are findings and whether they are so when their events are replayed,
+//! kernels that are kept along a list of events, and all calls and values that ever came.
+#![tactic(auto)]
+
+mod coverage;
+mod finding;
+mod ladder;
+mod meeting;
+mod replaying;
+mod started;
+
+pub use coverage::{Coverage, Peaks, Runs};
+pub use finding::{Finding, Left, Sight, Together, is_so, left_by};
+pub use ladder::Ladder;
+pub use replaying::follow;
+pub use started::Started;
