@@ -1,7 +1,9 @@
+pub mod CallCounts
 pub mod Counting
 pub mod Frames
 pub mod Showing
 pub mod Shown
 pub mod Spinning
 pub mod Timing
+pub mod Told
 pub mod Values

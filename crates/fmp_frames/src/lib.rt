@@ -1,7 +1,9 @@
-//! The frames of a run: what each event told, and the state after it; and two ways to show a run by them: a table of
-//! what each task did, and a value change dump.
+//! The frames of a run: what each event told, and the state after it; and ways to show a run: a table of what each task
+//! did, one of the service calls, and a value change dump.
 #![tactic(auto)]
 
+mod call_counts;
+mod call_table;
 mod codes;
 mod counting;
 mod dump;
@@ -17,9 +19,11 @@ mod taking;
 mod tallies;
 mod text;
 mod timing;
+mod told;
 mod values;
 mod variable;
 
+pub use call_table::append_calls;
 pub use counting::Tally;
 pub use dump::Waves;
 pub use frame::{Frame, last_frame};
@@ -29,4 +33,5 @@ pub use showing::{Viewer, show_all};
 pub use taking::frames;
 pub use tallies::Tallies;
 pub use timing::Timing;
+pub use told::{CallTold, Calls, Outcome};
 pub use variable::{Object, Variable};

@@ -1,13 +1,12 @@
 //! The table of the calls of a run.
 ghost use Rattle.std.specs.Prelude.{◌≡◌, ◌+◌, ◌≤◌, ◌^◌, IfOk, length};
-ghost use Rattle.fmp_call_table.specs.Told.{told_after_all, told_of};
+ghost use Rattle.fmp_frames.specs.Told.{told_after_all, told_of};
 ghost use Rattle.fmp_frames.specs.Shown.{WasShown};
 ghost use Rattle.fmp_view.specs.Called.{begins_called};
 
 use fmp_base::System;
-use fmp_call_table::{Calls, append_table};
 use fmp_coming::Coming;
-use fmp_frames::{Frame, Viewer, last_frame, show_all};
+use fmp_frames::{Calls, Frame, Viewer, append_calls, last_frame, show_all};
 use fmp_kernel::{Body, Kernel};
 use std::alloc::{AllocError, Global};
 
@@ -75,6 +74,6 @@ pub fn calls_on<B: Body, T: Coming<B>>(
 {
     let called = called(alloc, kernel, body, n, events)?;
     let mut out = Vec::new(alloc);
-    append_table(alloc, sys, &called.calls, &mut out)?;
+    append_calls(alloc, sys, &called.calls, &mut out)?;
     Ok(out)
 }

@@ -1,5 +1,5 @@
 //! The table as text: one row for each service that a caller calls.
-use crate::counts::{Site, answers, is_same_caller, times, waits};
+use crate::call_counts::{Site, answers, is_same_caller, times, waits};
 use crate::told::{CallTold, Calls};
 use fmp_base::{Er, System};
 use fmp_named::append_caller;
@@ -189,7 +189,7 @@ fn append_rows(told: &[CallTold], rows: &[Row], out: &mut Vec<u8>) -> Result<(),
 /// Appends the table: a row for each caller and each service that it called, the callers in the order of their first
 /// calls, and so the services of each. A call counts as answered where its code comes: at once, or at the end of the
 /// wait. `AllocError` if memory runs out.
-pub fn append_table(
+pub fn append_calls(
     alloc: Global,
     sys: &System,
     calls: &Calls,

@@ -8,10 +8,10 @@ use Rattle.fmp_base.specs.declared.states.Handler.{Handler}
 use Rattle.fmp_base.specs.declared.states.Handler.TheVariants as handler
 use Rattle.fmp_base.specs.Codes.{code_of}
 use Rattle.fmp_base.specs.Services.{service_number}
-use Rattle.fmp_call_table.specs.declared.counts.Site.{Site}
-use Rattle.fmp_call_table.specs.declared.told.CallTold.{CallTold}
-use Rattle.fmp_call_table.specs.declared.told.Outcome.{Outcome}
-use Rattle.fmp_call_table.specs.declared.told.Outcome.TheVariants as outcome
+use Rattle.fmp_frames.specs.declared.call_counts.Site.{Site}
+use Rattle.fmp_frames.specs.declared.told.CallTold.{CallTold}
+use Rattle.fmp_frames.specs.declared.told.Outcome.{Outcome}
+use Rattle.fmp_frames.specs.declared.told.Outcome.TheVariants as outcome
 
 abbrev pub is_same_handler : Handler → Handler → Bool
 is_same_handler (handler.Cyclic a) (handler.Cyclic b) = nat_eq a b

@@ -1,5 +1,5 @@
 use Rattle.std.proofs.Common.{◌≡◌, None, replicate}
-use Rattle.fmp_call_table.proofs.told.no_calls.Given as goal
+use Rattle.fmp_frames.proofs.told.no_calls.Given as goal
 
 abbrev pub invariant-loop-task : goal.invariant-loop-task
 invariant-loop-task l = l.waiting.items ≡ replicate l.task None

@@ -1,7 +1,7 @@
 //! What is counted of the calls of a service by a caller.
 ghost use Rattle.std.specs.Prelude.{◌≡◌, length};
 ghost use Rattle.std.specs.List.{filter};
-ghost use Rattle.fmp_call_table.specs.Counts as spec;
+ghost use Rattle.fmp_frames.specs.CallCounts as spec;
 
 use crate::told::{CallTold, Outcome};
 use fmp_base::{Caller, Er, Handler, Service};

@@ -1,6 +1,6 @@
 //! What the lines of a run tell of calls.
 ghost use Rattle.std.specs.Prelude.{◌≡◌, [], IfOk, None, OnOk, get_or, replicate};
-ghost use Rattle.fmp_call_table.specs.Told as spec;
+ghost use Rattle.fmp_frames.specs.Told as spec;
 
 use fmp_base::{Caller, Er, Line, Reply, Service};
 use std::alloc::{AllocError, Global};

@@ -8,10 +8,10 @@ use Rattle.fmp_base.specs.declared.services.Service.{Service}
 use Rattle.fmp_base.specs.declared.states.Caller.{Caller}
 use Rattle.fmp_base.specs.declared.states.Caller.TheVariants as caller
 use Rattle.fmp_base.specs.Services.{service_of}
-use Rattle.fmp_call_table.specs.declared.told.CallTold.{CallTold}
-use Rattle.fmp_call_table.specs.declared.told.Calls.{Calls}
-use Rattle.fmp_call_table.specs.declared.told.Outcome.{Outcome}
-use Rattle.fmp_call_table.specs.declared.told.Outcome.TheVariants as outcome
+use Rattle.fmp_frames.specs.declared.told.CallTold.{CallTold}
+use Rattle.fmp_frames.specs.declared.told.Calls.{Calls}
+use Rattle.fmp_frames.specs.declared.told.Outcome.{Outcome}
+use Rattle.fmp_frames.specs.declared.told.Outcome.TheVariants as outcome
 
 -- what became of a call with this reply, or with none
 abbrev pub outcome_of : Option Reply → Outcome
