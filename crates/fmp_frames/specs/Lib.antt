@@ -1,9 +1,12 @@
 pub mod CallCounts
 pub mod Counting
 pub mod Frames
+pub mod Responses
 pub mod Showing
 pub mod Shown
 pub mod Spinning
+pub mod Summaries
+pub mod Times
 pub mod Timing
 pub mod Told
 pub mod Values

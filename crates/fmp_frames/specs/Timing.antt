@@ -3,7 +3,7 @@ use Rattle.std.specs.Prelude.{ℕ, List, [], ◌∷◌, Option, Some, None, drop
 use Rattle.fmp_base.specs.declared.events.Line.{Line}
 use Rattle.fmp_frames.specs.Frames.{FrameTable}
 use Rattle.fmp_frames.specs.declared.timing.Timing as declared
-use Rattle.fmp_responses.specs.Responses.{Requests, after_event, no_requests, requests_of}
+use Rattle.fmp_frames.specs.Responses.{Requests, after_event, no_requests, requests_of}
 
 pub record Timed : Type 0 where
   -- when the events come that are still to be shown

@@ -1,8 +1,9 @@
 //! The table of the responses of a run as text: one row for each handler that woke a task.
+use crate::responses::Responses;
+use crate::summaries::Summary;
 use crate::table::{append_cell, append_name};
 use crate::text::append;
 use fmp_base::{Handler, System};
-use fmp_responses::{Responses, Summary};
 use itoa::Buffer;
 use std::alloc::{AllocError, Global};
 

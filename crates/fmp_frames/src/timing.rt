@@ -3,9 +3,9 @@ ghost use Rattle.std.specs.Prelude.{◌≡◌, IfOk, OnOk, drop};
 ghost use Rattle.fmp_frames.specs.Frames.{table_of};
 ghost use Rattle.fmp_frames.specs.Timing as spec;
 
+use crate::responses::Responses;
 use crate::{Frame, Viewer};
 use fmp_base::Line;
-use fmp_responses::Responses;
 use std::alloc::{AllocError, Global};
 
 /// The responses of a run so far, where it is known when its events came.

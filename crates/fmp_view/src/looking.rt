@@ -7,10 +7,10 @@ use crate::open_system::OpenSystem;
 use crate::opened::Opened;
 use crate::opening::{events_of, image_of};
 use fmp_coming::Coming;
+use fmp_frames::known_times;
 use fmp_image_bytes::Image;
 use fmp_outside::Given;
 use fmp_recording::{MOST_LINES, RecordingFault, read_recording, read_times};
-use fmp_responses::known_times;
 use std::alloc::Global;
 
 /// A look at a run of a system, whatever its bodies are.

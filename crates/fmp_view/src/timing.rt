@@ -9,9 +9,8 @@ use crate::looking::Look;
 use crate::opened::Opened;
 use fmp_base::System;
 use fmp_coming::Coming;
-use fmp_frames::{Timing, Viewer, append_responses, last_frame, show_all};
+use fmp_frames::{Timing, Viewer, append_responses, known_times, last_frame, show_all};
 use fmp_kernel::{Body, Kernel};
-use fmp_responses::known_times;
 use std::alloc::{AllocError, Global};
 
 /// What is told of the responses of a run of a kernel over what comes to it at these times.

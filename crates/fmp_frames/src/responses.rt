@@ -1,9 +1,9 @@
 //! The responses of a run, line by line.
 ghost use Rattle.std.specs.Prelude.{◌≡◌, ◌++◌, IfOk, OnOk};
-ghost use Rattle.fmp_responses.specs.Responses as spec;
-ghost use Rattle.fmp_responses.specs.Responses.{requests_of};
+ghost use Rattle.fmp_frames.specs.Responses as spec;
+ghost use Rattle.fmp_frames.specs.Responses.{requests_of};
 
-use crate::tables::{at, nothing, put};
+use crate::places::{at, nothing, put};
 use fmp_base::{Caller, Handler, Line};
 use std::alloc::{AllocError, Global};
 

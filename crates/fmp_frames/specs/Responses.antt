@@ -5,9 +5,9 @@ use Rattle.fmp_base.specs.declared.events.Line.TheVariants as line
 use Rattle.fmp_base.specs.declared.states.Caller.TheVariants as caller
 use Rattle.fmp_base.specs.declared.states.Handler.{Handler}
 use Rattle.fmp_base.specs.declared.states.Handler.TheVariants as handler
-use Rattle.fmp_responses.specs.declared.responses.Release.{Release}
-use Rattle.fmp_responses.specs.declared.responses.Response.{Response}
-use Rattle.fmp_responses.specs.declared.responses.Responses as declared
+use Rattle.fmp_frames.specs.declared.responses.Release.{Release}
+use Rattle.fmp_frames.specs.declared.responses.Response.{Response}
+use Rattle.fmp_frames.specs.declared.responses.Responses as declared
 
 -- the place of a handler among all
 abbrev pub place_of : Handler → ℕ

@@ -1,6 +1,6 @@
 //! The times of a run, where they are known.
 ghost use Rattle.std.specs.Prelude.{◌≡◌, IfOk};
-ghost use Rattle.fmp_responses.specs.Times as spec;
+ghost use Rattle.fmp_frames.specs.Times as spec;
 
 use std::alloc::{AllocError, Global};
 

@@ -4,9 +4,9 @@ use Rattle.std.specs.List.{filter}
 use Rattle.std.specs.List.Sorted.{IsPermutation, IsSorted}
 use Rattle.std.specs.Ordering.{nat_cmp}
 use Rattle.fmp_base.specs.declared.states.Handler.{Handler}
-use Rattle.fmp_responses.specs.declared.responses.Response.{Response}
-use Rattle.fmp_responses.specs.declared.summaries.Summary.{Summary}
-use Rattle.fmp_responses.specs.Responses.{place_of}
+use Rattle.fmp_frames.specs.declared.responses.Response.{Response}
+use Rattle.fmp_frames.specs.declared.summaries.Summary.{Summary}
+use Rattle.fmp_frames.specs.Responses.{place_of}
 
 abbrev pub is_to : Handler → Response → Bool
 is_to h r = nat_eq (place_of r.handler) (place_of h)

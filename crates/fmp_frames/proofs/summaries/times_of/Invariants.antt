@@ -1,6 +1,6 @@
 use Rattle.std.proofs.Common.{◌≡◌, ◌++◌, drop}
-use Rattle.fmp_responses.specs.Summaries as spec
-use Rattle.fmp_responses.proofs.summaries.times_of.Given as goal
+use Rattle.fmp_frames.specs.Summaries as spec
+use Rattle.fmp_frames.proofs.summaries.times_of.Given as goal
 
 -- the times so far, and those of the responses that are left
 abbrev pub invariant-loop-response : goal.invariant-loop-response

@@ -1,7 +1,7 @@
 //! What is said of the responses to the requests of a handler.
 ghost use Rattle.std.specs.Prelude.{◌≡◌, IfOk, IfNone, IfSome, MatchOption, [], length};
-ghost use Rattle.fmp_responses.specs.Summaries as spec;
-ghost use Rattle.fmp_responses.specs.Summaries.{Summarizes};
+ghost use Rattle.fmp_frames.specs.Summaries as spec;
+ghost use Rattle.fmp_frames.specs.Summaries.{Summarizes};
 
 use crate::responses::{Response, Responses, place_of};
 use fmp_base::Handler;

@@ -1,3 +1,0 @@
-pub mod Responses
-pub mod Summaries
-pub mod Times
