@@ -15,8 +15,8 @@ use Rattle.fmp_base.specs.Meanings.{World, context_at, context_in, handler_start
 use Rattle.fmp_base.specs.States.{KernelState, idle, processor_at, task_at}
 use Rattle.fmp_base.specs.Systems.{SystemTables, found}
 use Rattle.fmp_base.specs.TaskCalls.{is_dormant}
-use Rattle.fmp_alike.specs.Alike.{AlikeStates}
-use Rattle.fmp_alike.proofs.TimeLaws.{blocks-at}
+use Rattle.fmp_bisimulation.specs.Alike.{AlikeStates}
+use Rattle.fmp_bisimulation.proofs.TimeLaws.{blocks-at}
 use Rattle.fmp_fields.specs.declared.field.What.{What}
 use Rattle.fmp_fields.specs.declared.field.What.TheVariants as what
 use Rattle.fmp_fields.specs.declared.owner.Owner.TheVariants as owner

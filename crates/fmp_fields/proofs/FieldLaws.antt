@@ -3,7 +3,7 @@ use Rattle.std.proofs.Common.{◌≡◌, ℕ, ◌<◌, ◌%◌, List, Bool, true
 use Rattle.std.specs.Prelude.{map}
 use Rattle.fmp_base.specs.Meanings.{World}
 use Rattle.fmp_base.specs.Systems.{SystemTables}
-use Rattle.fmp_alike.specs.Alike.{Alike, AlikeStates}
+use Rattle.fmp_bisimulation.specs.Alike.{Alike, AlikeStates}
 use Rattle.fmp_fields.specs.declared.field.What.{What}
 use Rattle.fmp_fields.specs.declared.field.What.TheVariants as what
 use Rattle.fmp_fields.specs.FieldNumbers.{number_of}

@@ -1,6 +1,6 @@
 //! The laws, each the contract of a function that does nothing.
 ghost use Rattle.std.specs.Prelude.{◌≡◌, ◌<◌, ℕ, Bool, List, map, true};
-ghost use Rattle.fmp_alike.specs.Alike.{Alike};
+ghost use Rattle.fmp_bisimulation.specs.Alike.{Alike};
 ghost use Rattle.fmp_base.specs.Meanings.{World};
 ghost use Rattle.fmp_base.specs.Systems.{SystemTables};
 ghost use Rattle.fmp_fields.specs.declared.field.What.{What};

@@ -1,8 +1,8 @@
 -- A kernel whose bodies run outside does the same in alike worlds.
 use Rattle.std.proofs.Common.{◌≡◌, ℕ, zero, suc, List, [], ◌∷◌, ◌++◌, Option, Some, None, refl, sym, subst, ap, ◌∙◌, map}
-use Rattle.fmp_alike.specs.Alike.{Alike}
-use Rattle.fmp_alike.specs.Closed.{BothAlike, all_timeless}
-use Rattle.fmp_alike.proofs.StepLaws.{step-same}
+use Rattle.fmp_bisimulation.specs.Alike.{Alike}
+use Rattle.fmp_bisimulation.specs.Closed.{BothAlike, all_timeless}
+use Rattle.fmp_bisimulation.proofs.StepLaws.{step-same}
 use Rattle.fmp_base.specs.declared.bodies.HandlerContext.{HandlerContext}
 use Rattle.fmp_base.specs.declared.bodies.HandlerStart.{HandlerStart}
 use Rattle.fmp_base.specs.declared.bodies.Held.{Held}

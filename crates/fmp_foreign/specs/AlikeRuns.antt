@@ -1,7 +1,7 @@
 -- Runs that differ in the number of the clock at most.
 use Rattle.std.specs.Prelude.{◌≡◌, map}
-use Rattle.fmp_alike.specs.Alike.{Alike}
-use Rattle.fmp_alike.specs.Closed.{all_timeless}
+use Rattle.fmp_bisimulation.specs.Alike.{Alike}
+use Rattle.fmp_bisimulation.specs.Closed.{all_timeless}
 use Rattle.fmp_base.specs.Runs.{Trace}
 use Rattle.fmp_base.specs.Systems.{SystemTables}
 

@@ -1,6 +1,6 @@
 //! A system whose bodies run elsewhere, with its kernel: one call for each event.
 ghost use Rattle.std.specs.Prelude.{◌≡◌, Err, IfErr, IfOk, Ok};
-ghost use Rattle.fmp_alike.specs.Alike.{Alike};
+ghost use Rattle.fmp_bisimulation.specs.Alike.{Alike};
 ghost use Rattle.fmp_cfgparse.specs.Configurations.{IsRead};
 ghost use Rattle.fmp_outside.specs.declared.given.Act.TheVariants as act;
 ghost use Rattle.fmp_outside.specs.declared.given.Given.TheVariants as given;

@@ -1,7 +1,7 @@
 //! The laws, each the contract of a function that does nothing. `D` is the type of the contexts that are kept of bodies
 //! outside.
 ghost use Rattle.std.specs.Prelude.{ℕ, List};
-ghost use Rattle.fmp_alike.specs.Alike.{Alike};
+ghost use Rattle.fmp_bisimulation.specs.Alike.{Alike};
 ghost use Rattle.fmp_base.specs.Meanings.{Meaning, World};
 ghost use Rattle.fmp_base.specs.Setups.{setup};
 ghost use Rattle.fmp_base.specs.Systems.{SystemTables};

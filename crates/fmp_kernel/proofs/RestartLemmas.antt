@@ -4,7 +4,7 @@ use Rattle.std.specs.Prelude.{IfSome}
 use Rattle.std.specs.List.{filter}
 use Rattle.std.proofs.Math.Path.{fun_ext}
 use Rattle.std.proofs.lemmas.List.{length-map}
-use Rattle.fmp_alike.specs.Alike.{Alike, Place, ReadyAt, WaitsAt, SameBlocks, SameTime, SameTimes, standing, stands_at}
+use Rattle.fmp_bisimulation.specs.Alike.{Alike, Place, ReadyAt, WaitsAt, SameBlocks, SameTime, SameTimes, standing, stands_at}
 use Rattle.fmp_base.specs.declared.states.TaskBlock.{TaskBlock}
 use Rattle.fmp_base.specs.Meanings.{World}
 use Rattle.fmp_base.specs.States.{KernelState, task_at}

@@ -1,7 +1,7 @@
 //! The kernel over lawful bodies: setup, and one event after the other.
 ghost use Rattle.std.specs.Prelude.{◌≡◌, ◌+◌, ◌<◌, ◌≤◌, ◌^◌, length, IfNone, IfOk, IfSome};
 ghost use Rattle.std.specs.Option.{option_copied};
-ghost use Rattle.fmp_alike.specs.Alike.{Alike};
+ghost use Rattle.fmp_bisimulation.specs.Alike.{Alike};
 ghost use Rattle.fmp_base.specs.Meanings.{body_in, context_at, context_of, kept_context};
 ghost use Rattle.fmp_base.specs.Ranges.{IsInRange};
 ghost use Rattle.fmp_base.specs.Runs.{task_state};
@@ -304,8 +304,8 @@ impl<B: Body> Kernel<B> {
     /// The counts begin again: the clock, the numbers of events done and taken, and the stamps are 0. Each deadline and
     /// each due time is as far from the clock as before, and nothing else changes. The world is alike to what it was:
     /// each later event does what it would do without this call, by lines that differ in the number of the clock at
-    /// most (`fmp_alike::laws::events_do_the_same`). A stamp from before this call says nothing after it. It takes no
-    /// memory.
+    /// most (`fmp_bisimulation::laws::events_do_the_same`). A stamp from before this call says nothing after it. It
+    /// takes no memory.
     pub fn restart_count(&mut self)
         ensures state { self.new ≡ counts_restarted self.old }
         ensures alike { Alike self.old.system self.old.world self.new.world }

@@ -12,12 +12,12 @@ use Rattle.fmp_base.specs.Ties.{OptionTied, AllTied, HandlerTied, HeldTied}
 use Rattle.fmp_instructions.specs.declared.instructions.MachineContext.{MachineContext}
 use Rattle.fmp_instructions.specs.Instructions.{BodyTables, instructions_at}
 use Rattle.fmp_instructions.specs.Machine.{code_meaning}
-use Rattle.fmp_alike.specs.Alike.{Alike, AlikeStates}
-use Rattle.fmp_alike.specs.Closed.{all_timeless, BothAlike, IsChained, KeepsAlike}
+use Rattle.fmp_bisimulation.specs.Alike.{Alike, AlikeStates}
+use Rattle.fmp_bisimulation.specs.Closed.{all_timeless, BothAlike, IsChained, KeepsAlike}
 use Rattle.fmp_worlds.specs.Settled.{IsSettled}
-use Rattle.fmp_alike.proofs.StateLaws.{alike-chained}
-use Rattle.fmp_alike.proofs.StepLaws.{step-same}
-use Rattle.fmp_alike.proofs.WorldLaws.{worlds-refl, worlds-sym}
+use Rattle.fmp_bisimulation.proofs.StateLaws.{alike-chained}
+use Rattle.fmp_bisimulation.proofs.StepLaws.{step-same}
+use Rattle.fmp_bisimulation.proofs.WorldLaws.{worlds-refl, worlds-sym}
 use Rattle.fmp_live.specs.LiveLocals.{AreLiveTables, LiveTable, table_at}
 use Rattle.fmp_live.specs.Zeroed.{IsLike, IsLikeBy, ByTables, Through, each_at, zeroed, zeroed_by, zeroed_context, zeroed_contexts, zeroed_handler, zeroed_held, zeroed_task}
 use Rattle.fmp_live.proofs.MachineLaws.{SameLive}

@@ -1,6 +1,6 @@
 -- Worlds with 0 for each dead local, and worlds that are alike but for dead locals.
 use Rattle.std.specs.Prelude.{ℕ, zero, suc, ℤ, pos, Bool, true, false, Option, Some, None, List, [], ◌∷◌, get_or, map}
-use Rattle.fmp_alike.specs.Alike.{Alike}
+use Rattle.fmp_bisimulation.specs.Alike.{Alike}
 use Rattle.fmp_base.specs.declared.bodies.HandlerContext.{HandlerContext}
 use Rattle.fmp_base.specs.declared.bodies.Held.{Held}
 use Rattle.fmp_base.specs.declared.bodies.Held.TheVariants.{Goes, Awaits}

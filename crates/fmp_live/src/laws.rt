@@ -1,7 +1,7 @@
 //! The laws, each the contract of a function that does nothing.
 ghost use Rattle.std.specs.Prelude.{ℕ, List};
-ghost use Rattle.fmp_alike.specs.Alike.{Alike, AlikeStates};
-ghost use Rattle.fmp_alike.specs.Closed.{IsChained, KeepsAlike};
+ghost use Rattle.fmp_bisimulation.specs.Alike.{Alike, AlikeStates};
+ghost use Rattle.fmp_bisimulation.specs.Closed.{IsChained, KeepsAlike};
 ghost use Rattle.fmp_base.specs.Meanings.{World};
 ghost use Rattle.fmp_base.specs.Steps.{step};
 ghost use Rattle.fmp_base.specs.Systems.{SystemTables};

@@ -13,9 +13,9 @@ use Rattle.fmp_base.specs.Meanings.{World, context_at, task_body}
 use Rattle.fmp_base.specs.States.{task_at}
 use Rattle.fmp_base.specs.Systems.{SystemTables}
 use Rattle.fmp_base.specs.TaskCalls.{is_dormant}
-use Rattle.fmp_alike.specs.Alike.{Alike, is_none, is_off}
-use Rattle.fmp_alike.specs.Closed.{timeless}
-use Rattle.fmp_alike.proofs.TimeLaws.{blocks-at}
+use Rattle.fmp_bisimulation.specs.Alike.{Alike, is_none, is_off}
+use Rattle.fmp_bisimulation.specs.Closed.{timeless}
+use Rattle.fmp_bisimulation.proofs.TimeLaws.{blocks-at}
 use Rattle.fmp_question.specs.declared.site.Site.{Site}
 use Rattle.fmp_question.specs.declared.question.NeverAt.{NeverAt}
 use Rattle.fmp_question.specs.declared.question.Question.{Question}

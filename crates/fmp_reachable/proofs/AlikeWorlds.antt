@@ -9,8 +9,8 @@ use Rattle.fmp_base.specs.Meanings.{World, context_at, kept_context}
 use Rattle.fmp_base.specs.States.{task_at}
 use Rattle.fmp_base.specs.Systems.{SystemTables}
 use Rattle.fmp_base.specs.TaskCalls.{is_dormant}
-use Rattle.fmp_alike.specs.Alike.{Alike, AlikeStates, is_none, is_off}
-use Rattle.fmp_alike.proofs.TimeLaws.{blocks-at}
+use Rattle.fmp_bisimulation.specs.Alike.{Alike, AlikeStates, is_none, is_off}
+use Rattle.fmp_bisimulation.proofs.TimeLaws.{blocks-at}
 use Rattle.fmp_reachable.specs.Rows.{SameRow}
 use Rattle.fmp_reachable.specs.Worlds.{IsHeldBy, IsRegularWorld, SameBodies}
 use Rattle.fmp_reachable.proofs.RowLaws.{rows-told}

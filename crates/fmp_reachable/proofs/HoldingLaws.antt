@@ -19,11 +19,11 @@ use Rattle.fmp_ring.specs.RingLists.{follower}
 use Rattle.fmp_tasks.specs.Homes.{is_in_order}
 use Rattle.fmp_tasks.proofs.OnceLemmas.{IsOrder-queue}
 use Rattle.fmp_tasks.proofs.StandLemmas.{any-filter}
-use Rattle.fmp_alike.specs.Alike.{AlikeStates, Place, SameBlocks, SameTimes, stands_at, standing, untimed}
-use Rattle.fmp_alike.proofs.ReadLaws.{filter-both}
-use Rattle.fmp_alike.proofs.SortLaws.{of-sorted}
-use Rattle.fmp_alike.proofs.StateLaws.{stands_at-same}
-use Rattle.fmp_alike.proofs.TimeLaws.{blocks-at, blocks-long}
+use Rattle.fmp_bisimulation.specs.Alike.{AlikeStates, Place, SameBlocks, SameTimes, stands_at, standing, untimed}
+use Rattle.fmp_bisimulation.proofs.ReadLaws.{filter-both}
+use Rattle.fmp_bisimulation.proofs.SortLaws.{of-sorted}
+use Rattle.fmp_bisimulation.proofs.StateLaws.{stands_at-same}
+use Rattle.fmp_bisimulation.proofs.TimeLaws.{blocks-at, blocks-long}
 use Rattle.fmp_reachable.specs.Behind.{IsOrderly, task_behind}
 use Rattle.fmp_tasks.specs.Holding.{queue_holding, waiting_there}
 use Rattle.fmp_reachable.proofs.ListLaws.{any-arranged, lists-told}

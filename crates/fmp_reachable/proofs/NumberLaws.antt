@@ -13,7 +13,7 @@ use Rattle.fmp_base.specs.declared.states.WaitCause.{WaitCause}
 use Rattle.fmp_base.specs.declared.states.WaitCause.TheVariants as cause
 use Rattle.fmp_base.specs.States.{idle, task_at}
 use Rattle.fmp_base.specs.Systems.{found}
-use Rattle.fmp_alike.specs.Alike.{SameBlock, SameBlocks, SameTime, SameTimes}
+use Rattle.fmp_bisimulation.specs.Alike.{SameBlock, SameBlocks, SameTime, SameTimes}
 use Rattle.fmp_reachable.specs.Numbers.{IsAhead, SameProcessorNumbers, SameTaskNumbers, bit, cause_object, cause_value, cyclic_of, interrupt_of, lock_number, phase_kind, place, ticks_to, unsigned, wait_kind, wait_object, wait_value}
 
 apart : (n : ℕ) → zero ≡ suc n → ⊥

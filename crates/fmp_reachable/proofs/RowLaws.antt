@@ -2,7 +2,7 @@
 use Rattle.std.proofs.Common.{◌≡◌, ◌≤◌, ℕ, [], Bool, true, false, refl, sym, ◌∙◌, subst, length, nat_lt}
 use Rattle.fmp_base.specs.States.{KernelState}
 use Rattle.fmp_base.specs.Systems.{SystemTables}
-use Rattle.fmp_alike.specs.Alike.{AlikeStates, SameBlocks, SameTimes, untimed}
+use Rattle.fmp_bisimulation.specs.Alike.{AlikeStates, SameBlocks, SameTimes, untimed}
 use Rattle.fmp_reachable.specs.Behind.{IsOrderly, task_behind}
 use Rattle.fmp_reachable.specs.Rows.{AreAhead, IsRegular, SameNumbers, SameRow}
 use Rattle.fmp_reachable.specs.Values.{SameSizes}

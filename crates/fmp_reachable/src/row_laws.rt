@@ -3,7 +3,7 @@ ghost use Rattle.std.specs.Prelude.{◌≡◌, ℕ};
 ghost use Rattle.fmp_base.specs.Meanings.{World};
 ghost use Rattle.fmp_base.specs.States.{KernelState};
 ghost use Rattle.fmp_base.specs.Systems.{SystemTables};
-ghost use Rattle.fmp_alike.specs.Alike.{Alike, AlikeStates, SameBlocks, SameTimes, untimed};
+ghost use Rattle.fmp_bisimulation.specs.Alike.{Alike, AlikeStates, SameBlocks, SameTimes, untimed};
 ghost use Rattle.fmp_reachable.specs.Behind.{IsOrderly, task_behind};
 ghost use Rattle.fmp_reachable.specs.Rows.{IsRegular, SameRow};
 ghost use Rattle.fmp_reachable.specs.Worlds.{IsRegularWorld, SameBodies};

@@ -7,9 +7,9 @@ use Rattle.fmp_base.specs.Meanings.{Meaning, World}
 use Rattle.fmp_base.specs.States.{KernelState}
 use Rattle.fmp_base.specs.Steps.{Reaction, Nothing, Did, Kept, step}
 use Rattle.fmp_base.specs.Systems.{SystemTables}
-use Rattle.fmp_alike.specs.Alike.{AlikeStates, SameTime}
-use Rattle.fmp_alike.specs.Closed.{BothAlike}
-use Rattle.fmp_alike.proofs.TimeLaws.{blocks-at, times-at}
+use Rattle.fmp_bisimulation.specs.Alike.{AlikeStates, SameTime}
+use Rattle.fmp_bisimulation.specs.Closed.{BothAlike}
+use Rattle.fmp_bisimulation.proofs.TimeLaws.{blocks-at, times-at}
 use Rattle.fmp_schedules.specs.Likeness.{IsLikeness}
 use Rattle.fmp_schedules.specs.Deadlocks.{IsDeadlock, IsStuck}
 

@@ -29,7 +29,7 @@ use Rattle.fmp_base.specs.Stretches.{Ending}
 use Rattle.fmp_base.specs.Stretches as ends
 use Rattle.fmp_base.specs.Systems.{SystemTables, found, interrupt_config, task_config}
 use Rattle.fmp_base.specs.Ticks.{all_cycled, all_timed_out, cycled, cycled_by, is_due, is_pending, pended_by, ticked, timed_out, timed_out_by, timeout_code, with_clock_advanced, with_interrupt_pending}
-use Rattle.fmp_alike.proofs.LineLaws.{settled-behind}
+use Rattle.fmp_bisimulation.proofs.LineLaws.{settled-behind}
 use Rattle.fmp_schedules.specs.Deadlocks.{is_interrupt}
 use Rattle.fmp_schedules.specs.Schedules.{is_request}
 use Rattle.fmp_schedules.proofs.CallLines.{AreQuiet, IsQuiet, called-quiet, ended-quiet, quiet-append, released-quiet, started-quiet}

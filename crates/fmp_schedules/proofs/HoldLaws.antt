@@ -8,8 +8,8 @@ use Rattle.fmp_base.specs.Meanings.{Meaning, World}
 use Rattle.fmp_base.specs.Setups.{setup}
 use Rattle.fmp_base.specs.Steps.{step}
 use Rattle.fmp_base.specs.Systems.{SystemTables}
-use Rattle.fmp_alike.specs.Closed.{IsClosed, IsCovered, NoneIsBad, watched}
-use Rattle.fmp_alike.proofs.ClosedLaws.{run-covers}
+use Rattle.fmp_bisimulation.specs.Closed.{IsClosed, IsCovered, NoneIsBad, watched}
+use Rattle.fmp_bisimulation.proofs.ClosedLaws.{run-covers}
 use Rattle.fmp_schedules.specs.Likeness.{IsLikeness}
 use Rattle.fmp_schedules.specs.Deadlocks.{IsDeadlock}
 use Rattle.fmp_schedules.specs.Schedules.{Holds, IsSchedule, Rules, Watched, at_first, watched_at_setup, is_any_met, is_request, is_told, lines_after, may_come, may_still, requests, sections_after, watch, watched_on, reached}

@@ -8,7 +8,7 @@ use Rattle.fmp_base.specs.Runs.{run, run_on, done_events, done_on}
 use Rattle.fmp_base.specs.Steps.{Done, Reaction, Did, Kept, step, with_place}
 use Rattle.fmp_base.specs.Stretches as ends
 use Rattle.fmp_base.specs.Systems.{SystemTables}
-use Rattle.fmp_alike.specs.Closed.{AreAllowed, allowed_after}
+use Rattle.fmp_bisimulation.specs.Closed.{AreAllowed, allowed_after}
 use Rattle.fmp_schedules.specs.Schedules.{Rules, Watched, may_come, stays_within, watch, watched_on}
 use Rattle.fmp_schedules.proofs.KeptPlaces.{Keeps, ends_, keeps, run-is}
 

@@ -2,9 +2,9 @@
 use Rattle.std.proofs.Common.{ℕ}
 use Rattle.fmp_base.specs.Meanings.{Meaning}
 use Rattle.fmp_base.specs.Systems.{SystemTables}
-use Rattle.fmp_alike.specs.Alike.{Alike}
-use Rattle.fmp_alike.proofs.StepLaws.{step-same}
-use Rattle.fmp_alike.proofs.WorldLaws.{worlds-chained}
+use Rattle.fmp_bisimulation.specs.Alike.{Alike}
+use Rattle.fmp_bisimulation.proofs.StepLaws.{step-same}
+use Rattle.fmp_bisimulation.proofs.WorldLaws.{worlds-chained}
 use Rattle.fmp_schedules.specs.Likeness.{IsLikeness}
 
 pub alike-likeness : {C : Type 0} (sys : SystemTables) (M : Meaning C) (n : ℕ) → IsLikeness sys M n (Alike sys)

@@ -11,8 +11,8 @@ use Rattle.fmp_base.specs.Meanings.{Meaning, World}
 use Rattle.fmp_base.specs.Setups.{setup}
 use Rattle.fmp_base.specs.Steps.{Reaction, Nothing, Did, Kept, step}
 use Rattle.fmp_base.specs.Systems.{SystemTables}
-use Rattle.fmp_alike.specs.Alike.{AlikeStates, SameBlocks}
-use Rattle.fmp_alike.specs.Closed.{AreAllowed, BothAlike, IsBlind, IsRule, Watch, all_timeless, allowed_after, timeless}
+use Rattle.fmp_bisimulation.specs.Alike.{AlikeStates, SameBlocks}
+use Rattle.fmp_bisimulation.specs.Closed.{AreAllowed, BothAlike, IsBlind, IsRule, Watch, all_timeless, allowed_after, timeless}
 use Rattle.fmp_schedules.specs.Likeness.{IsLikeness}
 use Rattle.fmp_schedules.specs.Schedules.{IsSchedule, Rules, Watched, watched_at_setup, came_after, are_within, is_any_met, is_nothing, is_request, is_within, may_come, may_still, may_try, none_runs, sections_after, stays_within, watch, watched_on}
 use Rattle.fmp_schedules.specs.declared.section.Section.{Section}

@@ -3,7 +3,7 @@ use Rattle.std.proofs.Common.{◌≡◌, ℕ, List, [], ◌∷◌, ◌++◌, Opt
 use Rattle.std.specs.List.{list_any}
 use Rattle.fmp_base.specs.declared.events.Line.{Line}
 use Rattle.fmp_base.specs.declared.events.Line.TheVariants as line
-use Rattle.fmp_alike.specs.Closed.{all_timeless, timeless}
+use Rattle.fmp_bisimulation.specs.Closed.{all_timeless, timeless}
 use Rattle.fmp_schedules.specs.declared.section.Section.{Section}
 use Rattle.fmp_schedules.specs.Schedules.{is_any_met, sections_after}
 use Rattle.fmp_schedules.specs.Sections.{held_by, is_met, is_met_along, meets, section_after, section_along, section_on, staying}

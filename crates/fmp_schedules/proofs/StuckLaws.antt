@@ -8,8 +8,8 @@ use Rattle.fmp_base.specs.Meanings.{Meaning, World}
 use Rattle.fmp_base.specs.Runs.{run}
 use Rattle.fmp_base.specs.Steps.{Reaction, Nothing, Did, Kept, step}
 use Rattle.fmp_base.specs.Systems.{SystemTables}
-use Rattle.fmp_alike.specs.Closed.{AreAllowed, IsClosed, IsCovered, NoneIsBad, allowed_after, watched}
-use Rattle.fmp_alike.proofs.ClosedLaws.{run-covers}
+use Rattle.fmp_bisimulation.specs.Closed.{AreAllowed, IsClosed, IsCovered, NoneIsBad, allowed_after, watched}
+use Rattle.fmp_bisimulation.proofs.ClosedLaws.{run-covers}
 use Rattle.fmp_schedules.specs.Likeness.{IsLikeness}
 use Rattle.fmp_schedules.specs.Deadlocks.{is_interrupt}
 use Rattle.fmp_schedules.specs.Schedules.{Rules, Watched, came_after, is_request, is_told, may_come, may_still, may_try, reached, stays_within, watch, watched_on}

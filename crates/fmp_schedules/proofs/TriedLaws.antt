@@ -10,7 +10,7 @@ use Rattle.fmp_base.specs.Meanings.{Meaning, World}
 use Rattle.fmp_base.specs.States.{KernelState, idle, processor_at}
 use Rattle.fmp_base.specs.Steps.{Reaction, Nothing, Did, Kept, actor_of, interrupted, run_by, step}
 use Rattle.fmp_base.specs.Systems.{SystemTables, found, interrupt_config}
-use Rattle.fmp_alike.specs.Closed.{BothAlike, IsBlind, IsChained, IsClosed, IsCovered, LeadsIn, Watch}
+use Rattle.fmp_bisimulation.specs.Closed.{BothAlike, IsBlind, IsChained, IsClosed, IsCovered, LeadsIn, Watch}
 use Rattle.fmp_schedules.specs.Likeness.{IsLikeness}
 use Rattle.fmp_schedules.specs.Tried.{IsTried, is_event_of}
 

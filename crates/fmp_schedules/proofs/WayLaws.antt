@@ -13,8 +13,8 @@ use Rattle.fmp_base.specs.Setups.{setup}
 use Rattle.fmp_base.specs.States.{task_at}
 use Rattle.fmp_base.specs.Steps.{Done, Reaction, Nothing, Did, Kept, step}
 use Rattle.fmp_base.specs.Systems.{SystemTables}
-use Rattle.fmp_alike.specs.Closed.{AreAllowed, BothAlike, all_timeless, allowed_after, timeless, watched}
-use Rattle.fmp_alike.proofs.TimeLaws.{blocks-at}
+use Rattle.fmp_bisimulation.specs.Closed.{AreAllowed, BothAlike, all_timeless, allowed_after, timeless, watched}
+use Rattle.fmp_bisimulation.proofs.TimeLaws.{blocks-at}
 use Rattle.fmp_schedules.specs.Likeness.{IsLikeness}
 use Rattle.fmp_schedules.specs.Schedules.{IsSchedule, Rules, Watched, at_first, is_told, lines_after, may_come, reached, requests, watch, watched_at_setup, watched_on}
 use Rattle.fmp_schedules.specs.declared.section.Section.{Section}

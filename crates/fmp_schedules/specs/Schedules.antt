@@ -11,7 +11,7 @@ use Rattle.fmp_base.specs.Runs.{run}
 use Rattle.fmp_base.specs.Setups.{setup}
 use Rattle.fmp_base.specs.Steps.{Reaction, Nothing, Did, Kept, step}
 use Rattle.fmp_base.specs.Systems.{SystemTables}
-use Rattle.fmp_alike.specs.Closed.{AreAllowed, Watch}
+use Rattle.fmp_bisimulation.specs.Closed.{AreAllowed, Watch}
 use Rattle.fmp_schedules.specs.declared.section.Section.{Section}
 use Rattle.fmp_schedules.specs.Deadlocks.{IsDeadlock}
 use Rattle.fmp_schedules.specs.Sections.{is_met, is_met_along, section_after}

@@ -9,7 +9,7 @@ use Rattle.fmp_base.specs.Runs.{run}
 use Rattle.fmp_base.specs.States.{task_at}
 use Rattle.fmp_base.specs.Steps.{step}
 use Rattle.fmp_base.specs.Systems.{SystemTables}
-use Rattle.fmp_alike.specs.Closed.{AreAllowed}
+use Rattle.fmp_bisimulation.specs.Closed.{AreAllowed}
 use Rattle.fmp_schedules.specs.Deadlocks.{is_interrupt}
 use Rattle.fmp_schedules.specs.Schedules.{IsSchedule, Rules, is_told, lines_after, may_come, reached, requests, watch}
 use Rattle.fmp_schedules.specs.Sections.{is_ok, is_task, terminates}

@@ -8,7 +8,7 @@ use Rattle.fmp_base.specs.Meanings.{Meaning, World}
 use Rattle.fmp_base.specs.Setups.{setup}
 use Rattle.fmp_base.specs.Steps.{Reaction, step}
 use Rattle.fmp_base.specs.Systems.{SystemTables, interrupt_config}
-use Rattle.fmp_alike.specs.Closed.{IsCovered, LeadsIn, NoneIsBad, Watch, timeless}
+use Rattle.fmp_bisimulation.specs.Closed.{IsCovered, LeadsIn, NoneIsBad, Watch, timeless}
 use Rattle.fmp_schedules.specs.Deadlocks.{IsDeadlock}
 use Rattle.fmp_schedules.specs.Likeness.{IsLikeness}
 use Rattle.fmp_schedules.specs.Schedules.{IsSilent, Rules, Watched, watched_at_setup, may_come, may_still, watch}

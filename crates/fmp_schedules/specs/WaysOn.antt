@@ -9,7 +9,7 @@ use Rattle.fmp_base.specs.Meanings.{Meaning, World}
 use Rattle.fmp_base.specs.States.{task_at}
 use Rattle.fmp_base.specs.Steps.{Reaction, Nothing, Did, Kept, step}
 use Rattle.fmp_base.specs.Systems.{SystemTables}
-use Rattle.fmp_alike.specs.Closed.{IsCovered, Seen}
+use Rattle.fmp_bisimulation.specs.Closed.{IsCovered, Seen}
 use Rattle.fmp_schedules.specs.Schedules.{Rules, Watched, may_come, watch, watched_on}
 use Rattle.fmp_schedules.specs.Stuck.{acts}
 

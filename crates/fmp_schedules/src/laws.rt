@@ -11,8 +11,8 @@ ghost use Rattle.fmp_base.specs.Meanings.{Meaning, World};
 ghost use Rattle.fmp_base.specs.Setups.{setup};
 ghost use Rattle.fmp_base.specs.Steps.{Did, Done, Nothing, step};
 ghost use Rattle.fmp_base.specs.Systems.{SystemTables};
-ghost use Rattle.fmp_alike.specs.Alike.{Alike};
-ghost use Rattle.fmp_alike.specs.Closed.{IsBlind, IsClosed, IsCovered, IsListed, IsRule, NoneIsBad, Seen, Watch};
+ghost use Rattle.fmp_bisimulation.specs.Alike.{Alike};
+ghost use Rattle.fmp_bisimulation.specs.Closed.{IsBlind, IsClosed, IsCovered, IsListed, IsRule, NoneIsBad, Seen, Watch};
 ghost use Rattle.fmp_schedules.specs.Deadlocks.{IsDeadlock, is_interrupt};
 ghost use Rattle.fmp_schedules.specs.Schedules.{
   Holds,

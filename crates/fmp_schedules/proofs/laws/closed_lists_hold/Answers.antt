@@ -1,5 +1,5 @@
-use Rattle.fmp_alike.specs.Alike.{Alike}
-use Rattle.fmp_alike.specs.Closed.{IsListed}
+use Rattle.fmp_bisimulation.specs.Alike.{Alike}
+use Rattle.fmp_bisimulation.specs.Closed.{IsListed}
 use Rattle.fmp_schedules.proofs.HoldLaws.{closed-holds}
 use Rattle.fmp_schedules.proofs.LikenessLaws.{alike-likeness}
 use Rattle.fmp_schedules.proofs.laws.closed_lists_hold.Goals as goal

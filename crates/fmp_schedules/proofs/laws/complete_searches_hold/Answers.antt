@@ -1,5 +1,5 @@
-use Rattle.fmp_alike.specs.Alike.{Alike}
-use Rattle.fmp_alike.specs.Closed.{IsListed}
+use Rattle.fmp_bisimulation.specs.Alike.{Alike}
+use Rattle.fmp_bisimulation.specs.Closed.{IsListed}
 use Rattle.fmp_schedules.proofs.HoldLaws.{searched-holds}
 use Rattle.fmp_schedules.proofs.laws.complete_searches_hold.Goals as goal
 

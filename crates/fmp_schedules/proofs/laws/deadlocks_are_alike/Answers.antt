@@ -1,4 +1,4 @@
-use Rattle.fmp_alike.specs.Alike.{Alike}
+use Rattle.fmp_bisimulation.specs.Alike.{Alike}
 use Rattle.fmp_schedules.proofs.DeadlockLaws.{deadlock-alike}
 use Rattle.fmp_schedules.proofs.LikenessLaws.{alike-likeness}
 use Rattle.fmp_schedules.proofs.laws.deadlocks_are_alike.Goals as goal

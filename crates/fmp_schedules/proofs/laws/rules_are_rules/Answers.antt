@@ -1,4 +1,4 @@
-use Rattle.fmp_alike.specs.Alike.{Alike}
+use Rattle.fmp_bisimulation.specs.Alike.{Alike}
 use Rattle.fmp_schedules.proofs.LikenessLaws.{alike-likeness}
 use Rattle.fmp_schedules.proofs.RuleLaws.{may_come-same, watch-blind}
 use Rattle.fmp_schedules.proofs.laws.rules_are_rules.Goals as goal

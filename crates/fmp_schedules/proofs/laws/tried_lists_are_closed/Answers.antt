@@ -1,5 +1,5 @@
-use Rattle.fmp_alike.specs.Alike.{Alike}
-use Rattle.fmp_alike.specs.Closed.{IsListed}
+use Rattle.fmp_bisimulation.specs.Alike.{Alike}
+use Rattle.fmp_bisimulation.specs.Closed.{IsListed}
 use Rattle.fmp_schedules.proofs.LikenessLaws.{alike-likeness}
 use Rattle.fmp_schedules.proofs.TriedLaws.{tried-closed}
 use Rattle.fmp_schedules.proofs.laws.tried_lists_are_closed.Goals as goal

@@ -1,5 +1,5 @@
-use Rattle.fmp_alike.specs.Alike.{Alike}
-use Rattle.fmp_alike.specs.Closed.{IsListed}
+use Rattle.fmp_bisimulation.specs.Alike.{Alike}
+use Rattle.fmp_bisimulation.specs.Closed.{IsListed}
 use Rattle.fmp_schedules.specs.WaysOn.{IsNoted}
 use Rattle.fmp_schedules.proofs.WayLaws.{none-stuck}
 use Rattle.fmp_schedules.proofs.laws.ways_on_leave_none_stuck.Goals as goal

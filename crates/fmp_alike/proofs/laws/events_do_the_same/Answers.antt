@@ -1,5 +1,0 @@
-use Rattle.fmp_alike.proofs.StepLaws.{step-same}
-use Rattle.fmp_alike.proofs.laws.events_do_the_same.Goals as goal
-
-pub returns : goal.returns
-returns g c = λ sys M n. step-same sys M n

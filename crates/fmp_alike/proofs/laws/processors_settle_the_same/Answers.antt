@@ -1,5 +1,0 @@
-use Rattle.fmp_alike.proofs.SettleLaws.{settled-same}
-use Rattle.fmp_alike.proofs.laws.processors_settle_the_same.Goals as goal
-
-pub returns : goal.returns
-returns c sys g i h = settled-same sys g i h

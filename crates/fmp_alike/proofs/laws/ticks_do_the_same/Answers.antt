@@ -1,5 +1,0 @@
-use Rattle.fmp_alike.proofs.TickLaws.{ticked-same}
-use Rattle.fmp_alike.proofs.laws.ticks_do_the_same.Goals as goal
-
-pub returns : goal.returns
-returns c sys s u h = ticked-same sys s u h
