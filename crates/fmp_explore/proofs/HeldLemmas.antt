@@ -16,7 +16,7 @@ use Rattle.fmp_kernel.specs.KernelViews.{KernelView}
 use Rattle.fmp_replay.specs.Replays.{kernel_after, replay}
 use Rattle.fmp_schedules.specs.declared.section.Section.{Section}
 use Rattle.fmp_schedules.specs.Schedules.{sections_after}
-use Rattle.fmp_seen.specs.declared.link.Link.{Link}
+use Rattle.fmp_visited.specs.declared.link.Link.{Link}
 use Rattle.fmp_explore.proofs.SearchLemmas.{past_none}
 use Rattle.fmp_explore.proofs.SectionLemmas.{sections_done, sections_first, sections_kept}
 

@@ -31,10 +31,10 @@ use Rattle.fmp_schedules.specs.declared.section.Section.{Section}
 use Rattle.fmp_schedules.specs.Schedules.{Watched, came_after, is_any_met, is_request, lines_after, sections_after, watched_at_setup}
 use Rattle.fmp_schedules.specs.Sections.{section_along}
 use Rattle.fmp_explore.proofs.SectionLemmas.{sections_first}
-use Rattle.fmp_seen.specs.declared.link.Link.{Link}
-use Rattle.fmp_seen.specs.Links.{AreLinked, IsLink, path_of}
-use Rattle.fmp_seen.specs.Seen.{SeenStates}
-use Rattle.fmp_seen.proofs.LinkLemmas.{links-none, path-added}
+use Rattle.fmp_visited.specs.declared.link.Link.{Link}
+use Rattle.fmp_visited.specs.Links.{AreLinked, IsLink, path_of}
+use Rattle.fmp_visited.specs.Seen.{SeenStates}
+use Rattle.fmp_visited.proofs.LinkLemmas.{links-none, path-added}
 use Rattle.fmp_schedules.proofs.EventLines.{setup-counts}
 use Rattle.fmp_explore.proofs.PathLemmas.{path_to-depth}
 use Rattle.fmp_question.proofs.PlaceLemmas.{none-anywhere, none-there}

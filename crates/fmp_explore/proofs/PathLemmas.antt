@@ -3,9 +3,9 @@ use Rattle.std.proofs.Common.{◌≡◌, ◌+◌, ◌<◌, ℕ, List, [], ◌++�
 use Rattle.fmp_base.specs.declared.events.Event.{Event}
 use Rattle.fmp_question.specs.declared.question.Question.{Question}
 use Rattle.fmp_explore.specs.States.{path_by, path_to}
-use Rattle.fmp_seen.specs.declared.link.Link.{Link}
-use Rattle.fmp_seen.specs.Links.{AreLinked, path_of}
-use Rattle.fmp_seen.proofs.LinkLemmas.{path-depth, path-first, path-stays}
+use Rattle.fmp_visited.specs.declared.link.Link.{Link}
+use Rattle.fmp_visited.specs.Links.{AreLinked, path_of}
+use Rattle.fmp_visited.proofs.LinkLemmas.{path-depth, path-first, path-stays}
 
 module _ (q : Question) where
   pub path_to-stays : (links more : List Link) (k : ℕ) → AreLinked links → k < length links

@@ -30,11 +30,11 @@ use Rattle.fmp_replay.proofs.Replaying.{replay_last}
 use Rattle.fmp_schedules.specs.Deadlocks.{is_interrupt}
 use Rattle.fmp_schedules.specs.declared.section.Section.{Section}
 use Rattle.fmp_schedules.specs.Schedules.{IsSilent, Watched, came_after, is_any_met, is_request, sections_after, watch}
-use Rattle.fmp_seen.specs.declared.link.Link.{Link}
-use Rattle.fmp_seen.specs.Links.{AreLinked, IsLink}
-use Rattle.fmp_seen.specs.Seen.{SeenStates, with_state}
-use Rattle.fmp_seen.proofs.LinkLemmas.{links-added}
-use Rattle.fmp_seen.proofs.RowLemmas.{rows-told}
+use Rattle.fmp_visited.specs.declared.link.Link.{Link}
+use Rattle.fmp_visited.specs.Links.{AreLinked, IsLink}
+use Rattle.fmp_visited.specs.Seen.{SeenStates, with_state}
+use Rattle.fmp_visited.proofs.LinkLemmas.{links-added}
+use Rattle.fmp_visited.proofs.RowLemmas.{rows-told}
 use Rattle.fmp_reachable.proofs.ReadableLaws.{readable}
 use Rattle.fmp_schedules.proofs.EventLines.{done-counts}
 use Rattle.fmp_explore.proofs.PathLemmas.{path_to-stays}

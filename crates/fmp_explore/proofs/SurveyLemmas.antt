@@ -21,11 +21,11 @@ use Rattle.fmp_live.specs.LiveLocals.{AreLiveTables, LiveTable}
 use Rattle.fmp_live.specs.Zeroed.{zeroed}
 use Rattle.fmp_schedules.specs.declared.section.Section.{Section}
 use Rattle.fmp_schedules.specs.Deadlocks.{is_interrupt}
-use Rattle.fmp_seen.specs.declared.link.Link.{Link}
-use Rattle.fmp_seen.specs.Links.{AreLinked}
-use Rattle.fmp_seen.specs.declared.link.Entry.{Entry}
-use Rattle.fmp_seen.specs.declared.link.Entry.TheVariants as entry
-use Rattle.fmp_seen.specs.Seen.{Adds, SeenStates, with_state}
+use Rattle.fmp_visited.specs.declared.link.Link.{Link}
+use Rattle.fmp_visited.specs.Links.{AreLinked}
+use Rattle.fmp_visited.specs.declared.link.Entry.{Entry}
+use Rattle.fmp_visited.specs.declared.link.Entry.TheVariants as entry
+use Rattle.fmp_visited.specs.Seen.{Adds, SeenStates, with_state}
 use Rattle.fmp_explore.proofs.PathLemmas.{path_to-stays}
 use Rattle.fmp_explore.proofs.StateLemmas.{element_of_push, kept_more, new_known, row_known}
 

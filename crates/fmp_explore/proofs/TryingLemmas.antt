@@ -11,8 +11,8 @@ use Rattle.fmp_explore.specs.States.{AreFew, HasRow, LeadsOn, MayCome, path_to}
 use Rattle.fmp_schedules.specs.Tries.{all_tries}
 use Rattle.fmp_image_bytes.specs.Images.{ImageTables, IsImage}
 use Rattle.fmp_image_bytes.proofs.InRange.{image_in_range}
-use Rattle.fmp_seen.specs.declared.link.Link.{Link}
-use Rattle.fmp_seen.specs.Links.{AreLinked}
+use Rattle.fmp_visited.specs.declared.link.Link.{Link}
+use Rattle.fmp_visited.specs.Links.{AreLinked}
 use Rattle.fmp_explore.proofs.StateLemmas.{leads_on_more}
 use Rattle.fmp_schedules.proofs.TryLemmas.{each-tried}
 use Rattle.fmp_explore.proofs.SurveyLemmas.{grows_at, grows_on, stays_at, stays_grows, stays_survey}

@@ -26,8 +26,8 @@ use Rattle.fmp_replay.specs.Replays.{reaction, replay}
 use Rattle.fmp_schedules.specs.Deadlocks.{may_interrupt}
 use Rattle.fmp_schedules.specs.declared.section.Section.{Section}
 use Rattle.fmp_schedules.specs.Schedules.{Holds, HoldsThere, none_runs, watched_at_setup}
-use Rattle.fmp_seen.specs.declared.link.Link.{Link}
-use Rattle.fmp_seen.specs.Links.{IsLink}
+use Rattle.fmp_visited.specs.declared.link.Link.{Link}
+use Rattle.fmp_visited.specs.Links.{IsLink}
 
 -- the sections in each of the states are kept, too
 pub record AreHeld (i : ImageTables) (n : ℕ) (q : Question) (held : List (Vec Section Global)) (links : List Link) :

@@ -20,10 +20,10 @@ use Rattle.fmp_schedules.specs.declared.section.Section.{Section}
 use Rattle.fmp_schedules.specs.Schedules.{IsSilent, Watched, lines_after, may_come, watch}
 use Rattle.fmp_schedules.specs.Sections.{section_along}
 use Rattle.fmp_schedules.specs.Tried.{is_event_of}
-use Rattle.fmp_seen.specs.declared.link.Link.{Link}
-use Rattle.fmp_seen.specs.Links.{AreLinked, path_of}
-use Rattle.fmp_seen.specs.Rows.{AreValues, row_of}
-use Rattle.fmp_seen.specs.Seen.{SeenStates}
+use Rattle.fmp_visited.specs.declared.link.Link.{Link}
+use Rattle.fmp_visited.specs.Links.{AreLinked, path_of}
+use Rattle.fmp_visited.specs.Rows.{AreValues, row_of}
+use Rattle.fmp_visited.specs.Seen.{SeenStates}
 
 -- how many interrupts came, where their number is limited
 abbrev pub came_of : Option ℕ → List Event → ℕ

@@ -18,7 +18,7 @@ use fmp_kernel::Kernel;
 use fmp_question::interrupt_count;
 use fmp_replay::kernel_of;
 use fmp_schedules::Section;
-use fmp_seen::Link;
+use fmp_visited::Link;
 use fmp_witness::follow;
 use std::alloc::{AllocError, Global};
 

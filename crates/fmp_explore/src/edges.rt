@@ -1,7 +1,7 @@
 //! The events between the states of a search, and who acted by them. They tell where to look for a task that can never
 //! go on: nothing is claimed of them.
 use fmp_base::{Call, Caller, Er, Line, Reply};
-use fmp_seen::Entry;
+use fmp_visited::Entry;
 use std::alloc::{AllocError, Global};
 
 /// The events that did something in the states that were examined.

@@ -13,7 +13,7 @@ use fmp_fields::{What, fields_of, read};
 use fmp_kernel::Kernel;
 use fmp_live::LiveLocals;
 use fmp_schedules::Section;
-use fmp_seen::pack;
+use fmp_visited::pack;
 use std::alloc::{AllocError, Global};
 
 /// The fields of the states, who holds the sections in each of them, and room for the values and the row of one.

@@ -31,7 +31,7 @@ use fmp_code::Vm;
 use fmp_kernel::Kernel;
 use fmp_question::{Question, Ticks, stands_still};
 use fmp_replay::kernel_of;
-use fmp_seen::Link;
+use fmp_visited::Link;
 use fmp_witness::{Ladder, Sight};
 use std::alloc::{AllocError, Global};
 

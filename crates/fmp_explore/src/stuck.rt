@@ -20,7 +20,7 @@ use fmp_fields::{What, low_byte};
 use fmp_image_bytes::Image;
 use fmp_kernel::Kernel;
 use fmp_question::{Never, Question, Site, body_of, is_started, may_rest};
-use fmp_seen::unpack;
+use fmp_visited::unpack;
 use fmp_witness::{Finding, Sight, follow};
 use std::alloc::{AllocError, Global};
 

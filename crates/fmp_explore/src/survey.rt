@@ -22,7 +22,7 @@ use fmp_code::Vm;
 use fmp_kernel::Kernel;
 use fmp_question::{Outlook, Question, Site, may_rest, queues_within};
 use fmp_schedules::{Section, tries_of};
-use fmp_seen::{Entry, Link, Seen};
+use fmp_visited::{Entry, Link, Seen};
 use fmp_witness::{Coverage, Finding, Sight};
 use std::alloc::{AllocError, Global};
 

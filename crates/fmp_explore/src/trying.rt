@@ -6,7 +6,7 @@ ghost use Rattle.fmp_explore.specs.Searching.{marked};
 use crate::notes::Path;
 use fmp_base::Event;
 use fmp_question::interrupt_count;
-use fmp_seen::Link;
+use fmp_visited::Link;
 
 /// The most events that lead to a state.
 pub const DEEPEST: u32 = (1 << 20) - 1;

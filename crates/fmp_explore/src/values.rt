@@ -1,6 +1,6 @@
 //! The table of values: how many values each field has in some of the states that were seen.
 use fmp_fields::What;
-use fmp_seen::{Seen, unpack};
+use fmp_visited::{Seen, unpack};
 use std::alloc::{AllocError, Global};
 
 /// How many values a field has.

@@ -7,7 +7,7 @@ use Rattle.fmp_schedules.specs.declared.section.Section.{Section}
 use Rattle.fmp_schedules.specs.Schedules.{sections_after}
 use Rattle.fmp_explore.proofs.HeldLemmas.{setup_sections}
 use Rattle.fmp_explore.specs.declared.rows.Rows.{Rows}
-use Rattle.fmp_seen.specs.Seen.{SeenStates}
+use Rattle.fmp_visited.specs.Seen.{SeenStates}
 use Rattle.fmp_explore.proofs.NextLemmas.{clean_setup, fresh_survey}
 use Rattle.fmp_explore.proofs.survey.Survey.begin_on.Goals as goal
 

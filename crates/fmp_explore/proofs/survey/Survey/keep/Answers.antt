@@ -3,7 +3,7 @@ use Rattle.std.specs.declared.alloc.Global.{Global}
 use Rattle.std.specs.declared.vec.Vec.{Vec}
 use Rattle.fmp_schedules.specs.declared.section.Section.{Section}
 use Rattle.fmp_live.specs.LiveLocals.{live_tables}
-use Rattle.fmp_seen.specs.Seen.{Adds}
+use Rattle.fmp_visited.specs.Seen.{Adds}
 use Rattle.fmp_explore.proofs.SurveyLemmas.{adds_known, adds_new, adds_none, keeps_known, keeps_new, keeps_none, row_of_kernel}
 use Rattle.fmp_explore.proofs.survey.Survey.keep.Goals as goal
 
