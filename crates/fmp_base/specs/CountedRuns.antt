@@ -6,7 +6,7 @@ use Rattle.fmp_base.specs.declared.events.Event.{Event}
 use Rattle.fmp_base.specs.declared.events.Line.{Line}
 use Rattle.fmp_base.specs.declared.states.Caller.{Caller}
 use Rattle.fmp_base.specs.declared.states.Caller.TheVariants as caller
-use Rattle.fmp_base.specs.Counted.{Counted, fresh, counted_ending, counted, OnceMore}
+use Rattle.fmp_base.specs.KeptTimes.{KeptTimes, fresh, counted_ending, counted, OnceMore}
 use Rattle.fmp_base.specs.Finishes.{ended_in, Finishes, over, did, did_nothing, kept}
 use Rattle.fmp_base.specs.declared.bodies.HandlerContext.{HandlerContext}
 use Rattle.fmp_base.specs.declared.bodies.Held.{Held}
@@ -58,7 +58,7 @@ with_context_left sys R a b p (caller.Handler i) c h k =
     }
 
 module _ {C : Type 0} (sys : SystemTables) (M : Meaning C) (n size t : ℕ) where
-  abbrev pub Same : ℕ → Counted C → C → Type 0
+  abbrev pub Same : ℕ → KeptTimes C → C → Type 0
   Same body x c = x.context ≡ c
 
   abbrev pub Whatever : ℕ → C → C → Type 0
@@ -85,21 +85,21 @@ module _ {C : Type 0} (sys : SystemTables) (M : Meaning C) (n size t : ℕ) wher
       }
 
   -- the same lines, and the same state at the end, as a complete run over plain contexts
-  pub record Plainly (w : World C) (ds : List Event) (r : Trace (Counted C)) : Type 0 where
+  pub record Plainly (w : World C) (ds : List Event) (r : Trace (KeptTimes C)) : Type 0 where
     pub trace : Trace C
     pub complete : complete_run sys M t w ds ≡ Some trace
     pub events : r.events ≡ trace.events
     pub state : r.world.state ≡ trace.world.state
 
-  held_next : (body : ℕ) (c next : Counted C) (o : Option (Held C)) → next.context ≡ c.context
+  held_next : (body : ℕ) (c next : KeptTimes C) (o : Option (Held C)) → next.context ≡ c.context
       → OptionTied (HeldTied Same Same body) (Some (Goes c)) o
       → OptionTied (HeldTied Same Same body) (Some (Goes next)) o
   held_next body c next None e h = absurd h
   held_next body c next (Some (Awaits d)) e h = absurd h
   held_next body c next (Some (Goes d)) e h = e ∙ h
 
-  did_plainly : (w : World C) (e : Event) (ds : List Event) (d : Done (Counted C)) (r : Trace (Counted C))
-      (v : World (Counted C)) (y : Reaction C)
+  did_plainly : (w : World C) (e : Event) (ds : List Event) (d : Done (KeptTimes C)) (r : Trace (KeptTimes C))
+      (v : World (KeptTimes C)) (y : Reaction C)
       → step sys M t w e ≡ y → DoneTied sys Same Same (KeptOn sys Same Same Whatever w e) (Did d) y
       → ((w' : World C) → WorldTied sys Same Same d.world w' → Plainly w' ds r)
       → Plainly w (e ∷ ds) (after_first d.lines r)
@@ -115,13 +115,13 @@ module _ {C : Type 0} (sys : SystemTables) (M : Meaning C) (n size t : ℕ) wher
         state = l.state;
       }
 
-  pub plainly : (v : World (Counted C)) (es : List Event) (xs : List Effect) (ds : List Event) (r : Trace (Counted C))
+  pub plainly : (v : World (KeptTimes C)) (es : List Event) (xs : List Effect) (ds : List Event) (r : Trace (KeptTimes C))
       → Finishes sys (counted M) (OnceMore M n size) t v es xs ds r
       → (w : World C) → WorldTied sys Same Same v w → Plainly w ds r
   plainly _ _ _ _ _ (over v) w h = record { trace = ended_in w; complete = refl; events = refl; state = h.states }
   plainly _ _ _ _ _ (did v e es xs ds d r p f) w h =
       did_plainly w e ds d r v (step sys M t w e) refl
-      (subst (λ (x : Reaction (Counted C)). DoneTied sys Same Same (KeptOn sys Same Same Whatever w e) x
+      (subst (λ (x : Reaction (KeptTimes C)). DoneTied sys Same Same (KeptOn sys Same Same Whatever w e) x
       (step sys M t w e)) p
       (step-tied sys Same (counted M) t M t keeps_same v w e h))
       (λ w' h'. plainly d.world es xs ds r f w' h')
@@ -133,7 +133,7 @@ module _ {C : Type 0} (sys : SystemTables) (M : Meaning C) (n size t : ℕ) wher
         states = h.states;
         contexts = with_context_left sys (HeldTied Same Same) v.contexts w.contexts p who (Goes next) h.contexts
             (held_next body c next (context_of w.contexts p who) leads.context
-            (subst (λ (o : Option (Held (Counted C))). OptionTied (HeldTied Same Same body) o
+            (subst (λ (o : Option (Held (KeptTimes C))). OptionTied (HeldTied Same Same body) o
             (context_of w.contexts p who)) there
             (context_of-tied sys (HeldTied Same Same) v.contexts w.contexts p who h.contexts)));
       })

@@ -3,7 +3,7 @@ use Rattle.std.specs.Prelude.{ℕ, ◌+◌, ◌*◌, ◌≤◌, ◌≡◌, refl,
 use Rattle.std.proofs.Common.{sym, ◌∙◌, arith}
 use Rattle.fmp_base.specs.declared.events.Effect.{Effect}
 use Rattle.fmp_base.specs.declared.events.Event.{Event}
-use Rattle.fmp_base.specs.Counted.{Counted, counted, OnceMore, AtCall, After, counted_begins, counted_keeps, nothing_text}
+use Rattle.fmp_base.specs.KeptTimes.{KeptTimes, counted, OnceMore, AtCall, After, counted_begins, counted_keeps, nothing_text}
 use Rattle.fmp_base.specs.CountedRuns.{Same, keeps_same, plainly}
 use Rattle.fmp_base.specs.Finishes.{Finishes, IsComplete}
 use Rattle.fmp_base.specs.FinishLaws.{finished-like, done_events-first, IsComplete-agrees}
@@ -25,7 +25,7 @@ use Rattle.fmp_base.specs.Ties.{StretchTied, over, kept, call, end_, fault, Any,
 -- are the first k that are finished.
 pub record IsFinished {C : Type 0} (sys : SystemTables) (M : Meaning C) (n size : ℕ) (es : List Event)
     (xs : List Effect) (ds : List Event) (r : Trace C) : Type 0 where
-  pub counted_trace : Trace (Counted C)
+  pub counted_trace : Trace (KeptTimes C)
   pub each : Finishes sys (counted M) (OnceMore M n size) (n * length es) (setup sys (counted M)).world es xs ds
       counted_trace
   pub complete : complete_run sys M (n * length es) (setup sys M).world ds ≡ Some r

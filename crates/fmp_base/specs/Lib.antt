@@ -3,7 +3,6 @@ pub mod Calls
 pub mod Changes
 pub mod Codes
 pub mod Contexts
-pub mod Counted
 pub mod CountedRuns
 pub mod DataQueueCalls
 pub mod Deliveries
@@ -12,6 +11,7 @@ pub mod Finishes
 pub mod FlagCalls
 pub mod KeptRuns
 pub mod KeptTies
+pub mod KeptTimes
 pub mod Links
 pub mod MailboxCalls
 pub mod Meanings

@@ -2,7 +2,7 @@
 use Rattle.std.proofs.Common.{◌≡◌, refl, ℕ, ◌*◌, ◌≤◌, List, ◌++◌, ap, sym, ◌∙◌}
 use Rattle.fmp_base.specs.declared.events.Event.{Event}
 use Rattle.fmp_base.specs.declared.events.Line.{Line}
-use Rattle.fmp_base.specs.Counted.{counted, After, counted_begins}
+use Rattle.fmp_base.specs.KeptTimes.{counted, After, counted_begins}
 use Rattle.fmp_base.specs.CountedRuns.{Same, keeps_same}
 use Rattle.fmp_base.specs.KeptRuns.{kept_run}
 use Rattle.fmp_base.specs.Meanings.{Meaning}

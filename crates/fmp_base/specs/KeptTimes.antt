@@ -10,14 +10,14 @@ use Rattle.fmp_base.specs.NothingLaws.{Never, hands_over}
 use Rattle.fmp_base.specs.KeptTies.{Handed, Follows, KeptTied, not_kept, kept_again, kept_ends_within, ended_too, kept_few}
 
 -- the context in which a stretch begins, and how often it has been kept since
-pub record Counted (C : Type 0) : Type 0 where
+pub record KeptTimes (C : Type 0) : Type 0 where
   pub context : C
   pub times : ℕ
 
-abbrev pub fresh : {C : Type 0} → C → Counted C
+abbrev pub fresh : {C : Type 0} → C → KeptTimes C
 fresh c = record { context = c; times = 0 }
 
-abbrev pub counted_ending : {C : Type 0} → Ending C → Ending (Counted C)
+abbrev pub counted_ending : {C : Type 0} → Ending C → Ending (KeptTimes C)
 counted_ending (ends.Call c made) = ends.Call (fresh c) made
 counted_ending (ends.End c) = ends.End (fresh c)
 counted_ending (ends.Fault c f) = ends.Fault (fresh c) f
@@ -25,7 +25,7 @@ counted_ending (ends.Over None) = ends.Over None
 counted_ending (ends.Over (Some c)) = ends.Over (Some (fresh c))
 
 -- the same bodies, with contexts that count
-abbrev pub counted : {C : Type 0} → Meaning C → Meaning (Counted C)
+abbrev pub counted : {C : Type 0} → Meaning C → Meaning (KeptTimes C)
 counted M =
     record {
       start = λ body exinf. fresh (M.start body exinf);
@@ -35,7 +35,7 @@ counted M =
 
 -- kept once more, by stretches of n units: a stretch that ends within t turns is kept j times only with
 -- n * j < (t + 1) * size
-pub record OnceMore {C : Type 0} (M : Meaning C) (n size : ℕ) (body : ℕ) (c e : Counted C) : Type 0 where
+pub record OnceMore {C : Type 0} (M : Meaning C) (n size : ℕ) (body : ℕ) (c e : KeptTimes C) : Type 0 where
   pub context : e.context ≡ c.context
   pub times : e.times ≡ c.times + 1
   pub few : (t : ℕ) → is_over (M.stretch body t c.context) ≡ false → n * e.times < (t + 1) * size
@@ -43,11 +43,11 @@ pub record OnceMore {C : Type 0} (M : Meaning C) (n size : ℕ) (body : ℕ) (c 
 module _ {C D : Type 0} (R S : ℕ → C → D → Type 0) (N : Meaning C) (M : Meaning D) (size : ℕ)
     (f : Follows R S N M size) (n q : ℕ) (one : 1 ≤ n) where
   -- the contexts of a call
-  abbrev pub AtCall : ℕ → C → Counted D → Type 0
+  abbrev pub AtCall : ℕ → C → KeptTimes D → Type 0
   AtCall body c d = R body c d.context
 
   -- after i events nothing has been kept more often than i times
-  pub record After (i body : ℕ) (k : C) (d : Counted D) : Type 0 where
+  pub record After (i body : ℕ) (k : C) (d : KeptTimes D) : Type 0 where
     pub times : d.times ≤ i
     pub behind : KeptTied R S N M size f body (n * d.times) k d.context
 
@@ -67,9 +67,9 @@ module _ {C D : Type 0} (R S : ℕ → C → D → Type 0) (N : Meaning C) (M : 
   alike K body _ _ e (end_ c d h) = end_ c (fresh d) tt
   alike K body _ _ e (fault c d w h) = fault c (fresh d) w tt
 
-  ends_so : (i body : ℕ) (k : C) (d : Counted D) (x : Ending C) (y : Ending D) → N.stretch body n k ≡ x
+  ends_so : (i body : ℕ) (k : C) (d : KeptTimes D) (x : Ending C) (y : Ending D) → N.stretch body n k ≡ x
       → After i body k d → (is_over x ≡ false → StretchTied (R body) (S body) Handed x y)
-      → StretchTied (AtCall body) Any (λ k'. (e : Counted D) × OnceMore M n size body d e × After (suc i) body k' e) x
+      → StretchTied (AtCall body) Any (λ k'. (e : KeptTimes D) × OnceMore M n size body d e × After (suc i) body k' e) x
       (counted_ending y)
   ends_so i body k d (ends.Over None) y p h t = over (counted_ending y)
   ends_so i body k d (ends.Over (Some k')) y p h t =
@@ -162,7 +162,7 @@ module _ {C D : Type 0} (R S : ℕ → C → D → Type 0) (N : Meaning C) (M : 
   by_over x (ends.End d) none ended = ended refl
   by_over x (ends.Fault d w) none ended = ended refl
 
-  pub nothing_text : (i t body : ℕ) (k : C) (d : Counted D) → After i body k d → hands_over (N.stretch body n k) ≡ false
+  pub nothing_text : (i t body : ℕ) (k : C) (d : KeptTimes D) → After i body k d → hands_over (N.stretch body n k) ≡ false
       → StretchTied Any Any Never (counted_ending (M.stretch body t d.context)) (N.stretch body n k)
   nothing_text i t body k d h free =
       let m = n * d.times in
