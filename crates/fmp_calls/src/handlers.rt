@@ -13,10 +13,10 @@ use fmp_base::{Answer, Call, Line};
 use fmp_migrate::{iact_tsk, irot_rdq, iwup_tsk, rel_wai};
 use fmp_objects::{set_flg, sig_sem};
 use fmp_objects_queues::{fsnd_dtq, psnd_dtq};
-use fmp_tasks::Tables;
+use fmp_tasks::KernelState;
 
 /// A call for handlers, on processor p, for every caller.
-pub fn handler_call(tables: &mut Tables, lines: &mut Vec<Line>, p: u8, made: &Call) -> Answer
+pub fn handler_call(tables: &mut KernelState, lines: &mut Vec<Line>, p: u8, made: &Call) -> Answer
     requires group { group_of (service_of made.now) ≡ ServiceGroup.Handlers }
     requires processor { p < tables.old.system.processors }
     requires range { IsInRange tables.old.system }

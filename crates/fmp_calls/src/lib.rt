@@ -24,7 +24,7 @@ use crate::processors::processor_call;
 use crate::queues::queue_call;
 use crate::synchronization::synchronization_call;
 use fmp_base::{Answer, Call, Caller, Er, Line};
-use fmp_tasks::Tables;
+use fmp_tasks::KernelState;
 use fmp_tasks::answers::replied;
 
 mod context;
@@ -40,7 +40,13 @@ mod synchronization;
 pub use context::is_cpu_locked;
 
 /// The case of a call that task me, which processor p runs, may make.
-fn case_of_task(tables: &mut Tables, lines: &mut Vec<Line>, p: u8, me: u8, made: &Call) -> Answer
+fn case_of_task(
+    tables: &mut KernelState,
+    lines: &mut Vec<Line>,
+    p: u8,
+    me: u8,
+    made: &Call,
+) -> Answer
     requires group { IsForTasks (group_of (service_of made.now)) }
     requires caller { me < length tables.old.system.tasks }
     requires processor { p < tables.old.system.processors }
@@ -63,7 +69,7 @@ fn case_of_task(tables: &mut Tables, lines: &mut Vec<Line>, p: u8, me: u8, made:
 }
 
 /// The case of a call that a handler on processor p may make.
-fn case_of_handler(tables: &mut Tables, lines: &mut Vec<Line>, p: u8, made: &Call) -> Answer
+fn case_of_handler(tables: &mut KernelState, lines: &mut Vec<Line>, p: u8, made: &Call) -> Answer
     requires group { IsForHandlers (group_of (service_of made.now)) }
     requires processor { p < tables.old.system.processors }
     requires range { IsInRange tables.old.system }
@@ -83,7 +89,7 @@ fn case_of_handler(tables: &mut Tables, lines: &mut Vec<Line>, p: u8, made: &Cal
 /// The case of a call that its caller on processor p may make.
 #[tactic(auto, using(crate::proofs::GroupLemmas::handlers_call, crate::proofs::GroupLemmas::tasks_call))]
 fn permitted_call(
-    tables: &mut Tables,
+    tables: &mut KernelState,
     lines: &mut Vec<Line>,
     p: u8,
     who: Caller,
@@ -108,7 +114,13 @@ fn permitted_call(
 
 /// Carries out a call of this caller on processor p. The lines of its effects are added to those that are given.
 #[inline(always)]
-pub fn call(tables: &mut Tables, lines: &mut Vec<Line>, p: u8, who: Caller, made: &Call) -> Answer
+pub fn call(
+    tables: &mut KernelState,
+    lines: &mut Vec<Line>,
+    p: u8,
+    who: Caller,
+    made: &Call,
+) -> Answer
     requires caller { IsTaskOf tables.old.system who }
     requires processor { p < tables.old.system.processors }
     requires range { IsInRange tables.old.system }

@@ -13,11 +13,11 @@ use fmp_migrate::{
     act_tsk, can_act, chg_pri, ext_tsk, get_pri, get_tid, mact_tsk, mig_tsk, mrot_rdq, rot_rdq,
     ter_tsk,
 };
-use fmp_tasks::Tables;
+use fmp_tasks::KernelState;
 
 /// A call by task me, which processor p runs, that manages tasks.
 pub fn management_call(
-    tables: &mut Tables,
+    tables: &mut KernelState,
     lines: &mut Vec<Line>,
     p: u8,
     me: u8,

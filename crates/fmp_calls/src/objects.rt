@@ -10,10 +10,10 @@ ghost use Rattle.fmp_tasks.specs.Tables.{outcome, SameShape};
 use crate::groups::ServiceGroup;
 use fmp_base::{Answer, Call, Line, TimeLimit};
 use fmp_objects::{clr_flg, set_flg, sig_sem, twai_flg, twai_sem, wai_flg, wai_sem};
-use fmp_tasks::Tables;
+use fmp_tasks::KernelState;
 
 /// A call by task me on a semaphore or an eventflag.
-pub fn object_call(tables: &mut Tables, lines: &mut Vec<Line>, me: u8, made: &Call) -> Answer
+pub fn object_call(tables: &mut KernelState, lines: &mut Vec<Line>, me: u8, made: &Call) -> Answer
     requires group { group_of (service_of made.now) ≡ ServiceGroup.Objects }
     requires caller { me < length tables.old.system.tasks }
     requires lines { AreEmptyWithRoom 1 lines.old }

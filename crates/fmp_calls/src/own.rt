@@ -9,11 +9,11 @@ ghost use Rattle.fmp_tasks.specs.Tables.{outcome, SameShape};
 use crate::groups::ServiceGroup;
 use fmp_base::{Answer, Call, Er};
 use fmp_objects::{ld_shr, st_shr};
-use fmp_tasks::Tables;
+use fmp_tasks::KernelState;
 use fmp_tasks::answers::replied;
 
 /// A call of this kernel's own.
-pub fn own_call(tables: &mut Tables, made: &Call) -> Answer
+pub fn own_call(tables: &mut KernelState, made: &Call) -> Answer
     requires { group_of (service_of made.now) ≡ ServiceGroup.Own }
     ensures outcome { (p me : ℕ) (x : TaskBlock)
         → outcome result tables.new [] ≡ case_of tables.old.system tables.old.state p me x made.now }

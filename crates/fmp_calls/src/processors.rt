@@ -11,12 +11,12 @@ ghost use Rattle.fmp_tasks.specs.Tables.{outcome, SameShape};
 use crate::groups::ServiceGroup;
 use fmp_base::arguments::numbered;
 use fmp_base::{Answer, Call, Er};
-use fmp_tasks::Tables;
+use fmp_tasks::KernelState;
 use fmp_tasks::answers::replied;
 
 /// `sta_cyc`: a cyclic handler is due anew, one period and a tick from now. E_ID if the number names none; nothing
 /// changes then.
-fn sta_cyc(tables: &mut Tables, cyclic: i32) -> Answer
+fn sta_cyc(tables: &mut KernelState, cyclic: i32) -> Answer
     ensures outcome { outcome result tables.new [] ≡ calls.sta_cyc tables.old.system tables.old.state cyclic }
     ensures shape { SameShape tables.old tables.new }
 {
@@ -30,7 +30,7 @@ fn sta_cyc(tables: &mut Tables, cyclic: i32) -> Answer
 
 /// `stp_cyc`: a cyclic handler is no longer due; if it is pending it stays so. E_ID if the number names none; nothing
 /// changes then.
-fn stp_cyc(tables: &mut Tables, cyclic: i32) -> Answer
+fn stp_cyc(tables: &mut KernelState, cyclic: i32) -> Answer
     ensures outcome { outcome result tables.new [] ≡ calls.stp_cyc tables.old.state cyclic }
     ensures shape { SameShape tables.old tables.new }
 {
@@ -42,7 +42,7 @@ fn stp_cyc(tables: &mut Tables, cyclic: i32) -> Answer
 }
 
 /// A call on a cyclic handler or on the state of processor p.
-pub fn processor_call(tables: &mut Tables, p: u8, made: &Call) -> Answer
+pub fn processor_call(tables: &mut KernelState, p: u8, made: &Call) -> Answer
     requires group { group_of (service_of made.now) ≡ ServiceGroup.Processors }
     ensures outcome { (me : ℕ) (x : TaskBlock)
         → outcome result tables.new [] ≡ case_of tables.old.system tables.old.state p me x made.now }

@@ -12,10 +12,10 @@ use fmp_base::{Answer, Call, Line, TimeLimit};
 use fmp_objects_queues::{
     fsnd_dtq, rcv_dtq, rcv_mbx, snd_dtq, snd_mbx, trcv_dtq, trcv_mbx, tsnd_dtq,
 };
-use fmp_tasks::Tables;
+use fmp_tasks::KernelState;
 
 /// A call by task me on a data queue or a mailbox.
-pub fn queue_call(tables: &mut Tables, lines: &mut Vec<Line>, me: u8, made: &Call) -> Answer
+pub fn queue_call(tables: &mut KernelState, lines: &mut Vec<Line>, me: u8, made: &Call) -> Answer
     requires group { group_of (service_of made.now) ≡ ServiceGroup.Queues }
     requires caller { me < length tables.old.system.tasks }
     requires lines { AreEmptyWithRoom 1 lines.old }

@@ -10,11 +10,11 @@ ghost use Rattle.fmp_tasks.specs.Tables.{outcome, SameShape};
 use crate::groups::ServiceGroup;
 use fmp_base::{Answer, Call, Line};
 use fmp_migrate::{can_wup, dly_tsk, rel_wai, rsm_tsk, slp_tsk, sus_tsk, tslp_tsk, wup_tsk};
-use fmp_tasks::Tables;
+use fmp_tasks::KernelState;
 
 /// A call by task me for sleep, wakeup, suspension or delay.
 pub fn synchronization_call(
-    tables: &mut Tables,
+    tables: &mut KernelState,
     lines: &mut Vec<Line>,
     me: u8,
     made: &Call,

@@ -10,7 +10,7 @@ ghost use Rattle.fmp_worlds.specs.Settled.{IsThere};
 
 use crate::kept::{self, Kept};
 use fmp_base::{Body, Caller, Entry, HandlerContext, Held, Reply, Stop, System};
-use fmp_tasks::Tables;
+use fmp_tasks::KernelState;
 use std::alloc::{AllocError, Global};
 use std::marker::Model;
 
@@ -71,7 +71,7 @@ pub fn body_number(entry: Entry) -> u8
 }
 
 /// A fresh context of task t.
-pub fn fresh_context<B: Body>(body: &B, tables: &Tables, t: u8) -> B::Ctx
+pub fn fresh_context<B: Body>(body: &B, tables: &KernelState, t: u8) -> B::Ctx
     requires there { t < length tables.now.system.tasks }
     requires entries { Entered B.has_entry body.now tables.now.system }
     ensures value { result

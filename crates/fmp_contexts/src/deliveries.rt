@@ -7,11 +7,11 @@ ghost use Rattle.fmp_contexts.specs.Contexts.{Entered, Fitting, HasPlaces};
 
 use crate::contexts::{self, BodyContexts, body_number, fresh_context};
 use fmp_base::{Body, Caller, Handler, HandlerStart, Line, Reply};
-use fmp_tasks::Tables;
+use fmp_tasks::KernelState;
 
 /// How a handler begins, where the system has it.
 #[tactic(auto, using(crate::proofs::RangeLemmas::no_interrupt_beyond))]
-pub fn handler_start(tables: &Tables, h: Handler) -> Option<HandlerStart>
+pub fn handler_start(tables: &KernelState, h: Handler) -> Option<HandlerStart>
     requires { IsInRange tables.now.system }
     ensures { result ≡ start_of_handler tables.now.system h }
 {
@@ -40,7 +40,7 @@ pub fn handler_start(tables: &Tables, h: Handler) -> Option<HandlerStart>
 }
 
 /// The number of the body of the caller on processor p.
-pub fn entry_of<C: Copy>(tables: &Tables, contexts: &BodyContexts<C>, p: u8, who: Caller) -> u8
+pub fn entry_of<C: Copy>(tables: &KernelState, contexts: &BodyContexts<C>, p: u8, who: Caller) -> u8
     requires { HasPlaces tables.now.system contexts.now }
     ensures { result ≡ caller_body tables.now.system contexts.now p who }
 {
@@ -55,7 +55,7 @@ pub fn entry_of<C: Copy>(tables: &Tables, contexts: &BodyContexts<C>, p: u8, who
 
 /// Task t has a fresh context.
 #[tactic(auto, using(crate::proofs::ContextLemmas::fitting_task))]
-fn begin_task<B: Body>(body: &B, tables: &Tables, contexts: &mut BodyContexts<B::Ctx>, t: u8)
+fn begin_task<B: Body>(body: &B, tables: &KernelState, contexts: &mut BodyContexts<B::Ctx>, t: u8)
     requires places { HasPlaces tables.now.system contexts.old }
     requires entries { Entered B.has_entry body.now tables.now.system }
     requires contexts { Fitting B.has_entry B.is_context body.now tables.now.system contexts.old }
@@ -72,7 +72,7 @@ fn begin_task<B: Body>(body: &B, tables: &Tables, contexts: &mut BodyContexts<B:
 #[tactic(auto, using(crate::proofs::ContextLemmas::fitting_handler))]
 fn begin_handler<B: Body>(
     body: &B,
-    tables: &Tables,
+    tables: &KernelState,
     contexts: &mut BodyContexts<B::Ctx>,
     p: u8,
     h: Handler,
@@ -96,7 +96,7 @@ fn begin_handler<B: Body>(
 #[tactic(auto, using(crate::proofs::ContextLemmas::fitting_handler, crate::proofs::ContextLemmas::places_ended))]
 pub fn end_context<B: Body>(
     body: &B,
-    tables: &Tables,
+    tables: &KernelState,
     contexts: &mut BodyContexts<B::Ctx>,
     p: u8,
     who: Caller,
@@ -120,7 +120,7 @@ pub fn end_context<B: Body>(
 #[inline(always)]
 fn tell<B: Body>(
     body: &B,
-    tables: &Tables,
+    tables: &KernelState,
     contexts: &mut BodyContexts<B::Ctx>,
     p: u8,
     who: Caller,
@@ -137,7 +137,7 @@ fn tell<B: Body>(
 }
 
 /// The contexts after what a line tells.
-fn follow<B: Body>(body: &B, tables: &Tables, contexts: &mut BodyContexts<B::Ctx>, line: &Line)
+fn follow<B: Body>(body: &B, tables: &KernelState, contexts: &mut BodyContexts<B::Ctx>, line: &Line)
     requires range { IsInRange tables.now.system }
     requires places { HasPlaces tables.now.system contexts.old }
     requires entries { Entered B.has_entry body.now tables.now.system }
@@ -170,7 +170,7 @@ fn follow<B: Body>(body: &B, tables: &Tables, contexts: &mut BodyContexts<B::Ctx
 /// released task are told their replies.
 pub fn carry_out<B: Body>(
     body: &B,
-    tables: &Tables,
+    tables: &KernelState,
     contexts: &mut BodyContexts<B::Ctx>,
     lines: &Vec<Line>,
 )

@@ -8,7 +8,7 @@ ghost use Rattle.fmp_tasks.specs.Homes.{is_waiting as is_waiting_phase};
 use crate::contexts::{BodyContexts, body_number};
 use crate::deliveries::handler_start;
 use fmp_base::{Body, Handler, Phase};
-use fmp_tasks::Tables;
+use fmp_tasks::KernelState;
 
 /// Tells the contexts of bodies from other values.
 pub trait ContextTest<B: Body> {
@@ -42,7 +42,7 @@ fn awaits_reply(phase: Phase) -> bool
 fn restore_task<B: Body, T: ContextTest<B>>(
     test: &T,
     body: &B,
-    tables: &Tables,
+    tables: &KernelState,
     contexts: &mut BodyContexts<B::Ctx>,
     t: u8,
     context: &B::Ctx,
@@ -67,7 +67,7 @@ fn restore_task<B: Body, T: ContextTest<B>>(
 fn restore_tasks<B: Body, T: ContextTest<B>>(
     test: &T,
     body: &B,
-    tables: &Tables,
+    tables: &KernelState,
     contexts: &mut BodyContexts<B::Ctx>,
     saved: &[Option<B::Ctx>],
 ) -> bool
@@ -95,7 +95,7 @@ fn restore_tasks<B: Body, T: ContextTest<B>>(
 fn restore_handler<B: Body, T: ContextTest<B>>(
     test: &T,
     body: &B,
-    tables: &Tables,
+    tables: &KernelState,
     contexts: &mut BodyContexts<B::Ctx>,
     p: u8,
     h: Handler,
@@ -125,7 +125,7 @@ fn restore_handler<B: Body, T: ContextTest<B>>(
 fn restore_on<B: Body, T: ContextTest<B>>(
     test: &T,
     body: &B,
-    tables: &Tables,
+    tables: &KernelState,
     contexts: &mut BodyContexts<B::Ctx>,
     p: u8,
     saved: &Option<B::Ctx>,
@@ -155,7 +155,7 @@ fn restore_on<B: Body, T: ContextTest<B>>(
 fn restore_handlers<B: Body, T: ContextTest<B>>(
     test: &T,
     body: &B,
-    tables: &Tables,
+    tables: &KernelState,
     contexts: &mut BodyContexts<B::Ctx>,
     saved: &[Option<B::Ctx>],
 ) -> bool
@@ -183,7 +183,7 @@ fn restore_handlers<B: Body, T: ContextTest<B>>(
 pub fn restore_contexts<B: Body, T: ContextTest<B>>(
     test: &T,
     body: &B,
-    tables: &Tables,
+    tables: &KernelState,
     contexts: &mut BodyContexts<B::Ctx>,
     saved: &SavedContexts<B::Ctx>,
 ) -> bool

@@ -19,13 +19,13 @@ use fmp_instructions::MachineContext;
 use fmp_kernel::Kernel;
 use fmp_live::LiveLocals;
 use fmp_reachable::numbers::unsigned;
-use fmp_tasks::Tables;
+use fmp_tasks::KernelState;
 
 /// The handler that a processor runs, whichever it is: what is kept of it goes by its processor.
 const ITS_HANDLER: Caller = Caller::Handler(Handler::Cyclic(0));
 
 /// Whether there is such a task, and it is started.
-fn is_started(tables: &Tables, t: u8) -> bool
+fn is_started(tables: &KernelState, t: u8) -> bool
     ensures started { result ≡ not (is_dormant (task_at tables.now.state.tasks t).phase) }
     ensures there { IsTrue result → t < length tables.now.system.tasks }
 {

@@ -16,13 +16,13 @@ use fmp_base::Body;
 use fmp_instructions::MachineContext;
 use fmp_kernel::Kernel;
 use fmp_live::LiveLocals;
-use fmp_tasks::Tables;
+use fmp_tasks::KernelState;
 use std::alloc::AllocError;
 
 /// Writes the values of the fields from a place on that the block of a task tells. Gives the place behind them; `None`
 /// if a time is too far ahead.
 fn read_block(
-    tables: &Tables,
+    tables: &KernelState,
     t: u8,
     fields: &[What],
     start: usize,
@@ -82,7 +82,7 @@ fn read_body<B: Body<Ctx = MachineContext>>(
 /// Writes the values of the fields from a place on that are of no block and no body, where this many interrupts came.
 /// Gives the place behind them; `None` if a time is too far ahead.
 fn read_objects(
-    tables: &Tables,
+    tables: &KernelState,
     came: usize,
     fields: &[What],
     start: usize,

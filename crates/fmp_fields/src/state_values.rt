@@ -14,10 +14,10 @@ use fmp_reachable::numbers::{
     bit, cyclic_of, interrupt_of, lock_number, phase_kind, place, ticks_to, unsigned, wait_object,
     wait_value,
 };
-use fmp_tasks::Tables;
+use fmp_tasks::KernelState;
 
 /// The task at a place; a dormant one if there is none.
-pub fn task(tables: &Tables, t: u8) -> TaskBlock
+pub fn task(tables: &KernelState, t: u8) -> TaskBlock
     ensures { result ≡ task_at tables.now.state.tasks t }
 {
     if usize::from(t) < tables.task_count() {
@@ -36,7 +36,7 @@ pub fn task(tables: &Tables, t: u8) -> TaskBlock
 }
 
 /// The processor at a place; one on which nothing runs if there is none.
-fn processor(tables: &Tables, p: u8) -> Processor
+fn processor(tables: &KernelState, p: u8) -> Processor
     ensures { result ≡ processor_at tables.now.state p }
 {
     if usize::from(p) < tables.processor_count() {
@@ -51,7 +51,7 @@ fn processor(tables: &Tables, p: u8) -> Processor
 }
 
 /// The count of a semaphore; 0 if there is no such one.
-fn count(tables: &Tables, s: u8) -> u32
+fn count(tables: &KernelState, s: u8) -> u32
     ensures { result ≡ get_or tables.now.state.semaphores s 0 }
 {
     if usize::from(s) < tables.semaphore_count() {
@@ -62,7 +62,7 @@ fn count(tables: &Tables, s: u8) -> u32
 }
 
 /// The pattern of an eventflag; 0 if there is no such one.
-fn pattern(tables: &Tables, f: u8) -> u32
+fn pattern(tables: &KernelState, f: u8) -> u32
     ensures { result ≡ get_or tables.now.state.flags f 0 }
 {
     if usize::from(f) < tables.flag_count() {
@@ -73,7 +73,7 @@ fn pattern(tables: &Tables, f: u8) -> u32
 }
 
 /// How many words a data queue holds; none if there is no such one.
-fn words(tables: &Tables, d: u8) -> u32
+fn words(tables: &KernelState, d: u8) -> u32
     ensures { result ≡ length (get_or tables.now.state.data_queues d []) }
 {
     if usize::from(d) < tables.data_queue_count() {
@@ -85,7 +85,7 @@ fn words(tables: &Tables, d: u8) -> u32
 
 /// The word at a place of a data queue; 0 if there is no such one.
 #[tactic(auto, using(crate::proofs::WordLaws::word_read))]
-fn word(tables: &Tables, d: u8, i: u8) -> i32
+fn word(tables: &KernelState, d: u8, i: u8) -> i32
     ensures { result ≡ get_or (get_or tables.now.state.data_queues d []) i (pos 0) }
 {
     if usize::from(d) >= tables.data_queue_count() {
@@ -98,7 +98,7 @@ fn word(tables: &Tables, d: u8, i: u8) -> i32
 }
 
 /// The first message of a mailbox, if there is one.
-fn first_message(tables: &Tables, x: u8) -> Option<u8>
+fn first_message(tables: &KernelState, x: u8) -> Option<u8>
     ensures { result ≡ first_of (mailbox_at tables.now.state x) }
 {
     if usize::from(x) < tables.mailbox_count() {
@@ -109,7 +109,7 @@ fn first_message(tables: &Tables, x: u8) -> Option<u8>
 }
 
 /// A shared word; 0 if there is no such one.
-fn shared_word(tables: &Tables, w: u8) -> i32
+fn shared_word(tables: &KernelState, w: u8) -> i32
     ensures { result ≡ get_or tables.now.state.shared_words w (pos 0) }
 {
     if usize::from(w) < tables.shared_word_count() {
@@ -120,7 +120,7 @@ fn shared_word(tables: &Tables, w: u8) -> i32
 }
 
 /// The clock at which a cyclic handler is due, if there is one and it is started.
-fn due_time(tables: &Tables, c: u8) -> Option<u32>
+fn due_time(tables: &KernelState, c: u8) -> Option<u32>
     ensures { result ≡ due_at tables.now.state c }
 {
     if usize::from(c) < tables.cyclic_count() {
@@ -131,14 +131,14 @@ fn due_time(tables: &Tables, c: u8) -> Option<u32>
 }
 
 /// Whether a cyclic handler is pending.
-fn is_cyclic_pending(tables: &Tables, c: u8) -> bool
+fn is_cyclic_pending(tables: &KernelState, c: u8) -> bool
     ensures { result ≡ is_pending tables.now.state.pending_cyclics c }
 {
     usize::from(c) < tables.cyclic_count() && tables.is_cyclic_pending(c)
 }
 
 /// Whether the interrupt at a place is one, below 32, and pending.
-fn is_interrupt_pending(tables: &Tables, i: u8) -> bool
+fn is_interrupt_pending(tables: &KernelState, i: u8) -> bool
     ensures { result ≡ nat_lt i 32 && is_pending tables.now.state.pending_interrupts i }
 {
     i < 32 && tables.is_interrupt_pending(i)
@@ -167,7 +167,7 @@ pub fn block_value(clock: u32, block: &TaskBlock, what: What) -> Option<u32>
 
 /// A field that is of no block and no body, where this many interrupts came; 0 of one of a body. `None` if this is 2^32
 /// or more.
-pub fn object_value(tables: &Tables, came: usize, what: What) -> Option<u32>
+pub fn object_value(tables: &KernelState, came: usize, what: What) -> Option<u32>
     requires { task_by what ≡ None }
     ensures value { IfSome result (λ n. n ≡ state_number tables.now.system tables.now.state came what) }
     ensures far { IfNone result (2 ^ 32 ≤ state_number tables.now.system tables.now.state came what) }

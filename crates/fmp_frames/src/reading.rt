@@ -9,7 +9,7 @@ ghost use Rattle.fmp_frames.specs.Frames.{message_count, word_count};
 
 use fmp_base::{Processor, TaskBlock, TaskState};
 use fmp_kernel::{Body, Kernel};
-use fmp_tasks::Tables;
+use fmp_tasks::KernelState;
 use std::alloc::{AllocError, Global};
 
 /// The numbers of interrupts end here.
@@ -45,7 +45,7 @@ pub fn states<B: Body>(alloc: Global, kernel: &Kernel<B>) -> Result<Vec<TaskStat
 }
 
 /// What is kept of all tasks.
-pub fn blocks(alloc: Global, tables: &Tables) -> Result<Vec<TaskBlock>, AllocError>
+pub fn blocks(alloc: Global, tables: &KernelState) -> Result<Vec<TaskBlock>, AllocError>
     ensures { IfOk result (λ xs. xs.items ≡ spec.each (task_at tables.now.state.tasks)
         (length tables.now.system.tasks)) }
 {
@@ -53,7 +53,7 @@ pub fn blocks(alloc: Global, tables: &Tables) -> Result<Vec<TaskBlock>, AllocErr
 }
 
 /// All processors.
-pub fn processors(alloc: Global, tables: &Tables) -> Result<Vec<Processor>, AllocError>
+pub fn processors(alloc: Global, tables: &KernelState) -> Result<Vec<Processor>, AllocError>
     ensures { IfOk result (λ xs. xs.items ≡ spec.each (processor_at tables.now.state) tables.now.system.processors) }
 {
     each(
@@ -64,7 +64,7 @@ pub fn processors(alloc: Global, tables: &Tables) -> Result<Vec<Processor>, Allo
 }
 
 /// The count of each semaphore.
-pub fn semaphores(alloc: Global, tables: &Tables) -> Result<Vec<u16>, AllocError>
+pub fn semaphores(alloc: Global, tables: &KernelState) -> Result<Vec<u16>, AllocError>
     ensures { IfOk result (λ xs. xs.items ≡ spec.each (λ i. get_or tables.now.state.semaphores i 0)
         (length tables.now.system.semaphores)) }
 {
@@ -72,14 +72,14 @@ pub fn semaphores(alloc: Global, tables: &Tables) -> Result<Vec<u16>, AllocError
 }
 
 /// The pattern of each eventflag.
-pub fn flags(alloc: Global, tables: &Tables) -> Result<Vec<u16>, AllocError>
+pub fn flags(alloc: Global, tables: &KernelState) -> Result<Vec<u16>, AllocError>
     ensures { IfOk result (λ xs. xs.items ≡ spec.each (pattern_at tables.now.state) (length tables.now.system.flags)) }
 {
     each(alloc, tables.flag_count() as u8, |i| tables.pattern(i))
 }
 
 /// How many words each data queue holds.
-pub fn data_queues(alloc: Global, tables: &Tables) -> Result<Vec<u8>, AllocError>
+pub fn data_queues(alloc: Global, tables: &KernelState) -> Result<Vec<u8>, AllocError>
     ensures { IfOk result (λ xs. xs.items ≡ spec.each (word_count tables.now.state)
         (length tables.now.system.data_queues)) }
 {
@@ -91,7 +91,7 @@ pub fn data_queues(alloc: Global, tables: &Tables) -> Result<Vec<u8>, AllocError
 }
 
 /// How many messages are in each mailbox.
-pub fn mailboxes(alloc: Global, tables: &Tables) -> Result<Vec<u8>, AllocError>
+pub fn mailboxes(alloc: Global, tables: &KernelState) -> Result<Vec<u8>, AllocError>
     ensures { IfOk result (λ xs. xs.items ≡ spec.each (message_count tables.now.state)
         (length tables.now.system.mailboxes)) }
 {
@@ -103,7 +103,7 @@ pub fn mailboxes(alloc: Global, tables: &Tables) -> Result<Vec<u8>, AllocError>
 }
 
 /// The value of each shared word.
-pub fn shared_words(alloc: Global, tables: &Tables) -> Result<Vec<i32>, AllocError>
+pub fn shared_words(alloc: Global, tables: &KernelState) -> Result<Vec<i32>, AllocError>
     ensures { IfOk result (λ xs. xs.items ≡ spec.each (λ i. get_or tables.now.state.shared_words i (pos 0))
         (length tables.now.system.shared_words)) }
 {
@@ -115,7 +115,7 @@ pub fn shared_words(alloc: Global, tables: &Tables) -> Result<Vec<i32>, AllocErr
 }
 
 /// Whether each cyclic handler is pending.
-pub fn pending_cyclics(alloc: Global, tables: &Tables) -> Result<Vec<bool>, AllocError>
+pub fn pending_cyclics(alloc: Global, tables: &KernelState) -> Result<Vec<bool>, AllocError>
     ensures { IfOk result (λ xs. xs.items ≡ spec.each (is_pending tables.now.state.pending_cyclics)
         (length tables.now.system.cyclics)) }
 {
@@ -127,7 +127,7 @@ pub fn pending_cyclics(alloc: Global, tables: &Tables) -> Result<Vec<bool>, Allo
 }
 
 /// Whether the handler of each interrupt, from number 1 to 32, is pending.
-pub fn pending_interrupts(alloc: Global, tables: &Tables) -> Result<Vec<bool>, AllocError>
+pub fn pending_interrupts(alloc: Global, tables: &KernelState) -> Result<Vec<bool>, AllocError>
     ensures { IfOk result (λ xs. xs.items ≡ spec.each (is_pending tables.now.state.pending_interrupts) 32) }
 {
     each(alloc, INTERRUPTS, |i| tables.is_interrupt_pending(i))

@@ -4,7 +4,7 @@ ghost use Rattle.fmp_base.specs.States.{processor_at};
 ghost use Rattle.fmp_base.specs.Steps.{actor_of};
 
 use fmp_base::{Caller, Processor};
-use fmp_tasks::Tables;
+use fmp_tasks::KernelState;
 
 /// The actor of a processor: the number of its body, the context from which it goes on, and the stamp of the
 /// processor, which is another one after any event that may have changed the actor or its context.
@@ -29,7 +29,7 @@ fn acting_on(cpu: &Processor) -> Option<Caller>
 }
 
 /// The actor of processor p, if any.
-pub fn actor_on(tables: &Tables, p: u8) -> Option<Caller>
+pub fn actor_on(tables: &KernelState, p: u8) -> Option<Caller>
     ensures value { result ≡ actor_of (processor_at tables.now.state p) }
     ensures there { OnSome result (p < tables.now.system.processors) }
 {

@@ -25,10 +25,10 @@ use fmp_base::{
 use fmp_calls::call;
 use fmp_contexts::{end_context, entry_of, stretch};
 use fmp_migrate::end_itself;
-use fmp_tasks::Tables;
+use fmp_tasks::KernelState;
 
 /// The handler of processor p no longer runs.
-fn end_handler(tables: &mut Tables, p: u8)
+fn end_handler(tables: &mut KernelState, p: u8)
     requires { p < tables.old.system.processors }
     ensures { tables.new ≡ record tables.old { state = ended_handler tables.old.state p } }
 {

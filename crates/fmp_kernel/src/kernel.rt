@@ -21,7 +21,7 @@ use crate::stamps::{Stamps, run_place};
 use fmp_base::{
     Body, Caller, Effect, Event, HandlerContext, Held, Line, Stretch, System, TaskState,
 };
-use fmp_tasks::Tables;
+use fmp_tasks::KernelState;
 use std::alloc::{AllocError, Global};
 use std::marker::Model;
 use thiserror::Error;
@@ -130,8 +130,8 @@ impl<B: Body> Kernel<B> {
     }
 
     /// The tables of the system and the state of the kernel, as the last event that was done (or setup) left them: what
-    /// may be seen of them by the public calls of `Tables`, by places from 0.
-    pub fn tables(&self) -> &Tables
+    /// may be seen of them by the public calls of `KernelState`, by places from 0.
+    pub fn tables(&self) -> &KernelState
         ensures system { result.now.system ≡ self.now.system }
         ensures state { result.now.state ≡ self.now.world.state }
     {

@@ -17,7 +17,7 @@ use crate::settling::{is_same_task, settle};
 use crate::starting::start_active;
 use fmp_base::{Body, Line, Phase, StateWord, System, TaskState};
 use fmp_contexts::{BodyContexts, carry_out, entry_of};
-use fmp_tasks::Tables;
+use fmp_tasks::KernelState;
 use std::alloc::{AllocError, Global};
 use std::marker::Model;
 
@@ -29,7 +29,7 @@ mod copying;
 pub struct Runner<B: Body> {
     pub body: B,
     pub bound: u64,
-    pub tables: Tables,
+    pub tables: KernelState,
     pub contexts: BodyContexts<B::Ctx>,
     pub caused: Vec<Line>,
     pub lines: Vec<Line>,
@@ -111,7 +111,7 @@ impl<B: Body + Drop> Runner<B> {
         let caused = Vec::with_capacity(alloc, 510)?;
         let lines = Vec::with_capacity(alloc, 519)?;
         let contexts = BodyContexts::new(alloc, &body, sys)?;
-        let tables = Tables::new(alloc, sys)?;
+        let tables = KernelState::new(alloc, sys)?;
         Ok(Runner {
             body,
             bound: n,
@@ -133,7 +133,7 @@ impl<B: Body> Runner<B> {
     }
 
     /// The tables of the system and the state of the kernel.
-    pub fn tables(&self) -> &Tables
+    pub fn tables(&self) -> &KernelState
         ensures system { result.now.system ≡ self.now.system }
         ensures state { result.now.state ≡ self.now.world.state }
     {
@@ -164,7 +164,7 @@ impl<B: Body> Runner<B> {
         let _ = self.tables.processor_count();
     }
 
-    /// The clock begins again at 0, as by `Tables::restart_clock`.
+    /// The clock begins again at 0, as by `KernelState::restart_clock`.
     pub fn restart_clock(&mut self)
         ensures state { self.new ≡ record self.old { world = clock_restarted_in self.old.world } }
         ensures deadlines { NoneBefore (self.old.world.state.clock + 1)

@@ -9,7 +9,7 @@ ghost use Rattle.fmp_tasks.specs.Tables.{HasHandler, progress, SameShape};
 
 use fmp_base::{Handler, Line, Processor};
 use fmp_calls::is_cpu_locked;
-use fmp_tasks::Tables;
+use fmp_tasks::KernelState;
 
 /// Whether two processors run the same task, or both none.
 pub fn is_same_task(a: Option<u8>, b: Option<u8>) -> bool
@@ -32,7 +32,7 @@ fn is_dispatch_held(cpu: &Processor) -> bool
 /// A processor on which no handler begins, and that runs another task than its most urgent ready one, runs that one now,
 /// or none, unless dispatch is held.
 #[inline(never)]
-fn dispatch(tables: &mut Tables, lines: &mut Vec<Line>, p: u8, run: Option<u8>)
+fn dispatch(tables: &mut KernelState, lines: &mut Vec<Line>, p: u8, run: Option<u8>)
     requires there { p < tables.old.system.processors }
     requires top { run ≡ top tables.old.state p }
     requires other { is_same (processor_at tables.old.state p).run run ≡ false }
@@ -56,7 +56,7 @@ fn dispatch(tables: &mut Tables, lines: &mut Vec<Line>, p: u8, run: Option<u8>)
 /// A processor on which this is the first pending handler: it begins, where none runs and the CPU is not locked. Else
 /// dispatch is held too.
 #[inline(never)]
-fn begin_pending(tables: &mut Tables, lines: &mut Vec<Line>, p: u8, handler: Handler)
+fn begin_pending(tables: &mut KernelState, lines: &mut Vec<Line>, p: u8, handler: Handler)
     requires there { p < tables.old.system.processors }
     requires handler { HasHandler tables.old.system handler }
     requires room { vec_len lines.old < vec_capacity lines.old }
@@ -89,7 +89,7 @@ fn begin_pending(tables: &mut Tables, lines: &mut Vec<Line>, p: u8, handler: Han
 /// more is looked at, and it is not marked until that changes.
 #[tactic(auto, using(crate::proofs::SettleLemmas::settled_none, crate::proofs::SettleLemmas::settled_some))]
 #[inline(always)]
-fn settle_on(tables: &mut Tables, lines: &mut Vec<Line>, p: u8)
+fn settle_on(tables: &mut KernelState, lines: &mut Vec<Line>, p: u8)
     requires there { p < tables.old.system.processors }
     requires room { vec_len lines.old < vec_capacity lines.old }
     ensures progress { progress tables.new lines.new.items
@@ -113,7 +113,7 @@ fn settle_on(tables: &mut Tables, lines: &mut Vec<Line>, p: u8)
 
 /// A processor settles, if it is marked. One that is not has nothing to settle.
 #[inline(always)]
-fn settle_marked(tables: &mut Tables, lines: &mut Vec<Line>, p: u8)
+fn settle_marked(tables: &mut KernelState, lines: &mut Vec<Line>, p: u8)
     requires there { p < tables.old.system.processors }
     requires room { vec_len lines.old < vec_capacity lines.old }
     ensures progress { progress tables.new lines.new.items
@@ -130,7 +130,7 @@ fn settle_marked(tables: &mut Tables, lines: &mut Vec<Line>, p: u8)
 /// All of several processors settle, in order of number.
 #[tactic(auto, using(crate::proofs::PlaceLemmas::places_next))]
 #[inline(always)]
-fn settle_several(tables: &mut Tables, lines: &mut Vec<Line>, count: u8)
+fn settle_several(tables: &mut KernelState, lines: &mut Vec<Line>, count: u8)
     requires count { count ≡ length tables.old.state.processors }
     requires processors { count ≡ tables.old.system.processors }
     requires few { count ≤ 8 }
@@ -148,7 +148,7 @@ fn settle_several(tables: &mut Tables, lines: &mut Vec<Line>, count: u8)
 /// All processors settle, in order of number. A single one needs no loop.
 #[tactic(auto, using(crate::proofs::SettleLemmas::settled_one))]
 #[inline(always)]
-pub fn settle(tables: &mut Tables, lines: &mut Vec<Line>)
+pub fn settle(tables: &mut KernelState, lines: &mut Vec<Line>)
     requires room { vec_len lines.old + 8 ≤ vec_capacity lines.old }
     ensures progress { progress tables.new lines.new.items
         ≡ settled tables.old.system (progress tables.old lines.old.items) }

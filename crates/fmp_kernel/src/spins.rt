@@ -5,7 +5,7 @@ ghost use Rattle.fmp_kernel.specs.Spins.{is_spin as is_spin_lock};
 ghost use Rattle.fmp_worlds.specs.Spins.{IsLockHeld, MaySpin};
 
 use fmp_base::{Caller, Lock};
-use fmp_tasks::Tables;
+use fmp_tasks::KernelState;
 
 /// Whether this is a spin lock.
 fn is_spin(lock: Lock) -> bool
@@ -31,7 +31,7 @@ fn is_free(lock: Lock) -> bool
 
 /// Whether some processor holds a spin lock.
 #[tactic(auto, using(crate::proofs::SpinLemmas::none_held))]
-fn is_lock_held(tables: &Tables) -> bool
+fn is_lock_held(tables: &KernelState) -> bool
     ensures { result ≡ false → IsLockHeld tables.now.system tables.now.state → ⊥ }
 {
     let count = tables.processor_count() as u8;
@@ -46,7 +46,7 @@ fn is_lock_held(tables: &Tables) -> bool
 /// Whether the actor of processor p may find its spin lock held: it is a task, its processor is not locked, and some
 /// processor holds a spin lock. Otherwise no call of it spins.
 #[tactic(auto, using(crate::proofs::SpinLemmas::no_handler, crate::proofs::SpinLemmas::no_locks, crate::proofs::SpinLemmas::none_locked))]
-pub fn may_spin(tables: &Tables, p: u8, who: Caller) -> bool
+pub fn may_spin(tables: &KernelState, p: u8, who: Caller) -> bool
     requires { p < tables.now.system.processors }
     ensures { result ≡ false → MaySpin tables.now.system tables.now.state p who → ⊥ }
 {

@@ -7,11 +7,11 @@ ghost use Rattle.fmp_tasks.specs.Lines.{AreEmptyWithRoom};
 ghost use Rattle.fmp_tasks.specs.Tables.{progress, SameShape};
 
 use fmp_base::Line;
-use fmp_tasks::Tables;
+use fmp_tasks::KernelState;
 use fmp_tasks::tasks::start;
 
 /// Task t starts if it has TA_ACT.
-fn start_if_active(tables: &mut Tables, caused: &mut Vec<Line>, t: u8)
+fn start_if_active(tables: &mut KernelState, caused: &mut Vec<Line>, t: u8)
     requires there { t < length tables.old.system.tasks }
     requires room { vec_len caused.old < vec_capacity caused.old }
     ensures progress { progress tables.new caused.new.items
@@ -29,7 +29,7 @@ fn start_if_active(tables: &mut Tables, caused: &mut Vec<Line>, t: u8)
 
 /// Of all tasks, in order of number, those with TA_ACT start.
 #[tactic(auto, using(crate::proofs::PlaceLemmas::places_next))]
-pub fn start_active(tables: &mut Tables, caused: &mut Vec<Line>)
+pub fn start_active(tables: &mut KernelState, caused: &mut Vec<Line>)
     requires caused { AreEmptyWithRoom (length tables.old.system.tasks) caused.old }
     ensures progress { progress tables.new caused.new.items
         ≡ all_started tables.old.system (unchanged tables.old.state)

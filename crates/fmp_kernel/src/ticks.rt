@@ -11,7 +11,7 @@ ghost use Rattle.fmp_tasks.specs.Tables.{progress, SameShape};
 ghost use Rattle.fmp_ticks.specs.Times.{first_due};
 
 use fmp_base::{Er, Line, Phase, WaitCause};
-use fmp_tasks::Tables;
+use fmp_tasks::KernelState;
 use fmp_tasks::answers::code;
 use fmp_tasks::tasks::release;
 
@@ -26,7 +26,7 @@ fn timeout_code(phase: Phase) -> Er
 }
 
 /// Waiting task t is released, since its deadline is the next tick.
-fn time_out(tables: &mut Tables, caused: &mut Vec<Line>, t: u8)
+fn time_out(tables: &mut KernelState, caused: &mut Vec<Line>, t: u8)
     requires there { t < length tables.old.system.tasks }
     requires room { vec_len caused.old < vec_capacity caused.old }
     ensures progress { let x = task_at tables.old.state.tasks t in progress tables.new caused.new.items
@@ -40,7 +40,7 @@ fn time_out(tables: &mut Tables, caused: &mut Vec<Line>, t: u8)
 }
 
 /// Of all tasks, in order of number, those whose deadline is the next tick are released.
-fn time_out_all(tables: &mut Tables, caused: &mut Vec<Line>)
+fn time_out_all(tables: &mut KernelState, caused: &mut Vec<Line>)
     requires caused { AreEmptyWithRoom (length tables.old.system.tasks) caused.old }
     ensures progress { at_tick (progress tables.new caused.new.items)
         ≡ all_timed_out (unchanged (with_clock_advanced tables.old.state))
@@ -58,7 +58,7 @@ fn time_out_all(tables: &mut Tables, caused: &mut Vec<Line>)
 }
 
 /// A cyclic handler becomes pending; one that is pending already stays one, with no line.
-fn pend(tables: &mut Tables, caused: &mut Vec<Line>, c: u8)
+fn pend(tables: &mut KernelState, caused: &mut Vec<Line>, c: u8)
     requires there { c < length tables.old.system.cyclics }
     requires room { vec_len caused.old < vec_capacity caused.old }
     ensures progress { progress tables.new caused.new.items
@@ -78,7 +78,7 @@ fn pend(tables: &mut Tables, caused: &mut Vec<Line>, c: u8)
 }
 
 /// A cyclic handler that is due at the next tick becomes pending, and is due again one period later.
-fn cycle(tables: &mut Tables, caused: &mut Vec<Line>, c: u8)
+fn cycle(tables: &mut KernelState, caused: &mut Vec<Line>, c: u8)
     requires there { c < length tables.old.system.cyclics }
     requires room { vec_len caused.old < vec_capacity caused.old }
     ensures progress { at_tick (progress tables.new caused.new.items)
@@ -97,7 +97,7 @@ fn cycle(tables: &mut Tables, caused: &mut Vec<Line>, c: u8)
 /// Of all cyclic handlers, whose number is given, those that are due at the next tick become pending, in order of
 /// number. Where none is due it looks at none.
 #[tactic(auto, using(crate::proofs::PlaceLemmas::places_next))]
-fn cycle_all(tables: &mut Tables, caused: &mut Vec<Line>, count: u8)
+fn cycle_all(tables: &mut KernelState, caused: &mut Vec<Line>, count: u8)
     requires count { count ≡ length tables.old.system.cyclics }
     requires range { IsInRange tables.old.system }
     requires room { vec_len caused.old + count ≤ vec_capacity caused.old }
@@ -119,7 +119,7 @@ fn cycle_all(tables: &mut Tables, caused: &mut Vec<Line>, count: u8)
 
 /// The tasks whose deadline is the next tick are released, the cyclic handlers that are due then become pending, and
 /// the clock advances by one to it.
-pub fn advance(tables: &mut Tables, caused: &mut Vec<Line>)
+pub fn advance(tables: &mut KernelState, caused: &mut Vec<Line>)
     requires time { tables.old.state.clock < 2 ^ 31 }
     requires range { IsInRange tables.old.system }
     requires caused { AreEmptyWithRoom 510 caused.old }

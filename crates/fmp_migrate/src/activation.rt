@@ -8,12 +8,12 @@ ghost use Rattle.fmp_tasks.specs.Tables.{outcome, SameShape, SameShapeAndRoom};
 
 use crate::targets::{by_number, self_or};
 use fmp_base::{Answer, Er, Line, Phase, TaskBlock};
-use fmp_tasks::Tables;
+use fmp_tasks::KernelState;
 use fmp_tasks::answers::{gives, replied};
 use fmp_tasks::tasks::start;
 
 /// One more activation of task t, which is x, is queued; E_QOVR at the limit.
-fn queue_activation(tables: &mut Tables, t: u8, x: TaskBlock) -> Answer
+fn queue_activation(tables: &mut KernelState, t: u8, x: TaskBlock) -> Answer
     requires there { t < length tables.old.system.tasks }
     requires is { x ≡ task_at tables.old.state.tasks t }
     requires fits { Fits tables.old.system x }
@@ -31,7 +31,7 @@ fn queue_activation(tables: &mut Tables, t: u8, x: TaskBlock) -> Answer
 }
 
 /// Task t is activated: a dormant one starts, for another an activation is queued.
-fn activate(tables: &mut Tables, lines: &mut Vec<Line>, t: u8) -> Answer
+fn activate(tables: &mut KernelState, lines: &mut Vec<Line>, t: u8) -> Answer
     requires there { t < length tables.old.system.tasks }
     requires lines { AreEmptyWithRoom 1 lines.old }
     ensures outcome { outcome result tables.new lines.new.items
@@ -51,7 +51,7 @@ fn activate(tables: &mut Tables, lines: &mut Vec<Line>, t: u8) -> Answer
 /// `act_tsk`: activates a task. A dormant one starts; for another an activation is queued. E_ID if no task has the
 /// number, where 0 (TSK_SELF) is the caller; E_QOVR if the queued activations are at the limit. What is refused changes
 /// nothing (uITRON 4.0, section 4.1).
-pub fn act_tsk(tables: &mut Tables, lines: &mut Vec<Line>, me: u8, task: i32) -> Answer
+pub fn act_tsk(tables: &mut KernelState, lines: &mut Vec<Line>, me: u8, task: i32) -> Answer
     requires caller { me < length tables.old.system.tasks }
     requires lines { AreEmptyWithRoom 1 lines.old }
     ensures outcome { outcome result tables.new lines.new.items
@@ -66,7 +66,7 @@ pub fn act_tsk(tables: &mut Tables, lines: &mut Vec<Line>, me: u8, task: i32) ->
 
 /// `iact_tsk`: as `act_tsk` from a handler, where no task is the caller: E_ID at 0 too. E_QOVR if the queued
 /// activations are at the limit. What is refused changes nothing (uITRON 4.0, section 4.1).
-pub fn iact_tsk(tables: &mut Tables, lines: &mut Vec<Line>, task: i32) -> Answer
+pub fn iact_tsk(tables: &mut KernelState, lines: &mut Vec<Line>, task: i32) -> Answer
     requires lines { AreEmptyWithRoom 1 lines.old }
     ensures outcome { outcome result tables.new lines.new.items
         ≡ calls.iact_tsk tables.old.system tables.old.state task }
@@ -81,7 +81,7 @@ pub fn iact_tsk(tables: &mut Tables, lines: &mut Vec<Line>, task: i32) -> Answer
 /// `can_act`: gives how many activations of a task are queued, and clears them and the processor that is stored for its
 /// next start. E_ID if no task has the number, where 0 (TSK_SELF) is the caller; then nothing changes (uITRON 4.0,
 /// section 4.1).
-pub fn can_act(tables: &mut Tables, me: u8, task: i32) -> Answer
+pub fn can_act(tables: &mut KernelState, me: u8, task: i32) -> Answer
     requires caller { me < length tables.old.system.tasks }
     ensures outcome { outcome result tables.new [] ≡ calls.can_act tables.old.state me task }
     ensures shape { SameShape tables.old tables.new }

@@ -8,12 +8,12 @@ ghost use Rattle.fmp_tasks.specs.Tables.{outcome, SameShape, SameShapeAndRoom};
 
 use crate::targets::{allowed_processor, is_dormant, is_ready, self_or};
 use fmp_base::{Answer, Er, Line, Phase, TaskBlock};
-use fmp_tasks::Tables;
+use fmp_tasks::KernelState;
 use fmp_tasks::answers::replied;
 use fmp_tasks::tasks::start;
 
 /// One more activation of task t, which is x, is queued, for a start on processor c; E_QOVR at the limit.
-fn queue_activation_on(tables: &mut Tables, t: u8, x: TaskBlock, c: u8) -> Answer
+fn queue_activation_on(tables: &mut KernelState, t: u8, x: TaskBlock, c: u8) -> Answer
     requires there { t < length tables.old.system.tasks }
     requires is { x ≡ task_at tables.old.state.tasks t }
     requires fits { Fits tables.old.system x }
@@ -45,7 +45,7 @@ fn queue_activation_on(tables: &mut Tables, t: u8, x: TaskBlock, c: u8) -> Answe
 /// caller; E_PAR if the task's class does not allow the processor, or there is none of the number; E_QOVR if the queued
 /// activations are at the limit. What is refused changes nothing (FMP kernel, task management).
 pub fn mact_tsk(
-    tables: &mut Tables,
+    tables: &mut KernelState,
     lines: &mut Vec<Line>,
     me: u8,
     task: i32,
@@ -75,7 +75,7 @@ pub fn mact_tsk(
 
 /// Task t, which is x, is assigned to processor c, where it goes to the end if it is ready; on its own processor
 /// nothing changes.
-fn assign(tables: &mut Tables, t: u8, x: TaskBlock, c: u8)
+fn assign(tables: &mut KernelState, t: u8, x: TaskBlock, c: u8)
     requires there { t < length tables.old.system.tasks }
     requires is { x ≡ task_at tables.old.state.tasks t }
     requires fits { Fits tables.old.system x }
@@ -100,7 +100,7 @@ fn assign(tables: &mut Tables, t: u8, x: TaskBlock, c: u8)
 /// own processor nothing changes. E_ID if no task has the number, where 0 (TSK_SELF) is the caller; E_PAR if the task's
 /// class does not allow the processor, or there is none of the number; E_OBJ if the task is dormant or assigned to
 /// another processor than p. What is refused changes nothing (FMP kernel, task management).
-pub fn mig_tsk(tables: &mut Tables, p: u8, me: u8, task: i32, processor: i32) -> Answer
+pub fn mig_tsk(tables: &mut KernelState, p: u8, me: u8, task: i32, processor: i32) -> Answer
     requires caller { me < length tables.old.system.tasks }
     ensures outcome { outcome result tables.new []
         ≡ calls.mig_tsk tables.old.system tables.old.state p me task processor }

@@ -8,11 +8,11 @@ ghost use Rattle.fmp_tasks.specs.Tables.{outcome, SameShape};
 use crate::targets::{is_dormant, or_if_zero, self_or};
 use fmp_base::arguments::ranged;
 use fmp_base::{Answer, Er, TaskBlock};
-use fmp_tasks::Tables;
+use fmp_tasks::KernelState;
 use fmp_tasks::answers::{gives, replied};
 
 /// The priority of task t, which is x, changes: a ready task, and one in a queue of priority order, goes to the end.
-fn set_priority(tables: &mut Tables, t: u8, x: TaskBlock, priority: u8)
+fn set_priority(tables: &mut KernelState, t: u8, x: TaskBlock, priority: u8)
     requires there { t < length tables.old.system.tasks }
     requires is { x ≡ task_at tables.old.state.tasks t }
     requires fits { Fits tables.old.system x }
@@ -38,7 +38,7 @@ fn set_priority(tables: &mut Tables, t: u8, x: TaskBlock, priority: u8)
 /// task, and one in a queue of priority order, goes behind those of the same priority, also where it had it already;
 /// another keeps its place. E_ID if no task has the number, where 0 (TSK_SELF) is the caller; E_PAR at another
 /// priority; E_OBJ if the task is dormant. What is refused changes nothing (uITRON 4.0, section 4.1).
-pub fn chg_pri(tables: &mut Tables, me: u8, task: i32, priority: i32) -> Answer
+pub fn chg_pri(tables: &mut KernelState, me: u8, task: i32, priority: i32) -> Answer
     requires caller { me < length tables.old.system.tasks }
     ensures outcome { outcome result tables.new [] ≡ calls.chg_pri tables.old.system tables.old.state me task priority }
     ensures shape { SameShape tables.old tables.new }
@@ -60,7 +60,7 @@ pub fn chg_pri(tables: &mut Tables, me: u8, task: i32, priority: i32) -> Answer
 
 /// `get_pri`: gives the current priority of a task. E_ID if no task has the number, where 0 (TSK_SELF) is the caller;
 /// E_OBJ if the task is dormant. Nothing changes (uITRON 4.0, section 4.1).
-pub fn get_pri(tables: &Tables, me: u8, task: i32) -> Answer
+pub fn get_pri(tables: &KernelState, me: u8, task: i32) -> Answer
     requires caller { me < length tables.now.system.tasks }
     ensures outcome { outcome result tables.now [] ≡ calls.get_pri tables.now.state me task }
 {

@@ -1,19 +1,19 @@
 //! Rotation of ready queues, and the caller's own number (uITRON 4.0, section 4.8).
 ghost use Rattle.std.specs.Prelude.{◌≡◌, ◌<◌, ◌≤◌, [], length};
 ghost use Rattle.fmp_base.specs.Queues.{first_ready};
-ghost use Rattle.fmp_base.specs.States.{KernelState, task_at, unchanged};
+ghost use Rattle.fmp_base.specs.States.{KernelState as State, task_at, unchanged};
 ghost use Rattle.fmp_base.specs.TaskCalls as calls;
 ghost use Rattle.fmp_tasks.specs.Tables.{outcome, SameShape};
 
 use crate::targets::or_if_zero;
 use fmp_base::arguments::{numbered, ranged};
 use fmp_base::{Answer, Er};
-use fmp_tasks::Tables;
+use fmp_tasks::KernelState;
 use fmp_tasks::answers::{gives, replied};
 
 /// The first ready task of a priority on processor p, if there is one, goes to the end.
 #[tactic(auto, using(crate::proofs::Rotated::rotated_clock))]
-fn rotate(tables: &mut Tables, p: u8, priority: u8)
+fn rotate(tables: &mut KernelState, p: u8, priority: u8)
     requires processor { p < tables.old.system.processors }
     requires urgent { 1 ≤ priority }
     requires least { priority ≤ 16 }
@@ -26,7 +26,7 @@ fn rotate(tables: &mut Tables, p: u8, priority: u8)
 
 /// `rot_rdq`: of the caller's processor p, the first ready task of a priority, from 1 to 16, or the caller's current
 /// one at 0 (TPRI_SELF), goes to the end. E_PAR at another priority; then nothing changes (uITRON 4.0, section 4.8).
-pub fn rot_rdq(tables: &mut Tables, p: u8, me: u8, priority: i32) -> Answer
+pub fn rot_rdq(tables: &mut KernelState, p: u8, me: u8, priority: i32) -> Answer
     requires caller { me < length tables.old.system.tasks }
     requires processor { p < tables.old.system.processors }
     ensures outcome { outcome result tables.new []
@@ -44,7 +44,7 @@ pub fn rot_rdq(tables: &mut Tables, p: u8, me: u8, priority: i32) -> Answer
 /// `mrot_rdq`: of the processor of a number, the first ready task of a priority, from 1 to 16, or the caller's current
 /// one at 0 (TPRI_SELF), goes to the end. E_PAR at another priority, or if no processor has the number; then nothing
 /// changes (FMP kernel, system state management).
-pub fn mrot_rdq(tables: &mut Tables, me: u8, priority: i32, processor: i32) -> Answer
+pub fn mrot_rdq(tables: &mut KernelState, me: u8, priority: i32, processor: i32) -> Answer
     requires caller { me < length tables.old.system.tasks }
     ensures outcome { outcome result tables.new []
         ≡ calls.mrot_rdq tables.old.system tables.old.state (task_at tables.old.state.tasks me) priority processor }
@@ -63,7 +63,7 @@ pub fn mrot_rdq(tables: &mut Tables, me: u8, priority: i32, processor: i32) -> A
 
 /// `irot_rdq`: as `rot_rdq` by a handler of processor p, for a priority from 1 to 16. E_PAR at another, also at 0; then
 /// nothing changes (uITRON 4.0, section 4.8).
-pub fn irot_rdq(tables: &mut Tables, p: u8, priority: i32) -> Answer
+pub fn irot_rdq(tables: &mut KernelState, p: u8, priority: i32) -> Answer
     requires processor { p < tables.old.system.processors }
     ensures outcome { outcome result tables.new [] ≡ calls.irot_rdq tables.old.state p priority }
     ensures shape { SameShape tables.old tables.new }
@@ -79,7 +79,7 @@ pub fn irot_rdq(tables: &mut Tables, p: u8, priority: i32) -> Answer
 /// section 4.8).
 pub fn get_tid(me: u8) -> Answer
     requires { me < 255 }
-    ensures { (s : KernelState) → record { answer = result; progress = unchanged s } ≡ calls.get_tid s me }
+    ensures { (s : State) → record { answer = result; progress = unchanged s } ≡ calls.get_tid s me }
 {
     gives((me + 1) as i32)
 }

@@ -10,12 +10,12 @@ ghost use Rattle.fmp_tasks.specs.Tables.{outcome, SameShape, SameShapeAndRoom};
 use crate::targets::{by_number, delay_of, is_dormant, self_or};
 use fmp_base::arguments::limit_of;
 use fmp_base::{Answer, Er, Line, Phase, TaskBlock, TimeLimit, WaitCause};
-use fmp_tasks::Tables;
+use fmp_tasks::KernelState;
 use fmp_tasks::answers::{code, gives, replied};
 use fmp_tasks::tasks::{release, wait, wait_within};
 
 /// The caller takes a queued wakeup, or else sleeps within a limit.
-fn sleep(tables: &mut Tables, me: u8, limit: TimeLimit) -> Answer
+fn sleep(tables: &mut KernelState, me: u8, limit: TimeLimit) -> Answer
     requires caller { me < length tables.old.system.tasks }
     requires limit { IsTimeLimit limit }
     ensures outcome { outcome result tables.new []
@@ -33,7 +33,7 @@ fn sleep(tables: &mut Tables, me: u8, limit: TimeLimit) -> Answer
 
 /// `slp_tsk`: the caller takes a queued wakeup and goes on with E_OK, or else waits for one without limit. It is never
 /// refused (uITRON 4.0, section 4.2).
-pub fn slp_tsk(tables: &mut Tables, me: u8) -> Answer
+pub fn slp_tsk(tables: &mut KernelState, me: u8) -> Answer
     requires caller { me < length tables.old.system.tasks }
     ensures outcome { outcome result tables.new []
         ≡ calls.slp_tsk tables.old.state me (task_at tables.old.state.tasks me) TimeLimit.Forever }
@@ -45,7 +45,7 @@ pub fn slp_tsk(tables: &mut Tables, me: u8) -> Answer
 /// `tslp_tsk`: the caller takes a queued wakeup, or else waits for one within a limit: -1 (TMO_FEVR) is none, at 0
 /// (TMO_POL) it does not wait and is told E_TMOUT, else that many ticks, up to 2^30. E_PAR at another limit. What is
 /// refused changes nothing (uITRON 4.0, section 4.2).
-pub fn tslp_tsk(tables: &mut Tables, me: u8, limit: i32) -> Answer
+pub fn tslp_tsk(tables: &mut KernelState, me: u8, limit: i32) -> Answer
     requires caller { me < length tables.old.system.tasks }
     ensures outcome { outcome result tables.new []
         ≡ calls.tslp_tsk tables.old.state me (task_at tables.old.state.tasks me) limit }
@@ -58,7 +58,7 @@ pub fn tslp_tsk(tables: &mut Tables, me: u8, limit: i32) -> Answer
 }
 
 /// One more wakeup of task t, which is x, is queued; E_QOVR at the limit.
-fn queue_wakeup(tables: &mut Tables, t: u8, x: TaskBlock) -> Answer
+fn queue_wakeup(tables: &mut KernelState, t: u8, x: TaskBlock) -> Answer
     requires there { t < length tables.old.system.tasks }
     requires is { x ≡ task_at tables.old.state.tasks t }
     requires fits { Fits tables.old.system x }
@@ -76,7 +76,7 @@ fn queue_wakeup(tables: &mut Tables, t: u8, x: TaskBlock) -> Answer
 }
 
 /// Task t is woken: a sleeping one is released, for another that is not dormant a wakeup is queued.
-fn wake(tables: &mut Tables, lines: &mut Vec<Line>, t: u8) -> Answer
+fn wake(tables: &mut KernelState, lines: &mut Vec<Line>, t: u8) -> Answer
     requires there { t < length tables.old.system.tasks }
     requires lines { AreEmptyWithRoom 1 lines.old }
     ensures outcome { outcome result tables.new lines.new.items
@@ -97,7 +97,7 @@ fn wake(tables: &mut Tables, lines: &mut Vec<Line>, t: u8) -> Answer
 /// `wup_tsk`: wakes up a task. A sleeping one is released with E_OK; for another a wakeup is queued. E_ID if no task
 /// has the number, where 0 (TSK_SELF) is the caller; E_OBJ if the task is dormant; E_QOVR if the queued wakeups are at
 /// the limit. What is refused changes nothing (uITRON 4.0, section 4.2).
-pub fn wup_tsk(tables: &mut Tables, lines: &mut Vec<Line>, me: u8, task: i32) -> Answer
+pub fn wup_tsk(tables: &mut KernelState, lines: &mut Vec<Line>, me: u8, task: i32) -> Answer
     requires caller { me < length tables.old.system.tasks }
     requires lines { AreEmptyWithRoom 1 lines.old }
     ensures outcome { outcome result tables.new lines.new.items
@@ -112,7 +112,7 @@ pub fn wup_tsk(tables: &mut Tables, lines: &mut Vec<Line>, me: u8, task: i32) ->
 
 /// `iwup_tsk`: as `wup_tsk` from a handler, where no task is the caller: E_ID at 0 too. E_OBJ if the task is dormant;
 /// E_QOVR if the queued wakeups are at the limit. What is refused changes nothing (uITRON 4.0, section 4.2).
-pub fn iwup_tsk(tables: &mut Tables, lines: &mut Vec<Line>, task: i32) -> Answer
+pub fn iwup_tsk(tables: &mut KernelState, lines: &mut Vec<Line>, task: i32) -> Answer
     requires lines { AreEmptyWithRoom 1 lines.old }
     ensures outcome { outcome result tables.new lines.new.items
         ≡ calls.iwup_tsk tables.old.system tables.old.state task }
@@ -126,7 +126,7 @@ pub fn iwup_tsk(tables: &mut Tables, lines: &mut Vec<Line>, task: i32) -> Answer
 
 /// `can_wup`: gives how many wakeups of a task are queued, and clears them. E_ID if no task has the number, where 0
 /// (TSK_SELF) is the caller; E_OBJ if the task is dormant. What is refused changes nothing (uITRON 4.0, section 4.2).
-pub fn can_wup(tables: &mut Tables, me: u8, task: i32) -> Answer
+pub fn can_wup(tables: &mut KernelState, me: u8, task: i32) -> Answer
     requires caller { me < length tables.old.system.tasks }
     ensures outcome { outcome result tables.new [] ≡ calls.can_wup tables.old.state me task }
     ensures shape { SameShape tables.old tables.new }
@@ -144,7 +144,7 @@ pub fn can_wup(tables: &mut Tables, me: u8, task: i32) -> Answer
 
 /// `rel_wai` and `irel_wai`: a waiting task is released by force, with E_RLWAI. E_ID if no task has the number, also at
 /// 0; E_OBJ if the task does not wait. What is refused changes nothing (uITRON 4.0, section 4.2).
-pub fn rel_wai(tables: &mut Tables, lines: &mut Vec<Line>, task: i32) -> Answer
+pub fn rel_wai(tables: &mut KernelState, lines: &mut Vec<Line>, task: i32) -> Answer
     requires lines { AreEmptyWithRoom 1 lines.old }
     ensures outcome { outcome result tables.new lines.new.items ≡ calls.rel_wai tables.old.state task }
     ensures kept { SameShapeAndRoom tables.old tables.new lines.old lines.new }
@@ -164,7 +164,7 @@ pub fn rel_wai(tables: &mut Tables, lines: &mut Vec<Line>, task: i32) -> Answer
 
 /// `dly_tsk`: the caller waits until the clock has advanced by more than the delay, from 0 to 2^30 ticks. E_PAR at
 /// another; then nothing changes (uITRON 4.0, section 4.2).
-pub fn dly_tsk(tables: &mut Tables, me: u8, delay: i32) -> Answer
+pub fn dly_tsk(tables: &mut KernelState, me: u8, delay: i32) -> Answer
     requires caller { me < length tables.old.system.tasks }
     ensures outcome { outcome result tables.new []
         ≡ calls.dly_tsk tables.old.state me (task_at tables.old.state.tasks me) delay }

@@ -7,14 +7,14 @@ ghost use Rattle.fmp_tasks.specs.Tables.{outcome, SameShape};
 
 use crate::targets::{by_number, is_dormant, self_or};
 use fmp_base::{Answer, Er, Phase, TaskBlock};
-use fmp_tasks::Tables;
+use fmp_tasks::KernelState;
 use fmp_tasks::answers::replied;
 use fmp_tasks::tasks::suspend;
 
 /// `sus_tsk`: suspends a task; a waiting one waits on. E_ID if no task has the number, where 0 (TSK_SELF) is the
 /// caller; E_OBJ if the task is dormant; E_QOVR if it is suspended already. What is refused changes nothing (uITRON
 /// 4.0, section 4.2).
-pub fn sus_tsk(tables: &mut Tables, me: u8, task: i32) -> Answer
+pub fn sus_tsk(tables: &mut KernelState, me: u8, task: i32) -> Answer
     requires caller { me < length tables.old.system.tasks }
     ensures outcome { outcome result tables.new [] ≡ calls.sus_tsk tables.old.state me task }
     ensures shape { SameShape tables.old tables.new }
@@ -34,7 +34,7 @@ pub fn sus_tsk(tables: &mut Tables, me: u8, task: i32) -> Answer
 }
 
 /// Task t, which is x and suspended, is resumed: a waiting one waits on in its place, another is ready, at the end.
-fn resume(tables: &mut Tables, t: u8, x: TaskBlock)
+fn resume(tables: &mut KernelState, t: u8, x: TaskBlock)
     requires there { t < length tables.old.system.tasks }
     requires is { x ≡ task_at tables.old.state.tasks t }
     requires fits { Fits tables.old.system x }
@@ -57,7 +57,7 @@ fn resume(tables: &mut Tables, t: u8, x: TaskBlock)
 /// `rsm_tsk`: resumes a suspended task. A waiting one waits on in its place; another is ready, at the end. E_ID if no
 /// task has the number, also at 0; E_OBJ if the task is not suspended. What is refused changes nothing (uITRON 4.0,
 /// section 4.2).
-pub fn rsm_tsk(tables: &mut Tables, task: i32) -> Answer
+pub fn rsm_tsk(tables: &mut KernelState, task: i32) -> Answer
     ensures outcome { outcome result tables.new [] ≡ calls.rsm_tsk tables.old.state task }
     ensures shape { SameShape tables.old tables.new }
 {

@@ -6,10 +6,10 @@ ghost use Rattle.fmp_base.specs.TaskCalls as calls;
 
 use fmp_base::arguments::{LONGEST, named, numbered};
 use fmp_base::{Phase, TaskBlock};
-use fmp_tasks::Tables;
+use fmp_tasks::KernelState;
 
 /// The place of the task that a number names, where 0 (TSK_SELF) is the caller; or none.
-pub fn self_or(tables: &Tables, me: u8, number: i32) -> Option<u8>
+pub fn self_or(tables: &KernelState, me: u8, number: i32) -> Option<u8>
     requires { me < length tables.now.system.tasks }
     ensures value { result ≡ calls.self_or tables.now.state me number }
     ensures there { IfSome result (λ t. t < length tables.now.system.tasks) }
@@ -18,7 +18,7 @@ pub fn self_or(tables: &Tables, me: u8, number: i32) -> Option<u8>
 }
 
 /// The place of the task that a number from 1 on names, or none.
-pub fn by_number(tables: &Tables, number: i32) -> Option<u8>
+pub fn by_number(tables: &KernelState, number: i32) -> Option<u8>
     ensures value { result ≡ calls.by_number tables.now.state number }
     ensures there { IfSome result (λ t. t < length tables.now.system.tasks) }
 {
@@ -26,7 +26,7 @@ pub fn by_number(tables: &Tables, number: i32) -> Option<u8>
 }
 
 /// The place of the processor that a number names, if the class of task t allows it.
-pub fn allowed_processor(tables: &Tables, t: u8, number: i32) -> Option<u8>
+pub fn allowed_processor(tables: &KernelState, t: u8, number: i32) -> Option<u8>
     requires { t < length tables.now.system.tasks }
     ensures value { result ≡ calls.allowed_processor tables.now.system t number }
     ensures there { IfSome result (λ p. p < tables.now.system.processors) }

@@ -8,14 +8,14 @@ ghost use Rattle.fmp_tasks.specs.Tables.{progress, outcome, SameShapeAndRoom};
 
 use crate::targets::{by_number, is_dormant};
 use fmp_base::{Answer, Er, Line, Lock, Processor};
-use fmp_tasks::Tables;
+use fmp_tasks::KernelState;
 use fmp_tasks::answers::replied;
 use fmp_tasks::tasks::end;
 
 /// Task t, which processor p runs, ends itself, by `ext_tsk` or at the end of its body: the processor runs none, its
 /// lock is freed, its dispatching enabled, and the task is dormant, or starts again where an activation is queued. It
 /// is never refused (uITRON 4.0, section 4.1; FMP kernel, spin locks).
-pub fn end_itself(tables: &mut Tables, lines: &mut Vec<Line>, p: u8, t: u8)
+pub fn end_itself(tables: &mut KernelState, lines: &mut Vec<Line>, p: u8, t: u8)
     requires task { t < length tables.old.system.tasks }
     requires processor { p < tables.old.system.processors }
     requires lines { AreEmptyWithRoom 1 lines.old }
@@ -39,7 +39,7 @@ pub fn end_itself(tables: &mut Tables, lines: &mut Vec<Line>, p: u8, t: u8)
 
 /// `ext_tsk`: the caller, which processor p runs, ends, as `end_itself` says, and gets no reply. It is never refused
 /// (uITRON 4.0, section 4.1).
-pub fn ext_tsk(tables: &mut Tables, lines: &mut Vec<Line>, p: u8, me: u8) -> Answer
+pub fn ext_tsk(tables: &mut KernelState, lines: &mut Vec<Line>, p: u8, me: u8) -> Answer
     requires caller { me < length tables.old.system.tasks }
     requires processor { p < tables.old.system.processors }
     requires lines { AreEmptyWithRoom 1 lines.old }
@@ -58,7 +58,7 @@ pub fn ext_tsk(tables: &mut Tables, lines: &mut Vec<Line>, p: u8, me: u8) -> Ans
 /// `ter_tsk`: another task of the caller's processor p ends. E_ID if no task has the number, also at 0; E_ILUSE if it
 /// is the caller's; E_OBJ if the task is dormant or assigned to another processor. What is refused changes nothing
 /// (uITRON 4.0, section 4.1).
-pub fn ter_tsk(tables: &mut Tables, lines: &mut Vec<Line>, p: u8, me: u8, task: i32) -> Answer
+pub fn ter_tsk(tables: &mut KernelState, lines: &mut Vec<Line>, p: u8, me: u8, task: i32) -> Answer
     requires lines { AreEmptyWithRoom 1 lines.old }
     ensures outcome { outcome result tables.new lines.new.items
         ≡ calls.ter_tsk tables.old.system tables.old.state p me task }

@@ -10,12 +10,12 @@ ghost use Rattle.fmp_tasks.specs.Tables.{outcome, SameShape, SameShapeAndRoom};
 use crate::walking::{satisfies, walk};
 use fmp_base::arguments::{limit_of, numbered, ranged};
 use fmp_base::{Answer, Er, FlagMode, Line, TimeLimit, WaitCause, WaitQueue};
-use fmp_tasks::Tables;
+use fmp_tasks::KernelState;
 use fmp_tasks::answers::{gives, replied};
 use fmp_tasks::tasks::wait_within;
 
 /// The eventflag that a number names, if there is one.
-fn flag_of(tables: &Tables, number: i32) -> Option<u8>
+fn flag_of(tables: &KernelState, number: i32) -> Option<u8>
     ensures value { result ≡ place_of (length tables.now.state.flags) number }
     ensures there { IfSome result (λ f. f < length tables.now.system.flags) }
 {
@@ -36,7 +36,7 @@ fn mode_of(number: i32) -> Option<FlagMode>
 /// `set_flg` and `iset_flg` (uITRON 4.0, section 4.4.2): sets bits, and releases with E_OK and the pattern each waiting
 /// task that it satisfies, in the order of the queue; with TA_CLR the first release clears all bits and is the last.
 /// E_ID if the number names no flag, then E_PAR if the bits are not 0 to 65535; nothing changes then.
-pub fn set_flg(tables: &mut Tables, lines: &mut Vec<Line>, flag: i32, bits: i32) -> Answer
+pub fn set_flg(tables: &mut KernelState, lines: &mut Vec<Line>, flag: i32, bits: i32) -> Answer
     requires lines { AreEmptyWithRoom (length tables.old.system.tasks) lines.old }
     ensures outcome { outcome result tables.new lines.new.items
         ≡ set_flg_case tables.old.system tables.old.state flag bits }
@@ -56,7 +56,7 @@ pub fn set_flg(tables: &mut Tables, lines: &mut Vec<Line>, flag: i32, bits: i32)
 
 /// `clr_flg` (uITRON 4.0, section 4.4.2): clears the bits of a flag that are not set in a pattern. E_ID if the number
 /// names no flag, then E_PAR if the pattern is not 0 to 65535; nothing changes then.
-pub fn clr_flg(tables: &mut Tables, flag: i32, pattern: i32) -> Answer
+pub fn clr_flg(tables: &mut KernelState, flag: i32, pattern: i32) -> Answer
     ensures outcome { outcome result tables.new [] ≡ clr_flg_case tables.old.state flag pattern }
     ensures shape { SameShape tables.old tables.new }
 {
@@ -74,7 +74,7 @@ pub fn clr_flg(tables: &mut Tables, flag: i32, pattern: i32) -> Answer
 /// Task me gets the bits of flag f where they satisfy the wait, and with TA_CLR all bits are then cleared; else it
 /// waits within the limit. E_ILUSE if a task waits for a flag without TA_WMUL.
 fn await_bits(
-    tables: &mut Tables,
+    tables: &mut KernelState,
     me: u8,
     f: u8,
     pattern: u16,
@@ -114,7 +114,7 @@ fn await_bits(
 /// to 65535 or the mode not 0 or 1, E_ILUSE if a task waits for a flag without TA_WMUL, E_TMOUT if a poll finds the
 /// bits not set; nothing changes then.
 pub fn wai_flg(
-    tables: &mut Tables,
+    tables: &mut KernelState,
     me: u8,
     limit: TimeLimit,
     flag: i32,
@@ -144,7 +144,7 @@ pub fn wai_flg(
 /// -1 is none, 0 polls, the greatest is 2^30. E_PAR, after the test of the mode and before E_ILUSE, where the limit is
 /// none of these; nothing changes then.
 pub fn twai_flg(
-    tables: &mut Tables,
+    tables: &mut KernelState,
     me: u8,
     flag: i32,
     pattern: i32,

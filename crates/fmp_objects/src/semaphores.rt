@@ -9,12 +9,12 @@ ghost use Rattle.fmp_tasks.specs.Tables.{outcome, SameShape, SameShapeAndRoom};
 
 use fmp_base::arguments::{limit_of, numbered};
 use fmp_base::{Answer, Er, Line, TimeLimit, WaitCause, WaitQueue};
-use fmp_tasks::Tables;
+use fmp_tasks::KernelState;
 use fmp_tasks::answers::{code, replied};
 use fmp_tasks::tasks::{release, wait_within};
 
 /// The semaphore that a number names, if there is one.
-fn semaphore_of(tables: &Tables, number: i32) -> Option<u8>
+fn semaphore_of(tables: &KernelState, number: i32) -> Option<u8>
     ensures value { result ≡ place_of (length tables.now.state.semaphores) number }
     ensures there { IfSome result (λ s. s < length tables.now.system.semaphores) }
 {
@@ -22,7 +22,7 @@ fn semaphore_of(tables: &Tables, number: i32) -> Option<u8>
 }
 
 /// The first task that waits for semaphore s is released; with none the count rises, or E_QOVR if it is the greatest.
-fn signal(tables: &mut Tables, lines: &mut Vec<Line>, s: u8) -> Answer
+fn signal(tables: &mut KernelState, lines: &mut Vec<Line>, s: u8) -> Answer
     requires there { s < length tables.old.system.semaphores }
     requires lines { AreEmptyWithRoom 1 lines.old }
     ensures outcome { outcome result tables.new lines.new.items ≡ signalled tables.old.system tables.old.state s }
@@ -45,7 +45,7 @@ fn signal(tables: &mut Tables, lines: &mut Vec<Line>, s: u8) -> Answer
 /// `sig_sem` and `isig_sem` (uITRON 4.0, section 4.4.1): the first waiting task is released with E_OK; with none the
 /// count rises by one. E_ID if the number names no semaphore, then E_QOVR if no task waits and the count is the
 /// greatest; nothing changes then.
-pub fn sig_sem(tables: &mut Tables, lines: &mut Vec<Line>, semaphore: i32) -> Answer
+pub fn sig_sem(tables: &mut KernelState, lines: &mut Vec<Line>, semaphore: i32) -> Answer
     requires lines { AreEmptyWithRoom 1 lines.old }
     ensures outcome { outcome result tables.new lines.new.items
         ≡ sig_sem_case tables.old.system tables.old.state semaphore }
@@ -58,7 +58,7 @@ pub fn sig_sem(tables: &mut Tables, lines: &mut Vec<Line>, semaphore: i32) -> An
 }
 
 /// Task me takes a resource of semaphore s where the count is above 0, else it waits within the limit.
-fn acquire(tables: &mut Tables, me: u8, limit: TimeLimit, s: u8) -> Answer
+fn acquire(tables: &mut KernelState, me: u8, limit: TimeLimit, s: u8) -> Answer
     requires there { s < length tables.old.system.semaphores }
     requires me { me < length tables.old.system.tasks }
     requires limit { IsTimeLimit limit }
@@ -78,7 +78,7 @@ fn acquire(tables: &mut Tables, me: u8, limit: TimeLimit, s: u8) -> Answer
 /// `wai_sem` and `pol_sem` by task me (uITRON 4.0, section 4.4.1): takes a resource where the count is above 0, else
 /// waits at the end of the order within the limit. E_ID if the number names no semaphore, then E_TMOUT if a poll finds
 /// the count 0; nothing changes then.
-pub fn wai_sem(tables: &mut Tables, me: u8, limit: TimeLimit, semaphore: i32) -> Answer
+pub fn wai_sem(tables: &mut KernelState, me: u8, limit: TimeLimit, semaphore: i32) -> Answer
     requires me { me < length tables.old.system.tasks }
     requires limit { IsTimeLimit limit }
     ensures outcome { outcome result tables.new []
@@ -94,7 +94,7 @@ pub fn wai_sem(tables: &mut Tables, me: u8, limit: TimeLimit, semaphore: i32) ->
 /// `twai_sem` by task me (uITRON 4.0, section 4.4.1): as `wai_sem`, with the time limit that a number states, in ticks:
 /// -1 is none, 0 polls, the greatest is 2^30. E_ID if the number names no semaphore, then E_PAR if the limit is none of
 /// these, then E_TMOUT if a poll finds the count 0; nothing changes then.
-pub fn twai_sem(tables: &mut Tables, me: u8, semaphore: i32, limit: i32) -> Answer
+pub fn twai_sem(tables: &mut KernelState, me: u8, semaphore: i32, limit: i32) -> Answer
     requires { me < length tables.old.system.tasks }
     ensures outcome { outcome result tables.new []
         ≡ twai_sem_case tables.old.state me (task_at tables.old.state.tasks me) semaphore limit }

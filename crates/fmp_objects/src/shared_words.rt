@@ -6,11 +6,11 @@ ghost use Rattle.fmp_tasks.specs.Tables.{outcome, SameShape};
 
 use fmp_base::arguments::numbered;
 use fmp_base::{Answer, Er};
-use fmp_tasks::Tables;
+use fmp_tasks::KernelState;
 use fmp_tasks::answers::{gives, replied};
 
 /// The shared word that a number names, if there is one.
-fn shared_word_of(tables: &Tables, number: i32) -> Option<u8>
+fn shared_word_of(tables: &KernelState, number: i32) -> Option<u8>
     ensures value { result ≡ place_of (length tables.now.state.shared_words) number }
     ensures there { IfSome result (λ w. w < length tables.now.system.shared_words) }
 {
@@ -18,7 +18,7 @@ fn shared_word_of(tables: &Tables, number: i32) -> Option<u8>
 }
 
 /// `ld_shr`, this kernel's own: gives a shared word, and changes nothing. E_ID if the number names none.
-pub fn ld_shr(tables: &Tables, word: i32) -> Answer
+pub fn ld_shr(tables: &KernelState, word: i32) -> Answer
     ensures { outcome result tables.now [] ≡ ld_shr_case tables.now.state word }
 {
     match shared_word_of(tables, word) {
@@ -28,7 +28,7 @@ pub fn ld_shr(tables: &Tables, word: i32) -> Answer
 }
 
 /// `st_shr`, this kernel's own: writes a shared word. E_ID if the number names none; nothing changes then.
-pub fn st_shr(tables: &mut Tables, word: i32, value: i32) -> Answer
+pub fn st_shr(tables: &mut KernelState, word: i32, value: i32) -> Answer
     ensures outcome { outcome result tables.new [] ≡ st_shr_case tables.old.state word value }
     ensures shape { SameShape tables.old tables.new }
 {

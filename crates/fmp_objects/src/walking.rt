@@ -8,7 +8,7 @@ ghost use Rattle.fmp_tasks.specs.Lines.{AreEmptyWithRoom};
 ghost use Rattle.fmp_tasks.specs.Tables.{progress, SameShapeAndRoom};
 
 use fmp_base::{FlagMode, Line, Phase, Reply, WaitCause, WaitQueue};
-use fmp_tasks::Tables;
+use fmp_tasks::KernelState;
 use fmp_tasks::answers::given;
 use fmp_tasks::tasks::release;
 
@@ -41,7 +41,7 @@ fn with_bits(bits: u16) -> Reply
 
 /// The waiting tasks of flag f that its bits satisfy are released with them, in the order of the queue; with TA_CLR the
 /// first release clears all bits and is the last.
-pub fn walk(tables: &mut Tables, lines: &mut Vec<Line>, f: u8, bits: u16)
+pub fn walk(tables: &mut KernelState, lines: &mut Vec<Line>, f: u8, bits: u16)
     requires there { f < length tables.old.system.flags }
     requires lines { AreEmptyWithRoom (length tables.old.system.tasks) lines.old }
     ensures progress { progress tables.new lines.new.items

@@ -11,12 +11,12 @@ ghost use Rattle.fmp_tasks.specs.Tables.{outcome, SameShapeAndRoom};
 
 use fmp_base::arguments::{limit_of, numbered};
 use fmp_base::{Answer, Er, Line, Phase, TimeLimit, WaitCause, WaitQueue};
-use fmp_tasks::Tables;
+use fmp_tasks::KernelState;
 use fmp_tasks::answers::{code, given, gives, replied};
 use fmp_tasks::tasks::{release, wait_within};
 
 /// The data queue that a number names, if there is one.
-fn data_queue_of(tables: &Tables, number: i32) -> Option<u8>
+fn data_queue_of(tables: &KernelState, number: i32) -> Option<u8>
     ensures value { result ≡ place_of (length tables.now.state.data_queues) number }
     ensures there { IfSome result (λ d. d < length tables.now.system.data_queues) }
 {
@@ -36,7 +36,7 @@ fn offered_word(phase: Phase) -> i32
 /// The first task that waits to receive gets the word, or the word is put last if there is room, or else task me waits
 /// with it within the limit.
 fn send(
-    tables: &mut Tables,
+    tables: &mut KernelState,
     lines: &mut Vec<Line>,
     me: u8,
     limit: TimeLimit,
@@ -69,7 +69,7 @@ fn send(
 /// within the limit. E_ID if the number names no data queue, then E_TMOUT if a poll would have to wait; nothing changes
 /// then.
 pub fn snd_dtq(
-    tables: &mut Tables,
+    tables: &mut KernelState,
     lines: &mut Vec<Line>,
     me: u8,
     limit: TimeLimit,
@@ -93,7 +93,7 @@ pub fn snd_dtq(
 /// -1 is none, 0 polls, the greatest is 2^30. E_ID if the number names no data queue, then E_PAR if the limit is none
 /// of these, then E_TMOUT if a poll would have to wait; nothing changes then.
 pub fn tsnd_dtq(
-    tables: &mut Tables,
+    tables: &mut KernelState,
     lines: &mut Vec<Line>,
     me: u8,
     queue: i32,
@@ -118,7 +118,7 @@ pub fn tsnd_dtq(
 /// `ipsnd_dtq`, and what `psnd_dtq` does for every caller (uITRON 4.0, section 4.4.3): as `snd_dtq` with a poll, but
 /// with no caller. E_ID if the number names no data queue, then E_TMOUT if no task waits to receive and there is no
 /// room; nothing changes then.
-pub fn psnd_dtq(tables: &mut Tables, lines: &mut Vec<Line>, queue: i32, word: i32) -> Answer
+pub fn psnd_dtq(tables: &mut KernelState, lines: &mut Vec<Line>, queue: i32, word: i32) -> Answer
     requires lines { AreEmptyWithRoom 1 lines.old }
     ensures outcome { (me : ℕ) (x : TaskBlock)
         → outcome result tables.new lines.new.items
@@ -142,7 +142,7 @@ pub fn psnd_dtq(tables: &mut Tables, lines: &mut Vec<Line>, queue: i32, word: i3
 }
 
 /// The first task that waits to receive gets the word, or the word is put last, where a full queue drops its oldest.
-fn force(tables: &mut Tables, lines: &mut Vec<Line>, d: u8, word: i32) -> Answer
+fn force(tables: &mut KernelState, lines: &mut Vec<Line>, d: u8, word: i32) -> Answer
     requires there { d < length tables.old.system.data_queues }
     requires lines { AreEmptyWithRoom 1 lines.old }
     ensures outcome { outcome result tables.new lines.new.items
@@ -164,7 +164,7 @@ fn force(tables: &mut Tables, lines: &mut Vec<Line>, d: u8, word: i32) -> Answer
 /// `fsnd_dtq` and `ifsnd_dtq` (uITRON 4.0, section 4.4.3): releases the first task that waits to receive with E_OK and
 /// the word; with none puts the word last, and a full queue drops its oldest word first. E_ID if the number names no
 /// data queue, then E_ILUSE if it can hold no word; nothing changes then.
-pub fn fsnd_dtq(tables: &mut Tables, lines: &mut Vec<Line>, queue: i32, word: i32) -> Answer
+pub fn fsnd_dtq(tables: &mut KernelState, lines: &mut Vec<Line>, queue: i32, word: i32) -> Answer
     requires lines { AreEmptyWithRoom 1 lines.old }
     ensures outcome { outcome result tables.new lines.new.items
         ≡ fsnd_dtq_case tables.old.system tables.old.state queue word }
@@ -181,7 +181,7 @@ pub fn fsnd_dtq(tables: &mut Tables, lines: &mut Vec<Line>, queue: i32, word: i3
 
 /// The oldest word, which this is, leaves the queue. The word of the first task that waits to send, if any, is put
 /// last, and the task is released.
-fn take_oldest(tables: &mut Tables, lines: &mut Vec<Line>, d: u8, word: i32) -> Answer
+fn take_oldest(tables: &mut KernelState, lines: &mut Vec<Line>, d: u8, word: i32) -> Answer
     requires there { d < length tables.old.system.data_queues }
     requires oldest { slice_get (words_at tables.old.state d) 0 ≡ Some word }
     requires lines { AreEmptyWithRoom 1 lines.old }
@@ -202,7 +202,13 @@ fn take_oldest(tables: &mut Tables, lines: &mut Vec<Line>, d: u8, word: i32) -> 
 
 /// Task me gets the oldest word, or with none that of the first task that waits to send, or else it waits within the
 /// limit.
-fn receive(tables: &mut Tables, lines: &mut Vec<Line>, me: u8, limit: TimeLimit, d: u8) -> Answer
+fn receive(
+    tables: &mut KernelState,
+    lines: &mut Vec<Line>,
+    me: u8,
+    limit: TimeLimit,
+    d: u8,
+) -> Answer
     requires there { d < length tables.old.system.data_queues }
     requires me { me < length tables.old.system.tasks }
     requires limit { IsTimeLimit limit }
@@ -228,7 +234,7 @@ fn receive(tables: &mut Tables, lines: &mut Vec<Line>, me: u8, limit: TimeLimit,
 /// word of that task and releases it; else waits at the end of the order within the limit. E_ID if the number names no
 /// data queue, then E_TMOUT if a poll finds no word; nothing changes then.
 pub fn rcv_dtq(
-    tables: &mut Tables,
+    tables: &mut KernelState,
     lines: &mut Vec<Line>,
     me: u8,
     limit: TimeLimit,
@@ -251,7 +257,7 @@ pub fn rcv_dtq(
 /// -1 is none, 0 polls, the greatest is 2^30. E_ID if the number names no data queue, then E_PAR if the limit is none
 /// of these, then E_TMOUT if a poll finds no word; nothing changes then.
 pub fn trcv_dtq(
-    tables: &mut Tables,
+    tables: &mut KernelState,
     lines: &mut Vec<Line>,
     me: u8,
     queue: i32,

@@ -9,12 +9,12 @@ ghost use Rattle.fmp_tasks.specs.Tables.{outcome, SameShape, SameShapeAndRoom};
 
 use fmp_base::arguments::{limit_of, numbered};
 use fmp_base::{Answer, Er, Line, QueueOrder, TimeLimit, WaitCause, WaitQueue};
-use fmp_tasks::Tables;
+use fmp_tasks::KernelState;
 use fmp_tasks::answers::{given, gives, replied};
 use fmp_tasks::tasks::{release, wait_within};
 
 /// The mailbox that a number names, if there is one.
-fn mailbox_of(tables: &Tables, number: i32) -> Option<u8>
+fn mailbox_of(tables: &KernelState, number: i32) -> Option<u8>
     ensures value { result ≡ place_of (length tables.now.state.mailboxes) number }
     ensures there { IfSome result (λ m. m < length tables.now.system.mailboxes) }
 {
@@ -22,7 +22,7 @@ fn mailbox_of(tables: &Tables, number: i32) -> Option<u8>
 }
 
 /// The message that a number names, if there is one.
-fn message_of(tables: &Tables, number: i32) -> Option<u8>
+fn message_of(tables: &KernelState, number: i32) -> Option<u8>
     ensures value { result ≡ place_of (length tables.now.system.messages) number }
     ensures there { IfSome result (λ g. g < length tables.now.system.messages) }
 {
@@ -31,7 +31,7 @@ fn message_of(tables: &Tables, number: i32) -> Option<u8>
 
 /// The first task that waits for mailbox m gets message g, or the message is queued. E_PAR if messages queue by
 /// priority and this one's is above the mailbox's limit, then E_OBJ if it is queued somewhere.
-fn send(tables: &mut Tables, lines: &mut Vec<Line>, m: u8, g: u8) -> Answer
+fn send(tables: &mut KernelState, lines: &mut Vec<Line>, m: u8, g: u8) -> Answer
     requires mailbox { m < length tables.old.system.mailboxes }
     requires message { g < length tables.old.system.messages }
     requires lines { AreEmptyWithRoom 1 lines.old }
@@ -60,7 +60,12 @@ fn send(tables: &mut Tables, lines: &mut Vec<Line>, m: u8, g: u8) -> Answer
 /// message's number; with none queues the message, with TA_MPRI behind those of its priority or more urgent, else last.
 /// In this order: E_ID if a number names no mailbox or no message, E_PAR if, with TA_MPRI, the message's priority is
 /// above the mailbox's limit, E_OBJ if the message is queued in some mailbox; nothing changes then.
-pub fn snd_mbx(tables: &mut Tables, lines: &mut Vec<Line>, mailbox: i32, message: i32) -> Answer
+pub fn snd_mbx(
+    tables: &mut KernelState,
+    lines: &mut Vec<Line>,
+    mailbox: i32,
+    message: i32,
+) -> Answer
     requires lines { AreEmptyWithRoom 1 lines.old }
     ensures outcome { outcome result tables.new lines.new.items
         ≡ snd_mbx_case tables.old.system tables.old.state mailbox message }
@@ -76,7 +81,7 @@ pub fn snd_mbx(tables: &mut Tables, lines: &mut Vec<Line>, mailbox: i32, message
 }
 
 /// Task me gets the first message of mailbox m, or else it waits within the limit.
-fn receive(tables: &mut Tables, me: u8, limit: TimeLimit, m: u8) -> Answer
+fn receive(tables: &mut KernelState, me: u8, limit: TimeLimit, m: u8) -> Answer
     requires there { m < length tables.old.system.mailboxes }
     requires me { me < length tables.old.system.tasks }
     requires limit { IsTimeLimit limit }
@@ -99,7 +104,7 @@ fn receive(tables: &mut Tables, me: u8, limit: TimeLimit, m: u8) -> Answer
 /// `rcv_mbx` and `prcv_mbx` by task me (uITRON 4.0, section 4.4.4): gives the number of the first message and takes it
 /// out, else waits at the end of the order within the limit. E_ID if the number names no mailbox, then E_TMOUT if a
 /// poll finds no message; nothing changes then.
-pub fn rcv_mbx(tables: &mut Tables, me: u8, limit: TimeLimit, mailbox: i32) -> Answer
+pub fn rcv_mbx(tables: &mut KernelState, me: u8, limit: TimeLimit, mailbox: i32) -> Answer
     requires me { me < length tables.old.system.tasks }
     requires limit { IsTimeLimit limit }
     ensures outcome { outcome result tables.new []
@@ -115,7 +120,7 @@ pub fn rcv_mbx(tables: &mut Tables, me: u8, limit: TimeLimit, mailbox: i32) -> A
 /// `trcv_mbx` by task me (uITRON 4.0, section 4.4.4): as `rcv_mbx`, with the time limit that a number states, in ticks:
 /// -1 is none, 0 polls, the greatest is 2^30. E_ID if the number names no mailbox, then E_PAR if the limit is none of
 /// these, then E_TMOUT if a poll finds no message; nothing changes then.
-pub fn trcv_mbx(tables: &mut Tables, me: u8, mailbox: i32, limit: i32) -> Answer
+pub fn trcv_mbx(tables: &mut KernelState, me: u8, mailbox: i32, limit: i32) -> Answer
     requires { me < length tables.old.system.tasks }
     ensures outcome { outcome result tables.new []
         ≡ trcv_mbx_case tables.old.state me (task_at tables.old.state.tasks me) mailbox limit }

@@ -11,7 +11,7 @@ use crate::site::Site;
 use fmp_base::{Caller, Entry, HandlerContext, Held, Line, Phase, System};
 use fmp_code::{MachineContext, Vm};
 use fmp_kernel::Kernel;
-use fmp_tasks::Tables;
+use fmp_tasks::KernelState;
 
 /// The next instruction of a body of which this is kept.
 fn pc_of(held: &Held<MachineContext>) -> u16
@@ -81,7 +81,7 @@ fn is_dormant(phase: Phase) -> bool
 }
 
 /// Whether there is a task of this place, and it is started.
-pub fn is_started(tables: &Tables, t: u8) -> bool
+pub fn is_started(tables: &KernelState, t: u8) -> bool
     ensures { result ≡ not (sleeps (task_at tables.now.state.tasks t).phase) }
 {
     if usize::from(t) >= tables.task_count() {

@@ -6,7 +6,7 @@ ghost use Rattle.fmp_schedules.specs.Schedules as spec;
 use crate::question::Question;
 use fmp_base::TaskBlock;
 use fmp_kernel::{Body, Kernel};
-use fmp_tasks::Tables;
+use fmp_tasks::KernelState;
 
 /// Whether at most this many activations and wakeups of a task are queued.
 fn is_within(most: u8, task: TaskBlock) -> bool
@@ -16,7 +16,7 @@ fn is_within(most: u8, task: TaskBlock) -> bool
 }
 
 /// The same of each task.
-fn are_all_within(most: u8, tables: &Tables) -> bool
+fn are_all_within(most: u8, tables: &KernelState) -> bool
     ensures { result ≡ list_all (spec.is_within most) tables.now.state.tasks }
 {
     for t in 0..tables.task_count() as u8 {

@@ -8,13 +8,13 @@ use crate::question::Question;
 use fmp_base::Phase;
 use fmp_drive::{Source, first_taken};
 use fmp_kernel::{Body, Kernel};
-use fmp_tasks::Tables;
+use fmp_tasks::KernelState;
 
 /// The end of the interrupts' numbers.
 const INTERRUPTS_END: u8 = 33;
 
 /// Whether no wait of a task ends by the clock.
-fn no_wait_ends(tables: &Tables) -> bool
+fn no_wait_ends(tables: &KernelState) -> bool
     ensures { IsTrue result ↔ NoWaitEnds tables.now.state (length tables.now.system.tasks) }
 {
     for t in 0..tables.task_count() as u8 {
@@ -27,7 +27,7 @@ fn no_wait_ends(tables: &Tables) -> bool
 }
 
 /// Whether no cyclic handler is started.
-fn no_handler_comes(tables: &Tables) -> bool
+fn no_handler_comes(tables: &KernelState) -> bool
     ensures { IsTrue result ↔ NoHandlerComes tables.now.state (length tables.now.system.cyclics) }
 {
     for c in 0..tables.cyclic_count() as u8 {
@@ -60,7 +60,7 @@ fn is_started(phase: Phase) -> bool
 }
 
 /// Whether the task at a place is started, and may not wait forever.
-fn is_stuck_at(tables: &Tables, question: &Question, t: u8) -> bool
+fn is_stuck_at(tables: &KernelState, question: &Question, t: u8) -> bool
     requires { t < length tables.now.system.tasks }
     ensures { IsTrue result ↔ IsStuckAt question.now.rest.items tables.now.state t }
 {
@@ -71,7 +71,7 @@ fn is_stuck_at(tables: &Tables, question: &Question, t: u8) -> bool
 }
 
 /// Whether a task that may not wait forever is started.
-fn is_someone_stuck(tables: &Tables, question: &Question) -> bool
+fn is_someone_stuck(tables: &KernelState, question: &Question) -> bool
     ensures { IsTrue result
         ↔ IsStuck question.now.rest.items tables.now.state (length tables.now.system.tasks) }
 {
@@ -84,7 +84,7 @@ fn is_someone_stuck(tables: &Tables, question: &Question) -> bool
 }
 
 /// Whether no time runs, and a task that may not wait forever is started.
-fn time_stands(tables: &Tables, question: &Question) -> bool
+fn time_stands(tables: &KernelState, question: &Question) -> bool
     ensures { IsTrue result ↔ StandsStill question.now.rest.items tables.now.system tables.now.state }
 {
     if !no_wait_ends(tables) {

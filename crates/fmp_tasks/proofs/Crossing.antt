@@ -10,8 +10,8 @@ use Rattle.fmp_spin.proofs.pending.PendingHandlers.TheSendSync as pending
 use Rattle.fmp_spin.proofs.processors.Processors.TheSendSync as processors
 use Rattle.fmp_tasks.proofs.words.Words.TheSendSync as words
 use Rattle.fmp_tasks.specs.contracts.order.Order as Order
-use Rattle.fmp_tasks.specs.contracts.tables.Tables as Tables
-use Rattle.fmp_tasks.specs.contracts.tables.Tables.TheInside as tables
+use Rattle.fmp_tasks.specs.contracts.kernel_state.KernelState as KernelState
+use Rattle.fmp_tasks.specs.contracts.kernel_state.KernelState.TheInside as tables
 use Rattle.fmp_ticks.proofs.cyclics.Cyclics.TheSendSync as cyclics
 use Rattle.fmp_ticks.proofs.deadlines.TickQueue.TheSendSync as deadlines
 use Rattle.fmp_waitq.proofs.queues.WaitQueues.TheSendSync as waits
@@ -24,7 +24,7 @@ ruleset queues = (order_send, rings.the_send, ready.the_send, waits.the_field_se
 
 ruleset parts = (queues, system.the_field_send, block.the_send, processors.the_send, cyclics.the_send, pending.the_send)
 
-pub tables_send : IsSend Tables.the_row
+pub tables_send : IsSend KernelState.the_row
 tables_send =
     view_send tables.the_row _ _ _ _
     (recorded_send tables.the_field.row _ _ tables.the_type.to_one

@@ -8,7 +8,7 @@ use Rattle.fmp_base.specs.Systems.{tables_of}
 use Rattle.fmp_ready.specs.ReadyLists.{most_urgent}
 use Rattle.fmp_spin.specs.Pending.{HandlerProcessors, first_handler}
 use Rattle.fmp_spin.specs.PendingLaws.{first_handler-is}
-use Rattle.fmp_tasks.specs.declared.tables.Tables.TheInside.{Inside}
+use Rattle.fmp_tasks.specs.declared.kernel_state.KernelState.TheInside.{Inside}
 use Rattle.fmp_tasks.specs.Marks.{IsAtRest}
 use Rattle.fmp_tasks.specs.Tables.{IsWhole, tables_view}
 use Rattle.fmp_tasks.proofs.SoundLemmas.{lists-enough, own_processors}

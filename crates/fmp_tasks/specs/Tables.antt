@@ -18,7 +18,7 @@ use Rattle.fmp_spin.specs.Pending.{handler_processors}
 use Rattle.fmp_ticks.specs.Times.{NoneBefore}
 use Rattle.fmp_waitq.specs.declared.queues.WaitQueues.{WaitQueues}
 use Rattle.fmp_waitq.specs.WaitLists.{count_of_lists}
-use Rattle.fmp_tasks.specs.declared.tables.Tables.TheInside.{Inside}
+use Rattle.fmp_tasks.specs.declared.kernel_state.KernelState.TheInside.{Inside}
 use Rattle.fmp_tasks.specs.Marks.{AreAtRest}
 use Rattle.fmp_tasks.specs.Homes.{Kept, BlocksFit, Standing, home, order_with_head, counts_of, waits_of}
 

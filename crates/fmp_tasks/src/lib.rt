@@ -5,6 +5,7 @@
 
 pub mod answers;
 mod config;
+pub mod kernel_state;
 mod latest;
 mod marks;
 mod messages;
@@ -14,12 +15,11 @@ mod restart;
 pub mod restoring;
 pub mod saved;
 mod setup;
-pub mod tables;
 pub mod tasks;
 pub mod trail;
 mod words;
 
 pub use config::copied_system;
+pub use kernel_state::KernelState;
 pub use order::Order;
 pub use saved::{SavedMessage, SavedState, SavedWord};
-pub use tables::Tables;

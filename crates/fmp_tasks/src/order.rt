@@ -8,7 +8,7 @@ use std::snapshot::Snapshot;
 
 mod copying;
 
-/// The order of which every queue is a part. What binds it is the invariant of `Tables` alone.
+/// The order of which every queue is a part. What binds it is the invariant of `KernelState` alone.
 #[derive(Drop)]
 pub struct Order {
     past: Snapshot<Trail>,

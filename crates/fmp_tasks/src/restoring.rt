@@ -8,10 +8,10 @@ ghost use Rattle.fmp_tasks.specs.Homes.{counts_of, is_in_order, is_waiting as is
 ghost use Rattle.fmp_tasks.specs.Tables.{SameShape};
 ghost use Rattle.fmp_waitq.specs.WaitLists.{IsThere};
 
+use crate::kernel_state::KernelState;
 use crate::queues::{is_ready, queue_of};
 use crate::saved::{SavedMessage, SavedState, SavedWord};
 use crate::setup::created;
-use crate::tables::Tables;
 use fmp_base::{Handler, Phase, Processor, TaskBlock, WaitQueue};
 
 /// How many interrupts there are.
@@ -74,7 +74,7 @@ fn is_later(time: Option<u32>, now: u32) -> bool
 }
 
 /// Whether the system has a wait queue.
-fn has_queue(tables: &Tables, queue: WaitQueue) -> bool
+fn has_queue(tables: &KernelState, queue: WaitQueue) -> bool
     ensures { result ≡ true → IsThere (counts_of tables.now.system) queue }
 {
     match queue {
@@ -87,7 +87,7 @@ fn has_queue(tables: &Tables, queue: WaitQueue) -> bool
 }
 
 /// Whether the system has the wait queue of a phase, if that has one.
-fn has_queue_of(tables: &Tables, phase: Phase) -> bool
+fn has_queue_of(tables: &KernelState, phase: Phase) -> bool
     ensures { result ≡ true → IsSomeThere (counts_of tables.now.system) (queue_of_phase phase) }
 {
     match queue_of(phase) {
@@ -98,7 +98,7 @@ fn has_queue_of(tables: &Tables, phase: Phase) -> bool
 
 /// The block, if its numbers are in range for the system, a dormant task is not suspended, and its deadline lies after
 /// the clock.
-fn fitting(tables: &Tables, x: &TaskBlock) -> Option<TaskBlock>
+fn fitting(tables: &KernelState, x: &TaskBlock) -> Option<TaskBlock>
     ensures fits { IfSome result (λ y. Fits tables.now.system y) }
     ensures later { IfSome result (λ y. IfSome y.deadline (λ w. tables.now.state.clock + 1 ≤ w)) }
 {
@@ -128,7 +128,7 @@ fn fitting(tables: &Tables, x: &TaskBlock) -> Option<TaskBlock>
 }
 
 /// Task t leaves its queue, as created and not started.
-fn put_out(tables: &mut Tables, t: u8)
+fn put_out(tables: &mut KernelState, t: u8)
     requires { t < length tables.old.system.tasks }
     ensures { SameShape tables.old tables.new }
 {
@@ -138,7 +138,7 @@ fn put_out(tables: &mut Tables, t: u8)
 
 /// Task t leaves its queue and becomes x, which has to fit; if x stands in a queue, it is not started until it is put
 /// there. Gives whether x fits.
-fn put_aside(tables: &mut Tables, t: u8, x: &TaskBlock) -> bool
+fn put_aside(tables: &mut KernelState, t: u8, x: &TaskBlock) -> bool
     requires { t < length tables.old.system.tasks }
     ensures { SameShape tables.old tables.new }
 {
@@ -154,7 +154,7 @@ fn put_aside(tables: &mut Tables, t: u8, x: &TaskBlock) -> bool
 }
 
 /// Task t becomes x, which has to fit and to stand in a queue, and goes to the end of the order. Gives whether it does.
-fn put_last(tables: &mut Tables, t: u8, x: &TaskBlock) -> bool
+fn put_last(tables: &mut KernelState, t: u8, x: &TaskBlock) -> bool
     requires { t < length tables.old.system.tasks }
     ensures { SameShape tables.old tables.new }
 {
@@ -171,7 +171,7 @@ fn put_last(tables: &mut Tables, t: u8, x: &TaskBlock) -> bool
 
 /// All tasks leave their queues, and become as saved where they stand in none. Gives whether the blocks are those of the
 /// tasks.
-fn put_blocks(tables: &mut Tables, blocks: &[TaskBlock]) -> bool
+fn put_blocks(tables: &mut KernelState, blocks: &[TaskBlock]) -> bool
     ensures { SameShape tables.old tables.new }
 {
     let count = tables.task_count() as u8;
@@ -187,7 +187,7 @@ fn put_blocks(tables: &mut Tables, blocks: &[TaskBlock]) -> bool
 }
 
 /// The tasks of an order go to the end of the order, one after the other. Gives whether they are tasks that stand there.
-fn put_order(tables: &mut Tables, blocks: &[TaskBlock], order: &[u8]) -> bool
+fn put_order(tables: &mut KernelState, blocks: &[TaskBlock], order: &[u8]) -> bool
     ensures { SameShape tables.old tables.new }
 {
     for task in order {
@@ -206,7 +206,7 @@ fn put_order(tables: &mut Tables, blocks: &[TaskBlock], order: &[u8]) -> bool
 }
 
 /// The count of each semaphore. Gives whether there are as many.
-fn put_counts(tables: &mut Tables, counts: &[u16]) -> bool
+fn put_counts(tables: &mut KernelState, counts: &[u16]) -> bool
     ensures { SameShape tables.old tables.new }
 {
     let count = tables.semaphore_count() as u8;
@@ -220,7 +220,7 @@ fn put_counts(tables: &mut Tables, counts: &[u16]) -> bool
 }
 
 /// The pattern of each eventflag. Gives whether there are as many.
-fn put_patterns(tables: &mut Tables, patterns: &[u16]) -> bool
+fn put_patterns(tables: &mut KernelState, patterns: &[u16]) -> bool
     ensures { SameShape tables.old tables.new }
 {
     let count = tables.flag_count() as u8;
@@ -234,7 +234,7 @@ fn put_patterns(tables: &mut Tables, patterns: &[u16]) -> bool
 }
 
 /// Each shared word. Gives whether there are as many.
-fn put_shared_words(tables: &mut Tables, words: &[i32]) -> bool
+fn put_shared_words(tables: &mut KernelState, words: &[i32]) -> bool
     ensures { SameShape tables.old tables.new }
 {
     let count = tables.shared_word_count() as u8;
@@ -248,7 +248,7 @@ fn put_shared_words(tables: &mut Tables, words: &[i32]) -> bool
 }
 
 /// Each processor. Gives whether there are as many.
-fn put_processors(tables: &mut Tables, processors: &[Processor]) -> bool
+fn put_processors(tables: &mut KernelState, processors: &[Processor]) -> bool
     ensures { SameShape tables.old tables.new }
 {
     let count = tables.processor_count() as u8;
@@ -262,7 +262,7 @@ fn put_processors(tables: &mut Tables, processors: &[Processor]) -> bool
 }
 
 /// No data queue holds a word.
-fn clear_queues(tables: &mut Tables)
+fn clear_queues(tables: &mut KernelState)
     ensures { SameShape tables.old tables.new }
 {
     let count = tables.data_queue_count() as u8;
@@ -272,7 +272,7 @@ fn clear_queues(tables: &mut Tables)
 }
 
 /// A word comes last in its data queue. Gives whether there is such a queue, and room in it.
-fn put_word(tables: &mut Tables, saved: SavedWord) -> bool
+fn put_word(tables: &mut KernelState, saved: SavedWord) -> bool
     ensures { SameShape tables.old tables.new }
 {
     if saved.queue as usize >= tables.data_queue_count() {
@@ -287,7 +287,7 @@ fn put_word(tables: &mut Tables, saved: SavedWord) -> bool
 }
 
 /// The data queues hold these words and no others. Gives whether there are such queues, with room for them.
-fn put_words(tables: &mut Tables, words: &[SavedWord]) -> bool
+fn put_words(tables: &mut KernelState, words: &[SavedWord]) -> bool
     ensures { SameShape tables.old tables.new }
 {
     clear_queues(tables);
@@ -300,7 +300,7 @@ fn put_words(tables: &mut Tables, words: &[SavedWord]) -> bool
 }
 
 /// No message is in a mailbox.
-fn empty_mailbox(tables: &mut Tables, x: u8)
+fn empty_mailbox(tables: &mut KernelState, x: u8)
     requires { x < length tables.old.system.mailboxes }
     ensures { SameShape tables.old tables.new }
 {
@@ -311,7 +311,7 @@ fn empty_mailbox(tables: &mut Tables, x: u8)
 }
 
 /// No message is in any mailbox.
-fn empty_mailboxes(tables: &mut Tables)
+fn empty_mailboxes(tables: &mut KernelState)
     ensures { SameShape tables.old tables.new }
 {
     let count = tables.mailbox_count() as u8;
@@ -321,7 +321,7 @@ fn empty_mailboxes(tables: &mut Tables)
 }
 
 /// A message comes into its mailbox. Gives whether there are such ones, and the message was in no mailbox.
-fn put_message(tables: &mut Tables, saved: SavedMessage) -> bool
+fn put_message(tables: &mut KernelState, saved: SavedMessage) -> bool
     ensures { SameShape tables.old tables.new }
 {
     if saved.mailbox as usize >= tables.mailbox_count() {
@@ -338,7 +338,7 @@ fn put_message(tables: &mut Tables, saved: SavedMessage) -> bool
 }
 
 /// The mailboxes hold these messages and no others. Gives whether there are such ones, each message once.
-fn put_messages(tables: &mut Tables, messages: &[SavedMessage]) -> bool
+fn put_messages(tables: &mut KernelState, messages: &[SavedMessage]) -> bool
     ensures { SameShape tables.old tables.new }
 {
     empty_mailboxes(tables);
@@ -351,7 +351,7 @@ fn put_messages(tables: &mut Tables, messages: &[SavedMessage]) -> bool
 }
 
 /// A cyclic handler is due then. Gives whether this lies after the clock.
-fn put_due(tables: &mut Tables, c: u8, due: Option<u32>) -> bool
+fn put_due(tables: &mut KernelState, c: u8, due: Option<u32>) -> bool
     requires { c < length tables.old.system.cyclics }
     ensures { SameShape tables.old tables.new }
 {
@@ -364,7 +364,7 @@ fn put_due(tables: &mut Tables, c: u8, due: Option<u32>) -> bool
 }
 
 /// Each cyclic handler is due as saved. Gives whether there are as many times, all after the clock.
-fn put_due_times(tables: &mut Tables, times: &[Option<u32>]) -> bool
+fn put_due_times(tables: &mut KernelState, times: &[Option<u32>]) -> bool
     ensures { SameShape tables.old tables.new }
 {
     let count = tables.cyclic_count() as u8;
@@ -380,7 +380,7 @@ fn put_due_times(tables: &mut Tables, times: &[Option<u32>]) -> bool
 }
 
 /// Whether a cyclic handler is pending becomes this.
-fn put_cyclic(tables: &mut Tables, c: u8, pending: bool)
+fn put_cyclic(tables: &mut KernelState, c: u8, pending: bool)
     requires { c < length tables.old.system.cyclics }
     ensures { SameShape tables.old tables.new }
 {
@@ -392,7 +392,7 @@ fn put_cyclic(tables: &mut Tables, c: u8, pending: bool)
 }
 
 /// The pending cyclic handlers. Gives whether it is said of as many as there are.
-fn put_cyclics(tables: &mut Tables, pending: &[bool]) -> bool
+fn put_cyclics(tables: &mut KernelState, pending: &[bool]) -> bool
     ensures { SameShape tables.old tables.new }
 {
     let count = tables.cyclic_count() as u8;
@@ -406,7 +406,7 @@ fn put_cyclics(tables: &mut Tables, pending: &[bool]) -> bool
 }
 
 /// Whether the interrupt at a place is pending becomes this.
-fn put_interrupt(tables: &mut Tables, i: u8, pending: bool)
+fn put_interrupt(tables: &mut KernelState, i: u8, pending: bool)
     requires { i < 32 }
     ensures { SameShape tables.old tables.new }
 {
@@ -418,7 +418,7 @@ fn put_interrupt(tables: &mut Tables, i: u8, pending: bool)
 }
 
 /// The pending interrupts. Gives whether it is said of all 32.
-fn put_interrupts(tables: &mut Tables, pending: &[bool]) -> bool
+fn put_interrupts(tables: &mut KernelState, pending: &[bool]) -> bool
     ensures { SameShape tables.old tables.new }
 {
     if pending.len() != INTERRUPTS as usize {
@@ -431,7 +431,7 @@ fn put_interrupts(tables: &mut Tables, pending: &[bool]) -> bool
 }
 
 /// The tasks in their queues, and the processors.
-fn put_tasks(tables: &mut Tables, saved: &SavedState) -> bool
+fn put_tasks(tables: &mut KernelState, saved: &SavedState) -> bool
     ensures { SameShape tables.old tables.new }
 {
     if !put_blocks(tables, &saved.blocks) {
@@ -444,7 +444,7 @@ fn put_tasks(tables: &mut Tables, saved: &SavedState) -> bool
 }
 
 /// What the objects hold.
-fn put_objects(tables: &mut Tables, saved: &SavedState) -> bool
+fn put_objects(tables: &mut KernelState, saved: &SavedState) -> bool
     ensures { SameShape tables.old tables.new }
 {
     if !put_counts(tables, &saved.semaphores) {
@@ -463,7 +463,7 @@ fn put_objects(tables: &mut Tables, saved: &SavedState) -> bool
 }
 
 /// The handlers that are due or pending.
-fn put_handlers(tables: &mut Tables, saved: &SavedState) -> bool
+fn put_handlers(tables: &mut KernelState, saved: &SavedState) -> bool
     ensures { SameShape tables.old tables.new }
 {
     if !put_due_times(tables, &saved.due_times) {
@@ -477,7 +477,7 @@ fn put_handlers(tables: &mut Tables, saved: &SavedState) -> bool
 
 /// Puts tables into a saved state of their system, with clock 0. Gives whether the saved values are a state; where they
 /// are not, the tables are in some state. It takes no memory.
-pub fn restore(tables: &mut Tables, saved: &SavedState) -> bool
+pub fn restore(tables: &mut KernelState, saved: &SavedState) -> bool
     ensures system { tables.new.system ≡ tables.old.system }
     ensures clock { tables.new.state.clock ≡ 0 }
 {

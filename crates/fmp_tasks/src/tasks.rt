@@ -10,11 +10,11 @@ ghost use Rattle.fmp_tasks.specs.Homes.{Fits, IsSomeThere, counts_of};
 ghost use Rattle.fmp_base.specs.Arguments.{IsTimeLimit};
 ghost use Rattle.fmp_tasks.specs.Tables.{progress, outcome, SameShape, SameShapeAndRoom};
 
-use crate::tables::Tables;
+use crate::kernel_state::KernelState;
 use fmp_base::{Answer, Er, Line, Phase, Reply, TaskBlock, TimeLimit, WaitCause};
 
 /// The task starts, at the end of the order, on the processor that is stored for it, if any.
-pub fn start(tables: &mut Tables, lines: &mut Vec<Line>, t: u8, x: TaskBlock)
+pub fn start(tables: &mut KernelState, lines: &mut Vec<Line>, t: u8, x: TaskBlock)
     requires there { t < length tables.old.system.tasks }
     requires fits { Fits tables.old.system x }
     requires room { vec_len lines.old < vec_capacity lines.old }
@@ -43,7 +43,7 @@ pub fn start(tables: &mut Tables, lines: &mut Vec<Line>, t: u8, x: TaskBlock)
 }
 
 /// The waiting task is released with a reply; it goes to the end of the order, or leaves it if it is suspended.
-pub fn release(tables: &mut Tables, lines: &mut Vec<Line>, t: u8, x: TaskBlock, reply: Reply)
+pub fn release(tables: &mut KernelState, lines: &mut Vec<Line>, t: u8, x: TaskBlock, reply: Reply)
     requires there { t < length tables.old.system.tasks }
     requires fits { Fits tables.old.system x }
     requires room { vec_len lines.old < vec_capacity lines.old }
@@ -69,7 +69,7 @@ pub fn release(tables: &mut Tables, lines: &mut Vec<Line>, t: u8, x: TaskBlock, 
 }
 
 /// The task ends, and starts again where an activation is queued.
-pub fn end(tables: &mut Tables, lines: &mut Vec<Line>, t: u8, x: TaskBlock)
+pub fn end(tables: &mut KernelState, lines: &mut Vec<Line>, t: u8, x: TaskBlock)
     requires there { t < length tables.old.system.tasks }
     requires fits { Fits tables.old.system x }
     requires room { vec_len lines.old < vec_capacity lines.old }
@@ -96,7 +96,7 @@ pub fn end(tables: &mut Tables, lines: &mut Vec<Line>, t: u8, x: TaskBlock)
 }
 
 /// The task is suspended: a waiting one waits on in its place, another leaves the order.
-pub fn suspend(tables: &mut Tables, t: u8, x: TaskBlock)
+pub fn suspend(tables: &mut KernelState, t: u8, x: TaskBlock)
     requires there { t < length tables.old.system.tasks }
     requires is { x ≡ task_at tables.old.state.tasks t }
     requires fits { Fits tables.old.system x }
@@ -116,7 +116,7 @@ pub fn suspend(tables: &mut Tables, t: u8, x: TaskBlock)
 }
 
 /// The task waits at the end of the order, until the deadline if there is one.
-pub fn wait(tables: &mut Tables, t: u8, x: TaskBlock, cause: WaitCause, deadline: Option<u32>)
+pub fn wait(tables: &mut KernelState, t: u8, x: TaskBlock, cause: WaitCause, deadline: Option<u32>)
     requires there { t < length tables.old.system.tasks }
     requires fits { Fits tables.old.system x }
     requires queue { IsSomeThere (counts_of tables.old.system) (queue_of_cause cause) }
@@ -137,7 +137,7 @@ pub fn wait(tables: &mut Tables, t: u8, x: TaskBlock, cause: WaitCause, deadline
 
 /// The task waits within a limit; a poll fails and changes nothing.
 pub fn wait_within(
-    tables: &mut Tables,
+    tables: &mut KernelState,
     t: u8,
     x: TaskBlock,
     cause: WaitCause,

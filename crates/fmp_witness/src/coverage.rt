@@ -3,7 +3,7 @@ use fmp_base::{Caller, Er, Handler, Line};
 use fmp_code::{Code, Instruction};
 use fmp_fields::low_byte;
 use fmp_question::{ANSWERS, Site};
-use fmp_tasks::Tables;
+use fmp_tasks::KernelState;
 use std::alloc::{AllocError, Global};
 
 /// What was ever done with the calls of bodies, by the place of the body and of the instruction in it.
@@ -127,7 +127,7 @@ impl Calls {
 
 impl Runs {
     /// Nobody ran.
-    fn new(alloc: Global, tables: &Tables) -> Result<Runs, AllocError> {
+    fn new(alloc: Global, tables: &KernelState) -> Result<Runs, AllocError> {
         let tasks = vec![in alloc; false; tables.task_count()]?;
         let interrupts = vec![in alloc; false; 32]?;
         let cyclics = vec![in alloc; false; tables.cyclic_count()]?;
@@ -157,7 +157,7 @@ impl Runs {
 
 impl Peaks {
     /// Nothing was there.
-    fn new(alloc: Global, tables: &Tables) -> Result<Peaks, AllocError> {
+    fn new(alloc: Global, tables: &KernelState) -> Result<Peaks, AllocError> {
         let counts = vec![in alloc; 0; tables.semaphore_count()]?;
         let words = vec![in alloc; 0; tables.data_queue_count()]?;
         let messages = vec![in alloc; 0; tables.mailbox_count()]?;
@@ -169,7 +169,7 @@ impl Peaks {
     }
 
     /// The counts of the semaphores in a state.
-    fn note_counts(&mut self, tables: &Tables) {
+    fn note_counts(&mut self, tables: &KernelState) {
         for (s, most) in self.counts.iter_mut().enumerate() {
             if s < tables.semaphore_count() {
                 *most = tables.count(low_byte(s)).max(*most);
@@ -178,7 +178,7 @@ impl Peaks {
     }
 
     /// The lengths of the data queues in a state.
-    fn note_words(&mut self, tables: &Tables) {
+    fn note_words(&mut self, tables: &KernelState) {
         for (d, most) in self.words.iter_mut().enumerate() {
             if d < tables.data_queue_count() {
                 *most = tables.data_queue_length(low_byte(d)).max(*most);
@@ -187,7 +187,7 @@ impl Peaks {
     }
 
     /// The lengths of the mailboxes in a state.
-    fn note_messages(&mut self, tables: &Tables) {
+    fn note_messages(&mut self, tables: &KernelState) {
         for (x, most) in self.messages.iter_mut().enumerate() {
             if x < tables.mailbox_count() {
                 *most = tables.mailbox_length(low_byte(x)).max(*most);
@@ -218,7 +218,7 @@ impl Coverage {
     }
 
     /// Nothing was done yet in a system of these tables and this code. `AllocError` if memory runs out.
-    pub fn new(alloc: Global, tables: &Tables, code: &Code) -> Result<Coverage, AllocError> {
+    pub fn new(alloc: Global, tables: &KernelState, code: &Code) -> Result<Coverage, AllocError> {
         let calls = Calls::new(alloc, code)?;
         let runs = Runs::new(alloc, tables)?;
         let peaks = Peaks::new(alloc, tables)?;
@@ -246,7 +246,7 @@ impl Coverage {
     }
 
     /// How full the queues are in a state, and the counts of its semaphores.
-    pub fn note_state(&mut self, tables: &Tables) {
+    pub fn note_state(&mut self, tables: &KernelState) {
         self.peaks.note_counts(tables);
         self.peaks.note_words(tables);
         self.peaks.note_messages(tables);

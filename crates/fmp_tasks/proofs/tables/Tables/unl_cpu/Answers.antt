@@ -1,6 +1,0 @@
-use Rattle.std.proofs.Common.{sym}
-use Rattle.fmp_tasks.specs.Tables.{tables_view}
-use Rattle.fmp_tasks.proofs.tables.Tables.unl_cpu.Goals as goal
-
-pub returns-clause-outcome : goal.returns-clause-outcome
-returns-clause-outcome c = rw (← c.self.view_is) (sym (c.unlock_cpu.ensures.outcome (tables_view c.self.inside).state))
