@@ -3,8 +3,8 @@ ghost use Rattle.std.specs.Prelude.{◌≡◌, ◌+◌, ◌<◌, ◌≤◌, leng
 ghost use Rattle.fmp_base.specs.Links.{AddsAtMost};
 ghost use Rattle.fmp_ticks.specs.Times.{first_due as first_due_of, NoneBefore};
 
+use crate::deadline_heap::DeadlineHeap;
 use crate::heap::{is_before, rank};
-use crate::places::Places;
 use crate::times::unset;
 use fmp_base::Steps;
 use std::alloc::{AllocError, Global};
@@ -18,7 +18,7 @@ mod copying;
 #[derive(Drop)]
 pub struct TickQueue {
     deadlines: Vec<Option<u32>>,
-    places: Places,
+    heap: DeadlineHeap,
 }
 
 impl Model for TickQueue {
@@ -29,7 +29,7 @@ impl Model for TickQueue {
 
     ghost view = { λ a. a.deadlines.items };
 
-    ghost invariant = { λ a. IsTickHeap a.deadlines.items a.places };
+    ghost invariant = { λ a. IsTickHeap a.deadlines.items a.heap };
 }
 
 impl TickQueue {
@@ -38,8 +38,8 @@ impl TickQueue {
         ensures { IfOk result (λ q. q ≡ replicate tasks None) }
     {
         let deadlines = unset(alloc, tasks)?;
-        let places = Places::new(alloc, tasks)?;
-        Ok(TickQueue { deadlines, places })
+        let heap = DeadlineHeap::new(alloc, tasks)?;
+        Ok(TickQueue { deadlines, heap })
     }
 
     /// A task's wait ends when the clock is `when`.
@@ -49,14 +49,14 @@ impl TickQueue {
         ensures value { self.new ≡ slice_set self.old t (Some when) }
         ensures steps { AddsAtMost 22 steps.old steps.new }
     {
-        let slot = self.places.slot_of(t);
+        let slot = self.heap.slot_of(t);
         let stood = self.deadlines[t as usize].is_some();
         self.deadlines[t as usize] = Some(when);
-        self.places.set_rank(slot, rank(Some(when), t));
+        self.heap.set_rank(slot, rank(Some(when), t));
         if stood {
-            self.places.mend(slot, steps);
+            self.heap.mend(slot, steps);
         } else {
-            self.places.enter(slot, steps);
+            self.heap.enter(slot, steps);
         }
     }
 
@@ -68,13 +68,13 @@ impl TickQueue {
         ensures value { self.new ≡ slice_set self.old t None }
         ensures steps { AddsAtMost 22 steps.old steps.new }
     {
-        let slot = self.places.slot_of(t);
+        let slot = self.heap.slot_of(t);
         self.deadlines[t as usize] = None;
-        self.places.set_rank(slot, rank(None, t));
-        if slot + 1 < self.places.count() {
-            self.places.leave(slot, steps);
+        self.heap.set_rank(slot, rank(None, t));
+        if slot + 1 < self.heap.count() {
+            self.heap.leave(slot, steps);
         } else {
-            self.places.leave_end(slot);
+            self.heap.leave_end(slot);
         }
     }
 
@@ -97,11 +97,11 @@ impl TickQueue {
         ensures there { IfSome result (λ t. t < length self.now) }
         ensures steps { AddsAtMost 1 steps.old steps.new }
     {
-        if self.places.count() == 0 {
+        if self.heap.count() == 0 {
             return None;
         }
-        let first = self.places.task(0);
-        if is_before(rank(Some(now), first), self.places.rank(0), steps) {
+        let first = self.heap.task(0);
+        if is_before(rank(Some(now), first), self.heap.rank(0), steps) {
             None
         } else {
             Some(first)

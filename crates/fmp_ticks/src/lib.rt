@@ -3,9 +3,9 @@
 #![tactic(auto)]
 
 pub mod cyclics;
+mod deadline_heap;
 pub mod deadlines;
 mod heap;
-mod places;
 mod times;
 
 pub use cyclics::Cyclics;

@@ -10,6 +10,6 @@ impl TickQueue {
         ensures { self.new ≡ from.now }
     {
         self.deadlines.copy_from_slice(from.deadlines.as_slice());
-        self.places.put_back(&from.places);
+        self.heap.put_back(&from.heap);
     }
 }

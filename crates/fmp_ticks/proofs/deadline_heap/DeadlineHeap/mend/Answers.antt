@@ -2,7 +2,7 @@ use Rattle.std.proofs.Common.{◌≡◌, List, ℕ, length, sym, ap, ◌∙◌, 
 use Rattle.std.proofs.lemmas.List.{with_items_is}
 use Rattle.fmp_ticks.specs.Slots.{Slots, rows_of}
 use Rattle.fmp_ticks.proofs.HeldLemmas.{recount}
-use Rattle.fmp_ticks.proofs.places.Places.mend.Goals as goal
+use Rattle.fmp_ticks.proofs.deadline_heap.DeadlineHeap.mend.Goals as goal
 
 pub returns-clause-ranks : goal.returns-clause-ranks
 returns-clause-ranks c =

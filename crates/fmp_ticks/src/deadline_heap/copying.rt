@@ -1,11 +1,11 @@
 //! Slots that are put back as others are.
 ghost use Rattle.std.specs.Prelude.{◌≡◌, length};
 
-use crate::places::Places;
+use crate::deadline_heap::DeadlineHeap;
 
-impl Places {
+impl DeadlineHeap {
     /// Puts the slots of as many other tasks in the place of these.
-    pub fn put_back(&mut self, from: &Places)
+    pub fn put_back(&mut self, from: &DeadlineHeap)
         requires { length self.old.tasks ≡ length from.now.tasks }
         ensures { self.new ≡ from.now }
     {
