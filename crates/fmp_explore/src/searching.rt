@@ -3,7 +3,7 @@ ghost use Rattle.std.specs.Prelude.{◌≡◌, ◌≢◌, ◌+◌, ◌<◌, ◌�
 ghost use Rattle.fmp_base.specs.Steps.{Nothing};
 ghost use Rattle.fmp_replay.specs.Replays.{kernel_after, reaction};
 ghost use Rattle.fmp_witness.specs.Followed.{IsFollowed};
-ghost use Rattle.fmp_witness.specs.Ladders.{IsLadder, IsOver};
+ghost use Rattle.fmp_witness.specs.Checkpoints.{AreCheckpoints, IsOver};
 ghost use Rattle.fmp_explore.specs.Searching.{
   AreMarks,
   Grows,
@@ -32,7 +32,7 @@ use fmp_kernel::Kernel;
 use fmp_question::{Question, Ticks, stands_still};
 use fmp_replay::kernel_of;
 use fmp_visited::Link;
-use fmp_witness::{Ladder, Sight};
+use fmp_witness::{Checkpoints, Sight};
 use std::alloc::{AllocError, Global};
 
 /// How many states there are when it is told first how far the search has come.
@@ -350,32 +350,32 @@ impl Survey {
         self.look_if_idle(alloc, subject, from, steps, marks)
     }
 
-    /// Examines a state, with the kernels of a ladder and one on which events are tried.
+    /// Examines a state, with the kernels of checkpoints and one on which events are tried.
     fn examine<'a>(
         &mut self,
         alloc: Global,
         subject: &Subject<'a>,
-        ladder: &mut Ladder<'a>,
+        checkpoints: &mut Checkpoints<'a>,
         work: &mut Kernel<Vm<'a>>,
         state: u32,
     ) -> Result<(), AllocError>
         requires survey { IsSurvey subject.now.image.now subject.now.n subject.now.question.now self.old }
         requires at { IsAt subject.now.question.now self.old.seen.links state
             (path_to subject.now.question.now self.old.seen.links state) }
-        requires ladder { IsLadder subject.now.image.now subject.now.n ladder.old }
+        requires checkpoints { AreCheckpoints subject.now.image.now subject.now.n checkpoints.old }
         requires work { IsOver subject.now.image.now subject.now.n work.old }
         ensures examined { OnOk result (HasExamined subject.now.image.now subject.now.n subject.now.question.now
             self.old self.new (path_to subject.now.question.now self.old.seen.links state)) }
-        ensures ladder { OnOk result (IsLadder subject.now.image.now subject.now.n ladder.new) }
+        ensures checkpoints { OnOk result (AreCheckpoints subject.now.image.now subject.now.n checkpoints.new) }
         ensures work { IsOver subject.now.image.now subject.now.n work.new }
     {
         let steps = self.steps_to(alloc, subject.question, state)?;
-        if !ladder.reach(alloc, subject.image, subject.n, &steps)? {
+        if !checkpoints.reach(alloc, subject.image, subject.n, &steps)? {
             self.sure = false;
             self.edges.lose(alloc);
             return Ok(());
         }
-        self.examine_on(alloc, subject, &ladder.top, work, state, &steps)
+        self.examine_on(alloc, subject, &checkpoints.top, work, state, &steps)
     }
 
     /// Why the search ends before the state at a place, if it does.
@@ -414,18 +414,18 @@ impl Survey {
         self.seen.len()
     }
 
-    /// Examines the states in order until none is left, or the search ends, with the kernels of a ladder and one on
+    /// Examines the states in order until none is left, or the search ends, with the kernels of checkpoints and one on
     /// which events are tried.
     fn examine_all<'a, W: Watcher>(
         &mut self,
         alloc: Global,
         subject: &Subject<'a>,
-        ladder: &mut Ladder<'a>,
+        checkpoints: &mut Checkpoints<'a>,
         work: &mut Kernel<Vm<'a>>,
         watcher: &mut W,
     ) -> Result<Ending, AllocError>
         requires begun { IsBegun subject.now.image.now subject.now.n subject.now.question.now self.old }
-        requires ladder { IsLadder subject.now.image.now subject.now.n ladder.old }
+        requires checkpoints { AreCheckpoints subject.now.image.now subject.now.n checkpoints.old }
         requires work { IsOver subject.now.image.now subject.now.n work.old }
         ensures { IfOk result (HasEnded subject.now.image.now subject.now.n subject.now.question.now self.new) }
     {
@@ -437,7 +437,7 @@ impl Survey {
             if let Some(ending) = self.ending_before(subject, link) {
                 return Ok(ending);
             }
-            self.examine(alloc, subject, ladder, work, i)?;
+            self.examine(alloc, subject, checkpoints, work, i)?;
             told = self.tell(watcher, told, i as usize + 1);
         }
         Ok(Ending::States)
@@ -449,20 +449,20 @@ impl Survey {
         &mut self,
         alloc: Global,
         subject: &Subject<'a>,
-        ladder: &mut Ladder<'a>,
+        checkpoints: &mut Checkpoints<'a>,
         watcher: &mut W,
     ) -> Result<Ending, AllocError>
         requires begun { IsBegun subject.now.image.now subject.now.n subject.now.question.now self.old }
-        requires ladder { IsLadder subject.now.image.now subject.now.n ladder.old }
+        requires checkpoints { AreCheckpoints subject.now.image.now subject.now.n checkpoints.old }
         ensures { IfOk result (HasEnded subject.now.image.now subject.now.n subject.now.question.now self.new) }
     {
         let mut work = kernel_of(alloc, subject.image, subject.n)?;
-        let ending = self.examine_all(alloc, subject, ladder, &mut work, watcher);
+        let ending = self.examine_all(alloc, subject, checkpoints, &mut work, watcher);
         drop(work);
         ending
     }
 
-    /// The same, with a ladder of its own. `AllocError` if memory runs out.
+    /// The same, with checkpoints of its own. `AllocError` if memory runs out.
     #[tactic(none)]
     pub fn run<W: Watcher>(
         &mut self,
@@ -473,9 +473,9 @@ impl Survey {
         requires { IsBegun subject.now.image.now subject.now.n subject.now.question.now self.old }
         ensures { IfOk result (HasEnded subject.now.image.now subject.now.n subject.now.question.now self.new) }
     {
-        let mut ladder = Ladder::new(alloc, subject.image, subject.n)?;
-        let ending = self.run_on(alloc, subject, &mut ladder, watcher);
-        drop(ladder);
+        let mut checkpoints = Checkpoints::new(alloc, subject.image, subject.n)?;
+        let ending = self.run_on(alloc, subject, &mut checkpoints, watcher);
+        drop(checkpoints);
         ending
     }
 }

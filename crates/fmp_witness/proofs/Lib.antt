@@ -1,5 +1,5 @@
+pub mod CheckpointLemmas
 pub mod Following
-pub mod LadderLemmas
 pub mod LineLemmas
 pub mod MeetLemmas
 pub mod SeenThere

@@ -1,3 +1,3 @@
+pub mod Checkpoints
 pub mod Findings
 pub mod Followed
-pub mod Ladders

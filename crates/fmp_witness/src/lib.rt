@@ -2,15 +2,15 @@
 //! kernels that are kept along a list of events, and all calls and values that ever came.
 #![tactic(auto)]
 
+mod checkpoints;
 mod coverage;
 mod finding;
-mod ladder;
 mod meeting;
 mod replaying;
 mod started;
 
+pub use checkpoints::Checkpoints;
 pub use coverage::{Coverage, Peaks, Runs};
 pub use finding::{Finding, Left, Sight, Together, is_so, left_by};
-pub use ladder::Ladder;
 pub use replaying::follow;
 pub use started::Started;

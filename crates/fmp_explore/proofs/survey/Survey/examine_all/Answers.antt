@@ -24,6 +24,6 @@ loop-i-preserved g c =
           c.loop-i.invariant.searching
           (slice_get_within c.loop-i.self.seen.links c.loop-i.i c.in-Some.link (sym c.link.ensures ∙ c.in-Some.is))
           c.in_ok-examine.ensures.examined;
-      ladder = c.in_ok-examine.ensures.ladder;
+      checkpoints = c.in_ok-examine.ensures.checkpoints;
       work = c.in_ok-examine.ensures.work;
     }

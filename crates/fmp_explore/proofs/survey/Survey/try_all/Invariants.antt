@@ -1,5 +1,5 @@
 use Rattle.std.proofs.Common.{◌≤◌}
-use Rattle.fmp_witness.specs.Ladders.{IsOver}
+use Rattle.fmp_witness.specs.Checkpoints.{IsOver}
 use Rattle.fmp_explore.specs.Searching.{HasTried}
 use Rattle.fmp_explore.proofs.survey.Survey.try_all.Given as goal
 

@@ -1,6 +1,6 @@
 use Rattle.std.proofs.Common.{subst, sym}
 use Rattle.fmp_witness.specs.Followed.{IsFollowed}
-use Rattle.fmp_witness.proofs.LadderLemmas.{Kernels, over_after, same_body, same_bound, same_system}
+use Rattle.fmp_witness.proofs.CheckpointLemmas.{Kernels, over_after, same_body, same_bound, same_system}
 use Rattle.fmp_explore.proofs.survey.Survey.try_on.Goals as goal
 
 pub put_back-requires-clause-body : goal.put_back-requires-clause-body

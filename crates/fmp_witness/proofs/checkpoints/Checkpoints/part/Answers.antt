@@ -1,11 +1,11 @@
 use Rattle.std.proofs.Common.{◌≡◌, ◌≤◌, ◌*◌, ◌/◌, List, arith, length, rules, subst, sym, take}
 use Rattle.fmp_base.specs.declared.events.Event.{Event}
-use Rattle.fmp_witness.specs.Ladders.{BeginsWith}
-use Rattle.fmp_witness.proofs.LadderLemmas.{alike_fewer, begins_common, followed_rung, over_rung, rungs_cut}
-use Rattle.fmp_witness.proofs.ladder.Ladder.part.Goals as goal
+use Rattle.fmp_witness.specs.Checkpoints.{BeginsWith}
+use Rattle.fmp_witness.proofs.CheckpointLemmas.{alike_fewer, begins_common, followed_checkpoint, over_checkpoint, kernels_cut}
+use Rattle.fmp_witness.proofs.checkpoints.Checkpoints.part.Goals as goal
 
-pub returns-clause-climbing : goal.returns-clause-climbing
-returns-clause-climbing c =
+pub returns-clause-along : goal.returns-clause-along
+returns-clause-along c =
     let i = c.args.image.now in
     let n = c.args.n in
     let l = c.args.self.now in
@@ -19,17 +19,17 @@ returns-clause-climbing c =
     let low : first ≤ length l.steps.items = search rules in
     let alike : take first l.steps.items ≡ take first es = alike_fewer l.steps.items es first most common fewer in
     record {
-      ladder =
+      checkpoints =
           record {
-            rungs = rungs_cut i n l.rungs.items l.steps.items _ first c.requires.rungs low c.truncate.ensures.items;
+            kernels = kernels_cut i n l.kernels.items l.steps.items _ first c.requires.kernels low c.truncate.ensures.items;
             top =
-                over_rung i n l.rungs.items l.steps.items place c.index.result.now _ c.requires.rungs low
+                over_checkpoint i n l.kernels.items l.steps.items place c.index.result.now _ c.requires.kernels low
                 c.index.ensures c.put_back.ensures;
           };
       begins =
           subst (λ (xs : List Event). BeginsWith es xs) (sym c.truncate.ensures.items)
           (begins_common l.steps.items es first alike low);
       followed =
-          followed_rung i n l.rungs.items l.steps.items es place c.index.result.now _ c.requires.rungs low
+          followed_checkpoint i n l.kernels.items l.steps.items es place c.index.result.now _ c.requires.kernels low
           c.index.ensures c.put_back.ensures alike;
     }

@@ -8,7 +8,7 @@ use Rattle.std.proofs.lemmas.List.{get_or-set_same, get_or-set_other, length-app
 use Rattle.fmp_base.specs.declared.events.Event.{Event}
 use Rattle.fmp_base.specs.Steps.{Reaction, Nothing, Did, Kept}
 use Rattle.fmp_witness.specs.Followed.{IsFollowed}
-use Rattle.fmp_witness.specs.Ladders.{AreRungs, BeginsWith, IsOver}
+use Rattle.fmp_witness.specs.Checkpoints.{AreKernelsAlong, BeginsWith, IsOver}
 use Rattle.fmp_witness.proofs.Following.{followed_none}
 use Rattle.fmp_image_bytes.specs.Images.{ImageTables}
 use Rattle.fmp_instructions.specs.Instructions.{BodyTables}
@@ -65,8 +65,8 @@ module _ (i : ImageTables) (n : ℕ) where
   each_one k0 d zero f le = f
   each_one k0 d (suc k) f le = absurd (omega arith)
 
-  pub rungs_first : (k0 : Kernels) → k0 ≡ kernel_after i n [] → AreRungs i n (k0 ∷ []) []
-  rungs_first k0 h =
+  pub kernels_first : (k0 : Kernels) → k0 ≡ kernel_after i n [] → AreKernelsAlong i n (k0 ∷ []) []
+  kernels_first k0 h =
       record {
         over = λ k d lt. over_one k0 d k (over_first k0 h) lt;
         long = omega arith;
@@ -74,140 +74,140 @@ module _ (i : ImageTables) (n : ℕ) where
       }
 
   -- one more kernel in whatever state
-  over_more : (rungs : List Kernels) (new d : Kernels) (k : ℕ) → IsOver i n new
-      → ((k' : ℕ) (d' : Kernels) → k' < length rungs → IsOver i n (get_or rungs k' d'))
-      → k < length rungs + 1 → IsOver i n (get_or (rungs ++ new ∷ []) k d)
-  over_more rungs new d k o each lt =
+  over_more : (kernels : List Kernels) (new d : Kernels) (k : ℕ) → IsOver i n new
+      → ((k' : ℕ) (d' : Kernels) → k' < length kernels → IsOver i n (get_or kernels k' d'))
+      → k < length kernels + 1 → IsOver i n (get_or (kernels ++ new ∷ []) k d)
+  over_more kernels new d k o each lt =
       ⊎_elim
-      (λ same. subst (λ (m : ℕ). IsOver i n (get_or (rungs ++ new ∷ []) m d)) (sym same.1)
-      (subst (λ (x : Kernels). IsOver i n x) (sym (get_or-append_seam rungs new [] d)) o))
+      (λ same. subst (λ (m : ℕ). IsOver i n (get_or (kernels ++ new ∷ []) m d)) (sym same.1)
+      (subst (λ (x : Kernels). IsOver i n x) (sym (get_or-append_seam kernels new [] d)) o))
       (λ other.
       let apart = other.1 in
-      let low : k < length rungs = omega arith in
-      subst (λ (x : Kernels). IsOver i n x) (sym (get_or-append rungs (new ∷ []) d k low)) (each k d low))
-      (eqb_tells k (length rungs))
+      let low : k < length kernels = omega arith in
+      subst (λ (x : Kernels). IsOver i n x) (sym (get_or-append kernels (new ∷ []) d k low)) (each k d low))
+      (eqb_tells k (length kernels))
 
-  pub rungs_more : (rungs : List Kernels) (steps : List Event) (new : Kernels) → AreRungs i n rungs steps
-      → IsOver i n new → AreRungs i n (rungs ++ new ∷ []) steps
-  rungs_more rungs steps new r o =
-      let more : length (rungs ++ new ∷ []) ≡ length rungs + 1 = length-append rungs (new ∷ []) in
+  pub kernels_more : (kernels : List Kernels) (steps : List Event) (new : Kernels) → AreKernelsAlong i n kernels steps
+      → IsOver i n new → AreKernelsAlong i n (kernels ++ new ∷ []) steps
+  kernels_more kernels steps new r o =
+      let more : length (kernels ++ new ∷ []) ≡ length kernels + 1 = length-append kernels (new ∷ []) in
       record {
-        over = λ k d lt. over_more rungs new d k o r.over (omega (arith, more));
+        over = λ k d lt. over_more kernels new d k o r.over (omega (arith, more));
         long = omega (arith, more, r.long);
         each = λ k d le.
             subst (λ (x : Kernels). IsFollowed i n (take (8 * k) steps) x)
-            (sym (get_or-append rungs (new ∷ []) d k (omega (arith, r.long)))) (r.each k d le);
+            (sym (get_or-append kernels (new ∷ []) d k (omega (arith, r.long)))) (r.each k d le);
       }
 
   -- fewer events
-  pub rungs_fewer : (rungs : List Kernels) (steps : List Event) (m : ℕ) → AreRungs i n rungs steps → m ≤ length steps
-      → AreRungs i n rungs (take m steps)
-  rungs_fewer rungs steps m r low =
+  pub kernels_fewer : (kernels : List Kernels) (steps : List Event) (m : ℕ) → AreKernelsAlong i n kernels steps → m ≤ length steps
+      → AreKernelsAlong i n kernels (take m steps)
+  kernels_fewer kernels steps m r low =
       let few : length (take m steps) ≡ m = length-take-le m steps low in
       record {
         over = r.over;
         long = omega (arith, few, r.long);
         each = λ k d le.
             let k_low : 8 * k ≤ m = omega (arith, few) in
-            subst (λ (es : List Event). IsFollowed i n es (get_or rungs k d)) (sym (take-take (8 * k) m steps k_low))
+            subst (λ (es : List Event). IsFollowed i n es (get_or kernels k d)) (sym (take-take (8 * k) m steps k_low))
             (r.each k d (omega arith));
       }
 
   -- one more event, with the kernel that has taken it
-  over_kept : (rungs : List Kernels) (at : ℕ) (top d : Kernels) (k : ℕ) → at < length rungs → IsOver i n top
-      → ((k' : ℕ) (d' : Kernels) → k' < length rungs → IsOver i n (get_or rungs k' d'))
-      → k < length rungs → IsOver i n (get_or (slice_set rungs at top) k d)
-  over_kept rungs at top d k there o each lt =
+  over_kept : (kernels : List Kernels) (at : ℕ) (top d : Kernels) (k : ℕ) → at < length kernels → IsOver i n top
+      → ((k' : ℕ) (d' : Kernels) → k' < length kernels → IsOver i n (get_or kernels k' d'))
+      → k < length kernels → IsOver i n (get_or (slice_set kernels at top) k d)
+  over_kept kernels at top d k there o each lt =
       ⊎_elim
-      (λ same. subst (λ (m : ℕ). IsOver i n (get_or (slice_set rungs at top) m d)) (sym same.1)
-      (subst (λ (x : Kernels). IsOver i n x) (sym (get_or-set_same rungs at top d there)) o))
-      (λ other. subst (λ (x : Kernels). IsOver i n x) (sym (get_or-set_other rungs at k top d other.1)) (each k d lt))
+      (λ same. subst (λ (m : ℕ). IsOver i n (get_or (slice_set kernels at top) m d)) (sym same.1)
+      (subst (λ (x : Kernels). IsOver i n x) (sym (get_or-set_same kernels at top d there)) o))
+      (λ other. subst (λ (x : Kernels). IsOver i n x) (sym (get_or-set_other kernels at k top d other.1)) (each k d lt))
       (eqb_tells k at)
 
-  each_kept : (rungs : List Kernels) (steps : List Event) (e : Event) (at : ℕ) (top d : Kernels) (k : ℕ)
-      → AreRungs i n rungs steps → at < length rungs → 8 * at ≡ length steps + 1 → IsFollowed i n (steps ++ e ∷ []) top
+  each_kept : (kernels : List Kernels) (steps : List Event) (e : Event) (at : ℕ) (top d : Kernels) (k : ℕ)
+      → AreKernelsAlong i n kernels steps → at < length kernels → 8 * at ≡ length steps + 1 → IsFollowed i n (steps ++ e ∷ []) top
       → 8 * k ≤ length steps + 1
-      → IsFollowed i n (take (8 * k) (steps ++ e ∷ [])) (get_or (slice_set rungs at top) k d)
-  each_kept rungs steps e at top d k r there eighth f le =
+      → IsFollowed i n (take (8 * k) (steps ++ e ∷ [])) (get_or (slice_set kernels at top) k d)
+  each_kept kernels steps e at top d k r there eighth f le =
       let more : length (steps ++ e ∷ []) ≡ length steps + 1 = length-append steps (e ∷ []) in
       ⊎_elim
-      (λ same. subst (λ (m : ℕ). IsFollowed i n (take (8 * m) (steps ++ e ∷ [])) (get_or (slice_set rungs at top) m d))
+      (λ same. subst (λ (m : ℕ). IsFollowed i n (take (8 * m) (steps ++ e ∷ [])) (get_or (slice_set kernels at top) m d))
       (sym same.1)
       (subst (λ (x : Kernels). IsFollowed i n (take (8 * at) (steps ++ e ∷ [])) x)
-      (sym (get_or-set_same rungs at top d there))
+      (sym (get_or-set_same kernels at top d there))
       (subst (λ (es : List Event). IsFollowed i n es top)
       (sym (take_all (8 * at) (steps ++ e ∷ []) (omega (arith, more, eighth)))) f)))
       (λ other.
       let apart = other.1 in
       let low : 8 * k ≤ length steps = omega (arith, eighth, apart) in
       subst (λ (x : Kernels). IsFollowed i n (take (8 * k) (steps ++ e ∷ [])) x)
-      (sym (get_or-set_other rungs at k top d apart))
-      (subst (λ (es : List Event). IsFollowed i n es (get_or rungs k d))
+      (sym (get_or-set_other kernels at k top d apart))
+      (subst (λ (es : List Event). IsFollowed i n es (get_or kernels k d))
       (sym (take-append-le (8 * k) steps (e ∷ []) low)) (r.each k d low)))
       (eqb_tells k at)
 
-  pub rungs_kept : (rungs : List Kernels) (steps : List Event) (e : Event) (at : ℕ) (top : Kernels)
-      → AreRungs i n rungs steps → at < length rungs → 8 * at ≡ length steps + 1 → IsFollowed i n (steps ++ e ∷ []) top
-      → AreRungs i n (slice_set rungs at top) (steps ++ e ∷ [])
-  rungs_kept rungs steps e at top r there eighth f =
+  pub kernels_kept : (kernels : List Kernels) (steps : List Event) (e : Event) (at : ℕ) (top : Kernels)
+      → AreKernelsAlong i n kernels steps → at < length kernels → 8 * at ≡ length steps + 1 → IsFollowed i n (steps ++ e ∷ []) top
+      → AreKernelsAlong i n (slice_set kernels at top) (steps ++ e ∷ [])
+  kernels_kept kernels steps e at top r there eighth f =
       let more : length (steps ++ e ∷ []) ≡ length steps + 1 = length-append steps (e ∷ []) in
-      let long : length (slice_set rungs at top) ≡ length rungs = length-set rungs at top in
+      let long : length (slice_set kernels at top) ≡ length kernels = length-set kernels at top in
       record {
-        over = λ k d lt. over_kept rungs at top d k there (over_after (steps ++ e ∷ []) top f) r.over
+        over = λ k d lt. over_kept kernels at top d k there (over_after (steps ++ e ∷ []) top f) r.over
             (omega (arith, long));
         long = omega (arith, more, long, eighth);
-        each = λ k d le. each_kept rungs steps e at top d k r there eighth f (omega (arith, more));
+        each = λ k d le. each_kept kernels steps e at top d k r there eighth f (omega (arith, more));
       }
 
   -- one more event, after which no kernel is kept
-  pub rungs_between : (rungs : List Kernels) (steps more : List Event) (e : Event) → AreRungs i n rungs steps
-      → (((length steps + 1) % 8 ≡ 0) → ⊥) → more ≡ steps ++ e ∷ [] → AreRungs i n rungs more
-  rungs_between rungs steps more e r between h =
+  pub kernels_between : (kernels : List Kernels) (steps more : List Event) (e : Event) → AreKernelsAlong i n kernels steps
+      → (((length steps + 1) % 8 ≡ 0) → ⊥) → more ≡ steps ++ e ∷ [] → AreKernelsAlong i n kernels more
+  kernels_between kernels steps more e r between h =
       let long : length (steps ++ e ∷ []) ≡ length steps + 1 = length-append steps (e ∷ []) in
-      let kept : AreRungs i n rungs (steps ++ e ∷ []) =
+      let kept : AreKernelsAlong i n kernels (steps ++ e ∷ []) =
       record {
         over = r.over;
         long = omega (arith, long, r.long, between);
         each = λ k d le.
             let low : 8 * k ≤ length steps = omega (arith, long, between) in
-            subst (λ (es : List Event). IsFollowed i n es (get_or rungs k d))
+            subst (λ (es : List Event). IsFollowed i n es (get_or kernels k d))
             (sym (take-append-le (8 * k) steps (e ∷ []) low)) (r.each k d low);
       } in
-      subst (λ (es : List Event). AreRungs i n rungs es) (sym h) kept
+      subst (λ (es : List Event). AreKernelsAlong i n kernels es) (sym h) kept
 
   -- the same with what is equal to these
-  pub rungs_put : (rungs : List Kernels) (steps steps0 more : List Event) (e : Event) (top top0 x : Kernels) (place : ℕ)
-      → AreRungs i n rungs steps → place < length rungs → steps ≡ steps0 → top ≡ top0
+  pub kernels_put : (kernels : List Kernels) (steps steps0 more : List Event) (e : Event) (top top0 x : Kernels) (place : ℕ)
+      → AreKernelsAlong i n kernels steps → place < length kernels → steps ≡ steps0 → top ≡ top0
       → IsFollowed i n (steps0 ++ e ∷ []) top0 → 8 * place ≡ length steps + 1 → x ≡ top → more ≡ steps ++ e ∷ []
-      → AreRungs i n (slice_set rungs place x) more
-  rungs_put rungs steps steps0 more e top top0 x place r room hs ht f eighth hx hm =
+      → AreKernelsAlong i n (slice_set kernels place x) more
+  kernels_put kernels steps steps0 more e top top0 x place r room hs ht f eighth hx hm =
       let f1 : IsFollowed i n (steps ++ e ∷ []) top0 =
       subst (λ (es : List Event). IsFollowed i n (es ++ e ∷ []) top0) (sym hs) f in
       let f2 : IsFollowed i n (steps ++ e ∷ []) top =
       subst (λ (k : Kernels). IsFollowed i n (steps ++ e ∷ []) k) (sym ht) f1 in
-      let k1 : AreRungs i n (slice_set rungs place top) (steps ++ e ∷ []) =
-      rungs_kept rungs steps e place top r room eighth f2 in
-      let k2 : AreRungs i n (slice_set rungs place x) (steps ++ e ∷ []) =
-      subst (λ (k : Kernels). AreRungs i n (slice_set rungs place k) (steps ++ e ∷ [])) (sym hx) k1 in
-      subst (λ (es : List Event). AreRungs i n (slice_set rungs place x) es) (sym hm) k2
+      let k1 : AreKernelsAlong i n (slice_set kernels place top) (steps ++ e ∷ []) =
+      kernels_kept kernels steps e place top r room eighth f2 in
+      let k2 : AreKernelsAlong i n (slice_set kernels place x) (steps ++ e ∷ []) =
+      subst (λ (k : Kernels). AreKernelsAlong i n (slice_set kernels place k) (steps ++ e ∷ [])) (sym hx) k1 in
+      subst (λ (es : List Event). AreKernelsAlong i n (slice_set kernels place x) es) (sym hm) k2
 
-  pub rungs_cut : (rungs : List Kernels) (steps cut : List Event) (m : ℕ) → AreRungs i n rungs steps → m ≤ length steps
-      → cut ≡ take m steps → AreRungs i n rungs cut
-  rungs_cut rungs steps cut m r low h =
-      subst (λ (es : List Event). AreRungs i n rungs es) (sym h) (rungs_fewer rungs steps m r low)
+  pub kernels_cut : (kernels : List Kernels) (steps cut : List Event) (m : ℕ) → AreKernelsAlong i n kernels steps → m ≤ length steps
+      → cut ≡ take m steps → AreKernelsAlong i n kernels cut
+  kernels_cut kernels steps cut m r low h =
+      subst (λ (es : List Event). AreKernelsAlong i n kernels es) (sym h) (kernels_fewer kernels steps m r low)
 
-  -- a kernel that is put back into the state of a rung
-  pub over_rung : (rungs : List Kernels) (steps : List Event) (m : ℕ) (x k : Kernels) → AreRungs i n rungs steps
-      → 8 * m ≤ length steps → x ≡ get_or rungs m x → k ≡ x → IsOver i n k
-  over_rung rungs steps m x k r low there same =
-      let o : IsOver i n (get_or rungs m x) = r.over m x (omega (arith, r.long)) in
+  -- a kernel that is put back into the state of a checkpoint
+  pub over_checkpoint : (kernels : List Kernels) (steps : List Event) (m : ℕ) (x k : Kernels) → AreKernelsAlong i n kernels steps
+      → 8 * m ≤ length steps → x ≡ get_or kernels m x → k ≡ x → IsOver i n k
+  over_checkpoint kernels steps m x k r low there same =
+      let o : IsOver i n (get_or kernels m x) = r.over m x (omega (arith, r.long)) in
       subst (λ (y : Kernels). IsOver i n y) (sym (same ∙ there)) o
 
   -- and the events that led to it
-  pub followed_rung : (rungs : List Kernels) (steps es : List Event) (m : ℕ) (x k : Kernels) → AreRungs i n rungs steps
-      → 8 * m ≤ length steps → x ≡ get_or rungs m x → k ≡ x → take (8 * m) steps ≡ take (8 * m) es
+  pub followed_checkpoint : (kernels : List Kernels) (steps es : List Event) (m : ℕ) (x k : Kernels) → AreKernelsAlong i n kernels steps
+      → 8 * m ≤ length steps → x ≡ get_or kernels m x → k ≡ x → take (8 * m) steps ≡ take (8 * m) es
       → IsFollowed i n (take (8 * m) es) k
-  followed_rung rungs steps es m x k r low there same alike =
+  followed_checkpoint kernels steps es m x k r low there same alike =
       subst (λ (xs : List Event). IsFollowed i n xs k) alike
       (subst (λ (y : Kernels). IsFollowed i n (take (8 * m) steps) y) (sym (same ∙ there)) (r.each m x low))
 

@@ -1,5 +1,5 @@
 use Rattle.fmp_witness.proofs.Following.{followed_all}
-use Rattle.fmp_witness.proofs.ladder.Ladder.reach.Goals as goal
+use Rattle.fmp_witness.proofs.checkpoints.Checkpoints.reach.Goals as goal
 
 pub returns-clause-reached : goal.returns-clause-reached
 returns-clause-reached c = λ _.
