@@ -4,8 +4,8 @@ pub mod NextLemmas
 pub mod OverLemmas
 pub mod PathLemmas
 pub mod SearchLemmas
+pub mod SearchStepLemmas
 pub mod SectionLemmas
 pub mod StateLemmas
 pub mod StuckLemmas
-pub mod SurveyLemmas
 pub mod TryingLemmas

@@ -8,7 +8,7 @@ use Rattle.fmp_base.specs.declared.events.Line.{Line}
 use Rattle.fmp_base.specs.Meanings.{World}
 use Rattle.fmp_base.specs.Setups.{setup}
 use Rattle.fmp_question.specs.declared.question.Question.{Question}
-use Rattle.fmp_explore.specs.declared.survey.Survey.{Survey}
+use Rattle.fmp_explore.specs.declared.searches.Search.{Search}
 use Rattle.fmp_question.specs.Behind.{CanBegin}
 use Rattle.fmp_witness.specs.Followed.{IsFollowed}
 use Rattle.fmp_question.specs.Forbidden.{forbids}
@@ -16,7 +16,7 @@ use Rattle.fmp_question.specs.Places.{forbids_there, is_bad}
 use Rattle.fmp_question.specs.Rules.{rules_of}
 use Rattle.std.specs.declared.alloc.Global.{Global}
 use Rattle.std.specs.declared.vec.Vec.{Vec}
-use Rattle.fmp_explore.specs.Searching.{AreHeld, HasDealt, HasKept, IsAt, IsBegun, IsClean, IsFresh, IsNext, IsSurvey, Stays}
+use Rattle.fmp_explore.specs.Searching.{AreHeld, HasDealt, HasKept, IsAt, IsBegun, IsClean, IsFresh, IsNext, IsSearch, Stays}
 use Rattle.fmp_witness.specs.Followed.{HasDone, HasKeptPlace}
 use Rattle.fmp_explore.specs.States.{AreFew, MayCome, came_of, path_by, path_to, sections_of, watched_of}
 use Rattle.fmp_fields.specs.declared.field.What.{What}
@@ -40,7 +40,7 @@ use Rattle.fmp_explore.proofs.PathLemmas.{path_to-depth}
 use Rattle.fmp_question.proofs.PlaceLemmas.{none-anywhere, none-there}
 use Rattle.fmp_explore.proofs.StateLemmas.{kept_none, leads_done, leads_kept}
 use Rattle.fmp_witness.proofs.StepLemmas.{kept_by_no_interrupt}
-use Rattle.fmp_explore.proofs.SurveyLemmas.{grows_on, stays_grows, stays_survey}
+use Rattle.fmp_explore.proofs.SearchStepLemmas.{grows_on, stays_grows, stays_search}
 
 abbrev Kernels : Type 0
 Kernels = KernelView (List BodyTables) MachineContext
@@ -92,7 +92,7 @@ module _ (i : ImageTables) (n : ℕ) (q : Question) where
       }
 
   -- what an event that is done leads to is kept
-  pub dealt_done : (a b c : Survey) (k : Kernels) (es : List Event) (e : Event) → Stays a b
+  pub dealt_done : (a b c : Search) (k : Kernels) (es : List Event) (e : Event) → Stays a b
       → (b.sure ≡ true → list_any (is_bad i.system q k.world) k.lines ≡ false)
       → (b.sure ≡ true → is_any_met (sections_of i n q es) k.lines ≡ false) → HasDone i n es e k
       → HasKept i n q b c (es ++ e ∷ []) → HasDealt i n q a c es e
@@ -115,7 +115,7 @@ module _ (i : ImageTables) (n : ℕ) (q : Question) where
       }
 
   -- what an event that keeps a place leads to is kept
-  pub dealt_kept : (a b c : Survey) (k : Kernels) (es : List Event) (e : Event) → Stays a b → HasKeptPlace i n es e k
+  pub dealt_kept : (a b c : Search) (k : Kernels) (es : List Event) (e : Event) → Stays a b → HasKeptPlace i n es e k
       → HasKept i n q b c (es ++ e ∷ []) → HasDealt i n q a c es e
   dealt_kept a b c k es e stays h kept =
       record {
@@ -128,17 +128,17 @@ module _ (i : ImageTables) (n : ℕ) (q : Question) where
       }
 
   -- an event that may not come is left out
-  pub dealt_not : (a b : Survey) (es : List Event) (e : Event) → Stays a b → IsSurvey i n q a
+  pub dealt_not : (a b : Search) (es : List Event) (e : Event) → Stays a b → IsSearch i n q a
       → (MayCome i n q es e → ⊥) → HasDealt i n q a b es e
   dealt_not a b es e stays survey never =
       record {
-        survey = stays_survey i n q a b stays survey;
+        survey = stays_search i n q a b stays survey;
         grows = stays_grows a b stays;
         leads = λ sure may. absurd (never may);
       }
 
   -- what an event leads to is kept, where something was noted before
-  pub dealt_after : (a b c : Survey) (es : List Event) (e : Event) → Stays a b → HasDealt i n q b c es e
+  pub dealt_after : (a b c : Search) (es : List Event) (e : Event) → Stays a b → HasDealt i n q b c es e
       → HasDealt i n q a c es e
   dealt_after a b c es e stays h =
       record { survey = h.survey; grows = grows_on a b c (stays_grows a b stays) h.grows; leads = h.leads }
@@ -182,15 +182,15 @@ module _ (i : ImageTables) (n : ℕ) (q : Question) where
       (subst (λ (x : Kernels). is_any_met q.sections.items x.lines ≡ false) first alone)
 
   -- the first state is kept
-  pub begun_of : (a b : Survey) → (a.sure ≡ true → IsClean i n q) → HasKept i n q a b q.after.items → IsBegun i n q b
+  pub begun_of : (a b : Search) → (a.sure ≡ true → IsClean i n q) → HasKept i n q a b q.after.items → IsBegun i n q b
   begun_of a b clean kept =
       record { survey = kept.survey; clean = λ sure. clean (kept.grows.sure sure); first = kept.known }
 
   -- the first state cannot be reached
-  pub begun_nowhere : (a b : Survey) → Stays a b → IsSurvey i n q a → b.sure ≡ false → IsBegun i n q b
+  pub begun_nowhere : (a b : Search) → Stays a b → IsSearch i n q a → b.sure ≡ false → IsBegun i n q b
   begun_nowhere a b stays h lost =
       record {
-        survey = stays_survey i n q a b stays h;
+        survey = stays_search i n q a b stays h;
         clean = λ sure. absurd (cc (sure, lost));
         first = λ sure. absurd (cc (sure, lost));
       }
@@ -209,10 +209,10 @@ module _ (i : ImageTables) (n : ℕ) (q : Question) where
             (lines_after i.system (code_meaning i.code) n es)) ss) none
 
   -- a search that has no state yet, once the first values of its fields are read
-  pub fresh_survey : (a b : Survey) → IsFresh i q a → b.tries.items ≡ a.tries.items
+  pub fresh_search : (a b : Search) → IsFresh i q a → b.tries.items ≡ a.tries.items
       → b.rows.fields.items ≡ a.rows.fields.items → b.rows.held.items ≡ a.rows.held.items → b.seen ≡ a.seen
-      → length b.rows.first.items ≡ length b.rows.fields.items + length q.sections.items → IsSurvey i n q b
-  fresh_survey a b h tries fields held seen size =
+      → length b.rows.first.items ≡ length b.rows.fields.items + length q.sections.items → IsSearch i n q b
+  fresh_search a b h tries fields held seen size =
       let no_links : b.seen.links ≡ [] = ap (λ (x : SeenStates). x.links) seen ∙ h.no_links in
       record {
         survey =

@@ -8,11 +8,11 @@ use Rattle.fmp_base.specs.Meanings.{World}
 use Rattle.fmp_base.specs.Setups.{setup}
 use Rattle.fmp_base.specs.Steps.{step}
 use Rattle.fmp_question.specs.declared.question.Question.{Question}
-use Rattle.fmp_explore.specs.declared.survey.Survey.{Survey}
+use Rattle.fmp_explore.specs.declared.searches.Search.{Search}
 use Rattle.fmp_question.specs.Forbidden.{forbids}
 use Rattle.fmp_question.specs.Places.{forbids_there}
 use Rattle.fmp_question.specs.Rules.{rules_of}
-use Rattle.fmp_explore.specs.Searching.{HasExamined, IsAt, IsBegun, IsSearching, IsSurvey, IsWhole, NothingIsFound}
+use Rattle.fmp_explore.specs.Searching.{HasExamined, IsAt, IsBegun, IsSearching, IsSearch, IsWhole, NothingIsFound}
 use Rattle.fmp_explore.specs.States.{IsExamined, IsKnown, IsReached, path_to, watched_of}
 use Rattle.fmp_image_bytes.specs.Images.{ImageTables, IsImage}
 use Rattle.fmp_instructions.specs.Machine.{code_meaning}
@@ -61,11 +61,11 @@ likeness i n =
 
 module _ (i : ImageTables) (n : ℕ) (q : Question) where
   -- no state is examined yet
-  pub none_examined : (s : Survey) → IsBegun i n q s → IsSearching i n q 0 s
+  pub none_examined : (s : Search) → IsBegun i n q s → IsSearching i n q 0 s
   none_examined s h = record { begun = h; each = λ sure k lt. absurd (omega (arith, lt)) }
 
   -- one more state is examined
-  pub one_examined : (k : ℕ) (a b : Survey) → IsSearching i n q k a → k < length a.seen.links
+  pub one_examined : (k : ℕ) (a b : Search) → IsSearching i n q k a → k < length a.seen.links
       → HasExamined i n q a b (path_to q a.seen.links k) → IsSearching i n q (k + 1) b
   one_examined k a b h lt x =
       record {
@@ -101,7 +101,7 @@ module _ (i : ImageTables) (n : ℕ) (q : Question) where
             subst (λ (m : ℕ). IsExamined i n q b.seen.links (path_to q b.seen.links m)) (sym last)
             (subst (λ (es : List Event). IsExamined i n q b.seen.links es) (sym (same_path k lt)) (x.examined sure))
 
-  module _ (image : IsImage i) (s : Survey) (h : IsSurvey i n q s) where
+  module _ (image : IsImage i) (s : Search) (h : IsSearch i n q s) where
     abbrev pub K : World MachineContext → Watched → Type 0
     K w a = IsReached i n q s.seen.links w a
 
@@ -189,13 +189,13 @@ module _ (i : ImageTables) (n : ℕ) (q : Question) where
         k.world d))
 
   -- where no state is left, each was examined
-  pub all_examined : (s : Survey) (states : ℕ) → IsSearching i n q states s → length s.seen.links ≤ states
+  pub all_examined : (s : Search) (states : ℕ) → IsSearching i n q states s → length s.seen.links ≤ states
       → IsWhole i n q s
   all_examined s states h all =
       record { begun = h.begun; each = λ sure k lt. h.each sure k (omega (arith, lt, all)) lt }
 
   -- the search began at setup
-  first_covered : (s : Survey) → IsBegun i n q s → q.after.items ≡ [] → s.sure ≡ true
+  first_covered : (s : Search) → IsBegun i n q s → q.after.items ≡ [] → s.sure ≡ true
       → IsCovered (IsLike i.system i.code) (IsReached i n q s.seen.links) (setup i.system (code_meaning i.code)).world
       (watched_at_setup (rules_of q) i.system (code_meaning i.code) (forbids q.nevers.items))
   unfolding replay
@@ -206,10 +206,10 @@ module _ (i : ImageTables) (n : ℕ) (q : Question) where
       (h.clean sure) (subst (λ (es : List Event). IsKnown i n q s.seen.links es) none (h.first sure))
 
   -- where each state is examined, nothing is found
-  pub nothing_found : (s : Survey) → IsImage i → IsWhole i n q s → q.after.items ≡ [] → s.sure ≡ true
+  pub nothing_found : (s : Search) → IsImage i → IsWhole i n q s → q.after.items ≡ [] → s.sure ≡ true
       → NothingIsFound i n q
   nothing_found s image h none sure =
-      let survey : IsSurvey i n q s = h.begun.survey in
+      let survey : IsSearch i n q s = h.begun.survey in
       let examined : (k : ℕ) → k < length s.seen.links → IsExamined i n q s.seen.links (path_to q s.seen.links k) =
       h.each sure in
       let K : World MachineContext → Watched → Type 0 =

@@ -11,7 +11,7 @@ use Rattle.fmp_base.specs.TaskCalls.{is_dormant}
 use Rattle.fmp_base.specs.Steps.{step}
 use Rattle.fmp_question.specs.declared.question.Never.{Never}
 use Rattle.fmp_question.specs.declared.question.Question.{Question}
-use Rattle.fmp_explore.specs.declared.survey.Survey.{Survey}
+use Rattle.fmp_explore.specs.declared.searches.Search.{Search}
 use Rattle.fmp_question.specs.declared.question.Ticks.{Ticks}
 use Rattle.fmp_explore.specs.Behind.{IsAbout, NeverActs, NoneFollows}
 use Rattle.fmp_witness.specs.Followed.{IsFollowed}
@@ -41,7 +41,7 @@ came_counted : (most : Option ℕ) (es : List Event) → SameCame most (count_by
 came_counted None es = tt
 came_counted (Some most) es = refl
 
-module _ (i : ImageTables) (n : ℕ) (q : Question) (image : IsImage i) (s : Survey) (h : IsWhole i n q s)
+module _ (i : ImageTables) (n : ℕ) (q : Question) (image : IsImage i) (s : Search) (h : IsWhole i n q s)
     (sure : s.sure ≡ true) where
   abbrev K : World MachineContext → Watched → Type 0
   K w a = IsReached i n q s.seen.links w a

@@ -8,7 +8,7 @@ use Rattle.fmp_base.specs.Steps.{Nothing}
 use Rattle.fmp_question.specs.declared.question.Question.{Question}
 use Rattle.fmp_explore.specs.declared.searching.Ending.{Ending}
 use Rattle.fmp_explore.specs.declared.searching.Ending.TheVariants as ending
-use Rattle.fmp_explore.specs.declared.survey.Survey.{Survey}
+use Rattle.fmp_explore.specs.declared.searches.Search.{Search}
 use Rattle.fmp_explore.specs.declared.trying.Marks.{Marks}
 use Rattle.fmp_witness.specs.Followed.{IsFollowed}
 use Rattle.fmp_question.specs.Forbidden.{forbids}
@@ -38,32 +38,32 @@ pub record AreHeld (i : ImageTables) (n : ℕ) (q : Question) (held : List (Vec 
       sections.items ≡ sections_of i n q (path_to q links k)
 
 -- the fields and the events of a search are those of its image
-pub record IsSurveyOf (i : ImageTables) (q : Question) (s : Survey) : Type 0 where
+pub record IsSearchOf (i : ImageTables) (q : Question) (s : Search) : Type 0 where
   pub tries : s.tries.items ≡ all_tries i.system
   pub fields : AreAllFields i.system i.code (is_some q.interrupts) s.rows.fields.items
 
 -- a search that has no state yet
-pub record IsFresh (i : ImageTables) (q : Question) (s : Survey) : Type 0 where
-  pub survey : IsSurveyOf i q s
+pub record IsFresh (i : ImageTables) (q : Question) (s : Search) : Type 0 where
+  pub survey : IsSearchOf i q s
   pub no_rows : s.seen.rows ≡ []
   pub no_links : s.seen.links ≡ []
   pub no_sections : s.rows.held.items ≡ []
 
 -- a search that keeps states
-pub record IsSurvey (i : ImageTables) (n : ℕ) (q : Question) (s : Survey) : Type 0 where
-  pub survey : IsSurveyOf i q s
+pub record IsSearch (i : ImageTables) (n : ℕ) (q : Question) (s : Search) : Type 0 where
+  pub survey : IsSearchOf i q s
   pub first : length s.rows.first.items ≡ length s.rows.fields.items + length q.sections.items
   pub kept : AreKept i n q s.rows.first.items s.rows.fields.items s.seen
   pub held : AreHeld i n q s.rows.held.items s.seen.links
 
 -- a search has gone on: it keeps more states, or as many
-pub record Grows (old new : Survey) : Type 0 where
+pub record Grows (old new : Search) : Type 0 where
   pub more : List Link
   pub links : new.seen.links ≡ old.seen.links ++ more
   pub sure : new.sure ≡ true → old.sure ≡ true
 
 -- a search keeps the same states
-pub record Stays (old new : Survey) : Type 0 where
+pub record Stays (old new : Search) : Type 0 where
   pub tries : new.tries.items ≡ old.tries.items
   pub rows : new.rows ≡ old.rows
   pub seen : new.seen ≡ old.seen
@@ -77,8 +77,8 @@ pub record IsNext (i : ImageTables) (n : ℕ) (q : Question) (links : List Link)
   pub few : AreFew q (path_by q links link)
 
 -- the state after these events is kept, or one that is alike
-pub record HasKept (i : ImageTables) (n : ℕ) (q : Question) (old new : Survey) (es : List Event) : Type 0 where
-  pub survey : IsSurvey i n q new
+pub record HasKept (i : ImageTables) (n : ℕ) (q : Question) (old new : Search) (es : List Event) : Type 0 where
+  pub survey : IsSearch i n q new
   pub grows : Grows old new
   pub known : new.sure ≡ true → IsKnown i n q new.seen.links es
 
@@ -89,8 +89,8 @@ IsClean i n q =
     ≡ watched_at_setup (rules_of q) i.system (code_meaning i.code) (forbids q.nevers.items)
 
 -- the state in which the search begins is kept
-pub record IsBegun (i : ImageTables) (n : ℕ) (q : Question) (s : Survey) : Type 0 where
-  pub survey : IsSurvey i n q s
+pub record IsBegun (i : ImageTables) (n : ℕ) (q : Question) (s : Search) : Type 0 where
+  pub survey : IsSearch i n q s
   pub clean : s.sure ≡ true → IsClean i n q
   pub first : s.sure ≡ true → IsKnown i n q s.seen.links q.after.items
 
@@ -101,9 +101,9 @@ pub record IsAt (q : Question) (links : List Link) (state : ℕ) (es : List Even
   pub deep : length es < 1048575
 
 -- what an event leads to is kept, if it may come
-pub record HasDealt (i : ImageTables) (n : ℕ) (q : Question) (old new : Survey) (es : List Event) (e : Event) :
+pub record HasDealt (i : ImageTables) (n : ℕ) (q : Question) (old new : Search) (es : List Event) (e : Event) :
     Type 0 where
-  pub survey : IsSurvey i n q new
+  pub survey : IsSearch i n q new
   pub grows : Grows old new
   pub leads : new.sure ≡ true → MayCome i n q es e → LeadsOn i n q new.seen.links es e
 
@@ -135,8 +135,8 @@ marked m (event.Int i) = record m { interrupted = true }
 
 -- the first events of those that are tried in a state were tried, this many
 pub record IsTrying (i : ImageTables) (n : ℕ) (q : Question) (state : ℕ) (es : List Event) (m : Marks) (tried : ℕ)
-    (s : Survey) : Type 0 where
-  pub survey : IsSurvey i n q s
+    (s : Search) : Type 0 where
+  pub survey : IsSearch i n q s
   pub at : IsAt q s.seen.links state es
   pub marks : AreMarks i n q es m
   pub each :
@@ -145,37 +145,37 @@ pub record IsTrying (i : ImageTables) (n : ℕ) (q : Question) (state : ℕ) (es
 
 -- this many events were tried in a state
 pub record HasTried (i : ImageTables) (n : ℕ) (q : Question) (state : ℕ) (es : List Event) (m : Marks)
-    (old new : Survey) (tried : ℕ) : Type 0 where
+    (old new : Search) (tried : ℕ) : Type 0 where
   pub trying : IsTrying i n q state es m tried new
   pub grows : Grows old new
 
 -- the state after these events was looked at: it is no deadlock
-pub record HasLooked (i : ImageTables) (n : ℕ) (q : Question) (old new : Survey) (es : List Event) : Type 0 where
+pub record HasLooked (i : ImageTables) (n : ℕ) (q : Question) (old new : Search) (es : List Event) : Type 0 where
   pub stays : Stays old new
   pub free : new.sure ≡ true → IsStuckAfter i n q es → ⊥
 
 -- the state after these events was examined
-pub record HasExamined (i : ImageTables) (n : ℕ) (q : Question) (old new : Survey) (es : List Event) : Type 0 where
-  pub survey : IsSurvey i n q new
+pub record HasExamined (i : ImageTables) (n : ℕ) (q : Question) (old new : Search) (es : List Event) : Type 0 where
+  pub survey : IsSearch i n q new
   pub grows : Grows old new
   pub examined : new.sure ≡ true → IsExamined i n q new.seen.links es
 
 -- the first states were examined, this many
-pub record IsSearching (i : ImageTables) (n : ℕ) (q : Question) (states : ℕ) (s : Survey) : Type 0 where
+pub record IsSearching (i : ImageTables) (n : ℕ) (q : Question) (states : ℕ) (s : Search) : Type 0 where
   pub begun : IsBegun i n q s
   pub each :
       s.sure ≡ true → (k : ℕ) → k < states → k < length s.seen.links →
       IsExamined i n q s.seen.links (path_to q s.seen.links k)
 
 -- every state was examined
-pub record IsWhole (i : ImageTables) (n : ℕ) (q : Question) (s : Survey) : Type 0 where
+pub record IsWhole (i : ImageTables) (n : ℕ) (q : Question) (s : Search) : Type 0 where
   pub begun : IsBegun i n q s
   pub each :
       s.sure ≡ true → (k : ℕ) → k < length s.seen.links →
       IsExamined i n q s.seen.links (path_to q s.seen.links k)
 
 -- a search that ended because no state is left has examined every state
-abbrev pub HasEnded : ImageTables → (n : ℕ) → Question → Survey → Ending → Type 0
+abbrev pub HasEnded : ImageTables → (n : ℕ) → Question → Search → Ending → Type 0
 HasEnded i n q s how = how ≡ ending.Whole → IsWhole i n q s
 
 -- nothing that is asked about is found along any schedule

@@ -6,12 +6,12 @@ ghost use Rattle.fmp_schedules.specs.Schedules.{is_any_met};
 ghost use Rattle.fmp_explore.specs.States.{AreFew, sections_of};
 ghost use Rattle.fmp_witness.specs.Followed.{IsFollowed};
 ghost use Rattle.fmp_question.specs.Places.{is_bad};
-ghost use Rattle.fmp_explore.specs.Searching.{HasKept, IsBegun, IsClean, IsFresh, IsSurvey, Stays};
+ghost use Rattle.fmp_explore.specs.Searching.{HasKept, IsBegun, IsClean, IsFresh, IsSearch, Stays};
 
 use crate::holding::sections_after;
 use crate::notes::Path;
+use crate::searches::Search;
 use crate::subject::Subject;
-use crate::survey::Survey;
 use fmp_base::Event;
 use fmp_code::Vm;
 use fmp_kernel::Kernel;
@@ -22,7 +22,7 @@ use fmp_visited::Link;
 use fmp_witness::follow;
 use std::alloc::{AllocError, Global};
 
-impl Survey {
+impl Search {
     /// Notes the lines of setup.
     fn note_setup(
         &mut self,
@@ -61,7 +61,7 @@ impl Survey {
         kernel: &Kernel<Vm<'_>>,
         sections: Vec<Section>,
     ) -> Result<(), AllocError>
-        requires survey { IsSurvey subject.now.image.now subject.now.n subject.now.question.now self.old }
+        requires survey { IsSearch subject.now.image.now subject.now.n subject.now.question.now self.old }
         requires none { self.old.seen.links ≡ [] }
         requires followed { IsFollowed subject.now.image.now subject.now.n subject.now.question.now.after.items
             kernel.now }
@@ -90,7 +90,7 @@ impl Survey {
         kernel: &mut Kernel<Vm<'_>>,
         sections: Vec<Section>,
     ) -> Result<(), AllocError>
-        requires survey { IsSurvey subject.now.image.now subject.now.n subject.now.question.now self.old }
+        requires survey { IsSearch subject.now.image.now subject.now.n subject.now.question.now self.old }
         requires none { self.old.seen.links ≡ [] }
         requires kernel { kernel.old ≡ kernel_after subject.now.image.now subject.now.n [] }
         requires sections { sections.items ≡ sections_of subject.now.image.now subject.now.n

@@ -10,10 +10,10 @@ ghost use Rattle.fmp_explore.specs.Searching.{HasEnded, IsBegun, NothingIsFound}
 
 use crate::finding::{add_confirmed, confirmed, shortest_alone};
 use crate::notes::is_beside;
+use crate::searches::Search;
 use crate::searching::{Ending, Watcher};
 use crate::stuck::{Suspicions, suspected};
 use crate::subject::{Subject, live_in};
-use crate::survey::Survey;
 use crate::values::Variety;
 use fmp_image_bytes::Image;
 use fmp_question::Question;
@@ -48,7 +48,7 @@ pub struct Report {
 }
 
 /// The table of values, where the search stopped at a limit; none where there is no memory for it.
-fn table(alloc: Global, survey: &Survey, ending: Ending) -> Vec<Variety> {
+fn table(alloc: Global, survey: &Search, ending: Ending) -> Vec<Variety> {
     match ending {
         Ending::Whole | Ending::Enough => Vec::new(alloc),
         Ending::States | Ending::Depth | Ending::Memory => {
@@ -126,7 +126,7 @@ fn findings_of(
     image: &Image,
     n: u64,
     question: &Question,
-    survey: &mut Survey,
+    survey: &mut Search,
     ending: Ending,
 ) -> Result<Found, AllocError>
     requires low { 1 ≤ n }
@@ -147,7 +147,7 @@ fn findings_of(
 }
 
 /// Whether a search that ended so shows that nothing is found along any schedule.
-fn shows_all(survey: &Survey, question: &Question, ending: Ending) -> bool
+fn shows_all(survey: &Search, question: &Question, ending: Ending) -> bool
     ensures ending { IsTrue result → ending ≡ Ending.Whole }
     ensures sure { IsTrue result → survey.now.sure ≡ true }
     ensures after { IsTrue result → question.now.after.items ≡ [] }
@@ -164,7 +164,7 @@ fn make_report(
     image: &Image,
     n: u64,
     question: &Question,
-    survey: &mut Survey,
+    survey: &mut Search,
     ending: Ending,
 ) -> Result<Report, AllocError>
     requires low { 1 ≤ n }
@@ -191,10 +191,10 @@ fn make_report(
 }
 
 /// A search that has seen the state in which it begins.
-pub fn begun(alloc: Global, subject: &Subject<'_>) -> Result<Survey, AllocError>
+pub fn begun(alloc: Global, subject: &Subject<'_>) -> Result<Search, AllocError>
     ensures { IfOk result (IsBegun subject.now.image.now subject.now.n subject.now.question.now) }
 {
-    let mut survey = Survey::new(alloc, subject)?;
+    let mut survey = Search::new(alloc, subject)?;
     survey.begin(alloc, subject)?;
     Ok(survey)
 }
@@ -202,7 +202,7 @@ pub fn begun(alloc: Global, subject: &Subject<'_>) -> Result<Survey, AllocError>
 /// Why a search ended that has now been made.
 pub fn ended<W: Watcher>(
     alloc: Global,
-    survey: &mut Survey,
+    survey: &mut Search,
     subject: &Subject<'_>,
     watcher: &mut W,
 ) -> Ending

@@ -10,11 +10,11 @@ mod holding;
 mod notes;
 mod outlooks;
 mod rows;
+mod searches;
 mod searching;
 mod stretching;
 mod stuck;
 mod subject;
-mod survey;
 mod trying;
 mod values;
 

@@ -14,7 +14,7 @@ ghost use Rattle.fmp_explore.specs.Searching.{
   HasTried,
   IsAt,
   IsBegun,
-  IsSurvey,
+  IsSearch,
   IsTrying,
   MayRequest,
 };
@@ -22,9 +22,9 @@ ghost use Rattle.fmp_explore.specs.States.{AreFew, MayCome, path_to};
 ghost use Rattle.fmp_schedules.specs.Tries.{all_tries};
 
 use crate::notes::Path;
+use crate::searches::Search;
 use crate::stretching::{Ahead, task_sites};
 use crate::subject::Subject;
-use crate::survey::Survey;
 use crate::trying::{Attempt, DEEPEST, Marks};
 use fmp_base::{Effect, Event};
 use fmp_code::Vm;
@@ -96,7 +96,7 @@ fn depth_of(question: &Question, link: Link) -> usize
     question.after.len().saturating_add(link.depth as usize)
 }
 
-impl Survey {
+impl Search {
     /// Tries an event on a kernel in its state, where this is known of its stretch: whether it does something.
     #[tactic(auto, using(crate::proofs::OverLemmas::over_step))]
     fn attempt_ahead<'a>(
@@ -107,7 +107,7 @@ impl Survey {
         attempt: Attempt<'_>,
         ahead: Ahead,
     ) -> Result<bool, AllocError>
-        requires survey { IsSurvey subject.now.image.now subject.now.n subject.now.question.now self.old }
+        requires survey { IsSearch subject.now.image.now subject.now.n subject.now.question.now self.old }
         requires at { IsAt subject.now.question.now self.old.seen.links attempt.state attempt.steps.now }
         requires few { AreFew subject.now.question.now (attempt.steps.now ++ attempt.event ∷ []) }
         requires followed { IsFollowed subject.now.image.now subject.now.n attempt.steps.now kernel.old }
@@ -131,7 +131,7 @@ impl Survey {
         kernel: &mut Kernel<Vm<'a>>,
         attempt: Attempt<'_>,
     ) -> Result<bool, AllocError>
-        requires survey { IsSurvey subject.now.image.now subject.now.n subject.now.question.now self.old }
+        requires survey { IsSearch subject.now.image.now subject.now.n subject.now.question.now self.old }
         requires at { IsAt subject.now.question.now self.old.seen.links attempt.state attempt.steps.now }
         requires few { AreFew subject.now.question.now (attempt.steps.now ++ attempt.event ∷ []) }
         requires followed { IsFollowed subject.now.image.now subject.now.n attempt.steps.now kernel.old }
@@ -253,7 +253,7 @@ impl Survey {
         state: u32,
         steps: &[Event],
     ) -> Result<Marks, AllocError>
-        requires survey { IsSurvey subject.now.image.now subject.now.n subject.now.question.now self.old }
+        requires survey { IsSearch subject.now.image.now subject.now.n subject.now.question.now self.old }
         requires at { IsAt subject.now.question.now self.old.seen.links state steps.now }
         requires followed { IsFollowed subject.now.image.now subject.now.n steps.now from.now }
         requires over { IsOver subject.now.image.now subject.now.n kernel.old }
@@ -337,7 +337,7 @@ impl Survey {
         state: u32,
         steps: &[Event],
     ) -> Result<(), AllocError>
-        requires survey { IsSurvey subject.now.image.now subject.now.n subject.now.question.now self.old }
+        requires survey { IsSearch subject.now.image.now subject.now.n subject.now.question.now self.old }
         requires at { IsAt subject.now.question.now self.old.seen.links state steps.now }
         requires followed { IsFollowed subject.now.image.now subject.now.n steps.now from.now }
         requires over { IsOver subject.now.image.now subject.now.n kernel.old }
@@ -359,7 +359,7 @@ impl Survey {
         work: &mut Kernel<Vm<'a>>,
         state: u32,
     ) -> Result<(), AllocError>
-        requires survey { IsSurvey subject.now.image.now subject.now.n subject.now.question.now self.old }
+        requires survey { IsSearch subject.now.image.now subject.now.n subject.now.question.now self.old }
         requires at { IsAt subject.now.question.now self.old.seen.links state
             (path_to subject.now.question.now self.old.seen.links state) }
         requires checkpoints { AreCheckpoints subject.now.image.now subject.now.n checkpoints.old }

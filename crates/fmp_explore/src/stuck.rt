@@ -11,9 +11,9 @@ ghost use Rattle.fmp_explore.specs.Searching.{IsBegun};
 
 use crate::edges::{Sources, goes_on_from};
 use crate::exploring::{begun, ended};
+use crate::searches::Search;
 use crate::searching::{Ending, Watcher};
 use crate::subject::{Subject, live_in};
-use crate::survey::Survey;
 use fmp_base::{Event, Phase, System};
 use fmp_code::Vm;
 use fmp_fields::{What, low_byte};
@@ -80,7 +80,7 @@ fn body_at(sys: &System, t: u8) -> u8 {
 /// runs out.
 fn suspect_of(
     alloc: Global,
-    survey: &Survey,
+    survey: &Search,
     sys: &System,
     marked: &[bool],
     t: u8,
@@ -129,7 +129,7 @@ fn in_order(alloc: Global, suspects: &[Suspect]) -> Result<Vec<Suspect>, AllocEr
 /// states. `AllocError` if memory runs out.
 fn suspects_of(
     alloc: Global,
-    survey: &Survey,
+    survey: &Search,
     sys: &System,
     question: &Question,
     sources: &Sources,
@@ -153,7 +153,7 @@ fn suspects_of(
 /// if memory runs out.
 fn stuck_in(
     alloc: Global,
-    survey: &Survey,
+    survey: &Search,
     sys: &System,
     question: &Question,
     sources: &Sources,
@@ -173,7 +173,7 @@ fn stuck_in(
 
 /// Whether a task is started in a state that can go on only by an interrupt, and can go on from there, as these marks
 /// tell. `AllocError` if memory runs out.
-fn is_helped(alloc: Global, survey: &Survey, marked: &[bool], t: u8) -> Result<bool, AllocError> {
+fn is_helped(alloc: Global, survey: &Search, marked: &[bool], t: u8) -> Result<bool, AllocError> {
     let phase = place_of(&survey.rows.fields, What::Phase(t));
     let mut values = Vec::new(alloc);
     for state in survey.edges.waiting() {
@@ -191,7 +191,7 @@ fn is_helped(alloc: Global, survey: &Survey, marked: &[bool], t: u8) -> Result<b
 /// `AllocError` if memory runs out.
 fn waits_for_interrupt(
     alloc: Global,
-    survey: &Survey,
+    survey: &Search,
     sys: &System,
     question: &Question,
     sources: &Sources,
@@ -216,7 +216,7 @@ fn waits_for_interrupt(
 /// What seems to be so after a search in which every state was examined. `AllocError` if there was no memory to look.
 pub fn suspected(
     alloc: Global,
-    survey: &Survey,
+    survey: &Search,
     sys: &System,
     question: &Question,
 ) -> Result<Suspicions, AllocError> {
@@ -273,7 +273,7 @@ fn question_of(
 fn shows_silence(
     alloc: Global,
     subject: &Subject<'_>,
-    survey: &mut Survey,
+    survey: &mut Search,
 ) -> Result<bool, AllocError>
     requires { IsBegun subject.now.image.now subject.now.n subject.now.question.now survey.old }
     ensures { IfOk result (λ yes. IsTrue yes →

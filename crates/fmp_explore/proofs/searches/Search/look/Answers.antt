@@ -1,0 +1,13 @@
+use Rattle.std.proofs.Common.{refl}
+use Rattle.fmp_explore.proofs.MarkLemmas.{interrupted_free}
+use Rattle.fmp_explore.proofs.searches.Search.look.Goals as goal
+
+pub returns-then-marks : goal.returns-then-marks
+returns-then-marks c =
+    let s = c.args.subject.now in
+    record {
+      stays = record { tries = refl; rows = refl; seen = refl; sure = λ e. e };
+      free = λ _ d.
+          interrupted_free s.image.now s.n s.question.now c.args.steps.now c.args.marks c.requires.marks c.if-marks.true
+          d;
+    }

@@ -1,0 +1,12 @@
+use Rattle.std.proofs.Common.{refl}
+use Rattle.fmp_explore.proofs.MarkLemmas.{running_free}
+use Rattle.fmp_explore.proofs.searches.Search.look_if_idle.Goals as goal
+
+pub returns-else-marks : goal.returns-else-marks
+returns-else-marks c =
+    let s = c.args.subject.now in
+    record {
+      stays = record { tries = refl; rows = refl; seen = refl; sure = λ e. e };
+      free = λ _ d.
+          running_free s.image.now s.n s.question.now c.args.steps.now c.args.marks c.requires.marks c.if-marks.false d;
+    }

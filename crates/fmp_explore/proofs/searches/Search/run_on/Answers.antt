@@ -1,0 +1,26 @@
+use Rattle.std.proofs.lemmas.Result.{err_from_is_err_and}
+use Rattle.fmp_witness.proofs.CheckpointLemmas.{over_first}
+use Rattle.fmp_explore.proofs.searches.Search.run_on.Goals as goal
+
+pub kernel_of-requires-clause-low : goal.kernel_of-requires-clause-low
+kernel_of-requires-clause-low g c = c.args.subject.now.low
+
+pub kernel_of-requires-clause-high : goal.kernel_of-requires-clause-high
+kernel_of-requires-clause-high g c = c.args.subject.now.high
+
+pub returns-in_err-work : goal.returns-in_err-work
+returns-in_err-work g c = rw ((err_from_is_err_and c.from_residual.result c.from_residual.ensures.1).1) tt
+
+pub examine_all-ending-requires-clause-begun : goal.examine_all-ending-requires-clause-begun
+examine_all-ending-requires-clause-begun g c = c.requires.begun
+
+pub examine_all-ending-requires-clause-checkpoints : goal.examine_all-ending-requires-clause-checkpoints
+examine_all-ending-requires-clause-checkpoints g c = c.requires.checkpoints
+
+pub examine_all-ending-requires-clause-work : goal.examine_all-ending-requires-clause-work
+examine_all-ending-requires-clause-work g c =
+    let s = c.args.subject.now in
+    over_first s.image.now s.n c.in_ok-work.work c.in_ok-work.ensures
+
+pub returns : goal.returns
+returns g c = c.examine_all-ending.ensures
