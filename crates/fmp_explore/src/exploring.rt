@@ -190,8 +190,8 @@ fn make_report(
     })
 }
 
-/// A search that has seen the state in which it begins.
-pub fn begun(alloc: Global, subject: &Subject<'_>) -> Result<Search, AllocError>
+/// Starts a search: it has seen the state in which it begins.
+pub fn start_search(alloc: Global, subject: &Subject<'_>) -> Result<Search, AllocError>
     ensures { IfOk result (IsBegun subject.now.image.now subject.now.n subject.now.question.now) }
 {
     let mut survey = Search::new(alloc, subject)?;
@@ -199,8 +199,8 @@ pub fn begun(alloc: Global, subject: &Subject<'_>) -> Result<Search, AllocError>
     Ok(survey)
 }
 
-/// Why a search ended that has now been made.
-pub fn ended<W: Watcher>(
+/// Runs a search to its end: why it ended.
+pub fn run_search<W: Watcher>(
     alloc: Global,
     survey: &mut Search,
     subject: &Subject<'_>,
@@ -244,7 +244,7 @@ pub fn explore<W: Watcher>(
         question,
         live,
     };
-    let mut survey = begun(alloc, &subject)?;
-    let ending = ended(alloc, &mut survey, &subject, watcher);
+    let mut survey = start_search(alloc, &subject)?;
+    let ending = run_search(alloc, &mut survey, &subject, watcher);
     make_report(alloc, image, n, question, &mut survey, ending)
 }

@@ -10,7 +10,7 @@ ghost use Rattle.fmp_witness.specs.Followed.{IsFollowed};
 ghost use Rattle.fmp_explore.specs.Searching.{IsBegun};
 
 use crate::edges::{Sources, goes_on_from};
-use crate::exploring::{begun, ended};
+use crate::exploring::{run_search, start_search};
 use crate::searches::Search;
 use crate::searching::{Ending, Watcher};
 use crate::subject::{Subject, live_in};
@@ -280,7 +280,7 @@ fn shows_silence(
         NoneFollows subject.now.image.now subject.now.n subject.now.question.now) }
 {
     subject.image.keeps_rules();
-    match ended(alloc, survey, subject, &mut Nobody) {
+    match run_search(alloc, survey, subject, &mut Nobody) {
         Ending::Whole => Ok(survey.sure),
         Ending::Enough => Ok(false),
         Ending::States | Ending::Depth | Ending::Memory => Err(AllocError),
@@ -292,7 +292,7 @@ fn is_silent(alloc: Global, subject: &Subject<'_>) -> Result<bool, AllocError>
     ensures { IfOk result (λ yes. IsTrue yes →
         NoneFollows subject.now.image.now subject.now.n subject.now.question.now) }
 {
-    let mut survey = begun(alloc, subject)?;
+    let mut survey = start_search(alloc, subject)?;
     shows_silence(alloc, subject, &mut survey)
 }
 

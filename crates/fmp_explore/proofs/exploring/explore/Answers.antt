@@ -4,8 +4,8 @@ use Rattle.fmp_explore.proofs.exploring.explore.Goals as goal
 
 pub make_report-requires-clause-holds : goal.make_report-requires-clause-holds
 make_report-requires-clause-holds g c = λ whole sure none.
-    nothing_found c.args.image.now c.args.n c.args.question.now c.ended-ending.new.survey c.keeps_rules.ensures
-    (c.ended-ending.ensures whole) none sure
+    nothing_found c.args.image.now c.args.n c.args.question.now c.run_search-ending.new.survey c.keeps_rules.ensures
+    (c.run_search-ending.ensures whole) none sure
 
 pub returns-clause-holds : goal.returns-clause-holds
 returns-clause-holds g c =
