@@ -11,7 +11,7 @@ use fmp_image_bytes::Image;
 use fmp_kernel::Kernel;
 use fmp_question::Question;
 use fmp_replay::kernel_of;
-use fmp_witness::{Finding, Sight, is_so};
+use fmp_witness::{Finding, FindingKind, is_so};
 use std::alloc::{AllocError, Global};
 
 /// Whether each of these events does something, and this is seen after them, on a kernel that was just set up.
@@ -23,18 +23,18 @@ fn is_shown_on<'a>(
     n: u64,
     question: &Question,
     steps: &[Event],
-    sight: Sight,
+    kind: FindingKind,
 ) -> Result<bool, AllocError>
     requires low { 1 ≤ n }
     requires high { n ≤ 2 ^ 48 }
     requires begun { kernel.old ≡ kernel_after image.now n [] }
-    ensures { IfOk result (λ shown. IsTrue shown → IsSo image.now n question.now steps.now sight) }
+    ensures { IfOk result (λ shown. IsTrue shown → IsSo image.now n question.now steps.now kind) }
 {
-    if let Sight::Stuck(t) = sight {
+    if let FindingKind::Stuck(t) = kind {
         let stuck = is_stuck(alloc, kernel, image, n, question, steps, t)?;
         return Ok(stuck);
     }
-    Ok(is_so(kernel, image, n, question, steps, sight))
+    Ok(is_so(kernel, image, n, question, steps, kind))
 }
 
 /// Whether each of these events does something, and this is seen after them. `AllocError` if memory runs out.
@@ -44,14 +44,14 @@ fn is_shown(
     n: u64,
     question: &Question,
     steps: &[Event],
-    sight: Sight,
+    kind: FindingKind,
 ) -> Result<bool, AllocError>
     requires low { 1 ≤ n }
     requires high { n ≤ 2 ^ 48 }
-    ensures { IfOk result (λ found. IsTrue found → IsSo image.now n question.now steps.now sight) }
+    ensures { IfOk result (λ found. IsTrue found → IsSo image.now n question.now steps.now kind) }
 {
     let mut kernel = kernel_of(alloc, image, n)?;
-    let shown = is_shown_on(alloc, &mut kernel, image, n, question, steps, sight);
+    let shown = is_shown_on(alloc, &mut kernel, image, n, question, steps, kind);
     drop(kernel);
     shown
 }
@@ -68,7 +68,7 @@ fn is_found(
     requires high { n ≤ 2 ^ 48 }
     ensures { IfOk result (λ found. IsTrue found → IsFound image.now n question.now finding.now) }
 {
-    is_shown(alloc, image, n, question, &finding.steps, finding.sight)
+    is_shown(alloc, image, n, question, &finding.steps, finding.kind)
 }
 
 /// Adds a finding to others, if it is so. `AllocError` if memory runs out: then the others stay alone.

@@ -21,6 +21,8 @@ mod values;
 pub use exploring::{Report, explore};
 pub use fmp_question::{ANSWERS, Never, NeverAt, Question, Site, Ticks};
 pub use fmp_schedules::{Meeting, Section};
-pub use fmp_witness::{Coverage, Finding, Left, Peaks, Runs, Sight, Started, Together, left_by};
+pub use fmp_witness::{
+    Coverage, Finding, FindingKind, Left, Peaks, Runs, Started, Together, left_by,
+};
 pub use searching::{Ending, Watcher};
 pub use values::Variety;

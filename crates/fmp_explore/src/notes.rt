@@ -12,7 +12,7 @@ use fmp_code::Vm;
 use fmp_kernel::Kernel;
 use fmp_question::{Site, first_bad_at, first_forbidden, is_bad};
 use fmp_schedules::Section;
-use fmp_witness::{Coverage, Finding, Sight, Together};
+use fmp_witness::{Coverage, Finding, FindingKind, Together};
 use std::alloc::{AllocError, Global};
 use std::mem;
 
@@ -64,7 +64,7 @@ fn events_of(alloc: Global, path: Path<'_>) -> Result<Vec<Event>, AllocError> {
 /// Whether a search goes on beside a finding where only the first is asked for: a body that goes on for ever hides
 /// nothing else.
 pub fn is_beside(found: &Finding) -> bool {
-    matches!(found.sight, Sight::Endless(_))
+    matches!(found.kind, FindingKind::Endless(_))
 }
 
 /// Which of what must never happen a line tells that a kernel has just told, if it tells something of it.
@@ -77,13 +77,18 @@ fn broken_by(subject: &Subject<'_>, kernel: &Kernel<Vm<'_>>, line: &Line) -> Opt
 }
 
 /// Whether a candidate is of a kind, and at a call. Lines are of one kind if they tell the same that must never happen.
-fn is_of_kind(known: &Candidate, sight: Sight, site: Option<Site>, broken: Option<Broken>) -> bool {
-    let is_same = match (known.finding.sight, sight) {
-        (Sight::Line(_), Sight::Line(_)) => known.broken == broken,
-        (Sight::Deadlock, Sight::Deadlock) => true,
-        (Sight::Endless(_), Sight::Endless(_)) => true,
-        (Sight::Stuck(a), Sight::Stuck(b)) => a == b,
-        (Sight::Together(a), Sight::Together(b)) => a.section == b.section,
+fn is_of_kind(
+    known: &Candidate,
+    kind: FindingKind,
+    site: Option<Site>,
+    broken: Option<Broken>,
+) -> bool {
+    let is_same = match (known.finding.kind, kind) {
+        (FindingKind::Line(_), FindingKind::Line(_)) => known.broken == broken,
+        (FindingKind::Deadlock, FindingKind::Deadlock) => true,
+        (FindingKind::Endless(_), FindingKind::Endless(_)) => true,
+        (FindingKind::Stuck(a), FindingKind::Stuck(b)) => a == b,
+        (FindingKind::Together(a), FindingKind::Together(b)) => a.section == b.section,
         _ => false,
     };
     is_same && known.finding.site == site
@@ -138,33 +143,33 @@ impl Notes {
         &mut self,
         alloc: Global,
         path: Path<'_>,
-        sight: Sight,
+        kind: FindingKind,
         site: Option<Site>,
         broken: Option<Broken>,
     ) -> Result<(), AllocError> {
         let is_known = self
             .candidates
             .iter()
-            .any(|known| is_of_kind(known, sight, site, broken));
+            .any(|known| is_of_kind(known, kind, site, broken));
         if is_known {
             return Ok(());
         }
         let steps = events_of(alloc, path)?;
-        let finding = Finding { steps, sight, site };
+        let finding = Finding { steps, kind, site };
         self.candidates.push(Candidate { finding, broken })?;
         Ok(())
     }
 
     /// Adds what is seen after a list of events and is no line, unless the same was seen at the same call. `AllocError`
     /// if memory runs out.
-    pub fn note_sight(
+    pub fn note_kind(
         &mut self,
         alloc: Global,
         path: Path<'_>,
-        sight: Sight,
+        kind: FindingKind,
         site: Option<Site>,
     ) -> Result<(), AllocError> {
-        self.note(alloc, path, sight, site, None)
+        self.note(alloc, path, kind, site, None)
     }
 
     /// The call to which a line belongs: that of the stretch, or where a wait ends that of the task that waited.
@@ -195,7 +200,7 @@ impl Notes {
         let bad = is_bad(kernel, subject.image.system(), subject.question, line);
         if bad {
             let broken = broken_by(subject, kernel, line);
-            self.note(alloc, path, Sight::Line(place), site, broken)?;
+            self.note(alloc, path, FindingKind::Line(place), site, broken)?;
         }
         Ok(bad)
     }
@@ -243,7 +248,7 @@ impl Notes {
             section: number,
             meeting,
         };
-        self.note_sight(alloc, path, Sight::Together(together), made)?;
+        self.note_kind(alloc, path, FindingKind::Together(together), made)?;
         Ok(true)
     }
 

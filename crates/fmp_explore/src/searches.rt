@@ -23,7 +23,7 @@ use fmp_kernel::Kernel;
 use fmp_question::{Outlook, Question, Site, may_rest, queues_within};
 use fmp_schedules::{Section, tries_of};
 use fmp_visited::{Entry, Link, Seen};
-use fmp_witness::{Coverage, Finding, Sight};
+use fmp_witness::{Coverage, Finding, FindingKind};
 use std::alloc::{AllocError, Global};
 
 /// A search under way.
@@ -284,7 +284,8 @@ impl Search {
             steps: attempt.steps,
             last: None,
         };
-        self.notes.note_sight(alloc, path, Sight::Endless(p), body)
+        self.notes
+            .note_kind(alloc, path, FindingKind::Endless(p), body)
     }
 
     /// Looks what becomes of the actor of a processor, of this body, whose place an event will keep, and notes it if it

@@ -32,7 +32,7 @@ use fmp_kernel::Kernel;
 use fmp_question::{Question, Ticks, stands_still};
 use fmp_replay::kernel_of;
 use fmp_visited::Link;
-use fmp_witness::{Checkpoints, Sight};
+use fmp_witness::{Checkpoints, FindingKind};
 use std::alloc::{AllocError, Global};
 
 /// How many states there are when it is told first how far the search has come.
@@ -303,7 +303,8 @@ impl Search {
         self.sure = false;
         self.edges.note_end(alloc);
         let path = Path { steps, last: None };
-        self.notes.note_sight(alloc, path, Sight::Deadlock, None)
+        self.notes
+            .note_kind(alloc, path, FindingKind::Deadlock, None)
     }
 
     /// Looks whether the state to which these steps lead, in which this was done, is a deadlock.

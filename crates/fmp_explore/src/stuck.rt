@@ -21,7 +21,7 @@ use fmp_image_bytes::Image;
 use fmp_kernel::Kernel;
 use fmp_question::{Never, Question, Site, body_of, is_started, may_rest};
 use fmp_visited::unpack;
-use fmp_witness::{Finding, Sight, follow};
+use fmp_witness::{Finding, FindingKind, follow};
 use std::alloc::{AllocError, Global};
 
 /// Nobody is told how far a search has come.
@@ -163,7 +163,7 @@ fn stuck_in(
         if question.all || findings.is_empty() {
             findings.push(Finding {
                 steps: survey.steps_to(alloc, question, suspect.state)?,
-                sight: Sight::Stuck(suspect.task),
+                kind: FindingKind::Stuck(suspect.task),
                 site: Some(suspect.site),
             })?;
         }
@@ -359,7 +359,7 @@ pub fn is_stuck<'a>(
     requires low { 1 ≤ n }
     requires high { n ≤ 2 ^ 48 }
     requires begun { kernel.old ≡ kernel_after image.now n [] }
-    ensures { IfOk result (λ stuck. IsTrue stuck → IsSo image.now n question.now steps.now (Sight.Stuck t)) }
+    ensures { IfOk result (λ stuck. IsTrue stuck → IsSo image.now n question.now steps.now (FindingKind.Stuck t)) }
 {
     if !follow(kernel, image, n, steps) {
         return Ok(false);

@@ -15,8 +15,8 @@ use Rattle.fmp_explore.specs.declared.exploring.Report.{Report}
 use Rattle.fmp_explore.specs.declared.searching.Ending.{Ending}
 use Rattle.fmp_explore.specs.declared.searching.Ending.TheVariants as ending
 use Rattle.fmp_witness.specs.declared.finding.Finding.{Finding}
-use Rattle.fmp_witness.specs.declared.finding.Sight.{Sight}
-use Rattle.fmp_witness.specs.declared.finding.Sight.TheVariants as sight
+use Rattle.fmp_witness.specs.declared.finding.FindingKind.{FindingKind}
+use Rattle.fmp_witness.specs.declared.finding.FindingKind.TheVariants as kind
 use Rattle.fmp_image_bytes.specs.Images.{ImageTables}
 use Rattle.fmp_instructions.specs.declared.instructions.Instruction.{Instruction}
 use Rattle.fmp_instructions.specs.declared.instructions.Instruction.TheVariants as instruction
@@ -201,12 +201,12 @@ parts_text sys code bodies q =
 unfoldable pub claim_text : ImageTables → List TextBody → Question → (bound : ℕ) → List ℕ
 claim_text i bodies q bound = parts_text i.system i.code bodies q ++ lists_text q bound
 
-abbrev pub is_stuck_sight : Sight → Bool
-is_stuck_sight (sight.Stuck t) = true
-is_stuck_sight _ = false
+abbrev pub is_of_stuck : FindingKind → Bool
+is_of_stuck (kind.Stuck t) = true
+is_of_stuck _ = false
 
 abbrev pub is_stuck : Finding → Bool
-is_stuck f = is_stuck_sight f.sight
+is_stuck f = is_of_stuck f.kind
 
 -- what is said of stuck tasks beside a claim
 unfoldable pub stuck_note : Report → List ℕ

@@ -5,7 +5,7 @@ ghost use Rattle.fmp_explore_names.specs.Claims as spec;
 
 use crate::claiming::{append, append_claim};
 use crate::sites::CallLines;
-use fmp_explore::{Ending, Finding, Question, Report, Sight};
+use fmp_explore::{Ending, Finding, FindingKind, Question, Report};
 use fmp_image_bytes::Image;
 use std::alloc::{AllocError, Global};
 
@@ -30,8 +30,8 @@ pub fn status_of(report: &Report) -> u8
 fn is_stuck(finding: &Finding) -> bool
     ensures { result ≡ spec.is_stuck finding.now }
 {
-    match finding.sight {
-        Sight::Stuck(_) => true,
+    match finding.kind {
+        FindingKind::Stuck(_) => true,
         _ => false,
     }
 }

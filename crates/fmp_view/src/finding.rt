@@ -2,18 +2,19 @@
 use crate::sources::{Sources, say, say_made, say_place};
 use crate::stuck::held_up;
 use fmp_base::{Line, System};
-use fmp_explore::{Finding, Left, Sight, Site, Started, Together, left_by};
+use fmp_explore::{Finding, FindingKind, Left, Site, Started, Together, left_by};
 use fmp_explore_names::append_stuck;
 use fmp_trace::print;
 use std::alloc::{AllocError, Global};
 
 /// The line of a finding: of its call, or of the head of the body that goes on for ever.
 fn line_of(sources: &Sources<'_>, finding: &Finding, site: Site) -> Option<u32> {
-    match finding.sight {
-        Sight::Endless(_) => sources.lines.head(site.body),
-        Sight::Line(_) | Sight::Deadlock | Sight::Together(_) | Sight::Stuck(_) => sources
-            .lines
-            .line(sources.image.code(), site),
+    match finding.kind {
+        FindingKind::Endless(_) => sources.lines.head(site.body),
+        FindingKind::Line(_)
+        | FindingKind::Deadlock
+        | FindingKind::Together(_)
+        | FindingKind::Stuck(_) => sources.lines.line(sources.image.code(), site),
     }
 }
 
@@ -96,34 +97,34 @@ fn say_left(
     alloc: Global,
     out: &mut Vec<u8>,
     sources: &Sources<'_>,
-    sight: Sight,
+    kind: FindingKind,
     left: &Left,
 ) -> Result<(), AllocError> {
     let sys = sources.image.system();
-    match sight {
-        Sight::Line(place) => say_line(out, sys, left.number, &left.lines, place),
-        Sight::Deadlock => say_deadlock(alloc, out, sources, &left.started),
-        Sight::Endless(p) => say_made(
+    match kind {
+        FindingKind::Line(place) => say_line(out, sys, left.number, &left.lines, place),
+        FindingKind::Deadlock => say_deadlock(alloc, out, sources, &left.started),
+        FindingKind::Endless(p) => say_made(
             out,
             format!(in alloc; "processor {p} goes on for ever without a call"),
         ),
-        Sight::Together(together) => {
+        FindingKind::Together(together) => {
             say_line(out, sys, left.number, &left.lines, together.meeting.place)?;
             say_holder(alloc, out, sources, together)
         }
-        Sight::Stuck(_) => Ok(()),
+        FindingKind::Stuck(_) => Ok(()),
     }
 }
 
 /// Appends what is seen after the steps of a finding.
-fn say_sight(
+fn say_kind(
     alloc: Global,
     out: &mut Vec<u8>,
     sources: &Sources<'_>,
     finding: &Finding,
 ) -> Result<(), AllocError> {
     match left_by(alloc, sources.image, sources.bound, &finding.steps)? {
-        Some(left) => say_left(alloc, out, sources, finding.sight, &left),
+        Some(left) => say_left(alloc, out, sources, finding.kind, &left),
         None => Ok(()),
     }
 }
@@ -175,11 +176,11 @@ fn say_seen(
     sources: &Sources<'_>,
     finding: &Finding,
 ) -> Result<(), AllocError> {
-    if let Sight::Stuck(task) = finding.sight {
+    if let FindingKind::Stuck(task) = finding.kind {
         return say_stuck(alloc, out, sources, finding, task);
     }
     say_site(alloc, out, sources, finding, finding.site)?;
-    say_sight(alloc, out, sources, finding)
+    say_kind(alloc, out, sources, finding)
 }
 
 /// Appends a finding, the one of this number.

@@ -7,7 +7,7 @@ use Rattle.fmp_base.specs.declared.events.Line.{Line}
 use Rattle.fmp_base.specs.Meanings.{World}
 use Rattle.fmp_base.specs.Steps.{Done, Reaction, Nothing, Did, Kept, effect_of, step}
 use Rattle.fmp_drive.specs.Driving.{reaction as done_by}
-use Rattle.fmp_witness.specs.declared.finding.Sight.TheVariants as sight
+use Rattle.fmp_witness.specs.declared.finding.FindingKind.TheVariants as kind
 use Rattle.fmp_witness.specs.declared.finding.Together.{Together}
 use Rattle.fmp_question.specs.declared.question.Question.{Question}
 use Rattle.fmp_witness.specs.Findings.{HasSection, IsMetAfter, IsSectionOn, IsSo, section_by}
@@ -104,7 +104,7 @@ module _ (i : ImageTables) (n : ℕ) (first : Section) where
 -- what is found of two tasks in one section is so
 pub so_together : (i : ImageTables) (n : ℕ) (q : Question) (es before : List Event) (last : Event) (s : Section)
     (t : Together) → es ≡ before ++ last ∷ [] → slice_get q.sections.items t.section ≡ Some s
-    → IsMetAfter i n s before last t.meeting → IsSo i n q es (sight.Together t)
+    → IsMetAfter i n s before last t.meeting → IsSo i n q es (kind.Together t)
 unfolding reaction
 so_together i n q es before last s t parts there h =
     record {

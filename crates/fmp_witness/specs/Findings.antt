@@ -12,8 +12,8 @@ use Rattle.fmp_instructions.specs.declared.instructions.MachineContext.{MachineC
 use Rattle.fmp_replay.specs.Replays.{IsLegal, done_count, reaction, replay}
 use Rattle.fmp_witness.specs.declared.finding.Finding.{Finding}
 use Rattle.fmp_witness.specs.declared.finding.Left.{Left}
-use Rattle.fmp_witness.specs.declared.finding.Sight.{Sight}
-use Rattle.fmp_witness.specs.declared.finding.Sight.TheVariants as sight
+use Rattle.fmp_witness.specs.declared.finding.FindingKind.{FindingKind}
+use Rattle.fmp_witness.specs.declared.finding.FindingKind.TheVariants as kind
 use Rattle.fmp_witness.specs.declared.finding.Together.{Together}
 use Rattle.fmp_question.specs.declared.question.Question.{Question}
 use Rattle.fmp_instructions.specs.Instructions.{BodyTables}
@@ -49,22 +49,22 @@ pub record AreTogether (sys : SystemTables) (M : Meaning MachineContext) (n : �
   pub met : IsMeeting (section_along section (lines_after sys M n before)) done.lines t.meeting
 
 -- this is seen in what events have left
-abbrev pub IsSeen : SystemTables → Meaning MachineContext → ℕ → Question → List Event → Done MachineContext → Sight
+abbrev pub IsSeen : SystemTables → Meaning MachineContext → ℕ → Question → List Event → Done MachineContext → FindingKind
     → Type 0
-IsSeen sys M n q es d (sight.Line place) = HasForbidden sys q d.world d.lines place
-IsSeen sys M n q es d sight.Deadlock = IsDeadlock sys M n d.world q.rest.items (may_interrupt q.interrupts es)
-IsSeen sys M n q es d (sight.Endless p) = IsEndlessOn sys M d.world p
-IsSeen sys M n q es d (sight.Together t) = AreTogether sys M n q es t
-IsSeen sys M n q es d (sight.Stuck t) = NeverGoesOn (rules_of q) sys M n es t
+IsSeen sys M n q es d (kind.Line place) = HasForbidden sys q d.world d.lines place
+IsSeen sys M n q es d kind.Deadlock = IsDeadlock sys M n d.world q.rest.items (may_interrupt q.interrupts es)
+IsSeen sys M n q es d (kind.Endless p) = IsEndlessOn sys M d.world p
+IsSeen sys M n q es d (kind.Together t) = AreTogether sys M n q es t
+IsSeen sys M n q es d (kind.Stuck t) = NeverGoesOn (rules_of q) sys M n es t
 
 -- each of these events does something at its place, and this is seen after them
-pub record IsSo (i : ImageTables) (n : ℕ) (q : Question) (es : List Event) (seen : Sight) : Type 0 where
+pub record IsSo (i : ImageTables) (n : ℕ) (q : Question) (es : List Event) (seen : FindingKind) : Type 0 where
   pub legal : IsLegal i n es
   pub shown : IsSeen i.system (code_meaning i.code) n q es (replay i n es) seen
 
 -- a finding is so
 abbrev pub IsFound : ImageTables → ℕ → Question → Finding → Type 0
-IsFound i n q f = IsSo i n q f.steps.items f.sight
+IsFound i n q f = IsSo i n q f.steps.items f.kind
 
 -- what legal events have left: the lines of the last one that was done, with its number in the trace
 pub record IsLeft (i : ImageTables) (n : ℕ) (es : List Event) (left : Left) : Type 0 where

@@ -23,7 +23,7 @@ use std::alloc::{AllocError, Global};
 
 /// What is seen after a list of events.
 #[derive(Clone, Copy, Debug, PartialEq, Eq)]
-pub enum Sight {
+pub enum FindingKind {
     /// The line at this place, from 0, tells what must never happen. It is one of the last event that was done, or of
     /// setup if none was.
     Line(usize),
@@ -51,7 +51,7 @@ pub struct Together {
 #[derive(Drop)]
 pub struct Finding {
     pub steps: Vec<Event>,
-    pub sight: Sight,
+    pub kind: FindingKind,
     /// The call to which it belongs, if it belongs to one.
     pub site: Option<Site>,
 }
@@ -117,17 +117,17 @@ fn is_seen<'a>(
     n: u64,
     question: &Question,
     steps: &[Event],
-    sight: Sight,
+    kind: FindingKind,
 ) -> bool
     requires { IsFollowed image.now n steps.now kernel.old }
     ensures { IsTrue result → IsSeen image.now.system (code_meaning image.now.code) n question.now steps.now
-        (replay image.now n steps.now) sight }
+        (replay image.now n steps.now) kind }
 {
-    match sight {
-        Sight::Line(place) => tells_forbidden(kernel, image, n, question, steps, place),
-        Sight::Deadlock => stands(kernel, image, n, question, steps),
-        Sight::Endless(p) => goes_on(kernel, image, n, steps, p),
-        Sight::Together(_) | Sight::Stuck(_) => false,
+    match kind {
+        FindingKind::Line(place) => tells_forbidden(kernel, image, n, question, steps, place),
+        FindingKind::Deadlock => stands(kernel, image, n, question, steps),
+        FindingKind::Endless(p) => goes_on(kernel, image, n, steps, p),
+        FindingKind::Together(_) | FindingKind::Stuck(_) => false,
     }
 }
 
@@ -178,7 +178,7 @@ fn are_together<'a>(
     together: Together,
 ) -> bool
     requires { kernel.old ≡ kernel_after image.now n [] }
-    ensures { IsTrue result → IsSo image.now n question.now steps.now (Sight.Together together) }
+    ensures { IsTrue result → IsSo image.now n question.now steps.now (FindingKind.Together together) }
 {
     let Some(section) = question.sections.get(together.section) else {
         return false;
@@ -206,19 +206,19 @@ pub fn is_so<'a>(
     n: u64,
     question: &Question,
     steps: &[Event],
-    sight: Sight,
+    kind: FindingKind,
 ) -> bool
     requires some { 1 ≤ n }
     requires begun { kernel.old ≡ kernel_after image.now n [] }
-    ensures { IsTrue result → IsSo image.now n question.now steps.now sight }
+    ensures { IsTrue result → IsSo image.now n question.now steps.now kind }
 {
-    if let Sight::Together(together) = sight {
+    if let FindingKind::Together(together) = kind {
         return are_together(kernel, image, n, question, steps, together);
     }
     if !follow(kernel, image, n, steps) {
         return false;
     }
-    is_seen(kernel, image, n, question, steps, sight)
+    is_seen(kernel, image, n, question, steps, kind)
 }
 
 /// What some events have left: the number in the trace of the last one that was done, or 0 for setup, its lines, and

@@ -11,6 +11,6 @@ mod started;
 
 pub use checkpoints::Checkpoints;
 pub use coverage::{Coverage, Peaks, Runs};
-pub use finding::{Finding, Left, Sight, Together, is_so, left_by};
+pub use finding::{Finding, FindingKind, Left, Together, is_so, left_by};
 pub use replaying::follow;
 pub use started::Started;

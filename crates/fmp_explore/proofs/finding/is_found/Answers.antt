@@ -7,5 +7,5 @@ pub returns : goal.returns
 returns c =
     subst
     (λ (es : List Event). IfOk c.is_shown.result
-    (λ found. IsTrue found → IsSo c.args.image.now c.args.n c.args.question.now es c.args.finding.now.sight))
+    (λ found. IsTrue found → IsSo c.args.image.now c.args.n c.args.question.now es c.args.finding.now.kind))
     c.deref.ensures.value c.is_shown.ensures
