@@ -12,7 +12,7 @@ use Rattle.atomic_table.specs.Table.{Me, keeps, Allows, Splits, Joins, step, ope
 use Rattle.atomic_table.proofs.Lists.{at_set}
 use Rattle.fmp_journal.specs.declared.entry.JournalEntry.{JournalEntry}
 use Rattle.fmp_journal.specs.declared.knowledge.Pen.{Pen}
-use Rattle.fmp_journal.specs.declared.knowledge.Sight.{Sight}
+use Rattle.fmp_journal.specs.declared.knowledge.SeenJournal.{SeenJournal}
 use Rattle.fmp_journal.specs.declared.knowledge.View.{View}
 use Rattle.fmp_journal.specs.Words.{word_of, entry_of, words_of}
 use Rattle.fmp_journal.specs.Views.{own, times, without, nobody, first_view, scribe_part, seat_part, lent, after_deal, dealt, written, looked, shown, Wrote, Read, Looked, CaughtUp}
@@ -48,7 +48,7 @@ one_pen : (k : ℕ) (h : Whole) (id j : ℕ) (p q : Pen) → PenFits k h id p �
 one_pen k h id j p q f ne g = ne (g.here ∙ sym f.here)
 
 -- two seats have two numbers
-two_numbers : (k : ℕ) (h : Whole) (id j : ℕ) (s t : Sight) → SightFits k h id s → SightFits k h j t → j ≢ id → t.number ≢ s.number
+two_numbers : (k : ℕ) (h : Whole) (id j : ℕ) (s t : SeenJournal) → SightFits k h id s → SightFits k h j t → j ≢ id → t.number ≢ s.number
 two_numbers k h id j s t f g ne e = ne (g.here ∙ ap h.seat e ∙ sym f.here)
 
 -- the same, where the scribe's view stands elsewhere
@@ -58,7 +58,7 @@ with_scribe h id = record { journal = h.journal; marks = h.marks; made = h.made;
 pen_moved : (k : ℕ) (h : Whole) (id now : ℕ) (p : Pen) → PenFits k h id p → PenFits k (with_scribe h now) now p
 pen_moved k h id now p f = record { here = refl; capacity_is = f.capacity_is; made_is = f.made_is; journal_is = f.journal_is; marks_are = f.marks_are }
 
-sight_stays : (k : ℕ) (h : Whole) (now j : ℕ) (s : Sight) → SightFits k h j s → SightFits k (with_scribe h now) j s
+sight_stays : (k : ℕ) (h : Whole) (now j : ℕ) (s : SeenJournal) → SightFits k h j s → SightFits k (with_scribe h now) j s
 sight_stays k h now j s f = record { here = f.here; capacity_is = f.capacity_is; was_made = f.was_made; begins = f.begins; counted = f.counted }
 
 -- a word that is loaded stays
@@ -88,7 +88,7 @@ counted_more : (n mine : ℕ) (journal : List JournalEntry) (marks : List ℕ) (
     → length (own n (journal ++ x ∷ [])) ≡ mine + times n (marks ++ x.seat ∷ [])
 counted_more n mine journal marks x e = omega (arith, length-own n journal x, times-snoc n marks x.seat)
 
-sight_more : (k : ℕ) (h : Whole) (x : JournalEntry) (j : ℕ) (s : Sight) → SightFits k h j s → SightFits k (more h x) j s
+sight_more : (k : ℕ) (h : Whole) (x : JournalEntry) (j : ℕ) (s : SeenJournal) → SightFits k h j s → SightFits k (more h x) j s
 sight_more k h x j s f = record {
   here = f.here;
   capacity_is = f.capacity_is;
@@ -278,7 +278,7 @@ deals k m id v has no_journal no_marks s kept there =
     let n = length s.views in
     let at : ℕ → ℕ = λ x. cond (x == h.made) n (h.seat x) in
     let now : Whole = record { journal = h.journal; marks = h.marks; made = h.made + 1; scribe = h.scribe; seat = at } in
-    let old : (j : ℕ) (t : Sight) → SightFits k h j t → SightFits k now j t = λ j t r. record {
+    let old : (j : ℕ) (t : SeenJournal) → SightFits k h j t → SightFits k now j t = λ j t r. record {
       here = r.here ∙ sym (ap (λ b. cond b n (h.seat t.number)) (test_false t.number h.made r.was_made));
       capacity_is = r.capacity_is;
       was_made = one_later t.number h.made r.was_made;

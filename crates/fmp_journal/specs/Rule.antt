@@ -6,7 +6,7 @@ use lib.ListN.{get_elem?}
 use Rattle.atomic_table.specs.Table.{State}
 use Rattle.fmp_journal.specs.declared.entry.JournalEntry.{JournalEntry}
 use Rattle.fmp_journal.specs.declared.knowledge.Pen.{Pen}
-use Rattle.fmp_journal.specs.declared.knowledge.Sight.{Sight}
+use Rattle.fmp_journal.specs.declared.knowledge.SeenJournal.{SeenJournal}
 use Rattle.fmp_journal.specs.declared.knowledge.View.{View}
 use Rattle.fmp_journal.specs.Words.{IsEntry, words_of}
 use Rattle.fmp_journal.specs.Views.{own, times}
@@ -41,7 +41,7 @@ pub record PenFits (capacity : ℕ) (h : Whole) (id : ℕ) (p : Pen) : Type 0 wh
 
 -- a seat has seen a beginning of the journal, whose entries of this seat are those that it counted and those that marks
 -- name
-pub record SightFits (capacity : ℕ) (h : Whole) (id : ℕ) (s : Sight) : Type 0 where
+pub record SightFits (capacity : ℕ) (h : Whole) (id : ℕ) (s : SeenJournal) : Type 0 where
   pub here : id ≡ h.seat s.number
   pub capacity_is : s.capacity ≡ capacity
   pub was_made : s.number < h.made

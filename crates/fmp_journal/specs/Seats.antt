@@ -5,7 +5,7 @@ use Rattle.fmp_base.specs.declared.events.Event.{Event}
 use Rattle.fmp_journal.specs.declared.entry.JournalEntry.{JournalEntry}
 use Rattle.fmp_journal.specs.declared.knowledge.Look.{Look}
 use Rattle.fmp_journal.specs.declared.knowledge.Limits.{Limits}
-use Rattle.fmp_journal.specs.declared.knowledge.Sight.{Sight}
+use Rattle.fmp_journal.specs.declared.knowledge.SeenJournal.{SeenJournal}
 use Rattle.fmp_journal.specs.declared.knowledge.View.{View}
 use Rattle.fmp_journal.specs.Words.{entry}
 use Rattle.fmp_journal.specs.Views.{times, without, no_look, nobody}
@@ -79,7 +79,7 @@ pub record IsTable (table : TableId) (limits : Limits) : Type 0 where
   pub some : 0 < limits.capacity
   pub fits : limits.capacity < 2 ^ 32
 
-abbrev pub seat_state : TableId → Sight → ℕ → SeatState
+abbrev pub seat_state : TableId → SeenJournal → ℕ → SeatState
 seat_state table s place =
     record {
       row = record { table = table; capacity = s.capacity; seats = s.seats };

@@ -5,7 +5,7 @@ use Rattle.atomic_table.specs.Table.{Me, Step}
 use Rattle.fmp_journal.specs.declared.entry.JournalEntry.{JournalEntry}
 use Rattle.fmp_journal.specs.declared.knowledge.Look.{Look}
 use Rattle.fmp_journal.specs.declared.knowledge.Pen.{Pen}
-use Rattle.fmp_journal.specs.declared.knowledge.Sight.{Sight}
+use Rattle.fmp_journal.specs.declared.knowledge.SeenJournal.{SeenJournal}
 use Rattle.fmp_journal.specs.declared.knowledge.View.{View}
 use Rattle.fmp_journal.specs.Words.{entry_of}
 
@@ -33,20 +33,20 @@ abbrev pub new_pen : (capacity seats made : ℕ) → Pen
 new_pen capacity seats made = record { capacity = capacity; seats = seats; made = made; journal = []; marks = [] }
 
 -- the sight of seat n, which has seen nothing
-abbrev pub new_sight : (capacity seats n : ℕ) → Sight
+abbrev pub new_sight : (capacity seats n : ℕ) → SeenJournal
 new_sight capacity seats n =
     record { capacity = capacity; seats = seats; number = n; seen = []; mine = 0; look = no_look }
 
 abbrev pub no_pen : Pen
 no_pen = new_pen 0 0 0
 
-abbrev pub no_sight : Sight
+abbrev pub no_sight : SeenJournal
 no_sight = new_sight 0 0 0
 
 abbrev pub scribe_view : Pen → View
 scribe_view p = record { has_pen = true; pen = p; has_sight = false; sight = no_sight }
 
-abbrev pub seat_view : Sight → View
+abbrev pub seat_view : SeenJournal → View
 seat_view s = record { has_pen = false; pen = no_pen; has_sight = true; sight = s }
 
 abbrev pub nobody : View
@@ -89,7 +89,7 @@ abbrev pub pen_shown : ℕ → Pen → Pen
 pen_shown n p = record p { marks = without n p.marks }
 
 -- and it has seen all, and counted its entries
-abbrev pub sight_shown : Sight → Pen → Sight
+abbrev pub sight_shown : SeenJournal → Pen → SeenJournal
 sight_shown s p = record s { seen = p.journal; mine = s.mine + times s.number p.marks }
 
 abbrev pub shown : View → View

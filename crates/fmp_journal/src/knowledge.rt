@@ -21,7 +21,7 @@ pub struct Pen {
 
 /// What a seat knows: its number, the beginning of the journal that it has seen, how many entries of its own it has
 /// counted, and its reads.
-pub struct Sight {
+pub struct SeenJournal {
     pub capacity: u64,
     pub seats: u64,
     pub number: u64,
@@ -35,7 +35,7 @@ pub struct View {
     pub has_pen: bool,
     pub pen: Pen,
     pub has_sight: bool,
-    pub sight: Sight,
+    pub sight: SeenJournal,
 }
 
 /// How many words and seats a row is made for.
