@@ -90,8 +90,8 @@ impl Edges {
         self.firsts.len()
     }
 
-    /// Forgets all: nothing more is noted.
-    pub fn lose(&mut self, alloc: Global) {
+    /// Gives up: all is forgotten, and nothing more is noted.
+    pub fn give_up(&mut self, alloc: Global) {
         self.lost = true;
         self.targets = Vec::new(alloc);
         self.firsts = Vec::new(alloc);
@@ -118,7 +118,7 @@ impl Edges {
             return;
         }
         if self.push_state().is_err() {
-            self.lose(alloc);
+            self.give_up(alloc);
         }
     }
 
@@ -128,7 +128,7 @@ impl Edges {
             return;
         }
         if self.targets.push(state).is_err() {
-            self.lose(alloc);
+            self.give_up(alloc);
         }
     }
 
@@ -198,7 +198,7 @@ impl Edges {
             return;
         }
         if self.ends.push(state).is_err() {
-            self.lose(alloc);
+            self.give_up(alloc);
         }
     }
 
@@ -206,7 +206,7 @@ impl Edges {
     pub fn note_waiting(&mut self, alloc: Global) {
         let state = self.state();
         if !self.lost && self.waiting.push(state).is_err() {
-            self.lose(alloc);
+            self.give_up(alloc);
         }
     }
 

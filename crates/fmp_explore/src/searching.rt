@@ -373,7 +373,7 @@ impl Search {
         let steps = self.steps_to(alloc, subject.question, state)?;
         if !checkpoints.reach(alloc, subject.image, subject.n, &steps)? {
             self.sure = false;
-            self.edges.lose(alloc);
+            self.edges.give_up(alloc);
             return Ok(());
         }
         self.examine_on(alloc, subject, &checkpoints.top, work, state, &steps)
