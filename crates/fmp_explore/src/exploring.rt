@@ -37,7 +37,7 @@ pub struct Report {
     /// How many events did something.
     pub events: u64,
     /// How many events lead to the deepest state.
-    pub deep: u32,
+    pub depth: u32,
     /// Whether in a state that can go on only by an interrupt a task that may not rest waits, and can go on later.
     /// False where stuck tasks were not looked for.
     pub waits: bool,
@@ -183,7 +183,7 @@ fn make_report(
         looked: found.looked,
         states: survey.seen.len(),
         events: survey.notes.events,
-        deep: survey.deep(),
+        depth: survey.depth(),
         waits: found.waits,
         coverage: survey.take_coverage(alloc),
         varieties: table(alloc, survey, ending),

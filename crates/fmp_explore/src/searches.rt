@@ -96,7 +96,7 @@ impl Search {
     }
 
     /// How many events lead to the state that was reached last.
-    pub fn deep(&self) -> u32 {
+    pub fn depth(&self) -> u32 {
         match self.seen.last() {
             Some(link) => link.depth,
             None => 0,

@@ -41,7 +41,7 @@ const TOLD_FIRST: usize = 1 << 14;
 /// Who is told how far a search has come.
 pub trait Watcher {
     /// There are 2^14 states, or twice as many as when this was told last. The last one is this deep.
-    fn grown(&mut self, states: usize, examined: usize, deep: u32);
+    fn grown(&mut self, states: usize, examined: usize, depth: u32);
 }
 
 /// Why a search ended.
@@ -411,7 +411,7 @@ impl Search {
         if self.seen.len() < told.saturating_mul(2) {
             return told;
         }
-        watcher.grown(self.seen.len(), examined, self.deep());
+        watcher.grown(self.seen.len(), examined, self.depth());
         self.seen.len()
     }
 

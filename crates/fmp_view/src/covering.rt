@@ -10,10 +10,10 @@ pub fn say_extent(alloc: Global, out: &mut Vec<u8>, report: &Report) -> Result<(
     if report.waits {
         say(out, "a task waits for an interrupt\n")?;
     }
-    let (states, events, deep) = (report.states, report.events, report.deep);
+    let (states, events, depth) = (report.states, report.events, report.depth);
     say_made(
         out,
-        format!(in alloc; "{states} states, {events} events, {deep} deep\n"),
+        format!(in alloc; "{states} states, {events} events, {depth} deep\n"),
     )
 }
 

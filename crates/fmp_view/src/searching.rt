@@ -26,9 +26,9 @@ struct Telling<'o, O: Outside> {
 }
 
 impl<O: Outside> Watcher for Telling<'_, O> {
-    fn grown(&mut self, states: usize, examined: usize, deep: u32) {
+    fn grown(&mut self, states: usize, examined: usize, depth: u32) {
         self.outside.say(format_args!(
-            "{states} states, {examined} of them examined, {deep} deep\n"
+            "{states} states, {examined} of them examined, {depth} deep\n"
         ));
     }
 }
