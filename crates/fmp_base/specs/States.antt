@@ -9,6 +9,13 @@
 -- g: a state with the lines so far (Progress)
 -- M: a meaning of bodies (Meaning)
 -- w: a world, which is a state with the contexts of bodies (World); of a data queue, a word
+-- i: the object that a call names, by its place from 0
+--
+-- The ends of their names:
+-- _by: by the cases of its first argument, as of a phase (released_by)
+-- _to: to the first task that waits, if one does (message_sent_to)
+-- _in: in the state, list or world that is given (succeeds_in, priority_in)
+-- _on: on processor p (settled_on); of runs, what comes after a reaction (run_on)
 use Rattle.std.specs.Prelude.{ℕ, zero, suc, ◌+◌, ℤ, List, [], ◌∷◌, ◌++◌, Option, None, Bool, false, slice_get, slice_set, filter, not, nat_eq}
 use Rattle.fmp_base.specs.declared.events.Line.{Line}
 use Rattle.fmp_base.specs.declared.states.Lock.TheVariants.{Free}
