@@ -13,9 +13,9 @@ use fmp_journal::{JournalEntry, Receipt, Scribe, Seat};
 use fmp_kernel::Kernel;
 use std::marker::{Model, PhantomData};
 
-/// The kernel of a board, and the journal of the events that did something on it. Its type keeps that the image and the
-/// limits are those of the site, that the journal is legal, and that the kernel is the replay of the journal. So that
-/// holds whenever the lock of the board is free.
+/// The kernel and its journal under the lock of a board: the journal has the events that did something. Its type keeps
+/// that the image and the limits are those of the site, that the journal is legal, and that the kernel is the replay of
+/// the journal. So that holds whenever the lock of the board is free.
 #[derive(Drop)]
 pub struct Book<'a, S: Site> {
     pub(crate) image: &'a Image,

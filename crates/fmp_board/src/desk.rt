@@ -9,8 +9,8 @@ use crate::site::Site;
 use fmp_base::Event;
 use fmp_journal::{Receipt, Seat};
 
-/// A book in whose journal each seat has counted its entries: a seat that enters one is shown it before the lock is
-/// free. Its calls are those of the board.
+/// The kernel and its journal as they lie under the free lock: a book in whose journal each seat has counted its
+/// entries. A seat that enters one is shown it before the lock is free. Its calls are those of the board.
 #[derive(Drop)]
 pub(crate) struct Desk<'a, S: Site> {
     book: Book<'a, S>,
