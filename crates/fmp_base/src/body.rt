@@ -6,7 +6,7 @@ ghost use Rattle.fmp_base.specs.Contexts.{OfCall, stopped};
 
 use crate::bodies::Stretch;
 use crate::calls::Reply;
-use crate::stop::Stop;
+use crate::stop::StretchStop;
 
 /// The bodies of tasks and handlers, by their numbers, as a meaning that computes.
 pub trait Body {
@@ -44,7 +44,7 @@ pub trait Body {
 
     /// A stretch of a body, of at most n units, that leaves its context in place of the one from which it began. Where
     /// it is over its bound, the context at the bound stands there.
-    fn stretch_in_place(&self, entry: u8, n: u64, context: &mut Self::Ctx) -> Stop
+    fn stretch_in_place(&self, entry: u8, n: u64, context: &mut Self::Ctx) -> StretchStop
         requires entry { has_entry self.now entry }
         requires context { is_context self.now entry context.old }
         ensures value { stopped result context.new ≡ (meaning self.now).stretch entry n context.old }
@@ -53,19 +53,19 @@ pub trait Body {
         match self.stretch(entry, n, *context) {
             Stretch::Call(after, made) => {
                 *context = after;
-                Stop::Call(made)
+                StretchStop::Call(made)
             }
             Stretch::End(after) => {
                 *context = after;
-                Stop::End
+                StretchStop::End
             }
             Stretch::Fault(after, fault) => {
                 *context = after;
-                Stop::Fault(fault)
+                StretchStop::Fault(fault)
             }
             Stretch::Over(after) => {
                 *context = after;
-                Stop::Over
+                StretchStop::Over
             }
         }
     }

@@ -41,7 +41,7 @@ pub use services::{SERVICES, Service};
 pub use states::{
     Caller, FlagMode, Handler, Lock, Phase, Processor, TaskBlock, TimeLimit, WaitCause, WaitQueue,
 };
-pub use stop::Stop;
+pub use stop::StretchStop;
 pub use systems::{
     CyclicConfig, DataQueueConfig, Entry, FlagConfig, InterruptConfig, MailboxConfig,
     MessageConfig, QUEUE_LIMIT, QueueOrder, SemaphoreConfig, SharedWordConfig, SpinLockConfig,

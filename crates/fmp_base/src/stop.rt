@@ -5,7 +5,7 @@ use crate::calls::Call;
 
 /// How a stretch stops that leaves its context in place of the one from which it began.
 #[derive(Clone, Copy)]
-pub enum Stop {
+pub enum StretchStop {
     /// It makes this service call.
     Call(Call),
     /// It ends.

@@ -13,8 +13,8 @@ use Rattle.fmp_base.specs.declared.states.Processor.{Processor}
 use Rattle.fmp_base.specs.Steps.{actor_of, step}
 use Rattle.fmp_base.specs.Stretches.{Ending, Over}
 use Rattle.fmp_base.specs.Contexts.{stopped}
-use Rattle.fmp_base.specs.declared.stop.Stop.{Stop}
-use Rattle.fmp_base.specs.declared.stop.Stop.TheVariants as stop
+use Rattle.fmp_base.specs.declared.stop.StretchStop.{StretchStop}
+use Rattle.fmp_base.specs.declared.stop.StretchStop.TheVariants as stop
 use Rattle.fmp_instructions.specs.declared.instructions.MachineContext.{MachineContext}
 use Rattle.fmp_instructions.specs.Instructions.{BodyTables}
 use Rattle.fmp_instructions.specs.Machine.{code_meaning}
@@ -181,7 +181,7 @@ current_test i n k m kernel journal t r d = by_actor (actor_in kernel t.processo
   by_actor (Some a) e = stamp_test i n k m kernel journal t a r d e
 
 -- the context of a stretch that is not made yet
-pub waits_at : {C : Type 0} (s : Stop) (c d : C) → stopped s c ≡ Over (Some d) → c ≡ d
+pub waits_at : {C : Type 0} (s : StretchStop) (c d : C) → stopped s c ≡ Over (Some d) → c ≡ d
 waits_at (stop.Call made) c d h = absurd (cc h)
 waits_at stop.End c d h = absurd (cc h)
 waits_at (stop.Fault fault) c d h = absurd (cc h)

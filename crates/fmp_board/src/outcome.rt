@@ -2,7 +2,7 @@
 ghost use Rattle.std.specs.Prelude.{◌≡◌};
 ghost use Rattle.fmp_board.specs.Outcomes.{IsTicket, ending_of};
 
-use fmp_base::{Body, Stop, Stretch};
+use fmp_base::{Body, Stretch, StretchStop};
 use fmp_code::stretch_of;
 use fmp_image_bytes::Image;
 use fmp_instructions::MachineContext;
@@ -79,7 +79,7 @@ pub struct Workspace {
     processor: u8,
     first: Snapshot<MachineContext>,
     actor: Actor<MachineContext>,
-    stop: Stop,
+    stop: StretchStop,
 }
 
 impl Model for Workspace {
@@ -125,7 +125,7 @@ impl Workspace {
                 context,
                 stamp: 0,
             },
-            stop: Stop::End,
+            stop: StretchStop::End,
         }
     }
 
@@ -145,7 +145,7 @@ impl Workspace {
         self.processor = processor;
         self.first = Snapshot::of(&actor.context);
         self.actor = *actor;
-        self.stop = Stop::Over;
+        self.stop = StretchStop::Over;
     }
 
     /// The stretch of its ticket is made. It needs no board.

@@ -4,8 +4,8 @@ use Rattle.fmp_base.specs.Names.{name_text}
 use Rattle.fmp_base.specs.Systems.{without_objects}
 use Rattle.fmp_lex.specs.declared.fault.FaultKind.{FaultKind}
 use Rattle.fmp_lex.specs.declared.fault.FaultKind.TheVariants as fault
-use Rattle.fmp_cfgparse.specs.declared.objects.Stop.{Stop}
-use Rattle.fmp_cfgparse.specs.declared.objects.Stop.TheVariants as stop
+use Rattle.fmp_cfgparse.specs.declared.objects.MakingStop.{MakingStop}
+use Rattle.fmp_cfgparse.specs.declared.objects.MakingStop.TheVariants as stop
 use Rattle.fmp_cfgparse.specs.declared.places.ClassProcessors.{ClassProcessors}
 use Rattle.fmp_cfgparse.specs.declared.making.Making as declared
 use Rattle.fmp_cfgparse.specs.Apis.{Making, class_of, api_fault, made}
@@ -55,12 +55,12 @@ configured t =
     else Err (record { at = t.at; why = fault.Limit })
 
 -- what the code answers is what the walk gives, unless memory ran out
-abbrev pub IsWalk : {R : Type 0} → Result Making Offence → Result R Stop → Making → Type 0
+abbrev pub IsWalk : {R : Type 0} → Result Making Offence → Result R MakingStop → Making → Type 0
 IsWalk w (Ok r) g = w ≡ Ok g
 IsWalk w (Err stop.Memory) g = Unit {0}
 IsWalk w (Err (stop.Fault at why)) g = w ≡ Err (record { at = at; why = why })
 
-abbrev pub IsConfigured : Result Making Offence → Result declared.Making Stop → Type 0
+abbrev pub IsConfigured : Result Making Offence → Result declared.Making MakingStop → Type 0
 IsConfigured w (Ok m) = w ≡ Ok (making_of m)
 IsConfigured w (Err stop.Memory) = Unit {0}
 IsConfigured w (Err (stop.Fault at why)) = w ≡ Err (record { at = at; why = why })

@@ -4,10 +4,10 @@ ghost use Rattle.fmp_cfgparse.specs.Apis.{made, api_fault};
 ghost use Rattle.fmp_cfgparse.specs.Making.{making_of};
 ghost use Rattle.fmp_cfgparse.specs.Configuring.{IsWalk, IsConfigured, walk_apis, walk_classes, nothing_made, configured};
 ghost use Rattle.fmp_cfgparse.specs.Trees.{api_view, class_view, configuration_view};
-ghost use Rattle.fmp_cfgparse.specs.declared.objects.Stop.TheVariants.{Memory};
+ghost use Rattle.fmp_cfgparse.specs.declared.objects.MakingStop.TheVariants.{Memory};
 
 use crate::making::{Making, find_fault, gives_name};
-use crate::objects::{Stop, create};
+use crate::objects::{MakingStop, create};
 use crate::places::{ClassProcessors, find_class};
 use crate::tree::{Class, Configuration, StaticApi};
 use crate::used_names::add_name;
@@ -21,7 +21,7 @@ use std::alloc::{AllocError, Global};
 const MOST_NAMES: usize = 2295;
 
 /// Makes the object of a static API that has no fault.
-fn make(making: &mut Making, class: ClassProcessors, api: &StaticApi) -> Result<(), Stop>
+fn make(making: &mut Making, class: ClassProcessors, api: &StaticApi) -> Result<(), MakingStop>
     requires { api_fault (api_view api.now) (making_of making.old) ≡ None }
     ensures made { IfOk result (λ _. making_of making.new ≡ made class (api_view api.now) (making_of making.old)) }
     ensures memory { IfErr result (λ e. e ≡ Memory) }
@@ -32,26 +32,30 @@ fn make(making: &mut Making, class: ClassProcessors, api: &StaticApi) -> Result<
     create(&mut making.system, class, api.kind, &api.fields)
 }
 
-fn add_apis(making: &mut Making, class: ClassProcessors, apis: &[StaticApi]) -> Result<(), Stop>
+fn add_apis(
+    making: &mut Making,
+    class: ClassProcessors,
+    apis: &[StaticApi],
+) -> Result<(), MakingStop>
     ensures { IsWalk (walk_apis class (map api_view apis.now) (making_of making.old)) result (making_of making.new) }
 {
     for api in apis {
         if let Some(why) = find_fault(api, making) {
-            return Err(Stop::Fault(api.at, why));
+            return Err(MakingStop::Fault(api.at, why));
         }
         make(making, class, api)?;
     }
     Ok(())
 }
 
-fn add_classes(making: &mut Making, processors: u8, classes: &[Class]) -> Result<(), Stop>
+fn add_classes(making: &mut Making, processors: u8, classes: &[Class]) -> Result<(), MakingStop>
     requires { processors ≤ 8 }
     ensures { IsWalk (walk_classes processors (map class_view classes.now) (making_of making.old)) result
         (making_of making.new) }
 {
     for class in classes {
         let Some(place) = find_class(processors, class.name.as_bytes()) else {
-            return Err(Stop::Fault(class.at, FaultKind::UnknownName));
+            return Err(MakingStop::Fault(class.at, FaultKind::UnknownName));
         };
         add_apis(making, place, &class.apis)?;
     }
@@ -80,15 +84,15 @@ fn start(alloc: Global, processors: u8, names: usize) -> Result<Making, AllocErr
 
 /// What the static APIs of a configuration make, carried out in order of text, or the first fault with the place of its
 /// token. `Memory` if an allocation is refused.
-pub fn configure(alloc: Global, tree: &Configuration) -> Result<Making, Stop>
+pub fn configure(alloc: Global, tree: &Configuration) -> Result<Making, MakingStop>
     ensures { IsConfigured (configured (configuration_view tree.now)) result }
 {
     if !between(1, 8, tree.processors) {
-        return Err(Stop::Fault(tree.at, FaultKind::Limit));
+        return Err(MakingStop::Fault(tree.at, FaultKind::Limit));
     }
     let processors = byte_of(tree.processors);
     let Ok(mut making) = start(alloc, processors, room_for_names(&tree.classes)) else {
-        return Err(Stop::Memory);
+        return Err(MakingStop::Memory);
     };
     match add_classes(&mut making, processors, &tree.classes) {
         Ok(()) => Ok(making),

@@ -18,7 +18,7 @@ mod values;
 pub use configuring::configure;
 pub use fmp_lex::ObjectName;
 pub use making::Making;
-pub use objects::Stop;
+pub use objects::MakingStop;
 pub use parsing::{Parsed, parse};
 pub use reading::{Configured, read_cfg, read_configuration};
 pub use tree::{Class, Configuration, Field, Item, StaticApi, Value};

@@ -4,7 +4,7 @@ ghost use Rattle.fmp_base.specs.Systems.{tables_of};
 ghost use Rattle.fmp_cfgparse.specs.Apis.{with_object};
 ghost use Rattle.fmp_cfgparse.specs.Objects as spec;
 ghost use Rattle.fmp_cfgparse.specs.Trees.{field_view};
-ghost use Rattle.fmp_cfgparse.specs.declared.objects.Stop.TheVariants.{Memory};
+ghost use Rattle.fmp_cfgparse.specs.declared.objects.MakingStop.TheVariants.{Memory};
 
 use crate::places::ClassProcessors;
 use crate::tree::Field;
@@ -19,18 +19,18 @@ use std::alloc::AllocFailed;
 
 /// What ends the making of a system.
 #[derive(Drop)]
-pub enum Stop {
+pub enum MakingStop {
     /// An allocation was refused.
     Memory,
     /// The first fault, at the token in this place.
     Fault(usize, FaultKind),
 }
 
-impl<T: Drop> From<AllocFailed<T>> for Stop {
+impl<T: Drop> From<AllocFailed<T>> for MakingStop {
     ghost from_gives = { λ _ e. e ≡ Memory };
 
     fn from(_error: AllocFailed<T>) -> Self {
-        Stop::Memory
+        MakingStop::Memory
     }
 }
 
@@ -161,7 +161,7 @@ fn interrupt(class: ClassProcessors, fields: &[Field]) -> InterruptConfig
 }
 
 /// Adds a row to a table.
-fn add<T: Drop>(rows: &mut Vec<T>, row: T) -> Result<(), Stop>
+fn add<T: Drop>(rows: &mut Vec<T>, row: T) -> Result<(), MakingStop>
     ensures added { OnOk result (rows.new.items ≡ rows.old.items ++ row ∷ []) }
     ensures memory { IfErr result (λ e. e ≡ Memory) }
 {
@@ -175,7 +175,7 @@ pub(crate) fn create(
     class: ClassProcessors,
     api: Api,
     fields: &[Field],
-) -> Result<(), Stop>
+) -> Result<(), MakingStop>
     ensures made { IfOk result
         (λ _. tables_of system.new ≡ with_object class api (map field_view fields.now) (tables_of system.old)) }
     ensures memory { IfErr result (λ e. e ≡ Memory) }

@@ -6,7 +6,7 @@ ghost use Rattle.fmp_cfgparse.specs.Configured.{Reads};
 ghost use Rattle.fmp_cfgparse.specs.Tables.{IsConfiguration};
 
 use crate::configuring::configure;
-use crate::objects::Stop;
+use crate::objects::MakingStop;
 use crate::parsing::{Parsed, parse};
 use fmp_base::System;
 use fmp_lex::{BuildFault, TextFile, offence_at};
@@ -37,8 +37,8 @@ pub fn read_configuration<'a>(alloc: Global, text: &'a [u8]) -> Result<Configure
                 parsed,
                 system: making.system,
             }),
-            Err(Stop::Memory) => Err(BuildFault::Memory),
-            Err(Stop::Fault(at, why)) => Err(offence_at(
+            Err(MakingStop::Memory) => Err(BuildFault::Memory),
+            Err(MakingStop::Fault(at, why)) => Err(offence_at(
                 &parsed.list.tokens,
                 TextFile::Configuration,
                 at,

@@ -2,9 +2,9 @@
 ghost use Rattle.std.specs.Prelude.{◌≡◌, ◌++◌, [], ◌∷◌, map, false, OnOk, IfErr};
 ghost use Rattle.fmp_cfgparse.specs.Apis as spec;
 ghost use Rattle.fmp_cfgparse.specs.UsedNames.{names_of};
-ghost use Rattle.fmp_cfgparse.specs.declared.objects.Stop.TheVariants.{Memory};
+ghost use Rattle.fmp_cfgparse.specs.declared.objects.MakingStop.TheVariants.{Memory};
 
-use crate::objects::Stop;
+use crate::objects::MakingStop;
 use fmp_base::Name;
 use fmp_lex::ObjectName;
 use indexmap::IndexSet;
@@ -18,7 +18,7 @@ pub(crate) fn is_used(names: &IndexSet<ObjectName>, name: Name) -> bool
 }
 
 /// Puts a name that is not used last.
-pub(crate) fn add_name(names: &mut IndexSet<ObjectName>, name: Name) -> Result<(), Stop>
+pub(crate) fn add_name(names: &mut IndexSet<ObjectName>, name: Name) -> Result<(), MakingStop>
     requires { spec.is_used (names_of names.old) name ≡ false }
     ensures added { OnOk result (names_of names.new ≡ names_of names.old ++ name ∷ []) }
     ensures memory { IfErr result (λ e. e ≡ Memory) }

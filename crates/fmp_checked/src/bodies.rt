@@ -1,5 +1,5 @@
 //! The bodies of an image that is owned.
-use fmp_base::{Body, Reply, Stop, Stretch};
+use fmp_base::{Body, Reply, Stretch, StretchStop};
 use fmp_image_bytes::Image;
 use fmp_instructions::MachineContext;
 use std::marker::Model;
@@ -55,7 +55,7 @@ impl Body for ImageBody {
         self.image.vm().deliver(entry, c, r)
     }
 
-    fn stretch_in_place(&self, entry: u8, n: u64, context: &mut MachineContext) -> Stop {
+    fn stretch_in_place(&self, entry: u8, n: u64, context: &mut MachineContext) -> StretchStop {
         self.image.vm().stretch_in_place(entry, n, context)
     }
 

@@ -11,8 +11,8 @@ use Rattle.fmp_base.specs.Stretches.{Ending}
 use Rattle.fmp_base.specs.Stretches as ends
 use Rattle.fmp_base.specs.Systems.{SystemTables}
 use Rattle.fmp_base.specs.Contexts.{OfCall}
-use Rattle.fmp_base.specs.declared.stop.Stop.{Stop}
-use Rattle.fmp_base.specs.declared.stop.Stop.TheVariants as stop
+use Rattle.fmp_base.specs.declared.stop.StretchStop.{StretchStop}
+use Rattle.fmp_base.specs.declared.stop.StretchStop.TheVariants as stop
 use Rattle.fmp_worlds.specs.Settled.{IsThere}
 use Rattle.fmp_worlds.specs.Stamps.{Going}
 
@@ -98,14 +98,14 @@ HandsOver (ends.Over None) = ⊥
 HandsOver (ends.Over (Some c)) = Unit {0}
 
 -- how a stretch stops
-abbrev pub stop_of : {C : Type 0} → Ending C → Stop
+abbrev pub stop_of : {C : Type 0} → Ending C → StretchStop
 stop_of (ends.Call c made) = stop.Call made
 stop_of (ends.End c) = stop.End
 stop_of (ends.Fault c fault) = stop.Fault fault
 stop_of (ends.Over kept) = stop.Over
 
 -- whether a stretch stops at a call
-abbrev pub is_call : Stop → Bool
+abbrev pub is_call : StretchStop → Bool
 is_call (stop.Call made) = true
 is_call stop.End = false
 is_call (stop.Fault fault) = false

@@ -9,7 +9,7 @@ ghost use Rattle.fmp_contexts.specs.Contexts.{AllContexts, Entered, Fitting, Han
 ghost use Rattle.fmp_worlds.specs.Settled.{IsThere};
 
 use crate::kept::{self, Kept};
-use fmp_base::{Body, Caller, Entry, HandlerContext, Held, Reply, Stop, System};
+use fmp_base::{Body, Caller, Entry, HandlerContext, Held, Reply, StretchStop, System};
 use fmp_tasks::KernelState;
 use std::alloc::{AllocError, Global};
 use std::marker::Model;
@@ -315,7 +315,12 @@ impl<C: Copy> BodyContexts<C> {
 
 /// A stretch of a task's body, of at most n units, from the context that is kept, which goes on. Where the body ends,
 /// nothing is kept of it.
-fn stretch_task<B: Body>(body: &B, entry: u8, n: u64, place: &mut Option<Kept<B::Ctx>>) -> Stop
+fn stretch_task<B: Body>(
+    body: &B,
+    entry: u8,
+    n: u64,
+    place: &mut Option<Kept<B::Ctx>>,
+) -> StretchStop
     requires entry { B.has_entry body.now entry }
     requires context { OfOption (OfHeld (B.is_context body.now entry)) place.old }
     requires goes { is_going place.old ≡ true }
@@ -326,15 +331,15 @@ fn stretch_task<B: Body>(body: &B, entry: u8, n: u64, place: &mut Option<Kept<B:
 {
     let Some(kept) = place else { unreachable!() };
     match kept::stretch(body, entry, n, kept) {
-        Stop::Call(made) => Stop::Call(made),
-        Stop::Over => Stop::Over,
-        Stop::End => {
+        StretchStop::Call(made) => StretchStop::Call(made),
+        StretchStop::Over => StretchStop::Over,
+        StretchStop::End => {
             *place = None;
-            Stop::End
+            StretchStop::End
         }
-        Stop::Fault(fault) => {
+        StretchStop::Fault(fault) => {
             *place = None;
-            Stop::Fault(fault)
+            StretchStop::Fault(fault)
         }
     }
 }
@@ -345,7 +350,7 @@ fn stretch_handler<B: Body>(
     entry: u8,
     n: u64,
     place: &mut Option<KeptHandler<B::Ctx>>,
-) -> Stop
+) -> StretchStop
     requires entry { B.has_entry body.now entry }
     requires context { OfOption (OfHeld (B.is_context body.now entry)) (context_in place.old) }
     requires goes { is_going (context_in place.old) ≡ true }
@@ -357,15 +362,15 @@ fn stretch_handler<B: Body>(
 {
     let Some(handler) = place else { unreachable!() };
     match kept::stretch(body, entry, n, &mut handler.kept) {
-        Stop::Call(made) => Stop::Call(made),
-        Stop::Over => Stop::Over,
-        Stop::End => {
+        StretchStop::Call(made) => StretchStop::Call(made),
+        StretchStop::Over => StretchStop::Over,
+        StretchStop::End => {
             *place = None;
-            Stop::End
+            StretchStop::End
         }
-        Stop::Fault(fault) => {
+        StretchStop::Fault(fault) => {
             *place = None;
-            Stop::Fault(fault)
+            StretchStop::Fault(fault)
         }
     }
 }
@@ -382,7 +387,7 @@ pub fn stretch<B: Body>(
     contexts: &mut BodyContexts<B::Ctx>,
     p: u8,
     who: Caller,
-) -> Stop
+) -> StretchStop
     requires entry { B.has_entry body.now entry }
     requires context { OfOption (OfHeld (B.is_context body.now entry)) (context_of contexts.old p who) }
     requires goes { is_going (context_of contexts.old p who) ≡ true }

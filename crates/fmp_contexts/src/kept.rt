@@ -7,7 +7,7 @@ ghost use Rattle.fmp_base.specs.Meanings.{kept_context, told};
 ghost use Rattle.fmp_base.specs.Contexts.{OfCall, stopped};
 ghost use Rattle.fmp_contexts.specs.Contexts.{OfHeld, context_held, going_context, held_by, is_call, is_going, stretched_from};
 
-use fmp_base::{Body, Held, Reply, Stop};
+use fmp_base::{Body, Held, Reply, StretchStop};
 use std::marker::Model;
 
 mod copying;
@@ -85,21 +85,21 @@ impl<C: Copy> Kept<C> {
 }
 
 /// Whether a stretch stops at a call, so that its context awaits the reply.
-fn awaits_reply(stop: &Stop) -> bool
+fn awaits_reply(stop: &StretchStop) -> bool
     ensures { result ≡ is_call stop.now }
 {
     match stop {
-        Stop::Call(_) => true,
-        Stop::End => false,
-        Stop::Fault(_) => false,
-        Stop::Over => false,
+        StretchStop::Call(_) => true,
+        StretchStop::End => false,
+        StretchStop::Fault(_) => false,
+        StretchStop::Over => false,
     }
 }
 
 /// A stretch of the body of an entry, of at most n units, from the context that is kept, which goes on. The one at
 /// which it stops is left in place, and awaits the reply to its call, if it makes one.
 #[tactic(auto, using(crate::proofs::HeldLemmas::context_by, crate::proofs::HeldLemmas::stretched_by))]
-pub fn stretch<B: Body>(body: &B, entry: u8, n: u64, kept: &mut Kept<B::Ctx>) -> Stop
+pub fn stretch<B: Body>(body: &B, entry: u8, n: u64, kept: &mut Kept<B::Ctx>) -> StretchStop
     requires entry { B.has_entry body.now entry }
     requires context { OfHeld (B.is_context body.now entry) kept.old }
     requires goes { is_going (Some kept.old) ≡ true }

@@ -8,8 +8,8 @@ use Rattle.fmp_base.specs.Runs.{run, taken_events}
 use Rattle.fmp_base.specs.Steps.{Reaction, Nothing, IsTaken, step}
 use Rattle.fmp_kernel.specs.KernelViews.{KernelView, view_after}
 use Rattle.fmp_trace.specs.StepsLaws.{IsStep}
-use Rattle.fmp_drive.specs.declared.driving.Stop.{Stop}
-use Rattle.fmp_drive.specs.declared.driving.Stop.TheVariants.{Quiet, Enough}
+use Rattle.fmp_drive.specs.declared.driving.DriveStop.{DriveStop}
+use Rattle.fmp_drive.specs.declared.driving.DriveStop.TheVariants.{Quiet, Enough}
 use Rattle.fmp_drive.specs.declared.plan.Wish.{Wish}
 use Rattle.fmp_drive.specs.declared.plan.Wish.TheVariants as wish
 use Rattle.fmp_drive.specs.declared.trying.Source.{Source}
@@ -71,14 +71,14 @@ pub record HasRun {B C : Type 0} (meaning : B → Meaning C) (before after : Ker
   pub taken : after.taken ≡ before.taken + length es
 
 -- why a drive has stopped: no processor can do anything, or the number of events is taken
-abbrev pub IsStop : {B C : Type 0} → (B → Meaning C) → KernelView B C → (processors most : ℕ) → List Event → Stop
+abbrev pub IsStop : {B C : Type 0} → (B → Meaning C) → KernelView B C → (processors most : ℕ) → List Event → DriveStop
     → Type 0
 IsStop meaning after processors most es Quiet = AllStand meaning after Processor 1 (processors + 1)
 IsStop meaning after processors most es Enough = length es ≡ most
 
 -- the kernel was driven: it has taken these events, each of which a steps text can hold, and then stopped
 pub record IsDriven {B C : Type 0} (meaning : B → Meaning C) (before after : KernelView B C) (processors most : ℕ)
-    (es : List Event) (stop : Stop) : Type 0 where
+    (es : List Event) (stop : DriveStop) : Type 0 where
   pub ran : HasRun meaning before after es
   pub steps : AllByRecursion (IsStep processors) es
   pub few : length es ≤ most

@@ -12,7 +12,7 @@ use std::alloc::{AllocError, Global};
 
 /// Why a drive has stopped.
 #[derive(Clone, Copy)]
-pub enum Stop {
+pub enum DriveStop {
     /// No processor can do anything, and no wait ends by the clock.
     Quiet,
     /// As many events are taken as were asked for.
@@ -24,7 +24,7 @@ pub enum Stop {
 pub struct Driven {
     /// The events, each of which was done or kept a place.
     pub steps: Vec<Event>,
-    pub stop: Stop,
+    pub stop: DriveStop,
 }
 
 /// What comes from outside of the tasks, where it is wished: a tick, or an interrupt that does something.
@@ -126,7 +126,7 @@ pub fn drive<B: Body>(
             None => {
                 return Ok(Driven {
                     steps,
-                    stop: Stop::Quiet,
+                    stop: DriveStop::Quiet,
                 });
             }
         };
@@ -135,6 +135,6 @@ pub fn drive<B: Body>(
     }
     Ok(Driven {
         steps,
-        stop: Stop::Enough,
+        stop: DriveStop::Enough,
     })
 }

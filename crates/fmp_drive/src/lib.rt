@@ -7,7 +7,7 @@ mod next;
 mod plan;
 mod trying;
 
-pub use driving::{Driven, Stop, drive};
+pub use driving::{DriveStop, Driven, drive};
 pub use next::{NextRun, next_runs};
 pub use plan::Plan;
 pub use trying::{Source, first_taken};

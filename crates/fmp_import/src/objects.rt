@@ -9,16 +9,16 @@ use std::alloc::{AllocError, Global};
 
 /// Why an object is left out.
 #[derive(Clone, Copy)]
-pub enum Stop {
+pub enum Omission {
     /// Memory ran out.
     Memory,
     /// What is wrong, and the constant that is unknown, if it is due to one.
     Left(&'static str, Option<Lexeme>),
 }
 
-impl From<AllocError> for Stop {
+impl From<AllocError> for Omission {
     fn from(_error: AllocError) -> Self {
-        Stop::Memory
+        Omission::Memory
     }
 }
 
@@ -53,7 +53,7 @@ pub struct Object {
     pub changes: Changes,
 }
 
-const WRONG_COUNT: Stop = Stop::Left("the number of its parameters is another one", None);
+const WRONG_COUNT: Omission = Omission::Left("the number of its parameters is another one", None);
 
 /// Reads the parameters of objects.
 #[derive(Clone, Copy)]
@@ -106,12 +106,12 @@ impl Parameters<'_> {
     }
 
     /// The value of a parameter.
-    fn value(&self, field: Field, without: &'static str) -> Result<i64, Stop> {
+    fn value(&self, field: Field, without: &'static str) -> Result<i64, Omission> {
         match value_of(self.alloc, self.reading, self.reading.lexemes_of(field)) {
             Ok(value) => Ok(value),
-            Err(NoValue::Unknown(lexeme)) => Err(Stop::Left(without, Some(lexeme))),
-            Err(NoValue::Form) => Err(Stop::Left(without, None)),
-            Err(NoValue::Memory) => Err(Stop::Memory),
+            Err(NoValue::Unknown(lexeme)) => Err(Omission::Left(without, Some(lexeme))),
+            Err(NoValue::Form) => Err(Omission::Left(without, None)),
+            Err(NoValue::Memory) => Err(Omission::Memory),
         }
     }
 
@@ -122,23 +122,23 @@ impl Parameters<'_> {
         low: i32,
         high: i32,
         outside: &'static str,
-    ) -> Result<i32, Stop> {
+    ) -> Result<i32, Omission> {
         match i32::try_from(self.value(field, outside)?) {
             Ok(number) if low <= number && number <= high => Ok(number),
-            _ => Err(Stop::Left(outside, None)),
+            _ => Err(Omission::Left(outside, None)),
         }
     }
 
     /// A name.
-    fn name(&self, field: Field, without: &'static str) -> Result<Item, Stop> {
+    fn name(&self, field: Field, without: &'static str) -> Result<Item, Omission> {
         match self.reading.word_of(field) {
             Some(word) if is_name(self.reading.bytes(word)) => Ok(Item::Name(word.span)),
-            _ => Err(Stop::Left(without, None)),
+            _ => Err(Omission::Left(without, None)),
         }
     }
 
     /// The name of an object.
-    fn subject(&self, field: Field) -> Result<Item, Stop> {
+    fn subject(&self, field: Field) -> Result<Item, Omission> {
         self.name(
             field,
             "its name is no word, is a word of this project, or has more than 31 bytes",
@@ -146,7 +146,7 @@ impl Parameters<'_> {
     }
 
     /// The name of a body.
-    fn entry(&self, field: Field) -> Result<Item, Stop> {
+    fn entry(&self, field: Field) -> Result<Item, Omission> {
         self.name(
             field,
             "its entry is no word, is a word of this project, or has more than 31 bytes",
@@ -154,7 +154,7 @@ impl Parameters<'_> {
     }
 
     /// The bits of an attribute that are known, and whether there are others.
-    fn bits(&self, field: Field) -> Result<(i64, bool), Stop> {
+    fn bits(&self, field: Field) -> Result<(i64, bool), Omission> {
         let mut bits = 0;
         let mut others = false;
         for lexeme in self.reading.lexemes_of(field) {
@@ -162,7 +162,7 @@ impl Parameters<'_> {
                 Kind::Word | Kind::Number => {
                     match value_of(self.alloc, self.reading, &[*lexeme]) {
                         Ok(value) => bits |= value,
-                        Err(NoValue::Memory) => return Err(Stop::Memory),
+                        Err(NoValue::Memory) => return Err(Omission::Memory),
                         Err(_) => others = true,
                     }
                 }
@@ -180,7 +180,7 @@ impl Parameters<'_> {
         second: Constant,
         third: Constant,
         none: Constant,
-    ) -> Result<(Item, bool), Stop> {
+    ) -> Result<(Item, bool), Omission> {
         let (bits, others) = self.bits(field)?;
         let known = i64::from(first.value() | second.value() | third.value());
         let first = set_in(bits, first);
@@ -193,17 +193,17 @@ impl Parameters<'_> {
     }
 
     /// The attribute of a queue of waiting tasks.
-    fn order(&self, field: Field) -> Result<(Item, bool), Stop> {
+    fn order(&self, field: Field) -> Result<(Item, bool), Omission> {
         let fifo = Constant::TaTfifo;
         self.attribute(field, Constant::TaTpri, fifo, fifo, fifo)
     }
 
     /// Extended information, and whether it is 0 in the place of something else.
-    fn information(&self, field: Field) -> Result<(Item, bool), Stop> {
+    fn information(&self, field: Field) -> Result<(Item, bool), Omission> {
         match self.ranged(field, -i32::MAX, i32::MAX, "") {
             Ok(number) => Ok((Item::Number(number), false)),
-            Err(Stop::Memory) => Err(Stop::Memory),
-            Err(Stop::Left(..)) => Ok((Item::Number(0), true)),
+            Err(Omission::Memory) => Err(Omission::Memory),
+            Err(Omission::Left(..)) => Ok((Item::Number(0), true)),
         }
     }
 
@@ -215,7 +215,7 @@ impl Parameters<'_> {
         }
     }
 
-    fn task(&self, fields: &[Field]) -> Result<Object, Stop> {
+    fn task(&self, fields: &[Field]) -> Result<Object, Omission> {
         let [name, attribute, information, entry, priority, stack, area] = fields else {
             return Err(WRONG_COUNT);
         };
@@ -248,7 +248,7 @@ impl Parameters<'_> {
         Ok(Object { record, changes })
     }
 
-    fn semaphore(&self, fields: &[Field]) -> Result<Object, Stop> {
+    fn semaphore(&self, fields: &[Field]) -> Result<Object, Omission> {
         let [name, attribute, count, most] = fields else {
             return Err(WRONG_COUNT);
         };
@@ -274,7 +274,7 @@ impl Parameters<'_> {
         Ok(Object { record, changes })
     }
 
-    fn flag(&self, fields: &[Field]) -> Result<Object, Stop> {
+    fn flag(&self, fields: &[Field]) -> Result<Object, Omission> {
         let [name, attribute, pattern] = fields else {
             return Err(WRONG_COUNT);
         };
@@ -300,7 +300,7 @@ impl Parameters<'_> {
         Ok(Object { record, changes })
     }
 
-    fn data_queue(&self, fields: &[Field]) -> Result<Object, Stop> {
+    fn data_queue(&self, fields: &[Field]) -> Result<Object, Omission> {
         let [name, attribute, capacity, area] = fields else {
             return Err(WRONG_COUNT);
         };
@@ -321,7 +321,7 @@ impl Parameters<'_> {
         Ok(Object { record, changes })
     }
 
-    fn mailbox(&self, fields: &[Field]) -> Result<Object, Stop> {
+    fn mailbox(&self, fields: &[Field]) -> Result<Object, Omission> {
         let [name, attribute, most, area] = fields else {
             return Err(WRONG_COUNT);
         };
@@ -349,7 +349,7 @@ impl Parameters<'_> {
         Ok(Object { record, changes })
     }
 
-    fn spin_lock(&self, fields: &[Field]) -> Result<Object, Stop> {
+    fn spin_lock(&self, fields: &[Field]) -> Result<Object, Omission> {
         let [name, attribute, more @ ..] = fields else {
             return Err(WRONG_COUNT);
         };
@@ -370,7 +370,7 @@ impl Parameters<'_> {
     }
 
     /// A cyclic handler, whose times may be in microseconds.
-    fn cyclic(&self, fields: [Field; 6], times: bool) -> Result<Object, Stop> {
+    fn cyclic(&self, fields: [Field; 6], times: bool) -> Result<Object, Omission> {
         let [name, attribute, information, entry, period, phase] = fields;
         let null = Constant::TaNull;
         let subject = self.subject(name)?;
@@ -416,14 +416,14 @@ impl Parameters<'_> {
     }
 
     /// A cyclic handler, also in the form of FMP3, whose times are in microseconds.
-    fn any_cyclic(&self, fields: &[Field]) -> Result<Object, Stop> {
+    fn any_cyclic(&self, fields: &[Field]) -> Result<Object, Omission> {
         match fields {
             [name, attribute, kind, information, entry, period, phase]
                 if self.calls_handler(*kind) => {
                 let fields = [*name, *attribute, *information, *entry, *period, *phase];
                 self.cyclic(fields, true)
             }
-            [_, _, kind, ..] if self.notifies(*kind) => Err(Stop::Left(
+            [_, _, kind, ..] if self.notifies(*kind) => Err(Omission::Left(
                 "it notifies by something else than a handler",
                 None,
             )),
@@ -435,7 +435,7 @@ impl Parameters<'_> {
         }
     }
 
-    fn interrupt(&self, fields: &[Field]) -> Result<Object, Stop> {
+    fn interrupt(&self, fields: &[Field]) -> Result<Object, Omission> {
         let [number, attribute, entry] = fields else {
             return Err(WRONG_COUNT);
         };
@@ -457,7 +457,7 @@ impl Parameters<'_> {
     }
 
     /// The object of a static API of the source.
-    pub fn object(&self, api: Api, fields: &[Field]) -> Result<Object, Stop> {
+    pub fn object(&self, api: Api, fields: &[Field]) -> Result<Object, Omission> {
         match api {
             Api::CreTsk => self.task(fields),
             Api::CreSem => self.semaphore(fields),
@@ -468,7 +468,7 @@ impl Parameters<'_> {
             Api::CreCyc => self.any_cyclic(fields),
             Api::DefInh => self.interrupt(fields),
             Api::CreMsg | Api::CreShr => {
-                Err(Stop::Left("it is no static API of TOPPERS or uITRON", None))
+                Err(Omission::Left("it is no static API of TOPPERS or uITRON", None))
             }
         }
     }

@@ -3,7 +3,7 @@ use crate::constants::{Constants, Defines};
 use crate::importing::Header;
 use crate::lexemes::{Kind, Lexeme};
 use crate::notes::append_note;
-use crate::objects::{Changes, Object, Parameters, Stop};
+use crate::objects::{Changes, Object, Omission, Parameters};
 use crate::plan::{Block, Class, Item, Record};
 use crate::reading::{Field, Reading};
 use crate::text::bytes_of;
@@ -292,8 +292,8 @@ impl<'a> Walk<'a> {
                 Some(class) => self.add(at, class, object),
                 None => Ok(()),
             },
-            Err(Stop::Memory) => Err(AllocError),
-            Err(Stop::Left(why, unknown)) => {
+            Err(Omission::Memory) => Err(AllocError),
+            Err(Omission::Left(why, unknown)) => {
                 self.note(at, LEFT_OUT, why)?;
                 match unknown {
                     Some(name) => self.note(name, CHANGED, "no constant of this name is known"),

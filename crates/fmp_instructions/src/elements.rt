@@ -8,7 +8,7 @@ ghost use Rattle.fmp_instructions.specs.Verify.{CleanAfter};
 
 use crate::operands::{pop, push};
 use crate::operators::place_of;
-use fmp_base::Stop;
+use fmp_base::StretchStop;
 
 /// Takes an index and pushes the value at that place of an array, or stops with its fault.
 #[inline(always)]
@@ -19,7 +19,7 @@ pub fn load_indexed(
     places: &[i32; 64],
     base: u8,
     size: u8,
-) -> Option<Stop>
+) -> Option<StretchStop>
     requires some { 0 < count.old }
     requires room { count.old ≤ 64 }
     requires within { base + size ≤ 64 }
@@ -41,7 +41,7 @@ pub fn load_indexed(
             *pc += 1;
             None
         }
-        Err(fault) => Some(Stop::Fault(fault)),
+        Err(fault) => Some(StretchStop::Fault(fault)),
     }
 }
 
@@ -54,7 +54,7 @@ pub fn store_indexed(
     places: &mut [i32; 64],
     base: u8,
     size: u8,
-) -> Option<Stop>
+) -> Option<StretchStop>
     requires some { 2 ≤ count.old }
     requires room { count.old ≤ 64 }
     requires within { base + size ≤ 64 }
@@ -78,6 +78,6 @@ pub fn store_indexed(
             *pc += 1;
             None
         }
-        Err(fault) => Some(Stop::Fault(fault)),
+        Err(fault) => Some(StretchStop::Fault(fault)),
     }
 }

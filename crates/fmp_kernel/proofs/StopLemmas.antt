@@ -11,8 +11,8 @@ use Rattle.fmp_base.specs.declared.events.Effect.TheVariants as effect
 use Rattle.fmp_base.specs.declared.events.Line.{Line}
 use Rattle.fmp_base.specs.declared.events.Line.TheVariants as line
 use Rattle.fmp_base.specs.declared.states.Caller.{Caller}
-use Rattle.fmp_base.specs.declared.stop.Stop.{Stop}
-use Rattle.fmp_base.specs.declared.stop.Stop.TheVariants as stop
+use Rattle.fmp_base.specs.declared.stop.StretchStop.{StretchStop}
+use Rattle.fmp_base.specs.declared.stop.StretchStop.TheVariants as stop
 use Rattle.fmp_base.specs.Calls.{called}
 use Rattle.fmp_base.specs.Meanings.{Meaning, Contexts, World, caller_body, context_of, with_context}
 use Rattle.fmp_base.specs.States.{Progress}
@@ -35,7 +35,7 @@ ending_hands (made.Fault c fault) = tt
 ending_hands (made.Over c) = tt
 
 -- a stop at which nothing happened is a call
-pub nothing_calls : {C : Type 0} (sys : SystemTables) (M : Meaning C) (w : World C) (p : ℕ) (who : Caller) (s : Stop)
+pub nothing_calls : {C : Type 0} (sys : SystemTables) (M : Meaning C) (w : World C) (p : ℕ) (who : Caller) (s : StretchStop)
     → effect.Nothing ≡ effect_of (stopped_on sys M w p who s) → is_call s ≡ true
 nothing_calls sys M w p who (stop.Call made) e = refl
 nothing_calls sys M w p who stop.End e = absurd (cc e)

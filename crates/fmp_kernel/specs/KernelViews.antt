@@ -11,8 +11,8 @@ use Rattle.fmp_base.specs.States.{Progress, processor_at}
 use Rattle.fmp_base.specs.Steps.{Done, Reaction, Nothing, Did, Kept, actor_of, call_made, ended_with, step}
 use Rattle.fmp_base.specs.Stretches.{Ending}
 use Rattle.fmp_base.specs.Systems.{SystemTables}
-use Rattle.fmp_base.specs.declared.stop.Stop.{Stop}
-use Rattle.fmp_base.specs.declared.stop.Stop.TheVariants as stop
+use Rattle.fmp_base.specs.declared.stop.StretchStop.{StretchStop}
+use Rattle.fmp_base.specs.declared.stop.StretchStop.TheVariants as stop
 use Rattle.fmp_kernel.specs.declared.actors.Actor.{Actor}
 use Rattle.fmp_contexts.specs.Contexts.{kept_after, stretched_from}
 use Rattle.fmp_kernel.specs.Stamps.{stamped, stamped_by}
@@ -58,7 +58,7 @@ done_or d (Kept p w) = record d { world = w }
 
 -- the effect of a stretch of the actor of p, given how it stopped, in a world that has what is kept of it then: the
 -- call, end or fault is carried out
-abbrev pub stopped_on : {C : Type 0} → SystemTables → Meaning C → World C → ℕ → Caller → Stop → Reaction C
+abbrev pub stopped_on : {C : Type 0} → SystemTables → Meaning C → World C → ℕ → Caller → StretchStop → Reaction C
 stopped_on sys M w p who (stop.Call made) = call_made sys M w.contexts p who made (called sys w.state p who made)
 stopped_on sys M w p who stop.End = Did (ended_with sys M w p who (line.End p who))
 stopped_on sys M w p who (stop.Fault fault) = Did (ended_with sys M w p who (line.Fault p who fault))

@@ -19,8 +19,8 @@ use crate::runner::Runner;
 use crate::spins::may_spin;
 use crate::ticks::advance;
 use fmp_base::{
-    Answer, Body, Call, Caller, Effect, Event, Fault, Handler, Line, Processor, Reply, Stop,
-    Stretch,
+    Answer, Body, Call, Caller, Effect, Event, Fault, Handler, Line, Processor, Reply, Stretch,
+    StretchStop,
 };
 use fmp_calls::call;
 use fmp_contexts::{end_context, entry_of, stretch};
@@ -154,7 +154,7 @@ impl<B: Body> Runner<B> {
     /// in place.
     #[tactic(auto, using(fmp_contexts::proofs::ContextLemmas::task_going, fmp_contexts::proofs::ContextLemmas::entry_going, fmp_contexts::proofs::ContextLemmas::fits_of))]
     #[inline(always)]
-    fn go_on(&mut self, p: u8, who: Caller) -> Stop
+    fn go_on(&mut self, p: u8, who: Caller) -> StretchStop
         requires { is_going (context_of self.old.world.contexts p who) ≡ true }
         ensures stop { result ≡ stop_of (stretch_in B.meaning self.old p who) }
         ensures kept { self.new ≡ with_stretch self.old p who (stretch_in B.meaning self.old p who) }
@@ -169,7 +169,7 @@ impl<B: Body> Runner<B> {
     /// stands in place.
     #[tactic(auto, using(fmp_contexts::proofs::ContextLemmas::task_going, fmp_contexts::proofs::ContextLemmas::going_has))]
     #[inline(always)]
-    fn take(&mut self, p: u8, who: Caller, stretch: Stretch<B::Ctx>) -> Stop
+    fn take(&mut self, p: u8, who: Caller, stretch: Stretch<B::Ctx>) -> StretchStop
         requires goes { is_going (context_of self.old.world.contexts p who) ≡ true }
         requires context { OfCall
             (B.is_context self.old.body (caller_body self.old.system self.old.world.contexts p who))
@@ -183,19 +183,19 @@ impl<B: Body> Runner<B> {
         match stretch {
             Stretch::Over(context) => {
                 self.contexts.put(p, who, &context, false);
-                Stop::Over
+                StretchStop::Over
             }
             Stretch::Call(context, made) => {
                 self.contexts.put(p, who, &context, true);
-                Stop::Call(made)
+                StretchStop::Call(made)
             }
             Stretch::End(_) => {
                 self.contexts.forget(p, who);
-                Stop::End
+                StretchStop::End
             }
             Stretch::Fault(_, fault) => {
                 self.contexts.forget(p, who);
-                Stop::Fault(fault)
+                StretchStop::Fault(fault)
             }
         }
     }
@@ -203,7 +203,7 @@ impl<B: Body> Runner<B> {
     /// Carries out the call, end or fault with which a stretch of the actor of processor p has stopped; what is kept of
     /// it is in place. If it was over its bound, the place is kept, and nothing else happens.
     #[inline(always)]
-    fn carry_out_stop(&mut self, p: u8, who: Caller, stop: &Stop) -> Effect
+    fn carry_out_stop(&mut self, p: u8, who: Caller, stop: &StretchStop) -> Effect
         requires there { p < self.old.system.processors }
         requires caller { IsTaskOf self.old.system who }
         ensures effect { result
@@ -215,13 +215,13 @@ impl<B: Body> Runner<B> {
         ensures clock { self.new.world.state.clock ≡ self.old.world.state.clock }
     {
         match stop {
-            Stop::Over => Effect::Kept,
-            Stop::Call(made) => self.make_call(p, who, made),
-            Stop::End => {
+            StretchStop::Over => Effect::Kept,
+            StretchStop::Call(made) => self.make_call(p, who, made),
+            StretchStop::End => {
                 self.end_well(p, who);
                 Effect::Done
             }
-            Stop::Fault(fault) => {
+            StretchStop::Fault(fault) => {
                 self.end_by_fault(p, who, *fault);
                 Effect::Done
             }
@@ -244,7 +244,13 @@ impl<B: Body> Runner<B> {
     /// for a held spin lock, it goes on from this context again, so that nothing has happened.
     #[tactic(auto, using(crate::proofs::StopLemmas::nothing_calls))]
     #[inline(always)]
-    fn carry_out_or_spin(&mut self, p: u8, who: Caller, stop: &Stop, first: &B::Ctx) -> Effect
+    fn carry_out_or_spin(
+        &mut self,
+        p: u8,
+        who: Caller,
+        stop: &StretchStop,
+        first: &B::Ctx,
+    ) -> Effect
         requires there { p < self.old.system.processors }
         requires caller { IsTaskOf self.old.system who }
         requires kept { is_call stop.now ≡ true → HasContext self.old.world.contexts p who }

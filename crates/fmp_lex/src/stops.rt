@@ -6,7 +6,7 @@ use crate::scanning::{Class, count_of, run_end};
 
 /// A place in a text, and how many braces are open there.
 #[derive(Clone, Copy)]
-pub struct Stop {
+pub struct CutPoint {
     pub at: usize,
     /// The braces that are open at this place.
     pub open: usize,
@@ -22,7 +22,7 @@ fn open_behind(bytes: &[u8], open: usize) -> usize
 }
 
 /// The first place at or behind `from` at which at most one brace is open, or the end of the text.
-fn closed_from(text: &[u8], from: Stop) -> Stop
+fn closed_from(text: &[u8], from: CutPoint) -> CutPoint
     requires { from.at ≤ length text.now }
     ensures from { from.at ≤ result.at }
     ensures within { result.at ≤ length text.now }
@@ -37,7 +37,7 @@ fn closed_from(text: &[u8], from: Stop) -> Stop
         }
         at += 1;
     }
-    Stop { at, open }
+    CutPoint { at, open }
 }
 
 /// The place behind `else` if that is the next word, or this one.
@@ -54,7 +54,7 @@ fn behind_else(text: &[u8], at: usize) -> usize
 }
 
 /// Where a part ends that goes on from `from` by at least `stride` bytes.
-pub(crate) fn stop_behind(text: &[u8], from: Stop, stride: usize) -> Stop
+pub(crate) fn stop_behind(text: &[u8], from: CutPoint, stride: usize) -> CutPoint
     requires short { length text.now ≤ 1048576 }
     requires from { from.at ≤ length text.now }
     requires stride { stride ≤ 1048576 }
@@ -63,8 +63,8 @@ pub(crate) fn stop_behind(text: &[u8], from: Stop, stride: usize) -> Stop
 {
     let least = text.len().min(from.at + stride);
     let open = open_behind(&text[from.at..least], from.open);
-    let stop = closed_from(text, Stop { at: least, open });
-    Stop {
+    let stop = closed_from(text, CutPoint { at: least, open });
+    CutPoint {
         at: behind_else(text, stop.at),
         open: stop.open,
     }

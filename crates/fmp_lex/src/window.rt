@@ -5,7 +5,7 @@ ghost use Rattle.fmp_lex.specs.declared.token.Token.{Token};
 
 use crate::cutting::{TEXT_MAX, cut_part};
 use crate::packed::Tokens;
-use crate::stops::{Stop, stop_behind};
+use crate::stops::{CutPoint, stop_behind};
 use std::alloc::{AllocError, Global};
 use std::mem;
 
@@ -81,7 +81,7 @@ impl<'a> Window<'a> {
         }
         let start = self.start(at);
         let stride = self.next.saturating_sub(start).max(STRIDE);
-        let from = Stop {
+        let from = CutPoint {
             at: self.next,
             open: self.open,
         };

@@ -16,7 +16,7 @@ use crate::why::why_of;
 use fmp_base::System;
 use fmp_coming::Coming;
 use fmp_diagnosis::{explain, topic_asked};
-use fmp_drive::{NextRun, Stop};
+use fmp_drive::{DriveStop, NextRun};
 use fmp_engine::SimFault;
 use fmp_frames::{Tallies, Viewer, Waves, last_frame, show_all};
 use fmp_image_bytes::Image;
@@ -42,7 +42,7 @@ pub fn code(alloc: Global, word: &str) -> Result<Option<Vec<u8>>, AllocError> {
 /// How a drive ended.
 #[derive(Clone, Copy)]
 pub struct Ending {
-    pub stop: Stop,
+    pub stop: DriveStop,
     /// How the next run of each processor ends, by places from 0.
     pub next: [NextRun; 8],
     /// How many processors there are, at most 8.

@@ -2,29 +2,31 @@
 use crate::commands::Ending;
 use crate::exit::Exit;
 use fmp_base::Call;
-use fmp_drive::{NextRun, Stop};
+use fmp_drive::{DriveStop, NextRun};
 use fmp_files::{Failure, Outside, end, print};
 use std::alloc::{AllocError, Global};
 
 /// Says why a drive has stopped.
-fn say_stop<O: Outside>(outside: &mut O, stop: Stop) {
+fn say_stop<O: Outside>(outside: &mut O, stop: DriveStop) {
     match stop {
-        Stop::Quiet => outside.say("quiet: no processor goes on, and the clock changes nothing\n"),
-        Stop::Enough => outside.say("as many events as were asked for are done\n"),
+        DriveStop::Quiet => outside.say(
+            "quiet: no processor goes on, and the clock changes nothing\n",
+        ),
+        DriveStop::Enough => outside.say("as many events as were asked for are done\n"),
     }
 }
 
 /// Says why the next run of a processor comes to no call, if so: always if it reaches the bound, and in a quiet system
 /// whatever the reason is.
-fn say_next<O: Outside>(outside: &mut O, stop: Stop, processor: usize, next: NextRun) {
+fn say_next<O: Outside>(outside: &mut O, stop: DriveStop, processor: usize, next: NextRun) {
     match (stop, next) {
         (_, NextRun::OverBound) => outside.say(format_args!(
             "processor {processor}: what runs there reaches the bound before its next call\n"
         )),
-        (Stop::Quiet, NextRun::NoActor) => {
+        (DriveStop::Quiet, NextRun::NoActor) => {
             outside.say(format_args!("processor {processor}: nothing runs there\n"));
         }
-        (Stop::Quiet, NextRun::Calls(Call::LocSpn { lock })) => outside.say(format_args!(
+        (DriveStop::Quiet, NextRun::Calls(Call::LocSpn { lock })) => outside.say(format_args!(
             "processor {processor}: what runs there asks for spin lock {lock}, which is held\n"
         )),
         _ => {}
