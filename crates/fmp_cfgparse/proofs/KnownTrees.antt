@@ -17,8 +17,8 @@ use Rattle.fmp_base.specs.Words.{constant_value}
 use Rattle.fmp_lex.specs.Forms.{put}
 use Rattle.fmp_lex.specs.declared.marks.Mark.{Mark}
 use Rattle.fmp_lex.specs.declared.marks.Mark.TheVariants as mark
-use Rattle.fmp_cfgparse.specs.declared.forms.Part.{Part}
-use Rattle.fmp_cfgparse.specs.declared.forms.Part.TheVariants as part
+use Rattle.fmp_cfgparse.specs.declared.forms.ApiPart.{ApiPart}
+use Rattle.fmp_cfgparse.specs.declared.forms.ApiPart.TheVariants as part
 use Rattle.fmp_cfgparse.specs.declared.tree.Item.{Item}
 use Rattle.fmp_cfgparse.specs.declared.tree.Item.TheVariants as item
 use Rattle.fmp_cfgparse.specs.Apis.{gives_name}
@@ -74,7 +74,7 @@ name_token (Some (kind.Keyword k)) n h e = cc
 name_token (Some (kind.Symbol s)) n h e = cc
 name_token (Some (kind.Bad f)) n h e = cc
 
-named_form : (a : Api) → gives_name a ≡ true → (ps : List Part) × (api_parts a ≡ part.Mark mark.LeftParen ∷ part.Name ∷ ps)
+named_form : (a : Api) → gives_name a ≡ true → (ps : List ApiPart) × (api_parts a ≡ part.Mark mark.LeftParen ∷ part.Name ∷ ps)
 named_form api.CreTsk e = (_, refl)
 named_form api.CreSem e = (_, refl)
 named_form api.CreFlg e = (_, refl)
@@ -101,17 +101,17 @@ module _ (ts : List TokenKind) (known : AllByRecursion IsKnown ts) where
   value_known l i [] j x = tt
   value_known l i (a ∷ more) j x = (item_known l i a x.0 x.1, items_known l x.0 more j x.2)
 
-  name_part : (p : Part) (l i : ℕ) (n : Name) (j : ℕ) → OnePart p ts l i (Some (name n)) j → IsObjectName n
+  name_part : (p : ApiPart) (l i : ℕ) (n : Name) (j : ℕ) → OnePart p ts l i (Some (name n)) j → IsObjectName n
   name_part (part.Mark m) l i n j x = absurd x
   name_part part.Value l i n j x = absurd x
   name_part part.Name l i n j x = name_token (slice_get ts i) n (known_at ts i known) x.0
 
-  value_part : (p : Part) (l i : ℕ) (v : List Item) (j : ℕ) → OnePart p ts l i (Some (value v)) j → AllByRecursion IsKnownItem v
+  value_part : (p : ApiPart) (l i : ℕ) (v : List Item) (j : ℕ) → OnePart p ts l i (Some (value v)) j → AllByRecursion IsKnownItem v
   value_part (part.Mark m) l i v j x = absurd x
   value_part part.Name l i v j x = absurd x
   value_part part.Value l i v j x = value_known l i v j x
 
-  part_known : (p : Part) (l i : ℕ) (f : Option FieldTree) (j : ℕ) → OnePart p ts l i f j → IsKnownPart f
+  part_known : (p : ApiPart) (l i : ℕ) (f : Option FieldTree) (j : ℕ) → OnePart p ts l i f j → IsKnownPart f
   part_known p l i None j x = tt
   part_known p l i (Some (name n)) j x = name_part p l i n j x
   part_known p l i (Some (value v)) j x = value_part p l i v j x
@@ -120,7 +120,7 @@ module _ (ts : List TokenKind) (known : AllByRecursion IsKnown ts) where
   put_known None more h k = k
   put_known (Some f) more h k = (h, k)
 
-  parts_known : (ps : List Part) (l i : ℕ) (fields : List FieldTree) (j : ℕ) → Parts ps ts l i fields j → AllByRecursion IsKnownField fields
+  parts_known : (ps : List ApiPart) (l i : ℕ) (fields : List FieldTree) (j : ℕ) → Parts ps ts l i fields j → AllByRecursion IsKnownField fields
   parts_known [] l i fields j x = rw x.0 tt
   parts_known (p ∷ ps) l i fields j x =
       rw x.2 (put_known x.0 x.1 (part_known p l i x.0 x.3 x.4) (parts_known ps l x.3 x.1 j x.5))
@@ -136,7 +136,7 @@ module _ (ts : List TokenKind) (known : AllByRecursion IsKnown ts) where
   behind_mark m (Some (value v)) more l i j x = absurd x
   behind_mark m (Some (name n)) more l i j x = absurd x
 
-  name_first : (m : Mark) (ps : List Part) (l i : ℕ) (fields : List FieldTree) (j : ℕ) → Parts (part.Mark m ∷ part.Name ∷ ps) ts l i fields j → IsObjectName (name_at fields 0)
+  name_first : (m : Mark) (ps : List ApiPart) (l i : ℕ) (fields : List FieldTree) (j : ℕ) → Parts (part.Mark m ∷ part.Name ∷ ps) ts l i fields j → IsObjectName (name_at fields 0)
   name_first m ps l i fields j x =
       let y = x.5 in
       rw (x.2, behind_mark m x.0 x.1 l i x.3 x.4, y.2) (leading y.0 y.1 l x.3 y.3 y.4)

@@ -11,8 +11,8 @@ use Rattle.fmp_lex.proofs.Sequences.{Framed, Fills, Follows, Between, between_fr
 use Rattle.fmp_lex.specs.Forms.{mark_kind, put}
 use Rattle.fmp_lex.specs.declared.marks.Mark.{Mark}
 use Rattle.fmp_lex.specs.declared.marks.Mark.TheVariants as mark
-use Rattle.fmp_cfgparse.specs.declared.forms.Part.{Part}
-use Rattle.fmp_cfgparse.specs.declared.forms.Part.TheVariants as part
+use Rattle.fmp_cfgparse.specs.declared.forms.ApiPart.{ApiPart}
+use Rattle.fmp_cfgparse.specs.declared.forms.ApiPart.TheVariants as part
 use Rattle.fmp_cfgparse.specs.declared.tree.Item.{Item}
 use Rattle.fmp_cfgparse.specs.declared.tree.Item.TheVariants as item
 use Rattle.fmp_cfgparse.specs.Trees.{FieldTree, value, name}
@@ -21,7 +21,7 @@ use Rattle.fmp_cfgparse.specs.Reading.{EndsValue, RightName, RightValue, RightPa
 use Rattle.fmp_cfgparse.proofs.Items.{bar, name_fills, value_framed, value_fills}
 use Rattle.fmp_lex.proofs.Repetitions.{put_before}
 
-part_up : (p : Part) (us : List TokenKind) (limit i : ℕ) (f : Option FieldTree) (j : ℕ) → OnePart p us limit i f j → i ≤ j
+part_up : (p : ApiPart) (us : List TokenKind) (limit i : ℕ) (f : Option FieldTree) (j : ℕ) → OnePart p us limit i f j → i ≤ j
 part_up (part.Mark m) us limit i None j x = omega (arith, x.1)
 part_up (part.Mark m) us limit i (Some (value v)) j x = absurd x
 part_up (part.Mark m) us limit i (Some (name n)) j x = absurd x
@@ -32,7 +32,7 @@ part_up part.Value us limit i None j x = absurd x
 part_up part.Value us limit i (Some (value v)) j x = value_framed.up us limit i v j x
 part_up part.Value us limit i (Some (name n)) j x = absurd x
 
-part_same : (p : Part) (ts us : List TokenKind) (limit lower i : ℕ) (f : Option FieldTree) (j : ℕ) → lower ≤ limit → OnePart p ts limit i f j → Between i j ts us → OnePart p us lower i f j
+part_same : (p : ApiPart) (ts us : List TokenKind) (limit lower i : ℕ) (f : Option FieldTree) (j : ℕ) → lower ≤ limit → OnePart p ts limit i f j → Between i j ts us → OnePart p us lower i f j
 part_same (part.Mark m) ts us limit lower i None j low x same = (token_framed (mark_kind m)).same ts us limit lower i tt j low x same
 part_same (part.Mark m) ts us limit lower i (Some (value v)) j low x same = absurd x
 part_same (part.Mark m) ts us limit lower i (Some (name n)) j low x same = absurd x
@@ -43,10 +43,10 @@ part_same part.Value ts us limit lower i None j low x same = absurd x
 part_same part.Value ts us limit lower i (Some (value v)) j low x same = value_framed.same ts us limit lower i v j low x same
 part_same part.Value ts us limit lower i (Some (name n)) j low x same = absurd x
 
-pub part_framed : (p : Part) → Framed (OnePart p)
+pub part_framed : (p : ApiPart) → Framed (OnePart p)
 part_framed p = record { up = part_up p; same = part_same p }
 
-pub part_fills : (p : Part) → Fills (OnePart p)
+pub part_fills : (p : ApiPart) → Fills (OnePart p)
 part_fills (part.Mark m) us limit low = let x = token_fills (mark_kind m) us limit low in
     record { other = x.other; same = x.same; long = x.long; tree = None; reads = x.reads }
 part_fills part.Name us limit low = let x = name_fills us limit low in
@@ -103,7 +103,7 @@ no_item_bar us limit i (item.Constant n) j x = λ is. let e : None ≡ Some (ite
 no_item_bar us limit i (item.Name n) j x = λ is. let e : None ≡ Some (item.Name n) = ap (option_and_then plain_item_of) (sym is) ∙ x.0 in absurd (cc)
 no_item_bar us limit i (item.Minus n) j x = λ is. let e : Some (kind.Symbol symbol.Minus) ≡ Some bar = sym x.1.0 ∙ is in absurd (cc)
 
-no_part_bar : (p : Part) (us : List TokenKind) (limit i : ℕ) (f : Option FieldTree) (j : ℕ) → OnePart p us limit i f j → EndsValue us i
+no_part_bar : (p : ApiPart) (us : List TokenKind) (limit i : ℕ) (f : Option FieldTree) (j : ℕ) → OnePart p us limit i f j → EndsValue us i
 no_part_bar (part.Mark m) us limit i None j x = λ is. let e : Some (mark_kind m) ≡ Some bar = sym x.0 ∙ is in let h : mark_kind m ≡ bar = cc in no_mark_bar m h
 no_part_bar (part.Mark m) us limit i (Some (value v)) j x = absurd x
 no_part_bar (part.Mark m) us limit i (Some (name n)) j x = absurd x
@@ -115,18 +115,18 @@ no_part_bar part.Value us limit i (Some (value [])) j x = absurd x
 no_part_bar part.Value us limit i (Some (value (a ∷ v))) j x = no_item_bar us limit i a x.0 x.1
 no_part_bar part.Value us limit i (Some (name n)) j x = absurd x
 
-pub parts_follow : (ps : List Part) → Follows EndsValue (Parts ps) EndsValue
+pub parts_follow : (ps : List ApiPart) → Follows EndsValue (Parts ps) EndsValue
 parts_follow [] us limit k fields j x ends = subst (EndsValue us) x.1 ends
 parts_follow (p ∷ ps) us limit k fields j x ends = no_part_bar p us limit k x.0 x.3 x.4
 
-parts_up : (ps : List Part) (us : List TokenKind) (limit i : ℕ) (fs : List FieldTree) (j : ℕ) → Parts ps us limit i fs j → i ≤ j
+parts_up : (ps : List ApiPart) (us : List TokenKind) (limit i : ℕ) (fs : List FieldTree) (j : ℕ) → Parts ps us limit i fs j → i ≤ j
 parts_up [] us limit i fs j x = omega (arith, x.1)
 parts_up (p ∷ ps) us limit i fs j x =
     let one = part_up p us limit i x.0 x.3 x.4 in
     let rest = parts_up ps us limit x.3 x.1 j x.5 in
     omega arith
 
-parts_same : (ps : List Part) (ts us : List TokenKind) (limit lower i : ℕ) (fs : List FieldTree) (j : ℕ) → lower ≤ limit → Parts ps ts limit i fs j → Between i j ts us → Parts ps us lower i fs j
+parts_same : (ps : List ApiPart) (ts us : List TokenKind) (limit lower i : ℕ) (fs : List FieldTree) (j : ℕ) → lower ≤ limit → Parts ps ts limit i fs j → Between i j ts us → Parts ps us lower i fs j
 parts_same [] ts us limit lower i fs j low x same = x
 parts_same (p ∷ ps) ts us limit lower i fs j low x same =
     let one = part_up p ts limit i x.0 x.3 x.4 in
@@ -139,10 +139,10 @@ parts_same (p ∷ ps) ts us limit lower i fs j low x same =
       parts_same ps ts us limit lower x.3 x.1 j low x.5 (between_rest i x.3 j ts us one same),
     )
 
-pub parts_framed : (ps : List Part) → Framed (Parts ps)
+pub parts_framed : (ps : List ApiPart) → Framed (Parts ps)
 parts_framed ps = record { up = parts_up ps; same = parts_same ps }
 
-pub parts_fills : (ps : List Part) → Fills (Parts ps)
+pub parts_fills : (ps : List ApiPart) → Fills (Parts ps)
 parts_fills [] us limit low = record { other = us; same = λ k lt. refl; long = omega arith; tree = []; reads = (refl, refl) }
 parts_fills (p ∷ ps) us limit low =
     let x = seq_fills (OnePart p) (Parts ps) (part_framed p) (part_fills p) (parts_fills ps) us limit low in
@@ -155,7 +155,7 @@ parts_fills (p ∷ ps) us limit low =
     }
 
 -- a part, and then the outcome of the others
-module _ (p : Part) (ps : List Part) (ts : List TokenKind) (i : ℕ) where
+module _ (p : ApiPart) (ps : List ApiPart) (ts : List TokenKind) (i : ℕ) where
   parts_as : (o : ParseResult (Option FieldTree × List FieldTree)) → Right (At (Seq (OnePart p) (Parts ps)) i) EndsValue ts i o →
       RightParts (p ∷ ps) ts i (map_result (λ (q : Option FieldTree × List FieldTree). put q.0 q.1) o)
   parts_as o x = right_as (Seq (OnePart p) (Parts ps)) (Parts (p ∷ ps)) (λ q. put q.0 q.1)
@@ -172,7 +172,7 @@ module _ (p : Part) (ps : List Part) (ts : List TokenKind) (i : ℕ) where
   pub parts_stop : (j : ℕ) (why : GrammarFault) → RightPart p ts i (stopped j why) → RightParts (p ∷ ps) ts i (stopped j why)
   parts_stop j why x = parts_as (stopped j why) (seq_stop (OnePart p) (Parts ps) (part_framed p) (parts_fills ps) (parts_follow ps) x)
 
-pub parts_none : (ps : List Part) (ts : List TokenKind) (i : ℕ) → ps ≡ [] → i ≤ length ts → RightParts ps ts i (found [] i)
+pub parts_none : (ps : List ApiPart) (ts : List TokenKind) (i : ℕ) → ps ≡ [] → i ≤ length ts → RightParts ps ts i (found [] i)
 parts_none ps ts i none within = rw none (record {
   from = omega arith;
   within = within;
@@ -180,7 +180,7 @@ parts_none ps ts i none within = rw none (record {
   decides = λ us limit e j same low r ends. r;
 })
 
-pub parts_done : (ps : List Part) (n : ℕ) → length ps ≤ n → drop n ps ≡ []
+pub parts_done : (ps : List ApiPart) (n : ℕ) → length ps ≤ n → drop n ps ≡ []
 parts_done [] zero h = refl
 parts_done [] (suc n) h = refl
 parts_done (p ∷ ps) zero h = absurd (omega arith)

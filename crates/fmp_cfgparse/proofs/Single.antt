@@ -6,8 +6,8 @@ use Rattle.fmp_lex.specs.Reading.{Rel, Seq, OneToken, IsItem, Anywhere, IsWhole,
 use Rattle.fmp_lex.specs.Reading as reading
 use Rattle.fmp_lex.proofs.Sequences.{Follows}
 use Rattle.fmp_lex.specs.Forms.{mark_kind, put}
-use Rattle.fmp_cfgparse.specs.declared.forms.Part.{Part}
-use Rattle.fmp_cfgparse.specs.declared.forms.Part.TheVariants as part
+use Rattle.fmp_cfgparse.specs.declared.forms.ApiPart.{ApiPart}
+use Rattle.fmp_cfgparse.specs.declared.forms.ApiPart.TheVariants as part
 use Rattle.fmp_cfgparse.specs.declared.tree.Item.{Item}
 use Rattle.fmp_cfgparse.specs.declared.tree.Item.TheVariants as item
 use Rattle.fmp_cfgparse.specs.Trees.{FieldTree, value, name, ApiTree, ClassTree, ConfigurationTree}
@@ -73,21 +73,21 @@ value_single us l i (a ∷ as_) j (b ∷ bs) k x ends y more =
 mark_single : (m : TokenKind) (us : List TokenKind) (i j k : ℕ) → reading.IsToken us m i j → reading.IsToken us m i k → k ≡ j
 mark_single m us i j k x y = omega (arith, x.1, y.1)
 
-mark_part : (p : Part) (us : List TokenKind) (l i : ℕ) (j : ℕ) (b : Option FieldTree) (k : ℕ) → OnePart p us l i None j → OnePart p us l i b k → (b ≡ None) × (k ≡ j)
+mark_part : (p : ApiPart) (us : List TokenKind) (l i : ℕ) (j : ℕ) (b : Option FieldTree) (k : ℕ) → OnePart p us l i None j → OnePart p us l i b k → (b ≡ None) × (k ≡ j)
 mark_part (part.Mark m) us l i j None k x y = (refl, mark_single (mark_kind m) us i j k x y)
 mark_part (part.Mark m) us l i j (Some (value v)) k x y = absurd y
 mark_part (part.Mark m) us l i j (Some (name n)) k x y = absurd y
 mark_part part.Name us l i j b k x y = absurd x
 mark_part part.Value us l i j b k x y = absurd x
 
-name_part : (p : Part) (us : List TokenKind) (l i : ℕ) (n : Name) (j : ℕ) (b : Option FieldTree) (k : ℕ) → OnePart p us l i (Some (name n)) j → OnePart p us l i b k → (b ≡ Some (name n)) × (k ≡ j)
+name_part : (p : ApiPart) (us : List TokenKind) (l i : ℕ) (n : Name) (j : ℕ) (b : Option FieldTree) (k : ℕ) → OnePart p us l i (Some (name n)) j → OnePart p us l i b k → (b ≡ Some (name n)) × (k ≡ j)
 name_part (part.Mark m) us l i n j b k x y = absurd x
 name_part part.Value us l i n j b k x y = absurd x
 name_part part.Name us l i n j None k x y = absurd y
 name_part part.Name us l i n j (Some (value v)) k x y = absurd y
 name_part part.Name us l i n j (Some (name o)) k x y = let e = item_one name_of us i i n j o k refl x y in (ap (λ z. Some (name z)) e.0, e.1)
 
-value_part : (p : Part) (us : List TokenKind) (l i : ℕ) (v : List Item) (j : ℕ) (b : Option FieldTree) (k : ℕ)
+value_part : (p : ApiPart) (us : List TokenKind) (l i : ℕ) (v : List Item) (j : ℕ) (b : Option FieldTree) (k : ℕ)
     → OnePart p us l i (Some (value v)) j → EndsValue us j → OnePart p us l i b k → EndsValue us k →
     (b ≡ Some (value v)) × (k ≡ j)
 value_part (part.Mark m) us l i v j b k x ends y more = absurd x
@@ -96,12 +96,12 @@ value_part part.Value us l i v j None k x ends y more = absurd y
 value_part part.Value us l i v j (Some (name n)) k x ends y more = absurd y
 value_part part.Value us l i v j (Some (value w)) k x ends y more = let e = value_single us l i v j w k x ends y more in (ap (λ z. Some (value z)) e.0, e.1)
 
-part_single : (p : Part) → Single (OnePart p) EndsValue
+part_single : (p : ApiPart) → Single (OnePart p) EndsValue
 part_single p us l i None j b k x ends y more = mark_part p us l i j b k x y
 part_single p us l i (Some (name n)) j b k x ends y more = name_part p us l i n j b k x y
 part_single p us l i (Some (value v)) j b k x ends y more = value_part p us l i v j b k x ends y more
 
-parts_single : (ps : List Part) → Single (Parts ps) EndsValue
+parts_single : (ps : List ApiPart) → Single (Parts ps) EndsValue
 parts_single [] us l i fs j gs k x ends y more = (y.0 ∙ sym x.0, omega (arith, x.1, y.1))
 parts_single (p ∷ ps) us l i fs j gs k x ends y more =
     let h = part_single p us l i x.0 x.3 y.0 y.3 x.4 (parts_follow ps us l x.3 x.1 j x.5 ends) y.4 (parts_follow ps us l y.3 y.1 k y.5 more) in

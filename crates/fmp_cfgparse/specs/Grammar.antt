@@ -10,8 +10,8 @@ use Rattle.fmp_base.specs.declared.words.Keyword.TheVariants as keyword
 use Rattle.fmp_lex.specs.Forms.{mark_kind, PartsBy}
 use Rattle.fmp_lex.specs.Reading.{Rel, IsToken, IsItem, Star}
 use Rattle.fmp_lex.specs.declared.marks.Mark.TheVariants as mark
-use Rattle.fmp_cfgparse.specs.declared.forms.Part.{Part}
-use Rattle.fmp_cfgparse.specs.declared.forms.Part.TheVariants as part
+use Rattle.fmp_cfgparse.specs.declared.forms.ApiPart.{ApiPart}
+use Rattle.fmp_cfgparse.specs.declared.forms.ApiPart.TheVariants as part
 use Rattle.fmp_cfgparse.specs.declared.tree.Item.{Item}
 use Rattle.fmp_cfgparse.specs.declared.tree.Item.TheVariants as item
 use Rattle.fmp_cfgparse.specs.Trees.{FieldTree, value, name, ApiTree, ClassTree, ConfigurationTree}
@@ -50,31 +50,31 @@ OneValue ts limit i [] j = ⊥
 OneValue ts limit i (a ∷ more) j = (k : ℕ) × OneItem ts limit i a k × Star MoreItem ts limit k more j
 
 -- a part of the form of a static API, and the field that it gives
-abbrev pub OnePart : Part → Rel (Option FieldTree)
+abbrev pub OnePart : ApiPart → Rel (Option FieldTree)
 OnePart (part.Mark m) ts limit i None j = IsToken ts (mark_kind m) i j
 OnePart part.Name ts limit i (Some (name n)) j = IsItem name_of ts i n j
 OnePart part.Value ts limit i (Some (value v)) j = OneValue ts limit i v j
 OnePart _ ts limit i _ j = ⊥
 
 -- parts one after another, and their fields
-abbrev pub Parts : List Part → Rel (List FieldTree)
+abbrev pub Parts : List ApiPart → Rel (List FieldTree)
 Parts = PartsBy OnePart
 
 -- the rest of a packet: a comma before each part, and what closes the API
-abbrev pub packet_rest : List Part → List Part
+abbrev pub packet_rest : List ApiPart → List ApiPart
 packet_rest [] = part.Mark mark.RightBrace ∷ part.Mark mark.RightParen ∷ part.Mark mark.Semicolon ∷ []
 packet_rest (p ∷ ps) = part.Mark mark.Comma ∷ p ∷ packet_rest ps
 
 -- ( first , { packet } ) ;
-abbrev pub form : Part → Part → List Part → List Part
+abbrev pub form : ApiPart → ApiPart → List ApiPart → List ApiPart
 form first p ps =
     part.Mark mark.LeftParen ∷ first ∷ part.Mark mark.Comma ∷ part.Mark mark.LeftBrace ∷ p ∷ packet_rest ps
 
-abbrev pub null : Part
+abbrev pub null : ApiPart
 null = part.Mark mark.Null
 
 -- the form of a static API: its first field, and its packet
-abbrev pub api_parts : Api → List Part
+abbrev pub api_parts : Api → List ApiPart
 api_parts api.CreTsk = form part.Name part.Value (part.Value ∷ part.Name ∷ part.Value ∷ part.Value ∷ null ∷ [])
 api_parts api.CreSem = form part.Name part.Value (part.Value ∷ part.Value ∷ [])
 api_parts api.CreFlg = form part.Name part.Value (part.Value ∷ [])

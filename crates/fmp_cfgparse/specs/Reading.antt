@@ -8,7 +8,7 @@ use Rattle.fmp_base.specs.declared.words.Keyword.TheVariants as keyword
 use Rattle.fmp_lex.specs.declared.reading.ReadError.{ReadError}
 use Rattle.fmp_lex.specs.declared.reading.ReadError.TheVariants as errors
 use Rattle.fmp_lex.specs.Reading.{At, Item, ParseResult, Right, Anywhere, IsWhole, IsFirstFault, Star}
-use Rattle.fmp_cfgparse.specs.declared.forms.Part.{Part}
+use Rattle.fmp_cfgparse.specs.declared.forms.ApiPart.{ApiPart}
 use Rattle.fmp_cfgparse.specs.declared.tree.Configuration.{Configuration}
 use Rattle.fmp_cfgparse.specs.declared.tree.Item as tree
 use Rattle.fmp_cfgparse.specs.Grammar.{token_number, name_of, api_of, OneItem, OneValue, OnePart, Parts, OneApi, OneClass, Config}
@@ -41,10 +41,10 @@ RightName ts i = Right (At (Item name_of) i) Anywhere ts i
 abbrev pub RightValue : List TokenKind → ℕ → ParseResult (List tree.Item) → Type 0
 RightValue ts i = Right (At OneValue i) EndsValue ts i
 
-abbrev pub RightPart : Part → List TokenKind → ℕ → ParseResult (Option FieldTree) → Type 0
+abbrev pub RightPart : ApiPart → List TokenKind → ℕ → ParseResult (Option FieldTree) → Type 0
 RightPart p ts i = Right (At (OnePart p) i) EndsValue ts i
 
-abbrev pub RightParts : List Part → List TokenKind → ℕ → ParseResult (List FieldTree) → Type 0
+abbrev pub RightParts : List ApiPart → List TokenKind → ℕ → ParseResult (List FieldTree) → Type 0
 RightParts ps ts i = Right (At (Parts ps) i) EndsValue ts i
 
 abbrev pub RightApi : List TokenKind → ℕ → ParseResult ApiTree → Type 0

@@ -2,61 +2,61 @@
 ghost use Rattle.std.specs.Prelude.{◌≡◌};
 ghost use Rattle.fmp_cfgparse.specs.Grammar.{api_parts};
 
-use Part::{Name, Value};
+use ApiPart::{Name, Value};
 use fmp_lex::{Api, Mark};
 
 /// A part of the form of a static API.
 #[derive(Clone, Copy)]
-pub enum Part {
+pub enum ApiPart {
     Mark(Mark),
     Name,
     Value,
 }
 
-const OPEN: Part = Part::Mark(Mark::LeftParen);
+const OPEN: ApiPart = ApiPart::Mark(Mark::LeftParen);
 
-const CLOSE: Part = Part::Mark(Mark::RightParen);
+const CLOSE: ApiPart = ApiPart::Mark(Mark::RightParen);
 
-const BEGIN: Part = Part::Mark(Mark::LeftBrace);
+const BEGIN: ApiPart = ApiPart::Mark(Mark::LeftBrace);
 
-const END: Part = Part::Mark(Mark::RightBrace);
+const END: ApiPart = ApiPart::Mark(Mark::RightBrace);
 
-const COMMA: Part = Part::Mark(Mark::Comma);
+const COMMA: ApiPart = ApiPart::Mark(Mark::Comma);
 
-const SEMICOLON: Part = Part::Mark(Mark::Semicolon);
+const SEMICOLON: ApiPart = ApiPart::Mark(Mark::Semicolon);
 
-const NULL: Part = Part::Mark(Mark::Null);
+const NULL: ApiPart = ApiPart::Mark(Mark::Null);
 
-const TASK_PARTS: [Part; 18] = [
+const TASK_PARTS: [ApiPart; 18] = [
     OPEN, Name, COMMA, BEGIN, Value, COMMA, Value, COMMA, Name, COMMA, Value, COMMA, Value, COMMA,
     NULL, END, CLOSE, SEMICOLON,
 ];
 
-const SEMAPHORE_PARTS: [Part; 12] = [
+const SEMAPHORE_PARTS: [ApiPart; 12] = [
     OPEN, Name, COMMA, BEGIN, Value, COMMA, Value, COMMA, Value, END, CLOSE, SEMICOLON,
 ];
 
-const FLAG_PARTS: [Part; 10] = [
+const FLAG_PARTS: [ApiPart; 10] = [
     OPEN, Name, COMMA, BEGIN, Value, COMMA, Value, END, CLOSE, SEMICOLON,
 ];
 
-const QUEUE_PARTS: [Part; 12] = [
+const QUEUE_PARTS: [ApiPart; 12] = [
     OPEN, Name, COMMA, BEGIN, Value, COMMA, Value, COMMA, NULL, END, CLOSE, SEMICOLON,
 ];
 
-const MESSAGE_PARTS: [Part; 8] = [OPEN, Name, COMMA, BEGIN, Value, END, CLOSE, SEMICOLON];
+const MESSAGE_PARTS: [ApiPart; 8] = [OPEN, Name, COMMA, BEGIN, Value, END, CLOSE, SEMICOLON];
 
-const CYCLIC_PARTS: [Part; 16] = [
+const CYCLIC_PARTS: [ApiPart; 16] = [
     OPEN, Name, COMMA, BEGIN, Value, COMMA, Value, COMMA, Name, COMMA, Value, COMMA, Value, END,
     CLOSE, SEMICOLON,
 ];
 
-const INTERRUPT_PARTS: [Part; 10] = [
+const INTERRUPT_PARTS: [ApiPart; 10] = [
     OPEN, Value, COMMA, BEGIN, Value, COMMA, Name, END, CLOSE, SEMICOLON,
 ];
 
 /// The form of a static API, behind its word.
-pub(crate) fn parts_of(api: Api) -> &'static [Part]
+pub(crate) fn parts_of(api: Api) -> &'static [ApiPart]
     ensures { result.now ≡ api_parts api }
 {
     match api {

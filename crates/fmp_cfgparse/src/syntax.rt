@@ -6,7 +6,7 @@ ghost use Rattle.fmp_cfgparse.specs.Grammar as grammar;
 ghost use Rattle.fmp_cfgparse.specs.Reading.{itself, RightItem, RightNumber, RightName, RightValue, RightPart, RightParts, RightApi, RightApis, RightClass, RightClasses, RightConfig, IsVerdict};
 ghost use Rattle.fmp_cfgparse.specs.Trees.{items_view, part_view, fields_view, api_view, apis_view, class_view, classes_view, configuration_view};
 
-use crate::forms::{Part, parts_of};
+use crate::forms::{ApiPart, parts_of};
 use crate::tree::{Class, Configuration, Field, Item, StaticApi, Value};
 use fmp_base::Name;
 use fmp_lex::reading::{expect_keyword, expect_symbol, is_keyword_at, is_symbol_at, kind_at};
@@ -150,22 +150,22 @@ fn value(alloc: Global, tokens: &Tokens<'_>, at: usize) -> Result<(Value, usize)
 fn part(
     alloc: Global,
     tokens: &Tokens<'_>,
-    part: Part,
+    part: ApiPart,
     at: usize,
 ) -> Result<(Option<Field>, usize), ReadError>
     requires { at ≤ length tokens.now }
     ensures { Answers part_view result (RightPart part (kinds_of tokens.now) at) }
 {
     match part {
-        Part::Mark(mark) => {
+        ApiPart::Mark(mark) => {
             let next = expect_mark(tokens, at, mark)?;
             Ok((None, next))
         }
-        Part::Name => {
+        ApiPart::Name => {
             let (name, next) = expect_name(tokens, at)?;
             Ok((Some(Field::Name(name)), next))
         }
-        Part::Value => {
+        ApiPart::Value => {
             let (items, next) = value(alloc, tokens, at)?;
             Ok((Some(Field::Value(items)), next))
         }
@@ -184,14 +184,14 @@ fn put(fields: &mut Vec<Field>, field: Option<Field>) -> Result<(), ReadError>
 }
 
 /// About how many fields a form has: a mark stands behind each, and four more around them.
-fn fields_in(parts: &[Part]) -> usize {
+fn fields_in(parts: &[ApiPart]) -> usize {
     parts.len().saturating_sub(4) / 2
 }
 
 fn parts(
     alloc: Global,
     tokens: &Tokens<'_>,
-    parts: &[Part],
+    parts: &[ApiPart],
     at: usize,
 ) -> Result<(Vec<Field>, usize), ReadError>
     requires { at ≤ length tokens.now }

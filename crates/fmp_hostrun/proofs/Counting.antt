@@ -18,7 +18,7 @@ use Rattle.fmp_board.specs.declared.fault.BoardFault.{BoardFault}
 use Rattle.fmp_board.specs.declared.fault.BoardFault.TheVariants as fault
 use Rattle.fmp_board.specs.Boards.{ClosedState, HasCounted, IsCountedBy}
 use Rattle.fmp_hostrun.specs.declared.turns.Load.{Load}
-use Rattle.fmp_hostrun.specs.declared.turns.Part.{Part}
+use Rattle.fmp_hostrun.specs.declared.turns.ThreadPart.{ThreadPart}
 use Rattle.fmp_hostrun.specs.Counts.{AreCounted, IsTurnOrTick, is_run, is_tick}
 use Rattle.fmp_hostrun.specs.Works.{AllAdded, Added, CameBackAs, IsAnswer, IsRun, Job, jobs_of, load_of, part_at}
 use Rattle.fmp_hostrun.proofs.Joining.{stopped, why_seen}
@@ -88,11 +88,11 @@ added_at i n row load place s (x ∷ seats) [] a all found = absurd all
 added_at i n row load place zero (x ∷ seats) (y ∷ back) a all found =
     let part : part_at load place ≡ part_at load (place + 0) = ap (part_at load) (omega arith) in
     let is : x ≡ a = cc in
-    (y, refl, subst (λ (p : Part). Added i n row p.event p.times a y) part (subst (λ (z : SeatState). Added i n row (part_at load place).event (part_at load place).times z y) is all.0))
+    (y, refl, subst (λ (p : ThreadPart). Added i n row p.event p.times a y) part (subst (λ (z : SeatState). Added i n row (part_at load place).event (part_at load place).times z y) is all.0))
 added_at i n row load place (suc s) (x ∷ seats) (y ∷ back) a all found =
     let next = added_at i n row load (place + 1) s seats back a all.1 found in
     let part : part_at load (place + 1 + s) ≡ part_at load (place + suc s) = ap (part_at load) (omega arith) in
-    (next.0, next.1, subst (λ (p : Part). Added i n row p.event p.times a next.0) part next.2)
+    (next.0, next.1, subst (λ (p : ThreadPart). Added i n row p.event p.times a next.0) part next.2)
 
 -- the seats of a board that was closed have counted their entries
 own_at : (i : ImageTables) (n : ℕ) (row : RowId) (load : Load) (seats back : List SeatState) (journal : List JournalEntry) → AreNew row seats → AllAdded i n row load 0 seats back
@@ -100,7 +100,7 @@ own_at : (i : ImageTables) (n : ℕ) (row : RowId) (load : Load) (seats back : L
 own_at i n row load seats back journal new all counted s lt =
     let found = added_at i n row load 0 s seats back (new_seat row s) all (new.1 s lt) in
     let part : part_at load (0 + s) ≡ part_at load s = ap (part_at load) (omega arith) in
-    is_own i n row load s found.0 journal (subst (λ (p : Part). Added i n row p.event p.times (new_seat row s) found.0) part found.2)
+    is_own i n row load s found.0 journal (subst (λ (p : ThreadPart). Added i n row p.event p.times (new_seat row s) found.0) part found.2)
     (by_place (HasCounted journal) back s found.0 counted found.1)
 
 -- the event of each entry is that of its seat's thread
@@ -129,7 +129,7 @@ count_none [] = refl
 count_none (x ∷ journal) = count_none journal
 
 -- the part of a thread, by whether it runs a processor
-abbrev part_by : Load → Bool → (s : ℕ) → Part
+abbrev part_by : Load → Bool → (s : ℕ) → ThreadPart
 part_by load true s = record { event = Run (s + 1); times = load.turns }
 part_by load false s = record { event = Tick; times = load.ticks }
 
@@ -167,14 +167,14 @@ ticks_of load true s lt is = absurd (grind (arith, nat_tests, lt, is))
 ticks_of load false s lt is = refl
 
 turns_at : (load : Load) (s : ℕ) → s < load.processors → (part_at load s).times ≡ load.turns
-turns_at load s less = ap (λ (p : Part). p.times) (part_is load s) ∙ times_of load (nat_lt s load.processors) s refl less
+turns_at load s less = ap (λ (p : ThreadPart). p.times) (part_is load s) ∙ times_of load (nat_lt s load.processors) s refl less
 
 ticks_at : (load : Load) → (part_at load load.processors).times ≡ load.ticks
-ticks_at load = ap (λ (p : Part). p.times) (part_is load load.processors) ∙ ticks_of load (nat_lt load.processors load.processors) load.processors refl refl
+ticks_at load = ap (λ (p : ThreadPart). p.times) (part_is load load.processors) ∙ ticks_of load (nat_lt load.processors load.processors) load.processors refl refl
 
 -- the event of an entry, by whether its seat is that of a processor
 event_by : (load : Load) (m : ℕ) (x : JournalEntry) → IsOf load m x → x.event ≡ (part_by load (nat_lt x.seat load.processors) x.seat).event
-event_by load m x of = of.1 ∙ ap (λ (p : Part). p.event) (part_is load x.seat)
+event_by load m x of = of.1 ∙ ap (λ (p : ThreadPart). p.event) (part_is load x.seat)
 
 all_turns_or_ticks : (load : Load) (m : ℕ) (journal : List JournalEntry) → AllByRecursion (IsOf load m) journal → All (IsTurnOrTick load.processors) (events journal)
 all_turns_or_ticks load m [] all = All-nil (IsTurnOrTick load.processors)
@@ -327,7 +327,7 @@ never_full i n row always load seats back closed new size room all c joined =
     let number : s.seat.number ≡ s.place = ap (λ (x : SeatState). x.number) (s.added.kept.same) ∙ ap (λ (x : SeatState). x.number) was in
     let none : s.job.seat.mine ≡ 0 = ap (λ (x : SeatState). x.mine) was in
     let part : s.job.part ≡ part_at load s.place = job.0 ∙ ap (part_at load) (omega arith) in
-    let times : s.job.part.times ≡ (part_at load s.place).times = ap (λ (p : Part). p.times) part in
+    let times : s.job.part.times ≡ (part_at load s.place).times = ap (λ (p : ThreadPart). p.times) part in
     let mine : length (own s.place c.journal) ≡ s.seat.mine = ap (λ (k : ℕ). length (own k c.journal)) (sym number) ∙ counted.1 in
     let short : length c.journal < load.processors * load.turns + load.ticks =
     fewer load row.seats s.place c.journal size (by_recursion (λ x. x.seat < row.seats) c.journal c.journal_is.seats) owns lt (omega (arith, mine, s.mine, none, times)) in

@@ -9,7 +9,7 @@ use Rattle.fmp_journal.specs.Seats.{RowId, SeatState}
 use Rattle.fmp_board.specs.declared.fault.BoardFault.{BoardFault}
 use Rattle.fmp_board.specs.declared.fault.BoardFault.TheVariants as fault
 use Rattle.fmp_hostrun.specs.declared.turns.Load.{Load}
-use Rattle.fmp_hostrun.specs.declared.turns.Part.{Part}
+use Rattle.fmp_hostrun.specs.declared.turns.ThreadPart.{ThreadPart}
 use Rattle.fmp_hostrun.specs.Works.{AllAdded, Added, AreRun, GaveBack, Gave, HasFull, IsAnswer, IsWhyStopped, Job, AllGave, both, gave, job_of, jobs_of, mine_of, part_at, seats_of, total}
 use Rattle.fmp_hostrun.proofs.Starting.{none_left}
 
@@ -26,7 +26,7 @@ placed_more load place (x ∷ jobs) j placed is = (placed.0, placed_more load (p
 pub placed_jobs : (load : Load) (place : ℕ) (jobs : List Job) → ArePlaced load place jobs → jobs ≡ jobs_of load place (seats_of jobs)
 placed_jobs load place [] placed = refl
 placed_jobs load place (j ∷ jobs) placed =
-    ap (λ (part : Part). job_of part j.seat ∷ jobs) placed.0 ∙ ap (λ (js : List Job). job_of (part_at load place) j.seat ∷ js) (placed_jobs load (place + 1) jobs placed.1)
+    ap (λ (part : ThreadPart). job_of part j.seat ∷ jobs) placed.0 ∙ ap (λ (js : List Job). job_of (part_at load place) j.seat ∷ js) (placed_jobs load (place + 1) jobs placed.1)
 
 -- what threads have done that were started for these jobs
 all_gave : (i : ImageTables) (n : ℕ) (row : RowId) (always : Type 0) (load : Load) (place : ℕ) (jobs : List Job) (all : List Gave) → AllZip (GaveBack i n row always) jobs all
@@ -35,7 +35,7 @@ all_gave i n row always load place [] [] each placed = tt
 all_gave i n row always load place [] (g ∷ all) each placed = absurd each
 all_gave i n row always load place (j ∷ jobs) [] each placed = absurd each
 all_gave i n row always load place (j ∷ jobs) (g ∷ all) each placed =
-    (subst (λ (part : Part). Added i n row part.event part.times j.seat g.seat) placed.0 each.0.added, all_gave i n row always load (place + 1) jobs all each.1 placed.1)
+    (subst (λ (part : ThreadPart). Added i n row part.event part.times j.seat g.seat) placed.0 each.0.added, all_gave i n row always load (place + 1) jobs all each.1 placed.1)
 
 pub all_added : (i : ImageTables) (n : ℕ) (row : RowId) (always : Type 0) (load : Load) (jobs : List Job) (back : List SeatState) (answer : Result ℕ BoardFault)
     → AllGave i n row always jobs back answer → ArePlaced load 0 jobs → AllAdded i n row load 0 (seats_of jobs) back

@@ -15,10 +15,10 @@ use Rattle.fmp_board.specs.Outcomes.{Drew, Submitted, TicketState}
 use Rattle.fmp_board.specs.Boards.{HasCounted, IsJournal}
 use Rattle.fmp_board.specs.Visits.{Fed, Kept, Visited, journaled}
 use Rattle.fmp_hostrun.specs.declared.turns.Load.{Load}
-use Rattle.fmp_hostrun.specs.declared.turns.Part.{Part}
+use Rattle.fmp_hostrun.specs.declared.turns.ThreadPart.{ThreadPart}
 
 -- the part of the thread at this place, from 0: the processors come first, and then the ticks
-abbrev pub part_at : Load → (place : ℕ) → Part
+abbrev pub part_at : Load → (place : ℕ) → ThreadPart
 part_at load place =
     if nat_lt place load.processors then record { event = Run (place + 1); times = load.turns } else
     record { event = Tick; times = load.ticks }
@@ -92,10 +92,10 @@ DidTimes i n row e (suc times) was now =
 
 -- the job of a thread: its part, and the seat with which it does it
 pub record Job : Type 0 where
-  pub part : Part
+  pub part : ThreadPart
   pub seat : SeatState
 
-abbrev pub job_of : Part → SeatState → Job
+abbrev pub job_of : ThreadPart → SeatState → Job
 job_of part seat = record { part = part; seat = seat }
 
 -- the jobs of threads, the first of which is at this place

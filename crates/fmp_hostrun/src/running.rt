@@ -6,7 +6,7 @@ ghost use Rattle.fmp_hostrun.specs.Works.{AllAdded, AreRun, CameBack, CameBackAs
 ghost use Rattle.fmp_board.specs.declared.fault.BoardFault.TheVariants.{Full, Held, Limit, Stale};
 
 use crate::feed::Feed;
-use crate::turns::{Gate, Load, Part, Worked, work};
+use crate::turns::{Gate, Load, ThreadPart, Worked, work};
 use fmp_board::{Board, BoardFault, Site};
 use fmp_journal::Seat;
 use std::alloc::{AllocError, Global};
@@ -20,7 +20,7 @@ use std::thread::{Promise, PromisedHandle, Threads};
 #[derive(Drop)]
 pub(crate) struct GivesBack<B: Feed, G: Gate> {
     seat: Snapshot<Seat>,
-    part: Part,
+    part: ThreadPart,
     board: PhantomData<B>,
     gate: PhantomData<G>,
 }

@@ -35,7 +35,7 @@ pub trait Gate: Sync {
 /// The part of a thread of a board: to run a processor, each time in a turn, or to feed another event; and how many
 /// times.
 #[derive(Clone, Copy)]
-pub(crate) struct Part {
+pub(crate) struct ThreadPart {
     pub event: Event,
     pub times: u32,
 }
@@ -53,16 +53,16 @@ impl Load {
     ghost use Rattle.fmp_hostrun.specs.Works.{part_at};
 
     /// The part of the thread at this place: the processors come first, and then the ticks.
-    pub fn part(self, place: usize) -> Part
+    pub fn part(self, place: usize) -> ThreadPart
         ensures { result ≡ part_at self place }
     {
         if place < self.processors as usize {
-            Part {
+            ThreadPart {
                 event: Event::Run(place as u8 + 1),
                 times: self.turns,
             }
         } else {
-            Part {
+            ThreadPart {
                 event: Event::Tick,
                 times: self.ticks,
             }
@@ -199,7 +199,7 @@ fn run_part<B: Feed, G: Gate, R: Wait>(
     board: &B,
     gate: &G,
     seat: &mut Seat,
-    part: Part,
+    part: ThreadPart,
 ) -> Result<u32, BoardFault>
     requires { IsAt B.row_id seat.old }
     ensures at { IsAt B.row_id seat.new }
@@ -225,7 +225,7 @@ pub(crate) fn work<B: Feed, G: Gate, R: Wait>(
     board: &B,
     gate: &G,
     mut seat: Seat,
-    part: Part,
+    part: ThreadPart,
 ) -> Worked
     requires { IsAt B.row_id seat }
     ensures { GaveBack B.image B.bound B.row_id G.is_open (job_of part seat)

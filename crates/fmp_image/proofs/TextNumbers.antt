@@ -9,8 +9,8 @@ use Rattle.fmp_lex.specs.Forms.{put}
 use Rattle.fmp_lex.specs.Reading.{kinds_of}
 use Rattle.fmp_cfgparse.proofs.KnownTokens.{IsKnown, IsKnownAt, known_at, cuts_known}
 use Rattle.fmp_cfgparse.proofs.KnownTrees.{code_fits as constant_fits}
-use Rattle.fmp_tasklang.specs.declared.forms.Part.{Part}
-use Rattle.fmp_tasklang.specs.declared.forms.Part.TheVariants as part
+use Rattle.fmp_tasklang.specs.declared.forms.CallPart.{CallPart}
+use Rattle.fmp_tasklang.specs.declared.forms.CallPart.TheVariants as part
 use Rattle.fmp_tasklang.specs.declared.trees.Operator.{Operator}
 use Rattle.fmp_tasklang.specs.declared.trees.Operator.TheVariants as operator
 use Rattle.fmp_tasklang.specs.declared.trees.Word.{Word}
@@ -138,7 +138,7 @@ module _ (ts : List TokenKind) (limit : ℕ) (known : AllByRecursion IsKnown ts)
   -- ---- calls
 
   part_words :
-      (d : ℕ) (p : Part) (a : Option ArgumentTree) (more : List ArgumentTree) (i k : ℕ) → OnePart d p ts limit i a k →
+      (d : ℕ) (p : CallPart) (a : Option ArgumentTree) (more : List ArgumentTree) (i k : ℕ) → OnePart d p ts limit i a k →
       AllByRecursion ExpressionHasWords (values_of more) → AllByRecursion ExpressionHasWords (values_of (put a more))
   part_words d (part.Mark m) None more i k x h = h
   part_words d (part.Mark m) (Some (value e)) more i k x h = absurd x
@@ -151,7 +151,7 @@ module _ (ts : List TokenKind) (limit : ℕ) (known : AllByRecursion IsKnown ts)
   part_words d (part.Out m) (Some (out w)) more i k x h = h
 
   parts_words :
-      (d : ℕ) (ps : List Part) (i : ℕ) (args : List ArgumentTree) (j : ℕ) → Parts d ps ts limit i args j →
+      (d : ℕ) (ps : List CallPart) (i : ℕ) (args : List ArgumentTree) (j : ℕ) → Parts d ps ts limit i args j →
       AllByRecursion ExpressionHasWords (values_of args)
   parts_words d [] i args j x = subst (λ (a : List ArgumentTree). AllByRecursion ExpressionHasWords (values_of a)) (sym x.0) tt
   parts_words d (p ∷ ps) i args j x =

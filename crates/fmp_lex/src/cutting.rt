@@ -44,7 +44,7 @@ pub enum Segment {
 
 /// The tokens of a part of a text.
 #[derive(Drop)]
-pub struct Part {
+pub struct TextPart {
     pub packed: Vec<Packed>,
     /// Where the text goes on behind the part.
     pub next: usize,
@@ -293,7 +293,7 @@ pub(crate) fn cut_part(
     start: usize,
     stop: usize,
     room: Vec<Packed>,
-) -> Result<Part, AllocError>
+) -> Result<TextPart, AllocError>
     requires short { length text.now ≤ TEXT_MAX }
     requires start { start ≤ length text.now }
     requires stop { stop ≤ length text.now }
@@ -314,7 +314,7 @@ pub(crate) fn cut_part(
                 i = end;
             }
             Segment::Fault(fault) => {
-                return Ok(Part {
+                return Ok(TextPart {
                     packed,
                     next: i,
                     fault: Some(fault),
@@ -322,7 +322,7 @@ pub(crate) fn cut_part(
             }
         }
     }
-    Ok(Part {
+    Ok(TextPart {
         packed,
         next: i,
         fault: None,
@@ -337,7 +337,7 @@ fn cut(alloc: Global, text: &[u8]) -> Result<Vec<Packed>, AllocError>
     ensures packed { IfOk result (λ v. All (IsPacked text.now) v.items) }
     ensures few { IfOk result (λ v. length v.items ≤ length text.now) }
 {
-    let Part {
+    let TextPart {
         mut packed,
         next,
         fault,

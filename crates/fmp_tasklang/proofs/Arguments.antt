@@ -11,8 +11,8 @@ use Rattle.fmp_lex.proofs.Repetitions.{Behind, Closed, behind_framed, behind_fil
 use Rattle.fmp_lex.specs.Forms.{mark_kind, put}
 use Rattle.fmp_lex.specs.declared.marks.Mark.{Mark}
 use Rattle.fmp_lex.specs.declared.marks.Mark.TheVariants as mark
-use Rattle.fmp_tasklang.specs.declared.forms.Part.{Part}
-use Rattle.fmp_tasklang.specs.declared.forms.Part.TheVariants as part
+use Rattle.fmp_tasklang.specs.declared.forms.CallPart.{CallPart}
+use Rattle.fmp_tasklang.specs.declared.forms.CallPart.TheVariants as part
 use Rattle.fmp_tasklang.specs.declared.trees.Word.{Word}
 use Rattle.fmp_tasklang.specs.Trees.{ExpressionTree}
 use Rattle.fmp_tasklang.specs.Expressions.{loosest}
@@ -50,7 +50,7 @@ module _ (d : ℕ) where
   outs_fills : (m : Mark) → Fills (Outs m)
   outs_fills m = behind_fills ampersand (Closed OneWord (mark_kind m)) (marked_fills m)
 
-  part_up : (p : Part) (us : List TokenKind) (limit i : ℕ) (a : Option ArgumentTree) (j : ℕ) → OnePart d p us limit i a j → i ≤ j
+  part_up : (p : CallPart) (us : List TokenKind) (limit i : ℕ) (a : Option ArgumentTree) (j : ℕ) → OnePart d p us limit i a j → i ≤ j
   part_up (part.Mark m) us limit i None j x = omega (arith, x.1)
   part_up (part.Mark m) us limit i (Some (value e)) j x = absurd x
   part_up (part.Mark m) us limit i (Some (out w)) j x = absurd x
@@ -61,7 +61,7 @@ module _ (d : ℕ) where
   part_up (part.Out m) us limit i (Some (value e)) j x = absurd x
   part_up (part.Out m) us limit i (Some (out w)) j x = (outs_framed m).up us limit i w j x
 
-  part_same : (p : Part) (ts us : List TokenKind) (limit lower i : ℕ) (a : Option ArgumentTree) (j : ℕ) → lower ≤ limit
+  part_same : (p : CallPart) (ts us : List TokenKind) (limit lower i : ℕ) (a : Option ArgumentTree) (j : ℕ) → lower ≤ limit
       → OnePart d p ts limit i a j → Between i j ts us → OnePart d p us lower i a j
   part_same (part.Mark m) ts us limit lower i None j low x same = (token_framed (mark_kind m)).same ts us limit lower i tt j low x same
   part_same (part.Mark m) ts us limit lower i (Some (value e)) j low x same = absurd x
@@ -73,10 +73,10 @@ module _ (d : ℕ) where
   part_same (part.Out m) ts us limit lower i (Some (value e)) j low x same = absurd x
   part_same (part.Out m) ts us limit lower i (Some (out w)) j low x same = (outs_framed m).same ts us limit lower i w j low x same
 
-  part_framed : (p : Part) → Framed (OnePart d p)
+  part_framed : (p : CallPart) → Framed (OnePart d p)
   part_framed p = record { up = part_up p; same = part_same p }
 
-  part_fills : (p : Part) → Fills (OnePart d p)
+  part_fills : (p : CallPart) → Fills (OnePart d p)
   part_fills (part.Mark m) us limit low = let x = token_fills (mark_kind m) us limit low in
       record { other = x.other; same = x.same; long = x.long; tree = None; reads = x.reads }
   part_fills (part.Value m) us limit low = let x = ended_fills d (mark_kind m) us limit low in
@@ -144,14 +144,14 @@ module _ (d : ℕ) where
         out_found j z = out_as (found w j) (behind_then ampersand (Closed OneWord (mark_kind m)) x (found w j)
             (closed_found OneWord (mark_kind m) word_framed (λ us limit n b m y ends. tt) y z))
 
-  parts_up : (ps : List Part) (us : List TokenKind) (limit i : ℕ) (args : List ArgumentTree) (j : ℕ) → Parts d ps us limit i args j → i ≤ j
+  parts_up : (ps : List CallPart) (us : List TokenKind) (limit i : ℕ) (args : List ArgumentTree) (j : ℕ) → Parts d ps us limit i args j → i ≤ j
   parts_up [] us limit i args j x = omega (arith, x.1)
   parts_up (p ∷ ps) us limit i args j x =
       let one = part_up p us limit i x.0 x.3 x.4 in
       let rest = parts_up ps us limit x.3 x.1 j x.5 in
       omega arith
 
-  parts_same : (ps : List Part) (ts us : List TokenKind) (limit lower i : ℕ) (args : List ArgumentTree) (j : ℕ)
+  parts_same : (ps : List CallPart) (ts us : List TokenKind) (limit lower i : ℕ) (args : List ArgumentTree) (j : ℕ)
       → lower ≤ limit → Parts d ps ts limit i args j → Between i j ts us → Parts d ps us lower i args j
   parts_same [] ts us limit lower i args j low x same = x
   parts_same (p ∷ ps) ts us limit lower i args j low x same =
@@ -165,10 +165,10 @@ module _ (d : ℕ) where
         parts_same ps ts us limit lower x.3 x.1 j low x.5 (between_rest i x.3 j ts us one same),
       )
 
-  pub parts_framed : (ps : List Part) → Framed (Parts d ps)
+  pub parts_framed : (ps : List CallPart) → Framed (Parts d ps)
   parts_framed ps = record { up = parts_up ps; same = parts_same ps }
 
-  pub parts_fills : (ps : List Part) → Fills (Parts d ps)
+  pub parts_fills : (ps : List CallPart) → Fills (Parts d ps)
   parts_fills [] us limit low = record { other = us; same = λ k lt. refl; long = omega arith; tree = []; reads = (refl, refl) }
   parts_fills (p ∷ ps) us limit low =
       let x = seq_fills (OnePart d p) (Parts d ps) (part_framed p) (part_fills p) (parts_fills ps) us limit low in
@@ -181,7 +181,7 @@ module _ (d : ℕ) where
       }
 
   -- a part, and then the outcome of the others
-  module _ (p : Part) (ps : List Part) (ts : List TokenKind) (i : ℕ) where
+  module _ (p : CallPart) (ps : List CallPart) (ts : List TokenKind) (i : ℕ) where
     parts_as : (o : ParseResult (Option ArgumentTree × List ArgumentTree)) → Right (At (Seq (OnePart d p) (Parts d ps)) i) Anywhere ts i o →
         RightParts ts d (p ∷ ps) i (map_result (λ (q : Option ArgumentTree × List ArgumentTree). put q.0 q.1) o)
     parts_as o x = right_as (Seq (OnePart d p) (Parts d ps)) (Parts d (p ∷ ps)) (λ q. put q.0 q.1)
@@ -198,7 +198,7 @@ module _ (d : ℕ) where
     pub parts_stop : (j : ℕ) (why : GrammarFault) → RightPart ts d p i (stopped j why) → RightParts ts d (p ∷ ps) i (stopped j why)
     parts_stop j why x = parts_as (stopped j why) (seq_stop (OnePart d p) (Parts d ps) (part_framed p) (parts_fills ps) (λ us limit n b m y ends. tt) x)
 
-  pub parts_none : (ps : List Part) (ts : List TokenKind) (i : ℕ) → ps ≡ [] → i ≤ length ts → RightParts ts d ps i (found [] i)
+  pub parts_none : (ps : List CallPart) (ts : List TokenKind) (i : ℕ) → ps ≡ [] → i ≤ length ts → RightParts ts d ps i (found [] i)
   parts_none ps ts i none within = rw none (record {
     from = omega arith;
     within = within;
@@ -207,12 +207,12 @@ module _ (d : ℕ) where
   })
 
   -- the parts of a call are its arguments
-  pub arguments_as : (s : Service) (ps : List Part) (ts : List TokenKind) (i : ℕ) (o : ParseResult (List ArgumentTree)) → RightParts ts d ps i o →
+  pub arguments_as : (s : Service) (ps : List CallPart) (ts : List TokenKind) (i : ℕ) (o : ParseResult (List ArgumentTree)) → RightParts ts d ps i o →
       RightArguments ts d s ps i (map_result (called s) o)
   arguments_as s ps ts i o x = right_as (Parts d ps) (Arguments d s ps) (called s) (λ us limit args j r. (args, refl, r))
       (λ us limit c j at r ends. (r.0, r.1, r.2, tt)) o x
 
-  arguments_framed : (s : Service) (ps : List Part) → Framed (Arguments d s ps)
+  arguments_framed : (s : Service) (ps : List CallPart) → Framed (Arguments d s ps)
   arguments_framed s ps = record {
     up = λ us limit i c j x. parts_up ps us limit i x.0 j x.2;
     same = λ ts us limit lower i c j low x same. (x.0, x.1, parts_same ps ts us limit lower i x.0 j low x.2 same);
@@ -268,7 +268,7 @@ module _ (d : ℕ) where
         );
   }
 
-pub parts_done : (ps : List Part) (n : ℕ) → length ps ≤ n → drop n ps ≡ []
+pub parts_done : (ps : List CallPart) (n : ℕ) → length ps ≤ n → drop n ps ≡ []
 parts_done [] zero h = refl
 parts_done [] (suc n) h = refl
 parts_done (p ∷ ps) zero h = absurd (omega arith)

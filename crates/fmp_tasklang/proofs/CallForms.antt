@@ -7,8 +7,8 @@ use Rattle.fmp_lex.specs.declared.token.TokenKind.{TokenKind}
 use Rattle.fmp_lex.specs.declared.token.TokenKind.TheVariants as kind
 use Rattle.fmp_base.specs.declared.words.Keyword.TheVariants as keyword
 use Rattle.fmp_lex.specs.Forms.{put}
-use Rattle.fmp_tasklang.specs.declared.forms.Part.{Part}
-use Rattle.fmp_tasklang.specs.declared.forms.Part.TheVariants as part
+use Rattle.fmp_tasklang.specs.declared.forms.CallPart.{CallPart}
+use Rattle.fmp_tasklang.specs.declared.forms.CallPart.TheVariants as part
 use Rattle.fmp_tasklang.specs.declared.trees.Word.{Word}
 use Rattle.fmp_tasklang.specs.Trees.{ExpressionTree, StatementTree, Block, BodyTree}
 use Rattle.fmp_tasklang.specs.Blocks.{block_of, choice}
@@ -18,13 +18,13 @@ use Rattle.fmp_tasklang.specs.Statements.{jump_of, IsStatement, an_assignment, a
 use Rattle.fmp_tasklang.specs.Grammar.{Bodies}
 
 -- how many values a form has, and whether it has an out place
-abbrev values_in : List Part → ℕ
+abbrev values_in : List CallPart → ℕ
 values_in [] = 0
 values_in (part.Mark m ∷ ps) = values_in ps
 values_in (part.Value m ∷ ps) = suc (values_in ps)
 values_in (part.Out m ∷ ps) = values_in ps
 
-abbrev has_out : Bool → List Part → Bool
+abbrev has_out : Bool → List CallPart → Bool
 has_out b [] = b
 has_out b (part.Mark m ∷ ps) = has_out b ps
 has_out b (part.Value m ∷ ps) = has_out b ps
@@ -40,7 +40,7 @@ form_out _ = refl
 
 module _ (d : ℕ) (ts : List TokenKind) (limit : ℕ) where
   one_value :
-      (p : Part) (ps : List Part) (a : Option ArgumentTree) (more : List ArgumentTree) (i k : ℕ) →
+      (p : CallPart) (ps : List CallPart) (a : Option ArgumentTree) (more : List ArgumentTree) (i k : ℕ) →
       OnePart d p ts limit i a k → length (values_of more) ≡ values_in ps →
       length (values_of (put a more)) ≡ values_in (p ∷ ps)
   one_value (part.Mark m) ps None more i k x h = h
@@ -54,7 +54,7 @@ module _ (d : ℕ) (ts : List TokenKind) (limit : ℕ) where
   one_value (part.Out m) ps (Some (out w)) more i k x h = h
 
   parts_values :
-      (ps : List Part) (i : ℕ) (args : List ArgumentTree) (j : ℕ) → Parts d ps ts limit i args j →
+      (ps : List CallPart) (i : ℕ) (args : List ArgumentTree) (j : ℕ) → Parts d ps ts limit i args j →
       length (values_of args) ≡ values_in ps
   parts_values [] i args j x = ap (λ a. length (values_of a)) x.0
   parts_values (p ∷ ps) i args j x =
@@ -62,7 +62,7 @@ module _ (d : ℕ) (ts : List TokenKind) (limit : ℕ) where
       ∙ one_value p ps x.0 x.1 i x.3 x.4 (parts_values ps x.3 x.1 j x.5)
 
   one_out :
-      (p : Part) (ps : List Part) (a : Option ArgumentTree) (more : List ArgumentTree) (i k : ℕ) (w : Option Word) →
+      (p : CallPart) (ps : List CallPart) (a : Option ArgumentTree) (more : List ArgumentTree) (i k : ℕ) (w : Option Word) →
       OnePart d p ts limit i a k → ((v : Option Word) → is_some (out_from v more) ≡ has_out (is_some v) ps) →
       is_some (out_from w (put a more)) ≡ has_out (is_some w) (p ∷ ps)
   one_out (part.Mark m) ps None more i k w x h = h w
@@ -76,7 +76,7 @@ module _ (d : ℕ) (ts : List TokenKind) (limit : ℕ) where
   one_out (part.Out m) ps (Some (out v)) more i k w x h = h (Some v)
 
   parts_out :
-      (ps : List Part) (i : ℕ) (args : List ArgumentTree) (j : ℕ) (w : Option Word) → Parts d ps ts limit i args j →
+      (ps : List CallPart) (i : ℕ) (args : List ArgumentTree) (j : ℕ) (w : Option Word) → Parts d ps ts limit i args j →
       is_some (out_from w args) ≡ has_out (is_some w) ps
   parts_out [] i args j w x = ap (λ a. is_some (out_from w a)) x.0
   parts_out (p ∷ ps) i args j w x =

@@ -5,8 +5,8 @@ use Rattle.fmp_lex.specs.declared.token.TokenKind.{TokenKind}
 use Rattle.fmp_lex.specs.Reading.{Star, IsToken, found, RightToken, IsWhole}
 use Rattle.fmp_lex.proofs.Sequences.{token_found}
 use Rattle.fmp_lex.specs.Forms.{mark_kind}
-use Rattle.fmp_tasklang.specs.declared.forms.Part.{Part}
-use Rattle.fmp_tasklang.specs.declared.forms.Part.TheVariants as part
+use Rattle.fmp_tasklang.specs.declared.forms.CallPart.{CallPart}
+use Rattle.fmp_tasklang.specs.declared.forms.CallPart.TheVariants as part
 use Rattle.fmp_tasklang.specs.declared.trees.Declaration.{Declaration}
 use Rattle.fmp_tasklang.specs.declared.trees.Length.{Length}
 use Rattle.fmp_tasklang.specs.declared.trees.Word.{Word}
@@ -90,7 +90,7 @@ module _ (ts : List TokenKind) where
         let r = expression_right e (links_follow d m ts l b links j (to_star ts l d m more) ends) (omega arith) in
         links_more d m ts i k.operator x.0 k.operand b (subst (λ n. RightExpression ts d m n (found k.operand b)) x.1 r) (found links j) (links_right more ends within)
 
-  part_right : (d : ℕ) (p : Part) (i : ℕ) (a : Option ArgumentTree) (j : ℕ) → OnePart d p ts l i a j → RightPart ts d p i (found a j)
+  part_right : (d : ℕ) (p : CallPart) (i : ℕ) (a : Option ArgumentTree) (j : ℕ) → OnePart d p ts l i a j → RightPart ts d p i (found a j)
   part_right d (part.Mark m) i None j x = mark_as d ts i m (found tt j) (token_right (mark_kind m) i j x)
   part_right d (part.Mark m) i (Some (value e)) j x = absurd x
   part_right d (part.Mark m) i (Some (out w)) j x = absurd x
@@ -104,7 +104,7 @@ module _ (ts : List TokenKind) where
   part_right d (part.Out m) i (Some (out w)) j x =
       out_found d ts i m x.0 (token_right ampersand i x.0 x.1) w x.2.0 (word_right x.0 w x.2.0 x.2.1) j (token_right (mark_kind m) x.2.0 j x.2.2)
 
-  parts_right : (d : ℕ) (ps : List Part) (i : ℕ) (args : List ArgumentTree) (j : ℕ) → i ≤ l → Parts d ps ts l i args j → RightParts ts d ps i (found args j)
+  parts_right : (d : ℕ) (ps : List CallPart) (i : ℕ) (args : List ArgumentTree) (j : ℕ) → i ≤ l → Parts d ps ts l i args j → RightParts ts d ps i (found args j)
   parts_right d [] i args j within x =
       subst (λ n. RightParts ts d [] i (found args n)) (sym x.1) (subst (λ a. RightParts ts d [] i (found a i)) (sym x.0) (parts_none d [] ts i refl within))
   parts_right d (p ∷ ps) i args j within x =

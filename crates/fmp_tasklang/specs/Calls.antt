@@ -9,8 +9,8 @@ use Rattle.fmp_lex.specs.Forms.{mark_kind, PartsBy}
 use Rattle.fmp_lex.specs.Reading.{Rel, IsToken, IsItem}
 use Rattle.fmp_lex.specs.declared.marks.Mark.{Mark}
 use Rattle.fmp_lex.specs.declared.marks.Mark.TheVariants as mark
-use Rattle.fmp_tasklang.specs.declared.forms.Part.{Part}
-use Rattle.fmp_tasklang.specs.declared.forms.Part.TheVariants as part
+use Rattle.fmp_tasklang.specs.declared.forms.CallPart.{CallPart}
+use Rattle.fmp_tasklang.specs.declared.forms.CallPart.TheVariants as part
 use Rattle.fmp_tasklang.specs.declared.trees.Word.{Word}
 use Rattle.fmp_tasklang.specs.Trees.{ExpressionTree, CallTree}
 use Rattle.fmp_tasklang.specs.Expressions.{loosest, IsWord, IsExpression}
@@ -21,17 +21,17 @@ service_of (kind.Service s) = Some s
 service_of _ = None
 
 -- what stands between the parentheses, each with the mark behind it: values, and the out place among them
-abbrev pub places : List (Mark → Part) → List Part
+abbrev pub places : List (Mark → CallPart) → List CallPart
 places [] = part.Mark mark.RightParen ∷ []
 places (p ∷ []) = p mark.RightParen ∷ []
 places (p ∷ q ∷ more) = p mark.Comma ∷ places (q ∷ more)
 
-abbrev pub with_out : Option ℕ → List (Mark → Part) → List (Mark → Part)
+abbrev pub with_out : Option ℕ → List (Mark → CallPart) → List (Mark → CallPart)
 with_out None values = values
 with_out (Some n) values = take n values ++ part.Out ∷ drop n values
 
 -- the form of a call behind its name
-abbrev pub call_parts : Service → List Part
+abbrev pub call_parts : Service → List CallPart
 call_parts s = part.Mark mark.LeftParen ∷ places (with_out (out_place s) (replicate (arity s) part.Value))
 
 -- an argument, or the variable at the out place
@@ -70,7 +70,7 @@ call_tree result c = record { service = c.service; arguments = c.arguments; out 
 -- d is how many levels of nesting are open; the parentheses of a call are none
 module _ (d : ℕ) where
   -- a mark; a value and the mark behind it; `&`, a variable and the mark behind it
-  abbrev pub OnePart : Part → Rel (Option ArgumentTree)
+  abbrev pub OnePart : CallPart → Rel (Option ArgumentTree)
   OnePart (part.Mark m) ts limit i None j = IsToken ts (mark_kind m) i j
   OnePart (part.Value m) ts limit i (Some (value e)) j =
       (a : ℕ) × IsExpression ts limit d loosest i e a × IsToken ts (mark_kind m) a j
@@ -80,7 +80,7 @@ module _ (d : ℕ) where
   OnePart _ ts limit i _ j = ⊥
 
   -- parts one after another, and their arguments
-  abbrev pub Parts : List Part → Rel (List ArgumentTree)
+  abbrev pub Parts : List CallPart → Rel (List ArgumentTree)
   Parts = PartsBy OnePart
 
   -- call = callname ( args )

@@ -17,7 +17,7 @@ use Rattle.fmp_lex.specs.Reading.{Rel, At, IsToken, IsItem, Item, Star, ParseRes
 use Rattle.fmp_base.specs.declared.services.Service.{Service}
 use Rattle.fmp_tasklang.specs.declared.calls.Argument.{Argument}
 use Rattle.fmp_tasklang.specs.declared.calls.Argument.TheVariants as argument
-use Rattle.fmp_tasklang.specs.declared.forms.Part.{Part}
+use Rattle.fmp_tasklang.specs.declared.forms.CallPart.{CallPart}
 use Rattle.fmp_tasklang.specs.declared.statements.Change.{Change}
 use Rattle.fmp_tasklang.specs.declared.statements.Change.TheVariants as change
 use Rattle.fmp_tasklang.specs.declared.statements.ElementChange.{ElementChange}
@@ -127,7 +127,7 @@ module _ (d : ℕ) where
   Condition ts limit i e j = IsCondition ts limit d i e j
 
   -- the parts of the call of a service, and the call
-  abbrev pub Arguments : Service → List Part → Rel Called
+  abbrev pub Arguments : Service → List CallPart → Rel Called
   Arguments s ps ts limit i c j = (args : List ArgumentTree) × (c ≡ called s args) × Parts d ps ts limit i args j
 
   -- expr | call
@@ -227,17 +227,17 @@ module _ (ts : List TokenKind) where
     abbrev pub RightCondition : ℕ → ParseResult ExpressionTree → Type 0
     RightCondition i = Right (At (Condition d) i) Anywhere ts i
 
-    abbrev pub RightPart : Part → ℕ → ParseResult (Option ArgumentTree) → Type 0
+    abbrev pub RightPart : CallPart → ℕ → ParseResult (Option ArgumentTree) → Type 0
     RightPart p i = Right (At (OnePart d p) i) Anywhere ts i
 
-    abbrev pub RightParts : List Part → ℕ → ParseResult (List ArgumentTree) → Type 0
+    abbrev pub RightParts : List CallPart → ℕ → ParseResult (List ArgumentTree) → Type 0
     RightParts ps i = Right (At (Parts d ps) i) Anywhere ts i
 
     abbrev pub RightCall : ℕ → ParseResult Called → Type 0
     RightCall i = Right (At (OneCall d) i) Anywhere ts i
 
     -- the outcome of the arguments of a call, in the call
-    abbrev pub RightArguments : Service → List Part → ℕ → ParseResult Called → Type 0
+    abbrev pub RightArguments : Service → List CallPart → ℕ → ParseResult Called → Type 0
     RightArguments s ps i = Right (At (Arguments d s ps) i) Anywhere ts i
 
     abbrev pub RightSource : ℕ → ParseResult SourceTree → Type 0

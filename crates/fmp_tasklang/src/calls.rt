@@ -8,7 +8,7 @@ ghost use Rattle.fmp_tasklang.specs.Views.{expression_view};
 
 use crate::argument_list::ArgumentList;
 use crate::expressions::expression;
-use crate::forms::{Part, parts_of};
+use crate::forms::{CallPart, parts_of};
 use crate::receivers::Receivers;
 use crate::trees::{Expression, ServiceCall, Word};
 use crate::words::{LOOSEST, expect_word};
@@ -29,7 +29,7 @@ fn part(
     alloc: Global,
     tokens: &Tokens<'_>,
     depth: usize,
-    part: Part,
+    part: CallPart,
     at: usize,
 ) -> Result<(Option<Argument>, usize), ReadError>
     requires depth { depth ≤ max_depth }
@@ -37,16 +37,16 @@ fn part(
     ensures { Answers argument_view result (RightPart (kinds_of tokens.now) depth part at) }
 {
     match part {
-        Part::Mark(mark) => {
+        CallPart::Mark(mark) => {
             let next = expect_mark(tokens, at, mark)?;
             Ok((None, next))
         }
-        Part::Value(mark) => {
+        CallPart::Value(mark) => {
             let (value, next) = expression(alloc, tokens, depth, LOOSEST, at)?;
             let next = expect_mark(tokens, next, mark)?;
             Ok((Some(Argument::Value(value)), next))
         }
-        Part::Out(mark) => {
+        CallPart::Out(mark) => {
             let next = expect_symbol(tokens, at, Symbol::And)?;
             let (word, next) = expect_word(tokens, next)?;
             let next = expect_mark(tokens, next, mark)?;
@@ -77,7 +77,7 @@ fn arguments(
     tokens: &Tokens<'_>,
     depth: usize,
     service: Service,
-    parts: &[Part],
+    parts: &[CallPart],
     at: usize,
 ) -> Result<(ServiceCall, usize), ReadError>
     requires depth { depth ≤ max_depth }

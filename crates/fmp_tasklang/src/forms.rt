@@ -7,7 +7,7 @@ use fmp_lex::Mark;
 
 /// A part of the form of a call. A token that continues an expression is never the mark behind it.
 #[derive(Clone, Copy)]
-pub enum Part {
+pub enum CallPart {
     Mark(Mark),
     /// An argument, and the mark behind it.
     Value(Mark),
@@ -15,57 +15,66 @@ pub enum Part {
     Out(Mark),
 }
 
-const NOTHING: [Part; 2] = [Part::Mark(Mark::LeftParen), Part::Mark(Mark::RightParen)];
-
-const ONE_VALUE: [Part; 2] = [Part::Mark(Mark::LeftParen), Part::Value(Mark::RightParen)];
-
-const TWO_VALUES: [Part; 3] = [
-    Part::Mark(Mark::LeftParen),
-    Part::Value(Mark::Comma),
-    Part::Value(Mark::RightParen),
+const NOTHING: [CallPart; 2] = [
+    CallPart::Mark(Mark::LeftParen),
+    CallPart::Mark(Mark::RightParen),
 ];
 
-const THREE_VALUES: [Part; 4] = [
-    Part::Mark(Mark::LeftParen),
-    Part::Value(Mark::Comma),
-    Part::Value(Mark::Comma),
-    Part::Value(Mark::RightParen),
+const ONE_VALUE: [CallPart; 2] = [
+    CallPart::Mark(Mark::LeftParen),
+    CallPart::Value(Mark::RightParen),
 ];
 
-const OUT: [Part; 2] = [Part::Mark(Mark::LeftParen), Part::Out(Mark::RightParen)];
-
-const VALUE_AND_OUT: [Part; 3] = [
-    Part::Mark(Mark::LeftParen),
-    Part::Value(Mark::Comma),
-    Part::Out(Mark::RightParen),
+const TWO_VALUES: [CallPart; 3] = [
+    CallPart::Mark(Mark::LeftParen),
+    CallPart::Value(Mark::Comma),
+    CallPart::Value(Mark::RightParen),
 ];
 
-const VALUE_OUT_AND_LIMIT: [Part; 4] = [
-    Part::Mark(Mark::LeftParen),
-    Part::Value(Mark::Comma),
-    Part::Out(Mark::Comma),
-    Part::Value(Mark::RightParen),
+const THREE_VALUES: [CallPart; 4] = [
+    CallPart::Mark(Mark::LeftParen),
+    CallPart::Value(Mark::Comma),
+    CallPart::Value(Mark::Comma),
+    CallPart::Value(Mark::RightParen),
 ];
 
-const THREE_VALUES_AND_OUT: [Part; 5] = [
-    Part::Mark(Mark::LeftParen),
-    Part::Value(Mark::Comma),
-    Part::Value(Mark::Comma),
-    Part::Value(Mark::Comma),
-    Part::Out(Mark::RightParen),
+const OUT: [CallPart; 2] = [
+    CallPart::Mark(Mark::LeftParen),
+    CallPart::Out(Mark::RightParen),
 ];
 
-const THREE_VALUES_OUT_AND_LIMIT: [Part; 6] = [
-    Part::Mark(Mark::LeftParen),
-    Part::Value(Mark::Comma),
-    Part::Value(Mark::Comma),
-    Part::Value(Mark::Comma),
-    Part::Out(Mark::Comma),
-    Part::Value(Mark::RightParen),
+const VALUE_AND_OUT: [CallPart; 3] = [
+    CallPart::Mark(Mark::LeftParen),
+    CallPart::Value(Mark::Comma),
+    CallPart::Out(Mark::RightParen),
+];
+
+const VALUE_OUT_AND_LIMIT: [CallPart; 4] = [
+    CallPart::Mark(Mark::LeftParen),
+    CallPart::Value(Mark::Comma),
+    CallPart::Out(Mark::Comma),
+    CallPart::Value(Mark::RightParen),
+];
+
+const THREE_VALUES_AND_OUT: [CallPart; 5] = [
+    CallPart::Mark(Mark::LeftParen),
+    CallPart::Value(Mark::Comma),
+    CallPart::Value(Mark::Comma),
+    CallPart::Value(Mark::Comma),
+    CallPart::Out(Mark::RightParen),
+];
+
+const THREE_VALUES_OUT_AND_LIMIT: [CallPart; 6] = [
+    CallPart::Mark(Mark::LeftParen),
+    CallPart::Value(Mark::Comma),
+    CallPart::Value(Mark::Comma),
+    CallPart::Value(Mark::Comma),
+    CallPart::Out(Mark::Comma),
+    CallPart::Value(Mark::RightParen),
 ];
 
 /// The form of a call behind its name.
-pub fn parts_of(service: Service) -> &'static [Part]
+pub fn parts_of(service: Service) -> &'static [CallPart]
     ensures { result.now ≡ call_parts service }
 {
     match service {

@@ -12,7 +12,7 @@ use Rattle.fmp_base.specs.declared.states.Caller.{Caller}
 use Rattle.fmp_base.specs.declared.systems.SemaphoreConfig.{SemaphoreConfig}
 use Rattle.fmp_base.specs.Systems.{SystemTables}
 use Rattle.fmp_why.specs.declared.history.Act.{Act}
-use Rattle.fmp_why.specs.declared.history.Part.{Part}
+use Rattle.fmp_why.specs.declared.history.TaskPart.{TaskPart}
 use Rattle.fmp_why.specs.declared.history.Trail.{Trail}
 use Rattle.fmp_why.specs.Histories.{Told, act_of, after_act, after_deed, after_done, count_of, done_in, holder_of, holders_from, is_done, is_on, is_same_kind, nothing, part_in, part_of, part_told, released_with, told_with, trail_of, trail_told, waits_from, waits_of}
 use Rattle.fmp_why.specs.HistoryTables.{IsTold, Tables, act_noted, changed_at, deed_noted, done_noted, holders_in, line_noted, lines_noted, part_noted, trails_in}
@@ -88,7 +88,7 @@ pub none-told : (sys : SystemTables) (h : Tables)
 none-told sys h semaphores flags queues mailboxes locks tasks =
     record {
       trails = by_kind;
-      parts = λ t. ap (λ (xs : List Part). slice_get xs t) tasks ∙ get-replicate (length sys.tasks) t (record { event = 0; waits = None });
+      parts = λ t. ap (λ (xs : List TaskPart). slice_get xs t) tasks ∙ get-replicate (length sys.tasks) t (record { event = 0; waits = None });
     }
   where
     rows : (xs : List Trail) (n : ℕ) → xs ≡ replicate n nothing → (i : ℕ)
@@ -162,7 +162,7 @@ done-tasks event None h = refl
 done-tasks event (Some done) h = act-tasks event done.0 (act_of done.1) h
 
 -- a part of a task is no deed on an object
-part-trails : (t : Option ℕ) (x : Part) (h : Tables) (k : ObjectKind) → trails_in (part_noted t x h) k ≡ trails_in h k
+part-trails : (t : Option ℕ) (x : TaskPart) (h : Tables) (k : ObjectKind) → trails_in (part_noted t x h) k ≡ trails_in h k
 part-trails None x h k = refl
 part-trails (Some t) x h kind.Semaphore = refl
 part-trails (Some t) x h kind.Flag = refl
@@ -174,14 +174,14 @@ part-trails (Some t) x h _ = refl
 nat_eq-sym : (i j : ℕ) → nat_eq i j ≡ nat_eq j i
 nat_eq-sym i j = grind (arith, nat_tests)
 
-set-if : (on b : Bool) (new old : Part) (there : Option Part) → there ≡ (if b then Some old else None)
+set-if : (on b : Bool) (new old : TaskPart) (there : Option TaskPart) → there ≡ (if b then Some old else None)
     → (if on then option_map (λ _. new) there else there) ≡ (if b then Some (if on then new else old) else None)
 set-if true true new old there e = ap (option_map (λ _. new)) e
 set-if true false new old there e = ap (option_map (λ _. new)) e
 set-if false b new old there e = e
 
 -- a task's part after a line
-part-there : (t : ℕ) (who : Option ℕ) (b : Bool) (new old : Part) (h : Tables)
+part-there : (t : ℕ) (who : Option ℕ) (b : Bool) (new old : TaskPart) (h : Tables)
     → slice_get h.tasks t ≡ (if b then Some old else None)
     → slice_get (part_noted who new h).tasks t ≡ (if b then Some (if is_task t who then new else old) else None)
 part-there t None b new old h e = e
@@ -200,7 +200,7 @@ done-same v w _ e = refl
 pub line-told : (sys : SystemTables) (told : Told) (h : Tables) (event : ℕ) (x : Line) → IsTold sys told h
     → IsTold sys ((event, x) ∷ told) (line_noted event x h)
 line-told sys told h event x is =
-    let now : Part = record { event = event; waits = waits_from x } in
+    let now : TaskPart = record { event = event; waits = waits_from x } in
     let mid : Tables = part_noted (part_in x) now h in
     let same : done_in (λ t. waits_of (slice_get h.tasks t)) x ≡ done_in (λ t. waits_of (part_told sys told t)) x
     = done-same _ _ x (λ t. ap waits_of (is.parts t)) in
@@ -211,7 +211,7 @@ line-told sys told h event x is =
           (ap (λ (xs : List Trail). slice_get xs i) (part-trails (part_in x) now h k) ∙ is.trails k i)
           ∙ ap (λ (d : Option (Caller × Call)). if nat_lt i (count_of sys k) then Some (after_done k i event d (trail_of sys k i told)) else None) same;
       parts = λ t.
-          ap (λ (xs : List Part). slice_get xs t) (done-tasks event (done_in (λ t. waits_of (slice_get h.tasks t)) x) mid)
+          ap (λ (xs : List TaskPart). slice_get xs t) (done-tasks event (done_in (λ t. waits_of (slice_get h.tasks t)) x) mid)
           ∙ part-there t (part_in x) (nat_lt t (length sys.tasks)) now (part_of t told) h (is.parts t);
     }
 

@@ -20,7 +20,7 @@ use Rattle.fmp_base.specs.Services.{action as action_of, argument, arguments_of,
 use Rattle.fmp_base.specs.Systems.{SystemTables}
 use Rattle.fmp_why.specs.declared.history.Act.{Act}
 use Rattle.fmp_why.specs.declared.history.Deed.{Deed}
-use Rattle.fmp_why.specs.declared.history.Part.{Part}
+use Rattle.fmp_why.specs.declared.history.TaskPart.{TaskPart}
 use Rattle.fmp_why.specs.declared.history.Trail.{Trail}
 use Rattle.fmp_why.specs.declared.history.Way.{Way}
 use Rattle.fmp_why.specs.declared.history.Way.TheVariants as way
@@ -53,16 +53,16 @@ waits_from (line.Call p who c None) = Some c
 waits_from _ = None
 
 -- what was told of task t last: the event in which it had a part, and the call with which it waits since, if it does
-abbrev pub part_of : ℕ → Told → Part
+abbrev pub part_of : ℕ → Told → TaskPart
 part_of t [] = record { event = 0; waits = None }
 part_of t (x ∷ told) =
     if is_task t (part_in x.1) then record { event = x.0; waits = waits_from x.1 } else part_of t told
 
 -- the same, if the system has such a task
-abbrev pub part_told : SystemTables → Told → ℕ → Option Part
+abbrev pub part_told : SystemTables → Told → ℕ → Option TaskPart
 part_told sys told t = if nat_lt t (length sys.tasks) then Some (part_of t told) else None
 
-abbrev pub waits_of : Option Part → Option Call
+abbrev pub waits_of : Option TaskPart → Option Call
 waits_of None = None
 waits_of (Some x) = x.waits
 
@@ -173,7 +173,7 @@ count_of sys _ = 0
 abbrev pub trail_told : SystemTables → Told → ObjectKind → ℕ → Option Trail
 trail_told sys told k i = if nat_lt i (count_of sys k) then Some (trail_of sys k i told) else None
 
-abbrev pub event_of : Option Part → ℕ
+abbrev pub event_of : Option TaskPart → ℕ
 event_of None = 0
 event_of (Some x) = x.event
 

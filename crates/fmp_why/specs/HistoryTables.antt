@@ -9,7 +9,7 @@ use Rattle.fmp_base.specs.declared.systems.SemaphoreConfig.{SemaphoreConfig}
 use Rattle.fmp_base.specs.Systems.{SystemTables}
 use Rattle.fmp_why.specs.declared.history.Act.{Act}
 use Rattle.fmp_why.specs.declared.history.History as declared
-use Rattle.fmp_why.specs.declared.history.Part.{Part}
+use Rattle.fmp_why.specs.declared.history.TaskPart.{TaskPart}
 use Rattle.fmp_why.specs.declared.history.Trail.{Trail}
 use Rattle.fmp_why.specs.Histories.{Told, act_of, after_deed, done_in, event_of, holder_of, part_in, part_told, trail_or, trail_told, waits_from, waits_of}
 
@@ -19,7 +19,7 @@ pub record Tables : Type 0 where
   pub data_queues : List Trail
   pub mailboxes : List Trail
   pub spin_locks : List Trail
-  pub tasks : List Part
+  pub tasks : List TaskPart
 
 -- the tables that a `History` holds
 abbrev pub tables : declared.History → Tables
@@ -78,7 +78,7 @@ abbrev pub done_noted : (event : ℕ) → Option (Caller × Call) → Tables →
 done_noted event None h = h
 done_noted event (Some done) h = act_noted event done.0 (act_of done.1) h
 
-abbrev pub part_noted : Option ℕ → Part → Tables → Tables
+abbrev pub part_noted : Option ℕ → TaskPart → Tables → Tables
 part_noted None x h = h
 part_noted (Some t) x h = record h { tasks = changed_at (λ _. x) h.tasks t }
 

@@ -37,7 +37,7 @@ const NOTHING: Trail = Trail {
 
 /// What the trace told of a task last.
 #[derive(Clone, Copy)]
-struct Part {
+struct TaskPart {
     /// The last event that the task had a part in.
     event: u32,
     /// The call with which it began to wait then, if it did.
@@ -52,7 +52,7 @@ pub struct History {
     data_queues: Vec<Trail>,
     mailboxes: Vec<Trail>,
     spin_locks: Vec<Trail>,
-    tasks: Vec<Part>,
+    tasks: Vec<TaskPart>,
 }
 
 /// What a call does to the object that its first argument names.
@@ -117,7 +117,7 @@ fn is_done(reply: Reply) -> bool
 }
 
 /// The call with which a task waits.
-fn waits_of(parts: &[Part], task: u8) -> Option<Call>
+fn waits_of(parts: &[TaskPart], task: u8) -> Option<Call>
     ensures { result ≡ spec.waits_of (slice_get parts.now task) }
 {
     match parts.get(usize::from(task)) {
@@ -127,7 +127,7 @@ fn waits_of(parts: &[Part], task: u8) -> Option<Call>
 }
 
 /// The call from which a task is released with a reply, if it did what it asks for.
-fn released(parts: &[Part], task: u8, reply: Reply) -> Option<(Caller, Call)>
+fn released(parts: &[TaskPart], task: u8, reply: Reply) -> Option<(Caller, Call)>
     ensures { result ≡ spec.released_with (spec.is_done reply) task (spec.waits_of (slice_get parts.now task)) }
 {
     if !is_done(reply) {
@@ -140,7 +140,7 @@ fn released(parts: &[Part], task: u8, reply: Reply) -> Option<(Caller, Call)>
 }
 
 /// Which actor did, by a line, what which call asks for.
-fn done_in(parts: &[Part], line: Line) -> Option<(Caller, Call)>
+fn done_in(parts: &[TaskPart], line: Line) -> Option<(Caller, Call)>
     ensures { result ≡ spec.done_in (λ t. spec.waits_of (slice_get parts.now t)) line }
 {
     match line {
@@ -263,7 +263,7 @@ fn add(trails: &mut Vec<Trail>, place: usize, way: Way, deed: Deed)
 }
 
 /// A task had this part in a line.
-fn set_part(parts: &mut Vec<Part>, task: usize, part: Part)
+fn set_part(parts: &mut Vec<TaskPart>, task: usize, part: TaskPart)
     ensures { parts.new.items ≡ rows.changed_at (λ _. part) parts.old.items task }
 {
     if task < parts.len() {
@@ -276,7 +276,7 @@ impl History {
     pub fn new(alloc: Global, sys: &System) -> Result<History, AllocError>
         ensures { IfOk result (λ made. rows.IsTold (tables_of sys.now) [] (rows.tables made)) }
     {
-        let part = Part {
+        let part = TaskPart {
             event: 0,
             waits: None,
         };
@@ -317,7 +317,7 @@ impl History {
     }
 
     /// A task, if it is some, had this part in a line.
-    fn note_part(&mut self, task: Option<u8>, part: Part)
+    fn note_part(&mut self, task: Option<u8>, part: TaskPart)
         ensures { rows.tables self.new ≡ rows.part_noted task part (rows.tables self.old) }
     {
         if let Some(task) = task {
@@ -331,7 +331,7 @@ impl History {
     {
         let done = done_in(&self.tasks, line);
         let waits = waits_from(line);
-        self.note_part(part_in(line), Part { event, waits });
+        self.note_part(part_in(line), TaskPart { event, waits });
         self.note_done(done, event);
     }
 

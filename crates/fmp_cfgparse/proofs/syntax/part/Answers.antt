@@ -2,7 +2,7 @@ use Rattle.std.proofs.lemmas.Result.{err_from_is_err_and}
 use Rattle.fmp_lex.specs.Reading.{kinds_of, found, stopped, RightToken}
 use Rattle.fmp_lex.proofs.Answered.{err_as, find_as, step_as}
 use Rattle.fmp_lex.specs.Forms.{mark_kind}
-use Rattle.fmp_cfgparse.specs.declared.forms.Part.TheVariants as part
+use Rattle.fmp_cfgparse.specs.declared.forms.ApiPart.TheVariants as part
 use Rattle.fmp_cfgparse.specs.Reading.{itself, RightName, RightValue, RightPart}
 use Rattle.fmp_cfgparse.specs.Trees.{items_view, part_view}
 use Rattle.fmp_cfgparse.proofs.Parts.{mark_as, name_as, value_as}

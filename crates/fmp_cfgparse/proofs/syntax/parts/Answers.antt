@@ -5,7 +5,7 @@ use Rattle.fmp_lex.specs.Reading.{kinds_of, found, stopped, map_result}
 use Rattle.fmp_lex.proofs.Answered.{err_as}
 use Rattle.fmp_lex.specs.Forms.{put}
 use Rattle.fmp_lex.specs.declared.marks.Mark.TheVariants as mark
-use Rattle.fmp_cfgparse.specs.declared.forms.Part.TheVariants as part
+use Rattle.fmp_cfgparse.specs.declared.forms.ApiPart.TheVariants as part
 use Rattle.fmp_cfgparse.specs.Reading.{RightPart, RightParts}
 use Rattle.fmp_cfgparse.specs.Trees.{part_view, fields_view}
 use Rattle.fmp_cfgparse.proofs.Parts.{parts_then, parts_stop, parts_none, parts_done, push_put}

@@ -8,7 +8,7 @@ use Rattle.fmp_tasklang.specs.Reading.{argument_view, called_view, RightPart, Ri
 use Rattle.fmp_tasklang.specs.Views.{expression_view}
 use Rattle.std.proofs.Common.{drop, get_or, subst, add-one, drop-cons}
 use Rattle.fmp_lex.specs.declared.marks.Mark.TheVariants as mark
-use Rattle.fmp_tasklang.specs.declared.forms.Part.TheVariants as part
+use Rattle.fmp_tasklang.specs.declared.forms.CallPart.TheVariants as part
 use Rattle.fmp_tasklang.specs.Calls.{values_of, out_from}
 use Rattle.fmp_tasklang.proofs.Arguments.{arguments_as, parts_then, parts_stop, parts_none, parts_done, push_put, no_before, values_of-append, out_from-append, called_is}
 use Rattle.fmp_tasklang.proofs.calls.arguments.Goals as goal

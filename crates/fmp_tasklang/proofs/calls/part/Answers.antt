@@ -5,7 +5,7 @@ use Rattle.fmp_lex.specs.Forms.{mark_kind}
 use Rattle.fmp_tasklang.specs.Expressions.{loosest}
 use Rattle.fmp_tasklang.specs.Reading.{itself, argument_view, RightWord, RightExpression, RightPart}
 use Rattle.fmp_tasklang.specs.Views.{expression_view}
-use Rattle.fmp_tasklang.specs.declared.forms.Part.TheVariants as part
+use Rattle.fmp_tasklang.specs.declared.forms.CallPart.TheVariants as part
 use Rattle.fmp_tasklang.proofs.Arguments.{ampersand, mark_as, value_stop, value_unmarked, value_found, out_missing, out_stop, out_unmarked, out_found}
 use Rattle.fmp_tasklang.proofs.calls.part.Goals as goal
 
