@@ -11,8 +11,8 @@ use Rattle.fmp_lex.specs.declared.token.TokenKind.TheVariants as kind
 use Rattle.fmp_lex.specs.declared.token.LexFault.TheVariants.{Syntax, Limit}
 use Rattle.fmp_lex.specs.declared.token.Symbol.{Symbol}
 use Rattle.fmp_lex.specs.declared.scanning.Class.TheVariants as class
-use Rattle.fmp_lex.specs.declared.cutting.Start.{Start}
-use Rattle.fmp_lex.specs.declared.cutting.Start.TheVariants as start
+use Rattle.fmp_lex.specs.declared.cutting.PieceStart.{PieceStart}
+use Rattle.fmp_lex.specs.declared.cutting.PieceStart.TheVariants as start
 use Rattle.fmp_lex.specs.Cutting.{Piece}
 use Rattle.fmp_lex.specs.Cutting.{Skip, Whole, Fault}
 use Rattle.fmp_base.specs.Words.{is_letter, is_digit, is_word}
@@ -123,7 +123,7 @@ begins_letter b c e =
     fourth (is_space b) ((b == 47) && (c == 47)) ((b == 47) && (c == 42)) (is_letter b) ((b == 48) && (c == 120)) (b == 48) (is_digit b) e
 
 -- each piece
-piece_known : (text : List ℕ) (i : ℕ) (s : Start) (p : Piece) → (s ≡ start.Word → is_letter (slice_index text i) ≡ true) → IsPieceOf text i s p → PieceIs p
+piece_known : (text : List ℕ) (i : ℕ) (s : PieceStart) (p : Piece) → (s ≡ start.Word → is_letter (slice_index text i) ≡ true) → IsPieceOf text i s p → PieceIs p
 piece_known text i start.Space p letter x = rw x.2 tt
 piece_known text i start.LineComment p letter x = rw x.2 tt
 piece_known text i start.BlockComment p letter (inl x) = rw x.2 tt

@@ -107,14 +107,14 @@ fn advance<'a, S: Site>(
 
 /// What a follower has before it has a seat: its board, and its kernel after setup, of which the lines were printed.
 #[derive(Drop)]
-pub struct Start<'a, 'b, S: Site> {
+pub struct FollowerStart<'a, 'b, S: Site> {
     board: &'b Board<'a, S>,
     kernel: Kernel<Vm<'a>>,
     ghost begun: { kernel ≡ kernel_after S.image S.bound [] },
     ghost most: { S.row_id.capacity ≤ 2 ^ 20 },
 }
 
-impl<'a, 'b, S: Site> Start<'a, 'b, S> {
+impl<'a, 'b, S: Site> FollowerStart<'a, 'b, S> {
     ghost use Rattle.std.specs.Prelude.{◌≡◌, ◌++◌, [], OnOk, OnErr};
     ghost use Rattle.fmp_board.specs.Boards.{IsAt};
     ghost use Rattle.fmp_follower.specs.Followers.{followed_text};
@@ -126,13 +126,13 @@ impl<'a, 'b, S: Site> Start<'a, 'b, S> {
         alloc: Global,
         board: &'b Board<'a, S>,
         out: &mut Vec<u8>,
-    ) -> Result<Start<'a, 'b, S>, AllocError>
+    ) -> Result<FollowerStart<'a, 'b, S>, AllocError>
         ensures text { OnOk result (out.new.items ≡ out.old.items ++ followed_text S.image S.bound []) }
         ensures err { OnErr result (out.new.items ≡ out.old.items) }
     {
         let _most = board.capacity();
         match begun(alloc, board, out) {
-            Ok(kernel) => Ok(Start { board, kernel }),
+            Ok(kernel) => Ok(FollowerStart { board, kernel }),
             Err(_) => Err(AllocError),
         }
     }
@@ -144,7 +144,7 @@ impl<'a, 'b, S: Site> Start<'a, 'b, S> {
         ensures same_reference { result.seat.ghost_name ≡ seat.entry.ghost_name }
         ensures seat { result.seat.now ≡ seat.old }
     {
-        let Start { board, kernel } = self;
+        let FollowerStart { board, kernel } = self;
         Follower {
             board,
             seat,
@@ -159,11 +159,11 @@ impl<'a, 'b, S: Site> Follower<'a, 'b, S> {
     ghost use Rattle.fmp_board.specs.Boards.{IsAt};
     ghost use Rattle.fmp_follower.specs.Followers.{Continues, Follows, events_of, followed_text, kernel_over};
 
-    /// A follower of a board from a seat of it that was given no event yet: a `Start`, which then takes the seat. The
-    /// lines of setup are appended.
+    /// A follower of a board from a seat of it that was given no event yet: a `FollowerStart`, which then takes the
+    /// seat. The lines of setup are appended.
     ///
     /// `AllocError` where memory runs out; then nothing has been appended. No clause says then that the seat is as it
-    /// was: a caller that needs it again makes the `Start`, which borrows no seat.
+    /// was: a caller that needs it again makes the `FollowerStart`, which borrows no seat.
     pub fn new(
         alloc: Global,
         board: &'b Board<'a, S>,
@@ -177,7 +177,7 @@ impl<'a, 'b, S: Site> Follower<'a, 'b, S> {
         ensures text { OnOk result (out.new.items ≡ out.old.items ++ followed_text S.image S.bound []) }
         ensures err { OnErr result (out.new.items ≡ out.old.items) }
     {
-        match Start::new(alloc, board, out) {
+        match FollowerStart::new(alloc, board, out) {
             Ok(start) => Ok(start.follow(seat)),
             Err(_) => Err(AllocError),
         }

@@ -5,4 +5,4 @@
 mod follower;
 mod printing;
 
-pub use follower::{Follower, Start, followed_text_is_front};
+pub use follower::{Follower, FollowerStart, followed_text_is_front};

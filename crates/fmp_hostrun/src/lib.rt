@@ -9,6 +9,6 @@ mod turns;
 pub use fmp_board::{
     Blank, Board, BoardFault, Book, Closed, Outcome, Receipt, Seat, Site, Ticket, Workspace,
 };
-pub use fmp_follower::{Follower, Start, followed_text_is_front};
+pub use fmp_follower::{Follower, FollowerStart, followed_text_is_front};
 pub use running::run_all;
 pub use turns::Gate;

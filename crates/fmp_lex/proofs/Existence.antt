@@ -10,8 +10,8 @@ use Rattle.fmp_lex.specs.declared.token.LexFault.TheVariants.{Syntax, Limit}
 use Rattle.fmp_base.specs.Names.{name_from}
 use Rattle.fmp_lex.specs.declared.token.Symbol.{Symbol}
 use Rattle.fmp_lex.specs.declared.scanning.Class.TheVariants as class
-use Rattle.fmp_lex.specs.declared.cutting.Start.{Start}
-use Rattle.fmp_lex.specs.declared.cutting.Start.TheVariants as start
+use Rattle.fmp_lex.specs.declared.cutting.PieceStart.{PieceStart}
+use Rattle.fmp_lex.specs.declared.cutting.PieceStart.TheVariants as start
 use Rattle.fmp_lex.specs.Cutting.{Piece}
 use Rattle.fmp_lex.specs.Cutting.{Skip, Whole, Fault}
 use Rattle.fmp_base.specs.Words.{is_letter, is_digit}
@@ -145,7 +145,7 @@ symbol_on i None (Some s) = omega arith
 symbol_on i None None = tt
 
 -- a piece begins at each byte
-piece_of : (text : List ℕ) (i : ℕ) (s : Start) → i < length text → (s ≡ start.Hex → i + 2 ≤ length text) →
+piece_of : (text : List ℕ) (i : ℕ) (s : PieceStart) → i < length text → (s ≡ start.Hex → i + 2 ≤ length text) →
     (p : Piece) × IsPieceOf text i s p × GoesOn i p
 piece_of text i start.Space lt inside =
     let (j, run) = run_at (in_class class.Space) text (i + 1) (omega arith) in

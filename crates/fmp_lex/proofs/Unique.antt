@@ -1,7 +1,7 @@
 -- A text is cut in one way.
 use Rattle.std.proofs.Common.{◌≡◌, ℕ, ◌+◌, inl, inr, Bool, List, slice_index, refl, arith}
-use Rattle.fmp_lex.specs.declared.cutting.Start.{Start}
-use Rattle.fmp_lex.specs.declared.cutting.Start.TheVariants.{Space, LineComment, BlockComment, Word, Zero, Hex, Decimal, Other}
+use Rattle.fmp_lex.specs.declared.cutting.PieceStart.{PieceStart}
+use Rattle.fmp_lex.specs.declared.cutting.PieceStart.TheVariants.{Space, LineComment, BlockComment, Word, Zero, Hex, Decimal, Other}
 use Rattle.fmp_lex.specs.Cutting.{Piece}
 use Rattle.fmp_lex.specs.Cutting.{Skip, Whole, Fault}
 use Rattle.fmp_lex.specs.declared.token.Token.{Token}
@@ -27,7 +27,7 @@ close_unique text i j k a b = elim (cases_order j k) [
   ]
 ]
 
-pub piece_of_unique : (text : List ℕ) (i : ℕ) (s : Start) (p q : Piece) → IsPieceOf text i s p → IsPieceOf text i s q → p ≡ q
+pub piece_of_unique : (text : List ℕ) (i : ℕ) (s : PieceStart) (p q : Piece) → IsPieceOf text i s p → IsPieceOf text i s q → p ≡ q
 piece_of_unique text i Space p q a b = let e = run_unique _ text (i + 1) a.0 b.0 a.1 b.1 in cc
 piece_of_unique text i LineComment p q a b = let e = run_unique _ text (i + 1) a.0 b.0 a.1 b.1 in cc
 piece_of_unique text i BlockComment p q (inl a) (inl b) = let e = close_unique text (i + 2) a.0 b.0 a.1 b.1 in cc

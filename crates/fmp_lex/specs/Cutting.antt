@@ -10,8 +10,8 @@ use Rattle.fmp_lex.specs.declared.token.TokenKind.{TokenKind}
 use Rattle.fmp_lex.specs.declared.token.TokenKind.TheVariants as kind
 use Rattle.fmp_lex.specs.declared.token.Token.{Token}
 use Rattle.fmp_lex.specs.declared.scanning.Class.TheVariants as class
-use Rattle.fmp_lex.specs.declared.cutting.Start.{Start}
-use Rattle.fmp_lex.specs.declared.cutting.Start.TheVariants as start
+use Rattle.fmp_lex.specs.declared.cutting.PieceStart.{PieceStart}
+use Rattle.fmp_lex.specs.declared.cutting.PieceStart.TheVariants as start
 use Rattle.fmp_base.specs.Words.{is_digit, is_letter, is_word}
 use Rattle.fmp_lex.specs.Scanning.{is_space, in_class, IsRun, IsFirstClose, NeverCloses, value_from, greatest}
 use Rattle.fmp_base.specs.Words.{constant_named, api_named, service_named, keyword_named}
@@ -104,7 +104,7 @@ abbrev pub symbol_piece : ℕ → ℕ → ℕ → Piece
 symbol_piece i b c = long_piece i (long_symbol b c) (short_symbol b)
 
 -- how a piece begins, by its first two bytes (0 past the end)
-abbrev pub start_of : ℕ → ℕ → Start
+abbrev pub start_of : ℕ → ℕ → PieceStart
 start_of b c =
     if is_space b then start.Space
     else (if (b == 47) && (c == 47) then start.LineComment
@@ -115,7 +115,7 @@ start_of b c =
     else (if is_digit b then start.Decimal else start.Other))))))
 
 -- what begins so at i is this piece
-abbrev pub IsPieceOf : List ℕ → ℕ → Start → Piece → Type 0
+abbrev pub IsPieceOf : List ℕ → ℕ → PieceStart → Piece → Type 0
 IsPieceOf text i start.Space p = (j : ℕ) × IsRun (in_class class.Space) text (i + 1) j × (p ≡ Skip j)
 IsPieceOf text i start.LineComment p = (j : ℕ) × IsRun (in_class class.SameLine) text (i + 1) j × (p ≡ Skip j)
 IsPieceOf text i start.BlockComment p =

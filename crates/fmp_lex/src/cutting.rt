@@ -23,7 +23,7 @@ pub const TEXT_MAX: usize = 1_048_576;
 
 /// How a piece of a text begins.
 #[derive(Clone, Copy)]
-pub enum Start {
+pub enum PieceStart {
     Space,
     LineComment,
     BlockComment,
@@ -98,24 +98,24 @@ fn short_sign(b: u8) -> Option<Symbol>
 
 /// How a piece begins, by its first two bytes.
 #[inline(always)]
-fn begin(b: u8, c: u8) -> Start
+fn begin(b: u8, c: u8) -> PieceStart
     ensures { result ≡ start_of b c }
 {
     if is_in(Class::Word, b) {
         return match (b, c) {
-            (b'0', b'x') => Start::Hex,
-            (b'0', _) => Start::Zero,
-            (b'1'..=b'9', _) => Start::Decimal,
-            _ => Start::Word,
+            (b'0', b'x') => PieceStart::Hex,
+            (b'0', _) => PieceStart::Zero,
+            (b'1'..=b'9', _) => PieceStart::Decimal,
+            _ => PieceStart::Word,
         };
     }
     if is_in(Class::Space, b) {
-        return Start::Space;
+        return PieceStart::Space;
     }
     match (b, c) {
-        (b'/', b'/') => Start::LineComment,
-        (b'/', b'*') => Start::BlockComment,
-        _ => Start::Other,
+        (b'/', b'/') => PieceStart::LineComment,
+        (b'/', b'*') => PieceStart::BlockComment,
+        _ => PieceStart::Other,
     }
 }
 
@@ -224,23 +224,23 @@ fn next_piece(text: &[u8], i: usize) -> Segment
     let b = text[i];
     let c = if i + 1 < text.len() { text[i + 1] } else { 0 };
     match begin(b, c) {
-        Start::Space => Segment::Skip(run_end(text, Class::Space, i + 1)),
-        Start::LineComment => Segment::Skip(run_end(text, Class::SameLine, i + 1)),
-        Start::BlockComment => match find_close(text, i + 2) {
+        PieceStart::Space => Segment::Skip(run_end(text, Class::Space, i + 1)),
+        PieceStart::LineComment => Segment::Skip(run_end(text, Class::SameLine, i + 1)),
+        PieceStart::BlockComment => match find_close(text, i + 2) {
             Some(end) => Segment::Skip(end + 2),
             None => Segment::Fault(LexFault::Syntax),
         },
-        Start::Word => {
+        PieceStart::Word => {
             let end = run_end(text, Class::Word, i + 1);
             word(text, i, end)
         }
-        Start::Zero => number(text, i + 1, true, 0),
-        Start::Hex => hex_number(text, i + 2, run_end(text, Class::Hex, i + 2)),
-        Start::Decimal => {
+        PieceStart::Zero => number(text, i + 1, true, 0),
+        PieceStart::Hex => hex_number(text, i + 2, run_end(text, Class::Hex, i + 2)),
+        PieceStart::Decimal => {
             let end = run_end(text, Class::Digit, i + 1);
             number(text, end, true, value_of(&text[i..end], 10))
         }
-        Start::Other => sign(i, b, c),
+        PieceStart::Other => sign(i, b, c),
     }
 }
 

@@ -8,7 +8,7 @@ ghost use Rattle.fmp_tasklang.specs.Trees as trees;
 ghost use Rattle.fmp_tasklang.specs.Views.{expression_view};
 
 use crate::trees::{Expression, Link, Word};
-use crate::words::{LOOSEST, MAX_DEPTH, Start, level_at, operator_at, start_at};
+use crate::words::{LOOSEST, MAX_DEPTH, OperandStart, level_at, operator_at, start_at};
 use fmp_base::UnaryOperator;
 use fmp_lex::reading::{expect_symbol, is_symbol_at};
 use fmp_lex::{FirstFault, GrammarFault, ReadError, Symbol, TokenKind, Tokens};
@@ -34,16 +34,16 @@ fn operand(
     ensures { Answers expression_view result (RightOperand (kinds_of tokens.now) depth at) }
 {
     match start_at(tokens, at) {
-        Some(Start::Number(number)) => Ok((literal(number), at + 1)),
-        Some(Start::Name(name)) => {
+        Some(OperandStart::Number(number)) => Ok((literal(number), at + 1)),
+        Some(OperandStart::Name(name)) => {
             let word = Word {
                 name,
                 at: at as u32,
             };
             named(alloc, tokens, depth, word, at)
         }
-        Some(Start::Unary(operator)) => unary(alloc, tokens, depth, operator, at),
-        Some(Start::Group) => group(alloc, tokens, depth, at),
+        Some(OperandStart::Unary(operator)) => unary(alloc, tokens, depth, operator, at),
+        Some(OperandStart::Group) => group(alloc, tokens, depth, at),
         None => Err(ReadError::Fault(FirstFault {
             at,
             why: GrammarFault::Syntax,

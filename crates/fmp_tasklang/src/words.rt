@@ -22,7 +22,7 @@ pub const MAX_DEPTH: usize = 64;
 
 /// How an operand begins.
 #[derive(Clone, Copy)]
-pub enum Start {
+pub enum OperandStart {
     Number(i32),
     Name(Name),
     Unary(UnaryOperator),
@@ -32,17 +32,17 @@ pub enum Start {
 
 /// How the operand begins whose first token this is, if one begins so.
 #[inline(always)]
-fn start_of(kind: TokenKind) -> Option<Start>
+fn start_of(kind: TokenKind) -> Option<OperandStart>
     ensures { Starts (Some kind) result }
 {
     match kind {
-        TokenKind::Number(number) => Some(Start::Number(number)),
-        TokenKind::Constant(constant) => Some(Start::Number(constant.value())),
-        TokenKind::Name(name) => Some(Start::Name(name)),
-        TokenKind::Symbol(Symbol::Minus) => Some(Start::Unary(UnaryOperator::Negate)),
-        TokenKind::Symbol(Symbol::Not) => Some(Start::Unary(UnaryOperator::Not)),
-        TokenKind::Symbol(Symbol::Tilde) => Some(Start::Unary(UnaryOperator::Complement)),
-        TokenKind::Symbol(Symbol::LeftParen) => Some(Start::Group),
+        TokenKind::Number(number) => Some(OperandStart::Number(number)),
+        TokenKind::Constant(constant) => Some(OperandStart::Number(constant.value())),
+        TokenKind::Name(name) => Some(OperandStart::Name(name)),
+        TokenKind::Symbol(Symbol::Minus) => Some(OperandStart::Unary(UnaryOperator::Negate)),
+        TokenKind::Symbol(Symbol::Not) => Some(OperandStart::Unary(UnaryOperator::Not)),
+        TokenKind::Symbol(Symbol::Tilde) => Some(OperandStart::Unary(UnaryOperator::Complement)),
+        TokenKind::Symbol(Symbol::LeftParen) => Some(OperandStart::Group),
         _ => None,
     }
 }
@@ -129,7 +129,7 @@ fn body_kind_of(kind: TokenKind) -> Option<BodyKind>
 
 /// How the operand at a place begins, if one does.
 #[inline(always)]
-pub fn start_at(tokens: &Tokens<'_>, at: usize) -> Option<Start>
+pub fn start_at(tokens: &Tokens<'_>, at: usize) -> Option<OperandStart>
     ensures value { Starts (slice_get (kinds_of tokens.now) at) result }
     ensures within { IfSome result (λ _. at < length tokens.now) }
     ensures room { IfSome result (λ _. at + 1 < 2 ^ 64) }

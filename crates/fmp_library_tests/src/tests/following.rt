@@ -4,7 +4,7 @@ ghost use Rattle.fmp_board.specs.Boards.{IsAt, blank as blank_of};
 
 use crate::tests::boards::{TWO_TASKS, board_of, one};
 use fmp_base::Event;
-use fmp_hostrun::{Blank, Board, Follower, Seat, Site, Start};
+use fmp_hostrun::{Blank, Board, Follower, FollowerStart, Seat, Site};
 use fmp_image::{Image, build};
 use std::alloc::{AllocError, Global};
 use std::marker::Brand;
@@ -64,7 +64,7 @@ fn followed<S: Site, R: Wait>(
     requires reader { IsAt S.row_id reader.old }
     requires fresh { reader.old.place ≡ 0 }
 {
-    let mut follower = Start::new(alloc, board, text)?.follow(reader);
+    let mut follower = FollowerStart::new(alloc, board, text)?.follow(reader);
     let same = fed_and_pulled(rt, board, seat, &mut follower, text);
     follower.end();
     same

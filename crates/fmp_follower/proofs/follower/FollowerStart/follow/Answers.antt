@@ -1,5 +1,5 @@
 use Rattle.fmp_follower.proofs.Advancing.{starts}
-use Rattle.fmp_follower.proofs.follower.Start.follow.Goals as goal
+use Rattle.fmp_follower.proofs.follower.FollowerStart.follow.Goals as goal
 
 pub invariant_of-result : goal.invariant_of-result
 invariant_of-result g c =
