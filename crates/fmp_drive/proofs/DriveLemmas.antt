@@ -11,10 +11,10 @@ use Rattle.fmp_base.specs.Systems.{SystemTables, found}
 use Rattle.fmp_kernel.specs.KernelViews.{KernelView, view_after}
 use Rattle.std.proofs.Common.{inl, inr}
 use Rattle.std.proofs.lemmas.Bool.{cases_order}
-use Rattle.fmp_drive.specs.declared.trying.Source.{Source}
+use Rattle.fmp_drive.specs.declared.trying.EventSource.{EventSource}
 use Rattle.std.specs.Prelude.{IfSome, MatchOption}
 use Rattle.fmp_trace.specs.StepsLaws.{IsStep}
-use Rattle.fmp_drive.specs.declared.trying.Source.TheVariants as source
+use Rattle.fmp_drive.specs.declared.trying.EventSource.TheVariants as source
 use Rattle.fmp_drive.specs.Driving.{AllStand, TakesFirst, HasTaken, HasRun, IsFirstFrom, IsStirred, event_of, reaction}
 use Rattle.fmp_drive.specs.declared.plan.Wish.{Wish}
 use Rattle.fmp_drive.specs.declared.plan.Wish.TheVariants.{Run, Tick, Interrupt}
@@ -113,14 +113,14 @@ module _ {B C : Type 0} (meaning : B → Meaning C) where
   stands k e h = nothing_here (reaction meaning k e) h
 
   -- one number more that does nothing
-  stand_more : (k : KernelView B C) (source : Source) (first n : ℕ) → reaction meaning k (event_of source n) ≡ Nothing
+  stand_more : (k : KernelView B C) (source : EventSource) (first n : ℕ) → reaction meaning k (event_of source n) ≡ Nothing
       → AllStand meaning k source first n → AllStand meaning k source first (n + 1)
   stand_more k source first n h all = λ m low high. elim (cases_order m n) [
     | inl same ↦ subst (λ (i : ℕ). reaction meaning k (event_of source i) ≡ Nothing) (sym same) h
     | inr o ↦ elim o [ inl below ↦ all m low below | inr above ↦ absurd (omega (arith, high, above)) ]
   ]
 
-  pub stand_step : (k0 k k' : KernelView B C) (source : Source) (first n : ℕ) (e : Event) → k ≡ k0 → e ≡ event_of source n
+  pub stand_step : (k0 k k' : KernelView B C) (source : EventSource) (first n : ℕ) (e : Event) → k ≡ k0 → e ≡ event_of source n
       → effect.Nothing ≡ effect_of (reaction meaning k e) → k' ≡ view_after k (reaction meaning k e)
       → AllStand meaning k0 source first n → (k' ≡ k0) × AllStand meaning k0 source first (n + 1)
   stand_step k0 k k' source first n e same is h v all =
@@ -143,7 +143,7 @@ module _ {B C : Type 0} (meaning : B → Meaning C) where
   kept_step k0 k k' e same h v = taken_step k0 k k' e same (taken_kept (reaction meaning k e) h) v
 
   -- the end lies no farther than the number that is tried next
-  pub stand_end : (k : KernelView B C) (source : Source) (first n end : ℕ) → end ≤ n → AllStand meaning k source first n
+  pub stand_end : (k : KernelView B C) (source : EventSource) (first n end : ℕ) → end ≤ n → AllStand meaning k source first n
       → AllStand meaning k source first end
   stand_end k source first n end le all = λ m low high. all m low (omega (arith, le, high))
 

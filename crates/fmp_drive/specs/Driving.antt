@@ -12,11 +12,11 @@ use Rattle.fmp_drive.specs.declared.driving.DriveStop.{DriveStop}
 use Rattle.fmp_drive.specs.declared.driving.DriveStop.TheVariants.{Quiet, Enough}
 use Rattle.fmp_drive.specs.declared.plan.Wish.{Wish}
 use Rattle.fmp_drive.specs.declared.plan.Wish.TheVariants as wish
-use Rattle.fmp_drive.specs.declared.trying.Source.{Source}
-use Rattle.fmp_drive.specs.declared.trying.Source.TheVariants.{Processor, Interrupt}
+use Rattle.fmp_drive.specs.declared.trying.EventSource.{EventSource}
+use Rattle.fmp_drive.specs.declared.trying.EventSource.TheVariants.{Processor, Interrupt}
 
 -- the event that a processor or an interrupt of this number makes
-abbrev pub event_of : Source → ℕ → Event
+abbrev pub event_of : EventSource → ℕ → Event
 event_of Processor number = event.Run number
 event_of Interrupt number = event.Int number
 
@@ -30,12 +30,12 @@ pub record HasTaken {B C : Type 0} (meaning : B → Meaning C) (before after : K
   pub view : after ≡ view_after before (reaction meaning before e)
 
 -- no event of a source by a number from the first one up to the end, which is left out, does anything
-abbrev pub AllStand : {B C : Type 0} → (B → Meaning C) → KernelView B C → Source → (first end : ℕ) → Type 0
+abbrev pub AllStand : {B C : Type 0} → (B → Meaning C) → KernelView B C → EventSource → (first end : ℕ) → Type 0
 AllStand meaning k source first end =
     (number : ℕ) → first ≤ number → number < end → reaction meaning k (event_of source number) ≡ Nothing
 
 -- the event is one of a source, by such a number, and no event by a smaller one from the first one on does anything
-pub record IsFirstFrom {B C : Type 0} (meaning : B → Meaning C) (k : KernelView B C) (source : Source) (first end : ℕ)
+pub record IsFirstFrom {B C : Type 0} (meaning : B → Meaning C) (k : KernelView B C) (source : EventSource) (first end : ℕ)
     (e : Event) : Type 0 where
   pub number : ℕ
   pub first_on : first ≤ number
@@ -44,7 +44,7 @@ pub record IsFirstFrom {B C : Type 0} (meaning : B → Meaning C) (k : KernelVie
   pub others : AllStand meaning k source first number
 
 -- the kernel has taken the first event of a source, by such a number, that does something; or none does
-abbrev pub TakesFirst : {B C : Type 0} → (B → Meaning C) → (before after : KernelView B C) → Source → (first end : ℕ)
+abbrev pub TakesFirst : {B C : Type 0} → (B → Meaning C) → (before after : KernelView B C) → EventSource → (first end : ℕ)
     → Option Event → Type 0
 TakesFirst meaning before after source first end None = AllStand meaning before source first end × (after ≡ before)
 TakesFirst meaning before after source first end (Some e) =

@@ -2,7 +2,7 @@
 ghost use Rattle.std.specs.Prelude.{◌≡◌, ◌+◌, ◌<◌, ◌≤◌, ◌^◌, length, IfOk, IfSome, MatchOption};
 ghost use Rattle.fmp_trace.specs.StepsLaws.{IsStep};
 ghost use Rattle.fmp_drive.specs.Driving.{AllStand, HasTaken, IsDriven, IsStirred};
-ghost use Rattle.fmp_drive.specs.declared.trying.Source.TheVariants as source;
+ghost use Rattle.fmp_drive.specs.declared.trying.EventSource.TheVariants as source;
 
 use crate::plan::{Plan, Wish};
 use crate::trying::{raise, run_one, tick};

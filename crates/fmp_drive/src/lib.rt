@@ -10,4 +10,4 @@ mod trying;
 pub use driving::{DriveStop, Driven, drive};
 pub use next::{NextRun, next_runs};
 pub use plan::Plan;
-pub use trying::{Source, first_taken};
+pub use trying::{EventSource, first_taken};

@@ -1,6 +1,6 @@
 //! Events that are tried in order until one does something.
 ghost use Rattle.std.specs.Prelude.{◌≡◌, ◌+◌, ◌<◌, ◌≤◌, ◌^◌, IfSome, MatchOption};
-ghost use Rattle.fmp_drive.specs.declared.trying.Source.TheVariants as source;
+ghost use Rattle.fmp_drive.specs.declared.trying.EventSource.TheVariants as source;
 ghost use Rattle.fmp_trace.specs.StepsLaws.{IsStep};
 ghost use Rattle.fmp_drive.specs.Driving.{AllStand, TakesFirst, HasTaken, event_of};
 
@@ -12,7 +12,7 @@ const INTERRUPTS_END: u8 = 33;
 
 /// Whose events are tried.
 #[derive(Clone, Copy)]
-pub enum Source {
+pub enum EventSource {
     /// A processor runs its actor.
     Processor,
     /// An interrupt is requested.
@@ -20,12 +20,12 @@ pub enum Source {
 }
 
 /// The event that a processor or an interrupt of this number makes.
-fn event_of(source: Source, number: u8) -> Event
+fn event_of(source: EventSource, number: u8) -> Event
     ensures { result ≡ event_of source number }
 {
     match source {
-        Source::Processor => Event::Run(number),
-        Source::Interrupt => Event::Int(number),
+        EventSource::Processor => Event::Run(number),
+        EventSource::Interrupt => Event::Int(number),
     }
 }
 
@@ -33,7 +33,7 @@ fn event_of(source: Source, number: u8) -> Event
 /// something, which is then taken; none if none does, and nothing has changed then.
 pub fn first_taken<B: Body>(
     kernel: &mut Kernel<B>,
-    source: Source,
+    source: EventSource,
     first: u8,
     end: u8,
 ) -> Option<Event>
@@ -60,7 +60,7 @@ fn run_from<B: Body>(kernel: &mut Kernel<B>, first: u8, processors: u8) -> Optio
         (AllStand B.meaning kernel.old source.Processor first (processors + 1) × (kernel.new ≡ kernel.old))
         (λ e. HasTaken B.meaning kernel.old kernel.new e × IsStep processors e) }
 {
-    first_taken(kernel, Source::Processor, first, processors + 1)
+    first_taken(kernel, EventSource::Processor, first, processors + 1)
 }
 
 /// The first processor that can do something does it.
@@ -96,7 +96,7 @@ pub fn raise<B: Body>(kernel: &mut Kernel<B>, first: u8, processors: u8) -> Opti
     ensures first { TakesFirst B.meaning kernel.old kernel.new source.Interrupt first 33 result }
     ensures step { IfSome result (IsStep processors) }
 {
-    first_taken(kernel, Source::Interrupt, first, INTERRUPTS_END)
+    first_taken(kernel, EventSource::Interrupt, first, INTERRUPTS_END)
 }
 
 /// The clock advances by one.

@@ -4,6 +4,7 @@
 
 mod cuts;
 mod decoder;
+pub mod decoder_input;
 mod elements;
 mod ending;
 pub mod instructions;
@@ -12,7 +13,6 @@ mod operands;
 pub mod operators;
 pub mod register_file;
 pub mod registers;
-pub mod source;
 pub mod table;
 pub mod verified;
 mod verifier;

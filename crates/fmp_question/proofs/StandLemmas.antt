@@ -5,15 +5,15 @@ use Rattle.fmp_base.specs.Meanings.{Meaning, World}
 use Rattle.fmp_base.specs.States.{KernelState}
 use Rattle.fmp_base.specs.Systems.{SystemTables}
 use Rattle.fmp_drive.specs.Driving.{AllStand, TakesFirst}
-use Rattle.fmp_drive.specs.declared.trying.Source.{Source}
-use Rattle.fmp_drive.specs.declared.trying.Source.TheVariants.{Interrupt, Processor}
+use Rattle.fmp_drive.specs.declared.trying.EventSource.{EventSource}
+use Rattle.fmp_drive.specs.declared.trying.EventSource.TheVariants.{Interrupt, Processor}
 use Rattle.fmp_kernel.specs.KernelViews.{KernelView}
 use Rattle.fmp_schedules.specs.Deadlocks.{IsDeadlock}
 use Rattle.fmp_question.specs.Standing.{NoneDoes, StandsStill}
 
 module _ {B C : Type 0} (meaning : B → Meaning C) where
   -- where no event is taken, none does anything
-  pub none_taken : (before after : KernelView B C) (source : Source) (end : ℕ) (o : Option Event) → None ≡ o
+  pub none_taken : (before after : KernelView B C) (source : EventSource) (end : ℕ) (o : Option Event) → None ≡ o
       → TakesFirst meaning before after source 1 end o → (after ≡ before) × AllStand meaning before source 1 end
   none_taken before after source end None h t = (t.1, t.0)
   none_taken before after source end (Some e) h t = absurd (cc)

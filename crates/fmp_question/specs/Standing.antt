@@ -5,7 +5,7 @@ use Rattle.fmp_base.specs.declared.states.Phase.TheVariants.{Dormant}
 use Rattle.fmp_base.specs.States.{KernelState, task_at}
 use Rattle.fmp_base.specs.Systems.{SystemTables, found}
 use Rattle.fmp_drive.specs.Driving.{AllStand}
-use Rattle.fmp_drive.specs.declared.trying.Source.TheVariants.{Processor, Interrupt}
+use Rattle.fmp_drive.specs.declared.trying.EventSource.TheVariants.{Processor, Interrupt}
 use Rattle.fmp_kernel.specs.KernelViews.{KernelView}
 use Rattle.fmp_schedules.specs.Deadlocks.{IsStuck}
 

@@ -6,7 +6,7 @@ ghost use Rattle.fmp_question.specs.Standing.{IsStuckAt, NoHandlerComes, NoWaitE
 
 use crate::question::Question;
 use fmp_base::Phase;
-use fmp_drive::{Source, first_taken};
+use fmp_drive::{EventSource, first_taken};
 use fmp_kernel::{Body, Kernel};
 use fmp_tasks::KernelState;
 
@@ -105,7 +105,7 @@ pub fn stands_still<B: Body>(kernel: &Kernel<B>, question: &Question) -> bool
 
 /// Whether no event of a source, by the numbers from 1 up to the end, which is left out, does anything. Where one does,
 /// it is taken.
-fn all_stand<B: Body>(kernel: &mut Kernel<B>, source: Source, end: u8) -> bool
+fn all_stand<B: Body>(kernel: &mut Kernel<B>, source: EventSource, end: u8) -> bool
     requires { kernel.old.taken < 2 ^ 20 }
     ensures { IsTrue result → (kernel.new ≡ kernel.old) × AllStand B.meaning kernel.old source 1 end }
 {
@@ -121,13 +121,13 @@ fn none_does<B: Body>(kernel: &mut Kernel<B>, processors: u8, interrupts: bool) 
     requires processors { processors ≤ 8 }
     ensures { IsTrue result → NoneDoes B.meaning kernel.old processors interrupts }
 {
-    if !all_stand(kernel, Source::Processor, processors + 1) {
+    if !all_stand(kernel, EventSource::Processor, processors + 1) {
         return false;
     }
     if !interrupts {
         return true;
     }
-    all_stand(kernel, Source::Interrupt, INTERRUPTS_END)
+    all_stand(kernel, EventSource::Interrupt, INTERRUPTS_END)
 }
 
 /// How many processors a kernel has.

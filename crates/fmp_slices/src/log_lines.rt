@@ -56,14 +56,14 @@ fn append_line(
 
 /// What the lines of a run are made from.
 #[derive(Clone, Copy)]
-struct Source<'a> {
+struct LineSource<'a> {
     alloc: Global,
     sys: &'a System,
     run: &'a Run,
     clock: &'a Clock,
 }
 
-impl Source<'_> {
+impl LineSource<'_> {
     fn name_of(self, actor: Caller) -> Result<Vec<u8>, AllocError> {
         let mut name = Vec::new(self.alloc);
         append_object(self.sys, actor, &mut name)?;
@@ -206,7 +206,7 @@ pub fn standard_log(
     run: &Run,
     clock: &Clock,
 ) -> Result<Vec<u8>, AllocError> {
-    let source = Source {
+    let source = LineSource {
         alloc,
         sys,
         run,

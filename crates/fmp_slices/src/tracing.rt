@@ -15,7 +15,7 @@ const HEAD: &[u8] =
 
 /// What the slices of a run are made from.
 #[derive(Clone, Copy)]
-struct Source<'a> {
+struct SliceSource<'a> {
     alloc: Global,
     sys: &'a System,
     bodies: &'a [Name],
@@ -33,7 +33,7 @@ fn numbered(alloc: Global, words: &[u8], place: u8) -> Result<Vec<u8>, AllocErro
     Ok(text)
 }
 
-impl Source<'_> {
+impl SliceSource<'_> {
     /// When a state begins and ends: that of the end of the run lasts a microsecond behind the last event.
     fn span<S>(self, stay: &Stay<S>) -> (u64, u64) {
         let from = self.clock.at(stay.from);
@@ -197,7 +197,7 @@ pub fn trace_events(
     run: &Run,
     clock: &Clock,
 ) -> Result<Vec<u8>, AllocError> {
-    let source = Source {
+    let source = SliceSource {
         alloc,
         sys,
         bodies,

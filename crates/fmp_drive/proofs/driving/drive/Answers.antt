@@ -5,7 +5,7 @@ use Rattle.fmp_base.specs.declared.events.Event.{Event}
 use Rattle.fmp_base.specs.Meanings.{Meaning}
 use Rattle.fmp_kernel.specs.KernelViews.{KernelView}
 use Rattle.fmp_trace.specs.StepsLaws.{IsStep}
-use Rattle.fmp_drive.specs.declared.trying.Source.TheVariants as source
+use Rattle.fmp_drive.specs.declared.trying.EventSource.TheVariants as source
 use Rattle.fmp_drive.specs.Driving.{AllStand, HasRun}
 use Rattle.fmp_drive.proofs.DriveLemmas.{all_more, run_more, run_none}
 use Rattle.fmp_drive.proofs.driving.drive.Goals as goal

@@ -1,5 +1,5 @@
 use Rattle.std.proofs.Common.{◌+◌}
-use Rattle.fmp_drive.specs.declared.trying.Source.TheVariants as source
+use Rattle.fmp_drive.specs.declared.trying.EventSource.TheVariants as source
 use Rattle.fmp_drive.specs.Driving.{AllStand}
 use Rattle.fmp_drive.proofs.DriveLemmas.{done_after}
 use Rattle.fmp_drive.proofs.trying.run_one.Goals as goal
