@@ -2,7 +2,7 @@
 use Rattle.std.proofs.Common.{◌≡◌, ℕ, Global, String, List, [], ◌∷◌, get_or, map, refl, Result, IfErr, OnOk, subst, subst₂, suc, sym, zero}
 use Rattle.fmp.specs.declared.asking.Cmd.{Cmd}
 use Rattle.fmp.specs.declared.asking.Cmd.TheVariants as cmd
-use Rattle.fmp.specs.declared.perform.Cut.{Cut}
+use Rattle.fmp.specs.declared.perform.CommandCut.{CommandCut}
 use Rattle.fmp.specs.declared.perform.TheConstants.{STORED_CONFIG, STORED_TASKS, STORED_STEPS, STORED_BOUND}
 use Rattle.fmp.specs.Giving.{GivesText, IsWhyCut}
 use Rattle.fmp.specs.Performed.{CarriesOut, Checks, IsWhyNoImage, IsWhyNoRun, IsWhyNot, IsWhyNotRun, RunsImage, RunsTexts, input_at}
@@ -14,7 +14,7 @@ text_read f [] k x e = e
 text_read f (y ∷ ys) zero x e = refl
 text_read f (y ∷ ys) (suc k) x e = text_read f ys k x e
 
-module _ {T A : Type 0} (gave stopped : T → T → List ℕ → Type 0) (from to : T) (r : Result A Cut) (asked : Cmd) (inputs : List (List ℕ)) where
+module _ {T A : Type 0} (gave stopped : T → T → List ℕ → Type 0) (from to : T) (r : Result A CommandCut) (asked : Cmd) (inputs : List (List ℕ)) where
   module _ (first second : List ℕ) (one : first ≡ input_at inputs 0) (two : second ≡ input_at inputs 1) where
     pub check_cut : (config tasks : String Global) → asked ≡ cmd.Check config tasks
         → IfErr r (IsWhyCut gave stopped (IsWhyNoImage first second) (Checks first second) from to)

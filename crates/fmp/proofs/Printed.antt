@@ -1,8 +1,8 @@
 -- What a command has printed that was given to a printer.
 use Rattle.std.proofs.Common.{◌≡◌, ℕ, true, false, ◌==◌, List, [], ◌∷◌, Option, Result, Ok, Err, IfErr, length, arith}
 use Rattle.std.proofs.lemmas.Bool.Decides.{nat_tests}
-use Rattle.fmp.specs.declared.perform.Cut.{Cut}
-use Rattle.fmp.specs.declared.perform.Cut.TheVariants.{Refused, Stopped}
+use Rattle.fmp.specs.declared.perform.CommandCut.{CommandCut}
+use Rattle.fmp.specs.declared.perform.CommandCut.TheVariants.{Refused, Stopped}
 use Rattle.fmp.specs.declared.perform.Exit.{Exit}
 use Rattle.fmp_files.specs.Deeds.{Deed, Does, printed}
 use Rattle.fmp_files.specs.Prints.{IsEmpty, PrintsPieces}
@@ -24,7 +24,7 @@ pieces_one before after piece some h =
     record { prints = prints_one before after piece h; nothing = λ empty. absurd (not_empty piece some empty) }
 
 -- what follows where not all was given
-pub on_cut_then : {A : Type 0} (P Q : Cut → Type 0) (r : Result A Cut) → ((exit : Exit) → P (Refused exit) → Q (Refused exit))
+pub on_cut_then : {A : Type 0} (P Q : CommandCut → Type 0) (r : Result A CommandCut) → ((exit : Exit) → P (Refused exit) → Q (Refused exit))
     → (P Stopped → Q Stopped) → IfErr r P → IfErr r Q
 on_cut_then P Q (Ok a) refused stopped h = tt
 on_cut_then P Q (Err (Refused exit)) refused stopped h = refused exit h

@@ -3,8 +3,8 @@ use Rattle.std.specs.Prelude.{ℕ, ◌≡◌, ◌++◌, Bool, IsTrue, List, [], 
 use Rattle.fmp_files.specs.Deeds.{Deed, Does}
 use Rattle.fmp_files.specs.Prints.{Prints}
 use Rattle.fmp.specs.declared.asking.Cmd.{Cmd}
-use Rattle.fmp.specs.declared.perform.Cut.{Cut}
-use Rattle.fmp.specs.declared.perform.Cut.TheVariants as cut
+use Rattle.fmp.specs.declared.perform.CommandCut.{CommandCut}
+use Rattle.fmp.specs.declared.perform.CommandCut.TheVariants as cut
 use Rattle.fmp.specs.Performed.{CarriesOut, IsWhyNot}
 
 -- the front of what a command prints, given what was read, was printed, and this is left of it
@@ -18,7 +18,7 @@ pub record PrintsFront (cmd : Cmd) (inputs : List (List ℕ)) (before after : Op
 
 -- why not all was printed: the command is not carried out and nothing was, or standard output can fail and has done so
 abbrev pub IsWhyNotPrinted : (can_fail : Bool) → Cmd → (inputs : List (List ℕ)) → (before after : Option (List Deed))
-    → Cut → Type 0
+    → CommandCut → Type 0
 IsWhyNotPrinted can_fail cmd inputs before after (cut.Refused exit) = IsWhyNot cmd inputs exit × Does before [] after
 IsWhyNotPrinted can_fail cmd inputs before after cut.Stopped =
     IsTrue can_fail × ((left : List ℕ) × PrintsFront cmd inputs before after left)

@@ -73,7 +73,7 @@ impl Reason for Exit {
 
 /// Why an outlet was not given all that a command prints.
 #[derive(Drop)]
-pub enum Cut {
+pub enum CommandCut {
     /// The command was not carried out, and the outlet was given nothing.
     Refused(Exit),
     /// The outlet took no more.
@@ -113,25 +113,30 @@ fn no_host(fault: HostFault) -> Exit
 }
 
 /// Gives an outlet a text.
-fn give<T: Outlet>(outlet: &mut T, text: &[u8]) -> Result<(), Cut>
+fn give<T: Outlet>(outlet: &mut T, text: &[u8]) -> Result<(), CommandCut>
     ensures ok { OnOk result (T.gave outlet.old outlet.new text.now) }
     ensures err { IfErr result (IsStopped T.stopped outlet.old outlet.new text.now) }
 {
     match outlet.give(text) {
         Ok(()) => Ok(()),
-        Err(_stopped) => Err(Cut::Stopped),
+        Err(_stopped) => Err(CommandCut::Stopped),
     }
 }
 
 /// Checks two texts, and gives an outlet `ok` where they build an image.
-fn checked<T: Outlet>(alloc: Global, cfg: &[u8], src: &[u8], outlet: &mut T) -> Result<(), Cut>
+fn checked<T: Outlet>(
+    alloc: Global,
+    cfg: &[u8],
+    src: &[u8],
+    outlet: &mut T,
+) -> Result<(), CommandCut>
     ensures ok { OnOk result (GivesText T.gave (Checks cfg.now src.now) outlet.old outlet.new []) }
     ensures err { IfErr result (IsWhyCut T.gave T.stopped (IsWhyNoImage cfg.now src.now) (Checks cfg.now src.now)
         outlet.old outlet.new) }
 {
     match check(alloc, cfg, src) {
         Ok(()) => give(outlet, b"ok\n"),
-        Err(fault) => Err(Cut::Refused(no_image(fault))),
+        Err(fault) => Err(CommandCut::Refused(no_image(fault))),
     }
 }
 
@@ -165,7 +170,7 @@ fn simulated<T: Outlet>(
     steps: &[u8],
     bound: u64,
     outlet: &mut T,
-) -> Result<(), Cut>
+) -> Result<(), CommandCut>
     requires { IsBound bound }
     ensures ok { OnOk result (GivesText T.gave (RunsImage image.now steps.now bound) outlet.old outlet.new []) }
     ensures err { IfErr result (IsWhyCut T.gave T.stopped (IsWhyNoRun image.now steps.now)
@@ -173,8 +178,8 @@ fn simulated<T: Outlet>(
 {
     match sim_into(alloc, image, steps, bound, outlet) {
         Ok(()) => Ok(()),
-        Err(SimCut::Refused(fault)) => Err(Cut::Refused(no_run(fault))),
-        Err(SimCut::Stopped) => Err(Cut::Stopped),
+        Err(SimCut::Refused(fault)) => Err(CommandCut::Refused(no_run(fault))),
+        Err(SimCut::Stopped) => Err(CommandCut::Stopped),
     }
 }
 
@@ -205,7 +210,7 @@ fn built_and_run<T: Outlet>(
     steps: &[u8],
     bound: u64,
     outlet: &mut T,
-) -> Result<(), Cut>
+) -> Result<(), CommandCut>
     requires { IsBound bound }
     ensures ok { OnOk result (GivesText T.gave (RunsTexts cfg.now src.now steps.now bound) outlet.old outlet.new []) }
     ensures err { IfErr result (IsWhyCut T.gave T.stopped (IsWhyNotRun cfg.now src.now steps.now)
@@ -214,7 +219,7 @@ fn built_and_run<T: Outlet>(
     let mut image = Vec::new(alloc);
     match build_image(alloc, cfg, src, &mut image) {
         Ok(()) => simulated(alloc, &image, steps, bound, outlet),
-        Err(fault) => Err(Cut::Refused(no_image(fault))),
+        Err(fault) => Err(CommandCut::Refused(no_image(fault))),
     }
 }
 
@@ -225,7 +230,7 @@ pub fn perform_into<T: Outlet>(
     cmd: &Cmd,
     inputs: &[&[u8]],
     outlet: &mut T,
-) -> Result<(), Cut>
+) -> Result<(), CommandCut>
     requires fileless { output_of cmd.now ≡ None }
     requires inputs { length inputs.now ≡ input_count cmd.now }
     requires ranges { KeepsRanges cmd.now }

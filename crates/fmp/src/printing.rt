@@ -5,7 +5,7 @@ ghost use Rattle.fmp.specs.Commands.{input_count, output_of};
 ghost use Rattle.fmp.specs.Printing.{IsWhyNotPrinted, PrintsFront};
 
 use crate::asking::Cmd;
-use crate::perform::{Cut, perform_into};
+use crate::perform::{CommandCut, perform_into};
 use fmp_engine::{Outlet, Stopped};
 use fmp_files::{Outside, WriteFault};
 use std::alloc::Global;
@@ -62,7 +62,7 @@ pub fn print_performed<O: Outside>(
     outside: &mut O,
     cmd: &Cmd,
     inputs: &[&[u8]],
-) -> Result<(), Cut>
+) -> Result<(), CommandCut>
     requires fileless { output_of cmd.now ≡ None }
     requires inputs { length inputs.now ≡ input_count cmd.now }
     requires ranges { KeepsRanges cmd.now }

@@ -7,7 +7,7 @@ ghost use Rattle.fmp.specs.Runs.{AreInputs, CanBeOver, Ends, EndsCommand, KeepsI
 
 use crate::asking::{Cmd, command, image_over_text, journal_over_image};
 use crate::carrying::{borrowed, carry_out, read_inputs};
-use crate::perform::Cut;
+use crate::perform::CommandCut;
 use crate::printing::print_performed;
 use fmp_files::{Failure, Outside, end, failed, print, refuse, refuse_mistake};
 use std::alloc::{AllocError, Global};
@@ -58,8 +58,8 @@ fn show<O: Outside>(alloc: Global, outside: &mut O, cmd: &Cmd, texts: &[Vec<u8>]
     };
     match print_performed(alloc, outside, cmd, &inputs) {
         Ok(()) => 0,
-        Err(Cut::Refused(exit)) => end(outside, &exit),
-        Err(Cut::Stopped) => end(outside, &failed(alloc, "-")),
+        Err(CommandCut::Refused(exit)) => end(outside, &exit),
+        Err(CommandCut::Stopped) => end(outside, &failed(alloc, "-")),
     }
 }
 

@@ -6,8 +6,8 @@ use Rattle.fmp_base.specs.Runs.{run}
 use Rattle.fmp_base.specs.States.{KernelState}
 use Rattle.fmp_base.specs.Texts.{events_text}
 use Rattle.fmp_kernel.specs.KernelViews.{KernelView}
-use Rattle.fmp_engine.specs.declared.fault.Cut.{Cut}
-use Rattle.fmp_engine.specs.declared.fault.Cut.TheVariants.{Memory, Stopped}
+use Rattle.fmp_engine.specs.declared.fault.TextCut.{TextCut}
+use Rattle.fmp_engine.specs.declared.fault.TextCut.TheVariants.{Memory, Stopped}
 use Rattle.fmp_engine.specs.Outlets.{Given, GivenFront}
 
 -- the text of the lines of the events that a kernel does of a list, numbered on
@@ -28,7 +28,7 @@ pub record HasGiven {T B C : Type 0} (gave : T → T → List ℕ → Type 0) (m
   pub system : after.system ≡ before.system
 
 -- why an outlet was not given all of a text: it was given nothing, or a front and took no more
-abbrev pub IsWhyCut : {T : Type 0} → (gave stopped : T → T → List ℕ → Type 0) → (from to : T) → (whole : List ℕ) → Cut
+abbrev pub IsWhyCut : {T : Type 0} → (gave stopped : T → T → List ℕ → Type 0) → (from to : T) → (whole : List ℕ) → TextCut
     → Type 0
 IsWhyCut gave stopped from to whole Memory = gave from to []
 IsWhyCut gave stopped from to whole Stopped = GivenFront stopped from to whole

@@ -19,7 +19,7 @@ pub enum SimFault {
 
 /// Why an outlet was not given all of a text.
 #[derive(Clone, Copy)]
-pub enum Cut {
+pub enum TextCut {
     /// Memory ran out before the first piece.
     Memory,
     /// The outlet took no more.

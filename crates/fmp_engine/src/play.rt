@@ -13,7 +13,7 @@ ghost use Rattle.fmp_engine.specs.Outlets.{Given, GivenFront};
 ghost use Rattle.fmp_engine.specs.Plays.{HasGiven, IsWhyCut, text_of_events};
 
 use crate::events::Events;
-use crate::fault::Cut;
+use crate::fault::TextCut;
 use crate::outlet::{Outlet, Stopped};
 use fmp_base::{Body, Effect, System, TaskState};
 use fmp_kernel::Kernel;
@@ -189,7 +189,7 @@ fn give_run<B: Body + Drop, E: Events, T: Outlet>(
     text: &mut Vec<u8>,
     states: &mut Vec<TaskState>,
     outlet: &mut T,
-) -> Result<(), Cut>
+) -> Result<(), TextCut>
     requires low { 1 ≤ n }
     requires high { n ≤ 2 ^ 48 }
     requires entries { Entered B.has_entry body (tables_of sys.now) }
@@ -210,10 +210,10 @@ fn give_run<B: Body + Drop, E: Events, T: Outlet>(
             drop(kernel);
             match given {
                 Ok(()) => Ok(()),
-                Err(Stopped) => Err(Cut::Stopped),
+                Err(Stopped) => Err(TextCut::Stopped),
             }
         }
-        Err(_) => Err(Cut::Memory),
+        Err(_) => Err(TextCut::Memory),
     }
 }
 
@@ -226,7 +226,7 @@ pub fn play_into<B: Body + Drop, E: Events, T: Outlet>(
     n: u64,
     events: &mut E,
     outlet: &mut T,
-) -> Result<(), Cut>
+) -> Result<(), TextCut>
     requires low { 1 ≤ n }
     requires high { n ≤ 2 ^ 48 }
     requires entries { Entered B.has_entry body (tables_of sys.now) }
@@ -238,10 +238,10 @@ pub fn play_into<B: Body + Drop, E: Events, T: Outlet>(
         (whole_text (tables_of sys.now) (B.meaning body) n (E.left events.old))) }
 {
     let Ok(mut text) = Vec::with_capacity(alloc, PIECE_ROOM) else {
-        return Err(Cut::Memory);
+        return Err(TextCut::Memory);
     };
     let Ok(mut states) = Vec::with_capacity(alloc, TASKS_MAX) else {
-        return Err(Cut::Memory);
+        return Err(TextCut::Memory);
     };
     give_run(alloc, sys, body, n, events, &mut text, &mut states, outlet)
 }
@@ -268,8 +268,8 @@ pub fn play<B: Body + Drop, E: Events>(
     let before = out.len();
     match play_into(alloc, sys, body, n, events, out) {
         Ok(()) => return Ok(()),
-        Err(Cut::Memory) => {}
-        Err(Cut::Stopped) => out.truncate(before),
+        Err(TextCut::Memory) => {}
+        Err(TextCut::Stopped) => out.truncate(before),
     }
     Err(AllocError)
 }

@@ -5,7 +5,7 @@ ghost use Rattle.fmp_image.specs.Building.{Builds};
 ghost use Rattle.fmp_engine.specs.Simulations.{IsWhySim, IsWhySimCut, PrintsTexts, Simulates, SimulatesInto};
 ghost use Rattle.fmp_image_bytes.specs.Images.{ImageTables, Spells};
 
-use crate::fault::{Cut, SimCut, SimFault};
+use crate::fault::{SimCut, SimFault, TextCut};
 use crate::outlet::Outlet;
 use crate::play::play_into;
 use fmp_image::laws::built_image_prints_text;
@@ -36,8 +36,8 @@ fn simulate_image<T: Outlet>(
     };
     match play_into(alloc, system, image.vm(), n, &mut events, outlet) {
         Ok(()) => Ok(()),
-        Err(Cut::Memory) => Err(SimCut::Refused(SimFault::Memory)),
-        Err(Cut::Stopped) => Err(SimCut::Stopped),
+        Err(TextCut::Memory) => Err(SimCut::Refused(SimFault::Memory)),
+        Err(TextCut::Stopped) => Err(SimCut::Stopped),
     }
 }
 

@@ -21,7 +21,7 @@ use crate::searching::run_explore;
 use crate::targeting::run_target;
 use crate::telling::{print_made, print_run};
 use crate::texts::{print_fault, run_step, run_texts};
-use crate::timeline::{Cut, Picture, Titled};
+use crate::timeline::{Picture, PictureCut, Titled};
 use crate::timing::Stats;
 use crate::viewing::Format;
 use crate::why::Why;
@@ -245,7 +245,7 @@ fn run_timeline<O: Outside>(
 }
 
 /// Says which events a picture has, where it has not all that were asked for.
-fn say_cut<O: Outside>(outside: &mut O, cut: Option<Cut>) {
+fn say_cut<O: Outside>(outside: &mut O, cut: Option<PictureCut>) {
     if let Some(cut) = cut {
         outside.say(format_args!(
             "events {} to {} of {} to {} are drawn; --from {} draws those behind them\n",

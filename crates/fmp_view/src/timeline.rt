@@ -36,7 +36,7 @@ pub enum TimelineFault {
 
 /// Which events of those that are asked for a picture has, where it has not all of them.
 #[derive(Clone, Copy)]
-pub struct Cut {
+pub struct PictureCut {
     pub first: u32,
     pub last: u32,
     /// The last event that was asked for, and that the run has.
@@ -47,16 +47,16 @@ pub struct Cut {
 #[derive(Drop)]
 pub struct Picture {
     pub bytes: Vec<u8>,
-    pub cut: Option<Cut>,
+    pub cut: Option<PictureCut>,
 }
 
 /// Whether a page has not all events that are asked for, of a run whose last event is this.
-fn cut_of(page: &Page, drawing: Drawing, last: u32) -> Option<Cut> {
+fn cut_of(page: &Page, drawing: Drawing, last: u32) -> Option<PictureCut> {
     let end = drawing.choice.last.min(last);
     if page.last >= end {
         return None;
     }
-    Some(Cut {
+    Some(PictureCut {
         first: page.first,
         last: page.last,
         end,
