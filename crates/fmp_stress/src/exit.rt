@@ -8,7 +8,7 @@ use std::fmt;
 
 /// Why the program ends with nothing printed: its message is one line.
 #[derive(Drop)]
-pub enum Exit {
+pub enum StressExit {
     /// The bytes spell no image.
     Load(LoadFault),
     /// There is no such board.
@@ -17,32 +17,32 @@ pub enum Exit {
     Failed(Failure),
 }
 
-impl From<Failure> for Exit {
+impl From<Failure> for StressExit {
     fn from(failure: Failure) -> Self {
-        Exit::Failed(failure)
+        StressExit::Failed(failure)
     }
 }
 
-impl fmt::Display for Exit {
+impl fmt::Display for StressExit {
     fn fmt<W: fmt::Write>(&self, f: &mut fmt::Formatter<W>) -> fmt::Result {
         match self {
-            Exit::Load(fault) => write!(f, "{fault}"),
-            Exit::Board(fault) => write!(f, "board: {fault}"),
-            Exit::Failed(failure) => write!(f, "{failure}"),
+            StressExit::Load(fault) => write!(f, "{fault}"),
+            StressExit::Board(fault) => write!(f, "board: {fault}"),
+            StressExit::Failed(failure) => write!(f, "{failure}"),
         }
     }
 }
 
-impl Reason for Exit {
+impl Reason for StressExit {
     ghost status_of = { λ exit. status_of exit };
 
     /// The status that the program ends with: 1 for a fault of what was read or if there is no such board, 3 for a
     /// failure or if memory ran out.
     fn status(&self) -> u8 {
         match self {
-            Exit::Load(LoadFault::Memory) | Exit::Board(BoardFault::Memory) => 3,
-            Exit::Load(_) | Exit::Board(_) => 1,
-            Exit::Failed(_) => 3,
+            StressExit::Load(LoadFault::Memory) | StressExit::Board(BoardFault::Memory) => 3,
+            StressExit::Load(_) | StressExit::Board(_) => 1,
+            StressExit::Failed(_) => 3,
         }
     }
 }

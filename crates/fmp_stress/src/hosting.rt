@@ -3,7 +3,7 @@ ghost use Rattle.std.specs.Prelude.{◌≡◌, ◌<◌, All, IfOk, length};
 ghost use Rattle.fmp_board.specs.Boards.{IsAt, blank as blank_of};
 
 use crate::asking::Plan;
-use crate::exit::Exit;
+use crate::exit::StressExit;
 use crate::place::{Answers, Place, Record};
 use crate::threads::{Party, Team, Times, Worked, run};
 use fmp_base::Event;
@@ -223,10 +223,10 @@ pub fn host<R: Threads + Wait + Clock + Sync>(
     alloc: Global,
     image: &Image,
     plan: &Plan,
-) -> Result<Hosted, Exit> {
+) -> Result<Hosted, StressExit> {
     match run_board(rt, alloc, image, plan) {
         Ok(Ok(hosted)) => Ok(hosted),
-        Ok(Err(error)) => Err(Exit::Failed(Failure::Memory(error))),
-        Err(fault) => Err(Exit::Board(fault)),
+        Ok(Err(error)) => Err(StressExit::Failed(Failure::Memory(error))),
+        Err(fault) => Err(StressExit::Board(fault)),
     }
 }

@@ -1,6 +1,6 @@
 //! A run of the program, from the words of its command line to its status.
 use crate::asking::{Asked, asked_of};
-use crate::exit::Exit;
+use crate::exit::StressExit;
 use crate::hosting::{Hosted, host};
 use crate::place::Record;
 use fmp_base::Event;
@@ -14,10 +14,10 @@ use std::thread::Threads;
 use std::time::Clock;
 
 /// The image of a file.
-fn read_image<O: Outside>(alloc: Global, outside: &O, name: &str) -> Result<Image, Exit> {
+fn read_image<O: Outside>(alloc: Global, outside: &O, name: &str) -> Result<Image, StressExit> {
     match load(alloc, &read_file(alloc, outside, name, None)?) {
         Ok(image) => Ok(image),
-        Err(fault) => Err(Exit::Load(fault)),
+        Err(fault) => Err(StressExit::Load(fault)),
     }
 }
 
@@ -144,7 +144,7 @@ fn host_image<O: Outside, R: Threads + Wait + Clock + Sync>(
     outside: &mut O,
     image: &Image,
     asked: Asked<'_>,
-) -> Result<String, Exit> {
+) -> Result<String, StressExit> {
     let hosted = host(rt, alloc, image, &asked.plan)?;
     Ok(write_all(alloc, outside, asked, &hosted)?)
 }
@@ -155,7 +155,7 @@ fn carry_out<O: Outside, R: Threads + Wait + Clock + Sync>(
     alloc: Global,
     outside: &mut O,
     asked: Asked<'_>,
-) -> Result<String, Exit> {
+) -> Result<String, StressExit> {
     let image = read_image(alloc, outside, asked.image)?;
     host_image(rt, alloc, outside, &image, asked)
 }

@@ -3,11 +3,11 @@ use Rattle.std.specs.Prelude.{ℕ}
 use Rattle.fmp_engine.specs.declared.fault.SimFault.TheVariants as sim
 use Rattle.fmp_lex.specs.declared.fault.BuildFault.TheVariants as build
 use Rattle.fmp_recording.specs.declared.faults.RecordingFault.TheVariants as recording
-use Rattle.fmp_view.specs.declared.exit.Exit.{Exit}
-use Rattle.fmp_view.specs.declared.exit.Exit.TheVariants.{Sim, Configuration, Recording, Picture, Expect, Failed}
+use Rattle.fmp_view.specs.declared.exit.ViewExit.{ViewExit}
+use Rattle.fmp_view.specs.declared.exit.ViewExit.TheVariants.{Sim, Configuration, Recording, Picture, Expect, Failed}
 
 -- 1 for a fault of what was read, 2 if the run has no such picture, 3 for a failure or if memory ran out
-abbrev pub status_of : Exit → ℕ
+abbrev pub status_of : ViewExit → ℕ
 status_of (Sim sim.Memory) = 3
 status_of (Sim fault) = 1
 status_of (Configuration build.Memory) = 3

@@ -6,7 +6,7 @@ ghost use Rattle.fmp_frames.specs.Values.{values_of};
 
 use crate::calling::calls_on;
 use crate::driving::driven;
-use crate::exit::{Exit, memory};
+use crate::exit::{ViewExit, memory};
 use crate::looking::Look;
 use crate::open_image::OpenImage;
 use crate::opened::Opened;
@@ -246,7 +246,7 @@ impl Look for Output {
         opened: &O,
         events: &[T],
         _times: &[Option<u64>],
-    ) -> Result<Vec<u8>, Exit> {
+    ) -> Result<Vec<u8>, ViewExit> {
         output_of(alloc, opened, events, *self).map_err(|error| memory(error))
     }
 }

@@ -1,7 +1,7 @@
 //! Two runs of a system side by side: the first event in which they differ.
 ghost use Rattle.std.specs.Prelude.{◌≤◌, ◌^◌, IfOk, length};
 
-use crate::exit::{Exit, memory};
+use crate::exit::{ViewExit, memory};
 use crate::looking::recording_of;
 use crate::open_image::OpenImage;
 use crate::open_system::OpenSystem;
@@ -152,14 +152,14 @@ pub fn diff(
     a: &[u8],
     b: &[u8],
     bound: u64,
-) -> Result<Option<Vec<u8>>, Exit> {
+) -> Result<Option<Vec<u8>>, ViewExit> {
     match image_of(alloc, image) {
         Ok(image) => {
             let difference = difference_over(alloc, &image, a, b, bound);
             drop(image);
-            difference.map_err(|fault| Exit::Sim(fault))
+            difference.map_err(|fault| ViewExit::Sim(fault))
         }
-        Err(fault) => Err(Exit::Sim(fault)),
+        Err(fault) => Err(ViewExit::Sim(fault)),
     }
 }
 
@@ -169,7 +169,7 @@ fn difference_recorded(
     opened: &OpenSystem,
     a: &[u8],
     b: &[u8],
-) -> Result<Option<Vec<u8>>, Exit> {
+) -> Result<Option<Vec<u8>>, ViewExit> {
     let processors = opened.system().processors;
     let a = recording_of(alloc, a, processors)?;
     let b = recording_of(alloc, b, processors)?;
@@ -182,13 +182,13 @@ pub fn diff_recordings(
     cfg: &[u8],
     a: &[u8],
     b: &[u8],
-) -> Result<Option<Vec<u8>>, Exit> {
+) -> Result<Option<Vec<u8>>, ViewExit> {
     match OpenSystem::new(alloc, cfg) {
         Ok(opened) => {
             let difference = difference_recorded(alloc, &opened, a, b);
             drop(opened);
             difference
         }
-        Err(fault) => Err(Exit::Configuration(fault)),
+        Err(fault) => Err(ViewExit::Configuration(fault)),
     }
 }

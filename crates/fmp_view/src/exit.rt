@@ -11,7 +11,7 @@ use std::fmt;
 
 /// Why the program ends with nothing printed: its message is one line.
 #[derive(Drop)]
-pub enum Exit {
+pub enum ViewExit {
     /// The image is not run.
     Sim(SimFault),
     /// The configuration of a recorded run has this fault.
@@ -26,51 +26,54 @@ pub enum Exit {
     Failed(Failure),
 }
 
-impl From<Failure> for Exit {
+impl From<Failure> for ViewExit {
     fn from(failure: Failure) -> Self {
-        Exit::Failed(failure)
+        ViewExit::Failed(failure)
     }
 }
 
-impl fmt::Display for Exit {
+impl fmt::Display for ViewExit {
     fn fmt<W: fmt::Write>(&self, f: &mut fmt::Formatter<W>) -> fmt::Result {
         match self {
-            Exit::Sim(fault) => write!(f, "{fault}"),
-            Exit::Configuration(fault) => write!(f, "{fault}"),
-            Exit::Recording(fault) => write!(f, "{fault}"),
-            Exit::Picture(fault) => write!(f, "{fault}"),
-            Exit::Expect(text) => write!(f, "{text}"),
-            Exit::Failed(failure) => write!(f, "{failure}"),
+            ViewExit::Sim(fault) => write!(f, "{fault}"),
+            ViewExit::Configuration(fault) => write!(f, "{fault}"),
+            ViewExit::Recording(fault) => write!(f, "{fault}"),
+            ViewExit::Picture(fault) => write!(f, "{fault}"),
+            ViewExit::Expect(text) => write!(f, "{text}"),
+            ViewExit::Failed(failure) => write!(f, "{failure}"),
         }
     }
 }
 
-impl Reason for Exit {
+impl Reason for ViewExit {
     ghost status_of = { λ exit. status_of exit };
 
     /// The status that the program ends with: 1 for a fault of what was read, 2 if the run has no such picture, 3 for a
     /// failure or if memory ran out.
     fn status(&self) -> u8 {
         match self {
-            Exit::Sim(SimFault::Memory)
-            | Exit::Configuration(BuildFault::Memory)
-            | Exit::Recording(RecordingFault::Memory)
-            | Exit::Failed(_) => 3,
-            Exit::Sim(_) | Exit::Configuration(_) | Exit::Recording(_) | Exit::Expect(_) => 1,
-            Exit::Picture(_) => 2,
+            ViewExit::Sim(SimFault::Memory)
+            | ViewExit::Configuration(BuildFault::Memory)
+            | ViewExit::Recording(RecordingFault::Memory)
+            | ViewExit::Failed(_) => 3,
+            ViewExit::Sim(_)
+            | ViewExit::Configuration(_)
+            | ViewExit::Recording(_)
+            | ViewExit::Expect(_) => 1,
+            ViewExit::Picture(_) => 2,
         }
     }
 }
 
 /// Out of memory, as a reason.
-pub fn memory(error: AllocError) -> Exit {
-    Exit::Failed(Failure::Memory(error))
+pub fn memory(error: AllocError) -> ViewExit {
+    ViewExit::Failed(Failure::Memory(error))
 }
 
 /// Why nothing of a run is printed or drawn.
-pub fn exit_of(fault: TimelineFault) -> Exit {
+pub fn exit_of(fault: TimelineFault) -> ViewExit {
     match fault {
-        TimelineFault::Sim(fault) => Exit::Sim(fault),
-        fault => Exit::Picture(fault),
+        TimelineFault::Sim(fault) => ViewExit::Sim(fault),
+        fault => ViewExit::Picture(fault),
     }
 }

@@ -4,7 +4,7 @@ ghost use Rattle.fmp_base.specs.Runs.{task_state};
 ghost use Rattle.fmp_frames.specs.Frames.{each};
 ghost use Rattle.fmp_view.specs.Expects as spec;
 
-use crate::exit::{Exit, memory};
+use crate::exit::{ViewExit, memory};
 use crate::flaws::flaw_text;
 use crate::looking::Look;
 use crate::opened::Opened;
@@ -161,15 +161,15 @@ fn checked<O: Opened, T: Coming<O::Bodies>>(
 }
 
 /// What is said of a flaw of the line of this number of a text.
-fn flawed(alloc: Global, sys: &System, text: &[u8], number: usize, flaw: Flaw) -> Exit {
+fn flawed(alloc: Global, sys: &System, text: &[u8], number: usize, flaw: Flaw) -> ViewExit {
     match flaw_text(alloc, sys, number, line_of(text, number), flaw) {
-        Ok(text) => Exit::Expect(text),
+        Ok(text) => ViewExit::Expect(text),
         Err(error) => memory(error),
     }
 }
 
 /// The expectations of a text for a system.
-fn expected_of(alloc: Global, sys: &System, text: &[u8]) -> Result<Vec<Expected>, Exit> {
+fn expected_of(alloc: Global, sys: &System, text: &[u8]) -> Result<Vec<Expected>, ViewExit> {
     match read_expectations(alloc, sys, text) {
         Ok(expected) => Ok(expected),
         Err(ExpectFault::Memory) => Err(memory(AllocError)),
@@ -194,7 +194,7 @@ impl Look for Expectations<'_> {
         opened: &O,
         events: &[T],
         _times: &[Option<u64>],
-    ) -> Result<Option<Vec<u8>>, Exit> {
+    ) -> Result<Option<Vec<u8>>, ViewExit> {
         let expected = expected_of(alloc, opened.system(), self.text)?;
         checked(alloc, opened, events, self.name, self.text, &expected).map_err(|e| memory(e))
     }

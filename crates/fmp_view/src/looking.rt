@@ -1,7 +1,7 @@
 //! Looks at runs: of an image over a steps text, and of a recording.
 ghost use Rattle.std.specs.Prelude.{◌≤◌, ◌^◌, IfOk, length};
 
-use crate::exit::{Exit, memory};
+use crate::exit::{ViewExit, memory};
 use crate::open_image::OpenImage;
 use crate::open_system::OpenSystem;
 use crate::opened::Opened;
@@ -26,7 +26,7 @@ pub trait Look {
         opened: &O,
         events: &[T],
         times: &[Option<u64>],
-    ) -> Result<Self::Made, Exit>
+    ) -> Result<Self::Made, ViewExit>
         requires { length events.now ≤ 2 ^ 31 };
 }
 
@@ -37,10 +37,10 @@ fn over_steps<L: Look>(
     image: &Image,
     steps: &[u8],
     bound: u64,
-) -> Result<L::Made, Exit> {
+) -> Result<L::Made, ViewExit> {
     match events_of(alloc, steps, image.system().processors) {
         Ok(events) => look.of(alloc, &OpenImage::new(image, bound), &events, &[]),
-        Err(fault) => Err(Exit::Sim(fault)),
+        Err(fault) => Err(ViewExit::Sim(fault)),
     }
 }
 
@@ -51,45 +51,45 @@ pub fn look_at_image<L: Look>(
     image: &[u8],
     steps: &[u8],
     bound: u64,
-) -> Result<L::Made, Exit> {
+) -> Result<L::Made, ViewExit> {
     match image_of(alloc, image) {
         Ok(image) => {
             let made = over_steps(alloc, look, &image, steps, bound);
             drop(image);
             made
         }
-        Err(fault) => Err(Exit::Sim(fault)),
+        Err(fault) => Err(ViewExit::Sim(fault)),
     }
 }
 
 /// What was recorded, if it is no more than a kernel takes.
-fn within_most(recording: Vec<Given>) -> Result<Vec<Given>, Exit>
+fn within_most(recording: Vec<Given>) -> Result<Vec<Given>, ViewExit>
     ensures { IfOk result (λ kept. length kept.items ≤ 2 ^ 31) }
 {
     if recording.len() > MOST_LINES as usize {
         let line = MOST_LINES + 1;
-        return Err(Exit::Recording(RecordingFault::TooMany { line }));
+        return Err(ViewExit::Recording(RecordingFault::TooMany { line }));
     }
     Ok(recording)
 }
 
 /// What a recording of a system of this many processors says.
-pub fn recording_of(alloc: Global, text: &[u8], processors: u8) -> Result<Vec<Given>, Exit>
+pub fn recording_of(alloc: Global, text: &[u8], processors: u8) -> Result<Vec<Given>, ViewExit>
     ensures { IfOk result (λ recording. length recording.items ≤ 2 ^ 31) }
 {
     match read_recording(alloc, text, processors) {
         Ok(recording) => within_most(recording),
-        Err(fault) => Err(Exit::Recording(fault)),
+        Err(fault) => Err(ViewExit::Recording(fault)),
     }
 }
 
 /// When each line of a recording came, where it says so.
-fn times_of(alloc: Global, recording: &[u8]) -> Result<Vec<Option<u64>>, Exit> {
+fn times_of(alloc: Global, recording: &[u8]) -> Result<Vec<Option<u64>>, ViewExit> {
     read_times(alloc, recording).map_err(|error| memory(error))
 }
 
 /// When setup and each event of a run came; nothing where that is not known.
-pub fn known_of(alloc: Global, times: &[Option<u64>]) -> Result<Vec<u64>, Exit> {
+pub fn known_of(alloc: Global, times: &[Option<u64>]) -> Result<Vec<u64>, ViewExit> {
     known_times(alloc, times).map_err(|error| memory(error))
 }
 
@@ -99,7 +99,7 @@ fn over_recording<L: Look>(
     look: &L,
     opened: &OpenSystem,
     recording: &[u8],
-) -> Result<L::Made, Exit> {
+) -> Result<L::Made, ViewExit> {
     let events = recording_of(alloc, recording, opened.system().processors)?;
     let times = times_of(alloc, recording)?;
     look.of(alloc, opened, &events, &times)
@@ -111,13 +111,13 @@ pub fn look_at_recording<L: Look>(
     look: &L,
     cfg: &[u8],
     recording: &[u8],
-) -> Result<L::Made, Exit> {
+) -> Result<L::Made, ViewExit> {
     match OpenSystem::new(alloc, cfg) {
         Ok(opened) => {
             let made = over_recording(alloc, look, &opened, recording);
             drop(opened);
             made
         }
-        Err(fault) => Err(Exit::Configuration(fault)),
+        Err(fault) => Err(ViewExit::Configuration(fault)),
     }
 }

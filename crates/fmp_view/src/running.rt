@@ -10,7 +10,7 @@ use crate::asking::{
 };
 use crate::commands::{DrivenText, Output, code, steps};
 use crate::comparing::{diff, diff_recordings};
-use crate::exit::Exit;
+use crate::exit::ViewExit;
 use crate::expecting::Expectations;
 use crate::exporting::run_export;
 use crate::faults::Form;
@@ -33,8 +33,8 @@ use std::io::{Input, IsTerminal};
 use std::rt::Files;
 
 /// What was made of files, or the fault of what was read.
-fn or_fault<T>(made: Result<T, SimFault>) -> Result<T, Exit> {
-    made.map_err(|fault| Exit::Sim(fault))
+fn or_fault<T>(made: Result<T, SimFault>) -> Result<T, ViewExit> {
+    made.map_err(|fault| ViewExit::Sim(fault))
 }
 
 /// What a drive prints, and how it ended.
@@ -45,7 +45,7 @@ fn driven_steps<O: Outside>(
     events: u32,
     seed: Option<u64>,
     bound: u64,
-) -> Result<DrivenText, Exit> {
+) -> Result<DrivenText, ViewExit> {
     let image = read_file(alloc, outside, image, None)?;
     or_fault(steps(alloc, &image, events, seed, bound))
 }
@@ -74,7 +74,7 @@ fn made_of_run<O: Outside, L: Look>(
     outside: &O,
     run: Run<'_>,
     look: &L,
-) -> Result<L::Made, Exit> {
+) -> Result<L::Made, ViewExit> {
     let (one, other) = run.files();
     let (one, other) = read_both(alloc, outside, one, other)?;
     match run {
@@ -103,7 +103,7 @@ fn waves_of<O: Outside>(
     outside: &O,
     run: Run<'_>,
     format: Format,
-) -> Result<Vec<u8>, Exit> {
+) -> Result<Vec<u8>, ViewExit> {
     match format {
         Format::Dump => made_of_run(alloc, outside, run, &Output::Dump),
         Format::Trace(format) => made_of_run(alloc, outside, run, &format),
@@ -148,7 +148,7 @@ fn difference_over<O: Outside>(
     outside: &O,
     system: &[u8],
     runs: Runs<'_>,
-) -> Result<Option<Vec<u8>>, Exit> {
+) -> Result<Option<Vec<u8>>, ViewExit> {
     let (a, b) = read_both(alloc, outside, runs.a, runs.b)?;
     match runs.bound {
         Some(bound) => diff(alloc, system, &a, &b, bound),
@@ -161,7 +161,7 @@ fn difference_of<O: Outside>(
     alloc: Global,
     outside: &O,
     runs: Runs<'_>,
-) -> Result<Option<Vec<u8>>, Exit> {
+) -> Result<Option<Vec<u8>>, ViewExit> {
     let system = read_file(alloc, outside, runs.system, None)?;
     difference_over(alloc, outside, &system, runs)
 }
@@ -172,7 +172,7 @@ fn failure_of<O: Outside>(
     outside: &O,
     run: Run<'_>,
     name: &str,
-) -> Result<Option<Vec<u8>>, Exit> {
+) -> Result<Option<Vec<u8>>, ViewExit> {
     let text = read_file(alloc, outside, name, None)?;
     let expectations = Expectations { name, text: &text };
     made_of_run(alloc, outside, run, &expectations)
@@ -182,7 +182,7 @@ fn failure_of<O: Outside>(
 fn print_difference<O: Outside>(
     alloc: Global,
     outside: &mut O,
-    made: Result<Option<Vec<u8>>, Exit>,
+    made: Result<Option<Vec<u8>>, ViewExit>,
 ) -> u8 {
     match made {
         Ok(Some(text)) => match print(alloc, outside, &text) {
@@ -238,7 +238,7 @@ fn run_timeline<O: Outside>(
     outside: &O,
     run: Run<'_>,
     drawing: Drawing,
-) -> Result<Picture, Exit> {
+) -> Result<Picture, ViewExit> {
     let (system, _) = run.files();
     let title = title_of(system).as_bytes();
     made_of_run(alloc, outside, run, &Titled { title, drawing })

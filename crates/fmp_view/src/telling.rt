@@ -1,6 +1,6 @@
 //! What is printed of a run, and what is said of how its drive ended.
 use crate::commands::Ending;
-use crate::exit::Exit;
+use crate::exit::ViewExit;
 use fmp_base::Call;
 use fmp_drive::{DriveStop, NextRun};
 use fmp_files::{Failure, Outside, end, print};
@@ -66,7 +66,11 @@ pub fn print_run<O: Outside>(
 }
 
 /// Prints a text that was made, or says why there is none.
-pub fn print_made<O: Outside>(alloc: Global, outside: &mut O, made: Result<Vec<u8>, Exit>) -> u8 {
+pub fn print_made<O: Outside>(
+    alloc: Global,
+    outside: &mut O,
+    made: Result<Vec<u8>, ViewExit>,
+) -> u8 {
     match made {
         Ok(text) => print(alloc, outside, &text),
         Err(exit) => end(outside, &exit),

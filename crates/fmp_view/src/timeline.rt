@@ -4,7 +4,7 @@ ghost use Rattle.fmp_timeline.specs.Shown.{tasks_shown};
 ghost use Rattle.fmp_frames.specs.Shown.{WasShown};
 
 use crate::asking::Drawing;
-use crate::exit::{Exit, exit_of, memory};
+use crate::exit::{ViewExit, exit_of, memory};
 use crate::looking::{Look, known_of};
 use crate::opened::Opened;
 use crate::recording::Recorder;
@@ -239,7 +239,7 @@ impl Look for Titled<'_> {
         opened: &O,
         events: &[T],
         times: &[Option<u64>],
-    ) -> Result<Picture, Exit> {
+    ) -> Result<Picture, ViewExit> {
         let times = known_of(alloc, times)?;
         match run_of(alloc, opened, events, self.drawing.objects) {
             Ok(run) => {

@@ -4,7 +4,7 @@ ghost use Rattle.fmp_frames.specs.Shown.{WasShown};
 ghost use Rattle.fmp_frames.specs.Timing.{first_timed, timed_of};
 
 use crate::commands::{Output, output_of};
-use crate::exit::{Exit, memory};
+use crate::exit::{ViewExit, memory};
 use crate::looking::Look;
 use crate::opened::Opened;
 use fmp_base::System;
@@ -122,7 +122,7 @@ impl Look for Stats {
         opened: &O,
         events: &[T],
         times: &[Option<u64>],
-    ) -> Result<Vec<u8>, Exit> {
+    ) -> Result<Vec<u8>, ViewExit> {
         stats_of(alloc, opened, events, times).map_err(|error| memory(error))
     }
 }

@@ -6,7 +6,7 @@ ghost use Rattle.fmp_frames.specs.Shown.{WasShown};
 ghost use Rattle.fmp_view.specs.Traces as spec;
 ghost use Rattle.fmp_view.specs.Traces.{IsBegun, IsTrace, Traces, lines_text, states_text};
 
-use crate::exit::{Exit, memory};
+use crate::exit::{ViewExit, memory};
 use crate::faults::Form;
 use crate::looking::Look;
 use crate::opened::Opened;
@@ -239,7 +239,7 @@ impl Look for Form {
         opened: &O,
         events: &[T],
         _times: &[Option<u64>],
-    ) -> Result<Recorded, Exit> {
+    ) -> Result<Recorded, ViewExit> {
         told_of(alloc, *self, opened, events).map_err(|error| memory(error))
     }
 }

@@ -1,7 +1,7 @@
 //! A run in the formats of trace viewers.
 ghost use Rattle.std.specs.Prelude.{◌≤◌, ◌^◌, length};
 
-use crate::exit::{Exit, memory};
+use crate::exit::{ViewExit, memory};
 use crate::looking::Look;
 use crate::opened::Opened;
 use crate::timeline::run_of;
@@ -85,7 +85,7 @@ impl Look for TraceFormat {
         opened: &O,
         events: &[T],
         times: &[Option<u64>],
-    ) -> Result<Vec<u8>, Exit> {
+    ) -> Result<Vec<u8>, ViewExit> {
         written_of(alloc, opened, events, times, *self).map_err(|error| memory(error))
     }
 }

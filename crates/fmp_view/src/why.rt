@@ -1,7 +1,7 @@
 //! Why nothing goes on after an event of a run.
 ghost use Rattle.std.specs.Prelude.{◌≤◌, ◌^◌, IfOk, length};
 
-use crate::exit::{Exit, exit_of, memory};
+use crate::exit::{ViewExit, exit_of, memory};
 use crate::looking::Look;
 use crate::opened::Opened;
 use crate::timeline::TimelineFault;
@@ -58,7 +58,7 @@ fn place_of<O: Opened, T: Coming<O::Bodies>>(
     opened: &O,
     events: &[T],
     at: Option<u32>,
-) -> Result<usize, Exit>
+) -> Result<usize, ViewExit>
     requires { length events.now ≤ 2 ^ 31 }
     ensures { IfOk result (λ place. place ≤ length events.now) }
 {
@@ -87,7 +87,7 @@ impl Look for Why {
         opened: &O,
         events: &[T],
         _times: &[Option<u64>],
-    ) -> Result<Vec<u8>, Exit> {
+    ) -> Result<Vec<u8>, ViewExit> {
         let place = place_of(alloc, opened, events, self.at)?;
         why_of(alloc, opened, &events[..place]).map_err(|error| memory(error))
     }
