@@ -1,7 +1,7 @@
 //! The source of all parts of a picture, and where a text can stand.
 use crate::strips::Lane;
 use fmp_base::System;
-use fmp_timeline::{Deeds, Look, Page, Run, Span, Tenths, all_looks, px, width};
+use fmp_timeline::{BarLook, Deeds, Page, Run, Span, Tenths, all_looks, px, width};
 use std::alloc::{AllocError, Global};
 
 /// The source of a picture.
@@ -14,7 +14,7 @@ pub struct Scene<'a> {
     /// When setup and the events came, in microseconds; empty if that is not known.
     pub times: &'a [u64],
     /// The looks of the tasks.
-    pub looks: Vec<Look>,
+    pub looks: Vec<BarLook>,
 }
 
 impl<'a> Scene<'a> {
@@ -57,8 +57,8 @@ impl<'a> Scene<'a> {
     }
 
     /// The look of a task.
-    fn look(&self, task: u8) -> Look {
-        let first = Look {
+    fn look(&self, task: u8) -> BarLook {
+        let first = BarLook {
             colour: 0,
             hatch: 0,
         };

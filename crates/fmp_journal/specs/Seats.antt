@@ -3,7 +3,7 @@ use Rattle.std.specs.Prelude.{◌≡◌, ℕ, ◌+◌, ◌^◌, ◌<◌, ◌≤�
 use Rattle.atomic_table.specs.Seated.{TableId}
 use Rattle.fmp_base.specs.declared.events.Event.{Event}
 use Rattle.fmp_journal.specs.declared.entry.JournalEntry.{JournalEntry}
-use Rattle.fmp_journal.specs.declared.knowledge.Look.{Look}
+use Rattle.fmp_journal.specs.declared.knowledge.SeatLook.{SeatLook}
 use Rattle.fmp_journal.specs.declared.knowledge.Limits.{Limits}
 use Rattle.fmp_journal.specs.declared.knowledge.SeenJournal.{SeenJournal}
 use Rattle.fmp_journal.specs.declared.knowledge.View.{View}
@@ -30,7 +30,7 @@ pub record SeatState : Type 0 where
   pub seen : List JournalEntry
   pub mine : ℕ
   pub place : ℕ
-  pub look : Look
+  pub look : SeatLook
 
 -- the events of a journal
 abbrev pub events : List JournalEntry → List Event

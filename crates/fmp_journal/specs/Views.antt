@@ -3,7 +3,7 @@ use Rattle.std.specs.Prelude.{◌≡◌, ℕ, ◌+◌, ◌≤◌, ◌==◌, not,
 use mathlib.Core.List.{IsPrefix}
 use Rattle.atomic_table.specs.Table.{Me, Step}
 use Rattle.fmp_journal.specs.declared.entry.JournalEntry.{JournalEntry}
-use Rattle.fmp_journal.specs.declared.knowledge.Look.{Look}
+use Rattle.fmp_journal.specs.declared.knowledge.SeatLook.{SeatLook}
 use Rattle.fmp_journal.specs.declared.knowledge.Pen.{Pen}
 use Rattle.fmp_journal.specs.declared.knowledge.SeenJournal.{SeenJournal}
 use Rattle.fmp_journal.specs.declared.knowledge.View.{View}
@@ -22,10 +22,10 @@ abbrev pub without : ℕ → List ℕ → List ℕ
 without n marks = filter (λ mark. not (mark == n)) marks
 
 -- the reads after one more
-abbrev pub looked_at : Look → (word found : ℕ) → Look
+abbrev pub looked_at : SeatLook → (word found : ℕ) → SeatLook
 looked_at l word found = record { reads = l.reads + 1; word = word; found = found }
 
-abbrev pub no_look : Look
+abbrev pub no_look : SeatLook
 no_look = record { reads = 0; word = 0; found = 0 }
 
 -- the pen of an empty row that has made this many of its seats

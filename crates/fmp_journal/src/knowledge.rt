@@ -3,7 +3,7 @@ use crate::entry::JournalEntry;
 use std::collections::LinkedList;
 
 /// The reads of `follow`: how many there were, which word the last one read, by its place from 0, and what it found.
-pub struct Look {
+pub struct SeatLook {
     pub reads: u64,
     pub word: u64,
     pub found: u64,
@@ -27,7 +27,7 @@ pub struct SeenJournal {
     pub number: u64,
     pub seen: LinkedList<JournalEntry>,
     pub mine: u64,
-    pub look: Look,
+    pub look: SeatLook,
 }
 
 /// The scribe has the pen, a seat has a sight. While a seat is shown the journal it has both.

@@ -22,7 +22,7 @@ pub use fmp_why::deed_words;
 pub use font::{number_width, width};
 pub use lanes::{Presence, Showing, showing_of};
 pub use lengths::{Tenths, px};
-pub use looks::{Look, all_looks, look_of};
+pub use looks::{BarLook, all_looks, look_of};
 pub use marks::{Bond, Link, Made, Mark, Migration, Sign};
 pub use names::{
     Topic, append_call, append_handler, append_value, bytes_of, handler_text, task_bytes, wait_name,

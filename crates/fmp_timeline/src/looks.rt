@@ -7,7 +7,7 @@ use std::alloc::{AllocError, Global};
 
 /// The look of a task's bars.
 #[derive(Clone, Copy)]
-pub struct Look {
+pub struct BarLook {
     /// The number of its colour, 0 to 7; the even ones are dark.
     pub colour: u8,
     /// The number of its hatch, 1 to 3, or 0 where it has none.
@@ -16,10 +16,10 @@ pub struct Look {
 
 /// The look of the task that has this many above it: the first eight have no hatch, and each eight behind them the next
 /// one.
-pub fn look_of(above: usize) -> Look
+pub fn look_of(above: usize) -> BarLook
     ensures { result ≡ spec.look_of above }
 {
-    Look {
+    BarLook {
         colour: (above % 8) as u8,
         hatch: (above / 8 % 4) as u8,
     }
@@ -54,7 +54,7 @@ fn count_less(heights: &[u32], height: u32) -> usize {
 }
 
 /// The looks of the tasks, by their lanes from above, so that neighbours differ. `AllocError` if memory runs out.
-pub fn all_looks(alloc: Global, sys: &System) -> Result<Vec<Look>, AllocError> {
+pub fn all_looks(alloc: Global, sys: &System) -> Result<Vec<BarLook>, AllocError> {
     let heights = heights(alloc, &sys.tasks)?;
     let mut all = Vec::new(alloc);
     for height in &heights {

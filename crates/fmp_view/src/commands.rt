@@ -7,7 +7,7 @@ ghost use Rattle.fmp_frames.specs.Values.{values_of};
 use crate::calling::calls_on;
 use crate::driving::driven;
 use crate::exit::{ViewExit, memory};
-use crate::looking::Look;
+use crate::looking::RunLook;
 use crate::open_image::OpenImage;
 use crate::opened::Opened;
 use crate::opening::image_of;
@@ -237,7 +237,7 @@ pub fn output_of<O: Opened, T: Coming<O::Bodies>>(
     made
 }
 
-impl Look for Output {
+impl RunLook for Output {
     type Made = Vec<u8>;
 
     fn of<O: Opened, T: Coming<O::Bodies>>(

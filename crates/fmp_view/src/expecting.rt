@@ -6,7 +6,7 @@ ghost use Rattle.fmp_view.specs.Expects as spec;
 
 use crate::exit::{ViewExit, memory};
 use crate::flaws::flaw_text;
-use crate::looking::Look;
+use crate::looking::RunLook;
 use crate::opened::Opened;
 use fmp_base::{Line, System, TaskState};
 use fmp_coming::Coming;
@@ -184,7 +184,7 @@ pub struct Expectations<'a> {
     pub text: &'a [u8],
 }
 
-impl Look for Expectations<'_> {
+impl RunLook for Expectations<'_> {
     /// What is printed of a run that does not meet the text: the first line that fails, and the event in which it does.
     type Made = Option<Vec<u8>>;
 

@@ -14,7 +14,7 @@ use fmp_recording::{MOST_LINES, RecordingFault, read_recording, read_times};
 use std::alloc::Global;
 
 /// A look at a run of a system, whatever its bodies are.
-pub trait Look {
+pub trait RunLook {
     /// What it makes of a run.
     type Made;
 
@@ -31,7 +31,7 @@ pub trait Look {
 }
 
 /// What a look makes of a run of an image over a steps text.
-fn over_steps<L: Look>(
+fn over_steps<L: RunLook>(
     alloc: Global,
     look: &L,
     image: &Image,
@@ -45,7 +45,7 @@ fn over_steps<L: Look>(
 }
 
 /// What a look makes of a run of the image of these bytes over a steps text.
-pub fn look_at_image<L: Look>(
+pub fn look_at_image<L: RunLook>(
     alloc: Global,
     look: &L,
     image: &[u8],
@@ -94,7 +94,7 @@ pub fn known_of(alloc: Global, times: &[Option<u64>]) -> Result<Vec<u64>, ViewEx
 }
 
 /// What a look makes of a recorded run of a system.
-fn over_recording<L: Look>(
+fn over_recording<L: RunLook>(
     alloc: Global,
     look: &L,
     opened: &OpenSystem,
@@ -106,7 +106,7 @@ fn over_recording<L: Look>(
 }
 
 /// What a look makes of a recorded run of the system of a configuration.
-pub fn look_at_recording<L: Look>(
+pub fn look_at_recording<L: RunLook>(
     alloc: Global,
     look: &L,
     cfg: &[u8],

@@ -15,7 +15,7 @@ use crate::expecting::Expectations;
 use crate::exporting::run_export;
 use crate::faults::Form;
 use crate::importing::run_import;
-use crate::looking::{Look, look_at_image, look_at_recording};
+use crate::looking::{RunLook, look_at_image, look_at_recording};
 use crate::reading::read_both;
 use crate::searching::run_explore;
 use crate::targeting::run_target;
@@ -69,7 +69,7 @@ fn run_drive<O: Outside>(
 }
 
 /// What a look makes of a run.
-fn made_of_run<O: Outside, L: Look>(
+fn made_of_run<O: Outside, L: RunLook>(
     alloc: Global,
     outside: &O,
     run: Run<'_>,

@@ -5,7 +5,7 @@ ghost use Rattle.fmp_frames.specs.Shown.{WasShown};
 
 use crate::asking::Drawing;
 use crate::exit::{ViewExit, exit_of, memory};
-use crate::looking::{Look, known_of};
+use crate::looking::{RunLook, known_of};
 use crate::opened::Opened;
 use crate::recording::Recorder;
 use fmp_base::System;
@@ -230,7 +230,7 @@ pub struct Titled<'a> {
     pub drawing: Drawing,
 }
 
-impl Look for Titled<'_> {
+impl RunLook for Titled<'_> {
     type Made = Picture;
 
     fn of<O: Opened, T: Coming<O::Bodies>>(

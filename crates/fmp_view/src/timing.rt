@@ -5,7 +5,7 @@ ghost use Rattle.fmp_frames.specs.Timing.{first_timed, timed_of};
 
 use crate::commands::{Output, output_of};
 use crate::exit::{ViewExit, memory};
-use crate::looking::Look;
+use crate::looking::RunLook;
 use crate::opened::Opened;
 use fmp_base::System;
 use fmp_coming::Coming;
@@ -113,7 +113,7 @@ fn stats_of<O: Opened, T: Coming<O::Bodies>>(
 #[derive(Clone, Copy)]
 pub struct Stats;
 
-impl Look for Stats {
+impl RunLook for Stats {
     type Made = Vec<u8>;
 
     fn of<O: Opened, T: Coming<O::Bodies>>(

@@ -8,7 +8,7 @@ ghost use Rattle.fmp_view.specs.Traces.{IsBegun, IsTrace, Traces, lines_text, st
 
 use crate::exit::{ViewExit, memory};
 use crate::faults::Form;
-use crate::looking::Look;
+use crate::looking::RunLook;
 use crate::opened::Opened;
 use crate::why::why_of;
 use fmp_base::{Line, System, TaskBlock, TaskState};
@@ -230,7 +230,7 @@ fn told_of<O: Opened, T: Coming<O::Bodies>>(
     Ok(Recorded { text, why })
 }
 
-impl Look for Form {
+impl RunLook for Form {
     type Made = Recorded;
 
     fn of<O: Opened, T: Coming<O::Bodies>>(

@@ -2,7 +2,7 @@
 ghost use Rattle.std.specs.Prelude.{◌≤◌, ◌^◌, length};
 
 use crate::exit::{ViewExit, memory};
-use crate::looking::Look;
+use crate::looking::RunLook;
 use crate::opened::Opened;
 use crate::timeline::run_of;
 use fmp_base::System;
@@ -76,7 +76,7 @@ fn written_of<O: Opened, T: Coming<O::Bodies>>(
     written(alloc, opened.system(), &run, times, format)
 }
 
-impl Look for TraceFormat {
+impl RunLook for TraceFormat {
     type Made = Vec<u8>;
 
     fn of<O: Opened, T: Coming<O::Bodies>>(

@@ -2,7 +2,7 @@
 ghost use Rattle.std.specs.Prelude.{◌≤◌, ◌^◌, IfOk, length};
 
 use crate::exit::{ViewExit, exit_of, memory};
-use crate::looking::Look;
+use crate::looking::RunLook;
 use crate::opened::Opened;
 use crate::timeline::TimelineFault;
 use fmp_coming::Coming;
@@ -78,7 +78,7 @@ pub struct Why {
     pub at: Option<u32>,
 }
 
-impl Look for Why {
+impl RunLook for Why {
     type Made = Vec<u8>;
 
     fn of<O: Opened, T: Coming<O::Bodies>>(
