@@ -8,7 +8,7 @@ ghost use Rattle.fmp_base.specs.Systems.{body_of, tables_of, task_config};
 ghost use Rattle.fmp_contexts.specs.Contexts.{AllContexts, Entered, Fitting, HandsOver, HasContext, OfHeld, OfOption, going_context, held_by, is_going, kept_after, stop_of, stretched_from};
 ghost use Rattle.fmp_worlds.specs.Settled.{IsThere};
 
-use crate::kept::{self, Kept};
+use crate::kept::{self, KeptContext};
 use fmp_base::{Body, Caller, Entry, HandlerContext, Held, Reply, StretchStop, System};
 use fmp_tasks::KernelState;
 use std::alloc::{AllocError, Global};
@@ -20,7 +20,7 @@ mod copying;
 #[derive(Drop)]
 struct KeptHandler<C: Copy> {
     body: u8,
-    kept: Kept<C>,
+    kept: KeptContext<C>,
 }
 
 impl<C: Copy> Model for KeptHandler<C> {
@@ -36,7 +36,7 @@ impl<C: Copy> Model for KeptHandler<C> {
 /// processors.
 #[derive(Drop)]
 pub struct BodyContexts<C: Copy> {
-    tasks: Vec<Option<Kept<C>>>,
+    tasks: Vec<Option<KeptContext<C>>>,
     handlers: Vec<Option<KeptHandler<C>>>,
 }
 
@@ -100,7 +100,7 @@ fn fresh_tasks<B: Body>(
     alloc: Global,
     body: &B,
     sys: &System,
-) -> Result<Vec<Option<Kept<B::Ctx>>>, AllocError>
+) -> Result<Vec<Option<KeptContext<B::Ctx>>>, AllocError>
     requires entries { Entered B.has_entry body.now (tables_of sys.now) }
     requires few { length (tables_of sys.now).tasks ≤ 255 }
     ensures items { IfOk result
@@ -112,7 +112,7 @@ fn fresh_tasks<B: Body>(
     let mut places = Vec::with_capacity(alloc, count as usize)?;
     for t in 0..count {
         let context = first_context(body, sys, t);
-        places.push_reserved(Some(Kept::going_from(context)));
+        places.push_reserved(Some(KeptContext::going_from(context)));
     }
     Ok(places)
 }
@@ -242,7 +242,7 @@ impl<C: Copy> BodyContexts<C> {
             match &mut self.tasks[t as usize] {
                 Some(kept) => kept.put(context, awaits),
                 None => {
-                    let mut kept = Kept::going_from(*context);
+                    let mut kept = KeptContext::going_from(*context);
                     kept.put(context, awaits);
                     self.tasks[t as usize] = Some(kept);
                 }
@@ -255,7 +255,7 @@ impl<C: Copy> BodyContexts<C> {
         ensures { self.new ≡ record self.old { tasks = slice_set self.old.tasks t (Some (Goes context)) } }
     {
         if (t as usize) < self.tasks.len() {
-            self.tasks[t as usize] = Some(Kept::going_from(context));
+            self.tasks[t as usize] = Some(KeptContext::going_from(context));
         }
     }
 
@@ -265,7 +265,7 @@ impl<C: Copy> BodyContexts<C> {
             ≡ with_handler_context self.old p (Some (record { body = body; context = Goes context })) }
     {
         if (p as usize) < self.handlers.len() {
-            let kept = Kept::going_from(context);
+            let kept = KeptContext::going_from(context);
             self.handlers[p as usize] = Some(KeptHandler { body, kept });
         }
     }
@@ -319,7 +319,7 @@ fn stretch_task<B: Body>(
     body: &B,
     entry: u8,
     n: u64,
-    place: &mut Option<Kept<B::Ctx>>,
+    place: &mut Option<KeptContext<B::Ctx>>,
 ) -> StretchStop
     requires entry { B.has_entry body.now entry }
     requires context { OfOption (OfHeld (B.is_context body.now entry)) place.old }
@@ -406,7 +406,7 @@ pub fn stretch<B: Body>(
 }
 
 /// The task of which this is kept, if anything, is told a reply, where its context awaits one.
-fn tell_task<B: Body>(body: &B, entry: u8, place: &mut Option<Kept<B::Ctx>>, reply: Reply)
+fn tell_task<B: Body>(body: &B, entry: u8, place: &mut Option<KeptContext<B::Ctx>>, reply: Reply)
     requires entry { IsThere place.old → B.has_entry body.now entry }
     requires fits { OfOption (OfHeld (B.is_context body.now entry)) place.old }
     ensures place { place.new ≡ told_by (B.meaning body.now) entry reply place.old }

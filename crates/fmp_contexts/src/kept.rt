@@ -14,12 +14,12 @@ mod copying;
 
 /// A context, and whether it awaits the reply to the call of its body.
 #[derive(Drop)]
-pub struct Kept<C: Copy> {
+pub struct KeptContext<C: Copy> {
     awaits: bool,
     context: C,
 }
 
-impl<C: Copy> Model for Kept<C> {
+impl<C: Copy> Model for KeptContext<C> {
     ghost use Rattle.fmp_base.specs.declared.bodies.Held.{Held};
     ghost use Rattle.fmp_contexts.specs.Contexts.{held_by};
 
@@ -28,12 +28,12 @@ impl<C: Copy> Model for Kept<C> {
     ghost view = { λ k. held_by k.awaits k.context };
 }
 
-impl<C: Copy> Kept<C> {
+impl<C: Copy> KeptContext<C> {
     /// A context from which its body goes on.
     pub fn going_from(context: C) -> Self
         ensures { result ≡ Goes context }
     {
-        Kept {
+        KeptContext {
             awaits: false,
             context,
         }
@@ -99,7 +99,7 @@ fn awaits_reply(stop: &StretchStop) -> bool
 /// A stretch of the body of an entry, of at most n units, from the context that is kept, which goes on. The one at
 /// which it stops is left in place, and awaits the reply to its call, if it makes one.
 #[tactic(auto, using(crate::proofs::HeldLemmas::context_by, crate::proofs::HeldLemmas::stretched_by))]
-pub fn stretch<B: Body>(body: &B, entry: u8, n: u64, kept: &mut Kept<B::Ctx>) -> StretchStop
+pub fn stretch<B: Body>(body: &B, entry: u8, n: u64, kept: &mut KeptContext<B::Ctx>) -> StretchStop
     requires entry { B.has_entry body.now entry }
     requires context { OfHeld (B.is_context body.now entry) kept.old }
     requires goes { is_going (Some kept.old) ≡ true }
@@ -114,7 +114,7 @@ pub fn stretch<B: Body>(body: &B, entry: u8, n: u64, kept: &mut Kept<B::Ctx>) ->
 }
 
 /// The body of an entry is told a reply, where its context awaits one.
-pub fn tell<B: Body>(body: &B, entry: u8, kept: &mut Kept<B::Ctx>, reply: Reply)
+pub fn tell<B: Body>(body: &B, entry: u8, kept: &mut KeptContext<B::Ctx>, reply: Reply)
     requires entry { B.has_entry body.now entry }
     requires fits { OfHeld (B.is_context body.now entry) kept.old }
     ensures value { Some kept.new ≡ told (B.meaning body.now) entry reply (Some kept.old) }

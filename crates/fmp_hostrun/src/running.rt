@@ -6,7 +6,7 @@ ghost use Rattle.fmp_hostrun.specs.Works.{AllAdded, AreRun, CameBack, CameBackAs
 ghost use Rattle.fmp_board.specs.declared.fault.BoardFault.TheVariants.{Full, Held, Limit, Stale};
 
 use crate::feed::Feed;
-use crate::turns::{Gate, Load, ThreadPart, Worked, work};
+use crate::turns::{Gate, Load, ThreadPart, ThreadWork, work};
 use fmp_board::{Board, BoardFault, Site};
 use fmp_journal::Seat;
 use std::alloc::{AllocError, Global};
@@ -25,14 +25,14 @@ pub(crate) struct GivesBack<B: Feed, G: Gate> {
     gate: PhantomData<G>,
 }
 
-impl<B: Feed, G: Gate> Promise<Worked> for GivesBack<B, G> {
+impl<B: Feed, G: Gate> Promise<ThreadWork> for GivesBack<B, G> {
     ghost use Rattle.fmp_hostrun.specs.Works.{GaveBack, gave, job_of};
 
     ghost kept_by = { λ p r. GaveBack B.image B.bound B.row_id G.is_open (job_of p.part p.seat.value)
         (gave r.seat r.journaled) };
 }
 
-type Handles<B, G> = Vec<PromisedHandle<Worked, GivesBack<B, G>>>;
+type Handles<B, G> = Vec<PromisedHandle<ThreadWork, GivesBack<B, G>>>;
 
 /// Both counts together, or the first fault.
 fn with_more(
@@ -153,7 +153,7 @@ fn run_threads<B: Feed + Sync, G: Gate, R: Threads + Wait + Sync>(
                 };
                 let started = scope.spawn_with(
                     promise,
-                    move || -> Worked
+                    move || -> ThreadWork
                         requires { IsAt B.row_id seat }
                         ensures { GaveBack B.image B.bound B.row_id G.is_open (job_of part seat)
                             (gave result.seat result.journaled) }

@@ -213,7 +213,7 @@ fn run_part<B: Feed, G: Gate, R: Wait>(
 
 /// What a thread of a board gives back.
 #[derive(Drop)]
-pub(crate) struct Worked {
+pub(crate) struct ThreadWork {
     pub seat: Seat,
     /// How many of its events were journaled.
     pub journaled: Result<u32, BoardFault>,
@@ -226,11 +226,11 @@ pub(crate) fn work<B: Feed, G: Gate, R: Wait>(
     gate: &G,
     mut seat: Seat,
     part: ThreadPart,
-) -> Worked
+) -> ThreadWork
     requires { IsAt B.row_id seat }
     ensures { GaveBack B.image B.bound B.row_id G.is_open (job_of part seat)
         (gave result.seat result.journaled) }
 {
     let journaled = run_part(rt, board, gate, &mut seat, part);
-    Worked { seat, journaled }
+    ThreadWork { seat, journaled }
 }

@@ -8,7 +8,7 @@ use Rattle.fmp_ready.proofs.queues.ReadyQueues.TheSendSync as ready
 use Rattle.fmp_ring.proofs.rings.Rings.TheSendSync as rings
 use Rattle.fmp_spin.proofs.pending.PendingHandlers.TheSendSync as pending
 use Rattle.fmp_spin.proofs.processors.Processors.TheSendSync as processors
-use Rattle.fmp_tasks.proofs.words.Words.TheSendSync as words
+use Rattle.fmp_tasks.proofs.words.QueueWords.TheSendSync as words
 use Rattle.fmp_tasks.specs.contracts.order.Order as Order
 use Rattle.fmp_tasks.specs.contracts.kernel_state.KernelState as KernelState
 use Rattle.fmp_tasks.specs.contracts.kernel_state.KernelState.TheInside as tables

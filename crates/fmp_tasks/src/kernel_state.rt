@@ -6,12 +6,12 @@ ghost use Rattle.fmp_base.specs.Systems.{tables_of};
 
 use crate::config::copied_system;
 use crate::latest::Latest;
-use crate::marks::Marks;
+use crate::marks::SettleMarks;
 use crate::order::Order;
 use crate::setup::{
     created_blocks, empty_contents, empty_queues, idle_handlers, initial_values, wait_queues,
 };
-use crate::words::Words;
+use crate::words::QueueWords;
 use fmp_base::{System, TaskBlock};
 use fmp_ready::ReadyQueues;
 use fmp_ring::Rings;
@@ -47,13 +47,13 @@ pub struct KernelState {
     latest: Latest,
     semaphores: Vec<u16>,
     flags: Vec<u16>,
-    words: Vec<Words>,
+    words: Vec<QueueWords>,
     mailboxes: Rings,
     shared_words: Vec<i32>,
     processors: Processors,
     cyclics: Cyclics,
     pending: PendingHandlers,
-    marks: Marks,
+    marks: SettleMarks,
     clock: u32,
 }
 
@@ -104,7 +104,7 @@ impl KernelState {
             processors,
             cyclics,
             pending,
-            marks: Marks::all(),
+            marks: SettleMarks::all(),
             clock: 0,
         })
     }

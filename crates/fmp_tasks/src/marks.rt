@@ -8,11 +8,11 @@ const PROCESSORS: usize = 8;
 
 /// For each processor, by its place, whether it may have something to settle.
 #[derive(Drop)]
-pub struct Marks {
+pub struct SettleMarks {
     marked: [bool; PROCESSORS],
 }
 
-impl Model for Marks {
+impl Model for SettleMarks {
     ghost use Rattle.std.specs.Prelude.{Bool, List};
 
     ghost Value = { List Bool };
@@ -20,12 +20,12 @@ impl Model for Marks {
     ghost view = { λ m. m.marked };
 }
 
-impl Marks {
+impl SettleMarks {
     /// All processors are marked.
-    pub fn all() -> Marks
+    pub fn all() -> SettleMarks
         ensures { result ≡ replicate 8 true }
     {
-        Marks {
+        SettleMarks {
             marked: [true; PROCESSORS],
         }
     }

@@ -2,7 +2,7 @@
 ghost use Rattle.std.specs.Prelude.{◌≡◌, [], true};
 ghost use Rattle.fmp_base.specs.States.{to_end, without};
 
-use crate::trail::Trail;
+use crate::trail::OrderTrail;
 use std::marker::Model;
 use std::snapshot::Snapshot;
 
@@ -11,7 +11,7 @@ mod copying;
 /// The order of which every queue is a part. What binds it is the invariant of `KernelState` alone.
 #[derive(Drop)]
 pub struct Order {
-    past: Snapshot<Trail>,
+    past: Snapshot<OrderTrail>,
 }
 
 impl Model for Order {
@@ -28,7 +28,7 @@ impl Order {
     pub fn new() -> Order
         ensures { result ≡ [] }
     {
-        let start = Trail::Start;
+        let start = OrderTrail::Start;
         Order {
             past: Snapshot::of(&start),
         }
@@ -38,9 +38,9 @@ impl Order {
     pub fn to_end(&mut self, t: u8)
         ensures { self.new ≡ to_end self.old t }
     {
-        let start = Trail::Start;
+        let start = OrderTrail::Start;
         let before = std::mem::replace(&mut self.past, Snapshot::of(&start));
-        let next = Trail::Last(t, before);
+        let next = OrderTrail::Last(t, before);
         self.past = Snapshot::of(&next);
     }
 
@@ -48,9 +48,9 @@ impl Order {
     pub fn leave(&mut self, t: u8)
         ensures { self.new ≡ without self.old t }
     {
-        let start = Trail::Start;
+        let start = OrderTrail::Start;
         let before = std::mem::replace(&mut self.past, Snapshot::of(&start));
-        let next = Trail::Left(t, before);
+        let next = OrderTrail::Left(t, before);
         self.past = Snapshot::of(&next);
     }
 }

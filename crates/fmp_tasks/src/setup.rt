@@ -8,7 +8,7 @@ ghost use Rattle.fmp_tasks.specs.Empties.{empty_mailboxes, no_bits, no_deadlines
 ghost use Rattle.fmp_tasks.specs.Homes.{waits_of};
 ghost use Rattle.fmp_waitq.specs.WaitLists.{count_of_lists};
 
-use crate::words::Words;
+use crate::words::QueueWords;
 use fmp_base::{
     FlagConfig, Phase, SemaphoreConfig, SharedWordConfig, System, TaskBlock, TaskConfig,
 };
@@ -139,18 +139,18 @@ pub fn initial_values(
 }
 
 /// This many data queues with no word.
-fn empty_words(alloc: Global, queues: usize) -> Result<Vec<Words>, AllocError>
+fn empty_words(alloc: Global, queues: usize) -> Result<Vec<QueueWords>, AllocError>
     ensures { IfOk result (λ v. v.items ≡ replicate queues []) }
 {
     let mut words = Vec::with_capacity(alloc, queues)?;
     for _ in 0..queues {
-        words.push_reserved(Words::new(alloc)?);
+        words.push_reserved(QueueWords::new(alloc)?);
     }
     Ok(words)
 }
 
 /// Empty data queues and mailboxes.
-pub fn empty_contents(alloc: Global, sys: &System) -> Result<(Vec<Words>, Rings), AllocError>
+pub fn empty_contents(alloc: Global, sys: &System) -> Result<(Vec<QueueWords>, Rings), AllocError>
     requires { IsInRange (tables_of sys.now) }
     ensures words { IfOk result (λ v. v.0.items ≡ (created_state (tables_of sys.now)).data_queues) }
     ensures mailboxes { IfOk result (λ v. v.1 ≡ empty_mailboxes (tables_of sys.now)) }

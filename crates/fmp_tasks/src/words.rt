@@ -10,11 +10,11 @@ mod copying;
 
 /// The words of one data queue, the oldest first, in a ring buffer with room for 255. It is seen as the list of these.
 #[derive(Drop)]
-pub struct Words {
+pub struct QueueWords {
     ring: VecDeque<i32>,
 }
 
-impl Model for Words {
+impl Model for QueueWords {
     ghost use Rattle.std.specs.Prelude.{◌≤◌, ℤ, List, length};
     ghost use Rattle.std.specs.VecDeque.{deque_capacity};
 
@@ -25,13 +25,13 @@ impl Model for Words {
     ghost invariant = { λ w. (length w.ring.items ≤ 255) × (255 ≤ deque_capacity w.ring) };
 }
 
-impl Words {
+impl QueueWords {
     /// No word. `AllocError` if memory runs out.
-    pub fn new(alloc: Global) -> Result<Words, AllocError>
+    pub fn new(alloc: Global) -> Result<QueueWords, AllocError>
         ensures { IfOk result (λ w. w ≡ []) }
     {
         let ring = VecDeque::with_capacity(alloc, 255)?;
-        Ok(Words { ring })
+        Ok(QueueWords { ring })
     }
 
     /// How many words there are.

@@ -8,7 +8,7 @@ use fmp_base::Steps;
 
 /// A task and its rank, which are taken out of the rows while the task goes to its slot.
 #[derive(Clone, Copy)]
-struct Held {
+struct HeldTask {
     task: u8,
     rank: u64,
 }
@@ -49,7 +49,7 @@ fn first_child(ranks: &[u64], slot: usize, steps: &mut Steps) -> usize
 
 /// A task stands at a slot, with its rank.
 #[inline(always)]
-fn put(slots: &mut [u8], ranks: &mut [u64], positions: &mut [u8], slot: usize, held: Held)
+fn put(slots: &mut [u8], ranks: &mut [u64], positions: &mut [u8], slot: usize, held: HeldTask)
     requires slot { slot < length slots.old }
     requires long { length ranks.old ≡ length slots.old }
     requires few { length slots.old ≤ 255 }
@@ -111,7 +111,7 @@ fn descend(
     let mut slot = from;
     while slot * 2 + 2 < count {
         let child = first_child(ranks, slot, steps);
-        let moved = Held {
+        let moved = HeldTask {
             task: slots[child],
             rank: ranks[child],
         };
@@ -148,7 +148,7 @@ fn descend_last(
     if child >= count {
         return from;
     }
-    let moved = Held {
+    let moved = HeldTask {
         task: slots[child],
         rank: ranks[child],
     };
@@ -164,7 +164,7 @@ fn rise(
     ranks: &mut [u64],
     positions: &mut [u8],
     from: usize,
-    held: Held,
+    held: HeldTask,
     steps: &mut Steps,
 ) -> usize
     requires here { from < length slots.old }
@@ -184,7 +184,7 @@ fn rise(
         if !is_before(held.rank, ranks[parent], steps) {
             return slot;
         }
-        let moved = Held {
+        let moved = HeldTask {
             task: slots[parent],
             rank: ranks[parent],
         };
@@ -217,7 +217,7 @@ pub fn mend(
     ensures heap { IsHeap (slice_index ranks.new) count (length slots.new) }
     ensures steps { AddsAtMost 14 steps.old steps.new }
 {
-    let held = Held {
+    let held = HeldTask {
         task: slots[slot],
         rank: ranks[slot],
     };
@@ -251,11 +251,11 @@ pub fn enter(
     ensures heap { IsHeap (slice_index ranks.new) (count + 1) (length slots.new) }
     ensures steps { AddsAtMost 14 steps.old steps.new }
 {
-    let held = Held {
+    let held = HeldTask {
         task: slots[slot],
         rank: ranks[slot],
     };
-    let moved = Held {
+    let moved = HeldTask {
         task: slots[count],
         rank: ranks[count],
     };

@@ -2,10 +2,10 @@
 ghost use Rattle.std.specs.Prelude.{◌≡◌, length};
 
 use crate::contexts::{BodyContexts, KeptHandler};
-use crate::kept::Kept;
+use crate::kept::KeptContext;
 
 /// Puts what is kept of another task in the place of this.
-fn put_task_back<C: Copy>(kept: &mut Option<Kept<C>>, from: &Option<Kept<C>>)
+fn put_task_back<C: Copy>(kept: &mut Option<KeptContext<C>>, from: &Option<KeptContext<C>>)
     ensures { kept.new ≡ from.now }
 {
     match from {
@@ -33,7 +33,7 @@ fn put_handler_back<C: Copy>(handler: &mut Option<KeptHandler<C>>, from: &Option
 }
 
 /// Puts what is kept of as many other tasks in the place of this.
-fn put_tasks_back<C: Copy>(tasks: &mut [Option<Kept<C>>], from: &[Option<Kept<C>>])
+fn put_tasks_back<C: Copy>(tasks: &mut [Option<KeptContext<C>>], from: &[Option<KeptContext<C>>])
     requires { length tasks.old ≡ length from.now }
     ensures { tasks.new ≡ from.now }
 {

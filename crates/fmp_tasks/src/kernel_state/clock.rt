@@ -9,7 +9,7 @@ ghost use Rattle.fmp_tasks.specs.Tables.{HasHandler};
 ghost use Rattle.fmp_ticks.specs.Times.{first_due, NoneBefore};
 
 use crate::kernel_state::KernelState;
-use crate::marks::Marks;
+use crate::marks::SettleMarks;
 use crate::queues::set_due_time;
 use crate::restart::{restart_blocks, restart_deadlines, restart_due_times};
 use fmp_base::{Handler, Steps};
@@ -107,7 +107,7 @@ impl KernelState {
         requires { c < length self.old.system.cyclics }
         ensures { self.new ≡ record self.old { state = with_cyclic_pending self.old.state c } }
     {
-        self.marks = Marks::all();
+        self.marks = SettleMarks::all();
         self.pending.pend_cyclic(c);
     }
 
@@ -125,7 +125,7 @@ impl KernelState {
         requires { i < 32 }
         ensures { self.new ≡ record self.old { state = with_interrupt_pending self.old.state i } }
     {
-        self.marks = Marks::all();
+        self.marks = SettleMarks::all();
         self.pending.pend_interrupt(i);
     }
 

@@ -2,11 +2,11 @@
 ghost use Rattle.std.specs.Prelude.{◌≡◌, length};
 
 use crate::kernel_state::KernelState;
-use crate::marks::Marks;
-use crate::words::Words;
+use crate::marks::SettleMarks;
+use crate::words::QueueWords;
 
 /// Puts the words of as many other data queues in the place of these.
-fn put_words_back(words: &mut [Words], from: &[Words])
+fn put_words_back(words: &mut [QueueWords], from: &[QueueWords])
     requires { length words.old ≡ length from.now }
     ensures { words.new ≡ from.now }
 {
@@ -37,7 +37,7 @@ impl KernelState {
         self.processors.put_back(&from.processors);
         self.cyclics.put_back(&from.cyclics);
         self.pending.put_back(&from.pending);
-        self.marks = Marks::all();
+        self.marks = SettleMarks::all();
         self.clock = from.clock;
     }
 }

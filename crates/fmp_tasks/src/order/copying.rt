@@ -2,7 +2,7 @@
 ghost use Rattle.std.specs.Prelude.{◌≡◌};
 
 use crate::order::Order;
-use crate::trail::Trail;
+use crate::trail::OrderTrail;
 use std::snapshot::Snapshot;
 
 impl Order {
@@ -10,7 +10,7 @@ impl Order {
     pub fn put_back(&mut self, from: &Order)
         ensures { self.new ≡ from.now }
     {
-        let same = Trail::Same(Snapshot::of(&from.past));
+        let same = OrderTrail::Same(Snapshot::of(&from.past));
         self.past = Snapshot::of(&same);
     }
 }

@@ -1,11 +1,11 @@
 //! Words that are put back as others are.
 ghost use Rattle.std.specs.Prelude.{◌≡◌};
 
-use crate::words::Words;
+use crate::words::QueueWords;
 
-impl Words {
+impl QueueWords {
     /// Puts other words in the place of these.
-    pub fn put_back(&mut self, from: &Words)
+    pub fn put_back(&mut self, from: &QueueWords)
         ensures { self.new ≡ from.now }
     {
         self.ring.clear();
