@@ -7,8 +7,8 @@ use Rattle.fmp_base.specs.declared.words.Api.{Api}
 use Rattle.fmp_cfgparse.specs.declared.tree.Item.{Item}
 use Rattle.fmp_cfgparse.specs.declared.tree.Value.{Value}
 use Rattle.fmp_cfgparse.specs.declared.tree.Value.TheVariants as held
-use Rattle.fmp_cfgparse.specs.declared.tree.Field.{Field}
-use Rattle.fmp_cfgparse.specs.declared.tree.Field.TheVariants as field
+use Rattle.fmp_cfgparse.specs.declared.tree.ApiField.{ApiField}
+use Rattle.fmp_cfgparse.specs.declared.tree.ApiField.TheVariants as field
 use Rattle.fmp_cfgparse.specs.declared.tree.StaticApi.{StaticApi}
 use Rattle.fmp_cfgparse.specs.declared.tree.Class.{Class}
 use Rattle.fmp_cfgparse.specs.declared.tree.Configuration.{Configuration}
@@ -41,15 +41,15 @@ abbrev pub items_view : Value → List Item
 items_view (held.One i) = i ∷ []
 items_view (held.Joined v) = v.items
 
-abbrev pub field_view : Field → FieldTree
+abbrev pub field_view : ApiField → FieldTree
 field_view (field.Value v) = value (items_view v)
 field_view (field.Name n) = name n
 
-abbrev pub part_view : Option Field → Option FieldTree
+abbrev pub part_view : Option ApiField → Option FieldTree
 part_view None = None
 part_view (Some f) = Some (field_view f)
 
-abbrev pub fields_view : Vec Field Global → List FieldTree
+abbrev pub fields_view : Vec ApiField Global → List FieldTree
 fields_view v = map field_view v.items
 
 abbrev pub api_view : StaticApi → ApiTree

@@ -21,5 +21,5 @@ pub use making::Making;
 pub use objects::MakingStop;
 pub use parsing::{Parsed, parse};
 pub use reading::{Configured, read_cfg, read_configuration};
-pub use tree::{Class, Configuration, Field, Item, StaticApi, Value};
+pub use tree::{ApiField, Class, Configuration, Item, StaticApi, Value};
 pub use values::{name_at, number_at, word_of};

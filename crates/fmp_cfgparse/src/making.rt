@@ -6,7 +6,7 @@ ghost use Rattle.fmp_cfgparse.specs.Apis.{api_fault};
 ghost use Rattle.fmp_cfgparse.specs.Making.{making_of};
 ghost use Rattle.fmp_cfgparse.specs.Trees.{field_view, api_view};
 
-use crate::tree::{Field, StaticApi};
+use crate::tree::{ApiField, StaticApi};
 use crate::used_names::is_used;
 use crate::values::{all_known, between, byte_of, half_of, name_at, number_at};
 use fmp_base::{Er, InterruptConfig, System};
@@ -71,7 +71,7 @@ fn attribute_fits(api: Api, attribute: i32) -> bool
     }
 }
 
-fn parameters_fit(api: Api, fields: &[Field]) -> bool
+fn parameters_fit(api: Api, fields: &[ApiField]) -> bool
     ensures { result ≡ spec.parameters_fit api (map field_view fields.now) }
 {
     match api {
@@ -94,7 +94,7 @@ fn parameters_fit(api: Api, fields: &[Field]) -> bool
     }
 }
 
-fn is_taken(api: Api, fields: &[Field], system: &System) -> bool
+fn is_taken(api: Api, fields: &[ApiField], system: &System) -> bool
     ensures { result ≡ spec.is_taken api (map field_view fields.now) (tables_of system.now) }
 {
     match api {
@@ -103,7 +103,7 @@ fn is_taken(api: Api, fields: &[Field], system: &System) -> bool
     }
 }
 
-fn refusal(api: Api, fields: &[Field], system: &System) -> Option<FaultKind>
+fn refusal(api: Api, fields: &[ApiField], system: &System) -> Option<FaultKind>
     ensures { result ≡ spec.refusal api (map field_view fields.now) (tables_of system.now) }
 {
     if !attribute_fits(api, number_at(fields, 1)) {

@@ -7,7 +7,7 @@ ghost use Rattle.fmp_cfgparse.specs.Trees.{field_view};
 ghost use Rattle.fmp_cfgparse.specs.declared.objects.MakingStop.TheVariants.{Memory};
 
 use crate::places::ClassProcessors;
-use crate::tree::Field;
+use crate::tree::ApiField;
 use crate::values::{byte_of, half_of, name_at, number_at, word_of};
 use fmp_base::{
     CyclicConfig, DataQueueConfig, Entry, FlagConfig, InterruptConfig, MailboxConfig,
@@ -51,7 +51,7 @@ fn order_by(priority: bool) -> QueueOrder
     }
 }
 
-fn task(class: ClassProcessors, fields: &[Field]) -> TaskConfig
+fn task(class: ClassProcessors, fields: &[ApiField]) -> TaskConfig
     ensures { result ≡ spec.task class (map field_view fields.now) }
 {
     TaskConfig {
@@ -66,7 +66,7 @@ fn task(class: ClassProcessors, fields: &[Field]) -> TaskConfig
     }
 }
 
-fn semaphore(fields: &[Field]) -> SemaphoreConfig
+fn semaphore(fields: &[ApiField]) -> SemaphoreConfig
     ensures { result ≡ spec.semaphore (map field_view fields.now) }
 {
     SemaphoreConfig {
@@ -77,7 +77,7 @@ fn semaphore(fields: &[Field]) -> SemaphoreConfig
     }
 }
 
-fn flag(fields: &[Field]) -> FlagConfig
+fn flag(fields: &[ApiField]) -> FlagConfig
     ensures { result ≡ spec.flag (map field_view fields.now) }
 {
     FlagConfig {
@@ -89,7 +89,7 @@ fn flag(fields: &[Field]) -> FlagConfig
     }
 }
 
-fn data_queue(fields: &[Field]) -> DataQueueConfig
+fn data_queue(fields: &[ApiField]) -> DataQueueConfig
     ensures { result ≡ spec.data_queue (map field_view fields.now) }
 {
     DataQueueConfig {
@@ -99,7 +99,7 @@ fn data_queue(fields: &[Field]) -> DataQueueConfig
     }
 }
 
-fn mailbox(fields: &[Field]) -> MailboxConfig
+fn mailbox(fields: &[ApiField]) -> MailboxConfig
     ensures { result ≡ spec.mailbox (map field_view fields.now) }
 {
     MailboxConfig {
@@ -110,7 +110,7 @@ fn mailbox(fields: &[Field]) -> MailboxConfig
     }
 }
 
-fn message(fields: &[Field]) -> MessageConfig
+fn message(fields: &[ApiField]) -> MessageConfig
     ensures { result ≡ spec.message (map field_view fields.now) }
 {
     MessageConfig {
@@ -119,7 +119,7 @@ fn message(fields: &[Field]) -> MessageConfig
     }
 }
 
-fn shared_word(fields: &[Field]) -> SharedWordConfig
+fn shared_word(fields: &[ApiField]) -> SharedWordConfig
     ensures { result ≡ spec.shared_word (map field_view fields.now) }
 {
     SharedWordConfig {
@@ -128,7 +128,7 @@ fn shared_word(fields: &[Field]) -> SharedWordConfig
     }
 }
 
-fn spin_lock(fields: &[Field]) -> SpinLockConfig
+fn spin_lock(fields: &[ApiField]) -> SpinLockConfig
     ensures { result ≡ spec.spin_lock (map field_view fields.now) }
 {
     SpinLockConfig {
@@ -136,7 +136,7 @@ fn spin_lock(fields: &[Field]) -> SpinLockConfig
     }
 }
 
-fn cyclic(class: ClassProcessors, fields: &[Field]) -> CyclicConfig
+fn cyclic(class: ClassProcessors, fields: &[ApiField]) -> CyclicConfig
     ensures { result ≡ spec.cyclic class (map field_view fields.now) }
 {
     CyclicConfig {
@@ -150,7 +150,7 @@ fn cyclic(class: ClassProcessors, fields: &[Field]) -> CyclicConfig
     }
 }
 
-fn interrupt(class: ClassProcessors, fields: &[Field]) -> InterruptConfig
+fn interrupt(class: ClassProcessors, fields: &[ApiField]) -> InterruptConfig
     ensures { result ≡ spec.interrupt class (map field_view fields.now) }
 {
     InterruptConfig {
@@ -174,7 +174,7 @@ pub(crate) fn create(
     system: &mut System,
     class: ClassProcessors,
     api: Api,
-    fields: &[Field],
+    fields: &[ApiField],
 ) -> Result<(), MakingStop>
     ensures made { IfOk result
         (λ _. tables_of system.new ≡ with_object class api (map field_view fields.now) (tables_of system.old)) }

@@ -7,7 +7,7 @@ ghost use Rattle.fmp_cfgparse.specs.Reading.{itself, RightItem, RightNumber, Rig
 ghost use Rattle.fmp_cfgparse.specs.Trees.{items_view, part_view, fields_view, api_view, apis_view, class_view, classes_view, configuration_view};
 
 use crate::forms::{ApiPart, parts_of};
-use crate::tree::{Class, Configuration, Field, Item, StaticApi, Value};
+use crate::tree::{ApiField, Class, Configuration, Item, StaticApi, Value};
 use fmp_base::Name;
 use fmp_lex::reading::{expect_keyword, expect_symbol, is_keyword_at, is_symbol_at, kind_at};
 use fmp_lex::{
@@ -152,7 +152,7 @@ fn part(
     tokens: &Tokens<'_>,
     part: ApiPart,
     at: usize,
-) -> Result<(Option<Field>, usize), ReadError>
+) -> Result<(Option<ApiField>, usize), ReadError>
     requires { at ≤ length tokens.now }
     ensures { Answers part_view result (RightPart part (kinds_of tokens.now) at) }
 {
@@ -163,16 +163,16 @@ fn part(
         }
         ApiPart::Name => {
             let (name, next) = expect_name(tokens, at)?;
-            Ok((Some(Field::Name(name)), next))
+            Ok((Some(ApiField::Name(name)), next))
         }
         ApiPart::Value => {
             let (items, next) = value(alloc, tokens, at)?;
-            Ok((Some(Field::Value(items)), next))
+            Ok((Some(ApiField::Value(items)), next))
         }
     }
 }
 
-fn put(fields: &mut Vec<Field>, field: Option<Field>) -> Result<(), ReadError>
+fn put(fields: &mut Vec<ApiField>, field: Option<ApiField>) -> Result<(), ReadError>
     ensures fields { IfOk result
         (λ _. fields_view fields.new ≡ fields_view fields.old ++ forms.put (part_view field) []) }
     ensures memory { IfErr result (λ e. e ≡ ReadError.Memory) }
@@ -193,7 +193,7 @@ fn parts(
     tokens: &Tokens<'_>,
     parts: &[ApiPart],
     at: usize,
-) -> Result<(Vec<Field>, usize), ReadError>
+) -> Result<(Vec<ApiField>, usize), ReadError>
     requires { at ≤ length tokens.now }
     ensures { Answers fields_view result (RightParts parts.now (kinds_of tokens.now) at) }
 {

@@ -26,7 +26,7 @@ pub enum Value {
 
 /// What a static API is given at one place.
 #[derive(Drop)]
-pub enum Field {
+pub enum ApiField {
     Value(Value),
     /// The name of an object or of an entry.
     Name(Name),
@@ -38,7 +38,7 @@ pub struct StaticApi {
     pub kind: Api,
     /// The place of the API's word among the tokens.
     pub at: usize,
-    pub fields: Vec<Field>,
+    pub fields: Vec<ApiField>,
 }
 
 /// A class with its static APIs.

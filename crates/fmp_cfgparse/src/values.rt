@@ -3,7 +3,7 @@ ghost use Rattle.std.specs.Prelude.{◌≡◌, map, Some, slice_get};
 ghost use Rattle.fmp_cfgparse.specs.Trees.{field_view, items_view};
 ghost use Rattle.fmp_cfgparse.specs.Values as spec;
 
-use crate::tree::{Field, Item, Value};
+use crate::tree::{ApiField, Item, Value};
 use fmp_base::Name;
 
 /// The number of an item on 32 bits; a name has none.
@@ -48,17 +48,17 @@ fn value_number(value: &Value) -> Option<i32>
     }
 }
 
-fn is_known(field: &Field) -> bool
+fn is_known(field: &ApiField) -> bool
     ensures { result ≡ spec.is_known (field_view field.now) }
 {
     match field {
-        Field::Value(value) => value_number(value).is_some(),
-        Field::Name(_) => true,
+        ApiField::Value(value) => value_number(value).is_some(),
+        ApiField::Name(_) => true,
     }
 }
 
 /// Whether no field has an unknown constant.
-pub(crate) fn all_known(fields: &[Field]) -> bool
+pub(crate) fn all_known(fields: &[ApiField]) -> bool
     ensures { result ≡ spec.all_known (map field_view fields.now) }
 {
     for field in fields {
@@ -69,21 +69,21 @@ pub(crate) fn all_known(fields: &[Field]) -> bool
     true
 }
 
-fn field_number(field: &Field) -> i32
+fn field_number(field: &ApiField) -> i32
     ensures { result ≡ spec.field_number (Some (field_view field.now)) }
 {
     match field {
-        Field::Value(value) => value_number(value).unwrap_or(0),
-        Field::Name(_) => 0,
+        ApiField::Value(value) => value_number(value).unwrap_or(0),
+        ApiField::Name(_) => 0,
     }
 }
 
-fn field_name(field: &Field) -> Name
+fn field_name(field: &ApiField) -> Name
     ensures { result ≡ spec.field_name (Some (field_view field.now)) }
 {
     match field {
-        Field::Name(name) => *name,
-        Field::Value(_) => Name {
+        ApiField::Name(name) => *name,
+        ApiField::Value(_) => Name {
             length: 0,
             bytes: [0; 31],
         },
@@ -91,7 +91,7 @@ fn field_name(field: &Field) -> Name
 }
 
 /// The number of the field at a place; 0 if it has none.
-pub fn number_at(fields: &[Field], at: usize) -> i32
+pub fn number_at(fields: &[ApiField], at: usize) -> i32
     ensures { result ≡ spec.number_at (map field_view fields.now) at }
 {
     match fields.get(at) {
@@ -101,7 +101,7 @@ pub fn number_at(fields: &[Field], at: usize) -> i32
 }
 
 /// The name of the field at a place.
-pub fn name_at(fields: &[Field], at: usize) -> Name
+pub fn name_at(fields: &[ApiField], at: usize) -> Name
     ensures { result ≡ spec.name_at (map field_view fields.now) at }
 {
     match fields.get(at) {

@@ -10,24 +10,24 @@ use Rattle.fmp_lex.proofs.Windows.{passed_length}
 use Rattle.fmp_tasklang.specs.Grammar.{OneBody}
 use Rattle.fmp_tasklang.specs.Trees.{BodyTree}
 use Rattle.fmp_tasklang.proofs.BodyPaths.{body_framed, body_longer}
-use Rattle.fmp_codegen.specs.declared.texts.Made.{Made}
+use Rattle.fmp_codegen.specs.declared.texts.MadeBodies.{MadeBodies}
 use Rattle.fmp_codegen.specs.Texts.{AreMade, IsStreamed}
 
 -- these bodies were read up to a place, and are made
-abbrev pub IsMadeSoFar : SystemTables → Made → (first window : Window) → ℕ → Type 0
+abbrev pub IsMadeSoFar : SystemTables → MadeBodies → (first window : Window) → ℕ → Type 0
 IsMadeSoFar tables made first window i =
     (bodies : List BodyTree) × AreMade tables made bodies × Streams (Star OneBody) first window 0 bodies i
 
 module _ (tables : SystemTables) (first : Window) where
   -- the window moves on before the first body
-  pub none-made : (made : Made) (window : Window) → AreMade tables made [] →
+  pub none-made : (made : MadeBodies) (window : Window) → AreMade tables made [] →
       ((before : List Token) → Passed first before 0 → Passed window before 0) → IsMadeSoFar tables made first window 0
   none-made made window are hold =
       ([], are, streams_hold (Star OneBody) first first window 0 [] 0 (streams_none OneBody first 0) hold)
 
   -- one more body is read and added, and the window moves on behind it
   pub one-more-made :
-      (made new : Made) (w0 w1 w2 : Window) (i j : ℕ) (b : BodyTree) → IsMadeSoFar tables made first w0 i →
+      (made new : MadeBodies) (w0 w1 w2 : Window) (i j : ℕ) (b : BodyTree) → IsMadeSoFar tables made first w0 i →
       ((bodies : List BodyTree) → AreMade tables made bodies → AreMade tables new (bodies ++ b ∷ [])) →
       Streams OneBody w0 w1 i b j → ((before : List Token) → Passed w1 before j → Passed w2 before j) →
       IsMadeSoFar tables new first w2 j
@@ -40,7 +40,7 @@ module _ (tables : SystemTables) (first : Window) where
             (streams_push OneBody first w0 w1 0 bodies i b j body_framed so_far.2 reads) hold,
       )
 
-  module _ (start : Passed first [] 0) (made : Made) (window : Window) (same : window.text.now ≡ first.text.now)
+  module _ (start : Passed first [] 0) (made : MadeBodies) (window : Window) (same : window.text.now ≡ first.text.now)
       (is : IsWindow window) (i : ℕ) (so_far : IsMadeSoFar tables made first window i) where
     -- no more tokens were read than the text has bytes
     pub few-read : i ≤ length first.text.now

@@ -32,7 +32,7 @@ use Rattle.fmp_instructions.specs.Instructions.{BodyTables, body_tables, code_ta
 use Rattle.fmp_scopes.specs.declared.headings.Heading.{Heading}
 use Rattle.fmp_scopes.specs.declared.offences.Offence.{Offence}
 use Rattle.fmp_codegen.specs.declared.texts.CompiledText.{CompiledText}
-use Rattle.fmp_codegen.specs.declared.texts.Made.{Made}
+use Rattle.fmp_codegen.specs.declared.texts.MadeBodies.{MadeBodies}
 use Rattle.fmp_codegen.specs.Compiling.{body_offence, bodies_offence, compiled_body}
 use Rattle.fmp_scopes.specs.Headings.{heading_of}
 use Rattle.fmp_scopes.specs.Naming.{first_offence}
@@ -72,14 +72,14 @@ module _ (tables : SystemTables) (bodies : List BodyTree) (b : BodyTree) where
   one_more = bodies ++ b ∷ []
 
   -- behind a fault nothing changes
-  pub made-stays : (made : Made) (o : Offence) → made.offence ≡ Some o → AreMade tables made bodies → AreMade tables made one_more
+  pub made-stays : (made : MadeBodies) (o : Offence) → made.offence ≡ Some o → AreMade tables made bodies → AreMade tables made one_more
   made-stays made o is h = record {
     offence = is ∙ ap (λ x. first_offence x (body_offence tables (names bodies) b)) (sym is ∙ h.offence) ∙ sym (last_offence tables [] bodies b);
     headings = λ none. let e : Some o ≡ None = sym is ∙ none in absurd (cc);
     code = λ none. let e : Some o ≡ None = sym is ∙ none in absurd (cc);
   }
 
-  module _ (made new : Made) (fine : made.offence ≡ None) (h : AreMade tables made bodies) where
+  module _ (made new : MadeBodies) (fine : made.offence ≡ None) (h : AreMade tables made bodies) where
     abbrev judged : Option Offence
     judged = body_offence tables (map (λ (x : Heading). x.name) made.headings.items) b
 
@@ -123,7 +123,7 @@ made-stopped tables ts Memory a = tt
 made-stopped tables ts (Fault f) a = whole_stopped Bodies EndsBodies ends_there ts f.at f.why a
 
 -- what is answered of the bodies that a text spells
-module _ (tables : SystemTables) (made : Made) (bodies : List BodyTree) (are : AreMade tables made bodies) (ts : List Token) where
+module _ (tables : SystemTables) (made : MadeBodies) (bodies : List BodyTree) (are : AreMade tables made bodies) (ts : List Token) where
   pub text-compiled :
       (text : List ℕ) → Spells Bodies text ts bodies → (r : Result CompiledText BuildFault) → MadeText ts made r →
       IsTextCompiled tables text r
@@ -150,7 +150,7 @@ compiled-low tables text (Err f) h = tt
 
 -- a text without a fault, all of whose bodies are made
 pub text-streamed :
-    (tables : SystemTables) (text : List ℕ) (made : Made) (c : CompiledText) → IsStreamed tables text made →
+    (tables : SystemTables) (text : List ℕ) (made : MadeBodies) (c : CompiledText) → IsStreamed tables text made →
     c.headings.items ≡ made.headings.items → code_tables c.code ≡ map body_tables made.bodies.items →
     IsTextCompiled tables text (Ok c)
 text-streamed tables text made c x headings code =

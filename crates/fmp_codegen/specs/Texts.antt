@@ -16,38 +16,38 @@ use Rattle.fmp_tasklang.specs.Trees.{BodyTree}
 use Rattle.fmp_instructions.specs.Instructions.{body_tables, code_tables}
 use Rattle.fmp_scopes.specs.declared.offences.Offence.{Offence}
 use Rattle.fmp_codegen.specs.declared.texts.CompiledText.{CompiledText}
-use Rattle.fmp_codegen.specs.declared.texts.Made.{Made}
+use Rattle.fmp_codegen.specs.declared.texts.MadeBodies.{MadeBodies}
 use Rattle.fmp_codegen.specs.Compiling.{bodies_offence, compiled, IsAccepted}
 use Rattle.fmp_scopes.specs.Headings.{AreHeadings}
 use Rattle.fmp_scopes.specs.Naming.{fault_in}
 
 -- after bodies that were read stands their first fault, or else their headings and their code
-pub record AreMade (tables : SystemTables) (made : Made) (bodies : List BodyTree) : Type 0 where
+pub record AreMade (tables : SystemTables) (made : MadeBodies) (bodies : List BodyTree) : Type 0 where
   pub offence : made.offence ≡ bodies_offence tables [] bodies
   pub headings : made.offence ≡ None → AreHeadings made.headings.items bodies
   pub code : made.offence ≡ None → map body_tables made.bodies.items ≡ compiled tables bodies
 
 -- the bodies at the head of the tokens are made, up to a place where none begins, or the first fault stands there
-abbrev pub IsMadeUpTo : SystemTables → List TokenKind → Result (Made × ℕ) ReadError → Type 0
+abbrev pub IsMadeUpTo : SystemTables → List TokenKind → Result (MadeBodies × ℕ) ReadError → Type 0
 IsMadeUpTo tables ts (Ok x) =
     (bodies : List BodyTree) × AreMade tables x.0 bodies × RightBodies ts 0 (found bodies x.1)
 IsMadeUpTo tables ts (Err errors.Memory) = Unit {0}
 IsMadeUpTo tables ts (Err (errors.Fault f)) = RightBodies ts 0 (stopped f.at f.why)
 
 -- the text spells bodies without a fault, and they are made
-abbrev pub IsStreamed : SystemTables → List ℕ → Made → Type 0
+abbrev pub IsStreamed : SystemTables → List ℕ → MadeBodies → Type 0
 IsStreamed tables text made =
     (ts : List Token) × (bodies : List BodyTree) × Spells Bodies text ts bodies × AreMade tables made bodies
     × (made.offence ≡ None)
 
 -- the bodies that the tokens spell are made, or the first fault stands there
-abbrev pub IsMadeOf : SystemTables → List TokenKind → Result Made ReadError → Type 0
+abbrev pub IsMadeOf : SystemTables → List TokenKind → Result MadeBodies ReadError → Type 0
 IsMadeOf tables ts (Ok made) = (bodies : List BodyTree) × AreMade tables made bodies × IsWhole Bodies ts bodies
 IsMadeOf tables ts (Err errors.Memory) = Unit {0}
 IsMadeOf tables ts (Err (errors.Fault f)) = IsFirstFault Bodies ts f.at f.why
 
 -- the code that is made, or the first fault, where these are the tokens of the text
-abbrev pub MadeText : List Token → Made → Result CompiledText BuildFault → Type 0
+abbrev pub MadeText : List Token → MadeBodies → Result CompiledText BuildFault → Type 0
 MadeText ts made (Ok c) =
     (made.offence ≡ None) × (c.headings.items ≡ made.headings.items)
     × (code_tables c.code ≡ map body_tables made.bodies.items)

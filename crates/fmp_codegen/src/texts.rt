@@ -36,17 +36,17 @@ pub struct CompiledText {
 
 /// What is made of the bodies that are read so far: their code, or the first fault in them.
 #[derive(Drop)]
-pub struct Made {
+pub struct MadeBodies {
     pub headings: Vec<Heading>,
     pub bodies: Vec<BodyCode>,
     pub offence: Option<Offence>,
 }
 
 /// What is made where no body is read so far.
-fn no_bodies(alloc: Global) -> Made
+fn no_bodies(alloc: Global) -> MadeBodies
     ensures { (tables : SystemTables) → AreMade tables result [] }
 {
-    Made {
+    MadeBodies {
         headings: Vec::new(alloc),
         bodies: Vec::new(alloc),
         offence: None,
@@ -58,7 +58,7 @@ fn no_bodies(alloc: Global) -> Made
 fn add_numbered(
     alloc: Global,
     objects: &Objects<'_>,
-    made: &mut Made,
+    made: &mut MadeBodies,
     numbers: &Option<ObjectNumbers>,
     body: &Body,
 ) -> Result<(), AllocError>
@@ -85,7 +85,7 @@ fn add_numbered(
 fn add_body(
     alloc: Global,
     objects: &Objects<'_>,
-    made: &mut Made,
+    made: &mut MadeBodies,
     body: &Body,
 ) -> Result<(), AllocError>
     requires { HoldsNumbers objects.now }
@@ -101,7 +101,7 @@ fn compile_bodies(
     alloc: Global,
     tokens: &Tokens<'_>,
     objects: &Objects<'_>,
-) -> Result<(Made, usize), ReadError>
+) -> Result<(MadeBodies, usize), ReadError>
     requires { HoldsNumbers objects.now }
     ensures { IsMadeUpTo (tables_of objects.now.system.now) (kinds_of tokens.now) result }
 {
@@ -120,7 +120,7 @@ fn compile_tokens(
     alloc: Global,
     tokens: &Tokens<'_>,
     objects: &Objects<'_>,
-) -> Result<Made, ReadError>
+) -> Result<MadeBodies, ReadError>
     requires { HoldsNumbers objects.now }
     ensures { IsMadeOf (tables_of objects.now.system.now) (kinds_of tokens.now) result }
 {
@@ -140,7 +140,7 @@ fn add_streamed(
     alloc: Global,
     objects: &Objects<'_>,
     window: &mut Window<'_>,
-    made: &mut Made,
+    made: &mut MadeBodies,
 ) -> Result<bool, AllocError>
     requires objects { HoldsNumbers objects.now }
     requires window { IsWindow window.now }
@@ -171,7 +171,7 @@ fn stream_bodies(
     alloc: Global,
     text: &[u8],
     objects: &Objects<'_>,
-) -> Result<Option<Made>, AllocError>
+) -> Result<Option<MadeBodies>, AllocError>
     requires { HoldsNumbers objects.now }
     ensures { IfOk result (λ o. IfSome o (λ made. IsStreamed (tables_of objects.now.system.now) text.now made)) }
 {
@@ -185,7 +185,7 @@ fn stream_bodies(
 }
 
 /// The code that was made.
-fn text_of(made: Made) -> CompiledText
+fn text_of(made: MadeBodies) -> CompiledText
     ensures headings { result.headings.items ≡ made.headings.items }
     ensures code { code_tables result.code ≡ map body_tables made.bodies.items }
 {
@@ -198,7 +198,7 @@ fn text_of(made: Made) -> CompiledText
 }
 
 /// The code of a text whose bodies were read, or the first fault in them.
-fn answer(tokens: &Tokens<'_>, made: Made) -> Result<CompiledText, BuildFault>
+fn answer(tokens: &Tokens<'_>, made: MadeBodies) -> Result<CompiledText, BuildFault>
     ensures { MadeText tokens.now made result }
 {
     match made.offence {

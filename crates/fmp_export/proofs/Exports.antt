@@ -6,11 +6,11 @@ use Rattle.fmp_lex.specs.Cutting.{Cuts}
 use Rattle.fmp_tasklang.specs.declared.trees.Program.{Program}
 use Rattle.fmp_tasklang.specs.Reading.{IsRead}
 use Rattle.fmp_tasklang.specs.Views.{program_view}
-use Rattle.fmp_export.specs.declared.files.Exported.{Exported}
+use Rattle.fmp_export.specs.declared.files.ExportedText.{ExportedText}
 use Rattle.fmp_export.specs.Files.{AreFiles, IsExportedWith}
 
 pub is_exported :
-    (s : SystemTables) (text : List ℕ) (p : Program) (us : List Token) (lines : Bool) (e : Exported) →
+    (s : SystemTables) (text : List ℕ) (p : Program) (us : List Token) (lines : Bool) (e : ExportedText) →
     IsRead text (Ok p) → ((ts : List Token) → Cuts text 0 ts → ts ≡ us) →
     AreFiles s (record { text = text; tokens = us; lines = lines }) (program_view p) e →
     IsExportedWith lines s text (Ok e)

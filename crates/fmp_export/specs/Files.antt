@@ -8,7 +8,7 @@ use Rattle.fmp_lex.specs.Faults.{Spells}
 use Rattle.fmp_tasklang.specs.Grammar.{Bodies}
 use Rattle.fmp_tasklang.specs.Reading.{IsRead}
 use Rattle.fmp_tasklang.specs.Trees.{BodyTree}
-use Rattle.fmp_export.specs.declared.files.Exported.{Exported}
+use Rattle.fmp_export.specs.declared.files.ExportedText.{ExportedText}
 use Rattle.fmp_export.specs.declared.files.TheConstants.{HEADER_START, MAIN_START, MAIN_END}
 use Rattle.fmp_export.specs.Bodies.{c_commented_bodies, c_prototypes, c_rows}
 use Rattle.fmp_export.specs.Sources.{SourceText, head_of}
@@ -61,18 +61,18 @@ c_main bodies = MAIN_START.now ++ (c_rows bodies ++ MAIN_END.now)
 
 -- the files of these bodies, which these tokens of the text spell, with its lines for a debugger or without
 pub record AreFiles
-    (s : SystemTables) (source : SourceText) (bodies : List BodyTree) (e : Exported) : Type 0 where
+    (s : SystemTables) (source : SourceText) (bodies : List BodyTree) (e : ExportedText) : Type 0 where
   pub header : e.header.items ≡ c_header s bodies
   pub file : e.bodies.items ≡ c_file source bodies
   pub main : e.main.items ≡ c_main bodies
 
 -- the C of the bodies that the text spells, or the fault of a text that spells none
-abbrev pub IsExportedWith : (lines : Bool) → SystemTables → List ℕ → Result Exported BuildFault → Type 0
+abbrev pub IsExportedWith : (lines : Bool) → SystemTables → List ℕ → Result ExportedText BuildFault → Type 0
 IsExportedWith lines s text (Ok e) =
     (ts : List Token) × (bodies : List BodyTree) × Spells Bodies text ts bodies
     × AreFiles s (record { text = text; tokens = ts; lines = lines }) bodies e
 IsExportedWith lines s text (Err f) = IsRead text (Err f)
 
 -- the same without the lines of the text for a debugger
-abbrev pub IsExported : SystemTables → List ℕ → Result Exported BuildFault → Type 0
+abbrev pub IsExported : SystemTables → List ℕ → Result ExportedText BuildFault → Type 0
 IsExported s text r = IsExportedWith false s text r

@@ -9,8 +9,8 @@ use Rattle.fmp_base.specs.declared.operators.BinaryOperator.TheVariants as binar
 use Rattle.fmp_lex.specs.declared.token.Token.{Token}
 use Rattle.fmp_export.specs.declared.pieces.Risk.{Risk}
 use Rattle.fmp_export.specs.declared.pieces.Risk.TheVariants as risk
-use Rattle.fmp_export.specs.declared.pieces.Shape.{Shape}
-use Rattle.fmp_export.specs.declared.pieces.Shape.TheVariants as shape
+use Rattle.fmp_export.specs.declared.pieces.ExpressionShape.{ExpressionShape}
+use Rattle.fmp_export.specs.declared.pieces.ExpressionShape.TheVariants as shape
 use Rattle.fmp_export.specs.declared.pieces.Piece as declared
 use Rattle.fmp_export.specs.declared.source.Landmark.TheVariants as landmark
 use Rattle.fmp_export.specs.Sources.{SourceText, behind, landmark_in}
@@ -18,7 +18,7 @@ use Rattle.fmp_export.specs.Sources.{SourceText, behind, landmark_in}
 pub record PieceText : Type 0 where
   pub text : List ℕ
   pub risk : Risk
-  pub shape : Shape
+  pub shape : ExpressionShape
   -- the place behind the last number of the expression in the list of tokens, or where the expression was begun
   pub next : ℕ
 
@@ -43,7 +43,7 @@ matters risk.Index risk.Index = false
 matters _ _ = true
 
 -- the piece as an operand of an operator
-abbrev pub operand_of : Shape → List ℕ → List ℕ
+abbrev pub operand_of : ExpressionShape → List ℕ → List ℕ
 operand_of shape.Open t = codes "(" ++ (t ++ codes ")")
 operand_of shape.Closed t = t
 operand_of shape.Number t = t
@@ -61,7 +61,7 @@ unfoldable pub number_text : SourceText → (at : ℕ) → ℤ → List ℕ
 number_text s at k = token_text s.text (landmark_in landmark.Number (drop at s.tokens)) k
 
 -- a number, or a constant by its value
-abbrev pub number_shape : ℤ → Shape
+abbrev pub number_shape : ℤ → ExpressionShape
 number_shape (pos n) = shape.Number
 number_shape (negsuc n) = shape.Closed
 
@@ -89,7 +89,7 @@ element_piece name index =
     }
 
 -- minus: of a number it is one in C too
-abbrev pub negated : Shape → PieceText → PieceText
+abbrev pub negated : ExpressionShape → PieceText → PieceText
 negated shape.Number p = record { text = codes "-" ++ p.text; risk = p.risk; shape = shape.Closed; next = p.next }
 negated _ p =
     record {

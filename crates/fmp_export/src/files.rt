@@ -16,7 +16,7 @@ use std::alloc::{AllocError, Global};
 
 /// The C of a task text.
 #[derive(Drop)]
-pub struct Exported {
+pub struct ExportedText {
     /// The header `bodies.h`: the numbers of the objects, and the prototype of each body's function.
     pub header: Vec<u8>,
     /// A function for each body.
@@ -138,7 +138,7 @@ fn files(
     lines: bool,
     system: &System,
     program: &Program,
-) -> Result<Exported, AllocError>
+) -> Result<ExportedText, AllocError>
     ensures { IfOk result (AreFiles (tables_of system.now)
         (record { text = text.now; tokens = tokens.now; lines = lines }) (program_view program.now)) }
 {
@@ -148,7 +148,7 @@ fn files(
     append_c(alloc, text, tokens, lines, program, &mut bodies)?;
     let mut main = Vec::new(alloc);
     append_main(program, &mut main)?;
-    Ok(Exported {
+    Ok(ExportedText {
         header,
         bodies,
         main,
@@ -164,7 +164,7 @@ pub fn export_c_with_lines(
     text: &[u8],
     lines: bool,
     system: &System,
-) -> Result<Exported, BuildFault>
+) -> Result<ExportedText, BuildFault>
     ensures { IsExportedWith lines (tables_of system.now) text.now result }
 {
     let program = read_tasks(alloc, text)?;
@@ -178,7 +178,7 @@ pub fn export_c_with_lines(
 }
 
 /// The same without the lines of the text.
-pub fn export_c(alloc: Global, text: &[u8], system: &System) -> Result<Exported, BuildFault>
+pub fn export_c(alloc: Global, text: &[u8], system: &System) -> Result<ExportedText, BuildFault>
     ensures { IsExported (tables_of system.now) text.now result }
 {
     export_c_with_lines(alloc, text, false, system)

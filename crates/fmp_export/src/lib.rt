@@ -16,8 +16,10 @@ mod text;
 mod words;
 
 pub use bodies::{append_bodies, append_prototypes};
-pub use files::{Exported, append_c, append_header, append_main, export_c, export_c_with_lines};
+pub use files::{
+    ExportedText, append_c, append_header, append_main, export_c, export_c_with_lines,
+};
 pub use objects::append_kind;
-pub use pieces::{Piece, Risk, Shape};
+pub use pieces::{ExpressionShape, Piece, Risk};
 pub use text::{append, append_count, append_signed};
 pub use words::{append_function, append_name, is_among};

@@ -28,7 +28,7 @@ pub enum Risk {
 
 /// What stands outermost in an expression.
 #[derive(Clone, Copy)]
-pub enum Shape {
+pub enum ExpressionShape {
     /// A number without a sign.
     Number,
     /// A name, or a call of a function.
@@ -45,7 +45,7 @@ pub struct Piece {
     /// The faults that its evaluation may end with.
     pub risk: Risk,
     /// What stands outermost in it.
-    pub shape: Shape,
+    pub shape: ExpressionShape,
     /// The place behind its last number in the list of tokens; if it has none, where it was begun.
     pub next: usize,
 }
@@ -81,13 +81,13 @@ fn append_operand(piece: &Piece, out: &mut Vec<u8>) -> Result<(), AllocError>
     ensures { OnOk result (out.new.items ≡ out.old.items ++ operand (piece_view piece.now)) }
 {
     match piece.shape {
-        Shape::Open => {
+        ExpressionShape::Open => {
             append(b"(", out)?;
             append(&piece.text, out)?;
             append(b")", out)
         }
-        Shape::Closed => append(&piece.text, out),
-        Shape::Number => append(&piece.text, out),
+        ExpressionShape::Closed => append(&piece.text, out),
+        ExpressionShape::Number => append(&piece.text, out),
     }
 }
 
@@ -115,13 +115,13 @@ pub fn append_number(
 }
 
 /// The shape of a number, or of the value of a constant.
-fn number_shape(number: i32) -> Shape
+fn number_shape(number: i32) -> ExpressionShape
     ensures { result ≡ spec.number_shape number }
 {
     if number < 0 {
-        Shape::Closed
+        ExpressionShape::Closed
     } else {
-        Shape::Number
+        ExpressionShape::Number
     }
 }
 
@@ -153,7 +153,7 @@ pub fn name(alloc: Global, at: usize, name: &Name) -> Result<Piece, AllocError>
     Ok(Piece {
         text,
         risk: Risk::Safe,
-        shape: Shape::Closed,
+        shape: ExpressionShape::Closed,
         next: at,
     })
 }
@@ -172,7 +172,7 @@ pub fn element(alloc: Global, array: &Name, index: &Piece) -> Result<Piece, Allo
     Ok(Piece {
         text,
         risk: joint_risk(index.risk, Risk::Index),
-        shape: Shape::Closed,
+        shape: ExpressionShape::Closed,
         next: index.next,
     })
 }
@@ -182,13 +182,13 @@ fn negated(alloc: Global, piece: &Piece) -> Result<Piece, AllocError>
     ensures { IfOk result (λ p. piece_view p ≡ spec.negated piece.now.shape (piece_view piece.now)) }
 {
     let mut text = Vec::new(alloc);
-    if let Shape::Number = piece.shape {
+    if let ExpressionShape::Number = piece.shape {
         append(b"-", &mut text)?;
         append(&piece.text, &mut text)?;
         return Ok(Piece {
             text,
             risk: piece.risk,
-            shape: Shape::Closed,
+            shape: ExpressionShape::Closed,
             next: piece.next,
         });
     }
@@ -198,7 +198,7 @@ fn negated(alloc: Global, piece: &Piece) -> Result<Piece, AllocError>
     Ok(Piece {
         text,
         risk: joint_risk(piece.risk, Risk::Overflow),
-        shape: Shape::Closed,
+        shape: ExpressionShape::Closed,
         next: piece.next,
     })
 }
@@ -213,7 +213,7 @@ fn prefixed(alloc: Global, sign: &[u8], piece: &Piece) -> Result<Piece, AllocErr
     Ok(Piece {
         text,
         risk: piece.risk,
-        shape: Shape::Open,
+        shape: ExpressionShape::Open,
         next: piece.next,
     })
 }
@@ -296,7 +296,7 @@ fn infixed(alloc: Global, sign: &[u8], a: &Piece, b: &Piece) -> Result<Piece, Al
     Ok(Piece {
         text,
         risk: joint_risk(a.risk, b.risk),
-        shape: Shape::Open,
+        shape: ExpressionShape::Open,
         next: b.next,
     })
 }
@@ -341,7 +341,7 @@ fn applied(
     Ok(Piece {
         text,
         risk: joint_risk(joint_risk(a.risk, b.risk), risk_of(operator)),
-        shape: Shape::Closed,
+        shape: ExpressionShape::Closed,
         next: b.next,
     })
 }

@@ -5,21 +5,21 @@ use Rattle.fmp_base.specs.declared.words.Api.{Api}
 use Rattle.fmp_base.specs.declared.words.Constant.{Constant}
 use Rattle.fmp_base.specs.Words.{api_name, constant_name}
 use Rattle.fmp_import.specs.declared.plan.Block as declared
-use Rattle.fmp_import.specs.declared.plan.Class.{Class}
-use Rattle.fmp_import.specs.declared.plan.Item.{Item}
-use Rattle.fmp_import.specs.declared.plan.Item.TheVariants as item
+use Rattle.fmp_import.specs.declared.plan.SourceClass.{SourceClass}
+use Rattle.fmp_import.specs.declared.plan.PlanItem.{PlanItem}
+use Rattle.fmp_import.specs.declared.plan.PlanItem.TheVariants as item
 use Rattle.fmp_import.specs.declared.plan.Record as held
-use Rattle.fmp_import.specs.declared.plan.Span.{Span}
+use Rattle.fmp_import.specs.declared.plan.TextSpan.{TextSpan}
 
 -- an object, and the objects of a class, as plain data
 pub record ObjectPlan : Type 0 where
   pub api : Api
-  pub subject : Item
-  pub attribute : Item
-  pub rest : List Item
+  pub subject : PlanItem
+  pub attribute : PlanItem
+  pub rest : List PlanItem
 
 pub record ClassPlan : Type 0 where
-  pub class : Class
+  pub class : SourceClass
   pub objects : List ObjectPlan
 
 abbrev pub record_view : held.Record → ObjectPlan
@@ -29,7 +29,7 @@ abbrev pub block_view : declared.Block → ClassPlan
 block_view b = record { class = b.class; objects = map record_view b.records.items }
 
 -- the bytes of a part of a text, as far as the text goes
-abbrev pub span_text : List ℕ → Span → List ℕ
+abbrev pub span_text : List ℕ → TextSpan → List ℕ
 span_text text s = let end = min s.end (length text) in slice_range text (min s.start end) end
 
 -- a further constant of an attribute
@@ -38,17 +38,17 @@ or_text None = []
 or_text (Some c) = codes " | " ++ constant_name c
 
 -- what a static API is given at one place: a name is that of the source
-abbrev pub item_text : (source : List ℕ) → Item → List ℕ
+abbrev pub item_text : (source : List ℕ) → PlanItem → List ℕ
 item_text source (item.Name s) = span_text source s
 item_text source (item.Number k) = signed_decimal k
 item_text source (item.Attribute a b c) = constant_name a ++ (or_text b ++ or_text c)
 item_text source item.Null = codes "NULL"
 
 -- what stands behind the attribute
-unfoldable pub further_text : (source : List ℕ) → Item → List ℕ
+unfoldable pub further_text : (source : List ℕ) → PlanItem → List ℕ
 further_text source i = codes ", " ++ item_text source i
 
-abbrev pub more_text : (source : List ℕ) → List Item → List ℕ
+abbrev pub more_text : (source : List ℕ) → List PlanItem → List ℕ
 more_text source [] = []
 more_text source (i ∷ is) = further_text source i ++ more_text source is
 
@@ -70,7 +70,7 @@ only_text true = codes "_ONLY"
 only_text false = []
 
 -- the name of a class
-unfoldable pub class_text : Class → List ℕ
+unfoldable pub class_text : SourceClass → List ℕ
 class_text c = codes "TCL_" ++ (decimal c.processor ++ only_text c.only)
 
 -- the objects of a class

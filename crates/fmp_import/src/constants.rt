@@ -1,6 +1,6 @@
 //! The constants of a configuration in C.
-use crate::lexemes::{Kind, Lexeme, lexemes};
-use crate::reading::Reading;
+use crate::lexemes::{Lexeme, LexemeKind, lexemes};
+use crate::reading::SourceReading;
 use crate::text::bytes_of;
 use crate::values::{NoValue, value_of};
 use fmp_base::Name;
@@ -60,7 +60,7 @@ impl Constants {
         word: &[u8],
         expression: &[Lexeme],
     ) -> Result<Defines, AllocError> {
-        let reading = Reading {
+        let reading = SourceReading {
             text,
             lexemes: expression,
             constants: self,
@@ -84,11 +84,11 @@ impl Constants {
         let [word, name, expression @ ..] = found.as_slice() else {
             return Ok(Defines::Nothing);
         };
-        if bytes_of(text, word.span) != b"define".as_slice() || name.kind != Kind::Word {
+        if bytes_of(text, word.span) != b"define".as_slice() || name.kind != LexemeKind::Word {
             return Ok(Defines::Nothing);
         }
         if let [first, ..] = expression
-            && first.kind == Kind::Sign(b'(')
+            && first.kind == LexemeKind::Sign(b'(')
             && first.span.start == name.span.end
         {
             return Ok(Defines::NoNumber);
@@ -99,7 +99,7 @@ impl Constants {
     /// Adds the constants that a header defines; its other lines are skipped.
     pub(crate) fn take_header(&mut self, alloc: Global, text: &[u8]) -> Result<(), AllocError> {
         for lexeme in &lexemes(alloc, text)? {
-            if lexeme.kind == Kind::Directive {
+            if lexeme.kind == LexemeKind::Directive {
                 self.define(alloc, bytes_of(text, lexeme.span))?;
             }
         }
@@ -110,12 +110,12 @@ impl Constants {
     pub fn give(&mut self, alloc: Global, text: &[u8]) -> Result<bool, AllocError> {
         let found = lexemes(alloc, text)?;
         let defines = match found.as_slice() {
-            [name] if name.kind == Kind::Word => {
+            [name] if name.kind == LexemeKind::Word => {
                 let one = lexemes(alloc, b"1")?;
                 self.add(alloc, b"1", bytes_of(text, name.span), &one)?
             }
             [name, equal, value @ ..]
-                if name.kind == Kind::Word && equal.kind == Kind::Sign(b'=') => {
+                if name.kind == LexemeKind::Word && equal.kind == LexemeKind::Sign(b'=') => {
                 self.add(alloc, text, bytes_of(text, name.span), value)?
             }
             _ => Defines::Nothing,

@@ -4,10 +4,10 @@ ghost use Rattle.fmp_import.specs.Imports.{IsConfiguration, IsImported};
 ghost use Rattle.fmp_import.specs.Written.{block_view, plan_text};
 
 use crate::constants::Constants;
-use crate::lexemes::{Kind, lexemes};
+use crate::lexemes::{LexemeKind, lexemes};
 use crate::plan::Block;
 use crate::text::bytes_of;
-use crate::walking::{Walk, included_name};
+use crate::walking::{ConfigurationWalk, included_name};
 use crate::writing::append_plan;
 use fmp_cfgparse::read_cfg;
 use fmp_lex::BuildFault;
@@ -54,7 +54,7 @@ impl From<AllocError> for ImportFault {
 pub fn included(alloc: Global, text: &[u8]) -> Result<Vec<String>, AllocError> {
     let mut names = Vec::new(alloc);
     for lexeme in &lexemes(alloc, text)? {
-        if lexeme.kind == Kind::Directive
+        if lexeme.kind == LexemeKind::Directive
             && let Some(name) = included_name(bytes_of(text, lexeme.span))
         {
             names.push(String::from_utf8_lossy(alloc, name)?)?;
@@ -113,7 +113,7 @@ fn drafted(
     constants: Constants,
 ) -> Result<Draft, AllocError> {
     let found = lexemes(alloc, text)?;
-    let mut walk = Walk::new(alloc, text, &found, headers, constants);
+    let mut walk = ConfigurationWalk::new(alloc, text, &found, headers, constants);
     walk.go()?;
     Ok(Draft {
         blocks: walk.blocks,

@@ -1,12 +1,12 @@
 //! The text of a configuration in C is cut into lexemes.
 ghost use Rattle.std.specs.Prelude.{◌<◌, ◌≤◌, IfSome, length};
 
-use crate::plan::Span;
+use crate::plan::TextSpan;
 use std::alloc::{AllocError, Global};
 
 /// What a lexeme is.
 #[derive(Clone, Copy, PartialEq, Eq)]
-pub enum Kind {
+pub enum LexemeKind {
     /// A name or a word of C.
     Word,
     /// A number with its suffix.
@@ -22,15 +22,15 @@ pub enum Kind {
 /// A lexeme, where it stands, and its line, from 1.
 #[derive(Clone, Copy)]
 pub struct Lexeme {
-    pub kind: Kind,
-    pub span: Span,
+    pub kind: LexemeKind,
+    pub span: TextSpan,
     pub line: usize,
 }
 
 /// A piece of a text up to `end`: a lexeme, or spaces or a comment.
 #[derive(Clone, Copy)]
-struct Piece {
-    kind: Option<Kind>,
+struct TextPiece {
+    kind: Option<LexemeKind>,
     end: usize,
 }
 
@@ -120,49 +120,49 @@ fn comment_at(text: &[u8], next: usize) -> Option<usize>
 }
 
 /// The piece that begins at a place.
-fn piece_at(text: &[u8], at: usize) -> Piece
+fn piece_at(text: &[u8], at: usize) -> TextPiece
     requires { at < length text.now }
     ensures more { at < result.end }
     ensures within { result.end ≤ length text.now }
 {
     let next = at + 1;
     match text[at] {
-        b' ' | b'\t' | b'\r' | b'\n' | 11 | 12 => Piece {
+        b' ' | b'\t' | b'\r' | b'\n' | 11 | 12 => TextPiece {
             kind: None,
             end: next,
         },
-        b'#' => Piece {
-            kind: Some(Kind::Directive),
+        b'#' => TextPiece {
+            kind: Some(LexemeKind::Directive),
             end: line_end(text, next),
         },
-        quote @ (b'"' | b'\'') => Piece {
-            kind: Some(Kind::Quoted),
+        quote @ (b'"' | b'\'') => TextPiece {
+            kind: Some(LexemeKind::Quoted),
             end: quote_end(text, next, quote),
         },
         b'/' => match comment_at(text, next) {
-            Some(end) => Piece { kind: None, end },
-            None => Piece {
-                kind: Some(Kind::Sign(b'/')),
+            Some(end) => TextPiece { kind: None, end },
+            None => TextPiece {
+                kind: Some(LexemeKind::Sign(b'/')),
                 end: next,
             },
         },
-        byte if is_word(byte) => Piece {
+        byte if is_word(byte) => TextPiece {
             kind: Some(word_kind(byte)),
             end: word_end(text, next),
         },
-        byte => Piece {
-            kind: Some(Kind::Sign(byte)),
+        byte => TextPiece {
+            kind: Some(LexemeKind::Sign(byte)),
             end: next,
         },
     }
 }
 
 /// What a run of letters and digits is, by its first byte.
-fn word_kind(first: u8) -> Kind {
+fn word_kind(first: u8) -> LexemeKind {
     if first.is_ascii_digit() {
-        Kind::Number
+        LexemeKind::Number
     } else {
-        Kind::Word
+        LexemeKind::Word
     }
 }
 
@@ -177,9 +177,9 @@ pub fn lexemes(alloc: Global, text: &[u8]) -> Result<Vec<Lexeme>, AllocError> {
     let mut line: usize = 1;
     let mut at = 0;
     'pieces: while at < text.len() {
-        let Piece { kind, end } = piece_at(text, at);
+        let TextPiece { kind, end } = piece_at(text, at);
         if let Some(kind) = kind {
-            let span = Span { start: at, end };
+            let span = TextSpan { start: at, end };
             found.push(Lexeme { kind, span, line })?;
         }
         line = line.saturating_add(line_feeds(&text[at..end]));

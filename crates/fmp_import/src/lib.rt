@@ -16,4 +16,4 @@ mod writing;
 
 pub use constants::Constants;
 pub use importing::{Header, ImportFault, Imported, import, included};
-pub use plan::{Block, Class, Item, Record, Span};
+pub use plan::{Block, PlanItem, Record, SourceClass, TextSpan};

@@ -1,7 +1,7 @@
 //! What a static API of the source becomes.
-use crate::lexemes::{Kind, Lexeme};
-use crate::plan::{Item, Record};
-use crate::reading::{Field, Reading};
+use crate::lexemes::{Lexeme, LexemeKind};
+use crate::plan::{PlanItem, Record};
+use crate::reading::{SourceField, SourceReading};
 use crate::values::{NoValue, value_of};
 use fmp_base::Name;
 use fmp_base::words::{Api, Constant, find_api, find_constant, find_keyword, find_service};
@@ -48,7 +48,7 @@ const UNCHANGED: Changes = Changes {
 
 /// An object, and what it has otherwise than its source.
 #[derive(Drop)]
-pub struct Object {
+pub struct SourceObject {
     pub record: Record,
     pub changes: Changes,
 }
@@ -59,7 +59,7 @@ const WRONG_COUNT: Omission = Omission::Left("the number of its parameters is an
 #[derive(Clone, Copy)]
 pub struct Parameters<'a> {
     pub alloc: Global,
-    pub reading: Reading<'a>,
+    pub reading: SourceReading<'a>,
 }
 
 /// The attribute that has those of three constants that are set, or the other one.
@@ -68,13 +68,13 @@ fn joined(
     second: Option<Constant>,
     third: Option<Constant>,
     none: Constant,
-) -> Item {
+) -> PlanItem {
     match (first, second, third) {
-        (Some(a), Some(b), c) => Item::Attribute(a, Some(b), c),
-        (Some(a), None, c) => Item::Attribute(a, c, None),
-        (None, Some(b), c) => Item::Attribute(b, c, None),
-        (None, None, Some(c)) => Item::Attribute(c, None, None),
-        (None, None, None) => Item::Attribute(none, None, None),
+        (Some(a), Some(b), c) => PlanItem::Attribute(a, Some(b), c),
+        (Some(a), None, c) => PlanItem::Attribute(a, c, None),
+        (None, Some(b), c) => PlanItem::Attribute(b, c, None),
+        (None, None, Some(c)) => PlanItem::Attribute(c, None, None),
+        (None, None, None) => PlanItem::Attribute(none, None, None),
     }
 }
 
@@ -99,14 +99,14 @@ fn is_name(word: &[u8]) -> bool {
 
 impl Parameters<'_> {
     /// What stands behind an attribute.
-    fn items(&self, items: &[Item]) -> Result<Vec<Item>, AllocError> {
+    fn items(&self, items: &[PlanItem]) -> Result<Vec<PlanItem>, AllocError> {
         let mut rest = Vec::new(self.alloc);
         rest.extend_from_slice(items)?;
         Ok(rest)
     }
 
     /// The value of a parameter.
-    fn value(&self, field: Field, without: &'static str) -> Result<i64, Omission> {
+    fn value(&self, field: SourceField, without: &'static str) -> Result<i64, Omission> {
         match value_of(self.alloc, self.reading, self.reading.lexemes_of(field)) {
             Ok(value) => Ok(value),
             Err(NoValue::Unknown(lexeme)) => Err(Omission::Left(without, Some(lexeme))),
@@ -118,7 +118,7 @@ impl Parameters<'_> {
     /// The value of a parameter, in this range.
     fn ranged(
         &self,
-        field: Field,
+        field: SourceField,
         low: i32,
         high: i32,
         outside: &'static str,
@@ -130,15 +130,15 @@ impl Parameters<'_> {
     }
 
     /// A name.
-    fn name(&self, field: Field, without: &'static str) -> Result<Item, Omission> {
+    fn name(&self, field: SourceField, without: &'static str) -> Result<PlanItem, Omission> {
         match self.reading.word_of(field) {
-            Some(word) if is_name(self.reading.bytes(word)) => Ok(Item::Name(word.span)),
+            Some(word) if is_name(self.reading.bytes(word)) => Ok(PlanItem::Name(word.span)),
             _ => Err(Omission::Left(without, None)),
         }
     }
 
     /// The name of an object.
-    fn subject(&self, field: Field) -> Result<Item, Omission> {
+    fn subject(&self, field: SourceField) -> Result<PlanItem, Omission> {
         self.name(
             field,
             "its name is no word, is a word of this project, or has more than 31 bytes",
@@ -146,7 +146,7 @@ impl Parameters<'_> {
     }
 
     /// The name of a body.
-    fn entry(&self, field: Field) -> Result<Item, Omission> {
+    fn entry(&self, field: SourceField) -> Result<PlanItem, Omission> {
         self.name(
             field,
             "its entry is no word, is a word of this project, or has more than 31 bytes",
@@ -154,12 +154,12 @@ impl Parameters<'_> {
     }
 
     /// The bits of an attribute that are known, and whether there are others.
-    fn bits(&self, field: Field) -> Result<(i64, bool), Omission> {
+    fn bits(&self, field: SourceField) -> Result<(i64, bool), Omission> {
         let mut bits = 0;
         let mut others = false;
         for lexeme in self.reading.lexemes_of(field) {
             match lexeme.kind {
-                Kind::Word | Kind::Number => {
+                LexemeKind::Word | LexemeKind::Number => {
                     match value_of(self.alloc, self.reading, &[*lexeme]) {
                         Ok(value) => bits |= value,
                         Err(NoValue::Memory) => return Err(Omission::Memory),
@@ -175,12 +175,12 @@ impl Parameters<'_> {
     /// An attribute of these constants, or of the last one if it has none of them, and whether it has others.
     fn attribute(
         &self,
-        field: Field,
+        field: SourceField,
         first: Constant,
         second: Constant,
         third: Constant,
         none: Constant,
-    ) -> Result<(Item, bool), Omission> {
+    ) -> Result<(PlanItem, bool), Omission> {
         let (bits, others) = self.bits(field)?;
         let known = i64::from(first.value() | second.value() | third.value());
         let first = set_in(bits, first);
@@ -193,29 +193,29 @@ impl Parameters<'_> {
     }
 
     /// The attribute of a queue of waiting tasks.
-    fn order(&self, field: Field) -> Result<(Item, bool), Omission> {
+    fn order(&self, field: SourceField) -> Result<(PlanItem, bool), Omission> {
         let fifo = Constant::TaTfifo;
         self.attribute(field, Constant::TaTpri, fifo, fifo, fifo)
     }
 
     /// Extended information, and whether it is 0 in the place of something else.
-    fn information(&self, field: Field) -> Result<(Item, bool), Omission> {
+    fn information(&self, field: SourceField) -> Result<(PlanItem, bool), Omission> {
         match self.ranged(field, -i32::MAX, i32::MAX, "") {
-            Ok(number) => Ok((Item::Number(number), false)),
+            Ok(number) => Ok((PlanItem::Number(number), false)),
             Err(Omission::Memory) => Err(Omission::Memory),
-            Err(Omission::Left(..)) => Ok((Item::Number(0), true)),
+            Err(Omission::Left(..)) => Ok((PlanItem::Number(0), true)),
         }
     }
 
     /// Whether memory is given.
-    fn has_area(&self, field: Field) -> bool {
+    fn has_area(&self, field: SourceField) -> bool {
         match self.reading.word_of(field) {
             Some(word) => self.reading.bytes(word) != b"NULL".as_slice(),
             None => true,
         }
     }
 
-    fn task(&self, fields: &[Field]) -> Result<Object, Omission> {
+    fn task(&self, fields: &[SourceField]) -> Result<SourceObject, Omission> {
         let [name, attribute, information, entry, priority, stack, area] = fields else {
             return Err(WRONG_COUNT);
         };
@@ -233,9 +233,9 @@ impl Parameters<'_> {
             rest: self.items(&[
                 information,
                 entry,
-                Item::Number(priority),
-                Item::Number(size.min(65536)),
-                Item::Null,
+                PlanItem::Number(priority),
+                PlanItem::Number(size.min(65536)),
+                PlanItem::Null,
             ])?,
         };
         let changes = Changes {
@@ -245,10 +245,10 @@ impl Parameters<'_> {
             stack: size > 65536,
             times: false,
         };
-        Ok(Object { record, changes })
+        Ok(SourceObject { record, changes })
     }
 
-    fn semaphore(&self, fields: &[Field]) -> Result<Object, Omission> {
+    fn semaphore(&self, fields: &[SourceField]) -> Result<SourceObject, Omission> {
         let [name, attribute, count, most] = fields else {
             return Err(WRONG_COUNT);
         };
@@ -265,16 +265,16 @@ impl Parameters<'_> {
             api: Api::CreSem,
             subject,
             attribute,
-            rest: self.items(&[Item::Number(count), Item::Number(most)])?,
+            rest: self.items(&[PlanItem::Number(count), PlanItem::Number(most)])?,
         };
         let changes = Changes {
             attribute: others,
             ..UNCHANGED
         };
-        Ok(Object { record, changes })
+        Ok(SourceObject { record, changes })
     }
 
-    fn flag(&self, fields: &[Field]) -> Result<Object, Omission> {
+    fn flag(&self, fields: &[SourceField]) -> Result<SourceObject, Omission> {
         let [name, attribute, pattern] = fields else {
             return Err(WRONG_COUNT);
         };
@@ -291,16 +291,16 @@ impl Parameters<'_> {
             api: Api::CreFlg,
             subject,
             attribute,
-            rest: self.items(&[Item::Number(pattern)])?,
+            rest: self.items(&[PlanItem::Number(pattern)])?,
         };
         let changes = Changes {
             attribute: others,
             ..UNCHANGED
         };
-        Ok(Object { record, changes })
+        Ok(SourceObject { record, changes })
     }
 
-    fn data_queue(&self, fields: &[Field]) -> Result<Object, Omission> {
+    fn data_queue(&self, fields: &[SourceField]) -> Result<SourceObject, Omission> {
         let [name, attribute, capacity, area] = fields else {
             return Err(WRONG_COUNT);
         };
@@ -311,17 +311,17 @@ impl Parameters<'_> {
             api: Api::CreDtq,
             subject,
             attribute,
-            rest: self.items(&[Item::Number(capacity), Item::Null])?,
+            rest: self.items(&[PlanItem::Number(capacity), PlanItem::Null])?,
         };
         let changes = Changes {
             attribute: others,
             area: self.has_area(*area),
             ..UNCHANGED
         };
-        Ok(Object { record, changes })
+        Ok(SourceObject { record, changes })
     }
 
-    fn mailbox(&self, fields: &[Field]) -> Result<Object, Omission> {
+    fn mailbox(&self, fields: &[SourceField]) -> Result<SourceObject, Omission> {
         let [name, attribute, most, area] = fields else {
             return Err(WRONG_COUNT);
         };
@@ -339,17 +339,17 @@ impl Parameters<'_> {
             api: Api::CreMbx,
             subject,
             attribute,
-            rest: self.items(&[Item::Number(most), Item::Null])?,
+            rest: self.items(&[PlanItem::Number(most), PlanItem::Null])?,
         };
         let changes = Changes {
             attribute: others,
             area: self.has_area(*area),
             ..UNCHANGED
         };
-        Ok(Object { record, changes })
+        Ok(SourceObject { record, changes })
     }
 
-    fn spin_lock(&self, fields: &[Field]) -> Result<Object, Omission> {
+    fn spin_lock(&self, fields: &[SourceField]) -> Result<SourceObject, Omission> {
         let [name, attribute, more @ ..] = fields else {
             return Err(WRONG_COUNT);
         };
@@ -366,11 +366,11 @@ impl Parameters<'_> {
             attribute: others || !more.is_empty(),
             ..UNCHANGED
         };
-        Ok(Object { record, changes })
+        Ok(SourceObject { record, changes })
     }
 
     /// A cyclic handler, whose times may be in microseconds.
-    fn cyclic(&self, fields: [Field; 6], times: bool) -> Result<Object, Omission> {
+    fn cyclic(&self, fields: [SourceField; 6], times: bool) -> Result<SourceObject, Omission> {
         let [name, attribute, information, entry, period, phase] = fields;
         let null = Constant::TaNull;
         let subject = self.subject(name)?;
@@ -386,8 +386,8 @@ impl Parameters<'_> {
             rest: self.items(&[
                 information,
                 entry,
-                Item::Number(period),
-                Item::Number(phase),
+                PlanItem::Number(period),
+                PlanItem::Number(phase),
             ])?,
         };
         let changes = Changes {
@@ -396,11 +396,11 @@ impl Parameters<'_> {
             times,
             ..UNCHANGED
         };
-        Ok(Object { record, changes })
+        Ok(SourceObject { record, changes })
     }
 
     /// Whether a field is a kind of notification of FMP3.
-    fn notifies(&self, field: Field) -> bool {
+    fn notifies(&self, field: SourceField) -> bool {
         match self.reading.word_of(field) {
             Some(word) => self.reading.bytes(word).starts_with(b"TNFY_"),
             None => false,
@@ -408,7 +408,7 @@ impl Parameters<'_> {
     }
 
     /// Whether a field is the notification by a handler.
-    fn calls_handler(&self, field: Field) -> bool {
+    fn calls_handler(&self, field: SourceField) -> bool {
         match self.reading.word_of(field) {
             Some(word) => self.reading.bytes(word) == b"TNFY_HANDLER".as_slice(),
             None => false,
@@ -416,7 +416,7 @@ impl Parameters<'_> {
     }
 
     /// A cyclic handler, also in the form of FMP3, whose times are in microseconds.
-    fn any_cyclic(&self, fields: &[Field]) -> Result<Object, Omission> {
+    fn any_cyclic(&self, fields: &[SourceField]) -> Result<SourceObject, Omission> {
         match fields {
             [name, attribute, kind, information, entry, period, phase]
                 if self.calls_handler(*kind) => {
@@ -435,7 +435,7 @@ impl Parameters<'_> {
         }
     }
 
-    fn interrupt(&self, fields: &[Field]) -> Result<Object, Omission> {
+    fn interrupt(&self, fields: &[SourceField]) -> Result<SourceObject, Omission> {
         let [number, attribute, entry] = fields else {
             return Err(WRONG_COUNT);
         };
@@ -445,7 +445,7 @@ impl Parameters<'_> {
         let entry = self.entry(*entry)?;
         let record = Record {
             api: Api::DefInh,
-            subject: Item::Number(number),
+            subject: PlanItem::Number(number),
             attribute,
             rest: self.items(&[entry])?,
         };
@@ -453,11 +453,11 @@ impl Parameters<'_> {
             attribute: others,
             ..UNCHANGED
         };
-        Ok(Object { record, changes })
+        Ok(SourceObject { record, changes })
     }
 
     /// The object of a static API of the source.
-    pub fn object(&self, api: Api, fields: &[Field]) -> Result<Object, Omission> {
+    pub fn object(&self, api: Api, fields: &[SourceField]) -> Result<SourceObject, Omission> {
         match api {
             Api::CreTsk => self.task(fields),
             Api::CreSem => self.semaphore(fields),

@@ -3,16 +3,16 @@ use fmp_base::words::{Api, Constant};
 
 /// A part of a text: its bytes from `start` up to `end`, as far as the text goes.
 #[derive(Clone, Copy)]
-pub struct Span {
+pub struct TextSpan {
     pub start: usize,
     pub end: usize,
 }
 
 /// What a static API is given at one place.
 #[derive(Clone, Copy)]
-pub enum Item {
+pub enum PlanItem {
     /// A name that stands here in the source.
-    Name(Span),
+    Name(TextSpan),
     Number(i32),
     /// The constants of an attribute.
     Attribute(Constant, Option<Constant>, Option<Constant>),
@@ -24,15 +24,15 @@ pub enum Item {
 pub struct Record {
     pub api: Api,
     /// The name, or the number of an interrupt.
-    pub subject: Item,
-    pub attribute: Item,
+    pub subject: PlanItem,
+    pub attribute: PlanItem,
     /// What stands behind the attribute.
-    pub rest: Vec<Item>,
+    pub rest: Vec<PlanItem>,
 }
 
 /// A class: the processor on which its tasks begin, from 1, and whether they stay there.
 #[derive(Clone, Copy, PartialEq, Eq)]
-pub struct Class {
+pub struct SourceClass {
     pub processor: u8,
     pub only: bool,
 }
@@ -40,6 +40,6 @@ pub struct Class {
 /// The objects of a class.
 #[derive(Drop)]
 pub struct Block {
-    pub class: Class,
+    pub class: SourceClass,
     pub records: Vec<Record>,
 }

@@ -3,7 +3,7 @@ ghost use Rattle.std.specs.Prelude.{◌≡◌, ◌++◌, decimal, map, OnOk};
 ghost use Rattle.std.specs.Fmt.{signed_decimal};
 ghost use Rattle.fmp_import.specs.Written.{span_text, shown_byte};
 
-use crate::plan::Span;
+use crate::plan::TextSpan;
 use itoa::Buffer;
 use std::alloc::AllocError;
 
@@ -29,7 +29,7 @@ pub fn append_count(count: usize, out: &mut Vec<u8>) -> Result<(), AllocError>
 }
 
 /// The bytes of a part of a text.
-pub fn bytes_of(text: &[u8], span: Span) -> &[u8]
+pub fn bytes_of(text: &[u8], span: TextSpan) -> &[u8]
     ensures { result.now ≡ span_text text.now span }
 {
     let end = span.end.min(text.len());

@@ -2,8 +2,8 @@
 //! parentheses and casts.
 ghost use Rattle.std.specs.Prelude.{◌<◌, ◌≤◌, length};
 
-use crate::lexemes::{Kind, Lexeme};
-use crate::reading::Reading;
+use crate::lexemes::{Lexeme, LexemeKind};
+use crate::reading::SourceReading;
 use std::alloc::{AllocFailed, Global};
 
 /// Why an expression has no value.
@@ -25,7 +25,7 @@ impl<T: Drop> From<AllocFailed<T>> for NoValue {
 
 /// An operator that waits for what stands behind it.
 #[derive(Clone, Copy, PartialEq, Eq)]
-enum Operator {
+enum PendingOperator {
     Open,
     Or,
     Add,
@@ -34,15 +34,15 @@ enum Operator {
     Negate,
 }
 
-impl Operator {
+impl PendingOperator {
     /// How tightly it binds.
     fn binding(self) -> u8 {
         match self {
-            Operator::Open => 0,
-            Operator::Or => 1,
-            Operator::Add | Operator::Subtract => 2,
-            Operator::Multiply => 3,
-            Operator::Negate => 4,
+            PendingOperator::Open => 0,
+            PendingOperator::Or => 1,
+            PendingOperator::Add | PendingOperator::Subtract => 2,
+            PendingOperator::Multiply => 3,
+            PendingOperator::Negate => 4,
         }
     }
 }
@@ -51,7 +51,7 @@ impl Operator {
 #[derive(Drop)]
 struct Calculation {
     values: Vec<i64>,
-    operators: Vec<Operator>,
+    operators: Vec<PendingOperator>,
     /// Whether an operand comes next.
     wants: bool,
 }
@@ -147,14 +147,14 @@ fn number_value(number: &[u8]) -> Option<i64> {
 }
 
 /// Where the cast ends whose parenthesis stands here, if it is one.
-fn cast_end(reading: Reading<'_>, lexemes: &[Lexeme], at: usize) -> Option<usize>
+fn cast_end(reading: SourceReading<'_>, lexemes: &[Lexeme], at: usize) -> Option<usize>
     requires { at < length lexemes.now }
 {
     for i in at + 1..lexemes.len() {
         match lexemes[i].kind {
-            Kind::Word if is_type(reading.bytes(lexemes[i])) => {}
-            Kind::Sign(b'*') if i > at + 1 => {}
-            Kind::Sign(b')') if i > at + 1 => return Some(i + 1),
+            LexemeKind::Word if is_type(reading.bytes(lexemes[i])) => {}
+            LexemeKind::Sign(b'*') if i > at + 1 => {}
+            LexemeKind::Sign(b')') if i > at + 1 => return Some(i + 1),
             _ => return None,
         }
     }
@@ -163,18 +163,18 @@ fn cast_end(reading: Reading<'_>, lexemes: &[Lexeme], at: usize) -> Option<usize
 
 impl Calculation {
     /// Applies an operator to the last values.
-    fn apply(&mut self, operator: Operator) -> Result<(), NoValue> {
+    fn apply(&mut self, operator: PendingOperator) -> Result<(), NoValue> {
         let right = self.values.pop().ok_or(NoValue::Form)?;
         let left = match operator {
-            Operator::Negate => 0,
+            PendingOperator::Negate => 0,
             _ => self.values.pop().ok_or(NoValue::Form)?,
         };
         let value = match operator {
-            Operator::Open => None,
-            Operator::Or => Some(left | right),
-            Operator::Add => left.checked_add(right),
-            Operator::Subtract | Operator::Negate => left.checked_sub(right),
-            Operator::Multiply => left.checked_mul(right),
+            PendingOperator::Open => None,
+            PendingOperator::Or => Some(left | right),
+            PendingOperator::Add => left.checked_add(right),
+            PendingOperator::Subtract | PendingOperator::Negate => left.checked_sub(right),
+            PendingOperator::Multiply => left.checked_mul(right),
         };
         self.values.push(value.ok_or(NoValue::Form)?)?;
         Ok(())
@@ -200,7 +200,7 @@ impl Calculation {
         Ok(())
     }
 
-    fn take_operator(&mut self, operator: Operator) -> Result<(), NoValue> {
+    fn take_operator(&mut self, operator: PendingOperator) -> Result<(), NoValue> {
         self.reduce(operator.binding())?;
         self.operators.push(operator)?;
         self.wants = true;
@@ -211,7 +211,7 @@ impl Calculation {
     fn close(&mut self) -> Result<(), NoValue> {
         self.reduce(1)?;
         match self.operators.pop() {
-            Some(Operator::Open) => Ok(()),
+            Some(PendingOperator::Open) => Ok(()),
             _ => Err(NoValue::Form),
         }
     }
@@ -219,7 +219,7 @@ impl Calculation {
     /// Takes the operand that begins here, and says where the next lexeme is.
     fn operand(
         &mut self,
-        reading: Reading<'_>,
+        reading: SourceReading<'_>,
         lexemes: &[Lexeme],
         at: usize,
     ) -> Result<usize, NoValue>
@@ -228,17 +228,17 @@ impl Calculation {
         let lexeme = lexemes[at];
         let bytes = reading.bytes(lexeme);
         match lexeme.kind {
-            Kind::Number => self.take_value(number_value(bytes).ok_or(NoValue::Form)?)?,
-            Kind::Word => match reading.constants.value_named(bytes) {
+            LexemeKind::Number => self.take_value(number_value(bytes).ok_or(NoValue::Form)?)?,
+            LexemeKind::Word => match reading.constants.value_named(bytes) {
                 Some(value) => self.take_value(value)?,
                 None => return Err(NoValue::Unknown(lexeme)),
             },
-            Kind::Sign(b'(') => match cast_end(reading, lexemes, at) {
+            LexemeKind::Sign(b'(') => match cast_end(reading, lexemes, at) {
                 Some(end) => return Ok(end),
-                None => self.operators.push(Operator::Open)?,
+                None => self.operators.push(PendingOperator::Open)?,
             },
-            Kind::Sign(b'-') => self.operators.push(Operator::Negate)?,
-            Kind::Sign(b'+') => {}
+            LexemeKind::Sign(b'-') => self.operators.push(PendingOperator::Negate)?,
+            LexemeKind::Sign(b'+') => {}
             _ => return Err(NoValue::Form),
         }
         Ok(at + 1)
@@ -247,11 +247,11 @@ impl Calculation {
     /// Takes a lexeme behind an operand.
     fn operator(&mut self, lexeme: Lexeme) -> Result<(), NoValue> {
         match lexeme.kind {
-            Kind::Sign(b'|') => self.take_operator(Operator::Or),
-            Kind::Sign(b'+') => self.take_operator(Operator::Add),
-            Kind::Sign(b'-') => self.take_operator(Operator::Subtract),
-            Kind::Sign(b'*') => self.take_operator(Operator::Multiply),
-            Kind::Sign(b')') => self.close(),
+            LexemeKind::Sign(b'|') => self.take_operator(PendingOperator::Or),
+            LexemeKind::Sign(b'+') => self.take_operator(PendingOperator::Add),
+            LexemeKind::Sign(b'-') => self.take_operator(PendingOperator::Subtract),
+            LexemeKind::Sign(b'*') => self.take_operator(PendingOperator::Multiply),
+            LexemeKind::Sign(b')') => self.close(),
             _ => Err(NoValue::Form),
         }
     }
@@ -259,7 +259,7 @@ impl Calculation {
     /// Takes the lexeme at a place, and says where the next one is.
     fn take(
         &mut self,
-        reading: Reading<'_>,
+        reading: SourceReading<'_>,
         lexemes: &[Lexeme],
         at: usize,
     ) -> Result<usize, NoValue>
@@ -283,7 +283,11 @@ impl Calculation {
 }
 
 /// The value of an expression.
-pub fn value_of(alloc: Global, reading: Reading<'_>, lexemes: &[Lexeme]) -> Result<i64, NoValue> {
+pub fn value_of(
+    alloc: Global,
+    reading: SourceReading<'_>,
+    lexemes: &[Lexeme],
+) -> Result<i64, NoValue> {
     let mut calculation = Calculation {
         values: Vec::new(alloc),
         operators: Vec::new(alloc),

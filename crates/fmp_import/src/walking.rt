@@ -1,11 +1,11 @@
 //! A configuration of C is gone over, statement by statement.
 use crate::constants::{Constants, Defines};
 use crate::importing::Header;
-use crate::lexemes::{Kind, Lexeme};
+use crate::lexemes::{Lexeme, LexemeKind};
 use crate::notes::append_note;
-use crate::objects::{Changes, Object, Omission, Parameters};
-use crate::plan::{Block, Class, Item, Record};
-use crate::reading::{Field, Reading};
+use crate::objects::{Changes, Omission, Parameters, SourceObject};
+use crate::plan::{Block, PlanItem, Record, SourceClass};
+use crate::reading::{SourceField, SourceReading};
 use crate::text::bytes_of;
 use fmp_base::words::{Api, find_api};
 use std::alloc::{AllocError, Global};
@@ -14,7 +14,7 @@ use std::alloc::{AllocError, Global};
 const MOST: usize = 255;
 
 /// The class of objects that stand outside of one.
-const OUTSIDE: Class = Class {
+const OUTSIDE: SourceClass = SourceClass {
     processor: 1,
     only: false,
 };
@@ -26,7 +26,7 @@ const CHANGED: &str = ": ";
 /// What a block in braces is.
 #[derive(Clone, Copy)]
 enum Scope {
-    Class(Class),
+    Class(SourceClass),
     /// A class that this project has not.
     NoClass,
     /// A domain of protection, or anything else.
@@ -35,7 +35,7 @@ enum Scope {
 
 /// A configuration that is gone over.
 #[derive(Drop)]
-pub struct Walk<'a> {
+pub struct ConfigurationWalk<'a> {
     alloc: Global,
     text: &'a [u8],
     lexemes: &'a [Lexeme],
@@ -54,7 +54,7 @@ pub struct Walk<'a> {
     /// Where its open field begins.
     from: usize,
     /// Its fields.
-    fields: Vec<Field>,
+    fields: Vec<SourceField>,
     /// Whether an object outside of a class was told.
     told_outside: bool,
 }
@@ -82,7 +82,7 @@ fn why_left_out(word: &[u8]) -> &'static str {
 }
 
 /// The class of this name.
-fn class_named(name: &[u8]) -> Option<Class> {
+fn class_named(name: &[u8]) -> Option<SourceClass> {
     let (digit, only) = match name {
         [b'T', b'C', b'L', b'_', digit] => (digit, false),
         [b'T', b'C', b'L', b'_', digit, b'_', b'O', b'N', b'L', b'Y'] => (digit, true),
@@ -104,7 +104,7 @@ fn class_named(name: &[u8]) -> Option<Class> {
         _ => return None,
     };
     match *digit {
-        b'1'..=b'8' => Some(Class {
+        b'1'..=b'8' => Some(SourceClass {
             processor: *digit - b'0',
             only,
         }),
@@ -113,15 +113,16 @@ fn class_named(name: &[u8]) -> Option<Class> {
 }
 
 /// Whether two static APIs define the same: objects of one name, or handlers of one interrupt.
-fn is_same(text: &[u8], one: Item, other: Item) -> bool {
+fn is_same(text: &[u8], one: PlanItem, other: PlanItem) -> bool {
     match (one, other) {
-        (Item::Name(one), Item::Name(other)) => bytes_of(text, one) == bytes_of(text, other),
-        (Item::Number(one), Item::Number(other)) => one == other,
+        (PlanItem::Name(one), PlanItem::Name(other)) => bytes_of(text, one)
+            == bytes_of(text, other),
+        (PlanItem::Number(one), PlanItem::Number(other)) => one == other,
         _ => false,
     }
 }
 
-impl<'a> Walk<'a> {
+impl<'a> ConfigurationWalk<'a> {
     /// A text that is not gone over yet.
     pub fn new(
         alloc: Global,
@@ -129,8 +130,8 @@ impl<'a> Walk<'a> {
         lexemes: &'a [Lexeme],
         headers: &'a [Header],
         constants: Constants,
-    ) -> Walk<'a> {
-        Walk {
+    ) -> ConfigurationWalk<'a> {
+        ConfigurationWalk {
             alloc,
             text,
             lexemes,
@@ -147,8 +148,8 @@ impl<'a> Walk<'a> {
         }
     }
 
-    fn reading(&self) -> Reading<'_> {
-        Reading {
+    fn reading(&self) -> SourceReading<'_> {
+        SourceReading {
             text: self.text,
             lexemes: self.lexemes,
             constants: &self.constants,
@@ -177,7 +178,7 @@ impl<'a> Walk<'a> {
     }
 
     /// How many objects of a kind there are, and whether one is defined already.
-    fn look_up(&self, api: Api, subject: Item) -> (usize, bool) {
+    fn look_up(&self, api: Api, subject: PlanItem) -> (usize, bool) {
         let mut count: usize = 0;
         let mut is_there = false;
         for block in &self.blocks {
@@ -192,7 +193,7 @@ impl<'a> Walk<'a> {
     }
 
     /// Puts an object into its class.
-    fn put(&mut self, class: Class, record: Record) -> Result<(), AllocError> {
+    fn put(&mut self, class: SourceClass, record: Record) -> Result<(), AllocError> {
         if let Some(block) = self.blocks.last_mut()
             && block.class == class
         {
@@ -234,8 +235,13 @@ impl<'a> Walk<'a> {
     }
 
     /// Adds an object that stands at a word, in a class.
-    fn add(&mut self, at: Lexeme, class: Class, object: Object) -> Result<(), AllocError> {
-        let Object { record, changes } = object;
+    fn add(
+        &mut self,
+        at: Lexeme,
+        class: SourceClass,
+        object: SourceObject,
+    ) -> Result<(), AllocError> {
+        let SourceObject { record, changes } = object;
         let (count, is_there) = self.look_up(record.api, record.subject);
         if is_there {
             return self.note(at, LEFT_OUT, "it is defined before");
@@ -259,7 +265,7 @@ impl<'a> Walk<'a> {
     }
 
     /// The class into which an object goes, if there is one.
-    fn class_for(&mut self, at: Lexeme) -> Result<Option<Class>, AllocError> {
+    fn class_for(&mut self, at: Lexeme) -> Result<Option<SourceClass>, AllocError> {
         match self.class() {
             Some(Scope::Class(class)) => Ok(Some(class)),
             Some(_) => {
@@ -347,7 +353,7 @@ impl<'a> Walk<'a> {
     /// Ends the open field before a place.
     fn end_field(&mut self, place: usize) -> Result<(), AllocError> {
         if self.from < place {
-            self.fields.push(Field {
+            self.fields.push(SourceField {
                 from: self.from,
                 to: place,
             })?;
@@ -386,14 +392,14 @@ impl<'a> Walk<'a> {
     /// Takes a lexeme outside of statements.
     fn begin(&mut self, lexeme: Lexeme) -> Result<(), AllocError> {
         match lexeme.kind {
-            Kind::Word => {
+            LexemeKind::Word => {
                 self.word = Some(lexeme);
                 self.depth = 0;
                 self.fields.clear();
                 Ok(())
             }
-            Kind::Sign(b'}') => self.close_block(lexeme),
-            Kind::Sign(b';') => Ok(()),
+            LexemeKind::Sign(b'}') => self.close_block(lexeme),
+            LexemeKind::Sign(b';') => Ok(()),
             _ => self.note(lexeme, LEFT_OUT, "it begins no static API"),
         }
     }
@@ -408,18 +414,18 @@ impl<'a> Walk<'a> {
     /// Takes the lexeme at a place outside of the parentheses of a statement.
     fn go_outside(&mut self, word: Lexeme, place: usize, lexeme: Lexeme) -> Result<(), AllocError> {
         match lexeme.kind {
-            Kind::Sign(b';') => self.end_statement(word),
-            Kind::Sign(b'{') => self.open_block(word),
-            Kind::Sign(b'(') => {
+            LexemeKind::Sign(b';') => self.end_statement(word),
+            LexemeKind::Sign(b'{') => self.open_block(word),
+            LexemeKind::Sign(b'(') => {
                 self.depth = 1;
                 self.from = place.saturating_add(1);
                 Ok(())
             }
-            Kind::Sign(b'}') => {
+            LexemeKind::Sign(b'}') => {
                 self.leave(word)?;
                 self.close_block(lexeme)
             }
-            Kind::Word if !self.fields.is_empty() => {
+            LexemeKind::Word if !self.fields.is_empty() => {
                 self.leave(word)?;
                 self.begin(lexeme)
             }
@@ -428,22 +434,22 @@ impl<'a> Walk<'a> {
     }
 
     /// Takes the lexeme at a place in the parentheses of a statement.
-    fn go_on(&mut self, word: Lexeme, place: usize, kind: Kind) -> Result<(), AllocError> {
+    fn go_on(&mut self, word: Lexeme, place: usize, kind: LexemeKind) -> Result<(), AllocError> {
         match (kind, self.depth) {
-            (Kind::Sign(b';'), _) => self.end_statement(word),
-            (Kind::Sign(b'('), depth) => {
+            (LexemeKind::Sign(b';'), _) => self.end_statement(word),
+            (LexemeKind::Sign(b'('), depth) => {
                 self.depth = depth.saturating_add(1);
                 Ok(())
             }
-            (Kind::Sign(b')'), 1) => {
+            (LexemeKind::Sign(b')'), 1) => {
                 self.depth = 0;
                 self.end_field(place)
             }
-            (Kind::Sign(b')'), depth) => {
+            (LexemeKind::Sign(b')'), depth) => {
                 self.depth = depth.saturating_sub(1);
                 Ok(())
             }
-            (Kind::Sign(b',' | b'{' | b'}'), 1) => self.end_field(place),
+            (LexemeKind::Sign(b',' | b'{' | b'}'), 1) => self.end_field(place),
             _ => Ok(()),
         }
     }
@@ -451,7 +457,7 @@ impl<'a> Walk<'a> {
     /// Takes the lexeme at a place.
     fn take(&mut self, place: usize, lexeme: Lexeme) -> Result<(), AllocError> {
         match (lexeme.kind, self.word) {
-            (Kind::Directive, _) => self.directive(lexeme),
+            (LexemeKind::Directive, _) => self.directive(lexeme),
             (_, None) => self.begin(lexeme),
             (_, Some(word)) if self.depth == 0 => self.go_outside(word, place, lexeme),
             (kind, Some(word)) => self.go_on(word, place, kind),

@@ -3,7 +3,7 @@ ghost use Rattle.std.specs.Prelude.{◌≡◌, ◌++◌, map, OnOk};
 ghost use Rattle.fmp_import.specs.Written as spec;
 ghost use Rattle.fmp_import.specs.Written.{block_text, block_view, blocks_text, class_text, further_text, item_text, more_text, or_text, plan_text, record_text, record_view, records_text};
 
-use crate::plan::{Block, Class, Item, Record};
+use crate::plan::{Block, PlanItem, Record, SourceClass};
 use crate::text::{append, append_count, append_signed, bytes_of};
 use fmp_base::words::Constant;
 use std::alloc::AllocError;
@@ -22,24 +22,24 @@ fn append_or(constant: Option<Constant>, out: &mut Vec<u8>) -> Result<(), AllocE
 }
 
 /// Appends what a static API is given at one place.
-fn append_item(source: &[u8], item: Item, out: &mut Vec<u8>) -> Result<(), AllocError>
+fn append_item(source: &[u8], item: PlanItem, out: &mut Vec<u8>) -> Result<(), AllocError>
     ensures { OnOk result (out.new.items ≡ out.old.items ++ item_text source.now item) }
 {
     match item {
-        Item::Name(span) => append(bytes_of(source, span), out),
-        Item::Number(number) => append_signed(number, out),
-        Item::Attribute(first, second, third) => {
+        PlanItem::Name(span) => append(bytes_of(source, span), out),
+        PlanItem::Number(number) => append_signed(number, out),
+        PlanItem::Attribute(first, second, third) => {
             append(first.name().as_bytes(), out)?;
             append_or(second, out)?;
             append_or(third, out)
         }
-        Item::Null => append(b"NULL", out),
+        PlanItem::Null => append(b"NULL", out),
     }
 }
 
 /// Appends something that stands behind an attribute.
 #[tactic(auto, unfolding(crate::specs::Written::further_text))]
-fn append_further(source: &[u8], item: Item, out: &mut Vec<u8>) -> Result<(), AllocError>
+fn append_further(source: &[u8], item: PlanItem, out: &mut Vec<u8>) -> Result<(), AllocError>
     ensures { OnOk result (out.new.items ≡ out.old.items ++ further_text source.now item) }
 {
     append(b", ", out)?;
@@ -47,7 +47,7 @@ fn append_further(source: &[u8], item: Item, out: &mut Vec<u8>) -> Result<(), Al
 }
 
 /// Appends what stands behind an attribute.
-fn append_more(source: &[u8], items: &[Item], out: &mut Vec<u8>) -> Result<(), AllocError>
+fn append_more(source: &[u8], items: &[PlanItem], out: &mut Vec<u8>) -> Result<(), AllocError>
     ensures { OnOk result (out.new.items ≡ out.old.items ++ more_text source.now items.now) }
 {
     for item in items {
@@ -98,7 +98,7 @@ fn only_text(only: bool) -> &'static [u8]
 
 /// Appends the name of a class.
 #[tactic(auto, unfolding(crate::specs::Written::class_text))]
-fn append_class(class: Class, out: &mut Vec<u8>) -> Result<(), AllocError>
+fn append_class(class: SourceClass, out: &mut Vec<u8>) -> Result<(), AllocError>
     ensures { OnOk result (out.new.items ≡ out.old.items ++ class_text class) }
 {
     append(b"TCL_", out)?;

@@ -9,7 +9,7 @@ use Rattle.fmp_lex.specs.declared.token.TokenKind.TheVariants as kind
 use Rattle.fmp_lex.specs.declared.token.LexFault.TheVariants.{Syntax, Limit}
 use Rattle.fmp_base.specs.Names.{name_from}
 use Rattle.fmp_lex.specs.declared.token.Symbol.{Symbol}
-use Rattle.fmp_lex.specs.declared.scanning.Class.TheVariants as class
+use Rattle.fmp_lex.specs.declared.scanning.ByteClass.TheVariants as class
 use Rattle.fmp_lex.specs.declared.cutting.PieceStart.{PieceStart}
 use Rattle.fmp_lex.specs.declared.cutting.PieceStart.TheVariants as start
 use Rattle.fmp_lex.specs.Cutting.{Piece}

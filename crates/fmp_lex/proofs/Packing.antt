@@ -6,7 +6,7 @@ use Rattle.std.proofs.lemmas.List.Elements.{All-append}
 use Rattle.std.proofs.lemmas.Bool.{cases_lt}
 use Rattle.std.proofs.lemmas.Option.{slice_get-map, slice_get-get_or, slice_get_past}
 use Rattle.fmp_lex.specs.declared.packed.Packed.{Packed}
-use Rattle.fmp_lex.specs.declared.packed.Shape.{Shape}
+use Rattle.fmp_lex.specs.declared.packed.TokenShape.{TokenShape}
 use Rattle.fmp_lex.specs.declared.place.Place.{Place}
 use Rattle.fmp_lex.specs.declared.token.LexFault.TheVariants.{Syntax}
 use Rattle.fmp_lex.specs.declared.token.Token.{Token}
@@ -40,12 +40,12 @@ pub all_packed : (text : List ℕ) (before after : List Packed) (p : Packed) →
 all_packed text before after p pushed all one = rw pushed (All-append (IsPacked text) before (p ∷ []) all (all_one (IsPacked text) p one))
 
 -- the token of a shape and two places
-pub packed_whole : (text : List ℕ) (p : Packed) (s : Shape) (i j : ℕ) → p.shape ≡ s → p.start ≡ i →
+pub packed_whole : (text : List ℕ) (p : Packed) (s : TokenShape) (i j : ℕ) → p.shape ≡ s → p.start ≡ i →
     p.end.value ≡ j → whole_in text p ≡ record { kind = kind_in text s; line = line_at text i; start = i; end = j }
 packed_whole text p s i j a b c = rw (a, b, c) refl
 
 -- it is packed where it is a piece of the text
-pub is_packed : (text : List ℕ) (p : Packed) (s : Shape) (i : ℕ) (q : Piece) → p.shape ≡ s → p.start ≡ i → p.end.value ≡ end_after i q →
+pub is_packed : (text : List ℕ) (p : Packed) (s : TokenShape) (i : ℕ) (q : Piece) → p.shape ≡ s → p.start ≡ i → p.end.value ≡ end_after i q →
     Stands text s → i < length text → IsPiece text i q → IsPacked text p
 is_packed text p s i q a b c stands lt is =
     (rw a stands, rw b lt, (q, rw b is, rw b c))

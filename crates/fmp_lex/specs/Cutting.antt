@@ -9,7 +9,7 @@ use Rattle.fmp_lex.specs.declared.token.Symbol.TheVariants as symbol
 use Rattle.fmp_lex.specs.declared.token.TokenKind.{TokenKind}
 use Rattle.fmp_lex.specs.declared.token.TokenKind.TheVariants as kind
 use Rattle.fmp_lex.specs.declared.token.Token.{Token}
-use Rattle.fmp_lex.specs.declared.scanning.Class.TheVariants as class
+use Rattle.fmp_lex.specs.declared.scanning.ByteClass.TheVariants as class
 use Rattle.fmp_lex.specs.declared.cutting.PieceStart.{PieceStart}
 use Rattle.fmp_lex.specs.declared.cutting.PieceStart.TheVariants as start
 use Rattle.fmp_base.specs.Words.{is_digit, is_letter, is_word}

@@ -4,8 +4,8 @@ use Rattle.fmp_base.specs.Names.{name_from}
 use Rattle.fmp_lex.specs.declared.cutting.Segment.{Segment}
 use Rattle.fmp_lex.specs.declared.cutting.Segment.TheVariants as segment
 use Rattle.fmp_lex.specs.declared.packed.Packed.{Packed}
-use Rattle.fmp_lex.specs.declared.packed.Shape.{Shape}
-use Rattle.fmp_lex.specs.declared.packed.Shape.TheVariants as shape
+use Rattle.fmp_lex.specs.declared.packed.TokenShape.{TokenShape}
+use Rattle.fmp_lex.specs.declared.packed.TokenShape.TheVariants as shape
 use Rattle.fmp_lex.specs.declared.token.LexFault.TheVariants.{Syntax}
 use Rattle.fmp_lex.specs.declared.token.Token.{Token}
 use Rattle.fmp_lex.specs.declared.token.TokenKind.{TokenKind}
@@ -13,7 +13,7 @@ use Rattle.fmp_lex.specs.declared.token.TokenKind.TheVariants as kind
 use Rattle.fmp_lex.specs.Cutting.{Piece, Skip, Whole, Fault, IsPiece, line_at}
 
 -- what a token of this shape is in a text
-abbrev pub kind_in : List ℕ → Shape → TokenKind
+abbrev pub kind_in : List ℕ → TokenShape → TokenKind
 kind_in text (shape.Number n) = kind.Number (pos n)
 kind_in text (shape.Name size start) = kind.Name (name_from (slice_range text start (start + size)))
 kind_in text (shape.Constant c) = kind.Constant c
@@ -24,7 +24,7 @@ kind_in text (shape.Symbol s) = kind.Symbol s
 kind_in text (shape.Bad f) = kind.Bad f
 
 -- a name has 1 to 31 bytes of the text
-abbrev pub Stands : List ℕ → Shape → Type 0
+abbrev pub Stands : List ℕ → TokenShape → Type 0
 Stands text (shape.Name size start) = (0 < size) × (size ≤ 31) × (start + size ≤ length text)
 Stands text _ = Unit {0}
 
@@ -62,6 +62,6 @@ HasName text (segment.Whole s j) = Stands text s
 HasName text (segment.Fault f) = Unit {0}
 
 -- a word of the language is no name
-abbrev pub IsPlain : Shape → Type 0
+abbrev pub IsPlain : TokenShape → Type 0
 IsPlain (shape.Name size start) = ⊥
 IsPlain _ = Unit {0}

@@ -1,8 +1,8 @@
 -- Classes of bytes, runs of bytes of a class, ends of comments, and values of digits.
 use Rattle.std.specs.Prelude.{◌≡◌, ℕ, ◌+◌, ◌-◌, ◌*◌, ◌<◌, ◌≤◌, ◌⊎◌, ◌==◌, ◌&&◌, ◌||◌, nat_le, Bool, true, false, not, if◌then◌else◌, List, [], ◌∷◌, length, slice_index}
 use Rattle.fmp_base.specs.Words.{is_digit, is_word}
-use Rattle.fmp_lex.specs.declared.scanning.Class.{Class}
-use Rattle.fmp_lex.specs.declared.scanning.Class.TheVariants as class
+use Rattle.fmp_lex.specs.declared.scanning.ByteClass.{ByteClass}
+use Rattle.fmp_lex.specs.declared.scanning.ByteClass.TheVariants as class
 
 -- `0` to `9`, `A` to `F`, `a` to `f`
 abbrev pub is_hex : ℕ → Bool
@@ -13,7 +13,7 @@ abbrev pub is_space : ℕ → Bool
 is_space b = (b == 32) || (b == 9) || (b == 13) || (b == 10)
 
 -- whether a byte is of a class
-abbrev pub in_class : Class → ℕ → Bool
+abbrev pub in_class : ByteClass → ℕ → Bool
 in_class class.Word b = is_word b
 in_class class.Digit b = is_digit b
 in_class class.Hex b = is_hex b

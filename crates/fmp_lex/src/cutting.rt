@@ -5,13 +5,13 @@ ghost use Rattle.fmp_lex.specs.Packing.{IsPacked, IsPlain, HasName, end_after, k
 ghost use Rattle.fmp_lex.specs.Places.{text_end};
 ghost use Rattle.fmp_lex.specs.Windows.{CutsUpTo, IsPartEnd};
 ghost use Rattle.fmp_lex.specs.Scanning.{Saturated, IsRun, in_class};
-ghost use Rattle.fmp_lex.specs.declared.scanning.Class.TheVariants as class;
+ghost use Rattle.fmp_lex.specs.declared.scanning.ByteClass.TheVariants as class;
 ghost use Rattle.fmp_lex.specs.Cutting.{word_kind, hex_piece, long_symbol, short_symbol, start_of, Piece, IsPiece, number_piece, word_piece, symbol_piece, Cuts, EndsWithin, line_at};
 
 use crate::lengths::{api_of, constant_of, may_be_word, service_of};
-use crate::packed::{Packed, Shape, Tokens};
+use crate::packed::{Packed, TokenShape, Tokens};
 use crate::place::Place;
-use crate::scanning::{Class, find_close, is_in, line_feeds, run_end, value_of};
+use crate::scanning::{ByteClass, find_close, is_in, line_feeds, run_end, value_of};
 use crate::small::{Four, Three};
 use crate::token::{LexFault, Symbol, TextFault, Token, TokenList};
 use crate::words::find_keyword;
@@ -38,7 +38,7 @@ pub enum PieceStart {
 #[derive(Drop)]
 pub enum Segment {
     Skip(usize),
-    Whole(Shape, usize),
+    Whole(TokenShape, usize),
     Fault(LexFault),
 }
 
@@ -101,7 +101,7 @@ fn short_sign(b: u8) -> Option<Symbol>
 fn begin(b: u8, c: u8) -> PieceStart
     ensures { result ≡ start_of b c }
 {
-    if is_in(Class::Word, b) {
+    if is_in(ByteClass::Word, b) {
         return match (b, c) {
             (b'0', b'x') => PieceStart::Hex,
             (b'0', _) => PieceStart::Zero,
@@ -109,7 +109,7 @@ fn begin(b: u8, c: u8) -> PieceStart
             _ => PieceStart::Word,
         };
     }
-    if is_in(Class::Space, b) {
+    if is_in(ByteClass::Space, b) {
         return PieceStart::Space;
     }
     match (b, c) {
@@ -125,10 +125,10 @@ fn number(text: &[u8], end: usize, fits: bool, value: u64) -> Segment
     ensures ends { (i : ℕ) → i < end → end ≤ length text.now → EndsWithin text.now i (piece_in text.now result) }
     ensures named { HasName text.now result }
 {
-    if end < text.len() && is_in(Class::Word, text[end]) {
+    if end < text.len() && is_in(ByteClass::Word, text[end]) {
         Segment::Fault(LexFault::Syntax)
     } else if fits && value <= 2_147_483_647 {
-        Segment::Whole(Shape::Number(Four::new(value as u32)), end)
+        Segment::Whole(TokenShape::Number(Four::new(value as u32)), end)
     } else {
         Segment::Fault(LexFault::Limit)
     }
@@ -149,7 +149,7 @@ fn hex_number(text: &[u8], start: usize, end: usize) -> Segment
 
 /// The word that these bytes are.
 #[inline(always)]
-fn find_word(bytes: &[u8]) -> Option<Shape>
+fn find_word(bytes: &[u8]) -> Option<TokenShape>
     ensures word { (text : List ℕ) → option_map (kind_in text) result ≡ word_kind bytes.now }
     ensures plain { IfSome result IsPlain }
 {
@@ -157,16 +157,16 @@ fn find_word(bytes: &[u8]) -> Option<Shape>
         return None;
     }
     if let Some(constant) = constant_of(bytes) {
-        return Some(Shape::Constant(constant));
+        return Some(TokenShape::Constant(constant));
     }
     if let Some(api) = api_of(bytes) {
-        return Some(Shape::Api(api));
+        return Some(TokenShape::Api(api));
     }
     if let Some(service) = service_of(bytes) {
-        return Some(Shape::Service(service));
+        return Some(TokenShape::Service(service));
     }
     match find_keyword(bytes) {
-        Some(keyword) => Some(Shape::Keyword(keyword)),
+        Some(keyword) => Some(TokenShape::Keyword(keyword)),
         None => None,
     }
 }
@@ -187,7 +187,7 @@ fn word(text: &[u8], start: usize, end: usize) -> Segment
     if end - start > Name::MAX {
         return Segment::Fault(LexFault::Limit);
     }
-    let name = Shape::Name {
+    let name = TokenShape::Name {
         length: (end - start) as u8,
         start: Three::new(start as u32),
     };
@@ -204,10 +204,10 @@ fn sign(i: usize, b: u8, c: u8) -> Segment
     ensures named { (text : List ℕ) → HasName text result }
 {
     if let Some(symbol) = long_sign(b, c) {
-        return Segment::Whole(Shape::Symbol(symbol), i + 2);
+        return Segment::Whole(TokenShape::Symbol(symbol), i + 2);
     }
     match short_sign(b) {
-        Some(symbol) => Segment::Whole(Shape::Symbol(symbol), i + 1),
+        Some(symbol) => Segment::Whole(TokenShape::Symbol(symbol), i + 1),
         None => Segment::Fault(LexFault::Syntax),
     }
 }
@@ -224,20 +224,20 @@ fn next_piece(text: &[u8], i: usize) -> Segment
     let b = text[i];
     let c = if i + 1 < text.len() { text[i + 1] } else { 0 };
     match begin(b, c) {
-        PieceStart::Space => Segment::Skip(run_end(text, Class::Space, i + 1)),
-        PieceStart::LineComment => Segment::Skip(run_end(text, Class::SameLine, i + 1)),
+        PieceStart::Space => Segment::Skip(run_end(text, ByteClass::Space, i + 1)),
+        PieceStart::LineComment => Segment::Skip(run_end(text, ByteClass::SameLine, i + 1)),
         PieceStart::BlockComment => match find_close(text, i + 2) {
             Some(end) => Segment::Skip(end + 2),
             None => Segment::Fault(LexFault::Syntax),
         },
         PieceStart::Word => {
-            let end = run_end(text, Class::Word, i + 1);
+            let end = run_end(text, ByteClass::Word, i + 1);
             word(text, i, end)
         }
         PieceStart::Zero => number(text, i + 1, true, 0),
-        PieceStart::Hex => hex_number(text, i + 2, run_end(text, Class::Hex, i + 2)),
+        PieceStart::Hex => hex_number(text, i + 2, run_end(text, ByteClass::Hex, i + 2)),
         PieceStart::Decimal => {
-            let end = run_end(text, Class::Digit, i + 1);
+            let end = run_end(text, ByteClass::Digit, i + 1);
             number(text, end, true, value_of(&text[i..end], 10))
         }
         PieceStart::Other => sign(i, b, c),
@@ -345,7 +345,7 @@ fn cut(alloc: Global, text: &[u8]) -> Result<Vec<Packed>, AllocError>
     match fault {
         None => Ok(packed),
         Some(fault) => {
-            packed.push(Packed::new(Shape::Bad(fault), next as u32, next as u32))?;
+            packed.push(Packed::new(TokenShape::Bad(fault), next as u32, next as u32))?;
             Ok(packed)
         }
     }

@@ -18,7 +18,7 @@ use std::snapshot::Snapshot;
 
 /// What a token is; a name by where it stands in the text.
 #[derive(Drop)]
-pub enum Shape {
+pub enum TokenShape {
     Number(Four),
     Name { length: u8, start: Three },
     Constant(Constant),
@@ -33,14 +33,14 @@ pub enum Shape {
 /// the text, reading takes longer.
 #[derive(Drop)]
 pub struct Packed {
-    pub shape: Shape,
+    pub shape: TokenShape,
     pub start: Three,
     pub end: Snapshot<u32>,
 }
 
 impl Packed {
     /// The token that stands from `start` up to `end`.
-    pub(crate) fn new(shape: Shape, start: u32, end: u32) -> Packed
+    pub(crate) fn new(shape: TokenShape, start: u32, end: u32) -> Packed
         requires { start < 16777216 }
         ensures shape { result.shape ≡ shape }
         ensures start { result.start ≡ start }
@@ -55,22 +55,22 @@ impl Packed {
 }
 
 /// What a token of this shape is in a text.
-fn kind_of(text: &[u8], shape: &Shape) -> TokenKind
+fn kind_of(text: &[u8], shape: &TokenShape) -> TokenKind
     requires { Stands text.now shape.now }
     ensures { result ≡ kind_in text.now shape.now }
 {
     match shape {
-        Shape::Number(number) => TokenKind::Number(number.get()),
-        Shape::Name { length, start } => {
+        TokenShape::Number(number) => TokenKind::Number(number.get()),
+        TokenShape::Name { length, start } => {
             let start = start.get() as usize;
             name_of(&text[start..start + *length as usize])
         }
-        Shape::Constant(constant) => TokenKind::Constant(*constant),
-        Shape::Api(api) => TokenKind::Api(*api),
-        Shape::Service(service) => TokenKind::Service(*service),
-        Shape::Keyword(keyword) => TokenKind::Keyword(*keyword),
-        Shape::Symbol(symbol) => TokenKind::Symbol(*symbol),
-        Shape::Bad(fault) => TokenKind::Bad(*fault),
+        TokenShape::Constant(constant) => TokenKind::Constant(*constant),
+        TokenShape::Api(api) => TokenKind::Api(*api),
+        TokenShape::Service(service) => TokenKind::Service(*service),
+        TokenShape::Keyword(keyword) => TokenKind::Keyword(*keyword),
+        TokenShape::Symbol(symbol) => TokenKind::Symbol(*symbol),
+        TokenShape::Bad(fault) => TokenKind::Bad(*fault),
     }
 }
 

@@ -4,7 +4,7 @@ ghost use Rattle.fmp_lex.specs.Scanning.{in_class, IsRun, IsFirstClose, NeverClo
 
 /// A class of bytes.
 #[derive(Clone, Copy)]
-pub enum Class {
+pub enum ByteClass {
     /// The letters, the digits and `_`, of which names and words are made.
     Word,
     /// The decimal digits.
@@ -30,21 +30,21 @@ static CLASSES: [u8; 256] = *b"\
 
 /// Whether a byte is of a class.
 #[inline(always)]
-pub(crate) fn is_in(class: Class, b: u8) -> bool
+pub(crate) fn is_in(class: ByteClass, b: u8) -> bool
     ensures { result ≡ in_class class b }
 {
     match class {
-        Class::Word => CLASSES[b as usize] == b'1',
-        Class::Digit => b.is_ascii_digit(),
-        Class::Hex => b.is_ascii_hexdigit(),
-        Class::Space => CLASSES[b as usize] == b'2',
-        Class::SameLine => b != b'\n',
+        ByteClass::Word => CLASSES[b as usize] == b'1',
+        ByteClass::Digit => b.is_ascii_digit(),
+        ByteClass::Hex => b.is_ascii_hexdigit(),
+        ByteClass::Space => CLASSES[b as usize] == b'2',
+        ByteClass::SameLine => b != b'\n',
     }
 }
 
 /// Where the longest run of a class from a place on ends.
 #[inline(always)]
-pub(crate) fn run_end(text: &[u8], class: Class, from: usize) -> usize
+pub(crate) fn run_end(text: &[u8], class: ByteClass, from: usize) -> usize
     requires { from ≤ length text.now }
     ensures { IsRun (in_class class) text.now from result }
 {

@@ -2,7 +2,7 @@
 //! Braces in comments are counted with the others: a part may then end elsewhere, and what is read is the same.
 ghost use Rattle.std.specs.Prelude.{◌+◌, ◌≤◌, length, min};
 
-use crate::scanning::{Class, count_of, run_end};
+use crate::scanning::{ByteClass, count_of, run_end};
 
 /// A place in a text, and how many braces are open there.
 #[derive(Clone, Copy)]
@@ -46,7 +46,7 @@ fn behind_else(text: &[u8], at: usize) -> usize
     ensures from { at ≤ result }
     ensures within { result ≤ length text.now }
 {
-    let word = run_end(text, Class::Space, at);
+    let word = run_end(text, ByteClass::Space, at);
     match &text[word..] {
         [b'e', b'l', b's', b'e', ..] => word + 4,
         _ => at,

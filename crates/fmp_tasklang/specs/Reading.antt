@@ -21,8 +21,8 @@ use Rattle.fmp_tasklang.specs.declared.forms.CallPart.{CallPart}
 use Rattle.fmp_tasklang.specs.declared.statements.Change.{Change}
 use Rattle.fmp_tasklang.specs.declared.statements.Change.TheVariants as change
 use Rattle.fmp_tasklang.specs.declared.statements.ElementChange.{ElementChange}
-use Rattle.fmp_tasklang.specs.declared.statements.Given.{Given}
-use Rattle.fmp_tasklang.specs.declared.statements.Given.TheVariants as given
+use Rattle.fmp_tasklang.specs.declared.statements.GivenValue.{GivenValue}
+use Rattle.fmp_tasklang.specs.declared.statements.GivenValue.TheVariants as given
 use Rattle.fmp_tasklang.specs.declared.trees.Body.{Body}
 use Rattle.fmp_tasklang.specs.declared.trees.Declaration.{Declaration}
 use Rattle.fmp_tasklang.specs.declared.trees.Expression.{Expression}
@@ -306,7 +306,7 @@ argument_view None = None
 argument_view (Some (argument.Value e)) = Some (value (expression_view e))
 argument_view (Some (argument.Out w)) = Some (out w)
 
-abbrev pub source_view : Given → SourceTree
+abbrev pub source_view : GivenValue → SourceTree
 source_view (given.Value e) = by_value (expression_view e)
 source_view (given.Call c) = by_call (called_view c)
 

@@ -11,12 +11,12 @@ use std::{mem, slice};
 /// see the list of them.
 #[derive(Drop)]
 pub struct ArgumentList {
-    held: Held,
+    held: ArgumentRoom,
 }
 
 /// Where the arguments lie.
 #[derive(Drop)]
-enum Held {
+enum ArgumentRoom {
     Nothing,
     One(Expression),
     Several(Vec<Expression>),
@@ -37,21 +37,25 @@ impl Model for ArgumentList {
 }
 
 /// What is held with a further argument. The error is out of memory.
-fn with_argument(alloc: Global, held: Held, argument: Expression) -> Result<Held, AllocError>
+fn with_argument(
+    alloc: Global,
+    held: ArgumentRoom,
+    argument: Expression,
+) -> Result<ArgumentRoom, AllocError>
     ensures { IfOk result (λ h. held_items h ≡ held_items held ++ argument ∷ []) }
 {
     match held {
-        Held::Nothing => Ok(Held::One(argument)),
-        Held::One(first) => {
+        ArgumentRoom::Nothing => Ok(ArgumentRoom::One(argument)),
+        ArgumentRoom::One(first) => {
             let mut several = Vec::with_capacity(alloc, 2)?;
             several.push(first)?;
             several.push(argument)?;
-            Ok(Held::Several(several))
+            Ok(ArgumentRoom::Several(several))
         }
-        Held::Several(several) => {
+        ArgumentRoom::Several(several) => {
             let mut several = several;
             several.push(argument)?;
-            Ok(Held::Several(several))
+            Ok(ArgumentRoom::Several(several))
         }
     }
 }
@@ -63,12 +67,12 @@ impl ArgumentList {
     {
         if count < 2 {
             return Ok(ArgumentList {
-                held: Held::Nothing,
+                held: ArgumentRoom::Nothing,
             });
         }
         let several = Vec::with_capacity(alloc, count)?;
         Ok(ArgumentList {
-            held: Held::Several(several),
+            held: ArgumentRoom::Several(several),
         })
     }
 
@@ -76,7 +80,7 @@ impl ArgumentList {
     pub(crate) fn push(&mut self, alloc: Global, argument: Expression) -> Result<(), AllocError>
         ensures { OnOk result (self.new.items ≡ self.old.items ++ argument ∷ []) }
     {
-        let held = mem::replace(&mut self.held, Held::Nothing);
+        let held = mem::replace(&mut self.held, ArgumentRoom::Nothing);
         self.held = with_argument(alloc, held, argument)?;
         Ok(())
     }
@@ -86,9 +90,9 @@ impl ArgumentList {
         ensures { result.now ≡ self.now.items }
     {
         match &self.held {
-            Held::Nothing => &[],
-            Held::One(argument) => slice::from_ref(argument),
-            Held::Several(arguments) => arguments,
+            ArgumentRoom::Nothing => &[],
+            ArgumentRoom::One(argument) => slice::from_ref(argument),
+            ArgumentRoom::Several(arguments) => arguments,
         }
     }
 }

@@ -12,12 +12,12 @@ use std::marker::Model;
 /// the allocator serves at once. Contracts see both.
 #[derive(Drop)]
 pub struct Receivers {
-    held: Held,
+    held: ReceiverRoom,
 }
 
 /// Where the variables lie.
 #[derive(Drop)]
-enum Held {
+enum ReceiverRoom {
     Nothing,
     Out(Box<Word>),
     Result(Box<Word>),
@@ -41,7 +41,7 @@ impl Receivers {
         ensures result { result.result ≡ None }
     {
         Receivers {
-            held: Held::Nothing,
+            held: ReceiverRoom::Nothing,
         }
     }
 
@@ -51,8 +51,8 @@ impl Receivers {
         ensures result { OnOk result (self.new.result ≡ self.old.result) }
     {
         self.held = match self.result() {
-            None => Held::Out(Box::new(alloc, word)?),
-            Some(other) => Held::Both(Box::new(alloc, (word, *other))?),
+            None => ReceiverRoom::Out(Box::new(alloc, word)?),
+            Some(other) => ReceiverRoom::Both(Box::new(alloc, (word, *other))?),
         };
         Ok(())
     }
@@ -63,8 +63,8 @@ impl Receivers {
         ensures out { OnOk result (self.new.out ≡ self.old.out) }
     {
         self.held = match self.out() {
-            None => Held::Result(Box::new(alloc, word)?),
-            Some(other) => Held::Both(Box::new(alloc, (*other, word))?),
+            None => ReceiverRoom::Result(Box::new(alloc, word)?),
+            Some(other) => ReceiverRoom::Both(Box::new(alloc, (*other, word))?),
         };
         Ok(())
     }
@@ -74,10 +74,10 @@ impl Receivers {
         ensures { option_copied result ≡ self.now.out }
     {
         match &self.held {
-            Held::Nothing => None,
-            Held::Out(word) => Some(word),
-            Held::Result(_) => None,
-            Held::Both(both) => Some(&both.0),
+            ReceiverRoom::Nothing => None,
+            ReceiverRoom::Out(word) => Some(word),
+            ReceiverRoom::Result(_) => None,
+            ReceiverRoom::Both(both) => Some(&both.0),
         }
     }
 
@@ -86,10 +86,10 @@ impl Receivers {
         ensures { option_copied result ≡ self.now.result }
     {
         match &self.held {
-            Held::Nothing => None,
-            Held::Out(_) => None,
-            Held::Result(word) => Some(word),
-            Held::Both(both) => Some(&both.1),
+            ReceiverRoom::Nothing => None,
+            ReceiverRoom::Out(_) => None,
+            ReceiverRoom::Result(word) => Some(word),
+            ReceiverRoom::Both(both) => Some(&both.1),
         }
     }
 }

@@ -21,7 +21,7 @@ use std::alloc::Global;
 
 /// What stands behind `name =`.
 #[derive(Drop)]
-pub enum Given {
+pub enum GivenValue {
     Value(Expression),
     Call(ServiceCall),
 }
@@ -30,7 +30,7 @@ pub enum Given {
 #[derive(Drop)]
 pub enum Change {
     /// `= given ;`
-    Variable(Given),
+    Variable(GivenValue),
     /// `[index] = value ;`
     Element(ElementChange),
 }
@@ -63,26 +63,26 @@ fn source(
     tokens: &Tokens<'_>,
     depth: usize,
     at: usize,
-) -> Result<(Given, usize), ReadError>
+) -> Result<(GivenValue, usize), ReadError>
     requires depth { depth ≤ max_depth }
     requires at { at ≤ length tokens.now }
     ensures { Answers source_view result (RightSource (kinds_of tokens.now) depth at) }
 {
     if let Some(service) = service_at(tokens, at) {
         let (call, next) = call(alloc, tokens, depth, service, at)?;
-        return Ok((Given::Call(call), next));
+        return Ok((GivenValue::Call(call), next));
     }
     let (value, next) = expression(alloc, tokens, depth, LOOSEST, at)?;
-    Ok((Given::Value(value), next))
+    Ok((GivenValue::Value(value), next))
 }
 
-fn assign(alloc: Global, target: Word, source: Given) -> Result<Statement, ReadError>
+fn assign(alloc: Global, target: Word, source: GivenValue) -> Result<Statement, ReadError>
     ensures tree { IfOk result (λ s. statement_view s ≡ assigned target (source_view source)) }
     ensures memory { IfErr result (λ e. e ≡ ReadError.Memory) }
 {
     match source {
-        Given::Value(value) => Ok(Statement::Assign { target, value }),
-        Given::Call(call) => {
+        GivenValue::Value(value) => Ok(Statement::Assign { target, value }),
+        GivenValue::Call(call) => {
             let mut call = call;
             call.receivers.set_result(alloc, target)?;
             Ok(Statement::Call(call))
@@ -113,7 +113,7 @@ fn variable_change(
     tokens: &Tokens<'_>,
     depth: usize,
     at: usize,
-) -> Result<(Given, usize), ReadError>
+) -> Result<(GivenValue, usize), ReadError>
     requires depth { depth ≤ max_depth }
     requires at { at ≤ length tokens.now }
     ensures { Answers source_view result (RightVariableChange (kinds_of tokens.now) depth at) }

@@ -13,7 +13,7 @@ use crate::lines::{
     append_count_field, append_entry_field, append_numbered, append_signed_field,
     append_time_field, close_api, close_api_by_null, open_api, open_class,
 };
-use crate::row::Row;
+use crate::row::ConfigurationRow;
 use crate::target::Target;
 use fmp_base::{
     CyclicConfig, DataQueueConfig, FlagConfig, InterruptConfig, MailboxConfig, SemaphoreConfig,
@@ -41,7 +41,7 @@ fn append_task_packet(
     append(b" + FMP_STACK", out)
 }
 
-impl Row for TaskConfig {
+impl ConfigurationRow for TaskConfig {
     ghost line_of = { spec.task_line };
 
     #[tactic(auto, unfolding(crate::specs::Configuration::task_line))]
@@ -58,7 +58,7 @@ impl Row for TaskConfig {
     }
 }
 
-impl Row for SemaphoreConfig {
+impl ConfigurationRow for SemaphoreConfig {
     ghost line_of = { spec.semaphore_line };
 
     #[tactic(auto, unfolding(crate::specs::Configuration::semaphore_line))]
@@ -77,7 +77,7 @@ impl Row for SemaphoreConfig {
     }
 }
 
-impl Row for FlagConfig {
+impl ConfigurationRow for FlagConfig {
     ghost line_of = { spec.flag_line };
 
     #[tactic(auto, unfolding(crate::specs::Configuration::flag_line))]
@@ -95,7 +95,7 @@ impl Row for FlagConfig {
     }
 }
 
-impl Row for DataQueueConfig {
+impl ConfigurationRow for DataQueueConfig {
     ghost line_of = { spec.data_queue_line };
 
     #[tactic(auto, unfolding(crate::specs::Configuration::data_queue_line))]
@@ -113,7 +113,7 @@ impl Row for DataQueueConfig {
     }
 }
 
-impl Row for MailboxConfig {
+impl ConfigurationRow for MailboxConfig {
     ghost line_of = { spec.mailbox_line };
 
     #[tactic(auto, unfolding(crate::specs::Configuration::mailbox_line))]
@@ -131,7 +131,7 @@ impl Row for MailboxConfig {
     }
 }
 
-impl Row for SpinLockConfig {
+impl ConfigurationRow for SpinLockConfig {
     ghost line_of = { spec.spin_lock_line };
 
     #[tactic(auto, unfolding(crate::specs::Configuration::spin_lock_line))]
@@ -210,7 +210,7 @@ fn append_cyclic_packet(
     append_time_field(cyclic.phase, out)
 }
 
-impl Row for CyclicConfig {
+impl ConfigurationRow for CyclicConfig {
     ghost line_of = { spec.cyclic_line };
 
     #[tactic(auto, unfolding(crate::specs::Configuration::cyclic_line))]
@@ -239,7 +239,7 @@ fn append_interrupt_apis(number: usize, out: &mut Vec<u8>) -> Result<(), AllocEr
     close_api(out)
 }
 
-impl Row for InterruptConfig {
+impl ConfigurationRow for InterruptConfig {
     ghost line_of = { spec.interrupt_line };
 
     #[tactic(auto, unfolding(crate::specs::Configuration::interrupt_line))]
@@ -255,7 +255,7 @@ impl Row for InterruptConfig {
 }
 
 /// Appends the lines of a table.
-fn append_lines<T: Row>(
+fn append_lines<T: ConfigurationRow>(
     target: Target,
     bodies: &[Body],
     rows: &[T],

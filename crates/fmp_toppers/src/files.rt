@@ -15,7 +15,7 @@ use std::alloc::{AllocError, Global};
 
 /// The files that TOPPERS' configurator and compiler read.
 #[derive(Drop)]
-pub struct Exported {
+pub struct ToppersFiles {
     /// `system.cfg`: a static API for each object.
     pub configuration: Vec<u8>,
     /// `bodies.h`: the numbers of interrupts, which the user fills in, and the prototypes.
@@ -26,7 +26,7 @@ pub struct Exported {
 
 /// Why there are no files.
 #[derive(Drop)]
-pub enum Refusal {
+pub enum ToppersRefusal {
     /// TOPPERS' headers have the name of this object: it needs another.
     Name(Name),
     /// The kernel has no mailboxes: this is the name of the first.
@@ -36,22 +36,22 @@ pub enum Refusal {
 }
 
 /// The first object that the kernel has no equal for.
-fn without_equal(target: Target, mailboxes: &[MailboxConfig]) -> Option<Refusal>
+fn without_equal(target: Target, mailboxes: &[MailboxConfig]) -> Option<ToppersRefusal>
     ensures { result ≡ spec.without_equal target mailboxes.now }
 {
     match target {
         Target::Fmp1 => None,
         Target::Fmp3 if mailboxes.is_empty() => None,
-        Target::Fmp3 => Some(Refusal::Mailbox(mailboxes[0].name)),
+        Target::Fmp3 => Some(ToppersRefusal::Mailbox(mailboxes[0].name)),
     }
 }
 
 /// Why there are no files for this configuration.
-fn refusal_for(target: Target, system: &System) -> Option<Refusal>
+fn refusal_for(target: Target, system: &System) -> Option<ToppersRefusal>
     ensures { result ≡ spec.refusal_for target (tables_of system.now) }
 {
     match known_object(system) {
-        Some(name) => Some(Refusal::Name(name)),
+        Some(name) => Some(ToppersRefusal::Name(name)),
         None => without_equal(target, &system.mailboxes),
     }
 }
@@ -62,7 +62,7 @@ fn files(
     target: Target,
     system: &System,
     program: &Program,
-) -> Result<Exported, AllocError>
+) -> Result<ToppersFiles, AllocError>
     ensures { IfOk result (λ e. spec.AreFiles target (tables_of system.now) (program_view program.now) e) }
 {
     let mut configuration = Vec::new(alloc);
@@ -71,7 +71,7 @@ fn files(
     append_header(alloc, target, system, program, &mut header)?;
     let mut bodies = Vec::new(alloc);
     append_bodies_file(alloc, target, system, program, &mut bodies)?;
-    Ok(Exported {
+    Ok(ToppersFiles {
         configuration,
         header,
         bodies,
@@ -84,7 +84,7 @@ fn written(
     target: Target,
     text: &[u8],
     system: &System,
-) -> Result<Exported, BuildFault>
+) -> Result<ToppersFiles, BuildFault>
     ensures { spec.IsWritten target (tables_of system.now) text.now result }
 {
     let program = read_tasks(alloc, text)?;
@@ -103,7 +103,7 @@ pub fn export_toppers(
     target: Target,
     text: &[u8],
     system: &System,
-) -> Result<Exported, Refusal>
+) -> Result<ToppersFiles, ToppersRefusal>
     ensures { spec.IsExported target (tables_of system.now) text.now result }
 {
     if let Some(refusal) = refusal_for(target, system) {
@@ -111,6 +111,6 @@ pub fn export_toppers(
     }
     match written(alloc, target, text, system) {
         Ok(exported) => Ok(exported),
-        Err(fault) => Err(Refusal::Fault(fault)),
+        Err(fault) => Err(ToppersRefusal::Fault(fault)),
     }
 }

@@ -13,5 +13,5 @@ mod row;
 mod tables;
 mod target;
 
-pub use files::{Exported, Refusal, export_toppers};
+pub use files::{ToppersFiles, ToppersRefusal, export_toppers};
 pub use target::Target;

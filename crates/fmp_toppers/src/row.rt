@@ -7,7 +7,7 @@ use fmp_tasklang::Body;
 use std::alloc::AllocError;
 
 /// An object that has a line of the configuration.
-pub trait Row {
+pub trait ConfigurationRow {
     ghost use Rattle.std.specs.Prelude.{List, ℕ};
     ghost use Rattle.fmp_tasklang.specs.Trees.{BodyTree};
     ghost use Rattle.fmp_toppers.specs.declared.target.Target as kernel;

@@ -1,6 +1,6 @@
 -- What an export writes.
 use Rattle.std.proofs.Common.{◌≡◌, ℕ, Bool, IfOk, List, [], ◌∷◌, Option, Result, Ok, Err, subst}
-use Rattle.fmp_export.specs.declared.files.Exported.{Exported}
+use Rattle.fmp_export.specs.declared.files.ExportedText.{ExportedText}
 use Rattle.fmp_export.specs.Files.{IsExportedWith}
 use Rattle.fmp_files.specs.Deeds.{Deed, Does, wrote}
 use Rattle.fmp_image.specs.Building.{Builds}
@@ -11,7 +11,7 @@ use Rattle.fmp_view.proofs.Printing.{does_then}
 
 -- the C of the system that two texts build is their C
 pub exports_of : (lines : Bool) (cfg src : List ℕ) (i : ImageTables) → Builds cfg src i
-    → (r : Result Exported BuildFault) → IsExportedWith lines i.system src r → IfOk r (IsExportOf lines cfg src)
+    → (r : Result ExportedText BuildFault) → IsExportedWith lines i.system src r → IfOk r (IsExportOf lines cfg src)
 exports_of lines cfg src i builds (Ok e) exported = record { image = i; builds = builds; exported = exported }
 exports_of lines cfg src i builds (Err fault) exported = tt
 

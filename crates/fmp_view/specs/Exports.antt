@@ -5,14 +5,14 @@ use Rattle.fmp_files.specs.Deeds.{Deed, Does, wrote}
 use Rattle.fmp_files.specs.Outside.{Files}
 use Rattle.fmp_image.specs.Building.{Builds}
 use Rattle.fmp_image_bytes.specs.Images.{ImageTables}
-use Rattle.fmp_export.specs.declared.files.Exported.{Exported}
+use Rattle.fmp_export.specs.declared.files.ExportedText.{ExportedText}
 use Rattle.fmp_export.specs.declared.project.TheConstants.{MAKEFILE}
 use Rattle.fmp_export.specs.Files.{IsExportedWith}
 use Rattle.fmp_view.specs.declared.exporting.Exporting.{Exporting}
 use Rattle.fmp_view.specs.Claimed.{IsFile}
 
 -- the C of the bodies of a text, for the system that it builds with a configuration, with the text's lines or without
-pub record IsExportOf (lines : Bool) (cfg src : List ℕ) (e : Exported) : Type 0 where
+pub record IsExportOf (lines : Bool) (cfg src : List ℕ) (e : ExportedText) : Type 0 where
   pub image : ImageTables
   pub builds : Builds cfg src image
   pub exported : IsExportedWith lines image.system src (Ok e)
@@ -27,7 +27,7 @@ main_file folder main true = []
 main_file folder main false = wrote (in_folder folder (codes "main.c")) main ∷ []
 
 -- the files of a folder are written
-abbrev pub project : (folder : List ℕ) → Texts → Exported → (keeps_main : Bool) → List Deed
+abbrev pub project : (folder : List ℕ) → Texts → ExportedText → (keeps_main : Bool) → List Deed
 project folder t e keeps_main =
     wrote (in_folder folder (codes "bodies.h")) e.header.items
     ∷ (wrote (in_folder folder (codes "bodies.c")) e.bodies.items
@@ -39,7 +39,7 @@ project folder t e keeps_main =
 -- the files of a folder are those of two texts
 pub record HasExportedTexts
     (lines : Bool) (t : Texts) (folder : List ℕ) (before after : Option (List Deed)) : Type 0 where
-  pub exported : Exported
+  pub exported : ExportedText
   pub is : IsExportOf lines t.cfg.now t.src.now exported
   pub keeps_main : Bool
   pub written : Does before (project folder t exported keeps_main) after

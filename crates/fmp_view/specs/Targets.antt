@@ -5,7 +5,7 @@ use Rattle.fmp_files.specs.Deeds.{Deed, Does, wrote}
 use Rattle.fmp_files.specs.Outside.{Files}
 use Rattle.fmp_image.specs.Building.{Builds}
 use Rattle.fmp_image_bytes.specs.Images.{ImageTables}
-use Rattle.fmp_toppers.specs.declared.files.Exported.{Exported}
+use Rattle.fmp_toppers.specs.declared.files.ToppersFiles.{ToppersFiles}
 use Rattle.fmp_toppers.specs.declared.target.Target.{Target}
 use Rattle.fmp_toppers.specs.Files.{IsExported}
 use Rattle.fmp_view.specs.declared.targeting.Targeting.{Targeting}
@@ -13,13 +13,13 @@ use Rattle.fmp_view.specs.Claimed.{IsFile}
 use Rattle.fmp_view.specs.Exports.{in_folder}
 
 -- the files of a target, for the system that a text builds with a configuration
-pub record IsTargetOf (k : Target) (cfg src : List ℕ) (e : Exported) : Type 0 where
+pub record IsTargetOf (k : Target) (cfg src : List ℕ) (e : ToppersFiles) : Type 0 where
   pub image : ImageTables
   pub builds : Builds cfg src image
   pub exported : IsExported k image.system src (Ok e)
 
 -- the files of a folder are written
-abbrev pub target_files : (folder : List ℕ) → Exported → List Deed
+abbrev pub target_files : (folder : List ℕ) → ToppersFiles → List Deed
 target_files folder e =
     wrote (in_folder folder (codes "system.cfg")) e.configuration.items
     ∷ (wrote (in_folder folder (codes "bodies.h")) e.header.items
@@ -30,7 +30,7 @@ pub record HasTargetedTexts
     (k : Target) (t : Texts) (folder : List ℕ) (before after : Option (List Deed))
     : Type 0
   where
-    pub exported : Exported
+    pub exported : ToppersFiles
     pub is : IsTargetOf k t.cfg.now t.src.now exported
     pub written : Does before (target_files folder exported) after
 

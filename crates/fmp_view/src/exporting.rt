@@ -10,7 +10,7 @@ use crate::reading::read_both;
 use crate::texts::print_fault;
 use fmp_diagnosis::Texts;
 use fmp_export::project::MAKEFILE;
-use fmp_export::{Exported, export_c_with_lines};
+use fmp_export::{ExportedText, export_c_with_lines};
 use fmp_files::{Failure, Outside, end, failed, refuse_mistake, write_file};
 use fmp_image::build;
 use fmp_lex::BuildFault;
@@ -64,7 +64,7 @@ pub fn is_over_input<O: Outside>(
 }
 
 /// The C of the bodies of a text, for the system that it builds with a configuration; or the first fault of the two.
-fn exported(alloc: Global, lines: bool, cfg: &[u8], src: &[u8]) -> Result<Exported, BuildFault>
+fn exported(alloc: Global, lines: bool, cfg: &[u8], src: &[u8]) -> Result<ExportedText, BuildFault>
     ensures { IfOk result (IsExportOf lines cfg.now src.now) }
 {
     match build(alloc, cfg, src) {
@@ -131,7 +131,7 @@ fn write_project<O: Outside>(
     outside: &mut O,
     folder: &str,
     texts: Texts<'_>,
-    exported: &Exported,
+    exported: &ExportedText,
     keeps_main: bool,
 ) -> Result<(), Failure>
     ensures { OnOk result (Does (O.done outside.old)
@@ -152,7 +152,7 @@ fn make_project<O: Outside, R: Files>(
     rt: &R,
     folder: &str,
     texts: Texts<'_>,
-    exported: &Exported,
+    exported: &ExportedText,
 ) -> Result<(), Failure>
     ensures { OnOk result ((keeps_main : Bool) × Does (O.done outside.old)
         (project folder.now texts.entry exported.now keeps_main) (O.done outside.new)) }
@@ -169,7 +169,7 @@ fn give<O: Outside, R: Files>(
     rt: &R,
     folder: &str,
     texts: Texts<'_>,
-    exported: &Exported,
+    exported: &ExportedText,
 ) -> u8
     ensures { result ≡ 0 → (keeps_main : Bool) × Does (O.done outside.old)
         (project folder.now texts.entry exported.now keeps_main) (O.done outside.new) }

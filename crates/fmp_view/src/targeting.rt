@@ -13,7 +13,7 @@ use fmp_diagnosis::Texts;
 use fmp_files::{Failure, Outside, end, refuse_mistake};
 use fmp_image::build;
 use fmp_lex::BuildFault;
-use fmp_toppers::{Exported, Refusal, Target, export_toppers};
+use fmp_toppers::{Target, ToppersFiles, ToppersRefusal, export_toppers};
 use std::alloc::{AllocError, Global};
 use std::rt::Files;
 use std::str;
@@ -30,7 +30,12 @@ pub struct Targeting<'a> {
 const FILES: &[&str] = &["system.cfg", "bodies.h", "bodies.c"];
 
 /// The files for the system that a text builds with a configuration; or why there are none.
-fn targeted(alloc: Global, target: Target, cfg: &[u8], src: &[u8]) -> Result<Exported, Refusal>
+fn targeted(
+    alloc: Global,
+    target: Target,
+    cfg: &[u8],
+    src: &[u8],
+) -> Result<ToppersFiles, ToppersRefusal>
     ensures { IfOk result (IsTargetOf target cfg.now src.now) }
 {
     match build(alloc, cfg, src) {
@@ -39,7 +44,7 @@ fn targeted(alloc: Global, target: Target, cfg: &[u8], src: &[u8]) -> Result<Exp
             drop(image);
             exported
         }
-        Err(fault) => Err(Refusal::Fault(fault)),
+        Err(fault) => Err(ToppersRefusal::Fault(fault)),
     }
 }
 
@@ -48,7 +53,7 @@ fn write_target<O: Outside>(
     alloc: Global,
     outside: &mut O,
     folder: &str,
-    exported: &Exported,
+    exported: &ToppersFiles,
 ) -> Result<(), Failure>
     ensures { OnOk result (Does (O.done outside.old) (target_files folder.now exported.now) (O.done outside.new)) }
 {
@@ -69,7 +74,7 @@ fn make_target<O: Outside, R: Files>(
     outside: &mut O,
     rt: &R,
     folder: &str,
-    exported: &Exported,
+    exported: &ToppersFiles,
 ) -> Result<(), Failure>
     ensures { OnOk result (Does (O.done outside.old) (target_files folder.now exported.now) (O.done outside.new)) }
 {
@@ -83,7 +88,7 @@ fn give<O: Outside, R: Files>(
     outside: &mut O,
     rt: &R,
     folder: &str,
-    exported: &Exported,
+    exported: &ToppersFiles,
 ) -> u8
     ensures { result ≡ 0 → Does (O.done outside.old) (target_files folder.now exported.now) (O.done outside.new) }
 {
@@ -105,15 +110,15 @@ fn refuse_target<O: Outside>(
     alloc: Global,
     outside: &mut O,
     names: FileNames<'_>,
-    refusal: Refusal,
+    refusal: ToppersRefusal,
 ) -> u8 {
     match refusal {
-        Refusal::Name(name) => {
+        ToppersRefusal::Name(name) => {
             refuse_object(outside, name, "the headers of TOPPERS have this name")
         }
-        Refusal::Mailbox(name) => refuse_object(outside, name, "FMP3 has no mailboxes"),
-        Refusal::Fault(BuildFault::Memory) => end(outside, &Failure::Memory(AllocError)),
-        Refusal::Fault(BuildFault::At(..)) => {
+        ToppersRefusal::Mailbox(name) => refuse_object(outside, name, "FMP3 has no mailboxes"),
+        ToppersRefusal::Fault(BuildFault::Memory) => end(outside, &Failure::Memory(AllocError)),
+        ToppersRefusal::Fault(BuildFault::At(..)) => {
             print_fault(alloc, outside, names, Form::Text).max(1)
         }
     }

@@ -1,7 +1,7 @@
 use Rattle.std.proofs.Common.{◌<◌, length, map}
 use Rattle.fmp_lex.specs.Cutting.{Fault, IsPiece}
 use Rattle.fmp_lex.specs.Packing.{whole_in}
-use Rattle.fmp_lex.specs.declared.packed.Shape.TheVariants.{Bad}
+use Rattle.fmp_lex.specs.declared.packed.TokenShape.TheVariants.{Bad}
 use Rattle.fmp_lex.proofs.Packing.{one_packed, all_packed, is_packed, packed_whole}
 use Rattle.fmp_lex.proofs.Unique.{cuts_unique}
 use Rattle.fmp_lex.proofs.Windows.{cuts_all, cuts_fault}
