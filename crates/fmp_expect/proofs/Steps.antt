@@ -6,7 +6,7 @@ use Rattle.fmp_base.specs.declared.events.Line.{Line}
 use Rattle.fmp_base.specs.declared.events.Line.TheVariants as line
 use Rattle.fmp_base.specs.declared.events.TaskState.{TaskState}
 use Rattle.fmp_expect.specs.declared.checker.Watch.{Watch}
-use Rattle.fmp_expect.specs.declared.expectation.Actor.{Actor}
+use Rattle.fmp_expect.specs.declared.expectation.ExpectedActor.{ExpectedActor}
 use Rattle.fmp_expect.specs.declared.expectation.Expectation.{Expectation}
 use Rattle.fmp_expect.specs.declared.expectation.Expectation.TheVariants as expectation
 use Rattle.fmp_expect.specs.declared.expectation.Expected.{Expected}
@@ -47,7 +47,7 @@ owed_step false false true n (Some m) o less e f = f ∙ less_one n m
 owed_step false false false n w o less e f = e
 
 -- what is owed is told by the ticks that were waited
-owed_is : (a : Actor) (i n : ℕ) (told : List Told) → is_owed a i n told ≡ reached n (waited a i told)
+owed_is : (a : ExpectedActor) (i n : ℕ) (told : List Told) → is_owed a i n told ≡ reached n (waited a i told)
 owed_is a i n [] = refl
 owed_is a i n (t ∷ before) =
     owed_step (runs a t.line) (is_interrupt i t.line) (is_tick t.line) n (waited a i before) (is_owed a i n before)
@@ -58,7 +58,7 @@ abbrev IsAlone : (r i k : Bool) → Type 0
 IsAlone r i true = (r ≡ false) × (i ≡ false)
 IsAlone r i false = Unit {0}
 
-alone : (a : Actor) (i : ℕ) (l : Line) → IsAlone (runs a l) (is_interrupt i l) (is_tick l)
+alone : (a : ExpectedActor) (i : ℕ) (l : Line) → IsAlone (runs a l) (is_interrupt i l) (is_tick l)
 alone a i (line.Tick clock) = (refl, refl)
 alone a i (line.Int other) = tt
 alone a i (line.Call p who made reply) = tt

@@ -16,10 +16,10 @@ use Rattle.fmp_base.specs.Codes.{code_name}
 use Rattle.fmp_base.specs.Names.{name_text}
 use Rattle.fmp_base.specs.Systems.{SystemTables}
 use Rattle.fmp_base.specs.Texts.{fault_text, word_text}
-use Rattle.fmp_expect.specs.declared.expectation.Actor.{Actor}
-use Rattle.fmp_expect.specs.declared.expectation.Actor.TheVariants as actor
-use Rattle.fmp_expect.specs.declared.expectation.Deed.{Deed}
-use Rattle.fmp_expect.specs.declared.expectation.Deed.TheVariants as deed
+use Rattle.fmp_expect.specs.declared.expectation.ExpectedActor.{ExpectedActor}
+use Rattle.fmp_expect.specs.declared.expectation.ExpectedActor.TheVariants as actor
+use Rattle.fmp_expect.specs.declared.expectation.ExpectedDeed.{ExpectedDeed}
+use Rattle.fmp_expect.specs.declared.expectation.ExpectedDeed.TheVariants as deed
 use Rattle.fmp_expect.specs.declared.expectation.Expectation.{Expectation}
 use Rattle.fmp_expect.specs.declared.expectation.Expectation.TheVariants as expectation
 use Rattle.fmp_expect.specs.declared.expectation.Expected.{Expected}
@@ -28,7 +28,7 @@ use Rattle.fmp_expect.specs.declared.fault.ExpectFault.{ExpectFault}
 use Rattle.fmp_expect.specs.declared.fault.ExpectFault.TheVariants as fault
 use Rattle.fmp_expect.specs.declared.fault.Expects.{Expects}
 use Rattle.fmp_expect.specs.declared.fault.Expects.TheVariants as expects
-use Rattle.fmp_expect.specs.declared.fault.Flaw.{Flaw}
+use Rattle.fmp_expect.specs.declared.fault.ExpectationFlaw.{ExpectationFlaw}
 use Rattle.fmp_expect.specs.declared.named.TheConstants.{CODES, FAULTS, STATES}
 use Rattle.fmp_expect.specs.Words.{before_comment, lines_of, number_of, put_value, words_of}
 
@@ -37,35 +37,35 @@ pub record Read (A : Type 0) : Type 0 where
   pub value : A
   pub rest : List (List ℕ)
 
-abbrev pub read : {A : Type 0} → A → List (List ℕ) → Result (Read A) Flaw
+abbrev pub read : {A : Type 0} → A → List (List ℕ) → Result (Read A) ExpectationFlaw
 read x ws = Ok (record { value = x; rest = ws })
 
 -- what is read after something else, or the first flaw
-abbrev pub and_then : {A B : Type 0} → Result A Flaw → (A → Result B Flaw) → Result B Flaw
+abbrev pub and_then : {A B : Type 0} → Result A ExpectationFlaw → (A → Result B ExpectationFlaw) → Result B ExpectationFlaw
 and_then (Ok x) f = f x
 and_then (Err e) f = Err e
 
 -- this is expected in place of the first of these words, or of the end of the line
-abbrev pub flaw_at : Expects → List (List ℕ) → Flaw
+abbrev pub flaw_at : Expects → List (List ℕ) → ExpectationFlaw
 flaw_at e ws = record { expects = e; left = length ws }
 
 -- the word of a line at which a flaw stands, if it is not at the end of the line
-abbrev pub faulty_word : (line : List ℕ) → Flaw → Option (List ℕ)
+abbrev pub faulty_word : (line : List ℕ) → ExpectationFlaw → Option (List ℕ)
 faulty_word line f =
     let ws = words_of (before_comment line) in slice_get ws (length ws - f.left)
 
 -- a value that was found in the first of words, with those behind it; or a flaw
-abbrev pub found_or : {A : Type 0} → Expects → (words behind : List (List ℕ)) → Option A → Result (Read A) Flaw
+abbrev pub found_or : {A : Type 0} → Expects → (words behind : List (List ℕ)) → Option A → Result (Read A) ExpectationFlaw
 found_or e ws behind None = Err (flaw_at e ws)
 found_or e ws behind (Some x) = read x behind
 
 -- the words behind the first, if the first is this word
-abbrev pub behind_word : Expects → List ℕ → List (List ℕ) → Result (List (List ℕ)) Flaw
+abbrev pub behind_word : Expects → List ℕ → List (List ℕ) → Result (List (List ℕ)) ExpectationFlaw
 behind_word e word [] = Err (flaw_at e [])
 behind_word e word (w ∷ ws) = if bytes_eq w word then Ok ws else Err (flaw_at e (w ∷ ws))
 
 -- an expectation with no words behind it
-abbrev pub whole : Expects → Expectation → List (List ℕ) → Result Expectation Flaw
+abbrev pub whole : Expects → Expectation → List (List ℕ) → Result Expectation ExpectationFlaw
 whole e x [] = Ok x
 whole e x (w ∷ ws) = Err (flaw_at e (w ∷ ws))
 
@@ -91,65 +91,65 @@ abbrev pub cyclic_named : SystemTables → List ℕ → Option ℕ
 cyclic_named sys w = position (λ c. bytes_eq (name_text c.name) w) sys.cyclics
 
 -- the deed that a word tells
-abbrev pub deed_named : List ℕ → Option Deed
+abbrev pub deed_named : List ℕ → Option ExpectedDeed
 deed_named w =
     or_else (option_map (λ c. deed.Answer c) (code_named w))
     (or_else (option_map (λ f. deed.Stop f) (fault_named w)) (option_map (λ v. deed.Put v) (put_value w)))
 
 -- the task, or else the cyclic handler, of a name
-abbrev pub actor_named : SystemTables → List ℕ → Option Actor
+abbrev pub actor_named : SystemTables → List ℕ → Option ExpectedActor
 actor_named sys w =
     or_else (option_map (λ t. actor.Task t) (task_named sys w)) (option_map (λ c. actor.Cyclic c) (cyclic_named sys w))
 
-abbrev pub deed_of : List (List ℕ) → Result (Read Deed) Flaw
+abbrev pub deed_of : List (List ℕ) → Result (Read ExpectedDeed) ExpectationFlaw
 deed_of [] = Err (flaw_at expects.Deed [])
 deed_of (w ∷ ws) = found_or expects.Deed (w ∷ ws) ws (deed_named w)
 
-abbrev pub actor_of : SystemTables → List (List ℕ) → Result (Read Actor) Flaw
+abbrev pub actor_of : SystemTables → List (List ℕ) → Result (Read ExpectedActor) ExpectationFlaw
 actor_of sys [] = Err (flaw_at expects.Actor [])
 actor_of sys (w ∷ ws) = found_or expects.Actor (w ∷ ws) ws (actor_named sys w)
 
-abbrev pub task_of : SystemTables → List (List ℕ) → Result (Read ℕ) Flaw
+abbrev pub task_of : SystemTables → List (List ℕ) → Result (Read ℕ) ExpectationFlaw
 task_of sys [] = Err (flaw_at expects.Task [])
 task_of sys (w ∷ ws) = found_or expects.Task (w ∷ ws) ws (task_named sys w)
 
-abbrev pub state_of : List (List ℕ) → Result (Read StateWord) Flaw
+abbrev pub state_of : List (List ℕ) → Result (Read StateWord) ExpectationFlaw
 state_of [] = Err (flaw_at expects.State [])
 state_of (w ∷ ws) = found_or expects.State (w ∷ ws) ws (state_named w)
 
-abbrev pub number_in : Expects → (low high : ℕ) → List (List ℕ) → Result (Read ℕ) Flaw
+abbrev pub number_in : Expects → (low high : ℕ) → List (List ℕ) → Result (Read ℕ) ExpectationFlaw
 number_in e low high [] = Err (flaw_at e [])
 number_in e low high (w ∷ ws) = found_or e (w ∷ ws) ws (number_of low high w)
 
-abbrev pub somebody : Read Actor → Result (Read (Option Actor)) Flaw
+abbrev pub somebody : Read ExpectedActor → Result (Read (Option ExpectedActor)) ExpectationFlaw
 somebody r = read (Some r.value) r.rest
 
 -- whose deed it is: `by` and an actor, or nothing
-abbrev pub by_of : SystemTables → List (List ℕ) → Result (Read (Option Actor)) Flaw
+abbrev pub by_of : SystemTables → List (List ℕ) → Result (Read (Option ExpectedActor)) ExpectationFlaw
 by_of sys [] = read None []
 by_of sys (w ∷ ws) = if bytes_eq w (codes "by") then and_then (actor_of sys ws) somebody else read None (w ∷ ws)
 
 -- a deed, and whose it is
-abbrev pub happening_of : SystemTables → List (List ℕ) → Result (Read Happening) Flaw
+abbrev pub happening_of : SystemTables → List (List ℕ) → Result (Read Happening) ExpectationFlaw
 happening_of sys ws =
     and_then (deed_of ws) (λ d. and_then (by_of sys d.rest) (λ a. read (record { deed = d.value; by = a.value }) a.rest))
 
 -- the line ends behind a deed, or `by` says whose it is if nothing does yet
-abbrev pub end_behind : Option Actor → Expects
+abbrev pub end_behind : Option ExpectedActor → Expects
 end_behind None = expects.EndOrBy
 end_behind (Some who) = expects.End
 
 -- `before` stands behind a deed, or `by`
-abbrev pub before_behind : Option Actor → Expects
+abbrev pub before_behind : Option ExpectedActor → Expects
 before_behind None = expects.BeforeOrBy
 before_behind (Some who) = expects.Before
 
 -- `never` was read
-abbrev pub never_of : SystemTables → List (List ℕ) → Result Expectation Flaw
+abbrev pub never_of : SystemTables → List (List ℕ) → Result Expectation ExpectationFlaw
 never_of sys ws = and_then (happening_of sys ws) (λ h. whole (end_behind h.value.by) (expectation.Never h.value) h.rest)
 
 -- nothing was read
-abbrev pub before_of : SystemTables → List (List ℕ) → Result Expectation Flaw
+abbrev pub before_of : SystemTables → List (List ℕ) → Result Expectation ExpectationFlaw
 before_of sys ws =
     and_then (happening_of sys ws) (λ a.
     and_then (behind_word (before_behind a.value.by) (codes "before") a.rest) (λ rest.
@@ -157,14 +157,14 @@ before_of sys ws =
     whole (end_behind b.value.by) (expectation.Before a.value b.value) b.rest)))
 
 -- `ticks` is to come
-abbrev pub interrupt_of : List (List ℕ) → Result (Read ℕ) Flaw
+abbrev pub interrupt_of : List (List ℕ) → Result (Read ℕ) ExpectationFlaw
 interrupt_of ws =
     and_then (behind_word expects.Ticks (codes "ticks") ws) (λ rest.
     and_then (behind_word expects.Of (codes "of") rest) (λ rest.
     and_then (behind_word expects.Int (codes "int") rest) (λ rest. number_in expects.Interrupt 1 32 rest)))
 
 -- `runs` was read
-abbrev pub within_of : Actor → List (List ℕ) → Result Expectation Flaw
+abbrev pub within_of : ExpectedActor → List (List ℕ) → Result Expectation ExpectationFlaw
 within_of who ws =
     and_then (behind_word expects.Within (codes "within") ws) (λ rest.
     and_then (number_in expects.Count 0 2147483647 rest) (λ n.
@@ -172,13 +172,13 @@ within_of who ws =
     whole expects.End (expectation.Within who n.value (i.value - 1)) i.rest)))
 
 -- an actor is to come, and `runs` behind it
-abbrev pub runs_of : SystemTables → List (List ℕ) → Result Expectation Flaw
+abbrev pub runs_of : SystemTables → List (List ℕ) → Result Expectation ExpectationFlaw
 runs_of sys ws =
     and_then (actor_of sys ws) (λ who.
     and_then (behind_word expects.Runs (codes "runs") who.rest) (λ rest. within_of who.value rest))
 
 -- `end` was read
-abbrev pub end_of : SystemTables → List (List ℕ) → Result Expectation Flaw
+abbrev pub end_of : SystemTables → List (List ℕ) → Result Expectation ExpectationFlaw
 end_of sys ws =
     and_then (state_of ws) (λ s.
     and_then (task_of sys s.rest) (λ t. whole expects.End (expectation.End s.value t.value) t.rest))
@@ -206,12 +206,12 @@ begins_actor sys [] = false
 begins_actor sys (w ∷ ws) = is_found (actor_named sys w)
 
 -- these words begin no sentence: behind an actor `runs` is to come
-abbrev pub no_sentence : SystemTables → List (List ℕ) → Flaw
+abbrev pub no_sentence : SystemTables → List (List ℕ) → ExpectationFlaw
 no_sentence sys ws =
     if begins_actor sys ws then flaw_at expects.Runs (behind_first ws) else flaw_at expects.Sentence ws
 
 -- the expectation of the words of a line. A second word `runs` decides, so that each name may stand before it
-abbrev pub sentence_of : SystemTables → List (List ℕ) → Result Expectation Flaw
+abbrev pub sentence_of : SystemTables → List (List ℕ) → Result Expectation ExpectationFlaw
 sentence_of sys ws =
     if begins (codes "runs") (behind_first ws) then runs_of sys ws
     else if begins (codes "never") ws then never_of sys (behind_first ws)
@@ -219,16 +219,16 @@ sentence_of sys ws =
     else if begins_deed ws then before_of sys ws
     else Err (no_sentence sys ws)
 
-abbrev pub said_by : SystemTables → List (List ℕ) → Option (Result Expectation Flaw)
+abbrev pub said_by : SystemTables → List (List ℕ) → Option (Result Expectation ExpectationFlaw)
 said_by sys [] = None
 said_by sys (w ∷ ws) = Some (sentence_of sys (w ∷ ws))
 
 -- what a line says, if it has words
-abbrev pub line_meaning : SystemTables → List ℕ → Option (Result Expectation Flaw)
+abbrev pub line_meaning : SystemTables → List ℕ → Option (Result Expectation ExpectationFlaw)
 line_meaning sys line = said_by sys (words_of (before_comment line))
 
 -- what line n says in front of what others say; the first fault comes first
-abbrev pub in_front : ℕ → Option (Result Expectation Flaw) → Result (List Expected) ExpectFault →
+abbrev pub in_front : ℕ → Option (Result Expectation ExpectationFlaw) → Result (List Expected) ExpectFault →
     Result (List Expected) ExpectFault
 in_front n None rest = rest
 in_front n (Some (Err e)) rest = Err (fault.Line n e)

@@ -15,11 +15,11 @@ use Rattle.fmp_base.specs.declared.states.Caller.{Caller}
 use Rattle.fmp_base.specs.declared.states.Caller.TheVariants as caller
 use Rattle.fmp_base.specs.declared.states.Handler.TheVariants as handler
 use Rattle.fmp_base.specs.Codes.{code_of}
-use Rattle.fmp_expect.specs.declared.checker.Broken.{Broken}
-use Rattle.fmp_expect.specs.declared.expectation.Actor.{Actor}
-use Rattle.fmp_expect.specs.declared.expectation.Actor.TheVariants as actor
-use Rattle.fmp_expect.specs.declared.expectation.Deed.{Deed}
-use Rattle.fmp_expect.specs.declared.expectation.Deed.TheVariants as deed
+use Rattle.fmp_expect.specs.declared.checker.BrokenExpectation.{BrokenExpectation}
+use Rattle.fmp_expect.specs.declared.expectation.ExpectedActor.{ExpectedActor}
+use Rattle.fmp_expect.specs.declared.expectation.ExpectedActor.TheVariants as actor
+use Rattle.fmp_expect.specs.declared.expectation.ExpectedDeed.{ExpectedDeed}
+use Rattle.fmp_expect.specs.declared.expectation.ExpectedDeed.TheVariants as deed
 use Rattle.fmp_expect.specs.declared.expectation.Expectation.{Expectation}
 use Rattle.fmp_expect.specs.declared.expectation.Expectation.TheVariants as expectation
 use Rattle.fmp_expect.specs.declared.expectation.Expected.{Expected}
@@ -46,13 +46,13 @@ is_fault Division Division = true
 is_fault Index Index = true
 is_fault _ _ = false
 
-abbrev pub is_actor : Actor → Caller → Bool
+abbrev pub is_actor : ExpectedActor → Caller → Bool
 is_actor (actor.Task t) (caller.Task other) = nat_eq other t
 is_actor (actor.Cyclic c) (caller.Handler (handler.Cyclic other)) = nat_eq other c
 is_actor _ _ = false
 
 -- whoever it is, or this one
-abbrev pub is_by : Option Actor → Caller → Bool
+abbrev pub is_by : Option ExpectedActor → Caller → Bool
 is_by None who = true
 is_by (Some a) who = is_actor a who
 
@@ -65,18 +65,18 @@ puts value (call.Put printed) = is_same printed value
 puts value _ = false
 
 -- a call with this reply, or none while its caller waits, is this deed
-abbrev pub is_called : Deed → Call → Option Reply → Bool
+abbrev pub is_called : ExpectedDeed → Call → Option Reply → Bool
 is_called (deed.Answer code) made reply = has_code code reply
 is_called (deed.Put value) made reply = puts value made
 is_called (deed.Stop f) made reply = false
 
 -- the end of a wait with this reply is this deed
-abbrev pub is_released : Deed → Reply → Bool
+abbrev pub is_released : ExpectedDeed → Reply → Bool
 is_released (deed.Answer code) reply = is_code reply.code code
 is_released (deed.Put value) reply = false
 is_released (deed.Stop f) reply = false
 
-abbrev pub is_stopped : Deed → Fault → Bool
+abbrev pub is_stopped : ExpectedDeed → Fault → Bool
 is_stopped (deed.Stop f) told = is_fault told f
 is_stopped (deed.Answer code) told = false
 is_stopped (deed.Put value) told = false
@@ -88,12 +88,12 @@ tells h (line.Gets p t reply) = is_released h.deed reply && is_by h.by (caller.T
 tells h (line.Fault p who told) = is_stopped h.deed told && is_by h.by who
 tells h _ = false
 
-abbrev pub is_task_of : Actor → Option ℕ → Bool
+abbrev pub is_task_of : ExpectedActor → Option ℕ → Bool
 is_task_of a None = false
 is_task_of a (Some t) = is_actor a (caller.Task t)
 
 -- a line tells that this actor runs: it calls, ends or stops with a fault, it begins, or a processor goes on with it
-abbrev pub runs : Actor → Line → Bool
+abbrev pub runs : ExpectedActor → Line → Bool
 runs a (line.Call p who made reply) = is_actor a who
 runs a (line.End p who) = is_actor a who
 runs a (line.Fault p who told) = is_actor a who
@@ -119,7 +119,7 @@ is_zero n = nat_eq n 0
 
 -- an interrupt was requested n or more ticks ago, and the actor did not run since: looking back from the last line,
 -- which comes first here
-abbrev pub is_owed : Actor → (interrupt n : ℕ) → List Told → Bool
+abbrev pub is_owed : ExpectedActor → (interrupt n : ℕ) → List Told → Bool
 is_owed a i n [] = false
 is_owed a i n (t ∷ before) =
     if runs a t.line then false
@@ -167,12 +167,12 @@ fails_at_end (expectation.Within a n i) states = false
 abbrev pub outcome : Expectation → List Told → List TaskState → (n : ℕ) → Option ℕ
 outcome e told states n = or_else (failure e told) (if_fails (fails_at_end e states) n)
 
-abbrev pub broken_at : Expected → Option ℕ → Option Broken → Option Broken
+abbrev pub broken_at : Expected → Option ℕ → Option BrokenExpectation → Option BrokenExpectation
 broken_at x None others = others
 broken_at x (Some n) others = Some (record { line = x.line; event = n })
 
 -- the first of these expectations that a run fails, and the event in which it does; none if the run meets them all
-abbrev pub first_broken : List Expected → List Told → List TaskState → (n : ℕ) → Option Broken
+abbrev pub first_broken : List Expected → List Told → List TaskState → (n : ℕ) → Option BrokenExpectation
 first_broken [] told states n = None
 first_broken (x ∷ xs) told states n =
     broken_at x (outcome x.expectation told states n) (first_broken xs told states n)

@@ -1,6 +1,6 @@
 -- What is kept of an expectation while a run goes on.
 use Rattle.std.specs.Prelude.{ℕ, ◌≡◌, ◌+◌, ◌-◌, List, [], ◌∷◌, Option, Some, None, Bool, true, false, if◌then◌else◌, map, nat_eq, option_map, unwrap_or}
-use Rattle.fmp_expect.specs.declared.expectation.Actor.{Actor}
+use Rattle.fmp_expect.specs.declared.expectation.ExpectedActor.{ExpectedActor}
 use Rattle.fmp_expect.specs.declared.expectation.Expectation.{Expectation}
 use Rattle.fmp_expect.specs.declared.expectation.Expectation.TheVariants as expectation
 use Rattle.fmp_expect.specs.declared.expectation.Expected.{Expected}
@@ -9,11 +9,11 @@ use Rattle.fmp_expect.specs.declared.stages.Stage.TheVariants as stage
 use Rattle.fmp_expect.specs.declared.checker.Watch.{Watch}
 use Rattle.fmp_base.specs.declared.events.Line.{Line}
 use Rattle.fmp_base.specs.declared.events.TaskState.{TaskState}
-use Rattle.fmp_expect.specs.declared.checker.Broken.{Broken}
+use Rattle.fmp_expect.specs.declared.checker.BrokenExpectation.{BrokenExpectation}
 use Rattle.fmp_expect.specs.Meaning.{Told, broken_at, failure, fails_at_end, if_fails, is_interrupt, is_tick, is_told, runs, tells}
 
 -- how many ticks ago the first interrupt was requested after which the actor did not run, if there is one
-abbrev pub waited : Actor → (interrupt : ℕ) → List Told → Option ℕ
+abbrev pub waited : ExpectedActor → (interrupt : ℕ) → List Told → Option ℕ
 waited a i [] = None
 waited a i (t ∷ before) =
     if runs a t.line then None
@@ -113,6 +113,6 @@ failed_by _ at_end n = if_fails at_end n
 abbrev pub watch_outcome : Watch → List TaskState → (n : ℕ) → Option ℕ
 watch_outcome w states n = failed_by w.stage (fails_at_end w.expected.expectation states) n
 
-abbrev pub first_failed : List Watch → List TaskState → (n : ℕ) → Option Broken
+abbrev pub first_failed : List Watch → List TaskState → (n : ℕ) → Option BrokenExpectation
 first_failed [] states n = None
 first_failed (w ∷ ws) states n = broken_at w.expected (watch_outcome w states n) (first_failed ws states n)

@@ -14,7 +14,7 @@ use std::marker::Model;
 
 /// An expectation that a run does not meet.
 #[derive(Clone, Copy, Debug, PartialEq, Eq)]
-pub struct Broken {
+pub struct BrokenExpectation {
     /// The line of the text, from 1.
     pub line: usize,
     /// The number of the event in which it fails.
@@ -102,12 +102,12 @@ fn outcome(watch: Watch, states: &[TaskState], number: u32) -> Option<u32>
 }
 
 /// The first of these expectations that failed.
-fn first_failed(watches: &[Watch], states: &[TaskState], number: u32) -> Option<Broken>
+fn first_failed(watches: &[Watch], states: &[TaskState], number: u32) -> Option<BrokenExpectation>
     ensures { result ≡ spec.first_failed watches.now states.now number }
 {
     for watch in watches {
         if let Some(event) = outcome(*watch, states, number) {
-            return Some(Broken {
+            return Some(BrokenExpectation {
                 line: watch.expected.line,
                 event,
             });
@@ -147,7 +147,7 @@ impl Checker {
 
     /// The first of the expectations that the run fails, where its last event is the one of this number and its tasks
     /// are in these states; none if it meets them all.
-    pub fn verdict(&self, states: &[TaskState], number: u32) -> Option<Broken>
+    pub fn verdict(&self, states: &[TaskState], number: u32) -> Option<BrokenExpectation>
         ensures { (xs : List Expected) → (told : List Told) → AreTold xs told self.now
             → result ≡ first_broken xs told states.now number }
     {

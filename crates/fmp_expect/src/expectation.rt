@@ -3,7 +3,7 @@ use fmp_base::{Er, Fault, StateWord};
 
 /// What a line of a trace can tell.
 #[derive(Clone, Copy)]
-pub enum Deed {
+pub enum ExpectedDeed {
     /// A call, or the end of a wait, answers this code.
     Answer(Er),
     /// This value is printed.
@@ -14,7 +14,7 @@ pub enum Deed {
 
 /// Who acts, by its place in the tables of the system.
 #[derive(Clone, Copy)]
-pub enum Actor {
+pub enum ExpectedActor {
     /// A task.
     Task(usize),
     /// A cyclic handler.
@@ -24,9 +24,9 @@ pub enum Actor {
 /// A deed, of anybody or of one actor.
 #[derive(Clone, Copy)]
 pub struct Happening {
-    pub deed: Deed,
+    pub deed: ExpectedDeed,
     /// Whose deed it is, if that matters.
-    pub by: Option<Actor>,
+    pub by: Option<ExpectedActor>,
 }
 
 /// What is expected of a run.
@@ -41,7 +41,7 @@ pub enum Expectation {
     },
     /// Whenever the interrupt is requested, this actor runs before more than this many ticks are done.
     Within {
-        actor: Actor,
+        actor: ExpectedActor,
         /// 0 to 2147483647.
         ticks: u32,
         /// The place of the interrupt: its number less 1.

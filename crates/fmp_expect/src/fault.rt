@@ -57,7 +57,7 @@ pub enum Expects {
 /// What is wrong with a line.
 #[derive(Clone, Copy, Debug, PartialEq, Eq, Error)]
 #[error("expected {expects}")]
-pub struct Flaw {
+pub struct ExpectationFlaw {
     /// What is expected in place of a word, or of the end of the line.
     pub expects: Expects,
     /// How many words of the line are left, that word being the first of them; 0 at the end of the line.
@@ -69,7 +69,7 @@ pub struct Flaw {
 pub enum ExpectFault {
     /// A line has a flaw. Lines are numbered from 1.
     #[error("expect:{line}: {flaw}")]
-    Line { line: usize, flaw: Flaw },
+    Line { line: usize, flaw: ExpectationFlaw },
     /// Memory ran out.
     #[error("memory")]
     Memory,

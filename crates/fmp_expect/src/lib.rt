@@ -13,9 +13,9 @@ mod running;
 mod stages;
 mod words;
 
-pub use checker::{Broken, Checker, Watch};
-pub use expectation::{Actor, Deed, Expectation, Expected, Happening};
-pub use fault::{ExpectFault, Expects, Flaw};
+pub use checker::{BrokenExpectation, Checker, Watch};
+pub use expectation::{Expectation, Expected, ExpectedActor, ExpectedDeed, Happening};
+pub use fault::{ExpectFault, ExpectationFlaw, Expects};
 pub use laws::events_tell_as_their_run;
 pub use named::{CODES, FAULTS, STATES, fault_name, state_name};
 pub use reading::{faulty_word, read_expectations};

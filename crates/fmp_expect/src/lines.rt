@@ -2,7 +2,7 @@
 ghost use Rattle.std.specs.Prelude.{◌≡◌};
 ghost use Rattle.fmp_expect.specs.Meaning as spec;
 
-use crate::expectation::{Actor, Deed, Happening};
+use crate::expectation::{ExpectedActor, ExpectedDeed, Happening};
 use fmp_base::{Call, Caller, Er, Fault, Handler, Line, Reply, StateWord};
 
 fn is_same(a: i32, b: i32) -> bool
@@ -43,19 +43,19 @@ pub fn is_state(a: StateWord, b: StateWord) -> bool
     }
 }
 
-fn is_actor(actor: Actor, who: Caller) -> bool
+fn is_actor(actor: ExpectedActor, who: Caller) -> bool
     ensures { result ≡ spec.is_actor actor who }
 {
     match (actor, who) {
-        (Actor::Task(task), Caller::Task(other)) => usize::from(other) == task,
-        (Actor::Cyclic(cyclic), Caller::Handler(Handler::Cyclic(other))) => {
+        (ExpectedActor::Task(task), Caller::Task(other)) => usize::from(other) == task,
+        (ExpectedActor::Cyclic(cyclic), Caller::Handler(Handler::Cyclic(other))) => {
             usize::from(other) == cyclic
         }
         _ => false,
     }
 }
 
-fn is_by(by: Option<Actor>, who: Caller) -> bool
+fn is_by(by: Option<ExpectedActor>, who: Caller) -> bool
     ensures { result ≡ spec.is_by by who }
 {
     match by {
@@ -82,31 +82,31 @@ fn puts(value: i32, call: Call) -> bool
     }
 }
 
-fn is_called(deed: Deed, call: Call, reply: Option<Reply>) -> bool
+fn is_called(deed: ExpectedDeed, call: Call, reply: Option<Reply>) -> bool
     ensures { result ≡ spec.is_called deed call reply }
 {
     match deed {
-        Deed::Answer(code) => has_code(code, reply),
-        Deed::Put(value) => puts(value, call),
-        Deed::Stop(_) => false,
+        ExpectedDeed::Answer(code) => has_code(code, reply),
+        ExpectedDeed::Put(value) => puts(value, call),
+        ExpectedDeed::Stop(_) => false,
     }
 }
 
-fn is_released(deed: Deed, reply: Reply) -> bool
+fn is_released(deed: ExpectedDeed, reply: Reply) -> bool
     ensures { result ≡ spec.is_released deed reply }
 {
     match deed {
-        Deed::Answer(code) => is_code(reply.code, code),
-        Deed::Put(_) | Deed::Stop(_) => false,
+        ExpectedDeed::Answer(code) => is_code(reply.code, code),
+        ExpectedDeed::Put(_) | ExpectedDeed::Stop(_) => false,
     }
 }
 
-fn is_stopped(deed: Deed, told: Fault) -> bool
+fn is_stopped(deed: ExpectedDeed, told: Fault) -> bool
     ensures { result ≡ spec.is_stopped deed told }
 {
     match deed {
-        Deed::Stop(fault) => is_fault(told, fault),
-        Deed::Answer(_) | Deed::Put(_) => false,
+        ExpectedDeed::Stop(fault) => is_fault(told, fault),
+        ExpectedDeed::Answer(_) | ExpectedDeed::Put(_) => false,
     }
 }
 
@@ -131,7 +131,7 @@ pub fn tells(happening: Happening, line: Line) -> bool
     }
 }
 
-fn is_task_of(actor: Actor, task: Option<u8>) -> bool
+fn is_task_of(actor: ExpectedActor, task: Option<u8>) -> bool
     ensures { result ≡ spec.is_task_of actor task }
 {
     match task {
@@ -141,7 +141,7 @@ fn is_task_of(actor: Actor, task: Option<u8>) -> bool
 }
 
 /// Whether a line tells that this actor runs.
-pub fn runs(actor: Actor, line: Line) -> bool
+pub fn runs(actor: ExpectedActor, line: Line) -> bool
     ensures { result ≡ spec.runs actor line }
 {
     match line {

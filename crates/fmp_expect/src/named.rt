@@ -7,7 +7,7 @@ ghost use Rattle.fmp_base.specs.Texts.{fault_text, word_text};
 ghost use Rattle.fmp_expect.specs.Grammar as spec;
 ghost use Rattle.fmp_expect.specs.Words as words;
 
-use crate::expectation::{Actor, Deed};
+use crate::expectation::{ExpectedActor, ExpectedDeed};
 use crate::numbers::signed_in;
 use fmp_base::{CyclicConfig, Er, Fault, StateWord, System, TaskConfig};
 
@@ -143,30 +143,30 @@ fn put_value(word: &[u8]) -> Option<i32>
 }
 
 /// The deed that a word tells.
-pub fn deed_named(word: &[u8]) -> Option<Deed>
+pub fn deed_named(word: &[u8]) -> Option<ExpectedDeed>
     ensures { result ≡ spec.deed_named word.now }
 {
     if let Some(code) = code_among(&CODES, word) {
-        return Some(Deed::Answer(code));
+        return Some(ExpectedDeed::Answer(code));
     }
     if let Some(fault) = fault_among(&FAULTS, word) {
-        return Some(Deed::Stop(fault));
+        return Some(ExpectedDeed::Stop(fault));
     }
     match put_value(word) {
-        Some(value) => Some(Deed::Put(value)),
+        Some(value) => Some(ExpectedDeed::Put(value)),
         None => None,
     }
 }
 
 /// The task, or else the cyclic handler, of this name.
-pub fn actor_named(sys: &System, word: &[u8]) -> Option<Actor>
+pub fn actor_named(sys: &System, word: &[u8]) -> Option<ExpectedActor>
     ensures { result ≡ spec.actor_named (tables_of sys.now) word.now }
 {
     if let Some(task) = task_named(sys, word) {
-        return Some(Actor::Task(task));
+        return Some(ExpectedActor::Task(task));
     }
     match cyclic_among(&sys.cyclics, word) {
-        Some(cyclic) => Some(Actor::Cyclic(cyclic)),
+        Some(cyclic) => Some(ExpectedActor::Cyclic(cyclic)),
         None => None,
     }
 }

@@ -8,8 +8,8 @@ ghost use Rattle.fmp_expect.specs.Grammar as spec;
 ghost use Rattle.fmp_expect.specs.Grammar.{IsFaultOf, behind_all, expectations_of, in_front, one_more};
 ghost use Rattle.fmp_expect.specs.Words.{words_of};
 
-use crate::expectation::{Actor, Deed, Expectation, Expected, Happening};
-use crate::fault::{ExpectFault, Expects, Flaw};
+use crate::expectation::{Expectation, Expected, ExpectedActor, ExpectedDeed, Happening};
+use crate::fault::{ExpectFault, ExpectationFlaw, Expects};
 use crate::named::{STATES, actor_named, deed_named, state_among, task_named};
 use crate::numbers::number_in;
 use crate::words::{before_comment, first_line, next_word, word_at, word_count};
@@ -17,17 +17,17 @@ use fmp_base::{StateWord, System};
 use std::alloc::Global;
 
 /// The flaw of a line in which this is expected in place of the first word.
-fn flaw_at(expects: Expects, line: &[u8]) -> Flaw
+fn flaw_at(expects: Expects, line: &[u8]) -> ExpectationFlaw
     ensures { result ≡ spec.flaw_at expects (words_of line.now) }
 {
-    Flaw {
+    ExpectationFlaw {
         expects,
         left: word_count(line),
     }
 }
 
 /// The word at which a flaw of a line stands; none at the end of the line.
-pub fn faulty_word(line: &[u8], flaw: Flaw) -> Option<&[u8]>
+pub fn faulty_word(line: &[u8], flaw: ExpectationFlaw) -> Option<&[u8]>
     ensures { option_map (λ word. word.now) result ≡ spec.faulty_word line.now flaw }
 {
     let words = before_comment(line);
@@ -40,7 +40,7 @@ fn found_or<'a, A: Copy>(
     line: &[u8],
     rest: &'a [u8],
     found: Option<A>,
-) -> Result<(A, &'a [u8]), Flaw>
+) -> Result<(A, &'a [u8]), ExpectationFlaw>
     ensures read { IfOk result (λ r. spec.found_or expects (words_of line.now) (words_of rest.now) found
         ≡ Ok (record { value = r.0; rest = words_of r.1.now })) }
     ensures fault { IfErr result (λ e. spec.found_or expects (words_of line.now) (words_of rest.now) found ≡ Err e) }
@@ -51,7 +51,7 @@ fn found_or<'a, A: Copy>(
     }
 }
 
-fn deed_in(line: &[u8]) -> Result<(Deed, &[u8]), Flaw>
+fn deed_in(line: &[u8]) -> Result<(ExpectedDeed, &[u8]), ExpectationFlaw>
     ensures read { IfOk result (λ r. spec.deed_of (words_of line.now)
         ≡ Ok (record { value = r.0; rest = words_of r.1.now })) }
     ensures fault { IfErr result (λ e. spec.deed_of (words_of line.now) ≡ Err e) }
@@ -62,7 +62,7 @@ fn deed_in(line: &[u8]) -> Result<(Deed, &[u8]), Flaw>
     }
 }
 
-fn actor_in<'a>(sys: &System, line: &'a [u8]) -> Result<(Actor, &'a [u8]), Flaw>
+fn actor_in<'a>(sys: &System, line: &'a [u8]) -> Result<(ExpectedActor, &'a [u8]), ExpectationFlaw>
     ensures read { IfOk result (λ r. spec.actor_of (tables_of sys.now) (words_of line.now)
         ≡ Ok (record { value = r.0; rest = words_of r.1.now })) }
     ensures fault { IfErr result (λ e. spec.actor_of (tables_of sys.now) (words_of line.now) ≡ Err e) }
@@ -73,7 +73,7 @@ fn actor_in<'a>(sys: &System, line: &'a [u8]) -> Result<(Actor, &'a [u8]), Flaw>
     }
 }
 
-fn task_in<'a>(sys: &System, line: &'a [u8]) -> Result<(usize, &'a [u8]), Flaw>
+fn task_in<'a>(sys: &System, line: &'a [u8]) -> Result<(usize, &'a [u8]), ExpectationFlaw>
     ensures read { IfOk result (λ r. spec.task_of (tables_of sys.now) (words_of line.now)
         ≡ Ok (record { value = r.0; rest = words_of r.1.now })) }
     ensures fault { IfErr result (λ e. spec.task_of (tables_of sys.now) (words_of line.now) ≡ Err e) }
@@ -84,7 +84,7 @@ fn task_in<'a>(sys: &System, line: &'a [u8]) -> Result<(usize, &'a [u8]), Flaw>
     }
 }
 
-fn state_in(line: &[u8]) -> Result<(StateWord, &[u8]), Flaw>
+fn state_in(line: &[u8]) -> Result<(StateWord, &[u8]), ExpectationFlaw>
     ensures read { IfOk result (λ r. spec.state_of (words_of line.now)
         ≡ Ok (record { value = r.0; rest = words_of r.1.now })) }
     ensures fault { IfErr result (λ e. spec.state_of (words_of line.now) ≡ Err e) }
@@ -95,7 +95,12 @@ fn state_in(line: &[u8]) -> Result<(StateWord, &[u8]), Flaw>
     }
 }
 
-fn ranged_in(expects: Expects, low: u32, high: u32, line: &[u8]) -> Result<(u32, &[u8]), Flaw>
+fn ranged_in(
+    expects: Expects,
+    low: u32,
+    high: u32,
+    line: &[u8],
+) -> Result<(u32, &[u8]), ExpectationFlaw>
     ensures read { IfOk result (λ r. spec.number_in expects low high (words_of line.now)
         ≡ Ok (record { value = r.0; rest = words_of r.1.now })) }
     ensures fault { IfErr result (λ e. spec.number_in expects low high (words_of line.now) ≡ Err e) }
@@ -107,7 +112,11 @@ fn ranged_in(expects: Expects, low: u32, high: u32, line: &[u8]) -> Result<(u32,
 }
 
 /// What stands behind the first word of a line, if it is this one.
-fn behind_word<'a>(expects: Expects, word: &[u8], line: &'a [u8]) -> Result<&'a [u8], Flaw>
+fn behind_word<'a>(
+    expects: Expects,
+    word: &[u8],
+    line: &'a [u8],
+) -> Result<&'a [u8], ExpectationFlaw>
     ensures read { IfOk result (λ rest. spec.behind_word expects word.now (words_of line.now) ≡ Ok (words_of rest.now)) }
     ensures fault { IfErr result (λ e. spec.behind_word expects word.now (words_of line.now) ≡ Err e) }
 {
@@ -118,7 +127,11 @@ fn behind_word<'a>(expects: Expects, word: &[u8], line: &'a [u8]) -> Result<&'a 
 }
 
 /// An expectation, if no words are left.
-fn whole(expects: Expects, expectation: Expectation, line: &[u8]) -> Result<Expectation, Flaw>
+fn whole(
+    expects: Expects,
+    expectation: Expectation,
+    line: &[u8],
+) -> Result<Expectation, ExpectationFlaw>
     ensures { result ≡ spec.whole expects expectation (words_of line.now) }
 {
     match next_word(line) {
@@ -128,7 +141,10 @@ fn whole(expects: Expects, expectation: Expectation, line: &[u8]) -> Result<Expe
 }
 
 /// Whose deed it is.
-fn by_in<'a>(sys: &System, line: &'a [u8]) -> Result<(Option<Actor>, &'a [u8]), Flaw>
+fn by_in<'a>(
+    sys: &System,
+    line: &'a [u8],
+) -> Result<(Option<ExpectedActor>, &'a [u8]), ExpectationFlaw>
     ensures read { IfOk result (λ r. spec.by_of (tables_of sys.now) (words_of line.now)
         ≡ Ok (record { value = r.0; rest = words_of r.1.now })) }
     ensures fault { IfErr result (λ e. spec.by_of (tables_of sys.now) (words_of line.now) ≡ Err e) }
@@ -142,7 +158,7 @@ fn by_in<'a>(sys: &System, line: &'a [u8]) -> Result<(Option<Actor>, &'a [u8]), 
     }
 }
 
-fn happening_in<'a>(sys: &System, line: &'a [u8]) -> Result<(Happening, &'a [u8]), Flaw>
+fn happening_in<'a>(sys: &System, line: &'a [u8]) -> Result<(Happening, &'a [u8]), ExpectationFlaw>
     ensures read { IfOk result (λ r. spec.happening_of (tables_of sys.now) (words_of line.now)
         ≡ Ok (record { value = r.0; rest = words_of r.1.now })) }
     ensures fault { IfErr result (λ e. spec.happening_of (tables_of sys.now) (words_of line.now) ≡ Err e) }
@@ -153,7 +169,7 @@ fn happening_in<'a>(sys: &System, line: &'a [u8]) -> Result<(Happening, &'a [u8]
 }
 
 /// What is expected at the end of a line, behind a deed of this actor if it is some.
-fn end_behind(by: Option<Actor>) -> Expects
+fn end_behind(by: Option<ExpectedActor>) -> Expects
     ensures { result ≡ spec.end_behind by }
 {
     match by {
@@ -163,7 +179,7 @@ fn end_behind(by: Option<Actor>) -> Expects
 }
 
 /// What is expected in place of `before`, behind a deed of this actor if it is some.
-fn before_behind(by: Option<Actor>) -> Expects
+fn before_behind(by: Option<ExpectedActor>) -> Expects
     ensures { result ≡ spec.before_behind by }
 {
     match by {
@@ -172,7 +188,7 @@ fn before_behind(by: Option<Actor>) -> Expects
     }
 }
 
-fn never_in(sys: &System, line: &[u8]) -> Result<Expectation, Flaw>
+fn never_in(sys: &System, line: &[u8]) -> Result<Expectation, ExpectationFlaw>
     ensures { result ≡ spec.never_of (tables_of sys.now) (words_of line.now) }
 {
     let (happening, rest) = happening_in(sys, line)?;
@@ -183,7 +199,7 @@ fn never_in(sys: &System, line: &[u8]) -> Result<Expectation, Flaw>
     )
 }
 
-fn before_in(sys: &System, line: &[u8]) -> Result<Expectation, Flaw>
+fn before_in(sys: &System, line: &[u8]) -> Result<Expectation, ExpectationFlaw>
     ensures { result ≡ spec.before_of (tables_of sys.now) (words_of line.now) }
 {
     let (first, rest) = happening_in(sys, line)?;
@@ -196,7 +212,7 @@ fn before_in(sys: &System, line: &[u8]) -> Result<Expectation, Flaw>
     )
 }
 
-fn interrupt_in(line: &[u8]) -> Result<(u32, &[u8]), Flaw>
+fn interrupt_in(line: &[u8]) -> Result<(u32, &[u8]), ExpectationFlaw>
     ensures read { IfOk result (λ r. spec.interrupt_of (words_of line.now)
         ≡ Ok (record { value = r.0; rest = words_of r.1.now })) }
     ensures fault { IfErr result (λ e. spec.interrupt_of (words_of line.now) ≡ Err e) }
@@ -207,7 +223,7 @@ fn interrupt_in(line: &[u8]) -> Result<(u32, &[u8]), Flaw>
     ranged_in(Expects::Interrupt, 1, 32, rest)
 }
 
-fn within_in(actor: Actor, line: &[u8]) -> Result<Expectation, Flaw>
+fn within_in(actor: ExpectedActor, line: &[u8]) -> Result<Expectation, ExpectationFlaw>
     ensures { result ≡ spec.within_of actor (words_of line.now) }
 {
     let rest = behind_word(Expects::Within, b"within", line)?;
@@ -221,7 +237,7 @@ fn within_in(actor: Actor, line: &[u8]) -> Result<Expectation, Flaw>
     whole(Expects::End, within, rest)
 }
 
-fn runs_in(sys: &System, line: &[u8]) -> Result<Expectation, Flaw>
+fn runs_in(sys: &System, line: &[u8]) -> Result<Expectation, ExpectationFlaw>
     ensures { result ≡ spec.runs_of (tables_of sys.now) (words_of line.now) }
 {
     let (actor, rest) = actor_in(sys, line)?;
@@ -229,7 +245,7 @@ fn runs_in(sys: &System, line: &[u8]) -> Result<Expectation, Flaw>
     within_in(actor, rest)
 }
 
-fn end_in(sys: &System, line: &[u8]) -> Result<Expectation, Flaw>
+fn end_in(sys: &System, line: &[u8]) -> Result<Expectation, ExpectationFlaw>
     ensures { result ≡ spec.end_of (tables_of sys.now) (words_of line.now) }
 {
     let (word, rest) = state_in(line)?;
@@ -278,7 +294,7 @@ fn begins_actor(sys: &System, line: &[u8]) -> bool
 }
 
 /// The flaw of a line that begins no sentence.
-fn no_sentence(sys: &System, line: &[u8]) -> Flaw
+fn no_sentence(sys: &System, line: &[u8]) -> ExpectationFlaw
     ensures { result ≡ spec.no_sentence (tables_of sys.now) (words_of line.now) }
 {
     if begins_actor(sys, line) {
@@ -289,7 +305,7 @@ fn no_sentence(sys: &System, line: &[u8]) -> Flaw
 }
 
 /// The expectation of a line.
-fn sentence_in(sys: &System, line: &[u8]) -> Result<Expectation, Flaw>
+fn sentence_in(sys: &System, line: &[u8]) -> Result<Expectation, ExpectationFlaw>
     ensures { result ≡ spec.sentence_of (tables_of sys.now) (words_of line.now) }
 {
     let behind = behind_first(line);
@@ -307,7 +323,7 @@ fn sentence_in(sys: &System, line: &[u8]) -> Result<Expectation, Flaw>
 }
 
 /// What a line says, if it has words.
-fn line_meaning(sys: &System, line: &[u8]) -> Option<Result<Expectation, Flaw>>
+fn line_meaning(sys: &System, line: &[u8]) -> Option<Result<Expectation, ExpectationFlaw>>
     ensures { result ≡ spec.line_meaning (tables_of sys.now) line.now }
 {
     let text = before_comment(line);

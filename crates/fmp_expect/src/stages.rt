@@ -3,7 +3,7 @@ ghost use Rattle.std.specs.Prelude.{◌≡◌};
 ghost use Rattle.fmp_expect.specs.Meaning.{is_interrupt as interrupts, is_tick as ticks_by, runs as runs_by, tells as tells_by};
 ghost use Rattle.fmp_expect.specs.Stages as spec;
 
-use crate::expectation::{Actor, Expectation, Happening};
+use crate::expectation::{Expectation, ExpectedActor, Happening};
 use crate::lines::{is_interrupt, is_tick, runs, tells};
 use fmp_base::Line;
 
@@ -82,7 +82,7 @@ fn after_tick(stage: Stage, number: u32) -> Stage
 
 /// The stage of an actor that is to run after an interrupt, and has not failed to.
 fn while_within(
-    actor: Actor,
+    actor: ExpectedActor,
     ticks: u32,
     interrupt: u8,
     stage: Stage,
@@ -104,7 +104,7 @@ fn while_within(
 
 /// The stage of an actor that is to run after an interrupt.
 fn after_within(
-    actor: Actor,
+    actor: ExpectedActor,
     ticks: u32,
     interrupt: u8,
     stage: Stage,

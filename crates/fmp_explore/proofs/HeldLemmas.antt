@@ -16,13 +16,13 @@ use Rattle.fmp_kernel.specs.KernelViews.{KernelView}
 use Rattle.fmp_replay.specs.Replays.{kernel_after, replay}
 use Rattle.fmp_schedules.specs.declared.section.Section.{Section}
 use Rattle.fmp_schedules.specs.Schedules.{sections_after}
-use Rattle.fmp_visited.specs.declared.link.Link.{Link}
+use Rattle.fmp_visited.specs.declared.link.StateLink.{StateLink}
 use Rattle.fmp_explore.proofs.SearchLemmas.{past_none}
 use Rattle.fmp_explore.proofs.SectionLemmas.{sections_done, sections_first, sections_kept}
 
 module _ (i : ImageTables) (n : ℕ) (q : Question) where
   -- what is read of a state's sections is what they are after the events that lead to it
-  pub held_at : (held : List (Vec Section Global)) (links : List Link) (state : ℕ) (es : List Event)
+  pub held_at : (held : List (Vec Section Global)) (links : List StateLink) (state : ℕ) (es : List Event)
       (read : List Section) → AreHeld i n q held links → IsAt q links state es
       → IfSome (slice_get held state) (λ h. read ≡ h.items) → read ≡ sections_of i n q es
   held_at held links state es read h at is = by_cases (slice_get held state) refl is where

@@ -12,7 +12,7 @@ use Rattle.fmp_base.specs.Systems.{defined_for}
 use Rattle.fmp_question.specs.declared.question.Question.{Question}
 use Rattle.fmp_question.specs.declared.question.Ticks.{Ticks}
 use Rattle.fmp_question.specs.declared.question.Ticks.TheVariants as ticks
-use Rattle.fmp_explore.specs.declared.trying.Marks.{Marks}
+use Rattle.fmp_explore.specs.declared.trying.StateMarks.{StateMarks}
 use Rattle.fmp_question.specs.Rules.{is_idle, rules_of}
 use Rattle.fmp_explore.specs.Searching.{AreMarks, HasRequest, MayRequest, marked}
 use Rattle.fmp_question.specs.Standing.{StandsStill}
@@ -95,7 +95,7 @@ module _ (i : ImageTables) (n : ℕ) (q : Question) (es : List Event) where
 
   -- ---- marks
 
-  pub marks_more : (m : Marks) (e : Event) → IsImage i → AreMarks i n q es m → reaction i n es e ≢ Nothing
+  pub marks_more : (m : StateMarks) (e : Event) → IsImage i → AreMarks i n q es m → reaction i n es e ≢ Nothing
       → MayRequest q es e → AreMarks i n q es (marked m e)
   marks_more m (event.Run p) image h does may =
       record { idle = λ _. not_idle image p does idle refl; interrupted = h.interrupted }
@@ -114,12 +114,12 @@ module _ (i : ImageTables) (n : ℕ) (q : Question) (es : List Event) where
   still_of_stuck d = record { waits = d.waits; handlers = d.handlers; stuck = d.stuck }
 
   -- where a processor does something, no deadlock is reached
-  pub running_free : (m : Marks) → AreMarks i n q es m → m.idle ≡ false → IsStuckAfter i n q es → ⊥
+  pub running_free : (m : StateMarks) → AreMarks i n q es m → m.idle ≡ false → IsStuckAfter i n q es → ⊥
   running_free m h busy d =
       cc (h.idle busy, each-none i.system (code_meaning i.code) n world i.system.processors d.runs)
 
   -- nor where an interrupt does that may come
-  pub interrupted_free : (m : Marks) → AreMarks i n q es m → m.interrupted ≡ true → IsStuckAfter i n q es → ⊥
+  pub interrupted_free : (m : StateMarks) → AreMarks i n q es m → m.interrupted ≡ true → IsStuckAfter i n q es → ⊥
   unfolding reaction
   interrupted_free m h does d =
       let r : HasRequest i n q es = h.interrupted does in
@@ -149,7 +149,7 @@ module _ (i : ImageTables) (n : ℕ) (q : Question) (es : List Event) where
       cc (more, stays)
 
   -- where the code lets the clock not advance, the rules do not
-  pub tick_never : (m : Marks) → AreMarks i n q es m → q.ticks ≢ ticks.Any → m.idle ≡ false
+  pub tick_never : (m : StateMarks) → AreMarks i n q es m → q.ticks ≢ ticks.Any → m.idle ≡ false
       → MayCome i n q es event.Tick → ⊥
   tick_never m h some busy may = by_ticks q.ticks some (may_parts event.Tick may).0 where
     by_ticks : (t : Ticks) → t ≢ ticks.Any → (not (is_idle t) || idle) ≡ true → ⊥

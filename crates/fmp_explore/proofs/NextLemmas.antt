@@ -31,7 +31,7 @@ use Rattle.fmp_schedules.specs.declared.section.Section.{Section}
 use Rattle.fmp_schedules.specs.Schedules.{Watched, came_after, is_any_met, is_request, lines_after, sections_after, watched_at_setup}
 use Rattle.fmp_schedules.specs.Sections.{section_along}
 use Rattle.fmp_explore.proofs.SectionLemmas.{sections_first}
-use Rattle.fmp_visited.specs.declared.link.Link.{Link}
+use Rattle.fmp_visited.specs.declared.link.StateLink.{StateLink}
 use Rattle.fmp_visited.specs.Links.{AreLinked, IsLink, path_of}
 use Rattle.fmp_visited.specs.Seen.{SeenStates}
 use Rattle.fmp_visited.proofs.LinkLemmas.{links-none, path-added}
@@ -45,17 +45,17 @@ use Rattle.fmp_explore.proofs.SearchStepLemmas.{grows_on, stays_grows, stays_sea
 abbrev Kernels : Type 0
 Kernels = KernelView (List BodyTables) MachineContext
 
-is_link : (links : List Link) (link parent : Link) → slice_get links link.parent ≡ Some parent
+is_link : (links : List StateLink) (link parent : StateLink) → slice_get links link.parent ≡ Some parent
     → link.depth ≡ parent.depth + 1
     → IsLink links link
 is_link [] link parent found deeper = absurd (cc)
 is_link (before ∷ more) link parent found deeper =
-    subst (λ (o : Option Link). IsSomeAnd o (λ x. link.depth ≡ x.depth + 1)) (sym found) deeper
+    subst (λ (o : Option StateLink). IsSomeAnd o (λ x. link.depth ≡ x.depth + 1)) (sym found) deeper
 
-module _ (q : Question) (links : List Link) (state : ℕ) (es : List Event) (e : Event) (link : Link)
+module _ (q : Question) (links : List StateLink) (state : ℕ) (es : List Event) (e : Event) (link : StateLink)
     (linked : AreLinked links) (at : IsAt q links state es) (parent : link.parent ≡ state) (last : link.event ≡ e)
     (deeper : link.depth ≡ (length es - length q.after.items) + 1) where
-  abbrev before : Link
+  abbrev before : StateLink
   before = get_or links state link
 
   found : slice_get links link.parent ≡ Some before
@@ -81,7 +81,7 @@ module _ (q : Question) (links : List Link) (state : ℕ) (es : List Event) (e :
       ∙ ap (λ (x : Event). es ++ x ∷ []) last
 
 module _ (i : ImageTables) (n : ℕ) (q : Question) where
-  pub next_of : (links : List Link) (link : Link) (es : List Event) (k : Kernels) → IsLink links link
+  pub next_of : (links : List StateLink) (link : StateLink) (es : List Event) (k : Kernels) → IsLink links link
       → path_by q links link ≡ es
       → IsFollowed i n es k → AreFew q es → IsNext i n q links link k
   next_of links link es k linked path followed few =
@@ -225,12 +225,12 @@ module _ (i : ImageTables) (n : ℕ) (q : Question) where
         kept =
             kept_none i n q b.rows.first.items b.rows.fields.items b.seen
             (ap (λ (x : SeenStates). x.rows) seen ∙ h.no_rows) no_links
-            (subst (λ (ls : List Link). AreLinked ls) (sym no_links) links-none);
+            (subst (λ (ls : List StateLink). AreLinked ls) (sym no_links) links-none);
         held =
-            subst (λ (ls : List Link). AreHeld i n q b.rows.held.items ls) (sym no_links)
+            subst (λ (ls : List StateLink). AreHeld i n q b.rows.held.items ls) (sym no_links)
             (subst (λ (vs : List (Vec Section Global)). AreHeld i n q vs []) (sym (held ∙ h.no_sections))
             (record { size = refl; each = λ k x e. absurd (cc (e)) }));
       }
 
-  pub first_linked : (links : List Link) (link : Link) → links ≡ [] → link.depth ≡ 0 → IsLink links link
-  first_linked links link none first = subst (λ (ls : List Link). IsLink ls link) (sym none) first
+  pub first_linked : (links : List StateLink) (link : StateLink) → links ≡ [] → link.depth ≡ 0 → IsLink links link
+  first_linked links link none first = subst (λ (ls : List StateLink). IsLink ls link) (sym none) first

@@ -26,7 +26,7 @@ use Rattle.fmp_schedules.specs.Schedules.{Watched, may_come, may_still, watch, w
 use Rattle.fmp_schedules.specs.Tried.{IsSearched, IsTried, IsTriedSilent, NoneIsDeadlock, is_event_of}
 use Rattle.fmp_schedules.proofs.HoldLaws.{searched-holds}
 use Rattle.fmp_schedules.proofs.SilentLaws.{searched-silent}
-use Rattle.fmp_visited.specs.declared.link.Link.{Link}
+use Rattle.fmp_visited.specs.declared.link.StateLink.{StateLink}
 use Rattle.fmp_visited.specs.Links.{AreLinked}
 use Rattle.fmp_reachable.proofs.ReadableLaws.{readable}
 use Rattle.fmp_question.proofs.ForbiddenLemmas.{forbids-timeless}
@@ -43,7 +43,7 @@ past_none xs k none =
     ]
 
 -- a state that is not too deep
-pub at_depth : (q : Question) (links : List Link) (k : ℕ) (link : Link) → AreLinked links
+pub at_depth : (q : Question) (links : List StateLink) (k : ℕ) (link : StateLink) → AreLinked links
     → slice_get links k ≡ Some link → length q.after.items + link.depth < 1048575 → IsAt q links k (path_to q links k)
 at_depth q links k link linked found low =
     let same : length (path_to q links k) ≡ length q.after.items + link.depth =
@@ -74,7 +74,7 @@ module _ (i : ImageTables) (n : ℕ) (q : Question) where
               survey = x.survey;
               clean = λ sure. h.begun.clean (x.grows.sure sure);
               first = λ sure.
-                  subst (λ (links : List Link). IsKnown i n q links q.after.items) (sym x.grows.links)
+                  subst (λ (links : List StateLink). IsKnown i n q links q.after.items) (sym x.grows.links)
                   (covered_more i n q a.seen.links x.grows.more (replay i n q.after.items).world
                   (watched_of i n q q.after.items) linked (h.begun.first (x.grows.sure sure)));
             };
@@ -85,7 +85,7 @@ module _ (i : ImageTables) (n : ℕ) (q : Question) where
 
         same_path : (j : ℕ) → j < length a.seen.links → path_to q b.seen.links j ≡ path_to q a.seen.links j
         same_path j low =
-            subst (λ (links : List Link). path_to q links j ≡ path_to q a.seen.links j) (sym x.grows.links)
+            subst (λ (links : List StateLink). path_to q links j ≡ path_to q a.seen.links j) (sym x.grows.links)
             (path_to-stays q a.seen.links x.grows.more j linked low)
 
         by_order : b.sure ≡ true → (j : ℕ) → j < k + 1 → (j < k) ⊎ (k ≤ j)
@@ -93,7 +93,7 @@ module _ (i : ImageTables) (n : ℕ) (q : Question) where
         by_order sure j within (inl low) =
             let there : j < length a.seen.links = omega (arith, low, lt) in
             subst (λ (es : List Event). IsExamined i n q b.seen.links es) (sym (same_path j there))
-            (subst (λ (links : List Link). IsExamined i n q links (path_to q a.seen.links j)) (sym x.grows.links)
+            (subst (λ (links : List StateLink). IsExamined i n q links (path_to q a.seen.links j)) (sym x.grows.links)
             (examined_more i n q a.seen.links x.grows.more (path_to q a.seen.links j) linked
             (h.each (x.grows.sure sure) j low there)))
         by_order sure j within (inr past) =

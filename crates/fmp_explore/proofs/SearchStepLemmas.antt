@@ -21,28 +21,28 @@ use Rattle.fmp_live.specs.LiveLocals.{AreLiveTables, LiveTable}
 use Rattle.fmp_live.specs.Zeroed.{zeroed}
 use Rattle.fmp_schedules.specs.declared.section.Section.{Section}
 use Rattle.fmp_schedules.specs.Deadlocks.{is_interrupt}
-use Rattle.fmp_visited.specs.declared.link.Link.{Link}
+use Rattle.fmp_visited.specs.declared.link.StateLink.{StateLink}
 use Rattle.fmp_visited.specs.Links.{AreLinked}
-use Rattle.fmp_visited.specs.declared.link.Entry.{Entry}
-use Rattle.fmp_visited.specs.declared.link.Entry.TheVariants as entry
+use Rattle.fmp_visited.specs.declared.link.RowEntry.{RowEntry}
+use Rattle.fmp_visited.specs.declared.link.RowEntry.TheVariants as entry
 use Rattle.fmp_visited.specs.Seen.{Adds, SeenStates, with_state}
 use Rattle.fmp_explore.proofs.PathLemmas.{path_to-stays}
 use Rattle.fmp_explore.proofs.StateLemmas.{element_of_push, kept_more, new_known, row_known}
 
 -- what becomes of the states where a row is looked up
-adds_at : (old new : SeenStates) (row : List ℕ) (link : Link) (x y : Entry) → x ≡ y → Adds old new row link x
+adds_at : (old new : SeenStates) (row : List ℕ) (link : StateLink) (x y : RowEntry) → x ≡ y → Adds old new row link x
     → Adds old new row link y
-adds_at old new row link x y e h = subst (λ (z : Entry). Adds old new row link z) e h
+adds_at old new row link x y e h = subst (λ (z : RowEntry). Adds old new row link z) e h
 
-pub adds_new : (old new : SeenStates) (row : List ℕ) (link : Link) (x : Entry) (place : ℕ) → x ≡ entry.New place
+pub adds_new : (old new : SeenStates) (row : List ℕ) (link : StateLink) (x : RowEntry) (place : ℕ) → x ≡ entry.New place
     → Adds old new row link x → new ≡ with_state old row link
 adds_new old new row link x place e h = (adds_at old new row link x (entry.New place) e h).1
 
-pub adds_known : (old new : SeenStates) (row : List ℕ) (link : Link) (x : Entry) (place : ℕ) → x ≡ entry.Known place
+pub adds_known : (old new : SeenStates) (row : List ℕ) (link : StateLink) (x : RowEntry) (place : ℕ) → x ≡ entry.Known place
     → Adds old new row link x → (new ≡ old) × (slice_get old.rows place ≡ Some row)
 adds_known old new row link x place e h = adds_at old new row link x (entry.Known place) e h
 
-pub adds_none : (old new : SeenStates) (row : List ℕ) (link : Link) (x : Entry) → x ≡ entry.Full
+pub adds_none : (old new : SeenStates) (row : List ℕ) (link : StateLink) (x : RowEntry) → x ≡ entry.Full
     → Adds old new row link x → new ≡ old
 adds_none old new row link x e h = (adds_at old new row link x entry.Full e h).0
 
@@ -53,7 +53,7 @@ pub grows_on : (a b c : Search) → Grows a b → Grows b c → Grows a c
 grows_on a b c g h =
     record {
       more = g.more ++ h.more;
-      links = h.links ∙ ap (λ (ls : List Link). ls ++ h.more) g.links ∙ append_assoc a.seen.links g.more h.more;
+      links = h.links ∙ ap (λ (ls : List StateLink). ls ++ h.more) g.links ∙ append_assoc a.seen.links g.more h.more;
       sure = λ e. g.sure (h.sure e);
     }
 
@@ -76,7 +76,7 @@ pub grows_at : (q : Question) (a b : Search) (state : ℕ) (es : List Event) →
     → IsAt q a.seen.links state es
     → IsAt q b.seen.links state es
 grows_at q a b state es linked g h =
-    subst (λ (ls : List Link). IsAt q ls state es) (sym g.links)
+    subst (λ (ls : List StateLink). IsAt q ls state es) (sym g.links)
     (let longer : length (a.seen.links ++ g.more) ≡ length a.seen.links + length g.more =
     length-append a.seen.links g.more in
     let lt : state < length a.seen.links = h.there in
@@ -114,7 +114,7 @@ module _ (i : ImageTables) (n : ℕ) (q : Question) where
       }
 
   -- the sections of one more state
-  held_more : (held : List (Vec Section Global)) (links : List Link) (sections : Vec Section Global) (link : Link)
+  held_more : (held : List (Vec Section Global)) (links : List StateLink) (sections : Vec Section Global) (link : StateLink)
       → AreLinked links → AreHeld i n q held links → sections.items ≡ sections_of i n q (path_by q links link)
       → AreHeld i n q (held ++ sections ∷ []) (links ++ link ∷ [])
   held_more held links sections link linked h is =
@@ -139,7 +139,7 @@ module _ (i : ImageTables) (n : ℕ) (q : Question) where
             ]
 
   -- the row of a kernel is that of its state
-  pub row_of_kernel : (first : List ℕ) (fields : List What) (row : List ℕ) (links : List Link) (link : Link)
+  pub row_of_kernel : (first : List ℕ) (fields : List What) (row : List ℕ) (links : List StateLink) (link : StateLink)
       (k : Kernels) (tables : List LiveTable) (came : ℕ) (sections : List Section) → AreLiveTables i.code tables
       → IsNext i n q links link k
       → came ≡ count_by is_interrupt (path_by q links link) → sections ≡ sections_of i n q (path_by q links link)
@@ -185,7 +185,7 @@ module _ (i : ImageTables) (n : ℕ) (q : Question) where
           held = held;
         }
 
-    module _ (image : IsImage i) (link : Link) (k : Kernels) (next : IsNext i n q a.seen.links link k) (row : List ℕ)
+    module _ (image : IsImage i) (link : StateLink) (k : Kernels) (next : IsNext i n q a.seen.links link k) (row : List ℕ)
         (has : HasRow i n q a.rows.first.items a.rows.fields.items (path_by q a.seen.links link) row)
         (sure : b.sure ≡ true → a.sure ≡ true) where
       -- the state is new

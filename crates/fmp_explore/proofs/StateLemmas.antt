@@ -30,7 +30,7 @@ use Rattle.fmp_replay.proofs.Replaying.{replay_last}
 use Rattle.fmp_schedules.specs.Deadlocks.{is_interrupt}
 use Rattle.fmp_schedules.specs.declared.section.Section.{Section}
 use Rattle.fmp_schedules.specs.Schedules.{IsSilent, Watched, came_after, is_any_met, is_request, sections_after, watch}
-use Rattle.fmp_visited.specs.declared.link.Link.{Link}
+use Rattle.fmp_visited.specs.declared.link.StateLink.{StateLink}
 use Rattle.fmp_visited.specs.Links.{AreLinked, IsLink}
 use Rattle.fmp_visited.specs.Seen.{SeenStates, with_state}
 use Rattle.fmp_visited.proofs.LinkLemmas.{links-added}
@@ -61,7 +61,7 @@ count_one_more es e = sum_by_push (λ (x : Event). cond (is_interrupt x) 1 0) es
 module _ (i : ImageTables) (n : ℕ) (q : Question) where
   -- ---- more states
 
-  pub reached_more : (links more : List Link) (w : World MachineContext) (a : Watched) → AreLinked links
+  pub reached_more : (links more : List StateLink) (w : World MachineContext) (a : Watched) → AreLinked links
       → IsReached i n q links w a → IsReached i n q (links ++ more) w a
   reached_more links more w a h r =
       let same : path_to q (links ++ more) r.state ≡ path_to q links r.state =
@@ -75,31 +75,31 @@ module _ (i : ImageTables) (n : ℕ) (q : Question) where
         watch = r.watch ∙ ap (λ (es : List Event). watched_of i n q es) (sym same);
       }
 
-  pub covered_more : (links more : List Link) (w : World MachineContext) (a : Watched) → AreLinked links
+  pub covered_more : (links more : List StateLink) (w : World MachineContext) (a : Watched) → AreLinked links
       → IsCovered (IsLike i.system i.code) (IsReached i n q links) w a
       → IsCovered (IsLike i.system i.code) (IsReached i n q (links ++ more)) w a
   covered_more links more w a h c =
       record { world = c.world; alike = c.alike; kept = reached_more links more c.world a h c.kept }
 
-  abbrev Leads : List Link → Watched → Reaction MachineContext → Type 0
+  abbrev Leads : List StateLink → Watched → Reaction MachineContext → Type 0
   Leads links a r =
       LeadsIn (IsLike i.system i.code) (watch (rules_of q) (forbids q.nevers.items)) (IsReached i n q links) a r
 
   abbrev Silent : Reaction MachineContext → Type 0
   Silent r = IsSilent (forbids_there i.system q.nevers_at.items) r
 
-  leads_more : (links more : List Link) (a : Watched) (r : Reaction MachineContext) → AreLinked links → Leads links a r
+  leads_more : (links more : List StateLink) (a : Watched) (r : Reaction MachineContext) → AreLinked links → Leads links a r
       → Leads (links ++ more) a r
   leads_more links more a Nothing h l = tt
   leads_more links more a (Did d) h l = covered_more links more d.world _ h l
   leads_more links more a (Kept p w) h l = covered_more links more w a h l
 
-  pub leads_on_more : (links more : List Link) (es : List Event) (e : Event) → AreLinked links
+  pub leads_on_more : (links more : List StateLink) (es : List Event) (e : Event) → AreLinked links
       → LeadsOn i n q links es e → LeadsOn i n q (links ++ more) es e
   leads_on_more links more es e h l =
       record { leads = leads_more links more (watched_of i n q es) (reaction i n es e) h l.leads; silent = l.silent }
 
-  pub examined_more : (links more : List Link) (es : List Event) → AreLinked links → IsExamined i n q links es
+  pub examined_more : (links more : List StateLink) (es : List Event) → AreLinked links → IsExamined i n q links es
       → IsExamined i n q (links ++ more) es
   examined_more links more es h x =
       record { each = λ e is may. leads_on_more links more es e h (x.each e is may); free = x.free }
@@ -113,11 +113,11 @@ module _ (i : ImageTables) (n : ℕ) (q : Question) where
     kept_none seen no_rows no_links linked =
         record {
           linked = linked;
-          rows = ap (λ (xs : List (List ℕ)). length xs) no_rows ∙ ap (λ (xs : List Link). length xs) (sym no_links);
+          rows = ap (λ (xs : List (List ℕ)). length xs) no_rows ∙ ap (λ (xs : List StateLink). length xs) (sym no_links);
           each = λ k row e. absurd (cc (ap (λ (xs : List (List ℕ)). slice_get xs k) no_rows));
         }
 
-    pub kept_more : (seen : SeenStates) (row : List ℕ) (link : Link) → AreKept i n q first fields seen
+    pub kept_more : (seen : SeenStates) (row : List ℕ) (link : StateLink) → AreKept i n q first fields seen
         → IsLink seen.links link → HasRow i n q first fields (path_by q seen.links link) row
         → AreKept i n q first fields (with_state seen row link)
     kept_more seen row link h new has =
@@ -164,7 +164,7 @@ module _ (i : ImageTables) (n : ℕ) (q : Question) where
         (readable i n es image) (readable i n es image) refl)
 
     -- the world to which the path of a state leads is known
-    pub state_known : (links : List Link) (k : ℕ) → k < length links → IsKnown i n q links (path_to q links k)
+    pub state_known : (links : List StateLink) (k : ℕ) → k < length links → IsKnown i n q links (path_to q links k)
     state_known links k lt =
         record {
           world = (replay i n (path_to q links k)).world;
@@ -172,7 +172,7 @@ module _ (i : ImageTables) (n : ℕ) (q : Question) where
           kept = record { state = k; there = lt; world = refl; watch = refl };
         }
 
-    pub new_known : (links : List Link) (link : Link) → IsKnown i n q (links ++ link ∷ []) (path_by q links link)
+    pub new_known : (links : List StateLink) (link : StateLink) → IsKnown i n q (links ++ link ∷ []) (path_by q links link)
     new_known links link =
         let longer : length (links ++ link ∷ []) ≡ length links + 1 = length_push links link in
         state_known (links ++ link ∷ []) (length links) (omega arith)
@@ -259,7 +259,7 @@ module _ (i : ImageTables) (n : ℕ) (q : Question) where
   replayed es e r h = replay_last i n es e ∙ ap (λ (x : Reaction MachineContext). done_or (replay i n es) x) h
 
   -- an event that is done, where no line is forbidden and the state after it is known
-  pub leads_done : (links : List Link) (es : List Event) (e : Event) (d : Done MachineContext)
+  pub leads_done : (links : List StateLink) (es : List Event) (e : Event) (d : Done MachineContext)
       → reaction i n es e ≡ Did d
       → list_any (forbids q.nevers.items) d.lines ≡ false
       → list_any (forbids_there i.system q.nevers_at.items d.world) d.lines ≡ false
@@ -293,7 +293,7 @@ module _ (i : ImageTables) (n : ℕ) (q : Question) where
       }
 
   -- an event that does nothing
-  pub leads_nowhere : (links : List Link) (es : List Event) (e : Event) → reaction i n es e ≡ Nothing
+  pub leads_nowhere : (links : List StateLink) (es : List Event) (e : Event) → reaction i n es e ≡ Nothing
       → LeadsOn i n q links es e
   leads_nowhere links es e none =
       record {
@@ -311,7 +311,7 @@ module _ (i : ImageTables) (n : ℕ) (q : Question) where
       same
 
   -- an event that keeps a place, where the state after it is known
-  pub leads_kept : (links : List Link) (es : List Event) (e : Event) (p : ℕ) (w : World MachineContext)
+  pub leads_kept : (links : List StateLink) (es : List Event) (e : Event) (p : ℕ) (w : World MachineContext)
       → reaction i n es e ≡ Kept p w → is_interrupt e ≡ false → IsKnown i n q links (es ++ e ∷ [])
       → LeadsOn i n q links es e
   leads_kept links es e p w keeps runs known =

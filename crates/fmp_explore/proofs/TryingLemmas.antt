@@ -5,13 +5,13 @@ use Rattle.std.proofs.lemmas.Option.{slice_get-get_or}
 use Rattle.fmp_base.specs.declared.events.Event.{Event}
 use Rattle.fmp_question.specs.declared.question.Question.{Question}
 use Rattle.fmp_explore.specs.declared.searches.Search.{Search}
-use Rattle.fmp_explore.specs.declared.trying.Marks.{Marks}
+use Rattle.fmp_explore.specs.declared.trying.StateMarks.{StateMarks}
 use Rattle.fmp_explore.specs.Searching.{AreMarks, Grows, HasExamined, HasLooked, HasTried, IsAt, IsSearch, IsTrying, Stays}
 use Rattle.fmp_explore.specs.States.{AreFew, HasRow, LeadsOn, MayCome, path_to}
 use Rattle.fmp_schedules.specs.Tries.{all_tries}
 use Rattle.fmp_image_bytes.specs.Images.{ImageTables, IsImage}
 use Rattle.fmp_image_bytes.proofs.InRange.{image_in_range}
-use Rattle.fmp_visited.specs.declared.link.Link.{Link}
+use Rattle.fmp_visited.specs.declared.link.StateLink.{StateLink}
 use Rattle.fmp_visited.specs.Links.{AreLinked}
 use Rattle.fmp_explore.proofs.StateLemmas.{leads_on_more}
 use Rattle.fmp_schedules.proofs.TryLemmas.{each-tried}
@@ -22,7 +22,7 @@ module _ (i : ImageTables) (n : ℕ) (q : Question) (state : ℕ) (es : List Eve
   leads_grown : (a b : Search) (e : Event) → AreLinked a.seen.links → Grows a b → LeadsOn i n q a.seen.links es e
       → LeadsOn i n q b.seen.links es e
   leads_grown a b e linked g l =
-      subst (λ (links : List Link). LeadsOn i n q links es e) (sym g.links)
+      subst (λ (links : List StateLink). LeadsOn i n q links es e) (sym g.links)
       (leads_on_more i n q a.seen.links g.more es e linked l)
 
   -- the events that lead to a state are few
@@ -37,13 +37,13 @@ module _ (i : ImageTables) (n : ℕ) (q : Question) (state : ℕ) (es : List Eve
       row.few)
 
   -- nothing was tried yet
-  pub none_tried : (s : Search) (m : Marks) → IsSearch i n q s → IsAt q s.seen.links state es → AreMarks i n q es m
+  pub none_tried : (s : Search) (m : StateMarks) → IsSearch i n q s → IsAt q s.seen.links state es → AreMarks i n q es m
       → IsTrying i n q state es m 0 s
   none_tried s m h at marks =
       record { survey = h; at = at; marks = marks; each = λ sure place e lt. absurd (omega (arith, lt)) }
 
   -- the event at this place was tried, or may not come
-  pub one_tried : (a b : Search) (l m : Marks) (place : ℕ) (e : Event) → IsTrying i n q state es l place a
+  pub one_tried : (a b : Search) (l m : StateMarks) (place : ℕ) (e : Event) → IsTrying i n q state es l place a
       → slice_get (all_tries i.system) place ≡ Some e → IsSearch i n q b → Grows a b → AreMarks i n q es m
       → (b.sure ≡ true → MayCome i n q es e → LeadsOn i n q b.seen.links es e)
       → IsTrying i n q state es m (place + 1) b
@@ -65,7 +65,7 @@ module _ (i : ImageTables) (n : ℕ) (q : Question) (state : ℕ) (es : List Eve
             (leads sure (subst (λ (x : Event). MayCome i n q es x) (sym same) may))
 
   -- where only notes are made, as many were tried
-  pub tried_stays : (a b : Search) (m : Marks) (tried : ℕ) → Stays a b → IsTrying i n q state es m tried a
+  pub tried_stays : (a b : Search) (m : StateMarks) (tried : ℕ) → Stays a b → IsTrying i n q state es m tried a
       → IsTrying i n q state es m tried b
   tried_stays a b m tried s t =
       record {
@@ -77,13 +77,13 @@ module _ (i : ImageTables) (n : ℕ) (q : Question) (state : ℕ) (es : List Eve
       }
 
   -- where a state is lost, nothing is owed
-  pub lost_tried : (s : Search) (m : Marks) (tried more : ℕ) → s.sure ≡ false → IsTrying i n q state es m tried s
+  pub lost_tried : (s : Search) (m : StateMarks) (tried more : ℕ) → s.sure ≡ false → IsTrying i n q state es m tried s
       → IsTrying i n q state es m more s
   lost_tried s m tried more lost t =
       record { survey = t.survey; at = t.at; marks = t.marks; each = λ sure. absurd (cc (sure, lost)) }
 
   -- fewer were tried too
-  pub fewer_tried : (s : Search) (m : Marks) (tried fewer : ℕ) → fewer ≤ tried → IsTrying i n q state es m tried s
+  pub fewer_tried : (s : Search) (m : StateMarks) (tried fewer : ℕ) → fewer ≤ tried → IsTrying i n q state es m tried s
       → IsTrying i n q state es m fewer s
   fewer_tried s m tried fewer le t =
       record {
@@ -93,13 +93,13 @@ module _ (i : ImageTables) (n : ℕ) (q : Question) (state : ℕ) (es : List Eve
         each = λ sure p e lt found may. t.each sure p e (omega (arith, lt, le)) found may;
       }
 
-  pub enough_tried : (a b : Search) (m : Marks) (tried : ℕ) → length (all_tries i.system) ≤ tried
+  pub enough_tried : (a b : Search) (m : StateMarks) (tried : ℕ) → length (all_tries i.system) ≤ tried
       → HasTried i n q state es m a b tried → HasTried i n q state es m a b (length (all_tries i.system))
   enough_tried a b m tried le t =
       record { trying = fewer_tried b m tried (length (all_tries i.system)) le t.trying; grows = t.grows }
 
   -- every event was tried, and the state is no deadlock
-  pub all_tried : (a b c : Search) (m : Marks) → IsImage i
+  pub all_tried : (a b c : Search) (m : StateMarks) → IsImage i
       → HasTried i n q state es m a b (length (all_tries i.system)) → HasLooked i n q b c es
       → HasExamined i n q a c es
   all_tried a b c m image t look =

@@ -9,7 +9,7 @@ use Rattle.fmp_question.specs.declared.question.Question.{Question}
 use Rattle.fmp_explore.specs.declared.searching.Ending.{Ending}
 use Rattle.fmp_explore.specs.declared.searching.Ending.TheVariants as ending
 use Rattle.fmp_explore.specs.declared.searches.Search.{Search}
-use Rattle.fmp_explore.specs.declared.trying.Marks.{Marks}
+use Rattle.fmp_explore.specs.declared.trying.StateMarks.{StateMarks}
 use Rattle.fmp_witness.specs.Followed.{IsFollowed}
 use Rattle.fmp_question.specs.Forbidden.{forbids}
 use Rattle.fmp_question.specs.Places.{forbids_there}
@@ -26,11 +26,11 @@ use Rattle.fmp_replay.specs.Replays.{reaction, replay}
 use Rattle.fmp_schedules.specs.Deadlocks.{may_interrupt}
 use Rattle.fmp_schedules.specs.declared.section.Section.{Section}
 use Rattle.fmp_schedules.specs.Schedules.{Holds, HoldsThere, none_runs, watched_at_setup}
-use Rattle.fmp_visited.specs.declared.link.Link.{Link}
+use Rattle.fmp_visited.specs.declared.link.StateLink.{StateLink}
 use Rattle.fmp_visited.specs.Links.{IsLink}
 
 -- the sections in each of the states are kept, too
-pub record AreHeld (i : ImageTables) (n : ℕ) (q : Question) (held : List (Vec Section Global)) (links : List Link) :
+pub record AreHeld (i : ImageTables) (n : ℕ) (q : Question) (held : List (Vec Section Global)) (links : List StateLink) :
     Type 0 where
   pub size : length held ≡ length links
   pub each :
@@ -58,7 +58,7 @@ pub record IsSearch (i : ImageTables) (n : ℕ) (q : Question) (s : Search) : Ty
 
 -- a search has gone on: it keeps more states, or as many
 pub record Grows (old new : Search) : Type 0 where
-  pub more : List Link
+  pub more : List StateLink
   pub links : new.seen.links ≡ old.seen.links ++ more
   pub sure : new.sure ≡ true → old.sure ≡ true
 
@@ -70,7 +70,7 @@ pub record Stays (old new : Search) : Type 0 where
   pub sure : new.sure ≡ true → old.sure ≡ true
 
 -- a kernel is in the state of one more link
-pub record IsNext (i : ImageTables) (n : ℕ) (q : Question) (links : List Link) (link : Link)
+pub record IsNext (i : ImageTables) (n : ℕ) (q : Question) (links : List StateLink) (link : StateLink)
     (k : KernelView (List BodyTables) MachineContext) : Type 0 where
   pub linked : IsLink links link
   pub followed : IsFollowed i n (path_by q links link) k
@@ -95,7 +95,7 @@ pub record IsBegun (i : ImageTables) (n : ℕ) (q : Question) (s : Search) : Typ
   pub first : s.sure ≡ true → IsKnown i n q s.seen.links q.after.items
 
 -- a state, and the events that lead to it
-pub record IsAt (q : Question) (links : List Link) (state : ℕ) (es : List Event) : Type 0 where
+pub record IsAt (q : Question) (links : List StateLink) (state : ℕ) (es : List Event) : Type 0 where
   pub there : state < length links
   pub path : es ≡ path_to q links state
   pub deep : length es < 1048575
@@ -116,7 +116,7 @@ pub record HasRequest (i : ImageTables) (n : ℕ) (q : Question) (es : List Even
   pub does : reaction i n es (event.Int number) ≡ Nothing → ⊥
 
 -- what was done in a state is so
-pub record AreMarks (i : ImageTables) (n : ℕ) (q : Question) (es : List Event) (m : Marks) : Type 0 where
+pub record AreMarks (i : ImageTables) (n : ℕ) (q : Question) (es : List Event) (m : StateMarks) : Type 0 where
   pub idle :
       m.idle ≡ false →
       none_runs i.system (code_meaning i.code) n (replay i n es).world i.system.processors ≡ false
@@ -128,13 +128,13 @@ MayRequest q es (event.Int number) = may_interrupt q.interrupts es ≡ true
 MayRequest q es _ = Unit {0}
 
 -- the marks after an event that did something
-abbrev pub marked : Marks → Event → Marks
+abbrev pub marked : StateMarks → Event → StateMarks
 marked m (event.Run p) = record m { idle = false }
 marked m event.Tick = m
 marked m (event.Int i) = record m { interrupted = true }
 
 -- the first events of those that are tried in a state were tried, this many
-pub record IsTrying (i : ImageTables) (n : ℕ) (q : Question) (state : ℕ) (es : List Event) (m : Marks) (tried : ℕ)
+pub record IsTrying (i : ImageTables) (n : ℕ) (q : Question) (state : ℕ) (es : List Event) (m : StateMarks) (tried : ℕ)
     (s : Search) : Type 0 where
   pub survey : IsSearch i n q s
   pub at : IsAt q s.seen.links state es
@@ -144,7 +144,7 @@ pub record IsTrying (i : ImageTables) (n : ℕ) (q : Question) (state : ℕ) (es
       MayCome i n q es e → LeadsOn i n q s.seen.links es e
 
 -- this many events were tried in a state
-pub record HasTried (i : ImageTables) (n : ℕ) (q : Question) (state : ℕ) (es : List Event) (m : Marks)
+pub record HasTried (i : ImageTables) (n : ℕ) (q : Question) (state : ℕ) (es : List Event) (m : StateMarks)
     (old new : Search) (tried : ℕ) : Type 0 where
   pub trying : IsTrying i n q state es m tried new
   pub grows : Grows old new

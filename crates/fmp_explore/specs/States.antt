@@ -20,7 +20,7 @@ use Rattle.fmp_schedules.specs.declared.section.Section.{Section}
 use Rattle.fmp_schedules.specs.Schedules.{IsSilent, Watched, lines_after, may_come, watch}
 use Rattle.fmp_schedules.specs.Sections.{section_along}
 use Rattle.fmp_schedules.specs.Tried.{is_event_of}
-use Rattle.fmp_visited.specs.declared.link.Link.{Link}
+use Rattle.fmp_visited.specs.declared.link.StateLink.{StateLink}
 use Rattle.fmp_visited.specs.Links.{AreLinked, path_of}
 use Rattle.fmp_visited.specs.Rows.{AreValues, row_of}
 use Rattle.fmp_visited.specs.Seen.{SeenStates}
@@ -77,7 +77,7 @@ pub record HasRow (i : ImageTables) (n : ℕ) (q : Question) (first : List ℕ) 
   pub is : IsRowOf first (numbers_after i n q tables fields es) row
 
 -- the events that lead to the state at a place, with those behind which the search begins
-abbrev pub path_to : Question → List Link → (state : ℕ) → List Event
+abbrev pub path_to : Question → List StateLink → (state : ℕ) → List Event
 path_to q links state = q.after.items ++ path_of links state
 
 -- the path to each state that is kept leads to a state of its row
@@ -90,11 +90,11 @@ pub record AreKept (i : ImageTables) (n : ℕ) (q : Question) (first : List ℕ)
       HasRow i n q first fields (path_to q seen.links k) row
 
 -- the events that lead to the state of one more link
-abbrev pub path_by : Question → List Link → Link → List Event
+abbrev pub path_by : Question → List StateLink → StateLink → List Event
 path_by q links link = path_to q (links ++ link ∷ []) (length links)
 
 -- the path to one of the states leads to this world, where this is watched
-pub record IsReached (i : ImageTables) (n : ℕ) (q : Question) (links : List Link) (w : World MachineContext)
+pub record IsReached (i : ImageTables) (n : ℕ) (q : Question) (links : List StateLink) (w : World MachineContext)
     (a : Watched) : Type 0 where
   pub state : ℕ
   pub there : state < length links
@@ -102,13 +102,13 @@ pub record IsReached (i : ImageTables) (n : ℕ) (q : Question) (links : List Li
   pub watch : a ≡ watched_of i n q (path_to q links state)
 
 -- one of the states is alike to that after these events, but for dead locals
-abbrev pub IsKnown : ImageTables → (n : ℕ) → Question → List Link → List Event → Type 0
+abbrev pub IsKnown : ImageTables → (n : ℕ) → Question → List StateLink → List Event → Type 0
 IsKnown i n q links es =
     IsCovered (IsLike i.system i.code) (IsReached i n q links) (replay i n es).world (watched_of i n q es)
 
 -- what this does after these events leads to a state, if it leads to any, and tells no answer that must never be given
 -- to its call
-pub record LeadsOn (i : ImageTables) (n : ℕ) (q : Question) (links : List Link) (es : List Event) (e : Event) :
+pub record LeadsOn (i : ImageTables) (n : ℕ) (q : Question) (links : List StateLink) (es : List Event) (e : Event) :
     Type 0 where
   pub leads :
       LeadsIn (IsLike i.system i.code) (watch (rules_of q) (forbids q.nevers.items)) (IsReached i n q links)
@@ -126,7 +126,7 @@ IsStuckAfter i n q es =
     IsDeadlock i.system (code_meaning i.code) n (replay i n es).world q.rest.items (may_interrupt q.interrupts es)
 
 -- each event that may come after these leads to a state, and they lead to no deadlock
-pub record IsExamined (i : ImageTables) (n : ℕ) (q : Question) (links : List Link) (es : List Event) : Type 0 where
+pub record IsExamined (i : ImageTables) (n : ℕ) (q : Question) (links : List StateLink) (es : List Event) : Type 0 where
   pub each :
       (e : Event) → is_event_of i.system e ≡ true → MayCome i n q es e → LeadsOn i n q links es e
   pub free : IsStuckAfter i n q es → ⊥

@@ -11,14 +11,14 @@ ghost use Rattle.fmp_explore.specs.Searching.{HasKept, IsBegun, IsClean, IsFresh
 use crate::holding::sections_after;
 use crate::notes::Path;
 use crate::searches::Search;
-use crate::subject::Subject;
+use crate::subject::SearchSubject;
 use fmp_base::Event;
 use fmp_code::Vm;
 use fmp_kernel::Kernel;
 use fmp_question::interrupt_count;
 use fmp_replay::kernel_of;
 use fmp_schedules::Section;
-use fmp_visited::Link;
+use fmp_visited::StateLink;
 use fmp_witness::follow;
 use std::alloc::{AllocError, Global};
 
@@ -27,7 +27,7 @@ impl Search {
     fn note_setup(
         &mut self,
         alloc: Global,
-        subject: &Subject<'_>,
+        subject: &SearchSubject<'_>,
         kernel: &Kernel<Vm<'_>>,
     ) -> Result<(), AllocError>
         ensures stays { OnOk result (Stays self.old self.new) }
@@ -57,7 +57,7 @@ impl Search {
     fn keep_first(
         &mut self,
         alloc: Global,
-        subject: &Subject<'_>,
+        subject: &SearchSubject<'_>,
         kernel: &Kernel<Vm<'_>>,
         sections: Vec<Section>,
     ) -> Result<(), AllocError>
@@ -71,7 +71,7 @@ impl Search {
         ensures { OnOk result (HasKept subject.now.image.now subject.now.n subject.now.question.now self.old self.new
             subject.now.question.now.after.items) }
     {
-        let link = Link {
+        let link = StateLink {
             parent: 0,
             event: Event::Tick,
             kept: false,
@@ -86,7 +86,7 @@ impl Search {
     fn begin_behind(
         &mut self,
         alloc: Global,
-        subject: &Subject<'_>,
+        subject: &SearchSubject<'_>,
         kernel: &mut Kernel<Vm<'_>>,
         sections: Vec<Section>,
     ) -> Result<(), AllocError>
@@ -115,7 +115,7 @@ impl Search {
     fn begin_on(
         &mut self,
         alloc: Global,
-        subject: &Subject<'_>,
+        subject: &SearchSubject<'_>,
         kernel: &mut Kernel<Vm<'_>>,
     ) -> Result<(), AllocError>
         requires fresh { IsFresh subject.now.image.now subject.now.question.now self.old }
@@ -130,7 +130,7 @@ impl Search {
     }
 
     /// Keeps the state after the events behind which the search begins. `AllocError` if memory runs out.
-    pub fn begin(&mut self, alloc: Global, subject: &Subject<'_>) -> Result<(), AllocError>
+    pub fn begin(&mut self, alloc: Global, subject: &SearchSubject<'_>) -> Result<(), AllocError>
         requires { IsFresh subject.now.image.now subject.now.question.now self.old }
         ensures { OnOk result (IsBegun subject.now.image.now subject.now.n subject.now.question.now self.new) }
     {

@@ -1,7 +1,7 @@
 //! The events between the states of a search, and who acted by them. They tell where to look for a task that can never
 //! go on: nothing is claimed of them.
 use fmp_base::{Call, Caller, Er, Line, Reply};
-use fmp_visited::Entry;
+use fmp_visited::RowEntry;
 use std::alloc::{AllocError, Global};
 
 /// The events that did something in the states that were examined.
@@ -26,7 +26,7 @@ pub struct Edges {
 
 /// For each state, those from which an event leads to it.
 #[derive(Drop)]
-pub struct Sources {
+pub struct Predecessors {
     /// Where those of each state begin, and at the end how many there are in all.
     firsts: Vec<u32>,
     states: Vec<u32>,
@@ -133,10 +133,10 @@ impl Edges {
     }
 
     /// An event leads from the state that is examined to one whose row was looked up so.
-    pub fn note_entry(&mut self, alloc: Global, entry: Entry) {
+    pub fn note_entry(&mut self, alloc: Global, entry: RowEntry) {
         match entry {
-            Entry::New(state) | Entry::Known(state) => self.note_target(alloc, state),
-            Entry::Full => {}
+            RowEntry::New(state) | RowEntry::Known(state) => self.note_target(alloc, state),
+            RowEntry::Full => {}
         }
     }
 
@@ -283,9 +283,9 @@ fn put_source(ends: &mut [u32], states: &mut [u32], state: u32, targets: &[u32])
     }
 }
 
-impl Sources {
+impl Predecessors {
     /// The sources of events. `AllocError` if memory runs out.
-    pub fn new(alloc: Global, edges: &Edges) -> Result<Sources, AllocError> {
+    pub fn new(alloc: Global, edges: &Edges) -> Result<Predecessors, AllocError> {
         let mut firsts = counts_of(alloc, edges)?;
         add_up(&mut firsts);
         let mut states = vec![in alloc; 0_u32; edges.targets.len()]?;
@@ -297,7 +297,7 @@ impl Sources {
                 edges.targets_of(state),
             );
         }
-        Ok(Sources { firsts, states })
+        Ok(Predecessors { firsts, states })
     }
 
     /// The states from which an event leads to this one.
@@ -327,7 +327,7 @@ fn mark(marked: &mut [bool], open: &mut Vec<u32>, state: u32) -> Result<(), Allo
 pub fn goes_on_from(
     alloc: Global,
     edges: &Edges,
-    sources: &Sources,
+    sources: &Predecessors,
     t: u8,
     ends: &[u32],
 ) -> Result<Vec<bool>, AllocError> {

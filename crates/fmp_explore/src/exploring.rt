@@ -11,9 +11,9 @@ ghost use Rattle.fmp_explore.specs.Searching.{HasEnded, IsBegun, NothingIsFound}
 use crate::finding::{add_confirmed, confirmed, shortest_alone};
 use crate::notes::is_beside;
 use crate::searches::Search;
-use crate::searching::{Ending, Watcher};
+use crate::searching::{Ending, SearchWatcher};
 use crate::stuck::{Suspicions, suspected};
-use crate::subject::{Subject, live_in};
+use crate::subject::{SearchSubject, live_in};
 use crate::values::Variety;
 use fmp_image_bytes::Image;
 use fmp_question::Question;
@@ -83,7 +83,7 @@ fn is_whole(ending: Ending) -> bool {
 
 /// What a search has found.
 #[derive(Drop)]
-struct Found {
+struct SearchFindings {
     findings: Vec<Finding>,
     /// Whether stuck tasks were looked for, and there was memory for that.
     looked: bool,
@@ -100,14 +100,14 @@ fn with_stuck(
     question: &Question,
     mut findings: Vec<Finding>,
     more: Suspicions,
-) -> Found
+) -> SearchFindings
     requires low { 1 ≤ n }
     requires high { n ≤ 2 ^ 48 }
     requires found { All (IsFound image.now n question.now) findings.items }
     ensures { All (IsFound image.now n question.now) result.findings.items }
 {
     let added = add_confirmed(alloc, image, n, question, &mut findings, more.findings);
-    Found {
+    SearchFindings {
         findings,
         looked: added.is_ok(),
         waits: more.waits,
@@ -128,7 +128,7 @@ fn findings_of(
     question: &Question,
     survey: &mut Search,
     ending: Ending,
-) -> Result<Found, AllocError>
+) -> Result<SearchFindings, AllocError>
     requires low { 1 ≤ n }
     requires high { n ≤ 2 ^ 48 }
     ensures { IfOk result (λ found. All (IsFound image.now n question.now) found.findings.items) }
@@ -139,7 +139,7 @@ fn findings_of(
     if goes_on && let Ok(more) = suspected(alloc, survey, image.system(), question) {
         return Ok(with_stuck(alloc, image, n, question, findings, more));
     }
-    Ok(Found {
+    Ok(SearchFindings {
         findings,
         looked: false,
         waits: false,
@@ -191,7 +191,7 @@ fn make_report(
 }
 
 /// Starts a search: it has seen the state in which it begins.
-pub fn start_search(alloc: Global, subject: &Subject<'_>) -> Result<Search, AllocError>
+pub fn start_search(alloc: Global, subject: &SearchSubject<'_>) -> Result<Search, AllocError>
     ensures { IfOk result (IsBegun subject.now.image.now subject.now.n subject.now.question.now) }
 {
     let mut survey = Search::new(alloc, subject)?;
@@ -200,10 +200,10 @@ pub fn start_search(alloc: Global, subject: &Subject<'_>) -> Result<Search, Allo
 }
 
 /// Runs a search to its end: why it ended.
-pub fn run_search<W: Watcher>(
+pub fn run_search<W: SearchWatcher>(
     alloc: Global,
     survey: &mut Search,
-    subject: &Subject<'_>,
+    subject: &SearchSubject<'_>,
     watcher: &mut W,
 ) -> Ending
     requires { IsBegun subject.now.image.now subject.now.n subject.now.question.now survey.old }
@@ -220,7 +220,7 @@ pub fn run_search<W: Watcher>(
 /// schedule that the question allows tells a forbidden line, gives a call an answer that it must never get, lets a task
 /// enter a section that another holds, or reaches a deadlock, however long it is. If it does not hold and has no
 /// finding, nothing is claimed. `AllocError` if there is no memory to begin with, or for the findings.
-pub fn explore<W: Watcher>(
+pub fn explore<W: SearchWatcher>(
     alloc: Global,
     image: &Image,
     n: u64,
@@ -238,7 +238,7 @@ pub fn explore<W: Watcher>(
 {
     image.keeps_rules();
     let live = live_in(alloc, image);
-    let subject = Subject {
+    let subject = SearchSubject {
         image,
         n,
         question,

@@ -19,10 +19,10 @@ mod trying;
 mod values;
 
 pub use exploring::{Report, explore};
-pub use fmp_question::{ANSWERS, Never, NeverAt, Question, Site, Ticks};
+pub use fmp_question::{ANSWERS, CallSite, Never, NeverAt, Question, Ticks};
 pub use fmp_schedules::{Meeting, Section};
 pub use fmp_witness::{
-    Coverage, Finding, FindingKind, Left, Peaks, Runs, Started, Together, left_by,
+    Coverage, Finding, FindingKind, Left, Peaks, RunCoverage, Started, Together, left_by,
 };
-pub use searching::{Ending, Watcher};
+pub use searching::{Ending, SearchWatcher};
 pub use values::Variety;

@@ -6,11 +6,11 @@ ghost use Rattle.fmp_schedules.specs.Sections.{is_met};
 ghost use Rattle.fmp_question.specs.Places.{is_bad as is_bad_line};
 
 use crate::outlooks::Outlooks;
-use crate::subject::Subject;
+use crate::subject::SearchSubject;
 use fmp_base::{Event, Line};
 use fmp_code::Vm;
 use fmp_kernel::Kernel;
-use fmp_question::{Site, first_bad_at, first_forbidden, is_bad};
+use fmp_question::{CallSite, first_bad_at, first_forbidden, is_bad};
 use fmp_schedules::Section;
 use fmp_witness::{Coverage, Finding, FindingKind, Together};
 use std::alloc::{AllocError, Global};
@@ -19,7 +19,7 @@ use std::mem;
 /// Which of what must never happen a line tells: a place among that which must never happen anywhere, or among that
 /// which must never happen at a call.
 #[derive(Clone, Copy, PartialEq, Eq)]
-enum Broken {
+enum BrokenRule {
     Anywhere(usize),
     At(usize),
 }
@@ -29,7 +29,7 @@ enum Broken {
 struct Candidate {
     finding: Finding,
     /// What a line tells that must never happen, if it is a line.
-    broken: Option<Broken>,
+    broken: Option<BrokenRule>,
 }
 
 /// What was noted.
@@ -40,7 +40,7 @@ pub struct Notes {
     pub outlooks: Outlooks,
     pub coverage: Coverage,
     /// The last call of each task in the state that is examined: where it waits, the one in which it does.
-    pub sites: Vec<Site>,
+    pub sites: Vec<CallSite>,
     /// How many events did something.
     pub events: u64,
 }
@@ -68,20 +68,24 @@ pub fn is_beside(found: &Finding) -> bool {
 }
 
 /// Which of what must never happen a line tells that a kernel has just told, if it tells something of it.
-fn broken_by(subject: &Subject<'_>, kernel: &Kernel<Vm<'_>>, line: &Line) -> Option<Broken> {
+fn broken_by(
+    subject: &SearchSubject<'_>,
+    kernel: &Kernel<Vm<'_>>,
+    line: &Line,
+) -> Option<BrokenRule> {
     if let Some(place) = first_forbidden(subject.question, line) {
-        return Some(Broken::Anywhere(place));
+        return Some(BrokenRule::Anywhere(place));
     }
     let place = first_bad_at(kernel, subject.image.system(), subject.question, line)?;
-    Some(Broken::At(place))
+    Some(BrokenRule::At(place))
 }
 
 /// Whether a candidate is of a kind, and at a call. Lines are of one kind if they tell the same that must never happen.
 fn is_of_kind(
     known: &Candidate,
     kind: FindingKind,
-    site: Option<Site>,
-    broken: Option<Broken>,
+    site: Option<CallSite>,
+    broken: Option<BrokenRule>,
 ) -> bool {
     let is_same = match (known.finding.kind, kind) {
         (FindingKind::Line(_), FindingKind::Line(_)) => known.broken == broken,
@@ -110,7 +114,7 @@ impl Notes {
     pub fn cover(
         &mut self,
         alloc: Global,
-        subject: &Subject<'_>,
+        subject: &SearchSubject<'_>,
         kernel: &Kernel<Vm<'_>>,
     ) -> Result<(), AllocError> {
         self.coverage = Coverage::new(alloc, kernel.tables(), subject.image.code())?;
@@ -144,8 +148,8 @@ impl Notes {
         alloc: Global,
         path: Path<'_>,
         kind: FindingKind,
-        site: Option<Site>,
-        broken: Option<Broken>,
+        site: Option<CallSite>,
+        broken: Option<BrokenRule>,
     ) -> Result<(), AllocError> {
         let is_known = self
             .candidates
@@ -167,13 +171,13 @@ impl Notes {
         alloc: Global,
         path: Path<'_>,
         kind: FindingKind,
-        site: Option<Site>,
+        site: Option<CallSite>,
     ) -> Result<(), AllocError> {
         self.note(alloc, path, kind, site, None)
     }
 
     /// The call to which a line belongs: that of the stretch, or where a wait ends that of the task that waited.
-    fn site_of(&self, line: &Line, made: Option<Site>) -> Option<Site> {
+    fn site_of(&self, line: &Line, made: Option<CallSite>) -> Option<CallSite> {
         match line {
             Line::Gets { task, .. } => self.sites.get(usize::from(*task)).copied(),
             _ => made,
@@ -185,10 +189,10 @@ impl Notes {
     fn note_line(
         &mut self,
         alloc: Global,
-        subject: &Subject<'_>,
+        subject: &SearchSubject<'_>,
         kernel: &Kernel<Vm<'_>>,
         path: Path<'_>,
-        made: Option<Site>,
+        made: Option<CallSite>,
         place: usize,
         line: &Line,
     ) -> Result<bool, AllocError>
@@ -210,10 +214,10 @@ impl Notes {
     pub fn note_lines(
         &mut self,
         alloc: Global,
-        subject: &Subject<'_>,
+        subject: &SearchSubject<'_>,
         kernel: &Kernel<Vm<'_>>,
         path: Path<'_>,
-        made: Option<Site>,
+        made: Option<CallSite>,
     ) -> Result<bool, AllocError>
         ensures { IfOk result (λ found. found ≡ list_any (is_bad_line subject.now.image.now.system
             subject.now.question.now kernel.now.world) kernel.now.lines) }
@@ -237,7 +241,7 @@ impl Notes {
         path: Path<'_>,
         number: usize,
         section: &Section,
-        made: Option<Site>,
+        made: Option<CallSite>,
     ) -> Result<bool, AllocError>
         ensures { IfOk result (λ found. found ≡ is_met section.now lines.now) }
     {
@@ -260,7 +264,7 @@ impl Notes {
         lines: &[Line],
         path: Path<'_>,
         sections: &[Section],
-        made: Option<Site>,
+        made: Option<CallSite>,
     ) -> Result<bool, AllocError>
         ensures { IfOk result (λ found. found ≡ is_any_met sections.now lines.now) }
     {

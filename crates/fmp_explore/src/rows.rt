@@ -7,7 +7,7 @@ ghost use Rattle.fmp_live.specs.Zeroed.{zeroed};
 ghost use Rattle.fmp_explore.specs.States.{IsRowOf, holder_number};
 
 use crate::holding::push_holders;
-use crate::subject::Subject;
+use crate::subject::SearchSubject;
 use fmp_code::Vm;
 use fmp_fields::{What, fields_of, read};
 use fmp_kernel::Kernel;
@@ -37,7 +37,7 @@ fn write_row(values: &[u32], first: &[u32], row: &mut Vec<u8>) -> Result<(), All
 
 impl Rows {
     /// Rows of the states of a system, of which none was looked at. `AllocError` if memory runs out.
-    pub fn new(alloc: Global, subject: &Subject<'_>) -> Result<Rows, AllocError>
+    pub fn new(alloc: Global, subject: &SearchSubject<'_>) -> Result<Rows, AllocError>
         ensures fields { IfOk result (λ rows. AreAllFields subject.now.image.now.system subject.now.image.now.code
             (is_some subject.now.question.now.interrupts) rows.fields.items) }
         ensures none { IfOk result (λ rows. rows.held.items ≡ []) }

@@ -14,15 +14,15 @@ use crate::holding::sections_after;
 use crate::notes::{Notes, Path};
 use crate::rows::Rows;
 use crate::stretching::{Ahead, NextStretch, next_stretch, task_on};
-use crate::subject::Subject;
+use crate::subject::SearchSubject;
 use crate::trying::Attempt;
 use crate::values::{Variety, varieties};
 use fmp_base::{Effect, Event, Line};
 use fmp_code::Vm;
 use fmp_kernel::Kernel;
-use fmp_question::{Outlook, Question, Site, may_rest, queues_within};
+use fmp_question::{CallSite, Outlook, Question, may_rest, queues_within};
 use fmp_schedules::{Section, tries_of};
-use fmp_visited::{Entry, Link, Seen};
+use fmp_visited::{RowEntry, Seen, StateLink};
 use fmp_witness::{Coverage, Finding, FindingKind};
 use std::alloc::{AllocError, Global};
 
@@ -43,7 +43,7 @@ pub struct Search {
 
 impl Search {
     /// A search with no state yet. `AllocError` if memory runs out.
-    pub fn new(alloc: Global, subject: &Subject<'_>) -> Result<Search, AllocError>
+    pub fn new(alloc: Global, subject: &SearchSubject<'_>) -> Result<Search, AllocError>
         ensures { IfOk result (IsFresh subject.now.image.now subject.now.question.now) }
     {
         let sys = subject.image.system();
@@ -108,11 +108,11 @@ impl Search {
     pub fn keep(
         &mut self,
         alloc: Global,
-        subject: &Subject<'_>,
+        subject: &SearchSubject<'_>,
         kernel: &Kernel<Vm<'_>>,
         came: usize,
         sections: Vec<Section>,
-        link: Link,
+        link: StateLink,
     ) -> Result<(), AllocError>
         requires survey { IsSearch subject.now.image.now subject.now.n subject.now.question.now self.old }
         requires next { IsNext subject.now.image.now subject.now.n subject.now.question.now self.old.seen.links link
@@ -128,13 +128,13 @@ impl Search {
         let entry = self.seen.add(alloc, &self.rows.row, link)?;
         self.edges.note_entry(alloc, entry);
         match entry {
-            Entry::New(_) => {
+            RowEntry::New(_) => {
                 self.rows.held.push(sections)?;
                 self.notes.coverage.note_state(kernel.tables());
                 Ok(())
             }
-            Entry::Known(_) => Ok(()),
-            Entry::Full => {
+            RowEntry::Known(_) => Ok(()),
+            RowEntry::Full => {
                 self.full = true;
                 self.sure = false;
                 Ok(())
@@ -150,7 +150,7 @@ impl Search {
         lines: &[Line],
         path: Path<'_>,
         sections: &[Section],
-        made: Option<Site>,
+        made: Option<CallSite>,
     ) -> Result<(), AllocError>
         ensures stays { OnOk result (Stays self.old self.new) }
         ensures clean { OnOk result (self.new.sure ≡ true → is_any_met sections.now lines.now ≡ false) }
@@ -166,7 +166,7 @@ impl Search {
     fn keep_next(
         &mut self,
         alloc: Global,
-        subject: &Subject<'_>,
+        subject: &SearchSubject<'_>,
         kernel: &Kernel<Vm<'_>>,
         attempt: Attempt<'_>,
         kept: bool,
@@ -197,10 +197,10 @@ impl Search {
     fn note_lines(
         &mut self,
         alloc: Global,
-        subject: &Subject<'_>,
+        subject: &SearchSubject<'_>,
         kernel: &Kernel<Vm<'_>>,
         attempt: Attempt<'_>,
-        made: Option<Site>,
+        made: Option<CallSite>,
         sections: &[Section],
     ) -> Result<(), AllocError>
         ensures stays { OnOk result (Stays self.old self.new) }
@@ -224,10 +224,10 @@ impl Search {
     fn note_done(
         &mut self,
         alloc: Global,
-        subject: &Subject<'_>,
+        subject: &SearchSubject<'_>,
         kernel: &Kernel<Vm<'_>>,
         attempt: Attempt<'_>,
-        made: Option<Site>,
+        made: Option<CallSite>,
     ) -> Result<(), AllocError>
         requires survey { IsSearch subject.now.image.now subject.now.n subject.now.question.now self.old }
         requires at { IsAt subject.now.question.now self.old.seen.links attempt.state attempt.steps.now }
@@ -247,10 +247,10 @@ impl Search {
     fn note_done_within(
         &mut self,
         alloc: Global,
-        subject: &Subject<'_>,
+        subject: &SearchSubject<'_>,
         kernel: &Kernel<Vm<'_>>,
         attempt: Attempt<'_>,
-        made: Option<Site>,
+        made: Option<CallSite>,
     ) -> Result<(), AllocError>
         requires survey { IsSearch subject.now.image.now subject.now.n subject.now.question.now self.old }
         requires at { IsAt subject.now.question.now self.old.seen.links attempt.state attempt.steps.now }
@@ -273,7 +273,7 @@ impl Search {
         attempt: Attempt<'_>,
         p: u8,
         task: Option<u8>,
-        body: Option<Site>,
+        body: Option<CallSite>,
     ) -> Result<(), AllocError>
         ensures { OnOk result (Stays self.old self.new) }
     {
@@ -293,11 +293,11 @@ impl Search {
     fn note_outlook(
         &mut self,
         alloc: Global,
-        subject: &Subject<'_>,
+        subject: &SearchSubject<'_>,
         kernel: &Kernel<Vm<'_>>,
         attempt: Attempt<'_>,
         p: u8,
-        body: Option<Site>,
+        body: Option<CallSite>,
     ) -> Result<Option<Outlook>, AllocError>
         requires { kernel.now.body ≡ subject.now.image.now.code }
         ensures { OnOk result (Stays self.old self.new) }
@@ -320,7 +320,7 @@ impl Search {
     pub fn note_ahead(
         &mut self,
         alloc: Global,
-        subject: &Subject<'_>,
+        subject: &SearchSubject<'_>,
         kernel: &Kernel<Vm<'_>>,
         attempt: Attempt<'_>,
     ) -> Result<Ahead, AllocError>
@@ -359,7 +359,7 @@ impl Search {
     fn note_kept(
         &mut self,
         alloc: Global,
-        subject: &Subject<'_>,
+        subject: &SearchSubject<'_>,
         kernel: &Kernel<Vm<'_>>,
         attempt: Attempt<'_>,
         outlook: Option<Outlook>,
@@ -380,7 +380,7 @@ impl Search {
     pub fn note_effect(
         &mut self,
         alloc: Global,
-        subject: &Subject<'_>,
+        subject: &SearchSubject<'_>,
         kernel: &Kernel<Vm<'_>>,
         attempt: Attempt<'_>,
         effect: Effect,

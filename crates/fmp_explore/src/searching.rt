@@ -24,14 +24,14 @@ ghost use Rattle.fmp_schedules.specs.Tries.{all_tries};
 use crate::notes::Path;
 use crate::searches::Search;
 use crate::stretching::{Ahead, task_sites};
-use crate::subject::Subject;
-use crate::trying::{Attempt, DEEPEST, Marks};
+use crate::subject::SearchSubject;
+use crate::trying::{Attempt, DEEPEST, StateMarks};
 use fmp_base::{Effect, Event};
 use fmp_code::Vm;
 use fmp_kernel::Kernel;
 use fmp_question::{Question, Ticks, stands_still};
 use fmp_replay::kernel_of;
-use fmp_visited::Link;
+use fmp_visited::StateLink;
 use fmp_witness::{Checkpoints, FindingKind};
 use std::alloc::{AllocError, Global};
 
@@ -39,7 +39,7 @@ use std::alloc::{AllocError, Global};
 const TOLD_FIRST: usize = 1 << 14;
 
 /// Who is told how far a search has come.
-pub trait Watcher {
+pub trait SearchWatcher {
     /// There are 2^14 states, or twice as many as when this was told last. The last one is this deep.
     fn grown(&mut self, states: usize, examined: usize, depth: u32);
 }
@@ -60,7 +60,7 @@ pub enum Ending {
 }
 
 /// Whether an event may be tried in a state where this was done.
-fn may_try(subject: &Subject<'_>, steps: &[Event], marks: Marks, event: Event) -> bool
+fn may_try(subject: &SearchSubject<'_>, steps: &[Event], marks: StateMarks, event: Event) -> bool
     requires marks { AreMarks subject.now.image.now subject.now.n subject.now.question.now steps.now marks }
     requires few { AreFew subject.now.question.now steps.now }
     ensures few { IsTrue result → AreFew subject.now.question.now (steps.now ++ event ∷ []) }
@@ -90,7 +90,7 @@ fn has_done(effect: Effect) -> bool
 }
 
 /// How many events lead to the state of a link, with those behind which the search began.
-fn depth_of(question: &Question, link: Link) -> usize
+fn depth_of(question: &Question, link: StateLink) -> usize
     ensures { result < 1048575 → length question.now.after.items + link.depth < 1048575 }
 {
     question.after.len().saturating_add(link.depth as usize)
@@ -102,7 +102,7 @@ impl Search {
     fn attempt_ahead<'a>(
         &mut self,
         alloc: Global,
-        subject: &Subject<'a>,
+        subject: &SearchSubject<'a>,
         kernel: &mut Kernel<Vm<'a>>,
         attempt: Attempt<'_>,
         ahead: Ahead,
@@ -127,7 +127,7 @@ impl Search {
     fn attempt<'a>(
         &mut self,
         alloc: Global,
-        subject: &Subject<'a>,
+        subject: &SearchSubject<'a>,
         kernel: &mut Kernel<Vm<'a>>,
         attempt: Attempt<'_>,
     ) -> Result<bool, AllocError>
@@ -151,11 +151,11 @@ impl Search {
     fn try_at<'a>(
         &mut self,
         alloc: Global,
-        subject: &Subject<'a>,
+        subject: &SearchSubject<'a>,
         kernel: &mut Kernel<Vm<'a>>,
         state: u32,
         steps: &[Event],
-        marks: &mut Marks,
+        marks: &mut StateMarks,
         place: usize,
     ) -> Result<bool, AllocError>
         requires place { place < length self.old.tries.items }
@@ -192,11 +192,11 @@ impl Search {
     fn try_from<'a>(
         &mut self,
         alloc: Global,
-        subject: &Subject<'a>,
+        subject: &SearchSubject<'a>,
         kernel: &mut Kernel<Vm<'a>>,
         state: u32,
         steps: &[Event],
-        marks: &mut Marks,
+        marks: &mut StateMarks,
         first: usize,
     ) -> Result<usize, AllocError>
         requires first { first < length self.old.tries.items }
@@ -221,12 +221,12 @@ impl Search {
     fn try_on<'a>(
         &mut self,
         alloc: Global,
-        subject: &Subject<'a>,
+        subject: &SearchSubject<'a>,
         from: &Kernel<Vm<'a>>,
         kernel: &mut Kernel<Vm<'a>>,
         state: u32,
         steps: &[Event],
-        marks: &mut Marks,
+        marks: &mut StateMarks,
         first: usize,
     ) -> Result<usize, AllocError>
         requires first { first < length self.old.tries.items }
@@ -247,12 +247,12 @@ impl Search {
     fn try_all<'a>(
         &mut self,
         alloc: Global,
-        subject: &Subject<'a>,
+        subject: &SearchSubject<'a>,
         from: &Kernel<Vm<'a>>,
         kernel: &mut Kernel<Vm<'a>>,
         state: u32,
         steps: &[Event],
-    ) -> Result<Marks, AllocError>
+    ) -> Result<StateMarks, AllocError>
         requires survey { IsSearch subject.now.image.now subject.now.n subject.now.question.now self.old }
         requires at { IsAt subject.now.question.now self.old.seen.links state steps.now }
         requires followed { IsFollowed subject.now.image.now subject.now.n steps.now from.now }
@@ -261,7 +261,7 @@ impl Search {
             state steps.now marks self.old self.new (length (all_tries subject.now.image.now.system))) }
         ensures over { IsOver subject.now.image.now subject.now.n kernel.new }
     {
-        let mut marks = Marks {
+        let mut marks = StateMarks {
             idle: true,
             interrupted: false,
         };
@@ -283,10 +283,10 @@ impl Search {
     fn look(
         &mut self,
         alloc: Global,
-        subject: &Subject<'_>,
+        subject: &SearchSubject<'_>,
         kernel: &Kernel<Vm<'_>>,
         steps: &[Event],
-        marks: Marks,
+        marks: StateMarks,
     ) -> Result<(), AllocError>
         requires followed { IsFollowed subject.now.image.now subject.now.n steps.now kernel.now }
         requires marks { AreMarks subject.now.image.now subject.now.n subject.now.question.now steps.now marks }
@@ -311,10 +311,10 @@ impl Search {
     fn look_if_idle(
         &mut self,
         alloc: Global,
-        subject: &Subject<'_>,
+        subject: &SearchSubject<'_>,
         kernel: &Kernel<Vm<'_>>,
         steps: &[Event],
-        marks: Marks,
+        marks: StateMarks,
     ) -> Result<(), AllocError>
         requires followed { IsFollowed subject.now.image.now subject.now.n steps.now kernel.now }
         requires marks { AreMarks subject.now.image.now subject.now.n subject.now.question.now steps.now marks }
@@ -332,7 +332,7 @@ impl Search {
     fn examine_on<'a>(
         &mut self,
         alloc: Global,
-        subject: &Subject<'a>,
+        subject: &SearchSubject<'a>,
         from: &Kernel<Vm<'a>>,
         kernel: &mut Kernel<Vm<'a>>,
         state: u32,
@@ -355,7 +355,7 @@ impl Search {
     fn examine<'a>(
         &mut self,
         alloc: Global,
-        subject: &Subject<'a>,
+        subject: &SearchSubject<'a>,
         checkpoints: &mut Checkpoints<'a>,
         work: &mut Kernel<Vm<'a>>,
         state: u32,
@@ -380,7 +380,7 @@ impl Search {
     }
 
     /// Why the search ends before the state at a place, if it does.
-    fn ending_before(&self, subject: &Subject<'_>, link: Link) -> Option<Ending>
+    fn ending_before(&self, subject: &SearchSubject<'_>, link: StateLink) -> Option<Ending>
         ensures ends { IfSome result (λ ending. ending ≢ Ending.Whole) }
         ensures goes_on { IfNone result (length subject.now.question.now.after.items + link.depth < 1048575) }
     {
@@ -407,7 +407,7 @@ impl Search {
 
     /// Tells how far the search has come, if there are twice as many states as when that was told last. Gives how many
     /// there were when it was told last.
-    fn tell<W: Watcher>(&self, watcher: &mut W, told: usize, examined: usize) -> usize {
+    fn tell<W: SearchWatcher>(&self, watcher: &mut W, told: usize, examined: usize) -> usize {
         if self.seen.len() < told.saturating_mul(2) {
             return told;
         }
@@ -417,10 +417,10 @@ impl Search {
 
     /// Examines the states in order until none is left, or the search ends, with the kernels of checkpoints and one on
     /// which events are tried.
-    fn examine_all<'a, W: Watcher>(
+    fn examine_all<'a, W: SearchWatcher>(
         &mut self,
         alloc: Global,
-        subject: &Subject<'a>,
+        subject: &SearchSubject<'a>,
         checkpoints: &mut Checkpoints<'a>,
         work: &mut Kernel<Vm<'a>>,
         watcher: &mut W,
@@ -446,10 +446,10 @@ impl Search {
 
     /// The same, with a kernel of its own on which events are tried.
     #[tactic(none)]
-    fn run_on<'a, W: Watcher>(
+    fn run_on<'a, W: SearchWatcher>(
         &mut self,
         alloc: Global,
-        subject: &Subject<'a>,
+        subject: &SearchSubject<'a>,
         checkpoints: &mut Checkpoints<'a>,
         watcher: &mut W,
     ) -> Result<Ending, AllocError>
@@ -465,10 +465,10 @@ impl Search {
 
     /// The same, with checkpoints of its own. `AllocError` if memory runs out.
     #[tactic(none)]
-    pub fn run<W: Watcher>(
+    pub fn run<W: SearchWatcher>(
         &mut self,
         alloc: Global,
-        subject: &Subject<'_>,
+        subject: &SearchSubject<'_>,
         watcher: &mut W,
     ) -> Result<Ending, AllocError>
         requires { IsBegun subject.now.image.now subject.now.n subject.now.question.now self.old }

@@ -6,7 +6,7 @@ use fmp_base::{Event, Stretch, System};
 use fmp_code::MachineContext;
 use fmp_fields::low_byte;
 use fmp_kernel::{Actor, Body, Kernel};
-use fmp_question::{Outlook, Site, body_of, last_call};
+use fmp_question::{CallSite, Outlook, body_of, last_call};
 use std::alloc::AllocError;
 
 /// How the stretch of an event ends.
@@ -15,16 +15,16 @@ pub enum NextStretch {
     /// The event has no stretch.
     None,
     /// With the call at this place.
-    Calls(Site),
+    Calls(CallSite),
     /// The body ends, or stops with a fault, which is at this place or behind it.
-    Ends(Site),
+    Ends(CallSite),
     /// It reaches the bound, from this place on.
-    Keeps(Site),
+    Keeps(CallSite),
 }
 
 impl NextStretch {
     /// The call that the stretch makes, if it makes one.
-    pub fn call(self) -> Option<Site> {
+    pub fn call(self) -> Option<CallSite> {
         match self {
             NextStretch::Calls(site) => Some(site),
             _ => None,
@@ -32,10 +32,10 @@ impl NextStretch {
     }
 
     /// The head of the body that makes the stretch, if there is one.
-    pub fn body(self) -> Option<Site> {
+    pub fn body(self) -> Option<CallSite> {
         match self {
             NextStretch::Calls(site) | NextStretch::Ends(site) | NextStretch::Keeps(site) => {
-                Some(Site {
+                Some(CallSite {
                     body: site.body,
                     pc: 0,
                 })
@@ -49,7 +49,7 @@ impl NextStretch {
 #[derive(Clone, Copy)]
 pub struct Ahead {
     /// The call that it makes, if it makes one.
-    pub made: Option<Site>,
+    pub made: Option<CallSite>,
     /// What becomes of the actor whose place it keeps, where that was looked at.
     pub outlook: Option<Outlook>,
 }
@@ -76,12 +76,12 @@ fn next_of<B: Body<Ctx = MachineContext>>(
     requires entry { B.has_entry body.now actor.now.entry }
     requires context { B.is_context body.now actor.now.entry actor.now.context }
 {
-    let site = Site {
+    let site = CallSite {
         body: actor.entry,
         pc: actor.context.pc,
     };
     match body.stretch(actor.entry, n, actor.context) {
-        Stretch::Call(context, _) => NextStretch::Calls(Site {
+        Stretch::Call(context, _) => NextStretch::Calls(CallSite {
             body: actor.entry,
             pc: context.pc.saturating_sub(1),
         }),
@@ -113,12 +113,12 @@ pub fn next_stretch<B: Body<Ctx = MachineContext>>(
 pub fn task_sites<B: Body<Ctx = MachineContext>>(
     kernel: &Kernel<B>,
     sys: &System,
-    sites: &mut Vec<Site>,
+    sites: &mut Vec<CallSite>,
 ) -> Result<(), AllocError> {
     sites.clear();
     for (t, config) in sys.tasks.iter().enumerate() {
         let pc = last_call(kernel.held(low_byte(t)));
-        sites.push(Site {
+        sites.push(CallSite {
             body: body_of(config.entry),
             pc,
         })?;

@@ -9,17 +9,17 @@ ghost use Rattle.fmp_witness.specs.Findings.{IsSo};
 ghost use Rattle.fmp_witness.specs.Followed.{IsFollowed};
 ghost use Rattle.fmp_explore.specs.Searching.{IsBegun};
 
-use crate::edges::{Sources, goes_on_from};
+use crate::edges::{Predecessors, goes_on_from};
 use crate::exploring::{run_search, start_search};
 use crate::searches::Search;
-use crate::searching::{Ending, Watcher};
-use crate::subject::{Subject, live_in};
+use crate::searching::{Ending, SearchWatcher};
+use crate::subject::{SearchSubject, live_in};
 use fmp_base::{Event, Phase, System};
 use fmp_code::Vm;
 use fmp_fields::{What, low_byte};
 use fmp_image_bytes::Image;
 use fmp_kernel::Kernel;
-use fmp_question::{Never, Question, Site, body_of, is_started, may_rest};
+use fmp_question::{CallSite, Never, Question, body_of, is_started, may_rest};
 use fmp_visited::unpack;
 use fmp_witness::{Finding, FindingKind, follow};
 use std::alloc::{AllocError, Global};
@@ -28,7 +28,7 @@ use std::alloc::{AllocError, Global};
 #[derive(Clone, Copy)]
 struct Nobody;
 
-impl Watcher for Nobody {
+impl SearchWatcher for Nobody {
     fn grown(&mut self, _states: usize, _examined: usize, _deep: u32) {}
 }
 
@@ -37,7 +37,7 @@ impl Watcher for Nobody {
 struct Suspect {
     state: u32,
     task: u8,
-    site: Site,
+    site: CallSite,
 }
 
 /// What seems to be so after a search in which every state was examined.
@@ -98,7 +98,7 @@ fn suspect_of(
         if value_at(&values, phase) != 0 {
             let pc = (value_at(&values, pc).saturating_sub(1) % 65_536) as u16;
             let body = body_at(sys, t);
-            let site = Site { body, pc };
+            let site = CallSite { body, pc };
             return Ok(Some(Suspect {
                 state,
                 task: t,
@@ -132,7 +132,7 @@ fn suspects_of(
     survey: &Search,
     sys: &System,
     question: &Question,
-    sources: &Sources,
+    sources: &Predecessors,
 ) -> Result<Vec<Suspect>, AllocError> {
     let mut suspects = Vec::new(alloc);
     let edges = &survey.edges;
@@ -156,7 +156,7 @@ fn stuck_in(
     survey: &Search,
     sys: &System,
     question: &Question,
-    sources: &Sources,
+    sources: &Predecessors,
 ) -> Result<Vec<Finding>, AllocError> {
     let mut findings = Vec::new(alloc);
     for suspect in suspects_of(alloc, survey, sys, question, sources)? {
@@ -194,7 +194,7 @@ fn waits_for_interrupt(
     survey: &Search,
     sys: &System,
     question: &Question,
-    sources: &Sources,
+    sources: &Predecessors,
 ) -> Result<bool, AllocError> {
     let edges = &survey.edges;
     if edges.waiting().is_empty() {
@@ -220,7 +220,7 @@ pub fn suspected(
     sys: &System,
     question: &Question,
 ) -> Result<Suspicions, AllocError> {
-    let sources = Sources::new(alloc, survey.edges.all()?)?;
+    let sources = Predecessors::new(alloc, survey.edges.all()?)?;
     Ok(Suspicions {
         findings: stuck_in(alloc, survey, sys, question, &sources)?,
         waits: waits_for_interrupt(alloc, survey, sys, question, &sources)?,
@@ -272,7 +272,7 @@ fn question_of(
 /// `AllocError` if it ends before it knows, as where memory runs out.
 fn shows_silence(
     alloc: Global,
-    subject: &Subject<'_>,
+    subject: &SearchSubject<'_>,
     survey: &mut Search,
 ) -> Result<bool, AllocError>
     requires { IsBegun subject.now.image.now subject.now.n subject.now.question.now survey.old }
@@ -288,7 +288,7 @@ fn shows_silence(
 }
 
 /// The same of a search that is now made. `AllocError` if it ends before it knows, as where memory runs out.
-fn is_silent(alloc: Global, subject: &Subject<'_>) -> Result<bool, AllocError>
+fn is_silent(alloc: Global, subject: &SearchSubject<'_>) -> Result<bool, AllocError>
     ensures { IfOk result (λ yes. IsTrue yes →
         NoneFollows subject.now.image.now subject.now.n subject.now.question.now) }
 {
@@ -308,7 +308,7 @@ fn is_silent_about(
     ensures { IfOk result (λ yes. IsTrue yes → NoneFollows image.now n question.now) }
 {
     let live = live_in(alloc, image);
-    let subject = Subject {
+    let subject = SearchSubject {
         image,
         n,
         question,

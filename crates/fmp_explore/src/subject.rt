@@ -9,7 +9,7 @@ use std::alloc::Global;
 
 /// The image whose schedules are searched, the most instructions of a stretch of its bodies, and what is asked.
 #[derive(Drop)]
-pub struct Subject<'a> {
+pub struct SearchSubject<'a> {
     pub image: &'a Image,
     pub n: u64,
     pub question: &'a Question,

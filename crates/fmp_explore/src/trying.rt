@@ -6,7 +6,7 @@ ghost use Rattle.fmp_explore.specs.Searching.{marked};
 use crate::notes::Path;
 use fmp_base::Event;
 use fmp_question::interrupt_count;
-use fmp_visited::Link;
+use fmp_visited::StateLink;
 
 /// The most events that lead to a state.
 pub const DEEPEST: u32 = (1 << 20) - 1;
@@ -21,14 +21,14 @@ pub struct Attempt<'a> {
 
 impl<'a> Attempt<'a> {
     /// How the state is reached to which the event leads, where the search begins behind this many events.
-    pub fn link(&self, kept: bool, before: usize) -> Link
+    pub fn link(&self, kept: bool, before: usize) -> StateLink
         requires { length self.now.steps.now < 1048575 }
         ensures parent { result.parent ≡ self.now.state }
         ensures event { result.event ≡ self.now.event }
         ensures kept { result.kept ≡ kept }
         ensures depth { result.depth ≡ (length self.now.steps.now - before) + 1 }
     {
-        Link {
+        StateLink {
             parent: self.state,
             event: self.event,
             kept,
@@ -55,14 +55,14 @@ impl<'a> Attempt<'a> {
 
 /// What was done in the state that is examined.
 #[derive(Clone, Copy)]
-pub struct Marks {
+pub struct StateMarks {
     /// Whether no processor did anything.
     pub idle: bool,
     /// Whether an interrupt did something.
     pub interrupted: bool,
 }
 
-impl Marks {
+impl StateMarks {
     /// An event did something.
     pub fn note(&mut self, e: Event)
         ensures { self.new ≡ marked self.old e }

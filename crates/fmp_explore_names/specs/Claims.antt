@@ -27,7 +27,7 @@ use Rattle.fmp_question.specs.declared.question.NeverAt.{NeverAt}
 use Rattle.fmp_question.specs.declared.question.Question.{Question}
 use Rattle.fmp_question.specs.declared.question.Ticks.{Ticks}
 use Rattle.fmp_question.specs.declared.question.Ticks.TheVariants as ticks
-use Rattle.fmp_question.specs.declared.site.Site.{Site}
+use Rattle.fmp_question.specs.declared.site.CallSite.{CallSite}
 use Rattle.fmp_question.specs.Forbidden.{is_same_fault}
 use Rattle.fmp_schedules.specs.declared.section.Section.{Section}
 use Rattle.fmp_explore_names.specs.Sites.{TextBody, line_of}
@@ -48,15 +48,15 @@ service_of (Some (instruction.Call service out result)) = Some service
 service_of _ = None
 
 -- the service that is called at a place of the code, if one is
-abbrev pub service_at : List BodyTables → Site → Option Service
+abbrev pub service_at : List BodyTables → CallSite → Option Service
 service_at code site = service_of (slice_get (instructions_at code site.body) site.pc)
 
 -- a call by its name and its line; else by its place
-unfoldable pub call_text : Site → (service : Option Service) → (line : Option ℕ) → List ℕ
+unfoldable pub call_text : CallSite → (service : Option Service) → (line : Option ℕ) → List ℕ
 call_text site (Some service) (Some line) = service_name service ++ (codes " in line " ++ decimal line)
 call_text site _ _ = codes "the call at " ++ (decimal site.pc ++ (codes " of body " ++ decimal site.body))
 
-abbrev pub site_text : List BodyTables → List TextBody → Site → List ℕ
+abbrev pub site_text : List BodyTables → List TextBody → CallSite → List ℕ
 site_text code bodies site =
     call_text site (service_at code site) (line_of code bodies site)
 

@@ -12,12 +12,12 @@ use Rattle.fmp_question.specs.declared.question.Never.{Never}
 use Rattle.fmp_question.specs.declared.question.Never.TheVariants as never
 use Rattle.fmp_question.specs.declared.question.NeverAt.{NeverAt}
 use Rattle.fmp_question.specs.declared.question.Question.{Question}
-use Rattle.fmp_question.specs.declared.site.Site.{Site}
+use Rattle.fmp_question.specs.declared.site.CallSite.{CallSite}
 use Rattle.fmp_schedules.specs.declared.section.Section.{Section}
-use Rattle.fmp_explore_names.specs.declared.asking.Asked.{Asked}
-use Rattle.fmp_explore_names.specs.declared.asking.Mistake.{Mistake}
-use Rattle.fmp_explore_names.specs.declared.asking.Mistake.TheVariants as mistake
-use Rattle.fmp_explore_names.specs.declared.asking.Wanted.{Wanted}
+use Rattle.fmp_explore_names.specs.declared.asking.ExploreWords.{ExploreWords}
+use Rattle.fmp_explore_names.specs.declared.asking.CommandMistake.{CommandMistake}
+use Rattle.fmp_explore_names.specs.declared.asking.CommandMistake.TheVariants as mistake
+use Rattle.fmp_explore_names.specs.declared.asking.ExploreChoices.{ExploreChoices}
 use Rattle.fmp_explore_names.specs.declared.words.CodeAt.{CodeAt}
 use Rattle.fmp_explore_names.specs.Sites.{TextBody, calls_in}
 use Rattle.fmp_explore_names.specs.Words.{never_at_named, never_named, section_named}
@@ -54,7 +54,7 @@ are_sections words = list_all (λ word. is_section word.now) words && nat_le (le
 
 -- what the words of a command say before its files are read: what must never happen and the sections, or which words
 -- are mistaken
-abbrev pub IsWanted : Asked → Result Wanted Mistake → Type 0
+abbrev pub IsWanted : ExploreWords → Result ExploreChoices CommandMistake → Type 0
 IsWanted a (Ok w) =
     (are_sections a.alone.now ≡ true) × (are_nevers a.nevers.now ≡ true)
     × (w.nevers.items ≡ nevers_in a.nevers.now) × (w.nevers_at.items ≡ codes_in a.nevers.now)
@@ -83,7 +83,7 @@ marks tasks words = map (λ task. is_named words task) tasks
 abbrev pub are_called : List BodyTables → List TextBody → List CodeAt → Bool
 are_called code bodies codes = list_all (λ c. nat_lt 0 (length (calls_in c.line code bodies))) codes
 
-abbrev pub never_at : Er → Site → NeverAt
+abbrev pub never_at : Er → CallSite → NeverAt
 never_at code site = record { code = code; site = site }
 
 -- a code at each call of its line
@@ -99,7 +99,7 @@ abbrev pub faults : List Never
 faults = never.Fault Overflow ∷ never.Fault Division ∷ never.Fault Index ∷ []
 
 -- the question of the words of a command, on this system, whose bodies have this code and stand so in their text
-pub record IsQuestionOf (a : Asked) (system : SystemTables) (code : List BodyTables) (bodies : List TextBody)
+pub record IsQuestionOf (a : ExploreWords) (system : SystemTables) (code : List BodyTables) (bodies : List TextBody)
     (q : Question) : Type 0 where
   pub nevers : q.nevers.items ≡ faults ++ nevers_in a.nevers.now
   pub nevers_at : q.nevers_at.items ≡ nevers_at_in code bodies (codes_in a.nevers.now)
@@ -113,7 +113,7 @@ pub record IsQuestionOf (a : Asked) (system : SystemTables) (code : List BodyTab
   pub after : q.after.items ≡ []
 
 -- what the words of a command ask, or which of them are mistaken: one names no task, or a line without a call
-abbrev pub IsAsked : Asked → SystemTables → List BodyTables → List TextBody → Result Question Mistake → Type 0
+abbrev pub IsAsked : ExploreWords → SystemTables → List BodyTables → List TextBody → Result Question CommandMistake → Type 0
 IsAsked a system code bodies (Ok q) =
     (are_tasks system.tasks a.rest.now ≡ true) × (are_called code bodies (codes_in a.nevers.now) ≡ true)
     × IsQuestionOf a system code bodies q

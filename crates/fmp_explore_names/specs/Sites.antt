@@ -10,7 +10,7 @@ use Rattle.fmp_lex.specs.declared.token.TokenKind.{TokenKind}
 use Rattle.fmp_lex.specs.declared.token.TokenKind.TheVariants as kind
 use Rattle.fmp_lex.specs.Cutting.{Cuts}
 use Rattle.fmp_lex.specs.Faults.{text_max}
-use Rattle.fmp_question.specs.declared.site.Site.{Site}
+use Rattle.fmp_question.specs.declared.site.CallSite.{CallSite}
 use Rattle.fmp_explore_names.specs.declared.sites.BodyLines.{BodyLines}
 
 -- a body of a text: the line at which it begins, and those of its service calls, in order
@@ -79,7 +79,7 @@ abbrev pub is_call : Instruction → Bool
 is_call (instruction.Call service out result) = true
 is_call _ = false
 
-abbrev pub site : (body pc : ℕ) → Site
+abbrev pub site : (body pc : ℕ) → CallSite
 site body pc = record { body = body; pc = pc }
 
 -- the places of the calls among instructions, of which the first stands at a place
@@ -88,14 +88,14 @@ call_places pc [] = []
 call_places pc (i ∷ is) = if is_call i then pc ∷ call_places (pc + 1) is else call_places (pc + 1) is
 
 -- of the calls of a body those that stand in a line: the calls are at these places, and stand in these lines, in order
-abbrev pub sites_at : (body line : ℕ) → (places lines : List ℕ) → List Site
+abbrev pub sites_at : (body line : ℕ) → (places lines : List ℕ) → List CallSite
 sites_at body line [] lines = []
 sites_at body line (pc ∷ pcs) [] = []
 sites_at body line (pc ∷ pcs) (l ∷ ls) =
     (if nat_eq l line then site body pc ∷ [] else []) ++ sites_at body line pcs ls
 
 -- the same of a body with this code and these lines of calls, if there is one
-abbrev pub sites_by : (body line : ℕ) → Option (List Instruction) → Option (List ℕ) → List Site
+abbrev pub sites_by : (body line : ℕ) → Option (List Instruction) → Option (List ℕ) → List CallSite
 sites_by body line (Some code) (Some lines) = sites_at body line (call_places 0 code) lines
 sites_by body line (Some code) None = []
 sites_by body line None lines = []
@@ -107,13 +107,13 @@ abbrev pub lines_of : List TextBody → (body : ℕ) → Option (List ℕ)
 lines_of bodies body = option_map (λ b. b.calls) (slice_get bodies body)
 
 -- the calls that stand in a line, of the bodies below a number
-abbrev pub calls_below : (count line : ℕ) → List BodyTables → List TextBody → List Site
+abbrev pub calls_below : (count line : ℕ) → List BodyTables → List TextBody → List CallSite
 calls_below zero line code bodies = []
 calls_below (suc body) line code bodies =
     calls_below body line code bodies ++ sites_by body line (code_of code body) (lines_of bodies body)
 
 -- the calls of this code that stand in a line: the code of a body has its calls in the order of the text
-abbrev pub calls_in : (line : ℕ) → List BodyTables → List TextBody → List Site
+abbrev pub calls_in : (line : ℕ) → List BodyTables → List TextBody → List CallSite
 calls_in line code bodies = calls_below (length code) line code bodies
 
 -- the line of the call at a place of a body, or of the next one if none stands there
@@ -122,7 +122,7 @@ line_by (Some code) (Some text) pc = slice_get text.calls (count_by is_call (tak
 line_by (Some code) None pc = None
 line_by None text pc = None
 
-abbrev pub line_of : List BodyTables → List TextBody → Site → Option ℕ
+abbrev pub line_of : List BodyTables → List TextBody → CallSite → Option ℕ
 line_of code bodies site = line_by (slice_get code site.body) (slice_get bodies site.body) site.pc
 
 -- the bodies, and the instructions of each, are few enough for a site

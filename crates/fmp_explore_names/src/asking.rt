@@ -11,13 +11,13 @@ use crate::sites::CallLines;
 use crate::words::{CodeAt, never_at_named, never_named, section_named};
 use fmp_base::{Er, Fault, System, TaskConfig};
 use fmp_code::Code;
-use fmp_explore::{Never, NeverAt, Question, Section, Site, Ticks};
+use fmp_explore::{CallSite, Never, NeverAt, Question, Section, Ticks};
 use fmp_image_bytes::Image;
 use std::alloc::{AllocError, Global};
 
 /// The words of a command that explores.
 #[derive(Clone, Copy)]
-pub struct Asked<'a> {
+pub struct ExploreWords<'a> {
     /// What must never happen, each as `never_named` or `never_at_named` reads it.
     pub nevers: &'a [&'a str],
     /// The sections, each as `section_named` reads it: at most 4.
@@ -38,7 +38,7 @@ pub struct Asked<'a> {
 
 /// Which words of a command are mistaken.
 #[derive(Clone, Copy, Debug, PartialEq, Eq)]
-pub enum Mistake {
+pub enum CommandMistake {
     /// A word says nothing of what must never happen.
     Never,
     /// A word names no section, or there are more than 4.
@@ -51,7 +51,7 @@ pub enum Mistake {
 
 /// What the words of a command say before its files are read.
 #[derive(Drop)]
-pub struct Wanted {
+pub struct ExploreChoices {
     /// What must never happen anywhere, but for faults, which never may.
     pub nevers: Vec<Never>,
     /// The codes that must never be answered to the calls of a line.
@@ -142,16 +142,19 @@ fn sections_in(alloc: Global, words: &[&str]) -> Result<Vec<Section>, AllocError
 
 /// What the words of a command say before its files are read, or which of them are mistaken: those of the sections are
 /// read first. `AllocError` if memory runs out.
-pub fn wanted_by(alloc: Global, asked: &Asked<'_>) -> Result<Result<Wanted, Mistake>, AllocError>
+pub fn wanted_by(
+    alloc: Global,
+    asked: &ExploreWords<'_>,
+) -> Result<Result<ExploreChoices, CommandMistake>, AllocError>
     ensures { IfOk result (λ wanted. IsWanted asked.now wanted) }
 {
     if !are_all_sections(asked.alone) || asked.alone.len() > SECTIONS_MAX {
-        return Ok(Err(Mistake::Alone));
+        return Ok(Err(CommandMistake::Alone));
     }
     if !are_nevers(asked.nevers) {
-        return Ok(Err(Mistake::Never));
+        return Ok(Err(CommandMistake::Never));
     }
-    Ok(Ok(Wanted {
+    Ok(Ok(ExploreChoices {
         nevers: nevers_in(alloc, asked.nevers)?,
         nevers_at: codes_in(alloc, asked.nevers)?,
         sections: sections_in(alloc, asked.alone)?,
@@ -224,7 +227,7 @@ fn are_called(
 }
 
 /// Adds that a code must never be answered at these calls.
-fn add_nevers_at(code: Er, sites: &[Site], nevers: &mut Vec<NeverAt>) -> Result<(), AllocError>
+fn add_nevers_at(code: Er, sites: &[CallSite], nevers: &mut Vec<NeverAt>) -> Result<(), AllocError>
     ensures { OnOk result (nevers.new.items ≡ nevers.old.items ++ map (λ s. spec.never_at code s) sites.now) }
 {
     for site in sites {
@@ -279,8 +282,8 @@ fn with_faults(alloc: Global, nevers: &[Never]) -> Result<Vec<Never>, AllocError
 /// The question of words that are not mistaken.
 fn question_of(
     alloc: Global,
-    asked: &Asked<'_>,
-    wanted: &Wanted,
+    asked: &ExploreWords<'_>,
+    wanted: &ExploreChoices,
     sys: &System,
     code: &Code,
     lines: &CallLines,
@@ -306,21 +309,21 @@ fn question_of(
 /// The question of the words of a command, or which of them are mistaken.
 fn asked_of(
     alloc: Global,
-    asked: &Asked<'_>,
-    wanted: &Wanted,
+    asked: &ExploreWords<'_>,
+    wanted: &ExploreChoices,
     sys: &System,
     code: &Code,
     lines: &CallLines,
-) -> Result<Result<Question, Mistake>, AllocError>
+) -> Result<Result<Question, CommandMistake>, AllocError>
     requires wanted { IsWanted asked.now (Ok wanted.now) }
     requires sites { HasSites (code_tables code.now) }
     ensures { IfOk result (λ q. IsAsked asked.now (tables_of sys.now) (code_tables code.now) lines.now q) }
 {
     if !are_tasks(&sys.tasks, asked.rest) {
-        return Ok(Err(Mistake::Rest));
+        return Ok(Err(CommandMistake::Rest));
     }
     if !are_called(alloc, code, lines, &wanted.nevers_at)? {
-        return Ok(Err(Mistake::Call));
+        return Ok(Err(CommandMistake::Call));
     }
     Ok(Ok(question_of(alloc, asked, wanted, sys, code, lines)?))
 }
@@ -329,11 +332,11 @@ fn asked_of(
 /// which words are mistaken: those that name tasks are read first. `AllocError` if memory runs out.
 pub fn question_by(
     alloc: Global,
-    asked: &Asked<'_>,
-    wanted: &Wanted,
+    asked: &ExploreWords<'_>,
+    wanted: &ExploreChoices,
     image: &Image,
     lines: &CallLines,
-) -> Result<Result<Question, Mistake>, AllocError>
+) -> Result<Result<Question, CommandMistake>, AllocError>
     requires { IsWanted asked.now (Ok wanted.now) }
     ensures { IfOk result (λ q. IsAsked asked.now image.now.system image.now.code lines.now q) }
 {

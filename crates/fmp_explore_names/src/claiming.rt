@@ -10,7 +10,7 @@ use crate::lists::append_lists;
 use crate::sites::CallLines;
 use fmp_base::{Fault, Service, System, TaskConfig};
 use fmp_code::{Code, Instruction};
-use fmp_explore::{Never, NeverAt, Question, Report, Section, Site};
+use fmp_explore::{CallSite, Never, NeverAt, Question, Report, Section};
 use fmp_image_bytes::Image;
 use fmp_named::append_task;
 use itoa::Buffer;
@@ -73,7 +73,7 @@ fn append_nevers(sys: &System, nevers: &[Never], out: &mut Vec<u8>) -> Result<()
 }
 
 /// The service that is called at a place of the code, if one is.
-fn service_at(code: &Code, site: Site) -> Option<Service>
+fn service_at(code: &Code, site: CallSite) -> Option<Service>
     ensures { result ≡ spec.service_at (code_tables code.now) site }
 {
     let body = code.bodies.get(usize::from(site.body))?;
@@ -86,7 +86,7 @@ fn service_at(code: &Code, site: Site) -> Option<Service>
 /// Appends a call by the service and its line, or else by its place.
 #[tactic(auto, unfolding(crate::specs::Claims::call_text))]
 fn append_call(
-    site: Site,
+    site: CallSite,
     service: Option<Service>,
     line: Option<u32>,
     out: &mut Vec<u8>,

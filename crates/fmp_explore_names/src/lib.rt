@@ -14,7 +14,7 @@ mod stuck;
 mod words;
 
 pub use answers::{Answered, answered_calls, append_answers};
-pub use asking::{Asked, Mistake, Wanted, question_by, wanted_by};
+pub use asking::{CommandMistake, ExploreChoices, ExploreWords, question_by, wanted_by};
 pub use claiming::append_claim;
 pub use ending::{append_ending, status_of};
 pub use naming::{LocalNames, append_name, is_queue};

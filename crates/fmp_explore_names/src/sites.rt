@@ -4,7 +4,7 @@ ghost use Rattle.fmp_instructions.specs.Instructions.{code_tables};
 ghost use Rattle.fmp_explore_names.specs.Sites as spec;
 
 use fmp_code::{Code, Instruction};
-use fmp_explore::Site;
+use fmp_explore::CallSite;
 use fmp_lex::{Keyword, TextFault, TokenKind, Tokens, tokens};
 use std::alloc::{AllocError, Global};
 use std::marker::Model;
@@ -164,7 +164,7 @@ fn call_places(alloc: Global, instructions: &[Instruction]) -> Result<Vec<u16>, 
 }
 
 /// Adds a call where this is so.
-fn add_where(is_so: bool, site: Site, sites: &mut Vec<Site>) -> Result<(), AllocError>
+fn add_where(is_so: bool, site: CallSite, sites: &mut Vec<CallSite>) -> Result<(), AllocError>
     ensures { OnOk result (sites.new.items ≡ sites.old.items ++ (if is_so then site ∷ [] else [])) }
 {
     if !is_so {
@@ -180,7 +180,7 @@ fn add_sites(
     places: &[u16],
     lines: &[u32],
     line: u32,
-    sites: &mut Vec<Site>,
+    sites: &mut Vec<CallSite>,
 ) -> Result<(), AllocError>
     ensures { OnOk result (sites.new.items
         ≡ sites.old.items ++ spec.sites_at body line places.now lines.now) }
@@ -188,7 +188,7 @@ fn add_sites(
     let count = places.len().min(lines.len());
     for at in 0..count {
         let pc = places[at];
-        add_where(lines[at] == line, Site { body, pc }, sites)?;
+        add_where(lines[at] == line, CallSite { body, pc }, sites)?;
     }
     Ok(())
 }
@@ -231,7 +231,7 @@ impl CallLines {
     }
 
     /// The line of the call at a place of this code, or of the next call of the body if none stands there.
-    pub fn line(&self, code: &Code, site: Site) -> Option<u32>
+    pub fn line(&self, code: &Code, site: CallSite) -> Option<u32>
         ensures { result ≡ line_of (code_tables code.now) self.now site }
     {
         let code = code.bodies.get(usize::from(site.body))?;
@@ -257,7 +257,7 @@ impl CallLines {
         code: &Code,
         body: u8,
         line: u32,
-        sites: &mut Vec<Site>,
+        sites: &mut Vec<CallSite>,
     ) -> Result<(), AllocError>
         requires { HasSites (code_tables code.now) }
         ensures { OnOk result (sites.new.items ≡ sites.old.items
@@ -274,7 +274,7 @@ impl CallLines {
     }
 
     /// The calls of this code that stand in a line of the text, in order. `AllocError` if memory runs out.
-    pub fn calls(&self, alloc: Global, code: &Code, line: u32) -> Result<Vec<Site>, AllocError>
+    pub fn calls(&self, alloc: Global, code: &Code, line: u32) -> Result<Vec<CallSite>, AllocError>
         requires { HasSites (code_tables code.now) }
         ensures { IfOk result (λ sites. sites.items ≡ calls_in line (code_tables code.now) self.now) }
     {

@@ -16,7 +16,7 @@ use Rattle.fmp_base.specs.TaskCalls.{is_dormant}
 use Rattle.fmp_bisimulation.specs.Alike.{Alike, is_none, is_off}
 use Rattle.fmp_bisimulation.specs.Closed.{timeless}
 use Rattle.fmp_bisimulation.proofs.TimeLaws.{blocks-at}
-use Rattle.fmp_question.specs.declared.site.Site.{Site}
+use Rattle.fmp_question.specs.declared.site.CallSite.{CallSite}
 use Rattle.fmp_question.specs.declared.question.NeverAt.{NeverAt}
 use Rattle.fmp_question.specs.declared.question.Question.{Question}
 use Rattle.fmp_question.specs.Forbidden.{forbids, has_code, is_same_code}
@@ -69,7 +69,7 @@ module _ (sys : SystemTables) (q : Question) (w : World MachineContext) where
 -- ---- the same is told at a call in alike worlds
 
 module _ (sys : SystemTables) (v w : World MachineContext) (alike : Alike sys v w) where
-  module _ (site : Site) where
+  module _ (site : CallSite) where
     behind-if : (t : ℕ) (asleep : Bool) → is_dormant (task_at v.state.tasks t).phase ≡ asleep
         → (not asleep && (has_body site (slice_get sys.tasks t) && is_behind site (context_at v.contexts.tasks t)))
         ≡ (not asleep && (has_body site (slice_get sys.tasks t) && is_behind site (context_at w.contexts.tasks t)))
@@ -117,13 +117,13 @@ module _ (sys : SystemTables) (v w : World MachineContext) (alike : Alike sys v 
 
 -- ---- and in worlds that are alike but for dead locals
 
-behind-zeroed : (site : Site) (t : LiveTable) (held : Option (Held MachineContext))
+behind-zeroed : (site : CallSite) (t : LiveTable) (held : Option (Held MachineContext))
     → is_behind site (zeroed_task t held) ≡ is_behind site held
 behind-zeroed site t None = refl
 behind-zeroed site t (Some (Goes c)) = refl
 behind-zeroed site t (Some (Awaits c)) = refl
 
-handler-zeroed : (site : Site) (tables : List LiveTable) (h : Option (HandlerContext (Held MachineContext)))
+handler-zeroed : (site : CallSite) (tables : List LiveTable) (h : Option (HandlerContext (Held MachineContext)))
     → is_handler_behind site (zeroed_handler tables h) ≡ is_handler_behind site h
 handler-zeroed site tables None = refl
 handler-zeroed site tables (Some h) =
@@ -140,7 +140,7 @@ module _ (sys : SystemTables) (tables : List LiveTable) (w : World MachineContex
   abbrev dead_as_0 : World MachineContext
   dead_as_0 = zeroed sys tables w
 
-  task_behind-zeroed : (site : Site) (t : ℕ) → is_task_behind sys dead_as_0 site t ≡ is_task_behind sys w site t
+  task_behind-zeroed : (site : CallSite) (t : ℕ) → is_task_behind sys dead_as_0 site t ≡ is_task_behind sys w site t
   task_behind-zeroed site t =
       ap
       (λ (b : Bool). not (is_dormant (task_at w.state.tasks t).phase) && (has_body site (slice_get sys.tasks t) && b))
@@ -148,7 +148,7 @@ module _ (sys : SystemTables) (tables : List LiveTable) (w : World MachineContex
       (context_at-each (λ u. zeroed_task (table_at tables (task_body sys u))) (λ u. refl) w.contexts.tasks t)
       ∙ behind-zeroed site (table_at tables (task_body sys t)) (context_at w.contexts.tasks t))
 
-  caller_behind-zeroed : (site : Site) (p : ℕ) (who : Caller)
+  caller_behind-zeroed : (site : CallSite) (p : ℕ) (who : Caller)
       → is_caller_behind sys dead_as_0 site p who ≡ is_caller_behind sys w site p who
   caller_behind-zeroed site p (caller.Task t) = task_behind-zeroed site t
   caller_behind-zeroed site p (caller.Handler h) =

@@ -14,7 +14,7 @@ use Rattle.fmp_base.specs.Meanings.{World, context_at}
 use Rattle.fmp_base.specs.States.{task_at}
 use Rattle.fmp_base.specs.Systems.{SystemTables, body_of}
 use Rattle.fmp_base.specs.TaskCalls.{is_dormant}
-use Rattle.fmp_question.specs.declared.site.Site.{Site}
+use Rattle.fmp_question.specs.declared.site.CallSite.{CallSite}
 use Rattle.fmp_question.specs.declared.question.NeverAt.{NeverAt}
 use Rattle.fmp_question.specs.declared.question.Question.{Question}
 use Rattle.fmp_question.specs.Forbidden.{forbids, has_code, is_same_code}
@@ -31,28 +31,28 @@ last_call None = 0
 last_call (Some held) = pc_of held - 1
 
 -- the next instruction is the one behind this call
-abbrev pub is_behind : Site → Option (Held MachineContext) → Bool
+abbrev pub is_behind : CallSite → Option (Held MachineContext) → Bool
 is_behind site None = false
 is_behind site (Some held) = nat_eq (pc_of held) (site.pc + 1)
 
 -- a task of this configuration has the body of the call
-abbrev pub has_body : Site → Option TaskConfig → Bool
+abbrev pub has_body : CallSite → Option TaskConfig → Bool
 has_body site None = false
 has_body site (Some config) = nat_eq (body_of config.entry) site.body
 
 -- task t is started, and stands behind the call
-abbrev pub is_task_behind : SystemTables → World MachineContext → Site → (t : ℕ) → Bool
+abbrev pub is_task_behind : SystemTables → World MachineContext → CallSite → (t : ℕ) → Bool
 is_task_behind sys w site t =
     not (is_dormant (task_at w.state.tasks t).phase)
     && (has_body site (slice_get sys.tasks t) && is_behind site (context_at w.contexts.tasks t))
 
 -- a handler runs there, and stands behind the call
-abbrev pub is_handler_behind : Site → Option (HandlerContext (Held MachineContext)) → Bool
+abbrev pub is_handler_behind : CallSite → Option (HandlerContext (Held MachineContext)) → Bool
 is_handler_behind site None = false
 is_handler_behind site (Some h) = nat_eq h.body site.body && is_behind site (Some h.context)
 
 -- the caller on the processor at place p stands behind the call
-abbrev pub is_caller_behind : SystemTables → World MachineContext → Site → (p : ℕ) → Caller → Bool
+abbrev pub is_caller_behind : SystemTables → World MachineContext → CallSite → (p : ℕ) → Caller → Bool
 is_caller_behind sys w site p (caller.Task t) = is_task_behind sys w site t
 is_caller_behind sys w site p (caller.Handler h) = is_handler_behind site (context_at w.contexts.handlers p)
 

@@ -29,7 +29,7 @@ pub enum Outlook {
 /// A look for a context that comes again: the one that is looked for, how many stretches were made since it stood
 /// there, and after how many a later one takes its place.
 #[derive(Clone, Copy)]
-struct Mark {
+struct LoopMark {
     context: MachineContext,
     since: u32,
     most: u32,
@@ -62,7 +62,7 @@ pub fn is_same(a: &MachineContext, b: &MachineContext) -> bool
     are_same(&a.operands, &b.operands)
 }
 
-impl Mark {
+impl LoopMark {
     /// One stretch more was made, which left this context. Where twice as many were made as at the last time, this is
     /// the context that is looked for.
     fn advance(&mut self, context: &MachineContext)
@@ -98,7 +98,7 @@ pub fn outlook_of(body: &Vm<'_>, entry: u8, context: MachineContext) -> Outlook
     requires context { IsContext body.now entry context }
     ensures { result ≡ Outlook.Endless → GoesOnForEver (code_meaning body.now) entry context }
 {
-    let mut mark = Mark {
+    let mut mark = LoopMark {
         context,
         since: 0,
         most: 1,

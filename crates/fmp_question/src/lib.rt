@@ -12,5 +12,5 @@ pub use endless::{Outlook, is_endless, is_same, outlook_of};
 pub use placing::{body_of, first_bad_at, is_bad, is_started, last_call};
 pub use question::{ANSWERS, Never, NeverAt, Question, Ticks, first_forbidden, interrupt_count};
 pub use queueing::queues_within;
-pub use site::Site;
+pub use site::CallSite;
 pub use standing::{is_deadlock, may_rest, stands_still};

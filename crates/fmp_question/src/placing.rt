@@ -7,7 +7,7 @@ ghost use Rattle.fmp_base.specs.TaskCalls.{is_dormant as sleeps};
 ghost use Rattle.fmp_question.specs.Places as spec;
 
 use crate::question::{NeverAt, Question, is_forbidden, is_same_code};
-use crate::site::Site;
+use crate::site::CallSite;
 use fmp_base::{Caller, Entry, HandlerContext, Held, Line, Phase, System};
 use fmp_code::{MachineContext, Vm};
 use fmp_kernel::Kernel;
@@ -34,14 +34,14 @@ pub fn last_call(held: Option<Held<MachineContext>>) -> u16
 }
 
 /// Whether the next instruction of a body is the one behind a call.
-fn is_next(site: Site, held: &Held<MachineContext>) -> bool
+fn is_next(site: CallSite, held: &Held<MachineContext>) -> bool
     ensures { result ≡ spec.is_behind site (Some held.now) }
 {
     u32::from(pc_of(held)) == u32::from(site.pc) + 1
 }
 
 /// The same of what is kept of a body, if anything is.
-fn is_behind(site: Site, held: Option<Held<MachineContext>>) -> bool
+fn is_behind(site: CallSite, held: Option<Held<MachineContext>>) -> bool
     ensures { result ≡ spec.is_behind site held }
 {
     match held {
@@ -61,7 +61,7 @@ pub fn body_of(entry: Entry) -> u8
 }
 
 /// Whether a task has the body of a call.
-fn has_body(sys: &System, site: Site, t: u8) -> bool
+fn has_body(sys: &System, site: CallSite, t: u8) -> bool
     ensures { result ≡ spec.has_body site (slice_get (tables_of sys.now).tasks t) }
 {
     match sys.tasks.get(usize::from(t)) {
@@ -91,14 +91,14 @@ pub fn is_started(tables: &KernelState, t: u8) -> bool
 }
 
 /// Whether a task is started, and stands behind a call.
-fn is_task_behind(kernel: &Kernel<Vm<'_>>, sys: &System, site: Site, t: u8) -> bool
+fn is_task_behind(kernel: &Kernel<Vm<'_>>, sys: &System, site: CallSite, t: u8) -> bool
     ensures { result ≡ spec.is_task_behind (tables_of sys.now) kernel.now.world site t }
 {
     is_started(kernel.tables(), t) && has_body(sys, site, t) && is_behind(site, kernel.held(t))
 }
 
 /// Whether what is kept of a handler stands behind a call.
-fn is_handler_behind(site: Site, held: Option<HandlerContext<Held<MachineContext>>>) -> bool
+fn is_handler_behind(site: CallSite, held: Option<HandlerContext<Held<MachineContext>>>) -> bool
     ensures { result ≡ spec.is_handler_behind site held }
 {
     match held {
@@ -111,7 +111,7 @@ fn is_handler_behind(site: Site, held: Option<HandlerContext<Held<MachineContext
 fn is_caller_behind(
     kernel: &Kernel<Vm<'_>>,
     sys: &System,
-    site: Site,
+    site: CallSite,
     p: u8,
     caller: Caller,
 ) -> bool

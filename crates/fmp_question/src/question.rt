@@ -8,7 +8,7 @@ ghost use Rattle.fmp_question.specs.Forbidden.{is_put as prints, is_same_code as
 ghost use Rattle.fmp_question.specs.Forbidden.{tells as names};
 ghost use Rattle.fmp_question.specs.Behind.{CanBegin};
 
-use crate::site::Site;
+use crate::site::CallSite;
 use fmp_base::{Call, Er, Event, Fault, Line};
 use fmp_schedules::{Section, is_act};
 use std::alloc::Global;
@@ -44,7 +44,7 @@ pub enum Never {
 pub struct NeverAt {
     pub code: Er,
     /// The call that answers the code, or in which a wait ends with it.
-    pub site: Site,
+    pub site: CallSite,
 }
 
 /// When the clock may advance.

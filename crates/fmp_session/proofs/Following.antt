@@ -15,7 +15,7 @@ use Rattle.fmp_instructions.specs.declared.instructions.MachineContext.{MachineC
 use Rattle.fmp_kernel.specs.KernelViews.{KernelView, done_or, view_after, view_after_all}
 use Rattle.fmp_replay.specs.Replays.{IsLegal, done_after, kernel_after, reaction, replay}
 use Rattle.fmp_replay.proofs.Replaying.{kernel_last, legal_last, step_of_replay}
-use Rattle.fmp_session.specs.declared.session.Taken.TheVariants as taken
+use Rattle.fmp_session.specs.declared.session.TakenEvent.TheVariants as taken
 use Rattle.fmp_session.specs.Sessions.{taken_by}
 
 abbrev pub Kernels : Type 0

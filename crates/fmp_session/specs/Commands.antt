@@ -8,8 +8,8 @@ use Rattle.fmp_steps.specs.declared.faults.StepsFault.{StepsFault}
 use Rattle.fmp_steps.specs.Steps.{behind, numeral_value, steps_of}
 use Rattle.fmp_session.specs.declared.command.Command.{Command}
 use Rattle.fmp_session.specs.declared.command.Command.TheVariants as command
-use Rattle.fmp_session.specs.declared.command.Mistake.{Mistake}
-use Rattle.fmp_session.specs.declared.command.Mistake.TheVariants as mistake
+use Rattle.fmp_session.specs.declared.command.LineMistake.{LineMistake}
+use Rattle.fmp_session.specs.declared.command.LineMistake.TheVariants as mistake
 use Rattle.fmp_session.specs.declared.interrupts.NamedInterrupt.{NamedInterrupt}
 
 -- the event, if there is one and no other
@@ -103,53 +103,53 @@ times_behind None = Some 1
 times_behind (Some text) = option_and_then count_of (behind (codes "x") text)
 
 -- `back` with how many
-abbrev pub back_by : Option ℕ → Result Command Mistake
+abbrev pub back_by : Option ℕ → Result Command LineMistake
 back_by None = Err mistake.Count
 back_by (Some n) = Ok (command.Back n)
 
 -- `tick` with how many
-abbrev pub tick_by : Option ℕ → Result Command Mistake
+abbrev pub tick_by : Option ℕ → Result Command LineMistake
 tick_by None = Err mistake.Count
 tick_by (Some n) = Ok (command.Take event.Tick n)
 
 -- an event, and how often it is taken
-abbrev pub taken : Event → Option ℕ → Result Command Mistake
+abbrev pub taken : Event → Option ℕ → Result Command LineMistake
 taken e None = Err mistake.Times
 taken e (Some n) = Ok (command.Take e n)
 
-abbrev pub run_by : Option ℕ → Option ℕ → Result Command Mistake
+abbrev pub run_by : Option ℕ → Option ℕ → Result Command LineMistake
 run_by None times = Err mistake.Processor
 run_by (Some p) times = taken (event.Run p) times
 
 -- `run` with what stands behind it: a processor, and how often it runs
-abbrev pub run_of : (processors : ℕ) → (text : List ℕ) → Result Command Mistake
+abbrev pub run_of : (processors : ℕ) → (text : List ℕ) → Result Command LineMistake
 run_of processors text = run_by (number_of processors (word_of text)) (times_behind (rest_of text))
 
-abbrev pub int_by : Option ℕ → Option ℕ → Result Command Mistake
+abbrev pub int_by : Option ℕ → Option ℕ → Result Command LineMistake
 int_by None times = Err mistake.Interrupt
 int_by (Some i) times = taken (event.Int i) times
 
 -- `int` with what stands behind it: an interrupt, and how often it is raised
-abbrev pub int_of : List NamedInterrupt → (text : List ℕ) → Result Command Mistake
+abbrev pub int_of : List NamedInterrupt → (text : List ℕ) → Result Command LineMistake
 int_of is text = int_by (interrupt_of is (word_of text)) (times_behind (rest_of text))
 
 -- a command of one word, with what stands behind it
-abbrev pub alone : Command → Option (List ℕ) → Result Command Mistake
+abbrev pub alone : Command → Option (List ℕ) → Result Command LineMistake
 alone c None = Ok c
 alone c (Some rest) = Err mistake.Alone
 
 -- a command with the name of a file, which is not empty
-abbrev pub named : Command → (argument : List ℕ) → Result Command Mistake
+abbrev pub named : Command → (argument : List ℕ) → Result Command LineMistake
 named c [] = Err mistake.Name
 named c (b ∷ bs) = Ok c
 
 -- `state` alone, or with the name of a task or an object
-abbrev pub state_of : Option (List ℕ) → Result Command Mistake
+abbrev pub state_of : Option (List ℕ) → Result Command LineMistake
 state_of None = Ok command.State
 state_of (Some name) = Ok command.StateOf
 
 -- the command by a first word and by what stands behind it, where the line is no event of a steps text
-abbrev pub by_word : (processors : ℕ) → List NamedInterrupt → (word : List ℕ) → (rest : Option (List ℕ)) → Result Command Mistake
+abbrev pub by_word : (processors : ℕ) → List NamedInterrupt → (word : List ℕ) → (rest : Option (List ℕ)) → Result Command LineMistake
 by_word processors is word rest =
     if bytes_eq word [] then alone command.Skip rest
     else if bytes_eq word (codes "run") then run_of processors (or_nothing rest)
@@ -164,11 +164,11 @@ by_word processors is word rest =
     else if bytes_eq word (codes "quit") then alone command.Quit rest
     else Err mistake.Unknown
 
-abbrev pub once_or : Option Event → Result Command Mistake → Result Command Mistake
+abbrev pub once_or : Option Event → Result Command LineMistake → Result Command LineMistake
 once_or (Some e) other = Ok (command.Take e 1)
 once_or None other = other
 
 -- the command of a line
-abbrev pub command_of : (processors : ℕ) → List NamedInterrupt → List ℕ → Result Command Mistake
+abbrev pub command_of : (processors : ℕ) → List NamedInterrupt → List ℕ → Result Command LineMistake
 command_of processors is line =
     once_or (event_of processors line) (by_word processors is (word_of line) (rest_of line))

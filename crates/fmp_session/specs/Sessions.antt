@@ -9,8 +9,8 @@ use Rattle.fmp_named.specs.Lines.{named_lines}
 use Rattle.fmp_named.specs.Records.{line_records}
 use Rattle.fmp_replay.specs.Replays.{IsLegal, kernel_after, reaction}
 use Rattle.fmp_session.specs.declared.session.Session.{Session}
-use Rattle.fmp_session.specs.declared.session.Taken.{Taken}
-use Rattle.fmp_session.specs.declared.session.Taken.TheVariants as taken
+use Rattle.fmp_session.specs.declared.session.TakenEvent.{TakenEvent}
+use Rattle.fmp_session.specs.declared.session.TakenEvent.TheVariants as taken
 
 -- each event of a session did something, and its kernel is that of the image after them
 pub record IsSession (s : Session) : Type 0 where
@@ -21,20 +21,20 @@ pub record IsSession (s : Session) : Type 0 where
   pub kernel : s.kernel ≡ kernel_after s.image.now s.bound s.events.items
 
 -- the events of a session after one more, which came to this
-abbrev pub with_event : Taken → Event → List Event → List Event
+abbrev pub with_event : TakenEvent → Event → List Event → List Event
 with_event taken.Done e es = es ++ e ∷ []
 with_event taken.Kept e es = es ++ e ∷ []
 with_event taken.Nothing e es = es
 with_event taken.Full e es = es
 
 -- what an event comes to by what it does
-abbrev pub taken_by : {C : Type 0} → Reaction C → Taken
+abbrev pub taken_by : {C : Type 0} → Reaction C → TakenEvent
 taken_by Nothing = taken.Nothing
 taken_by (Did d) = taken.Done
 taken_by (Kept p w) = taken.Kept
 
 -- what an event comes to after those of a session: it is full, or the event does this there
-abbrev pub IsTakenAs : Session → Event → Taken → Type 0
+abbrev pub IsTakenAs : Session → Event → TakenEvent → Type 0
 IsTakenAs s e taken.Full = length s.events.items ≡ 2 ^ 20
 IsTakenAs s e taken.Done = taken.Done ≡ taken_by (reaction s.image.now s.bound s.events.items e)
 IsTakenAs s e taken.Kept = taken.Kept ≡ taken_by (reaction s.image.now s.bound s.events.items e)

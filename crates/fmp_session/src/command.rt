@@ -34,7 +34,7 @@ pub enum Command {
 
 /// What is wrong with a line that is no command.
 #[derive(Clone, Copy)]
-pub enum Mistake {
+pub enum LineMistake {
     /// No command begins with its first word.
     Unknown,
     /// Behind `run` there is no number of a processor.
@@ -121,77 +121,77 @@ fn times_behind(text: &[u8]) -> Option<u32>
 }
 
 /// The command that takes back as many events as a line says, or one.
-fn back_of(line: &[u8]) -> Result<Command, Mistake>
+fn back_of(line: &[u8]) -> Result<Command, LineMistake>
     ensures { result ≡ spec.back_by (spec.count_behind (spec.rest_of line.now)) }
 {
     match count_behind(line) {
         Some(count) => Ok(Command::Back(count)),
-        None => Err(Mistake::Count),
+        None => Err(LineMistake::Count),
     }
 }
 
 /// The command of as many ticks as a line says, or of one.
-fn tick_of(line: &[u8]) -> Result<Command, Mistake>
+fn tick_of(line: &[u8]) -> Result<Command, LineMistake>
     ensures { result ≡ spec.tick_by (spec.count_behind (spec.rest_of line.now)) }
 {
     match count_behind(line) {
         Some(count) => Ok(Command::Take(Event::Tick, count)),
-        None => Err(Mistake::Count),
+        None => Err(LineMistake::Count),
     }
 }
 
 /// The command that takes an event as often as a text says behind its first word.
-fn taken(event: Event, text: &[u8]) -> Result<Command, Mistake>
+fn taken(event: Event, text: &[u8]) -> Result<Command, LineMistake>
     ensures { result ≡ spec.taken event (spec.times_behind (spec.rest_of text.now)) }
 {
     match times_behind(text) {
         Some(times) => Ok(Command::Take(event, times)),
-        None => Err(Mistake::Times),
+        None => Err(LineMistake::Times),
     }
 }
 
 /// The command of what stands behind `run`: a processor, and how often it runs.
-fn run_of(text: &[u8], processors: u8) -> Result<Command, Mistake>
+fn run_of(text: &[u8], processors: u8) -> Result<Command, LineMistake>
     ensures { result ≡ spec.run_of processors text.now }
 {
     match number_in(word_of(text), processors) {
         Some(processor) => taken(Event::Run(processor), text),
-        None => Err(Mistake::Processor),
+        None => Err(LineMistake::Processor),
     }
 }
 
 /// The command of what stands behind `int`: an interrupt, and how often it is raised.
-fn int_of(text: &[u8], interrupts: &[NamedInterrupt]) -> Result<Command, Mistake>
+fn int_of(text: &[u8], interrupts: &[NamedInterrupt]) -> Result<Command, LineMistake>
     ensures { result ≡ spec.int_of interrupts.now text.now }
 {
     match interrupt_of(interrupts, word_of(text)) {
         Some(interrupt) => taken(Event::Int(interrupt), text),
-        None => Err(Mistake::Interrupt),
+        None => Err(LineMistake::Interrupt),
     }
 }
 
 /// A command, if the line is one word.
-fn alone(command: Command, line: &[u8]) -> Result<Command, Mistake>
+fn alone(command: Command, line: &[u8]) -> Result<Command, LineMistake>
     ensures { result ≡ spec.alone command (spec.rest_of line.now) }
 {
     match rest_of(line) {
-        Some(_) => Err(Mistake::Alone),
+        Some(_) => Err(LineMistake::Alone),
         None => Ok(command),
     }
 }
 
 /// A command, if a name stands behind it.
-fn named(command: Command, argument: &[u8]) -> Result<Command, Mistake>
+fn named(command: Command, argument: &[u8]) -> Result<Command, LineMistake>
     ensures { result ≡ spec.named command argument.now }
 {
     match argument {
-        [] => Err(Mistake::Name),
+        [] => Err(LineMistake::Name),
         _ => Ok(command),
     }
 }
 
 /// The command of a line that begins with `state`.
-fn state_of(line: &[u8]) -> Result<Command, Mistake>
+fn state_of(line: &[u8]) -> Result<Command, LineMistake>
     ensures { result ≡ spec.state_of (spec.rest_of line.now) }
 {
     match rest_of(line) {
@@ -201,7 +201,11 @@ fn state_of(line: &[u8]) -> Result<Command, Mistake>
 }
 
 /// The command of a line that is no event of a steps text: its first word says which.
-fn by_word(line: &[u8], processors: u8, interrupts: &[NamedInterrupt]) -> Result<Command, Mistake>
+fn by_word(
+    line: &[u8],
+    processors: u8,
+    interrupts: &[NamedInterrupt],
+) -> Result<Command, LineMistake>
     ensures { result ≡ spec.by_word processors interrupts.now (spec.word_of line.now) (spec.rest_of line.now) }
 {
     match word_of(line) {
@@ -216,7 +220,7 @@ fn by_word(line: &[u8], processors: u8, interrupts: &[NamedInterrupt]) -> Result
         b"save" => named(Command::Save, argument_of(line)),
         b"help" => alone(Command::Help, line),
         b"quit" => alone(Command::Quit, line),
-        _ => Err(Mistake::Unknown),
+        _ => Err(LineMistake::Unknown),
     }
 }
 
@@ -234,7 +238,7 @@ pub fn command_of(
     line: &[u8],
     processors: u8,
     interrupts: &[NamedInterrupt],
-) -> Result<Command, Mistake>
+) -> Result<Command, LineMistake>
     ensures { result ≡ spec.command_of processors interrupts.now line.now }
 {
     match event_of(line, processors) {

@@ -10,7 +10,7 @@ mod session;
 mod telling;
 
 pub use answers::{answer_line, failure_line, note, object_record};
-pub use command::{Command, Mistake, argument_of, command_of, word_of};
+pub use command::{Command, LineMistake, argument_of, command_of, word_of};
 pub use interrupts::NamedInterrupt;
-pub use session::{Session, Taken};
+pub use session::{Session, TakenEvent};
 pub use telling::{append_kept, append_nothing};

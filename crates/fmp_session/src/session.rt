@@ -22,7 +22,7 @@ const MOST: u32 = 1 << 20;
 
 /// What an event came to.
 #[derive(Clone, Copy)]
-pub enum Taken {
+pub enum TakenEvent {
     /// It was done: its lines are those of the kernel.
     Done,
     /// What runs on its processor has reached the bound, and keeps its place.
@@ -94,7 +94,7 @@ impl<'a> Session<'a> {
 
     /// Takes an event, if there are fewer than 2^20. One that does nothing leaves all as it was. `AllocError` if memory
     /// runs out: then nothing has changed. The image and the bound stay.
-    pub fn take(&mut self, e: Event) -> Result<Taken, AllocError>
+    pub fn take(&mut self, e: Event) -> Result<TakenEvent, AllocError>
         requires { IsSession self.old }
         ensures session { IsSession self.new }
         ensures image { self.new.image.now ≡ self.old.image.now }
@@ -104,16 +104,16 @@ impl<'a> Session<'a> {
         ensures err { OnErr result (self.new.events.items ≡ self.old.events.items) }
     {
         if self.kernel.taken() >= MOST {
-            return Ok(Taken::Full);
+            return Ok(TakenEvent::Full);
         }
         let count = self.events.len();
         self.events.push(e)?;
         match self.kernel.step(e) {
-            Effect::Done => Ok(Taken::Done),
-            Effect::Kept => Ok(Taken::Kept),
+            Effect::Done => Ok(TakenEvent::Done),
+            Effect::Kept => Ok(TakenEvent::Kept),
             Effect::Nothing => {
                 self.events.truncate(count);
-                Ok(Taken::Nothing)
+                Ok(TakenEvent::Nothing)
             }
         }
     }

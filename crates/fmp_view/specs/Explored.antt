@@ -4,7 +4,7 @@ use Rattle.std.specs.Prelude.{bytes_eq, if◌then◌else◌}
 use Rattle.clap.specs.Words.{Row, Text, first_of}
 use Rattle.fmp_question.specs.declared.question.Ticks.{Ticks}
 use Rattle.fmp_question.specs.declared.question.Ticks.TheVariants.{Any, Idle}
-use Rattle.fmp_explore_names.specs.declared.asking.Asked.{Asked}
+use Rattle.fmp_explore_names.specs.declared.asking.ExploreWords.{ExploreWords}
 use Rattle.fmp_view.specs.declared.asking.Cmd.{Cmd}
 use Rattle.fmp_view.specs.declared.asking.Cmd.TheVariants as cmd
 use Rattle.fmp_view.specs.declared.sources.Exploring.{Exploring}
@@ -16,7 +16,7 @@ ticks_by None = Any
 ticks_by (Some word) = if bytes_eq word (codes "idle") then Idle else Any
 
 -- what the words ask of all schedules
-pub record IsAsked (rows : List Row) (a : Asked) : Type 0 where
+pub record IsAsked (rows : List Row) (a : ExploreWords) : Type 0 where
   pub nevers : map (λ word. word.now) a.nevers.now ≡ words_for rows (codes "never")
   pub alone : map (λ word. word.now) a.alone.now ≡ words_for rows (codes "alone")
   pub rest : map (λ word. word.now) a.rest.now ≡ words_for rows (codes "rest")

@@ -14,7 +14,7 @@ use fmp_files::{Failure, Outside};
 use fmp_frames::last_frame;
 use fmp_named::{append_state_records, append_states};
 use fmp_session::{
-    Command, NamedInterrupt, Session, Taken, append_kept, append_nothing, argument_of, note,
+    Command, NamedInterrupt, Session, TakenEvent, append_kept, append_nothing, argument_of, note,
 };
 use fmp_trace::print_steps;
 use std::alloc::{AllocError, Global};
@@ -128,15 +128,15 @@ fn line_of(
     alloc: Global,
     session: &Session<'_>,
     e: Event,
-    taken: Taken,
+    taken: TakenEvent,
 ) -> Result<Vec<u8>, AllocError>
     requires { IsSession session.now }
 {
     let mut line = Vec::new(alloc);
     match taken {
-        Taken::Done | Taken::Full => line.extend_from_slice(FULL)?,
-        Taken::Kept => append_kept(e, &mut line)?,
-        Taken::Nothing => {
+        TakenEvent::Done | TakenEvent::Full => line.extend_from_slice(FULL)?,
+        TakenEvent::Kept => append_kept(e, &mut line)?,
+        TakenEvent::Nothing => {
             append_nothing(session.image().system(), e, &session.next_runs(), &mut line)?;
         }
     }
@@ -149,12 +149,12 @@ fn append_taken(
     session: &Session<'_>,
     form: Form,
     e: Event,
-    taken: Taken,
+    taken: TakenEvent,
     out: &mut Vec<u8>,
 ) -> Result<(), AllocError>
     requires { IsSession session.now }
 {
-    if let Taken::Done = taken {
+    if let TakenEvent::Done = taken {
         return append_last(alloc, session, form, out);
     }
     let line = line_of(alloc, session, e, taken)?;
@@ -174,7 +174,7 @@ pub fn take_one(
 {
     let taken = session.take(e)?;
     append_taken(alloc, session, form, e, taken, out)?;
-    Ok(matches!(taken, Taken::Done | Taken::Kept))
+    Ok(matches!(taken, TakenEvent::Done | TakenEvent::Kept))
 }
 
 /// Takes an event this many times, up to the first time that it does nothing, and gives what is told of it.

@@ -10,7 +10,7 @@ use crate::opening::{events_of, image_of};
 use fmp_coming::Coming;
 use fmp_engine::SimFault;
 use fmp_image_bytes::Image;
-use fmp_watch::{Told, append_difference, count_up_to, first_difference, told_on};
+use fmp_watch::{ToldRun, append_difference, count_up_to, first_difference, told_on};
 use std::alloc::{AllocError, Global};
 
 /// What is told of a run of a system.
@@ -19,7 +19,7 @@ fn told_of<'a, O: Opened, T: Coming<O::Bodies>>(
     alloc: Global,
     opened: &'a O,
     events: &[T],
-) -> Result<Told<'a>, AllocError>
+) -> Result<ToldRun<'a>, AllocError>
     requires { length events.now ≤ 2 ^ 31 }
 {
     let mut kernel = opened.kernel(alloc)?;
@@ -61,7 +61,7 @@ fn told_up_to<'a, O: Opened, T: Coming<O::Bodies>>(
     opened: &'a O,
     events: &[T],
     number: usize,
-) -> Result<Told<'a>, AllocError>
+) -> Result<ToldRun<'a>, AllocError>
     requires { length events.now ≤ 2 ^ 31 }
 {
     let count = count_to(alloc, opened, events, number)?;
@@ -71,9 +71,9 @@ fn told_up_to<'a, O: Opened, T: Coming<O::Bodies>>(
 /// What is printed of runs that tell this and differ first in the event of a number, up to which they tell that.
 fn text_of(
     alloc: Global,
-    runs: (&Told<'_>, &Told<'_>),
+    runs: (&ToldRun<'_>, &ToldRun<'_>),
     number: usize,
-    ends: (&Told<'_>, &Told<'_>),
+    ends: (&ToldRun<'_>, &ToldRun<'_>),
 ) -> Result<Vec<u8>, AllocError> {
     let mut out = Vec::new(alloc);
     append_difference(alloc, runs, number, ends, &mut out)?;
@@ -86,7 +86,7 @@ fn text_at<O: Opened, T: Coming<O::Bodies>>(
     opened: &O,
     a: &[T],
     b: &[T],
-    runs: (&Told<'_>, &Told<'_>),
+    runs: (&ToldRun<'_>, &ToldRun<'_>),
     number: usize,
 ) -> Result<Vec<u8>, AllocError>
     requires a { length a.now ≤ 2 ^ 31 }
@@ -103,7 +103,7 @@ fn difference_between<O: Opened, T: Coming<O::Bodies>>(
     opened: &O,
     a: &[T],
     b: &[T],
-    runs: (&Told<'_>, &Told<'_>),
+    runs: (&ToldRun<'_>, &ToldRun<'_>),
 ) -> Result<Option<Vec<u8>>, AllocError>
     requires a { length a.now ≤ 2 ^ 31 }
     requires b { length b.now ≤ 2 ^ 31 }

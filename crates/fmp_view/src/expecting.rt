@@ -10,7 +10,9 @@ use crate::looking::RunLook;
 use crate::opened::Opened;
 use fmp_base::{Line, System, TaskState};
 use fmp_coming::Coming;
-use fmp_expect::{Broken, Checker, ExpectFault, Expected, Flaw, read_expectations, tell_run};
+use fmp_expect::{
+    BrokenExpectation, Checker, ExpectFault, ExpectationFlaw, Expected, read_expectations, tell_run,
+};
 use fmp_kernel::{Body, Kernel};
 use fmp_named::append_lines;
 use std::alloc::{AllocError, Global};
@@ -33,7 +35,7 @@ fn verdict_on<B: Body, T: Coming<B>>(
     kernel: &mut Kernel<B>,
     events: &[T],
     expected: &[Expected],
-) -> Result<Option<Broken>, AllocError>
+) -> Result<Option<BrokenExpectation>, AllocError>
     requires { kernel.old.taken + length events.now ≤ 2 ^ 31 }
     ensures { IfOk result (λ broken. broken ≡ spec.verdict T.reaction kernel.old events.now expected.now) }
 {
@@ -50,7 +52,7 @@ fn verdict_of<O: Opened, T: Coming<O::Bodies>>(
     opened: &O,
     events: &[T],
     expected: &[Expected],
-) -> Result<Option<Broken>, AllocError>
+) -> Result<Option<BrokenExpectation>, AllocError>
     requires { length events.now ≤ 2 ^ 31 }
 {
     let mut kernel = opened.kernel(alloc)?;
@@ -114,7 +116,7 @@ fn broken_text(
     alloc: Global,
     name: &str,
     text: &[u8],
-    broken: Broken,
+    broken: BrokenExpectation,
     event: &[u8],
 ) -> Result<Vec<u8>, AllocError> {
     let head = format!(in alloc; "{name}:{}: event {}: ", broken.line, broken.event)?;
@@ -132,7 +134,7 @@ fn report_of<O: Opened, T: Coming<O::Bodies>>(
     events: &[T],
     name: &str,
     text: &[u8],
-    broken: Broken,
+    broken: BrokenExpectation,
 ) -> Result<Vec<u8>, AllocError>
     requires { length events.now ≤ 2 ^ 31 }
 {
@@ -161,7 +163,13 @@ fn checked<O: Opened, T: Coming<O::Bodies>>(
 }
 
 /// What is said of a flaw of the line of this number of a text.
-fn flawed(alloc: Global, sys: &System, text: &[u8], number: usize, flaw: Flaw) -> ViewExit {
+fn flawed(
+    alloc: Global,
+    sys: &System,
+    text: &[u8],
+    number: usize,
+    flaw: ExpectationFlaw,
+) -> ViewExit {
     match flaw_text(alloc, sys, number, line_of(text, number), flaw) {
         Ok(text) => ViewExit::Expect(text),
         Err(error) => memory(error),

@@ -11,7 +11,7 @@ use crate::suggesting::{said_of_never, said_of_task};
 use clap::{ArgMatches, Error};
 use fmp_base::TaskConfig;
 use fmp_explore::Ticks;
-use fmp_explore_names::{Asked, Mistake, never_at_named, never_named};
+use fmp_explore_names::{CommandMistake, ExploreWords, never_at_named, never_named};
 use fmp_files::mistake_of;
 use std::alloc::{AllocError, Global};
 
@@ -43,10 +43,10 @@ fn ticks_of(words: &ArgMatches<'_>) -> Ticks
 }
 
 /// What the words ask of all schedules.
-fn asked_of<'m>(words: &'m ArgMatches<'_>) -> Asked<'m>
+fn asked_of<'m>(words: &'m ArgMatches<'_>) -> ExploreWords<'m>
     ensures { IsAsked (rows_of (found_of words.now)) result }
 {
-    Asked {
+    ExploreWords {
         nevers: words_of(words, "never"),
         alone: words_of(words, "alone"),
         rest: words_of(words, "rest"),
@@ -103,24 +103,24 @@ fn wrong_task<'m>(words: &[&'m str], tasks: &[TaskConfig]) -> &'m str {
 /// What is said of words that ask for no question about a system with these tasks.
 fn said_of_mistake(
     alloc: Global,
-    asked: &Asked<'_>,
+    asked: &ExploreWords<'_>,
     tasks: &[TaskConfig],
-    mistake: Mistake,
+    mistake: CommandMistake,
 ) -> Result<String, AllocError> {
     match mistake {
-        Mistake::Never => said_of_never(alloc, NO_NEVER, wrong_never(asked.nevers)),
-        Mistake::Alone => String::from_str(alloc, NO_SECTION),
-        Mistake::Rest => said_of_task(alloc, NO_TASK, wrong_task(asked.rest, tasks), tasks),
-        Mistake::Call => String::from_str(alloc, NO_CALL),
+        CommandMistake::Never => said_of_never(alloc, NO_NEVER, wrong_never(asked.nevers)),
+        CommandMistake::Alone => String::from_str(alloc, NO_SECTION),
+        CommandMistake::Rest => said_of_task(alloc, NO_TASK, wrong_task(asked.rest, tasks), tasks),
+        CommandMistake::Call => String::from_str(alloc, NO_CALL),
     }
 }
 
 /// The error for words that ask for no question about a system with these tasks, which has the status 2.
 pub fn no_question(
     alloc: Global,
-    asked: &Asked<'_>,
+    asked: &ExploreWords<'_>,
     tasks: &[TaskConfig],
-    mistake: Mistake,
+    mistake: CommandMistake,
 ) -> Result<Error, AllocError> {
     let why = said_of_mistake(alloc, asked, tasks, mistake)?;
     wrong_words(alloc, &why)

@@ -5,7 +5,7 @@ ghost use Rattle.fmp_view.specs.Claimed.{IsExplored, IsReportText, Tells, text_o
 use crate::covering::{say_coverage, say_extent, say_varieties};
 use crate::finding::say_finding;
 use crate::sources::Sources;
-use fmp_explore::{Finding, Question, Report, Watcher, explore};
+use fmp_explore::{Finding, Question, Report, SearchWatcher, explore};
 use fmp_explore_names::{append_ending, status_of};
 use fmp_trace::print_steps;
 use std::alloc::{AllocError, Global};
@@ -111,7 +111,7 @@ fn explored_report(
 }
 
 /// Explores the schedules of an image. `AllocError` if there is no memory to begin with, or for what is printed.
-pub fn explored_image<W: Watcher>(
+pub fn explored_image<W: SearchWatcher>(
     alloc: Global,
     sources: &Sources<'_>,
     question: &Question,

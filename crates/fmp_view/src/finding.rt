@@ -2,13 +2,13 @@
 use crate::sources::{Sources, say, say_made, say_place};
 use crate::stuck::held_up;
 use fmp_base::{Line, System};
-use fmp_explore::{Finding, FindingKind, Left, Site, Started, Together, left_by};
+use fmp_explore::{CallSite, Finding, FindingKind, Left, Started, Together, left_by};
 use fmp_explore_names::append_stuck;
 use fmp_trace::print;
 use std::alloc::{AllocError, Global};
 
 /// The line of a finding: of its call, or of the head of the body that goes on for ever.
-fn line_of(sources: &Sources<'_>, finding: &Finding, site: Site) -> Option<u32> {
+fn line_of(sources: &Sources<'_>, finding: &Finding, site: CallSite) -> Option<u32> {
     match finding.kind {
         FindingKind::Endless(_) => sources.lines.head(site.body),
         FindingKind::Line(_)
@@ -135,7 +135,7 @@ fn say_site(
     out: &mut Vec<u8>,
     sources: &Sources<'_>,
     finding: &Finding,
-    site: Option<Site>,
+    site: Option<CallSite>,
 ) -> Result<(), AllocError> {
     if let Some(site) = site {
         say_place(alloc, out, sources, line_of(sources, finding, site))?;

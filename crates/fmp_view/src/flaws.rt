@@ -1,7 +1,9 @@
 //! What is said of a flaw of a text of expectations: what is expected, what stands there, and the nearest known word.
 use fmp_base::{Name, System, TaskConfig};
 use fmp_diagnosis::nearest;
-use fmp_expect::{CODES, Expects, FAULTS, Flaw, STATES, fault_name, faulty_word, state_name};
+use fmp_expect::{
+    CODES, ExpectationFlaw, Expects, FAULTS, STATES, fault_name, faulty_word, state_name,
+};
 use std::alloc::{AllocError, Global};
 
 /// Adds a word, if it can be a name.
@@ -135,7 +137,7 @@ pub fn flaw_text(
     sys: &System,
     number: usize,
     line: &[u8],
-    flaw: Flaw,
+    flaw: ExpectationFlaw,
 ) -> Result<String, AllocError> {
     let word = faulty_word(line, flaw);
     let near = match word {

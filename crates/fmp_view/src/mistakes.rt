@@ -1,7 +1,7 @@
 //! What is said of the lines of a session that are no commands.
 use fmp_base::Name;
 use fmp_diagnosis::nearest;
-use fmp_session::{Mistake, word_of};
+use fmp_session::{LineMistake, word_of};
 use std::alloc::{AllocError, Global};
 
 /// The words that commands begin with.
@@ -44,38 +44,40 @@ fn unknown_text(alloc: Global, word: &[u8]) -> Result<String, AllocError> {
 /// What is said of a command that is known by its first word.
 fn wanted_text(
     alloc: Global,
-    mistake: Mistake,
+    mistake: LineMistake,
     word: &[u8],
     processors: u8,
 ) -> Result<String, AllocError> {
     let word = String::from_utf8_lossy(alloc, word)?;
     match mistake {
-        Mistake::Unknown | Mistake::Alone => format!(in alloc; "nothing stands behind `{word}`"),
-        Mistake::Processor => {
+        LineMistake::Unknown | LineMistake::Alone => format!(in alloc;
+            "nothing stands behind `{word}`"
+        ),
+        LineMistake::Processor => {
             format!(in alloc; "`{word}` wants the number of a processor, 1 to {processors}")
         }
-        Mistake::Interrupt => format!(in alloc;
+        LineMistake::Interrupt => format!(in alloc;
             "`{word}` wants the number of an interrupt, 1 to 32, or the body of its handler"
         ),
-        Mistake::Times => format!(in alloc;
+        LineMistake::Times => format!(in alloc;
             "`{word}` wants nothing behind its number, or how often, x1 to x1048576"
         ),
-        Mistake::Count => {
+        LineMistake::Count => {
             format!(in alloc; "`{word}` wants how many events, 1 to 1048576, or nothing")
         }
-        Mistake::Name => format!(in alloc; "`{word}` wants the name of a file"),
+        LineMistake::Name => format!(in alloc; "`{word}` wants the name of a file"),
     }
 }
 
 /// What is said of a line that is no command.
 pub fn mistake_text(
     alloc: Global,
-    mistake: Mistake,
+    mistake: LineMistake,
     line: &[u8],
     processors: u8,
 ) -> Result<String, AllocError> {
     match mistake {
-        Mistake::Unknown => unknown_text(alloc, word_of(line)),
+        LineMistake::Unknown => unknown_text(alloc, word_of(line)),
         mistake => wanted_text(alloc, mistake, word_of(line), processors),
     }
 }

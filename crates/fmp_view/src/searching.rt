@@ -11,8 +11,8 @@ use crate::faults::{FileNames, Form};
 use crate::reading::read_both;
 use crate::sources::{Exploring, Named, Sources};
 use crate::texts::print_fault;
-use fmp_explore::{Question, Watcher};
-use fmp_explore_names::{CallLines, LocalNames, Wanted, question_by, wanted_by};
+use fmp_explore::{Question, SearchWatcher};
+use fmp_explore_names::{CallLines, ExploreChoices, LocalNames, question_by, wanted_by};
 use fmp_files::{Failure, Outside, end, print, refuse_mistake, write_file};
 use fmp_image::build;
 use fmp_image_bytes::Image;
@@ -25,7 +25,7 @@ struct Telling<'o, O: Outside> {
     outside: &'o mut O,
 }
 
-impl<O: Outside> Watcher for Telling<'_, O> {
+impl<O: Outside> SearchWatcher for Telling<'_, O> {
     fn grown(&mut self, states: usize, examined: usize, depth: u32) {
         self.outside.say(format_args!(
             "{states} states, {examined} of them examined, {depth} deep\n"
@@ -169,7 +169,7 @@ fn explore_image<O: Outside>(
     image: &Image,
     src: &[u8],
     exploring: &Exploring<'_>,
-    wanted: &Wanted,
+    wanted: &ExploreChoices,
 ) -> Result<u8, AllocError>
     requires { IsWanted exploring.now.asked (Ok wanted.now) }
     ensures { IfOk result (λ status. status ≡ 0 →
@@ -194,7 +194,7 @@ fn explore_status<O: Outside>(
     image: &Image,
     src: &[u8],
     exploring: &Exploring<'_>,
-    wanted: &Wanted,
+    wanted: &ExploreChoices,
 ) -> u8
     requires { IsWanted exploring.now.asked (Ok wanted.now) }
     ensures { result ≡ 0 → HoldsOfImage image.now src.now exploring.now (O.done outside.new) }
@@ -212,7 +212,7 @@ fn explore_texts<O: Outside>(
     cfg: &[u8],
     src: &[u8],
     exploring: &Exploring<'_>,
-    wanted: &Wanted,
+    wanted: &ExploreChoices,
 ) -> u8
     requires { IsWanted exploring.now.asked (Ok wanted.now) }
     ensures { result ≡ 0 → HoldsOfTexts cfg.now src.now exploring.now (O.done outside.new) }
@@ -238,7 +238,7 @@ fn explore_files<O: Outside>(
     alloc: Global,
     outside: &mut O,
     exploring: &Exploring<'_>,
-    wanted: &Wanted,
+    wanted: &ExploreChoices,
 ) -> u8
     requires { IsWanted exploring.now.asked (Ok wanted.now) }
     ensures { result ≡ 0 → HoldsOfFiles (O.files outside.old) exploring.now (O.done outside.new) }

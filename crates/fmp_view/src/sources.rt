@@ -2,7 +2,7 @@
 ghost use Rattle.std.specs.Prelude.{◌≤◌, ◌^◌};
 
 use fmp_explore::Section;
-use fmp_explore_names::{Asked, CallLines, LocalNames};
+use fmp_explore_names::{CallLines, ExploreWords, LocalNames};
 use fmp_image_bytes::Image;
 use std::alloc::{AllocError, Global};
 
@@ -12,7 +12,7 @@ pub struct Exploring<'a> {
     pub cfg: &'a str,
     pub src: &'a str,
     /// What is asked of all schedules, in the words of the command line.
-    pub asked: Asked<'a>,
+    pub asked: ExploreWords<'a>,
     pub bound: u64,
     /// Whether the answers of each call are printed.
     pub answers: bool,

@@ -6,7 +6,7 @@ use crate::opening::fresh_kernel;
 use fmp_base::arguments::numbered;
 use fmp_base::{Call, Effect, Event, Handler, Stretch, TaskBlock};
 use fmp_code::{MachineContext, Vm};
-use fmp_explore::Site;
+use fmp_explore::CallSite;
 use fmp_image_bytes::Image;
 use fmp_kernel::{Actor, Body, Kernel};
 use std::alloc::{AllocError, Global};
@@ -21,7 +21,7 @@ const FAR: u64 = 1 << 20;
 #[derive(Clone, Copy)]
 pub struct Spun {
     pub lock: u8,
-    pub site: Site,
+    pub site: CallSite,
 }
 
 /// A task that does not go on.
@@ -36,13 +36,13 @@ pub struct HeldUp {
 fn next_call<B: Body<Ctx = MachineContext>>(
     body: &B,
     actor: &Actor<MachineContext>,
-) -> Option<(Call, Site)>
+) -> Option<(Call, CallSite)>
     requires entry { B.has_entry body.now actor.now.entry }
     requires context { B.is_context body.now actor.now.entry actor.now.context }
 {
     match body.stretch(actor.entry, FAR, actor.context) {
         Stretch::Call(context, call) => {
-            let site = Site {
+            let site = CallSite {
                 body: actor.entry,
                 pc: context.pc.saturating_sub(1),
             };

@@ -3,7 +3,7 @@ use Rattle.std.proofs.Common.{◌≡◌, ◌≤◌, ◌+◌, ℕ, suc, List, [],
 use Rattle.std.specs.Option.{option_map}
 use Rattle.std.proofs.lemmas.List.{drop-append-le, drop_at, map_push, take-append-le, take_all}
 use Rattle.std.proofs.lemmas.Option.{slice_get-map, slice_get_past}
-use Rattle.fmp_visited.specs.declared.link.Link.{Link}
+use Rattle.fmp_visited.specs.declared.link.StateLink.{StateLink}
 use Rattle.fmp_visited.specs.declared.kept.State.{State}
 use Rattle.fmp_visited.specs.Kept.{AreWithin, KeptStates, kept_states, row_in}
 
@@ -47,10 +47,10 @@ rows-append bytes row (s ∷ states) h =
     ap (λ (r : List ℕ). r ∷ map (row_in (bytes ++ row)) states) (row_in-append bytes row s (within-first bytes s states h))
     ∙ ap (λ (rs : List (List ℕ)). row_in bytes s ∷ rs) (rows-append bytes row states (within-rest bytes s states h))
 
-abbrev link_of : State → Link
+abbrev link_of : State → StateLink
 link_of s = s.link
 
-abbrev kept_of : List (List ℕ) → List Link → KeptStates
+abbrev kept_of : List (List ℕ) → List StateLink → KeptStates
 kept_of rows links = record { rows = rows; links = links }
 
 -- one more state is kept
@@ -67,5 +67,5 @@ kept-more bytes row new states more state kept view h a b e f =
     ap (λ (n : List ℕ). kept_states n more) e
     ∙ (ap (λ (m : List State). kept_states (bytes ++ row) m) f
     ∙ (ap (λ (rs : List (List ℕ)). kept_of rs (map link_of (states ++ state ∷ []))) rows
-    ∙ (ap (λ (ls : List Link). kept_of (map (row_in bytes) states ++ row ∷ []) ls) links
+    ∙ (ap (λ (ls : List StateLink). kept_of (map (row_in bytes) states ++ row ∷ []) ls) links
     ∙ ap (λ (k : KeptStates). kept_of (k.rows ++ row ∷ []) (k.links ++ state.link ∷ [])) view)))

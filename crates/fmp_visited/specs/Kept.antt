@@ -1,12 +1,12 @@
 -- The states that are kept.
 use Rattle.std.specs.Prelude.{ℕ, ◌+◌, ◌≤◌, List, length, map, take, drop, All}
-use Rattle.fmp_visited.specs.declared.link.Link.{Link}
+use Rattle.fmp_visited.specs.declared.link.StateLink.{StateLink}
 use Rattle.fmp_visited.specs.declared.kept.State.{State}
 
 -- by the place of a state: its row, and how it was reached
 pub record KeptStates : Type 0 where
   pub rows : List (List ℕ)
-  pub links : List Link
+  pub links : List StateLink
 
 -- the bytes of the row of a state
 unfoldable pub row_in : List ℕ → State → List ℕ

@@ -3,7 +3,7 @@ ghost use Rattle.std.specs.Prelude.{◌≡◌, ◌+◌, ◌≤◌, [], ◌∷◌
 ghost use Rattle.std.specs.Option.{option_map};
 ghost use Rattle.fmp_visited.specs.Kept.{row_in};
 
-use crate::link::Link;
+use crate::link::StateLink;
 use std::alloc::{AllocError, Global};
 use std::marker::Model;
 
@@ -12,17 +12,17 @@ use std::marker::Model;
 pub struct State {
     start: usize,
     length: u32,
-    link: Link,
+    link: StateLink,
 }
 
 /// The states that are kept.
 #[derive(Drop)]
-pub struct Kept {
+pub struct StateStore {
     bytes: Vec<u8>,
     states: Vec<State>,
 }
 
-impl Model for Kept {
+impl Model for StateStore {
     ghost use Rattle.fmp_visited.specs.Kept.{KeptStates, AreWithin, kept_states};
 
     ghost Value = { KeptStates };
@@ -41,12 +41,12 @@ fn row_of_state<'a>(bytes: &'a [u8], state: &State) -> &'a [u8]
     &bytes[state.start..end]
 }
 
-impl Kept {
+impl StateStore {
     /// No state.
-    pub fn new(alloc: Global) -> Kept
+    pub fn new(alloc: Global) -> StateStore
         ensures { result ≡ record { rows = []; links = [] } }
     {
-        Kept {
+        StateStore {
             bytes: Vec::new(alloc),
             states: Vec::new(alloc),
         }
@@ -61,7 +61,7 @@ impl Kept {
     }
 
     /// How a state was reached, if there is one at this place.
-    pub fn link(&self, i: usize) -> Option<Link>
+    pub fn link(&self, i: usize) -> Option<StateLink>
         ensures { result ≡ slice_get self.now.links i }
     {
         match self.states.get(i) {
@@ -81,7 +81,7 @@ impl Kept {
     }
 
     /// Keeps a state. `AllocError` if memory runs out: then the states are as before.
-    pub fn push(&mut self, row: &[u8], link: Link) -> Result<(), AllocError>
+    pub fn push(&mut self, row: &[u8], link: StateLink) -> Result<(), AllocError>
         ensures ok { OnOk result (self.new ≡ record {
           rows = self.old.rows ++ row.now ∷ [];
           links = self.old.links ++ link ∷ [];

@@ -1,6 +1,6 @@
 //! The laws, each the contract of a function that does nothing.
 ghost use Rattle.std.specs.Prelude.{◌≡◌, ◌+◌, ◌<◌, ℕ, List, [], ◌∷◌, ◌++◌, Some, length, slice_get};
-ghost use Rattle.fmp_visited.specs.declared.link.Link.{Link};
+ghost use Rattle.fmp_visited.specs.declared.link.StateLink.{StateLink};
 ghost use Rattle.fmp_visited.specs.Links.{AreLinked, IsLink, path_of};
 ghost use Rattle.fmp_visited.specs.Rows.{AreValues, row_of};
 
@@ -13,26 +13,26 @@ pub fn rows_tell_values()
 /// No link, one that may be the first, and one more behind others.
 pub fn links_are_linked()
     ensures none { AreLinked [] }
-    ensures added { (links : List Link) (link : Link) → AreLinked links → IsLink links link →
+    ensures added { (links : List StateLink) (link : StateLink) → AreLinked links → IsLink links link →
         AreLinked (links ++ link ∷ []) }
 {}
 
 /// The path to a state is that to its parent and its event.
 pub fn path_of_added()
-    ensures first { (link : Link) → link.depth ≡ 0 → path_of (link ∷ []) 0 ≡ [] }
-    ensures next { (links : List Link) (link parent : Link) → AreLinked links →
+    ensures first { (link : StateLink) → link.depth ≡ 0 → path_of (link ∷ []) 0 ≡ [] }
+    ensures next { (links : List StateLink) (link parent : StateLink) → AreLinked links →
         slice_get links link.parent ≡ Some parent → link.depth ≡ parent.depth + 1 →
         path_of (links ++ link ∷ []) (length links) ≡ path_of links link.parent ++ link.event ∷ [] }
 {}
 
 /// The path to a state stays where more states come.
 pub fn path_stays()
-    ensures { (links more : List Link) (i : ℕ) → AreLinked links → i < length links →
+    ensures { (links more : List StateLink) (i : ℕ) → AreLinked links → i < length links →
         path_of (links ++ more) i ≡ path_of links i }
 {}
 
 /// The path to a state has as many events as its depth says.
 pub fn path_has_depth()
-    ensures { (links : List Link) (i : ℕ) (link : Link) → AreLinked links → slice_get links i ≡ Some link →
+    ensures { (links : List StateLink) (i : ℕ) (link : StateLink) → AreLinked links → slice_get links i ≡ Some link →
         length (path_of links i) ≡ link.depth }
 {}

@@ -10,7 +10,7 @@ mod seen;
 mod slots;
 mod unpacking;
 
-pub use link::{Entry, Link};
+pub use link::{RowEntry, StateLink};
 pub use packing::pack;
 pub use seen::Seen;
 pub use unpacking::unpack;

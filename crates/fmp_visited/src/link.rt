@@ -3,7 +3,7 @@ use fmp_base::Event;
 
 /// How a state was reached.
 #[derive(Clone, Copy)]
-pub struct Link {
+pub struct StateLink {
     /// The place of the state before it; its own place, if it is the first one.
     pub parent: u32,
     /// The event that led to it.
@@ -16,7 +16,7 @@ pub struct Link {
 
 /// What became of a row.
 #[derive(Clone, Copy, Debug, PartialEq, Eq)]
-pub enum Entry {
+pub enum RowEntry {
     /// It is new, and is kept at this place.
     New(u32),
     /// It stands at this place already.

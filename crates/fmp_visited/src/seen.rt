@@ -18,8 +18,8 @@ ghost use Rattle.std.specs.Prelude.{
 ghost use Rattle.fmp_visited.specs.Links.{last_events, path_of};
 ghost use Rattle.fmp_visited.specs.Seen.{Adds, with_state};
 
-use crate::kept::Kept;
-use crate::link::{Entry, Link};
+use crate::kept::StateStore;
+use crate::link::{RowEntry, StateLink};
 use crate::slots::{Slot, empty_slots, enter, slot_of};
 use fmp_base::Event;
 use std::alloc::{AllocError, Global};
@@ -32,7 +32,7 @@ const SLOTS: usize = 1024;
 /// stands: what is found there is compared byte by byte.
 #[derive(Drop)]
 pub struct Seen {
-    kept: Kept,
+    kept: StateStore,
     slots: Vec<u32>,
     /// How many states may be kept.
     most: u32,
@@ -63,7 +63,7 @@ impl Seen {
         ensures { IfOk result (λ seen. seen ≡ record { rows = []; links = []; most = most }) }
     {
         Ok(Seen {
-            kept: Kept::new(alloc),
+            kept: StateStore::new(alloc),
             slots: empty_slots(alloc, SLOTS)?,
             most,
         })
@@ -86,14 +86,14 @@ impl Seen {
     }
 
     /// How a state was reached, if there is one at this place.
-    pub fn link(&self, i: u32) -> Option<Link>
+    pub fn link(&self, i: u32) -> Option<StateLink>
         ensures { result ≡ slice_get self.now.links i }
     {
         self.kept.link(i as usize)
     }
 
     /// How the state was reached that was kept last, if there is one.
-    pub fn last(&self) -> Option<Link>
+    pub fn last(&self) -> Option<StateLink>
         ensures { result ≡ slice_get self.now.links (length self.now.links - 1) }
     {
         self.kept.link(self.kept.len().saturating_sub(1))
@@ -125,7 +125,7 @@ impl Seen {
     }
 
     /// Keeps a state of a row that is new, and whose slot is this one.
-    fn keep(&mut self, slot: usize, row: &[u8], link: Link) -> Result<u32, AllocError>
+    fn keep(&mut self, slot: usize, row: &[u8], link: StateLink) -> Result<u32, AllocError>
         requires { length self.old.links < self.old.most }
         ensures ok { IfOk result (λ i. (i ≡ length self.old.links) × (self.new ≡ with_state self.old row.now link)) }
         ensures err { OnErr result (self.new ≡ self.old) }
@@ -140,20 +140,25 @@ impl Seen {
 
     /// The place of the state with this row. A new one is kept, with how it was reached, if one more may be.
     /// `AllocError` if memory runs out: then the states are as before.
-    pub fn add(&mut self, alloc: Global, row: &[u8], link: Link) -> Result<Entry, AllocError>
+    pub fn add(
+        &mut self,
+        alloc: Global,
+        row: &[u8],
+        link: StateLink,
+    ) -> Result<RowEntry, AllocError>
         ensures ok { IfOk result (Adds self.old self.new row.now link) }
         ensures err { OnErr result (self.new ≡ self.old) }
     {
         self.make_room(alloc)?;
         match slot_of(&self.slots, &self.kept, row) {
             None => Err(AllocError),
-            Some(Slot::Taken(state)) => Ok(Entry::Known(state)),
+            Some(Slot::Taken(state)) => Ok(RowEntry::Known(state)),
             Some(Slot::Free(slot)) => {
                 if self.kept.len() >= self.most as usize {
-                    return Ok(Entry::Full);
+                    return Ok(RowEntry::Full);
                 }
                 let i = self.keep(slot, row, link)?;
-                Ok(Entry::New(i))
+                Ok(RowEntry::New(i))
             }
         }
     }

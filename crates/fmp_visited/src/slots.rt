@@ -2,7 +2,7 @@
 ghost use Rattle.std.specs.Prelude.{◌≡◌, ◌+◌, ◌<◌, ◌≤◌, ◌↔◌, Some, IsTrue, IfSome, length, slice_get};
 ghost use Rattle.fmp_visited.specs.Slots.{IsSlotFor};
 
-use crate::kept::Kept;
+use crate::kept::StateStore;
 use std::alloc::{AllocError, Global};
 
 /// The number in a slot with no state.
@@ -61,7 +61,7 @@ pub fn empty_slots(alloc: Global, count: usize) -> Result<Vec<u32>, AllocError> 
 }
 
 /// Whether the row of the state at a place is this one.
-fn has_row(kept: &Kept, state: u32, row: &[u8]) -> bool
+fn has_row(kept: &StateStore, state: u32, row: &[u8]) -> bool
     ensures { IsTrue result ↔ (slice_get kept.now.rows state ≡ Some row.now) }
 {
     match kept.row(state as usize) {
@@ -71,7 +71,7 @@ fn has_row(kept: &Kept, state: u32, row: &[u8]) -> bool
 }
 
 /// The slot of this row: the one that has its state, or else the empty one where it comes. None if there is neither.
-pub fn slot_of(slots: &[u32], kept: &Kept, row: &[u8]) -> Option<Slot>
+pub fn slot_of(slots: &[u32], kept: &StateStore, row: &[u8]) -> Option<Slot>
     ensures { IfSome result (IsSlotFor (length slots.now) kept.now.rows row.now) }
 {
     let last = slots.len().checked_sub(1)?;
@@ -90,7 +90,7 @@ pub fn slot_of(slots: &[u32], kept: &Kept, row: &[u8]) -> Option<Slot>
 }
 
 /// Puts a state into the slot of its row.
-pub fn enter(slots: &mut [u32], kept: &Kept, state: u32) {
+pub fn enter(slots: &mut [u32], kept: &StateStore, state: u32) {
     if let Some(row) = kept.row(state as usize)
         && let Some(Slot::Free(slot)) = slot_of(slots, kept, row)
     {

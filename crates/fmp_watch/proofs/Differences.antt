@@ -4,7 +4,7 @@ use Rattle.std.specs.Prelude.{slice_get}
 use Rattle.std.proofs.lemmas.Bool.{cases_lt}
 use Rattle.std.proofs.lemmas.Option.{slice_get_past}
 use Rattle.std.specs.Prelude.{codes}
-use Rattle.fmp_watch.specs.declared.comparing.Told.{Told}
+use Rattle.fmp_watch.specs.declared.comparing.ToldRun.{ToldRun}
 use Rattle.fmp_watch.specs.Compares.{beside, event_shown, events_shown, state_line, states_beside}
 
 -- what is so of all places below one, and of that one
@@ -40,11 +40,11 @@ one-less : (n i : ℕ) → i < n → n - i ≡ suc (n - (i + 1))
 one-less n i lt = omega (arith, lt)
 
 -- one event more
-pub events-more : (x : Told) (n i : ℕ) → i < n
+pub events-more : (x : ToldRun) (n i : ℕ) → i < n
     → events_shown x i (n - i) ≡ event_shown (codes "  ") x i ++ events_shown x (i + 1) (n - (i + 1))
 events-more x n i lt = ap (λ (k : ℕ). events_shown x i k) (one-less n i lt)
 
 -- one task more
-pub beside-more : (a b : Told) (n t : ℕ) → t < n
+pub beside-more : (a b : ToldRun) (n t : ℕ) → t < n
     → states_beside a b t (n - t) ≡ beside (state_line a t) (state_line b t) ++ states_beside a b (t + 1) (n - (t + 1))
 beside-more a b n t lt = ap (λ (k : ℕ). states_beside a b t k) (one-less n t lt)

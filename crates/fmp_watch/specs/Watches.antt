@@ -4,10 +4,10 @@ use Rattle.fmp_base.specs.Steps.{Reaction}
 use Rattle.fmp_coming.specs.Comings.{view_after_each}
 use Rattle.fmp_frames.specs.Frames.{FrameTable}
 use Rattle.fmp_kernel.specs.KernelViews.{KernelView}
-use Rattle.fmp_watch.specs.declared.watching.Watcher.{Watcher}
+use Rattle.fmp_watch.specs.declared.watching.RunWatcher.{RunWatcher}
 
 -- the tasks, the processors and what they spin for are seen as a frame has them
-pub record IsSeen (x : Watcher) (f : FrameTable) : Type 0 where
+pub record IsSeen (x : RunWatcher) (f : FrameTable) : Type 0 where
   pub blocks : x.blocks.items ≡ f.blocks
   pub processors : x.processors.items ≡ f.processors
   pub spins : x.spins.items ≡ f.spins

@@ -18,7 +18,7 @@ const BEFORE: usize = 5;
 
 /// A run as it is told, event by event.
 #[derive(Drop)]
-pub struct Told<'a> {
+pub struct ToldRun<'a> {
     sys: &'a System,
     /// The lines of setup and of each event, in order of their numbers.
     texts: Vec<Vec<u8>>,
@@ -40,14 +40,14 @@ fn text_of(
     Ok(text)
 }
 
-impl<'a> Told<'a> {
+impl<'a> ToldRun<'a> {
     /// A system after setup. `AllocError` if memory runs out.
-    fn new(alloc: Global, sys: &'a System, setup: &Frame) -> Result<Told<'a>, AllocError>
+    fn new(alloc: Global, sys: &'a System, setup: &Frame) -> Result<ToldRun<'a>, AllocError>
         ensures { IfOk result (λ made. AreStates made (table_of setup.now)) }
     {
         let mut texts = Vec::new(alloc);
         texts.push(text_of(alloc, sys, 0, setup)?)?;
-        Ok(Told {
+        Ok(ToldRun {
             sys,
             texts,
             states: Vec::from_slice(alloc, &setup.states)?,
@@ -56,7 +56,7 @@ impl<'a> Told<'a> {
     }
 }
 
-impl Viewer for Told<'_> {
+impl Viewer for ToldRun<'_> {
     ghost shown = { λ x f y. AreStates y f };
 
     /// One event more: the states are those of the frame.
@@ -81,21 +81,21 @@ pub fn told_on<'a, B: Body, T: Coming<B>>(
     body: &B,
     n: u64,
     events: &[T],
-) -> Result<Told<'a>, AllocError>
+) -> Result<ToldRun<'a>, AllocError>
     requires few { kernel.old.taken + length events.now ≤ 2 ^ 31 }
     requires body { body.now ≡ kernel.old.body }
     requires bound { n ≡ kernel.old.bound }
     ensures { IfOk result (λ told. WasShown (λ x f. AreStates x f)
-        ⟦<Told<'a> as Viewer>⟧.shown B.meaning T.reaction kernel.old events.now told) }
+        ⟦<ToldRun<'a> as Viewer>⟧.shown B.meaning T.reaction kernel.old events.now told) }
 {
     let setup = last_frame(alloc, kernel, body, n)?;
-    let mut told = Told::new(alloc, sys, &setup)?;
+    let mut told = ToldRun::new(alloc, sys, &setup)?;
     show_all(alloc, kernel, body, n, events, &mut told)?;
     Ok(told)
 }
 
 /// The text of the event of a number; none if there is no such event.
-fn event_text<'b>(told: &'b Told<'_>, number: usize) -> Option<&'b [u8]>
+fn event_text<'b>(told: &'b ToldRun<'_>, number: usize) -> Option<&'b [u8]>
     ensures { option_map (λ text. text.now) result ≡ slice_get (events_of told.now) number }
 {
     match told.texts.get(number) {
@@ -105,7 +105,7 @@ fn event_text<'b>(told: &'b Told<'_>, number: usize) -> Option<&'b [u8]>
 }
 
 /// Whether two runs tell the same of the event of a number.
-fn is_same(a: &Told<'_>, b: &Told<'_>, number: usize) -> bool
+fn is_same(a: &ToldRun<'_>, b: &ToldRun<'_>, number: usize) -> bool
     ensures { Decides result (slice_get (events_of a.now) number ≡ slice_get (events_of b.now) number) }
 {
     match (event_text(a, number), event_text(b, number)) {
@@ -117,7 +117,7 @@ fn is_same(a: &Told<'_>, b: &Told<'_>, number: usize) -> bool
 
 /// The number of the first event that two runs tell otherwise, setup being number 0; none where both tell the same
 /// events.
-pub fn first_difference(a: &Told<'_>, b: &Told<'_>) -> Option<usize>
+pub fn first_difference(a: &ToldRun<'_>, b: &ToldRun<'_>) -> Option<usize>
     ensures { IsFirstDifference (events_of a.now) (events_of b.now) result }
 {
     for number in 0..a.texts.len().max(b.texts.len()) {
@@ -147,7 +147,7 @@ fn append_marked(mark: &[u8], lines: &[u8], out: &mut Vec<u8>) -> Result<(), All
 /// Appends the text of the event of a number behind a mark, or that there is none.
 fn append_event(
     mark: &[u8],
-    told: &Told<'_>,
+    told: &ToldRun<'_>,
     number: usize,
     out: &mut Vec<u8>,
 ) -> Result<(), AllocError>
@@ -160,7 +160,7 @@ fn append_event(
 }
 
 /// The line of the state of the task at a place.
-fn state_line(alloc: Global, told: &Told<'_>, task: usize) -> Result<Vec<u8>, AllocError>
+fn state_line(alloc: Global, told: &ToldRun<'_>, task: usize) -> Result<Vec<u8>, AllocError>
     ensures { IfOk result (λ line. line.items ≡ spec.state_line told.now task) }
 {
     let mut line = Vec::new(alloc);
@@ -185,8 +185,8 @@ fn append_beside(one: &[u8], other: &[u8], out: &mut Vec<u8>) -> Result<(), Allo
 /// Appends the states of the task at a place at the ends of two runs, if they are not the same.
 fn append_task_beside(
     alloc: Global,
-    a: &Told<'_>,
-    b: &Told<'_>,
+    a: &ToldRun<'_>,
+    b: &ToldRun<'_>,
     task: usize,
     out: &mut Vec<u8>,
 ) -> Result<(), AllocError>
@@ -199,7 +199,7 @@ fn append_task_beside(
 }
 
 /// How many tasks have states at the end of one of two runs.
-fn task_count(a: &Told<'_>, b: &Told<'_>) -> usize
+fn task_count(a: &ToldRun<'_>, b: &ToldRun<'_>) -> usize
     ensures { result ≡ spec.task_count a.now b.now }
 {
     a.states.len().max(b.states.len())
@@ -208,8 +208,8 @@ fn task_count(a: &Told<'_>, b: &Told<'_>) -> usize
 /// Appends the states of so many tasks that are not the same at the ends of two runs.
 fn append_states_beside(
     alloc: Global,
-    a: &Told<'_>,
-    b: &Told<'_>,
+    a: &ToldRun<'_>,
+    b: &ToldRun<'_>,
     count: usize,
     out: &mut Vec<u8>,
 ) -> Result<(), AllocError>
@@ -222,7 +222,7 @@ fn append_states_beside(
 }
 
 /// Appends the events of a run in front of the one of this number.
-fn append_before(told: &Told<'_>, number: usize, out: &mut Vec<u8>) -> Result<(), AllocError>
+fn append_before(told: &ToldRun<'_>, number: usize, out: &mut Vec<u8>) -> Result<(), AllocError>
     ensures { OnOk result (out.new.items
         ≡ out.old.items ++ spec.events_shown told.now (number - 5) (number - (number - 5))) }
 {
@@ -234,8 +234,8 @@ fn append_before(told: &Told<'_>, number: usize, out: &mut Vec<u8>) -> Result<()
 
 /// Appends the event of a number in which two runs differ, behind those in front of it.
 fn append_events(
-    a: &Told<'_>,
-    b: &Told<'_>,
+    a: &ToldRun<'_>,
+    b: &ToldRun<'_>,
     number: usize,
     out: &mut Vec<u8>,
 ) -> Result<(), AllocError>
@@ -250,9 +250,9 @@ fn append_events(
 /// that differ then: these are the same runs up to that event. `AllocError` if memory runs out.
 pub fn append_difference(
     alloc: Global,
-    runs: (&Told<'_>, &Told<'_>),
+    runs: (&ToldRun<'_>, &ToldRun<'_>),
     number: usize,
-    ends: (&Told<'_>, &Told<'_>),
+    ends: (&ToldRun<'_>, &ToldRun<'_>),
     out: &mut Vec<u8>,
 ) -> Result<(), AllocError>
     ensures { OnOk result (out.new.items ≡ out.old.items

@@ -6,6 +6,6 @@ mod comparing;
 mod turns;
 mod watching;
 
-pub use comparing::{Told, append_difference, first_difference, told_on};
+pub use comparing::{ToldRun, append_difference, first_difference, told_on};
 pub use turns::{IdleTurn, idle_turns};
-pub use watching::{Watcher, count_up_to, watched, why};
+pub use watching::{RunWatcher, count_up_to, watched, why};

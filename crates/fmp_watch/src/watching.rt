@@ -14,7 +14,7 @@ use std::alloc::{AllocError, Global};
 
 /// What was seen of a run: what its lines told, and the tasks and the processors after its last event.
 #[derive(Drop)]
-pub struct Watcher {
+pub struct RunWatcher {
     history: History,
     /// The number of the last event.
     number: u32,
@@ -26,14 +26,14 @@ pub struct Watcher {
     pub spins: Vec<Option<Spin>>,
 }
 
-impl Watcher {
+impl RunWatcher {
     /// What is seen of a system after setup. `AllocError` if memory runs out.
-    fn new(alloc: Global, sys: &System, setup: &Frame) -> Result<Watcher, AllocError>
+    fn new(alloc: Global, sys: &System, setup: &Frame) -> Result<RunWatcher, AllocError>
         ensures { IfOk result (λ made. IsSeen made (table_of setup.now)) }
     {
         let mut history = History::new(alloc, sys)?;
         history.note(&setup.lines, 0);
-        Ok(Watcher {
+        Ok(RunWatcher {
             history,
             number: 0,
             blocks: Vec::from_slice(alloc, &setup.blocks)?,
@@ -43,7 +43,7 @@ impl Watcher {
     }
 }
 
-impl Viewer for Watcher {
+impl Viewer for RunWatcher {
     ghost shown = { λ x f y. IsSeen y f };
 
     /// One event more: the tasks, the processors and what is spun for are those of the frame.
@@ -69,17 +69,17 @@ pub fn watched<B: Body, T: Coming<B>>(
     body: &B,
     n: u64,
     events: &[T],
-) -> Result<Watcher, AllocError>
+) -> Result<RunWatcher, AllocError>
     requires few { kernel.old.taken + length events.now ≤ 2 ^ 31 }
     requires body { body.now ≡ kernel.old.body }
     requires bound { n ≡ kernel.old.bound }
     ensures shown { IfOk result (λ watcher. WasShown (λ x f. IsSeen x f)
-        ⟦<Watcher as Viewer>⟧.shown B.meaning T.reaction kernel.old events.now watcher) }
+        ⟦<RunWatcher as Viewer>⟧.shown B.meaning T.reaction kernel.old events.now watcher) }
     ensures body { OnOk result (kernel.new.body ≡ kernel.old.body) }
     ensures bound { OnOk result (kernel.new.bound ≡ kernel.old.bound) }
 {
     let setup = last_frame(alloc, kernel, body, n)?;
-    let mut watcher = Watcher::new(alloc, sys, &setup)?;
+    let mut watcher = RunWatcher::new(alloc, sys, &setup)?;
     show_all(alloc, kernel, body, n, events, &mut watcher)?;
     Ok(watcher)
 }
@@ -101,7 +101,7 @@ fn over_bound(
 fn report_of(
     alloc: Global,
     sys: &System,
-    watcher: &Watcher,
+    watcher: &RunWatcher,
     next: &[NextRun; 8],
 ) -> Result<Vec<u8>, AllocError> {
     let over = over_bound(alloc, next, watcher.processors.len())?;

@@ -2,13 +2,13 @@
 use fmp_base::{Caller, Er, Handler, Line};
 use fmp_code::{Code, Instruction};
 use fmp_fields::low_byte;
-use fmp_question::{ANSWERS, Site};
+use fmp_question::{ANSWERS, CallSite};
 use fmp_tasks::KernelState;
 use std::alloc::{AllocError, Global};
 
 /// What was ever done with the calls of bodies, by the place of the body and of the instruction in it.
 #[derive(Drop)]
-struct Calls {
+struct CallCoverage {
     /// Whether the call was made.
     made: Vec<Vec<bool>>,
     /// A bit for each code that it got.
@@ -17,7 +17,7 @@ struct Calls {
 
 /// Who ever ran.
 #[derive(Drop)]
-pub struct Runs {
+pub struct RunCoverage {
     /// Whether each task ran.
     pub tasks: Vec<bool>,
     /// Whether the handler of each interrupt, from number 1 to 32, ran.
@@ -40,8 +40,8 @@ pub struct Peaks {
 /// What was ever done in the states that were examined.
 #[derive(Drop)]
 pub struct Coverage {
-    calls: Calls,
-    pub runs: Runs,
+    calls: CallCoverage,
+    pub runs: RunCoverage,
     pub peaks: Peaks,
 }
 
@@ -98,16 +98,16 @@ fn code_in(line: &Line) -> Option<Er> {
     }
 }
 
-impl Calls {
+impl CallCoverage {
     /// No call was made.
-    fn new(alloc: Global, code: &Code) -> Result<Calls, AllocError> {
+    fn new(alloc: Global, code: &Code) -> Result<CallCoverage, AllocError> {
         let made = unmade(alloc, code)?;
         let answers = unanswered(alloc, code)?;
-        Ok(Calls { made, answers })
+        Ok(CallCoverage { made, answers })
     }
 
     /// A call was made here.
-    fn note(&mut self, site: Site) {
+    fn note(&mut self, site: CallSite) {
         if let Some(body) = self.made.get_mut(usize::from(site.body))
             && let Some(made) = body.get_mut(usize::from(site.pc))
         {
@@ -116,7 +116,7 @@ impl Calls {
     }
 
     /// The call here got this answer.
-    fn note_answer(&mut self, site: Site, code: Er) {
+    fn note_answer(&mut self, site: CallSite, code: Er) {
         if let Some(body) = self.answers.get_mut(usize::from(site.body))
             && let Some(answers) = body.get_mut(usize::from(site.pc))
         {
@@ -125,13 +125,13 @@ impl Calls {
     }
 }
 
-impl Runs {
+impl RunCoverage {
     /// Nobody ran.
-    fn new(alloc: Global, tables: &KernelState) -> Result<Runs, AllocError> {
+    fn new(alloc: Global, tables: &KernelState) -> Result<RunCoverage, AllocError> {
         let tasks = vec![in alloc; false; tables.task_count()]?;
         let interrupts = vec![in alloc; false; 32]?;
         let cyclics = vec![in alloc; false; tables.cyclic_count()]?;
-        Ok(Runs {
+        Ok(RunCoverage {
             tasks,
             interrupts,
             cyclics,
@@ -200,11 +200,11 @@ impl Coverage {
     /// Nothing was done in no system.
     pub fn nothing(alloc: Global) -> Coverage {
         Coverage {
-            calls: Calls {
+            calls: CallCoverage {
                 made: Vec::new(alloc),
                 answers: Vec::new(alloc),
             },
-            runs: Runs {
+            runs: RunCoverage {
                 tasks: Vec::new(alloc),
                 interrupts: Vec::new(alloc),
                 cyclics: Vec::new(alloc),
@@ -219,19 +219,19 @@ impl Coverage {
 
     /// Nothing was done yet in a system of these tables and this code. `AllocError` if memory runs out.
     pub fn new(alloc: Global, tables: &KernelState, code: &Code) -> Result<Coverage, AllocError> {
-        let calls = Calls::new(alloc, code)?;
-        let runs = Runs::new(alloc, tables)?;
+        let calls = CallCoverage::new(alloc, code)?;
+        let runs = RunCoverage::new(alloc, tables)?;
         let peaks = Peaks::new(alloc, tables)?;
         Ok(Coverage { calls, runs, peaks })
     }
 
     /// A call was made here.
-    pub fn note_call(&mut self, site: Site) {
+    pub fn note_call(&mut self, site: CallSite) {
         self.calls.note(site);
     }
 
     /// What a line tells, which belongs to this call, if it belongs to one.
-    pub fn note_line(&mut self, line: &Line, site: Option<Site>) {
+    pub fn note_line(&mut self, line: &Line, site: Option<CallSite>) {
         if let Some(code) = code_in(line)
             && let Some(site) = site
         {
@@ -253,7 +253,7 @@ impl Coverage {
     }
 
     /// The answers that the call at a place ever got, in a fixed order. `AllocError` if memory runs out.
-    pub fn answers(&self, alloc: Global, site: Site) -> Result<Vec<Er>, AllocError> {
+    pub fn answers(&self, alloc: Global, site: CallSite) -> Result<Vec<Er>, AllocError> {
         let bits = match self.calls.answers.get(usize::from(site.body)) {
             Some(body) => body.get(usize::from(site.pc)).copied().unwrap_or(0),
             None => 0,
@@ -268,7 +268,7 @@ impl Coverage {
     }
 
     /// Whether the call at a place was made.
-    pub fn was_made(&self, site: Site) -> bool {
+    pub fn was_made(&self, site: CallSite) -> bool {
         match self.calls.made.get(usize::from(site.body)) {
             Some(body) => body.get(usize::from(site.pc)) == Some(&true),
             None => false,
@@ -276,11 +276,11 @@ impl Coverage {
     }
 
     /// The calls of the code that were made, or those that were not, in order of body and place.
-    fn calls(&self, alloc: Global, code: &Code, made: bool) -> Result<Vec<Site>, AllocError> {
+    fn calls(&self, alloc: Global, code: &Code, made: bool) -> Result<Vec<CallSite>, AllocError> {
         let mut sites = Vec::new(alloc);
         for (body, text) in code.bodies.iter().enumerate() {
             for (pc, instruction) in text.instructions.iter().enumerate() {
-                let site = Site {
+                let site = CallSite {
                     body: low_byte(body),
                     pc: (pc % 65536) as u16,
                 };
@@ -294,12 +294,12 @@ impl Coverage {
     }
 
     /// The calls of the code that were made, in order of body and place. `AllocError` if memory runs out.
-    pub fn made(&self, alloc: Global, code: &Code) -> Result<Vec<Site>, AllocError> {
+    pub fn made(&self, alloc: Global, code: &Code) -> Result<Vec<CallSite>, AllocError> {
         self.calls(alloc, code, true)
     }
 
     /// The calls of the code that were never made, in order of body and place. `AllocError` if memory runs out.
-    pub fn never_made(&self, alloc: Global, code: &Code) -> Result<Vec<Site>, AllocError> {
+    pub fn never_made(&self, alloc: Global, code: &Code) -> Result<Vec<CallSite>, AllocError> {
         self.calls(alloc, code, false)
     }
 }

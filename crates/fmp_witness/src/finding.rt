@@ -16,7 +16,7 @@ use fmp_base::{Event, Line, System};
 use fmp_code::Vm;
 use fmp_image_bytes::Image;
 use fmp_kernel::Kernel;
-use fmp_question::{Question, Site, is_bad, is_deadlock, is_endless};
+use fmp_question::{CallSite, Question, is_bad, is_deadlock, is_endless};
 use fmp_replay::kernel_of;
 use fmp_schedules::{Meeting, Section};
 use std::alloc::{AllocError, Global};
@@ -53,7 +53,7 @@ pub struct Finding {
     pub steps: Vec<Event>,
     pub kind: FindingKind,
     /// The call to which it belongs, if it belongs to one.
-    pub site: Option<Site>,
+    pub site: Option<CallSite>,
 }
 
 /// Whether the line at a place is forbidden, of those that a kernel has just told.

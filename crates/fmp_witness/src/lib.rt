@@ -10,7 +10,7 @@ mod replaying;
 mod started;
 
 pub use checkpoints::Checkpoints;
-pub use coverage::{Coverage, Peaks, Runs};
+pub use coverage::{Coverage, Peaks, RunCoverage};
 pub use finding::{Finding, FindingKind, Left, Together, is_so, left_by};
 pub use replaying::follow;
 pub use started::Started;

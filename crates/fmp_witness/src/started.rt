@@ -3,14 +3,14 @@ use fmp_base::{Phase, System};
 use fmp_code::MachineContext;
 use fmp_fields::low_byte;
 use fmp_kernel::{Body, Kernel};
-use fmp_question::{Site, body_of, last_call};
+use fmp_question::{CallSite, body_of, last_call};
 use std::alloc::{AllocError, Global};
 
 /// A task that is started, and the call in which it waits, if it does.
 #[derive(Clone, Copy, Debug, PartialEq, Eq)]
 pub struct Started {
     pub task: u8,
-    pub waits: Option<Site>,
+    pub waits: Option<CallSite>,
 }
 
 /// Where a task stands, if there is one and it is started.
@@ -28,7 +28,7 @@ fn started_at<B: Body<Ctx = MachineContext>>(
         Phase::Ready => Some(Started { task, waits: None }),
         Phase::Waiting(_) => {
             let pc = last_call(kernel.held(task));
-            let waits = Some(Site { body, pc });
+            let waits = Some(CallSite { body, pc });
             Some(Started { task, waits })
         }
     }

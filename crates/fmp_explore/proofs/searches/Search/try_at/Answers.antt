@@ -1,7 +1,7 @@
 use Rattle.std.proofs.Common.{◌≡◌, List, Some, refl, slice_get, subst, sym}
 use Rattle.std.proofs.lemmas.Option.{slice_get_read}
 use Rattle.fmp_base.specs.declared.events.Event.{Event}
-use Rattle.fmp_explore.specs.declared.trying.Marks.{Marks}
+use Rattle.fmp_explore.specs.declared.trying.StateMarks.{StateMarks}
 use Rattle.fmp_explore.specs.Searching.{AreMarks}
 use Rattle.fmp_explore.proofs.MarkLemmas.{marks_more}
 use Rattle.fmp_explore.proofs.SearchStepLemmas.{same_grows}
@@ -57,7 +57,7 @@ returns-clause-trying c =
     let more =
     marks_more s.image.now s.n s.question.now c.args.steps.now c.args.marks.now e c.keeps_rules.ensures t.marks
     (c.in_ok-attempt.ensures.does c.if-not-branch.false) (c.may_try.ensures.request c.if-not-may_try.false) in
-    let marks = subst (λ (m : Marks). AreMarks s.image.now s.n s.question.now c.args.steps.now m)
+    let marks = subst (λ (m : StateMarks). AreMarks s.image.now s.n s.question.now c.args.steps.now m)
     (sym c.note.ensures) more in
     tried_stays s.image.now s.n s.question.now c.args.state c.args.steps.now c.attempt.new.self _ c.note.new.self _
     (record { tries = refl; rows = refl; seen = refl; sure = λ e. e })

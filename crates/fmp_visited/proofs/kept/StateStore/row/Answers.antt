@@ -3,7 +3,7 @@ use Rattle.std.proofs.lemmas.Option.{slice_get_read}
 use Rattle.fmp_visited.specs.declared.kept.State.{State}
 use Rattle.fmp_visited.specs.Kept.{row_in}
 use Rattle.fmp_visited.proofs.KeptLemmas.{row-found, row-none}
-use Rattle.fmp_visited.proofs.kept.Kept.row.Goals as goal
+use Rattle.fmp_visited.proofs.kept.StateStore.row.Goals as goal
 
 pub returns-in-Some : goal.returns-in-Some
 returns-in-Some c =

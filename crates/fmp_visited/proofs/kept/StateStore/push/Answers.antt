@@ -1,6 +1,6 @@
 use Rattle.std.proofs.Common.{rules}
 use Rattle.fmp_visited.proofs.KeptLemmas.{kept-more}
-use Rattle.fmp_visited.proofs.kept.Kept.push.Goals as goal
+use Rattle.fmp_visited.proofs.kept.StateStore.push.Goals as goal
 
 pub returns-clause-ok : goal.returns-clause-ok
 returns-clause-ok c =
