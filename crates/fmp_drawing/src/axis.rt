@@ -3,8 +3,8 @@ use crate::scene::Scene;
 use crate::shapes::{put_box, put_text};
 use crate::times::axis_area;
 use crate::titles::put_area;
-use fmp_timeline::Piece::{At, Label, Number, Numbered, Raw};
-use fmp_timeline::{Canvas, Note, Run, Span, Tenths, number_width, px};
+use fmp_timeline::CanvasPiece::{At, Label, Number, Numbered, Raw};
+use fmp_timeline::{Canvas, Note, PanelSpan, Run, Tenths, number_width, px};
 
 /// The size of numbers on the axis.
 const SMALL: Tenths = Tenths(90);
@@ -20,7 +20,7 @@ fn step_of(column: u32) -> u32 {
 }
 
 /// The words at the left of the axis.
-fn put_words(scene: &Scene<'_>, span: &Span, top: Tenths, out: &mut Canvas) {
+fn put_words(scene: &Scene<'_>, span: &PanelSpan, top: Tenths, out: &mut Canvas) {
     let x = At(scene.page.left() - px(8));
     let (upper, lower) = (At(top + px(10)), At(top + px(26)));
     out.put(
@@ -51,12 +51,12 @@ fn put_upright(x: Tenths, (top, bottom): (Tenths, Tenths), out: &mut Canvas) {
 }
 
 /// Whether an event has a grid line.
-fn is_on_grid(span: &Span, event: u32) -> bool {
+fn is_on_grid(span: &PanelSpan, event: u32) -> bool {
     event.checked_rem(step_of(span.page.column)) == Some(0)
 }
 
 /// The numbers of events, and the grid below them.
-fn put_grid(span: &Span, (top, bottom): (Tenths, Tenths), out: &mut Canvas) {
+fn put_grid(span: &PanelSpan, (top, bottom): (Tenths, Tenths), out: &mut Canvas) {
     for event in span.first..=span.last {
         if is_on_grid(span, event) {
             let place = (span.x(event), top + px(26));
@@ -81,7 +81,7 @@ fn is_tick(scene: &Scene<'_>, event: u32) -> bool {
 }
 
 /// The lines of the ticks, through all lanes.
-fn put_ticks(scene: &Scene<'_>, span: &Span, ends: (Tenths, Tenths), out: &mut Canvas) {
+fn put_ticks(scene: &Scene<'_>, span: &PanelSpan, ends: (Tenths, Tenths), out: &mut Canvas) {
     let mut open = false;
     for event in span.first..=span.last {
         if is_tick(scene, event) {
@@ -132,7 +132,7 @@ fn note_before<'a>(run: &'a Run, event: u32) -> Option<&'a Note> {
 }
 
 /// The clock that a later panel begins with, in the lead: where it ends.
-fn put_first_clock(scene: &Scene<'_>, span: &Span, top: Tenths, out: &mut Canvas) -> Tenths {
+fn put_first_clock(scene: &Scene<'_>, span: &PanelSpan, top: Tenths, out: &mut Canvas) -> Tenths {
     let Some(note) = note_before(scene.run, span.first) else {
         return px(0);
     };
@@ -164,7 +164,7 @@ fn put_badge_after(
 }
 
 /// The clock at each tick and the number of each interrupt, but those that would touch the one before.
-fn put_badges(scene: &Scene<'_>, span: &Span, top: Tenths, out: &mut Canvas) {
+fn put_badges(scene: &Scene<'_>, span: &PanelSpan, top: Tenths, out: &mut Canvas) {
     let mut end = put_first_clock(scene, span, top, out);
     for event in span.first..=span.last {
         if let Some(note) = scene.run.notes.get(event as usize) {
@@ -174,7 +174,7 @@ fn put_badges(scene: &Scene<'_>, span: &Span, top: Tenths, out: &mut Canvas) {
 }
 
 /// What is pointed at for the lines of each event.
-fn put_areas(scene: &Scene<'_>, span: &Span, top: Tenths, out: &mut Canvas) {
+fn put_areas(scene: &Scene<'_>, span: &PanelSpan, top: Tenths, out: &mut Canvas) {
     let wide = px(span.page.column);
     let (top, high) = axis_area(scene, top);
     for event in span.first..=span.last {
@@ -184,7 +184,13 @@ fn put_areas(scene: &Scene<'_>, span: &Span, top: Tenths, out: &mut Canvas) {
 }
 
 /// The axis of a panel between these heights, with its grid.
-pub fn put_axis(scene: &Scene<'_>, span: &Span, top: Tenths, bottom: Tenths, out: &mut Canvas) {
+pub fn put_axis(
+    scene: &Scene<'_>,
+    span: &PanelSpan,
+    top: Tenths,
+    bottom: Tenths,
+    out: &mut Canvas,
+) {
     put_words(scene, span, top, out);
     put_grid(span, (top, bottom), out);
     put_badges(scene, span, top, out);

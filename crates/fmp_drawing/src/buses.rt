@@ -4,25 +4,26 @@ use crate::shapes::put_text;
 use crate::strips::Strip;
 use crate::tasks::{NAME, put_name, put_side};
 use crate::titles::put_title;
-use fmp_timeline::Piece::{At, Label, Raw, Text};
+use fmp_timeline::CanvasPiece::{At, Label, Raw, Text};
 use fmp_timeline::{
-    Canvas, Object, ObjectShown, Span, Stay, Tenths, Topic, bytes_of, px, task_bytes, width,
+    ArgumentTopic, Canvas, ObjectHistory, ObjectShown, PanelSpan, Stay, Tenths, bytes_of, px,
+    task_bytes, width,
 };
 
 /// The size of values.
 const SMALL: Tenths = Tenths(90);
 
 /// What kind of object it is.
-fn kind_of(topic: Topic) -> &'static str {
+fn kind_of(topic: ArgumentTopic) -> &'static str {
     match topic {
-        Topic::Semaphore(_) => "semaphore",
-        Topic::Flag(_) => "flag",
-        Topic::DataQueue(_) => "data queue",
-        Topic::Mailbox(_) => "mailbox",
-        Topic::SharedWord(_) => "shared word",
-        Topic::Task(_) => "task",
-        Topic::SpinLock(_) => "spin lock",
-        Topic::Cyclic(_) => "cyclic handler",
+        ArgumentTopic::Semaphore(_) => "semaphore",
+        ArgumentTopic::Flag(_) => "flag",
+        ArgumentTopic::DataQueue(_) => "data queue",
+        ArgumentTopic::Mailbox(_) => "mailbox",
+        ArgumentTopic::SharedWord(_) => "shared word",
+        ArgumentTopic::Task(_) => "task",
+        ArgumentTopic::SpinLock(_) => "spin lock",
+        ArgumentTopic::Cyclic(_) => "cyclic handler",
     }
 }
 
@@ -32,8 +33,8 @@ pub fn put_objects_head(strip: &Strip, out: &mut Canvas) {
 }
 
 /// Appends a value: of an eventflag's pattern above 9 in hexadecimal digits.
-fn append_shown(topic: Topic, value: i32, text: &mut Canvas) {
-    if matches!(topic, Topic::Flag(_)) && value > 9 {
+fn append_shown(topic: ArgumentTopic, value: i32, text: &mut Canvas) {
+    if matches!(topic, ArgumentTopic::Flag(_)) && value > 9 {
         text.raw("0x");
         text.hexadecimal(value.unsigned_abs());
     } else {
@@ -52,7 +53,12 @@ fn append_waiting(scene: &Scene<'_>, shown: &ObjectShown, words: &str, text: &mu
 }
 
 /// The end of a value's path with its title.
-fn put_value_title(scene: &Scene<'_>, topic: Topic, stay: &Stay<ObjectShown>, out: &mut Canvas) {
+fn put_value_title(
+    scene: &Scene<'_>,
+    topic: ArgumentTopic,
+    stay: &Stay<ObjectShown>,
+    out: &mut Canvas,
+) {
     let mut head = Canvas::new(scene.alloc);
     head.plain(bytes_of(scene.sys, topic));
     head.raw(" = ");
@@ -74,7 +80,7 @@ fn put_value(
     scene: &Scene<'_>,
     strip: &Strip,
     (left, right): (Tenths, Tenths),
-    topic: Topic,
+    topic: ArgumentTopic,
     shown: &ObjectShown,
     out: &mut Canvas,
 ) {
@@ -118,9 +124,9 @@ fn put_queue_bar(strip: &Strip, (left, right): (Tenths, Tenths), out: &mut Canva
 /// A value as long as it lasts, with a bar at its foot while tasks wait.
 fn put_stay(
     scene: &Scene<'_>,
-    span: &Span,
+    span: &PanelSpan,
     strip: &Strip,
-    topic: Topic,
+    topic: ArgumentTopic,
     stay: &Stay<ObjectShown>,
     out: &mut Canvas,
 ) {
@@ -138,9 +144,9 @@ fn put_stay(
 /// The lane of an object.
 pub fn put_object(
     scene: &Scene<'_>,
-    span: &Span,
+    span: &PanelSpan,
     strip: &Strip,
-    object: &Object,
+    object: &ObjectHistory,
     out: &mut Canvas,
 ) {
     let kind = kind_of(object.topic);

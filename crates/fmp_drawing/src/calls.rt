@@ -1,10 +1,10 @@
 //! The names of service calls, each at the end of the stretch that made it.
-use crate::scene::{Scene, Taken, fit_right};
+use crate::scene::{Scene, TakenPixels, fit_right};
 use crate::shapes::{put_label_in, put_plate};
 use crate::strips::{Lane, Strip};
 use crate::titles::put_area;
-use fmp_timeline::Piece::{At, Label, Raw};
-use fmp_timeline::{Canvas, Made, Span, Tenths, append_call, append_value, px};
+use fmp_timeline::CanvasPiece::{At, Label, Raw};
+use fmp_timeline::{CallMade, Canvas, PanelSpan, Tenths, append_call, append_value, px};
 use std::alloc::AllocError;
 
 /// The size of calls.
@@ -30,10 +30,10 @@ fn stretch_start(scene: &Scene<'_>, lane: Lane, event: u32) -> Option<u32> {
 /// Where the longest form of a call that fits between two places ends, with its text.
 fn fit_call(
     scene: &Scene<'_>,
-    span: &Span,
-    taken: &[Taken],
+    span: &PanelSpan,
+    taken: &[TakenPixels],
     ends: (Tenths, Tenths),
-    made: &Made,
+    made: &CallMade,
     text: &mut Canvas,
 ) -> Option<Tenths> {
     text.shorten(0);
@@ -72,8 +72,8 @@ fn put_call_text(scene: &Scene<'_>, strip: &Strip, x: Tenths, text: &Canvas, out
 /// A call of a lane, and where it can be named: its own room, behind the lane's call before it, and all that the
 /// stretch has.
 #[derive(Clone, Copy)]
-struct Place {
-    made: Made,
+struct CallPlace {
+    made: CallMade,
     own: Tenths,
     least: Tenths,
 }
@@ -81,10 +81,10 @@ struct Place {
 /// The name of a call where it fits: in its own room, or from there on to the left, if it is named first.
 fn put_name(
     scene: &Scene<'_>,
-    span: &Span,
+    span: &PanelSpan,
     strip: &Strip,
-    taken: &mut Vec<Taken>,
-    place: &Place,
+    taken: &mut Vec<TakenPixels>,
+    place: &CallPlace,
     out: &mut Canvas,
 ) -> Result<(), AllocError> {
     let mut text = Canvas::new(scene.alloc);
@@ -93,7 +93,7 @@ fn put_name(
         if let Some(x) = fit_call(scene, span, taken, (left, end), &place.made, &mut text) {
             put_call_text(scene, strip, x, &text, out);
             let from = x - text.width(CALL);
-            taken.push(Taken { from, to: x })?;
+            taken.push(TakenPixels { from, to: x })?;
             break;
         }
     }
@@ -103,10 +103,10 @@ fn put_name(
 /// The names of the calls that are named first, or of the others.
 fn put_names(
     scene: &Scene<'_>,
-    span: &Span,
+    span: &PanelSpan,
     strip: &Strip,
-    (places, first): (&[Place], bool),
-    taken: &mut Vec<Taken>,
+    (places, first): (&[CallPlace], bool),
+    taken: &mut Vec<TakenPixels>,
     out: &mut Canvas,
 ) -> Result<(), AllocError> {
     for place in places {
@@ -118,7 +118,7 @@ fn put_names(
 }
 
 /// Where the stretch of a lane that begins with this event begins in a panel.
-fn stretch_left(span: &Span, start: u32) -> Tenths {
+fn stretch_left(span: &PanelSpan, start: u32) -> Tenths {
     if start < span.first {
         span.page.left()
     } else {
@@ -127,7 +127,11 @@ fn stretch_left(span: &Span, start: u32) -> Tenths {
 }
 
 /// The calls of a lane in a panel, each with its place.
-fn places_of(scene: &Scene<'_>, span: &Span, lane: Lane) -> Result<Vec<Place>, AllocError> {
+fn places_of(
+    scene: &Scene<'_>,
+    span: &PanelSpan,
+    lane: Lane,
+) -> Result<Vec<CallPlace>, AllocError> {
     let mut places = Vec::new(scene.alloc);
     let mut previous = px(0);
     for made in calls_of(scene, span, lane) {
@@ -135,7 +139,7 @@ fn places_of(scene: &Scene<'_>, span: &Span, lane: Lane) -> Result<Vec<Place>, A
             let left = stretch_left(span, start);
             let own = previous.or_more(left);
             let least = if made.is_named_first() { left } else { own };
-            places.push(Place {
+            places.push(CallPlace {
                 made: *made,
                 own,
                 least,
@@ -147,7 +151,13 @@ fn places_of(scene: &Scene<'_>, span: &Span, lane: Lane) -> Result<Vec<Place>, A
 }
 
 /// What is pointed at for each of these calls.
-fn put_areas(scene: &Scene<'_>, span: &Span, strip: &Strip, places: &[Place], out: &mut Canvas) {
+fn put_areas(
+    scene: &Scene<'_>,
+    span: &PanelSpan,
+    strip: &Strip,
+    places: &[CallPlace],
+    out: &mut Canvas,
+) {
     for place in places {
         let event = place.made.event;
         let size = (span.x(event) - place.own, px(strip.height) - px(4));
@@ -156,7 +166,7 @@ fn put_areas(scene: &Scene<'_>, span: &Span, strip: &Strip, places: &[Place], ou
 }
 
 /// The calls of a lane in a panel.
-fn calls_of<'a>(scene: &Scene<'a>, span: &Span, lane: Lane) -> &'a [Made] {
+fn calls_of<'a>(scene: &Scene<'a>, span: &PanelSpan, lane: Lane) -> &'a [CallMade] {
     let Some(deeds) = scene.deeds_in(lane) else {
         return &[];
     };
@@ -166,7 +176,13 @@ fn calls_of<'a>(scene: &Scene<'a>, span: &Span, lane: Lane) -> &'a [Made] {
 }
 
 /// A notch at the foot of a task's box for each of these calls.
-fn put_notches(scene: &Scene<'_>, span: &Span, strip: &Strip, calls: &[Made], out: &mut Canvas) {
+fn put_notches(
+    scene: &Scene<'_>,
+    span: &PanelSpan,
+    strip: &Strip,
+    calls: &[CallMade],
+    out: &mut Canvas,
+) {
     let foot = strip.y(-70) + px(strip.height);
     let mut open = false;
     for made in calls {
@@ -189,9 +205,9 @@ fn put_notches(scene: &Scene<'_>, span: &Span, strip: &Strip, calls: &[Made], ou
 /// memory runs out.
 pub fn put_calls(
     scene: &Scene<'_>,
-    span: &Span,
+    span: &PanelSpan,
     strip: &Strip,
-    mut taken: Vec<Taken>,
+    mut taken: Vec<TakenPixels>,
     out: &mut Canvas,
 ) -> Result<(), AllocError> {
     if span.is_narrow() {

@@ -1,56 +1,56 @@
 //! The legend.
 use crate::scene::Scene;
 use crate::shapes::{put_number, put_text};
-use fmp_timeline::Piece::{At, Number, Raw, Text};
+use fmp_timeline::CanvasPiece::{At, Number, Raw, Text};
 use fmp_timeline::{Canvas, Tenths, px, task_bytes, width};
 
 /// A shape, what it means, and how wide it is in pixels.
-struct Item(&'static str, &'static str, u32);
+struct LegendItem(&'static str, &'static str, u32);
 
 /// The states of tasks.
-static TASK: [Item; 10] = [
-    Item(
+static TASK: [LegendItem; 10] = [
+    LegendItem(
         "<path class=\"c0 f\" d=\"M0-7h26v14h-26z\"/>",
         "running",
         26,
     ),
-    Item(
+    LegendItem(
         "<path class=\"c0 f\" d=\"M0-7h26v14h-26z\"/><path class=\"over\" d=\"M0-7h26v14h-26z\"/>",
         "running, under a handler",
         26,
     ),
-    Item(
+    LegendItem(
         "<path class=\"c0 y\" d=\"M.5-2.5h25v9h-25z\"/>",
         "ready",
         26,
     ),
-    Item(
+    LegendItem(
         "<path class=\"w\" d=\"M.5-5.5h38v11h-38z\"/><text class=\"wt c\" x=\"19\" y=\"3\">SEM ≤9</text>",
         "waiting, until clock 9",
         39,
     ),
-    Item(
+    LegendItem(
         "<path class=\"w\" d=\"M.5-5.5h34v11h-34z\"/><text class=\"wt c\" x=\"17\" y=\"3\">→DTQ</text>",
         "to send",
         35,
     ),
-    Item(
+    LegendItem(
         "<path class=\"w\" d=\"M.5-5.5h34v11h-34z\"/><text class=\"wt c\" x=\"17\" y=\"3\">←DTQ</text>",
         "to receive",
         35,
     ),
-    Item(
+    LegendItem(
         "<path class=\"s\" d=\"M.5-5.5h25v11h-25z\"/>",
         "suspended",
         26,
     ),
-    Item(
+    LegendItem(
         "<path class=\"w\" d=\"M.5-5.5h25v11h-25z\"/><path class=\"ws\" d=\"M1 1.5h24v4h-24z\"/>",
         "waiting and suspended",
         26,
     ),
-    Item("<path class=\"dorm\" d=\"M0 .5h26\"/>", "dormant", 26),
-    Item(
+    LegendItem("<path class=\"dorm\" d=\"M0 .5h26\"/>", "dormant", 26),
+    LegendItem(
         "<path class=\"away\" d=\"M0 .5h26\"/>",
         "on another processor",
         26,
@@ -58,7 +58,7 @@ static TASK: [Item; 10] = [
 ];
 
 /// A task beyond the eighth.
-static HATCHED: Item = Item(
+static HATCHED: LegendItem = LegendItem(
     "<path class=\"c0 f\" d=\"M0-7h26v14h-26z\"/><path class=\"x1w\" d=\"M0-7h26v14h-26z\"/>",
     "running, one of the tasks 9 to 16 from above",
     26,
@@ -68,28 +68,28 @@ static HATCHED: Item = Item(
 const MANY_TASKS: usize = 32;
 
 /// What processors and handlers show.
-static PROCESSOR: [Item; 5] = [
-    Item(
+static PROCESSOR: [LegendItem; 5] = [
+    LegendItem(
         "<path class=\"hr\" d=\"M.5-5.5h25v11h-25z\"/>",
         "handler runs",
         26,
     ),
-    Item(
+    LegendItem(
         "<path class=\"hp\" d=\"M.5-4.5h25v9h-25z\"/>",
         "handler pending",
         26,
     ),
-    Item(
+    LegendItem(
         "<path class=\"lc\" d=\"M0-5h26v10h-26z\"/>",
         "CPU lock or spin lock held",
         26,
     ),
-    Item(
+    LegendItem(
         "<path class=\"spb\" d=\"M.5-4.5h25v9h-25z\"/>",
         "spinning for a lock",
         26,
     ),
-    Item(
+    LegendItem(
         "<path class=\"ld\" d=\"M0-5h26v10h-26z\"/>",
         "dispatch disabled",
         26,
@@ -97,32 +97,32 @@ static PROCESSOR: [Item; 5] = [
 ];
 
 /// What objects show.
-static OBJECT: Item = Item(
+static OBJECT: LegendItem = LegendItem(
     "<path class=\"b\" d=\"M0 0l2.5-5.5h21l2.5 5.5l-2.5 5.5h-21z\"/><path class=\"bq\" d=\"M2 3H24v3H2z\"/>",
     "object, tasks wait for it",
     26,
 );
 
 /// The marks.
-static MARKS: [Item; 14] = [
-    Item("<use href=\"#act\" x=\"6\"/>", "start", 12),
-    Item("<use href=\"#queued\" x=\"6\"/>", "activation queued", 12),
-    Item("<use href=\"#rel\" x=\"6\"/>", "released", 12),
-    Item("<use href=\"#wup\" x=\"6\"/>", "wakeup queued", 12),
-    Item("<use href=\"#tmo\" x=\"6\"/>", "timed out", 12),
-    Item(
+static MARKS: [LegendItem; 14] = [
+    LegendItem("<use href=\"#act\" x=\"6\"/>", "start", 12),
+    LegendItem("<use href=\"#queued\" x=\"6\"/>", "activation queued", 12),
+    LegendItem("<use href=\"#rel\" x=\"6\"/>", "released", 12),
+    LegendItem("<use href=\"#wup\" x=\"6\"/>", "wakeup queued", 12),
+    LegendItem("<use href=\"#tmo\" x=\"6\"/>", "timed out", 12),
+    LegendItem(
         "<use href=\"#rlw\" x=\"6\"/>",
         "wait broken off (E_RLWAI)",
         12,
     ),
-    Item("<use href=\"#poll\" x=\"6\"/>", "polling failed", 12),
-    Item("<use href=\"#refused\" x=\"6\"/>", "refused", 12),
-    Item("<use href=\"#fault\" x=\"6\"/>", "fault", 12),
-    Item("<use href=\"#end\" x=\"6\"/>", "end", 12),
-    Item("<use href=\"#ter\" x=\"6\"/>", "terminated", 12),
-    Item("<use href=\"#int\" x=\"6\"/>", "interrupt", 12),
-    Item("<use href=\"#due\" x=\"6\"/>", "cyclic handler due", 12),
-    Item(
+    LegendItem("<use href=\"#poll\" x=\"6\"/>", "polling failed", 12),
+    LegendItem("<use href=\"#refused\" x=\"6\"/>", "refused", 12),
+    LegendItem("<use href=\"#fault\" x=\"6\"/>", "fault", 12),
+    LegendItem("<use href=\"#end\" x=\"6\"/>", "end", 12),
+    LegendItem("<use href=\"#ter\" x=\"6\"/>", "terminated", 12),
+    LegendItem("<use href=\"#int\" x=\"6\"/>", "interrupt", 12),
+    LegendItem("<use href=\"#due\" x=\"6\"/>", "cyclic handler due", 12),
+    LegendItem(
         "<use href=\"#kept\" x=\"6\" y=\"-7\"/>",
         "stretch cut short",
         12,
@@ -133,7 +133,7 @@ static MARKS: [Item; 14] = [
 const ITEMS: u32 = 74;
 
 /// An item at its place.
-fn put_item(item: &Item, x: Tenths, y: u32, out: &mut Canvas) {
+fn put_item(item: &LegendItem, x: Tenths, y: u32, out: &mut Canvas) {
     let wide = Number(item.2.saturating_add(5));
     out.put(
         "<g transform=\"translate({} {})\">{}<text x=\"{}\" y=\"3\">{}</text></g>\n",
@@ -143,17 +143,17 @@ fn put_item(item: &Item, x: Tenths, y: u32, out: &mut Canvas) {
 
 /// Where the next item stands, and the height of its line.
 #[derive(Clone, Copy)]
-struct Pen {
+struct LegendPen {
     x: Tenths,
     y: u32,
 }
 
-impl Pen {
+impl LegendPen {
     /// The beginning of a line of items with this head.
-    fn new(head: &str, y: u32, out: &mut Canvas) -> Pen {
+    fn new(head: &str, y: u32, out: &mut Canvas) -> LegendPen {
         let place = (px(12), px(y.saturating_add(3)));
         put_text(Raw("m k"), place, Raw(head), out);
-        Pen { x: px(ITEMS), y }
+        LegendPen { x: px(ITEMS), y }
     }
 
     /// Begins a new line where this one has no room for something so wide.
@@ -165,7 +165,7 @@ impl Pen {
     }
 
     /// An item, in a new line where it does not fit into this one.
-    fn put(&mut self, scene: &Scene<'_>, item: &Item, out: &mut Canvas) {
+    fn put(&mut self, scene: &Scene<'_>, item: &LegendItem, out: &mut Canvas) {
         let wide = px(item.2) + width(item.1.as_bytes(), Tenths(90));
         self.make_room(scene, wide);
         put_item(item, self.x, self.y, out);
@@ -173,7 +173,7 @@ impl Pen {
     }
 
     /// These items.
-    fn put_all(&mut self, scene: &Scene<'_>, items: &[Item], out: &mut Canvas) {
+    fn put_all(&mut self, scene: &Scene<'_>, items: &[LegendItem], out: &mut Canvas) {
         for item in items {
             self.put(scene, item, out);
         }
@@ -203,7 +203,7 @@ fn put_tasks(scene: &Scene<'_>, top: u32, out: &mut Canvas) -> u32 {
     if !scene.is_numbered() || count > MANY_TASKS {
         return top;
     }
-    let mut pen = Pen::new("Tasks", top, out);
+    let mut pen = LegendPen::new("Tasks", top, out);
     for task in 0..count.min(MANY_TASKS) as u8 {
         pen.put_task(scene, task, out);
     }
@@ -213,17 +213,17 @@ fn put_tasks(scene: &Scene<'_>, top: u32, out: &mut Canvas) -> u32 {
 /// The legend from this height on: the height below it.
 pub fn put_legend(scene: &Scene<'_>, top: u32, out: &mut Canvas) -> u32 {
     out.raw("<g role=\"group\" aria-label=\"Legend\">\n");
-    let mut pen = Pen::new("Task", top, out);
+    let mut pen = LegendPen::new("Task", top, out);
     pen.put_all(scene, &TASK, out);
     if scene.is_numbered() {
         pen.put(scene, &HATCHED, out);
     }
-    let mut pen = Pen::new("Processor", pen.below(), out);
+    let mut pen = LegendPen::new("Processor", pen.below(), out);
     pen.put_all(scene, &PROCESSOR, out);
     if !scene.run.objects.all.is_empty() {
         pen.put(scene, &OBJECT, out);
     }
-    let mut pen = Pen::new("Marks", pen.below(), out);
+    let mut pen = LegendPen::new("Marks", pen.below(), out);
     pen.put_all(scene, &MARKS, out);
     let below = put_tasks(scene, pen.below(), out);
     out.settle();

@@ -2,8 +2,8 @@
 use crate::scene::Scene;
 use crate::strips::{Strip, Strips};
 use fmp_base::Caller;
-use fmp_timeline::Piece::{At, Number, Raw};
-use fmp_timeline::{Bond, Canvas, Link, Migration, Span, Tenths, px};
+use fmp_timeline::CanvasPiece::{At, Number, Raw};
+use fmp_timeline::{ActorLink, Bond, Canvas, Migration, PanelSpan, Tenths, px};
 
 /// Where a link ends in the lane of the other.
 fn link_end(bond: Bond, strip: &Strip, down: bool) -> Tenths {
@@ -39,7 +39,7 @@ fn put_link(x: Tenths, bond: Bond, from: &Strip, to: &Strip, out: &mut Canvas) {
 }
 
 /// The lanes of a link, if both are there and are two.
-fn lanes_of(scene: &Scene<'_>, strips: &Strips, link: &Link) -> Option<(Strip, Strip)> {
+fn lanes_of(scene: &Scene<'_>, strips: &Strips, link: &ActorLink) -> Option<(Strip, Strip)> {
     let before = link.event.saturating_sub(1);
     let at = if link.bond == Bond::Migrates {
         before
@@ -69,7 +69,7 @@ fn put_migration(colour: u32, x: Tenths, from: &Strip, to: &Strip, out: &mut Can
     );
 }
 
-fn put_migrations(scene: &Scene<'_>, span: &Span, strips: &Strips, out: &mut Canvas) {
+fn put_migrations(scene: &Scene<'_>, span: &PanelSpan, strips: &Strips, out: &mut Canvas) {
     let all: &[Migration] = &scene.run.migrations;
     let first = all.partition_point(|migration| migration.event < span.first);
     for migration in all.get(first..).unwrap_or(&[]) {
@@ -86,8 +86,8 @@ fn put_migrations(scene: &Scene<'_>, span: &Span, strips: &Strips, out: &mut Can
 }
 
 /// The links and the migrations of a panel. Narrow columns have migrations alone.
-pub fn put_links(scene: &Scene<'_>, span: &Span, strips: &Strips, out: &mut Canvas) {
-    let all: &[Link] = &scene.run.links;
+pub fn put_links(scene: &Scene<'_>, span: &PanelSpan, strips: &Strips, out: &mut Canvas) {
+    let all: &[ActorLink] = &scene.run.links;
     let first = all.partition_point(|link| link.event < span.first);
     for link in all.get(first..).unwrap_or(&[]) {
         if span.is_narrow() || link.event > span.last {

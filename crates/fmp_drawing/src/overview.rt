@@ -1,7 +1,7 @@
 //! The overview over a long run: what ran most in each part of it, and a link for each panel.
 use crate::scene::Scene;
 use crate::shapes::{put_label_in, put_line, put_text};
-use fmp_timeline::Piece::{At, Number, Raw};
+use fmp_timeline::CanvasPiece::{At, Number, Raw};
 use fmp_timeline::{Canvas, Occupant, Tenths, number_width, px};
 use std::alloc::AllocError;
 
@@ -109,7 +109,7 @@ fn kinds_of(scene: &Scene<'_>, bins: &Bins, processor: u8) -> Result<Vec<usize>,
 
 /// Neighbouring parts of one kind, from one up to another.
 #[derive(Clone, Copy)]
-struct Stretch {
+struct PartRange {
     from: u32,
     to: u32,
 }
@@ -120,7 +120,7 @@ fn stretches_of(
     bins: &Bins,
     kinds: &[usize],
     kind: usize,
-) -> Result<Vec<Stretch>, AllocError> {
+) -> Result<Vec<PartRange>, AllocError> {
     let mut all = Vec::new(scene.alloc);
     let mut from: Option<u32> = None;
     for bin in 0..=bins.bins {
@@ -128,7 +128,7 @@ fn stretches_of(
         match from {
             None if is_kind => from = Some(bin),
             Some(start) if !is_kind => {
-                all.push(Stretch {
+                all.push(PartRange {
                     from: start,
                     to: bin,
                 })?;
@@ -141,7 +141,7 @@ fn stretches_of(
 }
 
 /// Stretches as the boxes of a path, behind its class.
-fn put_boxes(bins: &Bins, stretches: &[Stretch], y: u32, out: &mut Canvas) {
+fn put_boxes(bins: &Bins, stretches: &[PartRange], y: u32, out: &mut Canvas) {
     out.raw("\" d=\"");
     for stretch in stretches {
         let x = bins.x(stretch.from);
@@ -158,7 +158,7 @@ fn put_boxes(bins: &Bins, stretches: &[Stretch], y: u32, out: &mut Canvas) {
 fn put_numbers(
     scene: &Scene<'_>,
     bins: &Bins,
-    stretches: &[Stretch],
+    stretches: &[PartRange],
     task: u8,
     y: u32,
     out: &mut Canvas,
@@ -178,7 +178,7 @@ fn put_numbers(
 fn put_task(
     scene: &Scene<'_>,
     bins: &Bins,
-    stretches: &[Stretch],
+    stretches: &[PartRange],
     task: u8,
     y: u32,
     out: &mut Canvas,

@@ -10,15 +10,15 @@ use crate::strips::{Lane, Strip, Strips};
 use crate::tasks::put_task;
 use crate::times::{axis_top, put_times};
 use fmp_base::StateWord;
-use fmp_timeline::Piece::{At, Number, Raw, Text};
-use fmp_timeline::{Canvas, Span, bytes_of, px, task_bytes};
+use fmp_timeline::CanvasPiece::{At, Number, Raw, Text};
+use fmp_timeline::{Canvas, PanelSpan, bytes_of, px, task_bytes};
 use std::alloc::AllocError;
 
 /// The height of an axis.
 const AXIS: u32 = 34;
 
 /// The bands behind the heads of the processors' groups.
-fn put_bands(span: &Span, strips: &Strips, out: &mut Canvas) {
+fn put_bands(span: &PanelSpan, strips: &Strips, out: &mut Canvas) {
     out.raw("<path class=\"pband\" d=\"");
     for strip in strips.strips.as_slice() {
         if strip.lane.is_head() {
@@ -32,7 +32,7 @@ fn put_bands(span: &Span, strips: &Strips, out: &mut Canvas) {
 }
 
 /// A lane of a processor's head or of objects.
-fn put_lane_alone(scene: &Scene<'_>, span: &Span, strip: &Strip, out: &mut Canvas) {
+fn put_lane_alone(scene: &Scene<'_>, span: &PanelSpan, strip: &Strip, out: &mut Canvas) {
     match strip.lane {
         Lane::Processor(processor) => put_processor(scene, span, strip, processor, out),
         Lane::Lock(processor) => put_lock(scene, span, strip, processor, out),
@@ -50,7 +50,7 @@ fn put_lane_alone(scene: &Scene<'_>, span: &Span, strip: &Strip, out: &mut Canva
 /// A lane with its boxes and texts. `AllocError` if memory runs out.
 fn put_lane(
     scene: &Scene<'_>,
-    span: &Span,
+    span: &PanelSpan,
     strip: &Strip,
     out: &mut Canvas,
 ) -> Result<(), AllocError> {
@@ -66,7 +66,7 @@ fn put_lane(
 }
 
 /// The wash over the lead, which shows the states that the panel begins with.
-fn put_lead(span: &Span, top: u32, bottom: u32, out: &mut Canvas) {
+fn put_lead(span: &PanelSpan, top: u32, bottom: u32, out: &mut Canvas) {
     if span.first > 0 {
         let (left, lead) = (At(span.page.left()), px(span.page.lead));
         let (top, bottom) = (Number(top), Number(bottom));
@@ -90,7 +90,7 @@ fn small_word(word: StateWord) -> &'static str {
 }
 
 /// Whether a task is in a state where a panel begins.
-fn is_in(scene: &Scene<'_>, span: &Span, task: u8, word: StateWord) -> bool {
+fn is_in(scene: &Scene<'_>, span: &PanelSpan, task: u8, word: StateWord) -> bool {
     if let Some(track) = scene.run.tasks.get(usize::from(task))
         && let Some(shown) = track.at(span.first)
     {
@@ -100,7 +100,7 @@ fn is_in(scene: &Scene<'_>, span: &Span, task: u8, word: StateWord) -> bool {
 }
 
 /// How many tasks without a lane are in a state.
-fn asleep_in(scene: &Scene<'_>, span: &Span, strips: &Strips, word: StateWord) -> u32 {
+fn asleep_in(scene: &Scene<'_>, span: &PanelSpan, strips: &Strips, word: StateWord) -> u32 {
     let mut count: u32 = 0;
     for task in strips.asleep.as_slice() {
         if is_in(scene, span, *task, word) {
@@ -113,7 +113,7 @@ fn asleep_in(scene: &Scene<'_>, span: &Span, strips: &Strips, word: StateWord) -
 /// The names of the first four tasks without a lane that are in a state.
 fn put_asleep_names(
     scene: &Scene<'_>,
-    span: &Span,
+    span: &PanelSpan,
     strips: &Strips,
     word: StateWord,
     out: &mut Canvas,
@@ -132,7 +132,7 @@ fn put_asleep_names(
 /// any.
 fn put_asleep_in(
     scene: &Scene<'_>,
-    span: &Span,
+    span: &PanelSpan,
     strips: &Strips,
     word: StateWord,
     before: &str,
@@ -174,7 +174,7 @@ fn put_still(scene: &Scene<'_>, strips: &Strips, before: &str, out: &mut Canvas)
 }
 
 /// The line that says which tasks and objects have no lane.
-fn put_asleep(scene: &Scene<'_>, span: &Span, strips: &Strips, out: &mut Canvas) {
+fn put_asleep(scene: &Scene<'_>, span: &PanelSpan, strips: &Strips, out: &mut Canvas) {
     let y = px(strips.bottom) + px(11);
     out.put(
         "<text class=\"m\" x=\"12\" y=\"{}\">No change and no lane here:",
@@ -199,7 +199,7 @@ fn put_asleep(scene: &Scene<'_>, span: &Span, strips: &Strips, out: &mut Canvas)
 /// The lanes of a panel, until they are too large. `AllocError` if memory runs out.
 fn put_lanes(
     scene: &Scene<'_>,
-    span: &Span,
+    span: &PanelSpan,
     strips: &Strips,
     out: &mut Canvas,
 ) -> Result<(), AllocError> {
@@ -214,7 +214,7 @@ fn put_lanes(
 /// The marks of all lanes. `AllocError` if memory runs out.
 fn put_all_marks(
     scene: &Scene<'_>,
-    span: &Span,
+    span: &PanelSpan,
     strips: &Strips,
     out: &mut Canvas,
 ) -> Result<(), AllocError> {
@@ -228,7 +228,7 @@ fn put_all_marks(
 /// runs out.
 fn put_rows(
     scene: &Scene<'_>,
-    span: &Span,
+    span: &PanelSpan,
     top: u32,
     strips: &Strips,
     out: &mut Canvas,
@@ -258,20 +258,20 @@ fn put_rows(
 }
 
 /// The lanes of a panel that begins at this height.
-fn rows_of(scene: &Scene<'_>, span: &Span, top: u32) -> Result<Strips, AllocError> {
+fn rows_of(scene: &Scene<'_>, span: &PanelSpan, top: u32) -> Result<Strips, AllocError> {
     let lanes = axis_top(scene, top).saturating_add(AXIS);
     Strips::new(scene.alloc, scene.sys, scene.run, span, lanes)
 }
 
 /// The lower end of a panel that begins at this height.
-pub fn panel_bottom(scene: &Scene<'_>, span: &Span, top: u32) -> Result<u32, AllocError> {
+pub fn panel_bottom(scene: &Scene<'_>, span: &PanelSpan, top: u32) -> Result<u32, AllocError> {
     Ok(rows_of(scene, span, top)?.end())
 }
 
 /// A panel that begins at this height, or a beginning of it that is too large: its lower end.
 pub fn put_panel(
     scene: &Scene<'_>,
-    span: &Span,
+    span: &PanelSpan,
     top: u32,
     out: &mut Canvas,
 ) -> Result<u32, AllocError> {

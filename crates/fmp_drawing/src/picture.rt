@@ -8,8 +8,8 @@ use crate::scene::Scene;
 use crate::style::{DARK, LIGHT, SHAPES};
 use crate::times::put_extent_of_times;
 use fmp_base::System;
-use fmp_timeline::Piece::{Number, Text};
-use fmp_timeline::{Canvas, Page, Run, Span};
+use fmp_timeline::CanvasPiece::{Number, Text};
+use fmp_timeline::{Canvas, PanelSpan, PicturePage, Run};
 use std::alloc::{AllocError, Global};
 use thiserror::Error;
 
@@ -110,9 +110,9 @@ fn put_head(scene: &Scene<'_>, name: &[u8], out: &mut Canvas) {
 }
 
 /// The panel with this number.
-fn span_of(page: Page, panel: u32) -> Span {
+fn span_of(page: PicturePage, panel: u32) -> PanelSpan {
     let first = page.panel_start(panel);
-    Span {
+    PanelSpan {
         page,
         first,
         last: page.panel_end(first),
@@ -190,7 +190,7 @@ pub fn draw(
     sys: &System,
     run: &Run,
     name: &[u8],
-    page: Page,
+    page: PicturePage,
 ) -> Result<Vec<u8>, DrawFault>
     ensures { IfOk result (λ picture. length picture.items ≤ 40000000) }
 {
@@ -204,7 +204,7 @@ pub fn draw_timed(
     sys: &System,
     run: &Run,
     name: &[u8],
-    page: Page,
+    page: PicturePage,
     times: &[u64],
 ) -> Result<Vec<u8>, DrawFault>
     ensures { IfOk result (λ picture. length picture.items ≤ 40000000) }

@@ -1,6 +1,6 @@
 //! Lanes of processors, with their locks and their dispatching, and of handlers.
 use crate::calls::put_calls;
-use crate::scene::{Scene, Taken, letters_that_fit};
+use crate::scene::{Scene, TakenPixels, letters_that_fit};
 use crate::shapes::{
     put_box, put_frame, put_hatch, put_label, put_label_in, put_line, put_plate, put_text,
 };
@@ -8,10 +8,10 @@ use crate::strips::Strip;
 use crate::tasks::{NAME, put_name, put_side};
 use crate::titles::{put_title, put_title_with};
 use fmp_base::{Handler, Lock};
-use fmp_timeline::Piece::{At, Label, Number, Numbered, Raw, Text};
+use fmp_timeline::CanvasPiece::{At, Label, Number, Numbered, Raw, Text};
 use fmp_timeline::{
-    Canvas, Handling, Occupant, Span, Spin, Stay, Tenths, Topic, Track, bytes_of, handler_text, px,
-    task_bytes, width,
+    ArgumentTopic, Canvas, Handling, Occupant, PanelSpan, SpinSpan, Stay, Tenths, Track, bytes_of,
+    handler_text, px, task_bytes, width,
 };
 use std::alloc::AllocError;
 
@@ -26,7 +26,7 @@ fn processor_number(place: u8) -> u32 {
 }
 
 /// Where the text of a box can begin: inside of the panel.
-fn text_left<S>(span: &Span, stay: &Stay<S>) -> Tenths {
+fn text_left<S>(span: &PanelSpan, stay: &Stay<S>) -> Tenths {
     span.box_left(stay).or_more(span.page.start())
 }
 
@@ -50,7 +50,7 @@ fn put_handler_plate(
 /// A handler that runs on a processor, with its name on a plate.
 fn put_handler_box(
     scene: &Scene<'_>,
-    span: &Span,
+    span: &PanelSpan,
     strip: &Strip,
     (processor, handler): (u8, Handler),
     stay: &Stay<Occupant>,
@@ -94,7 +94,7 @@ fn put_occupant_name(
 /// A task that a processor runs.
 fn put_task_box(
     scene: &Scene<'_>,
-    span: &Span,
+    span: &PanelSpan,
     strip: &Strip,
     (processor, task): (u8, u8),
     stay: &Stay<Occupant>,
@@ -122,7 +122,7 @@ fn put_task_box(
 /// A processor that runs nothing.
 fn put_idle(
     scene: &Scene<'_>,
-    span: &Span,
+    span: &PanelSpan,
     strip: &Strip,
     processor: u8,
     stay: &Stay<Occupant>,
@@ -137,7 +137,7 @@ fn put_idle(
 /// What a processor does, as long as it does it.
 fn put_occupant(
     scene: &Scene<'_>,
-    span: &Span,
+    span: &PanelSpan,
     strip: &Strip,
     processor: u8,
     stay: &Stay<Occupant>,
@@ -151,7 +151,13 @@ fn put_occupant(
 }
 
 /// What a processor does in a panel.
-fn put_occupants(scene: &Scene<'_>, span: &Span, strip: &Strip, processor: u8, out: &mut Canvas) {
+fn put_occupants(
+    scene: &Scene<'_>,
+    span: &PanelSpan,
+    strip: &Strip,
+    processor: u8,
+    out: &mut Canvas,
+) {
     if let Some(track) = scene.run.occupants.get(usize::from(processor)) {
         for place in track.places(span.first, span.last) {
             if let Some(stay) = track.stay(place) {
@@ -164,7 +170,7 @@ fn put_occupants(scene: &Scene<'_>, span: &Span, strip: &Strip, processor: u8, o
 /// The lane of a processor.
 pub fn put_processor(
     scene: &Scene<'_>,
-    span: &Span,
+    span: &PanelSpan,
     strip: &Strip,
     processor: u8,
     out: &mut Canvas,
@@ -202,7 +208,7 @@ fn put_bar_text(
 /// A lock that is held.
 fn put_held_lock(
     scene: &Scene<'_>,
-    span: &Span,
+    span: &PanelSpan,
     strip: &Strip,
     processor: u8,
     stay: &Stay<Lock>,
@@ -212,7 +218,10 @@ fn put_held_lock(
     let (words, label) = match stay.state {
         Lock::Free => return,
         Lock::Cpu => ("", b"CPU lock".as_slice()),
-        Lock::Spin(place) => ("spin lock ", bytes_of(scene.sys, Topic::SpinLock(place))),
+        Lock::Spin(place) => (
+            "spin lock ",
+            bytes_of(scene.sys, ArgumentTopic::SpinLock(place)),
+        ),
     };
     put_bar("lc", strip, ends, out);
     let head = [Number(processor_number(processor)), Raw(words), Text(label)];
@@ -221,7 +230,7 @@ fn put_held_lock(
 }
 
 /// Appends a line that says who took the lock of a spinning span last before the span ended, and at which event.
-fn append_taker(scene: &Scene<'_>, lock: Option<u8>, stay: &Stay<Spin>, text: &mut Canvas) {
+fn append_taker(scene: &Scene<'_>, lock: Option<u8>, stay: &Stay<SpinSpan>, text: &mut Canvas) {
     if let Some(lock) = lock
         && let Some(deed) = scene.run.waits.taker(lock, stay.to)
     {
@@ -234,7 +243,10 @@ fn append_taker(scene: &Scene<'_>, lock: Option<u8>, stay: &Stay<Spin>, text: &m
 /// The text of a spinning span: words, and the name of the lock.
 fn spin_text<'a>(scene: &Scene<'a>, lock: Option<u8>) -> (&'static str, &'a [u8]) {
     match lock {
-        Some(lock) => ("spins for ", bytes_of(scene.sys, Topic::SpinLock(lock))),
+        Some(lock) => (
+            "spins for ",
+            bytes_of(scene.sys, ArgumentTopic::SpinLock(lock)),
+        ),
         None => ("no progress", &[]),
     }
 }
@@ -261,7 +273,13 @@ fn put_spin_text(
 }
 
 /// A span in which a processor's actor spins.
-fn put_spin(scene: &Scene<'_>, span: &Span, strip: &Strip, stay: &Stay<Spin>, out: &mut Canvas) {
+fn put_spin(
+    scene: &Scene<'_>,
+    span: &PanelSpan,
+    strip: &Strip,
+    stay: &Stay<SpinSpan>,
+    out: &mut Canvas,
+) {
     let (left, right) = (span.box_left(stay), span.box_right(stay));
     let lock = scene.run.lock_of(&stay.state);
     let (words, name) = spin_text(scene, lock);
@@ -281,7 +299,7 @@ fn put_spin(scene: &Scene<'_>, span: &Span, strip: &Strip, stay: &Stay<Spin>, ou
 /// The spans in which a processor spins but holds no lock.
 fn put_spins(
     scene: &Scene<'_>,
-    span: &Span,
+    span: &PanelSpan,
     strip: &Strip,
     processor: u8,
     track: &Track<Lock>,
@@ -298,7 +316,13 @@ fn put_spins(
 }
 
 /// The bar of a processor's lock.
-pub fn put_lock(scene: &Scene<'_>, span: &Span, strip: &Strip, processor: u8, out: &mut Canvas) {
+pub fn put_lock(
+    scene: &Scene<'_>,
+    span: &PanelSpan,
+    strip: &Strip,
+    processor: u8,
+    out: &mut Canvas,
+) {
     if let Some(track) = scene.run.locks.get(usize::from(processor)) {
         for place in track.places(span.first, span.last) {
             if let Some(stay) = track.stay(place) {
@@ -312,7 +336,7 @@ pub fn put_lock(scene: &Scene<'_>, span: &Span, strip: &Strip, processor: u8, ou
 /// A span in which a processor does not dispatch.
 fn put_no_dispatch(
     scene: &Scene<'_>,
-    span: &Span,
+    span: &PanelSpan,
     strip: &Strip,
     processor: u8,
     stay: &Stay<bool>,
@@ -330,7 +354,7 @@ fn put_no_dispatch(
 /// The bar of a processor's dispatching.
 pub fn put_dispatch(
     scene: &Scene<'_>,
-    span: &Span,
+    span: &PanelSpan,
     strip: &Strip,
     processor: u8,
     out: &mut Canvas,
@@ -383,7 +407,7 @@ fn words_of(handling: Handling) -> Option<&'static str> {
 /// A span in which a handler runs or is pending.
 fn put_handling(
     scene: &Scene<'_>,
-    span: &Span,
+    span: &PanelSpan,
     strip: &Strip,
     name: &Canvas,
     stay: &Stay<Handling>,
@@ -411,7 +435,7 @@ fn put_handling(
 /// The states of a handler in its lane.
 fn put_handlings(
     scene: &Scene<'_>,
-    span: &Span,
+    span: &PanelSpan,
     strip: &Strip,
     handler: Handler,
     name: &Canvas,
@@ -429,9 +453,9 @@ fn put_handlings(
 /// The lane of a handler, beside these pixels of its marks. `AllocError` if memory runs out.
 pub fn put_handler(
     scene: &Scene<'_>,
-    span: &Span,
+    span: &PanelSpan,
     strip: &Strip,
-    taken: Vec<Taken>,
+    taken: Vec<TakenPixels>,
     handler: Handler,
     out: &mut Canvas,
 ) -> Result<(), AllocError> {

@@ -1,7 +1,7 @@
 //! The source of all parts of a picture, and where a text can stand.
 use crate::strips::Lane;
 use fmp_base::System;
-use fmp_timeline::{BarLook, Deeds, Page, Run, Span, Tenths, all_looks, px, width};
+use fmp_timeline::{BarLook, Deeds, PanelSpan, PicturePage, Run, Tenths, all_looks, px, width};
 use std::alloc::{AllocError, Global};
 
 /// The source of a picture.
@@ -10,7 +10,7 @@ pub struct Scene<'a> {
     pub alloc: Global,
     pub sys: &'a System,
     pub run: &'a Run,
-    pub page: Page,
+    pub page: PicturePage,
     /// When setup and the events came, in microseconds; empty if that is not known.
     pub times: &'a [u64],
     /// The looks of the tasks.
@@ -23,7 +23,7 @@ impl<'a> Scene<'a> {
         alloc: Global,
         sys: &'a System,
         run: &'a Run,
-        page: Page,
+        page: PicturePage,
         times: &'a [u64],
     ) -> Result<Scene<'a>, AllocError> {
         Ok(Scene {
@@ -90,15 +90,15 @@ impl<'a> Scene<'a> {
 
 /// Pixels of a lane that a mark takes.
 #[derive(Clone, Copy)]
-pub struct Taken {
+pub struct TakenPixels {
     pub from: Tenths,
     pub to: Tenths,
 }
 
 /// Where a text of this width can begin between two places of a lane without touching a mark.
 pub fn fit_left(
-    span: &Span,
-    taken: &[Taken],
+    span: &PanelSpan,
+    taken: &[TakenPixels],
     (left, right): (Tenths, Tenths),
     need: Tenths,
 ) -> Option<Tenths> {
@@ -119,8 +119,8 @@ pub fn fit_left(
 
 /// Where a text of this width can end between two places of a lane without touching a mark.
 pub fn fit_right(
-    span: &Span,
-    taken: &[Taken],
+    span: &PanelSpan,
+    taken: &[TakenPixels],
     (left, right): (Tenths, Tenths),
     need: Tenths,
 ) -> Option<Tenths> {

@@ -1,11 +1,11 @@
 //! Shapes that many parts of a picture have: boxes, lines and texts.
 use crate::scene::Scene;
-use fmp_timeline::Piece::{At, Number, Numbered, Raw};
-use fmp_timeline::{Canvas, Piece, Tenths, px};
+use fmp_timeline::CanvasPiece::{At, Number, Numbered, Raw};
+use fmp_timeline::{Canvas, CanvasPiece, Tenths, px};
 
 /// A box without the end of its element: where its upper left corner is, and how wide and high it is.
 pub fn put_box(
-    class: Piece<'_>,
+    class: CanvasPiece<'_>,
     (x, y): (Tenths, Tenths),
     (wide, high): (Tenths, Tenths),
     out: &mut Canvas,
@@ -25,7 +25,7 @@ fn put_outline((x, y): (Tenths, Tenths), (wide, high): (Tenths, Tenths), out: &m
 
 /// A box that is half a pixel less at each side, for the line of its frame.
 pub fn put_frame(
-    class: Piece<'_>,
+    class: CanvasPiece<'_>,
     (x, y): (Tenths, Tenths),
     (wide, high): (Tenths, Tenths),
     out: &mut Canvas,
@@ -42,7 +42,12 @@ pub fn put_line(class: &str, (x, y): (Tenths, Tenths), long: Tenths, out: &mut C
 }
 
 /// A text that stands above the lines of the panel.
-pub fn put_label<'a>(class: Piece<'a>, place: (Tenths, Tenths), text: Piece<'a>, out: &mut Canvas) {
+pub fn put_label<'a>(
+    class: CanvasPiece<'a>,
+    place: (Tenths, Tenths),
+    text: CanvasPiece<'a>,
+    out: &mut Canvas,
+) {
     out.raise();
     put_text(class, place, text, out);
     out.lower();
@@ -51,9 +56,9 @@ pub fn put_label<'a>(class: Piece<'a>, place: (Tenths, Tenths), text: Piece<'a>,
 /// A text on a plate of this size at a corner, both above the lines of the panel.
 pub fn put_plate<'a>(
     (corner, size): ((Tenths, Tenths), (Tenths, Tenths)),
-    class: Piece<'a>,
+    class: CanvasPiece<'a>,
     place: (Tenths, Tenths),
-    text: Piece<'a>,
+    text: CanvasPiece<'a>,
     out: &mut Canvas,
 ) {
     out.raise();
@@ -84,7 +89,7 @@ pub fn put_label_in<'a>(
     task: u8,
     class: &'a str,
     (x, y): (Tenths, Tenths),
-    text: Piece<'a>,
+    text: CanvasPiece<'a>,
     out: &mut Canvas,
 ) {
     let colour = Number(scene.colour(task));
@@ -113,7 +118,12 @@ pub fn put_number(scene: &Scene<'_>, corner: (Tenths, Tenths), task: u8, out: &m
 }
 
 /// A text, and a line feed.
-pub fn put_text<'a>(class: Piece<'a>, (x, y): (Tenths, Tenths), text: Piece<'a>, out: &mut Canvas) {
+pub fn put_text<'a>(
+    class: CanvasPiece<'a>,
+    (x, y): (Tenths, Tenths),
+    text: CanvasPiece<'a>,
+    out: &mut Canvas,
+) {
     out.put(
         "<text class=\"{}\" x=\"{}\" y=\"{}\">{}</text>\n",
         &[class, At(x), At(y), text],

@@ -1,11 +1,11 @@
 //! Marks and their tags, which take room in a lane before its texts do.
-use crate::scene::{Scene, Taken};
+use crate::scene::{Scene, TakenPixels};
 use crate::shapes::{put_box, put_text};
 use crate::strips::{Lane, Strip};
 use crate::titles::put_event_title;
 use fmp_base::Fault;
-use fmp_timeline::Piece::{At, Raw, Text};
-use fmp_timeline::{Canvas, Mark, Run, Sign, Span, Tenths, px, width};
+use fmp_timeline::CanvasPiece::{At, Raw, Text};
+use fmp_timeline::{Canvas, EventMark, PanelSpan, Run, Sign, Tenths, px, width};
 use std::alloc::AllocError;
 
 /// The size of tags.
@@ -13,8 +13,8 @@ const TAG: Tenths = Tenths(80);
 
 /// A mark at its place, with a tag if there is room for one.
 #[derive(Clone, Copy)]
-pub struct Placed {
-    pub mark: Mark,
+pub struct PlacedMark {
+    pub mark: EventMark,
     pub x: Tenths,
     /// Where the tag begins, and its text.
     pub tag: Option<(Tenths, &'static [u8])>,
@@ -78,7 +78,7 @@ fn tag_text(sign: Sign) -> &'static str {
 }
 
 /// Whether a mark of a task stands in its lane on this processor.
-fn stands_on(run: &Run, task: u8, processor: u8, mark: &Mark) -> bool {
+fn stands_on(run: &Run, task: u8, processor: u8, mark: &EventMark) -> bool {
     let event = if mark.sign.stands_before() {
         mark.event.saturating_sub(1)
     } else {
@@ -93,7 +93,7 @@ fn stands_on(run: &Run, task: u8, processor: u8, mark: &Mark) -> bool {
 }
 
 /// Whether a mark of this lane's owner stands in this lane.
-fn stands_in(run: &Run, lane: Lane, mark: &Mark) -> bool {
+fn stands_in(run: &Run, lane: Lane, mark: &EventMark) -> bool {
     match lane {
         Lane::Task(task, processor) => stands_on(run, task, processor, mark),
         _ => true,
@@ -101,7 +101,7 @@ fn stands_in(run: &Run, lane: Lane, mark: &Mark) -> bool {
 }
 
 /// The marks of this lane's owner, from an event on.
-fn marks_from<'a>(scene: &Scene<'a>, lane: Lane, first: u32) -> &'a [Mark] {
+fn marks_from<'a>(scene: &Scene<'a>, lane: Lane, first: u32) -> &'a [EventMark] {
     let Some(deeds) = scene.deeds_in(lane) else {
         return &[];
     };
@@ -110,7 +110,7 @@ fn marks_from<'a>(scene: &Scene<'a>, lane: Lane, first: u32) -> &'a [Mark] {
 }
 
 /// The marks of a lane in a panel.
-fn marks_of(scene: &Scene<'_>, span: &Span, lane: Lane) -> Result<Vec<Mark>, AllocError> {
+fn marks_of(scene: &Scene<'_>, span: &PanelSpan, lane: Lane) -> Result<Vec<EventMark>, AllocError> {
     let mut mine = Vec::new(scene.alloc);
     for mark in marks_from(scene, lane, span.first) {
         if mark.event > span.last {
@@ -124,7 +124,7 @@ fn marks_of(scene: &Scene<'_>, span: &Span, lane: Lane) -> Result<Vec<Mark>, All
 }
 
 /// Whether one of these marks says that a body stops at this event.
-fn stops_at(event: u32, all: &[Mark]) -> bool {
+fn stops_at(event: u32, all: &[EventMark]) -> bool {
     for mark in all {
         if mark.event == event && matches!(mark.sign, Sign::Ended | Sign::Faulted(_)) {
             return true;
@@ -134,7 +134,7 @@ fn stops_at(event: u32, all: &[Mark]) -> bool {
 }
 
 /// How far a mark stands beside its event's line: a start beside an end of the same event.
-fn shift_of(mark: &Mark, all: &[Mark]) -> Tenths {
+fn shift_of(mark: &EventMark, all: &[EventMark]) -> Tenths {
     if matches!(mark.sign, Sign::Start) && stops_at(mark.event, all) {
         return px(4);
     }
@@ -142,7 +142,7 @@ fn shift_of(mark: &Mark, all: &[Mark]) -> Tenths {
 }
 
 /// Where the marks after this one begin.
-fn next_left(span: &Span, event: u32, later: &[Mark]) -> Tenths {
+fn next_left(span: &PanelSpan, event: u32, later: &[EventMark]) -> Tenths {
     for mark in later {
         if mark.event > event {
             return span.x(mark.event) - left_of(mark.sign);
@@ -152,7 +152,7 @@ fn next_left(span: &Span, event: u32, later: &[Mark]) -> Tenths {
 }
 
 /// Where the tag of a mark begins.
-fn tag_start(span: &Span, mark: &Mark, all: &[Mark]) -> Tenths {
+fn tag_start(span: &PanelSpan, mark: &EventMark, all: &[EventMark]) -> Tenths {
     let x = span.x(mark.event);
     if !matches!(mark.sign, Sign::Priority(_)) {
         return x + right_of(mark.sign) + px(1);
@@ -185,9 +185,14 @@ fn fit_tag(sign: Sign, start: Tenths, end: Tenths) -> Option<(Tenths, &'static [
 }
 
 /// A mark at its place among these.
-fn placed_mark(span: &Span, mark: &Mark, all: &[Mark], later: &[Mark]) -> Placed {
+fn placed_mark(
+    span: &PanelSpan,
+    mark: &EventMark,
+    all: &[EventMark],
+    later: &[EventMark],
+) -> PlacedMark {
     let end = next_left(span, mark.event, later);
-    Placed {
+    PlacedMark {
         mark: *mark,
         x: span.x(mark.event) + shift_of(mark, all),
         tag: fit_tag(mark.sign, tag_start(span, mark, all), end),
@@ -195,7 +200,11 @@ fn placed_mark(span: &Span, mark: &Mark, all: &[Mark], later: &[Mark]) -> Placed
 }
 
 /// The marks of a lane at their places. None if columns are narrow.
-fn placed_marks(scene: &Scene<'_>, span: &Span, lane: Lane) -> Result<Vec<Placed>, AllocError> {
+fn placed_marks(
+    scene: &Scene<'_>,
+    span: &PanelSpan,
+    lane: Lane,
+) -> Result<Vec<PlacedMark>, AllocError> {
     let mut placed = Vec::new(scene.alloc);
     if span.is_narrow() {
         return Ok(placed);
@@ -209,22 +218,26 @@ fn placed_marks(scene: &Scene<'_>, span: &Span, lane: Lane) -> Result<Vec<Placed
 }
 
 /// The pixels that a mark takes.
-fn taken_by(placed: &Placed) -> Taken {
+fn taken_by(placed: &PlacedMark) -> TakenPixels {
     let sign = placed.mark.sign;
-    Taken {
+    TakenPixels {
         from: placed.x - left_of(sign),
         to: placed.x + right_of(sign),
     }
 }
 
 /// The pixels that the marks of a lane and their tags take.
-pub fn taken_in(scene: &Scene<'_>, span: &Span, lane: Lane) -> Result<Vec<Taken>, AllocError> {
+pub fn taken_in(
+    scene: &Scene<'_>,
+    span: &PanelSpan,
+    lane: Lane,
+) -> Result<Vec<TakenPixels>, AllocError> {
     let mut taken = Vec::new(scene.alloc);
     for placed in &placed_marks(scene, span, lane)? {
         taken.push(taken_by(placed))?;
         if let Some((from, text)) = placed.tag {
             let to = from + tag_width(text);
-            taken.push(Taken { from, to })?;
+            taken.push(TakenPixels { from, to })?;
         }
     }
     Ok(taken)
@@ -244,7 +257,7 @@ fn put_tag(text: &[u8], sign: Sign, from: Tenths, strip: &Strip, out: &mut Canva
 }
 
 /// The shape of a mark.
-fn put_shape(scene: &Scene<'_>, shape: &str, strip: &Strip, placed: &Placed, out: &mut Canvas) {
+fn put_shape(scene: &Scene<'_>, shape: &str, strip: &Strip, placed: &PlacedMark, out: &mut Canvas) {
     out.raw("<g>");
     put_event_title(scene, placed.mark.event, out);
     out.put(
@@ -253,7 +266,7 @@ fn put_shape(scene: &Scene<'_>, shape: &str, strip: &Strip, placed: &Placed, out
     );
 }
 
-fn put_mark(scene: &Scene<'_>, strip: &Strip, placed: &Placed, out: &mut Canvas) {
+fn put_mark(scene: &Scene<'_>, strip: &Strip, placed: &PlacedMark, out: &mut Canvas) {
     let sign = placed.mark.sign;
     let (shape, _, _) = shape_of(sign);
     if !shape.is_empty() {
@@ -275,7 +288,13 @@ fn tick_class(sign: Sign) -> Option<&'static str> {
 }
 
 /// The ticks of one class of marks, as one path.
-fn put_ticks(span: &Span, strip: &Strip, marks: &[Mark], class: &'static str, out: &mut Canvas) {
+fn put_ticks(
+    span: &PanelSpan,
+    strip: &Strip,
+    marks: &[EventMark],
+    class: &'static str,
+    out: &mut Canvas,
+) {
     let mut open = false;
     for mark in marks {
         if tick_class(mark.sign) == Some(class) {
@@ -292,7 +311,7 @@ fn put_ticks(span: &Span, strip: &Strip, marks: &[Mark], class: &'static str, ou
 }
 
 /// The marks of a lane where columns are narrow.
-fn put_all_ticks(span: &Span, strip: &Strip, marks: &[Mark], out: &mut Canvas) {
+fn put_all_ticks(span: &PanelSpan, strip: &Strip, marks: &[EventMark], out: &mut Canvas) {
     put_ticks(span, strip, marks, "er", out);
     put_ticks(span, strip, marks, "am", out);
     put_ticks(span, strip, marks, "mk", out);
@@ -301,7 +320,7 @@ fn put_all_ticks(span: &Span, strip: &Strip, marks: &[Mark], out: &mut Canvas) {
 /// The marks of a lane. `AllocError` if memory runs out.
 pub fn put_marks(
     scene: &Scene<'_>,
-    span: &Span,
+    span: &PanelSpan,
     strip: &Strip,
     out: &mut Canvas,
 ) -> Result<(), AllocError> {

@@ -1,7 +1,7 @@
 //! Which lanes a panel has, and where they stand.
 use fmp_base::{Caller, Handler, Lock, StateWord, System};
 use fmp_timeline::{
-    Object, Presence, Run, Showing, Span, TaskShown, Tenths, Track, px, showing_of,
+    ObjectHistory, PanelSpan, Presence, Run, Showing, TaskShown, Tenths, Track, px, showing_of,
 };
 use std::alloc::{AllocError, Global};
 
@@ -116,7 +116,7 @@ fn leaves(run: &Run, task: u8, processor: u8, first: u32) -> bool {
 }
 
 /// Whether a task is dormant after each event of a panel.
-fn is_dormant(run: &Run, task: u8, span: &Span) -> bool {
+fn is_dormant(run: &Run, task: u8, span: &PanelSpan) -> bool {
     let track = run.tasks.get(usize::from(task));
     !any_state(
         track,
@@ -127,7 +127,7 @@ fn is_dormant(run: &Run, task: u8, span: &Span) -> bool {
 }
 
 /// How a task is there on a processor, over the events of a panel.
-fn presence_of(run: &Run, span: &Span, task: u8, processor: u8) -> Presence {
+fn presence_of(run: &Run, span: &PanelSpan, task: u8, processor: u8) -> Presence {
     Presence {
         is_here: is_here(run, task, processor, span.first, span.last),
         leaves: leaves(run, task, processor, span.first),
@@ -137,7 +137,7 @@ fn presence_of(run: &Run, span: &Span, task: u8, processor: u8) -> Presence {
 }
 
 /// Whether an object changes in a panel, or tasks wait for it.
-fn is_moving(object: &Object, span: &Span) -> bool {
+fn is_moving(object: &ObjectHistory, span: &PanelSpan) -> bool {
     let waited = match object.track.at(span.first) {
         Some(shown) => shown.start < shown.end,
         None => false,
@@ -146,7 +146,7 @@ fn is_moving(object: &Object, span: &Span) -> bool {
 }
 
 /// Whether some object changes in a panel, or tasks wait for it.
-fn is_any_moving(objects: &[Object], span: &Span) -> bool {
+fn is_any_moving(objects: &[ObjectHistory], span: &PanelSpan) -> bool {
     for object in objects {
         if is_moving(object, span) {
             return true;
@@ -156,7 +156,7 @@ fn is_any_moving(objects: &[Object], span: &Span) -> bool {
 }
 
 /// Whether something happens to a task in a panel: it runs, changes or has a mark.
-fn is_awake(run: &Run, task: u8, span: &Span) -> bool {
+fn is_awake(run: &Run, task: u8, span: &PanelSpan) -> bool {
     let Some(track) = run.tasks.get(usize::from(task)) else {
         return false;
     };
@@ -173,7 +173,7 @@ fn runs_at(track: &Track<TaskShown>, event: u32) -> bool {
 }
 
 /// Whether a task has a mark in a panel, after setup.
-fn has_mark(run: &Run, task: u8, span: &Span) -> bool {
+fn has_mark(run: &Run, task: u8, span: &PanelSpan) -> bool {
     let Some(deeds) = run.deeds_of(Caller::Task(task)) else {
         return false;
     };
@@ -207,7 +207,7 @@ impl Strips {
         Ok(())
     }
 
-    fn add_head(&mut self, run: &Run, span: &Span, processor: u8) -> Result<(), AllocError> {
+    fn add_head(&mut self, run: &Run, span: &PanelSpan, processor: u8) -> Result<(), AllocError> {
         let place = usize::from(processor);
         let (first, last) = (span.first, span.last);
         self.add(Lane::Processor(processor))?;
@@ -225,7 +225,7 @@ impl Strips {
     fn add_handler(
         &mut self,
         run: &Run,
-        span: &Span,
+        span: &PanelSpan,
         many: bool,
         handler: Handler,
     ) -> Result<(), AllocError> {
@@ -239,7 +239,7 @@ impl Strips {
         &mut self,
         sys: &System,
         run: &Run,
-        span: &Span,
+        span: &PanelSpan,
         processor: u8,
     ) -> Result<(), AllocError> {
         let many = sys.tasks.len() > MANY_TASKS;
@@ -255,7 +255,7 @@ impl Strips {
         &mut self,
         sys: &System,
         run: &Run,
-        span: &Span,
+        span: &PanelSpan,
         processor: u8,
     ) -> Result<(), AllocError> {
         let many = sys.tasks.len() > MANY_TASKS;
@@ -271,7 +271,7 @@ impl Strips {
     fn add_task(
         &mut self,
         run: &Run,
-        span: &Span,
+        span: &PanelSpan,
         many: bool,
         (task, processor): (u8, u8),
     ) -> Result<(), AllocError> {
@@ -287,7 +287,7 @@ impl Strips {
         &mut self,
         sys: &System,
         run: &Run,
-        span: &Span,
+        span: &PanelSpan,
         processor: u8,
     ) -> Result<(), AllocError> {
         let many = sys.tasks.len() > MANY_TASKS;
@@ -302,7 +302,12 @@ impl Strips {
     }
 
     /// The lane of the object at a place, if it has one.
-    fn add_object(&mut self, object: &Object, place: usize, span: &Span) -> Result<(), AllocError> {
+    fn add_object(
+        &mut self,
+        object: &ObjectHistory,
+        place: usize,
+        span: &PanelSpan,
+    ) -> Result<(), AllocError> {
         if is_moving(object, span) {
             return self.add(Lane::Object(place));
         }
@@ -310,7 +315,7 @@ impl Strips {
         Ok(())
     }
 
-    fn add_objects(&mut self, run: &Run, span: &Span) -> Result<(), AllocError> {
+    fn add_objects(&mut self, run: &Run, span: &PanelSpan) -> Result<(), AllocError> {
         if is_any_moving(&run.objects.all, span) {
             self.add(Lane::ObjectsHead)?;
         }
@@ -320,7 +325,7 @@ impl Strips {
         Ok(())
     }
 
-    fn add_all(&mut self, sys: &System, run: &Run, span: &Span) -> Result<(), AllocError> {
+    fn add_all(&mut self, sys: &System, run: &Run, span: &PanelSpan) -> Result<(), AllocError> {
         for processor in 0..sys.processors {
             self.add_head(run, span, processor)?;
             self.add_interrupts(sys, run, span, processor)?;
@@ -336,7 +341,7 @@ impl Strips {
         alloc: Global,
         sys: &System,
         run: &Run,
-        span: &Span,
+        span: &PanelSpan,
         top: u32,
     ) -> Result<Strips, AllocError> {
         let mut strips = Strips {

@@ -1,14 +1,14 @@
 //! Lanes of tasks.
 use crate::calls::put_calls;
-use crate::scene::{Scene, Taken, fit_left};
+use crate::scene::{Scene, TakenPixels, fit_left};
 use crate::shapes::{put_box, put_frame, put_hatch, put_label, put_line, put_number, put_text};
 use crate::strips::Strip;
 use crate::titles::put_title_with;
 use fmp_base::{Caller, StateWord};
-use fmp_timeline::Piece::{At, Label, Number, Numbered, Raw, Text};
+use fmp_timeline::CanvasPiece::{At, Label, Number, Numbered, Raw, Text};
 use fmp_timeline::{
-    Canvas, Piece, Span, Spin, Stay, TaskShown, Tenths, append_handler, deed_words, px, task_bytes,
-    wait_name, width,
+    Canvas, CanvasPiece, PanelSpan, SpinSpan, Stay, TaskShown, Tenths, append_handler, deed_words,
+    px, task_bytes, wait_name, width,
 };
 use std::alloc::AllocError;
 
@@ -33,7 +33,7 @@ pub fn word_of(word: StateWord) -> &'static str {
 /// A name of this width in the gutter, squeezed where it is wider than its room.
 pub fn put_name(
     strip: &Strip,
-    name: Piece<'_>,
+    name: CanvasPiece<'_>,
     wide: Tenths,
     room: Tenths,
     faint: bool,
@@ -127,7 +127,7 @@ fn put_gutter(scene: &Scene<'_>, strip: &Strip, (task, processor): (u8, u8), out
 }
 
 /// What stands at the right end of the gutter.
-pub fn put_side(scene: &Scene<'_>, strip: &Strip, side: Piece<'_>, out: &mut Canvas) {
+pub fn put_side(scene: &Scene<'_>, strip: &Strip, side: CanvasPiece<'_>, out: &mut Canvas) {
     let place = (scene.page.left() - px(8), strip.middle(30));
     put_text(Raw("m e"), place, side, out);
 }
@@ -170,8 +170,8 @@ fn can_be_cut(scene: &Scene<'_>, shown: &TaskShown, count: usize) -> bool {
 /// Where this text of a wait begins between two places, if it fits there, with the text as the label.
 fn fit_wait(
     scene: &Scene<'_>,
-    span: &Span,
-    taken: &[Taken],
+    span: &PanelSpan,
+    taken: &[TakenPixels],
     ends: (Tenths, Tenths),
     (shown, letters, until): (&TaskShown, Option<usize>, bool),
     label: &mut Canvas,
@@ -184,8 +184,8 @@ fn fit_wait(
 /// Where the longest text of a wait that fits between two places begins, with this text as the label.
 fn fit_label(
     scene: &Scene<'_>,
-    span: &Span,
-    taken: &[Taken],
+    span: &PanelSpan,
+    taken: &[TakenPixels],
     ends: (Tenths, Tenths),
     shown: &TaskShown,
     label: &mut Canvas,
@@ -253,8 +253,8 @@ fn put_task_title(scene: &Scene<'_>, task: u8, stay: &Stay<TaskShown>, out: &mut
 /// The text of a wait between two places of its lane, lowered by this many tenths, if it fits.
 fn put_wait_text(
     scene: &Scene<'_>,
-    span: &Span,
-    taken: &[Taken],
+    span: &PanelSpan,
+    taken: &[TakenPixels],
     ends: (Tenths, Tenths),
     (class, y): (&str, Tenths),
     shown: &TaskShown,
@@ -269,9 +269,9 @@ fn put_wait_text(
 /// A wait: its frame, and its text where it fits.
 fn put_wait(
     scene: &Scene<'_>,
-    span: &Span,
+    span: &PanelSpan,
     strip: &Strip,
-    taken: &[Taken],
+    taken: &[TakenPixels],
     (task, stay): (u8, &Stay<TaskShown>),
     out: &mut Canvas,
 ) {
@@ -293,7 +293,7 @@ fn put_wait(
 /// The full box of a task that runs, with what lies over it.
 fn put_running(
     scene: &Scene<'_>,
-    span: &Span,
+    span: &PanelSpan,
     strip: &Strip,
     (task, stay): (u8, &Stay<TaskShown>),
     out: &mut Canvas,
@@ -317,7 +317,7 @@ fn put_running(
 /// A state of a task that neither runs nor waits.
 fn put_rest(
     scene: &Scene<'_>,
-    span: &Span,
+    span: &PanelSpan,
     strip: &Strip,
     (task, stay): (u8, &Stay<TaskShown>),
     out: &mut Canvas,
@@ -340,9 +340,9 @@ fn put_rest(
 /// A state of a task on this processor.
 fn put_state(
     scene: &Scene<'_>,
-    span: &Span,
+    span: &PanelSpan,
     strip: &Strip,
-    taken: &[Taken],
+    taken: &[TakenPixels],
     (task, stay): (u8, &Stay<TaskShown>),
     out: &mut Canvas,
 ) {
@@ -359,7 +359,13 @@ fn put_state(
 }
 
 /// The zigzags of one span along the foot of a task that spins.
-fn put_zigzags(span: &Span, strip: &Strip, colour: u32, spin: &Stay<Spin>, out: &mut Canvas) {
+fn put_zigzags(
+    span: &PanelSpan,
+    strip: &Strip,
+    colour: u32,
+    spin: &Stay<SpinSpan>,
+    out: &mut Canvas,
+) {
     let (left, right) = (span.box_left(spin), span.box_right(spin));
     let count = u32::try_from((right - left - px(2)).0).unwrap_or(0) / 40;
     out.numbered("<path class=\"g", colour, " q\" d=\"");
@@ -374,7 +380,7 @@ fn put_zigzags(span: &Span, strip: &Strip, colour: u32, spin: &Stay<Spin>, out: 
 /// The zigzags along the foot of a task that spins.
 fn put_spins(
     scene: &Scene<'_>,
-    span: &Span,
+    span: &PanelSpan,
     strip: &Strip,
     (task, processor): (u8, u8),
     out: &mut Canvas,
@@ -392,9 +398,9 @@ fn put_spins(
 /// A state of a task: on this processor or on another.
 fn put_stay(
     scene: &Scene<'_>,
-    span: &Span,
+    span: &PanelSpan,
     strip: &Strip,
-    taken: &[Taken],
+    taken: &[TakenPixels],
     (task, processor, stay): (u8, u8, &Stay<TaskShown>),
     out: &mut Canvas,
 ) {
@@ -410,9 +416,9 @@ fn put_stay(
 /// The states of a task in its lane on a processor.
 fn put_stays(
     scene: &Scene<'_>,
-    span: &Span,
+    span: &PanelSpan,
     strip: &Strip,
-    taken: &[Taken],
+    taken: &[TakenPixels],
     (task, processor): (u8, u8),
     out: &mut Canvas,
 ) {
@@ -428,9 +434,9 @@ fn put_stays(
 /// The lane of a task on a processor, beside these pixels of its marks. `AllocError` if memory runs out.
 pub fn put_task(
     scene: &Scene<'_>,
-    span: &Span,
+    span: &PanelSpan,
     strip: &Strip,
-    taken: Vec<Taken>,
+    taken: Vec<TakenPixels>,
     (task, processor): (u8, u8),
     out: &mut Canvas,
 ) -> Result<(), AllocError> {

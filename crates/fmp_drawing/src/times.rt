@@ -1,8 +1,8 @@
 //! The real times of events, where they are known: a row at the axis, and lines in titles.
 use crate::scene::Scene;
 use crate::shapes::put_text;
-use fmp_timeline::Piece::{At, Label, Raw};
-use fmp_timeline::{Canvas, Span, Tenths, px};
+use fmp_timeline::CanvasPiece::{At, Label, Raw};
+use fmp_timeline::{Canvas, PanelSpan, Tenths, px};
 use itoa::Buffer;
 
 /// The height of the row of times.
@@ -98,7 +98,7 @@ fn rounded_up(least: u64) -> u64 {
 }
 
 /// The round step of time that a panel has labels for, in microseconds.
-fn step_of(scene: &Scene<'_>, span: &Span) -> u64 {
+fn step_of(scene: &Scene<'_>, span: &PanelSpan) -> u64 {
     let from = scene.time_of(span.first).unwrap_or(0);
     let to = scene.time_of(span.last).unwrap_or(from);
     let events = span.last.saturating_sub(span.first).saturating_add(1);
@@ -107,7 +107,7 @@ fn step_of(scene: &Scene<'_>, span: &Span) -> u64 {
 }
 
 /// The time of an event if it is the first of the panel, or the first since a multiple of this step.
-fn labelled(scene: &Scene<'_>, span: &Span, event: u32, step: u64) -> Option<u64> {
+fn labelled(scene: &Scene<'_>, span: &PanelSpan, event: u32, step: u64) -> Option<u64> {
     let time = scene.time_of(event)?;
     let before = scene.time_of(event.saturating_sub(1))?;
     let is_first = event == span.first || time.checked_div(step) != before.checked_div(step);
@@ -135,7 +135,7 @@ fn put_label(
 
 /// The row of times of a panel that begins at this height: few of them, those behind round times, but those that would
 /// touch the one before.
-fn put_row(scene: &Scene<'_>, span: &Span, top: Tenths, out: &mut Canvas) {
+fn put_row(scene: &Scene<'_>, span: &PanelSpan, top: Tenths, out: &mut Canvas) {
     let (x, y) = (At(scene.page.left() - px(8)), At(top + px(10)));
     out.put("<text class=\"m e\" x=\"{}\" y=\"{}\">ms</text>\n", &[x, y]);
     let step = step_of(scene, span);
@@ -148,7 +148,7 @@ fn put_row(scene: &Scene<'_>, span: &Span, top: Tenths, out: &mut Canvas) {
 }
 
 /// The row of times of a panel that begins at this height, if they are known.
-pub fn put_times(scene: &Scene<'_>, span: &Span, top: Tenths, out: &mut Canvas) {
+pub fn put_times(scene: &Scene<'_>, span: &PanelSpan, top: Tenths, out: &mut Canvas) {
     if scene.has_times() {
         put_row(scene, span, top, out);
     }

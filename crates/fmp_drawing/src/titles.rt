@@ -2,8 +2,8 @@
 use crate::scene::Scene;
 use crate::shapes::put_box;
 use crate::times::{put_period_line, put_time_line};
-use fmp_timeline::Piece::{Number, Raw};
-use fmp_timeline::{Canvas, Piece, Run, Stay, Tenths};
+use fmp_timeline::CanvasPiece::{Number, Raw};
+use fmp_timeline::{Canvas, CanvasPiece, Run, Stay, Tenths};
 
 /// No more lines than this stand in a title.
 const MOST_LINES: u32 = 12;
@@ -74,7 +74,7 @@ pub fn put_area(
 pub fn put_title<S>(
     scene: &Scene<'_>,
     head: &str,
-    values: &[Piece<'_>],
+    values: &[CanvasPiece<'_>],
     stay: &Stay<S>,
     out: &mut Canvas,
 ) {
@@ -84,8 +84,8 @@ pub fn put_title<S>(
 /// The same, with this behind its first line.
 pub fn put_title_with<S>(
     scene: &Scene<'_>,
-    (head, values): (&str, &[Piece<'_>]),
-    more: Piece<'_>,
+    (head, values): (&str, &[CanvasPiece<'_>]),
+    more: CanvasPiece<'_>,
     stay: &Stay<S>,
     out: &mut Canvas,
 ) {

@@ -12,7 +12,7 @@ use Rattle.fmp_base.specs.Steps.{Reaction, Nothing, Did, Kept, effect_of}
 use Rattle.fmp_coming.specs.Comings.{IsPlaceOf, reaction_of}
 use Rattle.fmp_coming.proofs.Comings.{cut}
 use Rattle.fmp_kernel.specs.KernelViews.{KernelView, view_after}
-use Rattle.fmp_why.specs.declared.obstacles.Spin.{Spin}
+use Rattle.fmp_why.specs.declared.obstacles.SpinWait.{SpinWait}
 use Rattle.fmp_frames.specs.Frames.{FrameTable, frame_of, framed, framed_on, frames, frames_of_each, kept_frame}
 use Rattle.fmp_frames.specs.Showing.{HasShown}
 
@@ -20,7 +20,7 @@ use Rattle.fmp_frames.specs.Showing.{HasShown}
 pub map_push : {A B : Type 0} (f : A → B) (xs ys : List A) (x : A) → ys ≡ xs ++ x ∷ [] → map f ys ≡ map f xs ++ f x ∷ []
 map_push f xs ys x e = ap (map f) e ∙ map-append f xs (x ∷ [])
 
-abbrev made : List Line → Option ℕ → ℕ → List TaskState → List TaskBlock → List Processor → List (Option Spin) → List ℕ → List ℕ → List ℕ
+abbrev made : List Line → Option ℕ → ℕ → List TaskState → List TaskBlock → List Processor → List (Option SpinWait) → List ℕ → List ℕ → List ℕ
     → List ℕ → List ℤ → List Bool → List Bool → FrameTable
 made l k c s b p z m f q x w y i =
     record {
@@ -51,7 +51,7 @@ same-frame a b e1 e0 e2 e3 e4 e5 e13 e6 e7 e8 e9 e10 e11 e12 =
     ∙ ap (λ (x : List TaskState). made b.lines b.kept b.clock x a.blocks a.processors a.spins a.semaphores a.flags a.data_queues a.mailboxes a.shared_words a.pending_cyclics a.pending_interrupts) e3
     ∙ ap (λ (x : List TaskBlock). made b.lines b.kept b.clock b.states x a.processors a.spins a.semaphores a.flags a.data_queues a.mailboxes a.shared_words a.pending_cyclics a.pending_interrupts) e4
     ∙ ap (λ (x : List Processor). made b.lines b.kept b.clock b.states b.blocks x a.spins a.semaphores a.flags a.data_queues a.mailboxes a.shared_words a.pending_cyclics a.pending_interrupts) e5
-    ∙ ap (λ (x : List (Option Spin)). made b.lines b.kept b.clock b.states b.blocks b.processors x a.semaphores a.flags a.data_queues a.mailboxes a.shared_words a.pending_cyclics a.pending_interrupts) e13
+    ∙ ap (λ (x : List (Option SpinWait)). made b.lines b.kept b.clock b.states b.blocks b.processors x a.semaphores a.flags a.data_queues a.mailboxes a.shared_words a.pending_cyclics a.pending_interrupts) e13
     ∙ ap (λ (x : List ℕ). made b.lines b.kept b.clock b.states b.blocks b.processors b.spins x a.flags a.data_queues a.mailboxes a.shared_words a.pending_cyclics a.pending_interrupts) e6
     ∙ ap (λ (x : List ℕ). made b.lines b.kept b.clock b.states b.blocks b.processors b.spins b.semaphores x a.data_queues a.mailboxes a.shared_words a.pending_cyclics a.pending_interrupts) e7
     ∙ ap (λ (x : List ℕ). made b.lines b.kept b.clock b.states b.blocks b.processors b.spins b.semaphores b.flags x a.mailboxes a.shared_words a.pending_cyclics a.pending_interrupts) e8

@@ -12,11 +12,11 @@ use Rattle.fmp_base.specs.declared.states.Caller.{Caller}
 use Rattle.fmp_base.specs.declared.states.Caller.TheVariants as caller
 use Rattle.fmp_base.specs.declared.states.Handler.{Handler}
 use Rattle.fmp_base.specs.declared.states.Processor.{Processor}
-use Rattle.fmp_why.specs.declared.obstacles.Spin.{Spin}
+use Rattle.fmp_why.specs.declared.obstacles.SpinWait.{SpinWait}
 use Rattle.fmp_why.specs.Obstacles.{spin_of}
 use Rattle.fmp_why.specs.Verdicts.{is_spin}
 use Rattle.fmp_frames.specs.Frames.{FrameTable, each}
-use Rattle.fmp_frames.specs.declared.counting.Tally.{Tally}
+use Rattle.fmp_frames.specs.declared.counting.TaskTally.{TaskTally}
 use Rattle.fmp_frames.specs.declared.tallies.Tallies.{Tallies}
 
 abbrev pub is_task : ℕ → Caller → Bool
@@ -91,7 +91,7 @@ more n k = min (n + k) (2 ^ 32 - 1)
 
 -- the counts of task t after an event that told these lines, or kept the place of the first task; what is shown of the
 -- tasks was the first and is the second
-abbrev pub counted : ℕ → List Line → Option ℕ → (was is : List TaskState) → Tally → Tally
+abbrev pub counted : ℕ → List Line → Option ℕ → (was is : List TaskState) → TaskTally → TaskTally
 counted t lines kept was is x =
     record {
       starts = more x.starts (length (filter (starts t) lines));
@@ -104,15 +104,15 @@ counted t lines kept was is x =
     }
 
 -- after how many events task t spun, after one more: it spins if the actor of a processor that runs it does
-abbrev pub spun : ℕ → List Processor → List (Option Spin) → ℕ → ℕ
+abbrev pub spun : ℕ → List Processor → List (Option SpinWait) → ℕ → ℕ
 spun t cpus spins x = more x (one_if (is_spin (spin_of cpus spins t)))
 
-abbrev pub nothing : Tally
+abbrev pub nothing : TaskTally
 nothing = record { starts = 0; calls = 0; waits = 0; time_outs = 0; preemptions = 0; kept = 0; events = 0 }
 
 -- what is counted of all tasks up to an event, with what is shown of them after it
 pub record Counts : Type 0 where
-  pub tallies : List Tally
+  pub tallies : List TaskTally
   pub shown : List TaskState
   -- after how many events each task spun
   pub spins : List ℕ

@@ -18,7 +18,7 @@ use Rattle.fmp_base.specs.Ticks.{is_pending}
 use Rattle.fmp_kernel.specs.KernelViews.{KernelView, view_after}
 use Rattle.fmp_frames.specs.declared.frame.Frame as declared
 use Rattle.fmp_frames.specs.Spinning.{spin_at}
-use Rattle.fmp_why.specs.declared.obstacles.Spin.{Spin}
+use Rattle.fmp_why.specs.declared.obstacles.SpinWait.{SpinWait}
 
 -- what a frame shows, without memory
 pub record FrameTable : Type 0 where
@@ -30,7 +30,7 @@ pub record FrameTable : Type 0 where
   pub blocks : List TaskBlock
   pub processors : List Processor
   -- what the actors of the processors spin for: what their next runs would come to
-  pub spins : List (Option Spin)
+  pub spins : List (Option SpinWait)
   pub semaphores : List ℕ
   pub flags : List ℕ
   pub data_queues : List ℕ

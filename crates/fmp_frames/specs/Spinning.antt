@@ -8,7 +8,7 @@ use Rattle.fmp_base.specs.Stretches.{Ending}
 use Rattle.fmp_base.specs.Stretches as ending
 use Rattle.fmp_base.specs.Systems.{SystemTables}
 use Rattle.fmp_worlds.specs.Stamps.{Going, actor_at}
-use Rattle.fmp_why.specs.declared.obstacles.Spin.{Spin}
+use Rattle.fmp_why.specs.declared.obstacles.SpinWait.{SpinWait}
 use Rattle.fmp_why.specs.Obstacles.{spin_on}
 
 -- the call that a stretch ends with, if it ends with one
@@ -27,6 +27,6 @@ abbrev pub next_call : {C : Type 0} → SystemTables → Meaning C → (bound : 
 next_call sys M bound w p = call_by M bound (actor_at sys w p)
 
 -- what the actor of the processor at place p spins for, given all processors
-abbrev pub spin_at : {C : Type 0} → SystemTables → Meaning C → (bound : ℕ) → World C → List Processor → ℕ → Option Spin
+abbrev pub spin_at : {C : Type 0} → SystemTables → Meaning C → (bound : ℕ) → World C → List Processor → ℕ → Option SpinWait
 spin_at sys M bound w cpus p =
     spin_on cpus (length sys.spin_locks) (processor_at w.state p) (next_call sys M bound w p)

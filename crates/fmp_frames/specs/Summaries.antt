@@ -5,7 +5,7 @@ use Rattle.std.specs.List.Sorted.{IsPermutation, IsSorted}
 use Rattle.std.specs.Ordering.{nat_cmp}
 use Rattle.fmp_base.specs.declared.states.Handler.{Handler}
 use Rattle.fmp_frames.specs.declared.responses.Response.{Response}
-use Rattle.fmp_frames.specs.declared.summaries.Summary.{Summary}
+use Rattle.fmp_frames.specs.declared.summaries.ResponseSummary.{ResponseSummary}
 use Rattle.fmp_frames.specs.Responses.{place_of}
 
 abbrev pub is_to : Handler → Response → Bool
@@ -16,13 +16,13 @@ abbrev pub times_of : Handler → List Response → List ℕ
 times_of h rs = map (λ r. r.micros) (filter (is_to h) rs)
 
 -- of times in order: how many they are, the one in the middle (the lower of two), and the last
-pub record IsSummary (sorted : List ℕ) (x : Summary) : Type 0 where
+pub record IsSummary (sorted : List ℕ) (x : ResponseSummary) : Type 0 where
   pub count : x.count ≡ length sorted
   pub median : x.median ≡ get_or sorted ((length sorted - 1) / 2) 0
   pub worst : x.worst ≡ get_or sorted (length sorted - 1) 0
 
 -- the same of times in any order
-pub record Summarizes (x : Summary) (times : List ℕ) : Type 0 where
+pub record Summarizes (x : ResponseSummary) (times : List ℕ) : Type 0 where
   pub sorted : List ℕ
   pub permuted : IsPermutation times sorted
   pub in_order : IsSorted nat_cmp sorted

@@ -9,12 +9,12 @@ use Rattle.fmp_base.specs.declared.states.Caller.{Caller}
 use Rattle.fmp_base.specs.declared.states.Caller.TheVariants as caller
 use Rattle.fmp_base.specs.Services.{service_of}
 use Rattle.fmp_frames.specs.declared.told.CallTold.{CallTold}
-use Rattle.fmp_frames.specs.declared.told.Calls.{Calls}
-use Rattle.fmp_frames.specs.declared.told.Outcome.{Outcome}
-use Rattle.fmp_frames.specs.declared.told.Outcome.TheVariants as outcome
+use Rattle.fmp_frames.specs.declared.told.ToldCalls.{ToldCalls}
+use Rattle.fmp_frames.specs.declared.told.ToldOutcome.{ToldOutcome}
+use Rattle.fmp_frames.specs.declared.told.ToldOutcome.TheVariants as outcome
 
 -- what became of a call with this reply, or with none
-abbrev pub outcome_of : Option Reply → Outcome
+abbrev pub outcome_of : Option Reply → ToldOutcome
 outcome_of (Some reply) = outcome.Answered reply.code
 outcome_of None = outcome.Waits
 
@@ -45,7 +45,7 @@ pub record Told : Type 0 where
   pub told : List CallTold
   pub waiting : List (Option Service)
 
-abbrev pub told_of : Calls → Told
+abbrev pub told_of : ToldCalls → Told
 told_of c = record { told = c.told.items; waiting = c.waiting.items }
 
 -- one more, if there is one

@@ -20,10 +20,10 @@ use Rattle.fmp_base.specs.declared.states.TaskBlock.{TaskBlock}
 use Rattle.fmp_base.specs.declared.states.WaitCause.{WaitCause}
 use Rattle.fmp_base.specs.declared.states.WaitCause.TheVariants as cause
 use Rattle.fmp_base.specs.States.{idle}
-use Rattle.fmp_why.specs.declared.obstacles.Spin.{Spin}
+use Rattle.fmp_why.specs.declared.obstacles.SpinWait.{SpinWait}
 use Rattle.fmp_frames.specs.Frames.{FrameTable}
-use Rattle.fmp_frames.specs.declared.variable.Object.{Object}
-use Rattle.fmp_frames.specs.declared.variable.Object.TheVariants as object
+use Rattle.fmp_frames.specs.declared.variable.WaitedObject.{WaitedObject}
+use Rattle.fmp_frames.specs.declared.variable.WaitedObject.TheVariants as object
 use Rattle.fmp_frames.specs.declared.variable.Variable.{Variable}
 use Rattle.fmp_frames.specs.declared.variable.Variable.TheVariants as show
 
@@ -87,7 +87,7 @@ wait_object phase.Dormant = 0
 wait_object phase.Ready = 0
 wait_object (phase.Waiting c) = cause_object c
 
-abbrev pub is_for : Object → WaitCause → Bool
+abbrev pub is_for : WaitedObject → WaitCause → Bool
 is_for (object.Semaphore i) (cause.Semaphore s) = nat_eq s i
 is_for (object.Flag i) (cause.Flag g pattern mode) = nat_eq g i
 is_for (object.DataQueue i) (cause.Sending d w) = nat_eq d i
@@ -95,13 +95,13 @@ is_for (object.DataQueue i) (cause.Receiving d) = nat_eq d i
 is_for (object.Mailbox i) (cause.Mailbox m) = nat_eq m i
 is_for x c = false
 
-abbrev pub is_wait_for : Object → Phase → Bool
+abbrev pub is_wait_for : WaitedObject → Phase → Bool
 is_wait_for x phase.Dormant = false
 is_wait_for x phase.Ready = false
 is_wait_for x (phase.Waiting c) = is_for x c
 
 -- a task waits for this object
-abbrev pub waits_for : Object → TaskBlock → Bool
+abbrev pub waits_for : WaitedObject → TaskBlock → Bool
 waits_for x block = is_wait_for x block.phase
 
 abbrev pub is_cyclic : ℕ → Option Handler → Bool
@@ -148,7 +148,7 @@ phase_of None = phase.Dormant
 phase_of (Some block) = block.phase
 
 -- the lock that is spun for
-abbrev pub lock_of : Option Spin → Option ℕ
+abbrev pub lock_of : Option SpinWait → Option ℕ
 lock_of None = None
 lock_of (Some spin) = Some spin.lock
 

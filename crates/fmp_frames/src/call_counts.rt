@@ -3,12 +3,12 @@ ghost use Rattle.std.specs.Prelude.{◌≡◌, length};
 ghost use Rattle.std.specs.List.{filter};
 ghost use Rattle.fmp_frames.specs.CallCounts as spec;
 
-use crate::told::{CallTold, Outcome};
+use crate::told::{CallTold, ToldOutcome};
 use fmp_base::{Caller, Er, Handler, Service};
 
 /// A caller, and a service that it calls.
 #[derive(Clone, Copy)]
-pub struct Site {
+pub struct CallerService {
     pub caller: Caller,
     pub service: Service,
 }
@@ -35,44 +35,44 @@ pub fn is_same_caller(a: Caller, b: Caller) -> bool
 }
 
 /// Whether a line tells of a call of this service by this caller.
-pub fn is_at(told: CallTold, site: Site) -> bool
+pub fn is_at(told: CallTold, site: CallerService) -> bool
     ensures { result ≡ spec.is_at site told }
 {
     is_same_caller(told.caller, site.caller) && told.service.number() == site.service.number()
 }
 
 /// Whether a line tells that a call is made.
-fn is_made(outcome: Outcome) -> bool
+fn is_made(outcome: ToldOutcome) -> bool
     ensures { result ≡ spec.is_made outcome }
 {
     match outcome {
-        Outcome::Answered(_) | Outcome::Waits => true,
-        Outcome::Released(_) => false,
+        ToldOutcome::Answered(_) | ToldOutcome::Waits => true,
+        ToldOutcome::Released(_) => false,
     }
 }
 
 /// Whether a line tells that its caller begins to wait.
-fn is_wait(outcome: Outcome) -> bool
+fn is_wait(outcome: ToldOutcome) -> bool
     ensures { result ≡ spec.is_wait outcome }
 {
     match outcome {
-        Outcome::Waits => true,
-        Outcome::Answered(_) | Outcome::Released(_) => false,
+        ToldOutcome::Waits => true,
+        ToldOutcome::Answered(_) | ToldOutcome::Released(_) => false,
     }
 }
 
 /// Whether a line tells that a call is answered this code, at once or at the end of a wait.
-fn has_answer(outcome: Outcome, code: Er) -> bool
+fn has_answer(outcome: ToldOutcome, code: Er) -> bool
     ensures { result ≡ spec.has_answer code outcome }
 {
     match outcome {
-        Outcome::Answered(other) | Outcome::Released(other) => other.code() == code.code(),
-        Outcome::Waits => false,
+        ToldOutcome::Answered(other) | ToldOutcome::Released(other) => other.code() == code.code(),
+        ToldOutcome::Waits => false,
     }
 }
 
 /// How many calls were made.
-pub fn times(told: &[CallTold], site: Site) -> usize
+pub fn times(told: &[CallTold], site: CallerService) -> usize
     ensures { result ≡ length (filter (spec.is_call site) told.now) }
 {
     told.iter()
@@ -81,7 +81,7 @@ pub fn times(told: &[CallTold], site: Site) -> usize
 }
 
 /// At how many of them the caller began to wait.
-pub fn waits(told: &[CallTold], site: Site) -> usize
+pub fn waits(told: &[CallTold], site: CallerService) -> usize
     ensures { result ≡ length (filter (spec.is_waiting_call site) told.now) }
 {
     told.iter()
@@ -90,7 +90,7 @@ pub fn waits(told: &[CallTold], site: Site) -> usize
 }
 
 /// How many were answered this code.
-pub fn answers(told: &[CallTold], site: Site, code: Er) -> usize
+pub fn answers(told: &[CallTold], site: CallerService, code: Er) -> usize
     ensures { result ≡ length (filter (spec.is_answer site code) told.now) }
 {
     told.iter()

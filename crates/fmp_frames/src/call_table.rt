@@ -1,6 +1,6 @@
 //! The table as text: one row for each service that a caller calls.
-use crate::call_counts::{Site, answers, is_same_caller, times, waits};
-use crate::told::{CallTold, Calls};
+use crate::call_counts::{CallerService, answers, is_same_caller, times, waits};
+use crate::told::{CallTold, ToldCalls};
 use fmp_base::{Er, System};
 use fmp_named::append_caller;
 use itoa::Buffer;
@@ -27,8 +27,8 @@ const SERVICES: usize = 11;
 
 /// A row: its caller's name, and what is counted of it.
 #[derive(Drop)]
-struct Row {
-    site: Site,
+struct CallRow {
+    site: CallerService,
     name: Vec<u8>,
 }
 
@@ -61,24 +61,24 @@ fn append_right(word: &[u8], out: &mut Vec<u8>) -> Result<(), AllocError> {
 }
 
 /// Whether a caller has this row already.
-fn is_among(rows: &[Row], site: Site) -> bool {
+fn is_among(rows: &[CallRow], site: CallerService) -> bool {
     rows.iter().any(|row| {
         is_same_caller(row.site.caller, site.caller) && row.site.service == site.service
     })
 }
 
 /// The row of what a line tells.
-fn row_of(alloc: Global, sys: &System, site: Site) -> Result<Row, AllocError> {
+fn row_of(alloc: Global, sys: &System, site: CallerService) -> Result<CallRow, AllocError> {
     let mut name = Vec::new(alloc);
     append_caller(sys, site.caller, &mut name)?;
-    Ok(Row { site, name })
+    Ok(CallRow { site, name })
 }
 
 /// A row for each caller and service, in order of the first call.
-fn rows_of(alloc: Global, sys: &System, told: &[CallTold]) -> Result<Vec<Row>, AllocError> {
+fn rows_of(alloc: Global, sys: &System, told: &[CallTold]) -> Result<Vec<CallRow>, AllocError> {
     let mut rows = Vec::new(alloc);
     for call in told {
-        let site = Site {
+        let site = CallerService {
             caller: call.caller,
             service: call.service,
         };
@@ -90,7 +90,7 @@ fn rows_of(alloc: Global, sys: &System, told: &[CallTold]) -> Result<Vec<Row>, A
 }
 
 /// The width of the longest name of a caller, or of the head above the names.
-fn name_width(rows: &[Row]) -> usize {
+fn name_width(rows: &[CallRow]) -> usize {
     let mut width = 4;
     for row in rows {
         width = row.name.len().max(width);
@@ -110,7 +110,7 @@ fn append_heads(width: usize, out: &mut Vec<u8>) -> Result<(), AllocError> {
 /// How often the calls of a row were answered this code, if they ever were.
 fn append_answer(
     told: &[CallTold],
-    site: Site,
+    site: CallerService,
     code: Er,
     between: &[u8],
     out: &mut Vec<u8>,
@@ -127,7 +127,11 @@ fn append_answer(
 }
 
 /// The answers of a row, with the number of each.
-fn append_answers(told: &[CallTold], site: Site, out: &mut Vec<u8>) -> Result<(), AllocError> {
+fn append_answers(
+    told: &[CallTold],
+    site: CallerService,
+    out: &mut Vec<u8>,
+) -> Result<(), AllocError> {
     let mut between: &[u8] = b"  ";
     for code in CODES {
         if append_answer(told, site, code, between, out)? {
@@ -140,7 +144,7 @@ fn append_answers(told: &[CallTold], site: Site, out: &mut Vec<u8>) -> Result<()
 /// A row of the table.
 fn append_row(
     told: &[CallTold],
-    row: &Row,
+    row: &CallRow,
     width: usize,
     out: &mut Vec<u8>,
 ) -> Result<(), AllocError> {
@@ -154,8 +158,8 @@ fn append_row(
 /// The rows of the caller of this one.
 fn append_rows_of(
     told: &[CallTold],
-    rows: &[Row],
-    site: Site,
+    rows: &[CallRow],
+    site: CallerService,
     width: usize,
     out: &mut Vec<u8>,
 ) -> Result<(), AllocError> {
@@ -168,14 +172,14 @@ fn append_rows_of(
 }
 
 /// Whether no row before this one is of its caller.
-fn is_first(before: &[Row], site: Site) -> bool {
+fn is_first(before: &[CallRow], site: CallerService) -> bool {
     !before
         .iter()
         .any(|row| is_same_caller(row.site.caller, site.caller))
 }
 
 /// All rows, caller by caller.
-fn append_rows(told: &[CallTold], rows: &[Row], out: &mut Vec<u8>) -> Result<(), AllocError> {
+fn append_rows(told: &[CallTold], rows: &[CallRow], out: &mut Vec<u8>) -> Result<(), AllocError> {
     let width = name_width(rows);
     append_heads(width, out)?;
     for (place, row) in rows.iter().enumerate() {
@@ -192,7 +196,7 @@ fn append_rows(told: &[CallTold], rows: &[Row], out: &mut Vec<u8>) -> Result<(),
 pub fn append_calls(
     alloc: Global,
     sys: &System,
-    calls: &Calls,
+    calls: &ToldCalls,
     out: &mut Vec<u8>,
 ) -> Result<(), AllocError> {
     let rows = rows_of(alloc, sys, &calls.told)?;

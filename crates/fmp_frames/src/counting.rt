@@ -4,11 +4,11 @@ ghost use Rattle.std.specs.List.{filter};
 ghost use Rattle.fmp_frames.specs.Counting as spec;
 
 use fmp_base::{Caller, Er, Line, Processor, StateWord, TaskState};
-use fmp_why::{Spin, is_spin, spin_of};
+use fmp_why::{SpinWait, is_spin, spin_of};
 
 /// What a task did in a run. Each count stops at the greatest number that it can have.
 #[derive(Clone, Copy)]
-pub struct Tally {
+pub struct TaskTally {
     /// How often it started.
     pub starts: u32,
     /// Its service calls.
@@ -26,7 +26,7 @@ pub struct Tally {
 }
 
 /// A task that did nothing.
-pub const NOTHING: Tally = Tally {
+pub const NOTHING: TaskTally = TaskTally {
     starts: 0,
     calls: 0,
     waits: 0,
@@ -197,18 +197,18 @@ fn is_keeper(kept: Option<u8>, task: usize) -> bool
 /// The counts of a task after an event that told these lines, or kept the place of the first task, from those before it
 /// on.
 pub fn counted(
-    tally: &Tally,
+    tally: &TaskTally,
     task: usize,
     lines: &[Line],
     kept: Option<u8>,
     was: &[TaskState],
     is: &[TaskState],
-) -> Tally
+) -> TaskTally
     ensures { result ≡ spec.counted task lines.now kept was.now is.now tally.now }
 {
     let preempted = is_preempted(word_at(was, task), word_at(is, task));
     let keeps = one_if(is_keeper(kept, task));
-    Tally {
+    TaskTally {
         starts: more(tally.starts, starts_in(lines, task)),
         calls: more(tally.calls, calls_in(lines, task)),
         waits: more(tally.waits, waits_in(lines, task)),
@@ -220,7 +220,7 @@ pub fn counted(
 }
 
 /// After how many events a task spun, after one more that left these processors and what their actors spin for.
-pub fn spun(count: u32, task: usize, processors: &[Processor], spins: &[Option<Spin>]) -> u32
+pub fn spun(count: u32, task: usize, processors: &[Processor], spins: &[Option<SpinWait>]) -> u32
     ensures { result ≡ spec.spun task processors.now spins.now count }
 {
     more(count, one_if(is_spin(spin_of(processors, spins, task))))

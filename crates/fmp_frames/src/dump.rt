@@ -3,7 +3,7 @@ ghost use Rattle.std.specs.Prelude.{◌≡◌, IfOk};
 ghost use Rattle.fmp_frames.specs.Frames.{table_of};
 ghost use Rattle.fmp_frames.specs.Values as spec;
 
-use crate::head::Head;
+use crate::head::DumpHead;
 use crate::text::{append, append_time, append_value};
 use crate::values::values_of;
 use crate::variable::Variable;
@@ -63,10 +63,10 @@ impl Waves {
         ensures { IfOk result
             (λ waves. waves.values.items ≡ spec.values_of (table_of setup.now) waves.variables.items) }
     {
-        let Head {
+        let DumpHead {
             variables,
             mut text,
-        } = Head::new(alloc, sys)?;
+        } = DumpHead::new(alloc, sys)?;
         let values = values_of(alloc, setup, &variables)?;
         append_first(&variables, &values, &mut text)?;
         Ok(Waves {

@@ -9,7 +9,7 @@ use crate::reading::{
 use crate::spinning::spins;
 use fmp_base::{Line, Processor, TaskBlock, TaskState};
 use fmp_kernel::{Body, Kernel};
-use fmp_why::Spin;
+use fmp_why::SpinWait;
 use std::alloc::{AllocError, Global};
 
 /// What setup or an event that was taken told, and the state after it. Each table is in order of number.
@@ -28,7 +28,7 @@ pub struct Frame {
     /// The processors.
     pub processors: Vec<Processor>,
     /// What the actor of each processor spins for: what its next run would come to.
-    pub spins: Vec<Option<Spin>>,
+    pub spins: Vec<Option<SpinWait>>,
     /// The counts of the semaphores.
     pub semaphores: Vec<u16>,
     /// The patterns of the eventflags.

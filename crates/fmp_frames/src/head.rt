@@ -1,6 +1,6 @@
 //! The variables of a dump, in their order, and the head that declares them.
 use crate::text::{append, append_identifier, append_number, append_texts};
-use crate::variable::{Object, Variable};
+use crate::variable::{Variable, WaitedObject};
 use fmp_base::{Name, System};
 use std::alloc::{AllocError, Global};
 
@@ -23,7 +23,7 @@ $scope module fmp $end
 
 /// The variables in order, and the head that declares those so far.
 #[derive(Drop)]
-pub struct Head {
+pub struct DumpHead {
     pub variables: Vec<Variable>,
     pub text: Vec<u8>,
 }
@@ -41,7 +41,7 @@ fn append_declaration(
     append_texts(&[" ", variable.name(), " $end\n"], out)
 }
 
-impl Head {
+impl DumpHead {
     /// One more variable.
     fn declare(&mut self, variable: Variable) -> Result<(), AllocError> {
         append_declaration(self.variables.len(), variable, &mut self.text)?;
@@ -140,7 +140,7 @@ impl Head {
 
     fn semaphores(&mut self, sys: &System) -> Result<(), AllocError> {
         for (place, config) in sys.semaphores.iter().enumerate() {
-            let waiting = Variable::Waiting(Object::Semaphore(place));
+            let waiting = Variable::Waiting(WaitedObject::Semaphore(place));
             self.group(&config.name, &[Variable::Count(place), waiting])?;
         }
         Ok(())
@@ -148,7 +148,7 @@ impl Head {
 
     fn flags(&mut self, sys: &System) -> Result<(), AllocError> {
         for (place, config) in sys.flags.iter().enumerate() {
-            let waiting = Variable::Waiting(Object::Flag(place));
+            let waiting = Variable::Waiting(WaitedObject::Flag(place));
             self.group(&config.name, &[Variable::Pattern(place), waiting])?;
         }
         Ok(())
@@ -156,11 +156,11 @@ impl Head {
 
     fn queues(&mut self, sys: &System) -> Result<(), AllocError> {
         for (place, config) in sys.data_queues.iter().enumerate() {
-            let waiting = Variable::Waiting(Object::DataQueue(place));
+            let waiting = Variable::Waiting(WaitedObject::DataQueue(place));
             self.group(&config.name, &[Variable::DataQueue(place), waiting])?;
         }
         for (place, config) in sys.mailboxes.iter().enumerate() {
-            let waiting = Variable::Waiting(Object::Mailbox(place));
+            let waiting = Variable::Waiting(WaitedObject::Mailbox(place));
             self.group(&config.name, &[Variable::Mailbox(place), waiting])?;
         }
         Ok(())
@@ -203,8 +203,8 @@ impl Head {
     }
 
     /// The head of the dump of a system. `AllocError` if memory runs out.
-    pub fn new(alloc: Global, sys: &System) -> Result<Head, AllocError> {
-        let mut head = Head {
+    pub fn new(alloc: Global, sys: &System) -> Result<DumpHead, AllocError> {
+        let mut head = DumpHead {
             variables: Vec::new(alloc),
             text: Vec::new(alloc),
         };

@@ -1,6 +1,6 @@
 //! The table of the responses of a run as text: one row for each handler that woke a task.
 use crate::responses::Responses;
-use crate::summaries::Summary;
+use crate::summaries::ResponseSummary;
 use crate::table::{append_cell, append_name};
 use crate::text::append;
 use fmp_base::{Handler, System};
@@ -35,7 +35,7 @@ fn append_heads(width: usize, out: &mut Vec<u8>) -> Result<(), AllocError> {
 fn append_summary(
     name: &[u8],
     width: usize,
-    summary: Summary,
+    summary: ResponseSummary,
     out: &mut Vec<u8>,
 ) -> Result<(), AllocError> {
     append_name(name, width, out)?;

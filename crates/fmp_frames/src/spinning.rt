@@ -7,7 +7,7 @@ ghost use Rattle.fmp_frames.specs.Spinning as spec;
 use crate::reading::each;
 use fmp_base::{Call, Processor, Stretch};
 use fmp_kernel::{Body, Kernel};
-use fmp_why::{Spin, may_spin, spin_on};
+use fmp_why::{SpinWait, may_spin, spin_on};
 use std::alloc::{AllocError, Global};
 
 /// The call that a stretch ends with, if it ends with one.
@@ -42,7 +42,7 @@ fn spin_at<B: Body>(
     n: u64,
     processors: &[Processor],
     p: u8,
-) -> Option<Spin>
+) -> Option<SpinWait>
     requires body { body.now ≡ kernel.now.body }
     requires bound { n ≡ kernel.now.bound }
     requires there { p < kernel.now.system.processors }
@@ -65,7 +65,7 @@ pub fn spins<B: Body>(
     body: &B,
     n: u64,
     processors: &[Processor],
-) -> Result<Vec<Option<Spin>>, AllocError>
+) -> Result<Vec<Option<SpinWait>>, AllocError>
     requires body { body.now ≡ kernel.now.body }
     requires bound { n ≡ kernel.now.bound }
     ensures { IfOk result (λ xs. xs.items ≡ each_of (spec.spin_at kernel.now.system (B.meaning kernel.now.body)

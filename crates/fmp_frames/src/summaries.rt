@@ -9,7 +9,7 @@ use std::alloc::{AllocError, Global};
 
 /// How long the responses to the requests of a handler took, in microseconds.
 #[derive(Clone, Copy)]
-pub struct Summary {
+pub struct ResponseSummary {
     /// How many responses there are.
     pub count: usize,
     /// That in the middle when they are in order, the lower of two.
@@ -38,11 +38,11 @@ fn times_of(alloc: Global, handler: Handler, all: &[Response]) -> Result<Vec<u64
 }
 
 /// What is said of times in order.
-fn summary_of(sorted: &[u64]) -> Option<Summary>
+fn summary_of(sorted: &[u64]) -> Option<ResponseSummary>
     ensures { MatchOption result (sorted.now ≡ []) (spec.IsSummary sorted.now) }
 {
     let last = sorted.len().checked_sub(1)?;
-    Some(Summary {
+    Some(ResponseSummary {
         count: sorted.len(),
         median: sorted[last / 2],
         worst: sorted[last],
@@ -52,7 +52,11 @@ fn summary_of(sorted: &[u64]) -> Option<Summary>
 impl Responses {
     /// What is said of the responses to the requests of a handler; none if there are none. `AllocError` if memory runs
     /// out.
-    pub fn summary(&self, alloc: Global, handler: Handler) -> Result<Option<Summary>, AllocError>
+    pub fn summary(
+        &self,
+        alloc: Global,
+        handler: Handler,
+    ) -> Result<Option<ResponseSummary>, AllocError>
         ensures { IfOk result (λ found. MatchOption found (spec.times_of handler self.now.all.items ≡ [])
             (λ x. Summarizes x (spec.times_of handler self.now.all.items))) }
     {

@@ -1,5 +1,5 @@
 //! The table of a run as text: one row for each task.
-use crate::counting::Tally;
+use crate::counting::TaskTally;
 use crate::tallies::Tallies;
 use crate::text::append;
 use fmp_base::System;
@@ -56,7 +56,7 @@ fn append_heads(width: usize, out: &mut Vec<u8>) -> Result<(), AllocError> {
 }
 
 /// The counts of a task that spun after this many events, each under its head.
-fn append_counts(tally: &Tally, spins: u32, out: &mut Vec<u8>) -> Result<(), AllocError> {
+fn append_counts(tally: &TaskTally, spins: u32, out: &mut Vec<u8>) -> Result<(), AllocError> {
     let counts = [
         tally.starts,
         tally.calls,
@@ -87,7 +87,7 @@ fn append_tally(
     alloc: Global,
     name: &[u8],
     width: usize,
-    tally: &Tally,
+    tally: &TaskTally,
     spins: u32,
     events: u32,
     out: &mut Vec<u8>,

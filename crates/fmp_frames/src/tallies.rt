@@ -3,17 +3,17 @@ ghost use Rattle.std.specs.Prelude.{◌≡◌, [], length, IfOk, get_or};
 ghost use Rattle.fmp_frames.specs.Frames.{each, table_of};
 ghost use Rattle.fmp_frames.specs.Counting as spec;
 
-use crate::counting::{NOTHING, Tally, counted, keeper, more, spun};
+use crate::counting::{NOTHING, TaskTally, counted, keeper, more, spun};
 use crate::{Frame, Viewer};
 use fmp_base::{Line, Processor, TaskState};
-use fmp_why::Spin;
+use fmp_why::SpinWait;
 use std::alloc::{AllocError, Global};
 
 /// What each task did so far in a run, in order of number.
 #[derive(Drop)]
 pub struct Tallies {
     /// The counts.
-    pub tallies: Vec<Tally>,
+    pub tallies: Vec<TaskTally>,
     /// What is shown of the tasks after the last event.
     pub shown: Vec<TaskState>,
     /// After how many events each task spun.
@@ -23,7 +23,7 @@ pub struct Tallies {
 }
 
 /// The counts of a task so far; none if there is no such task.
-fn tally_at(tallies: &[Tally], task: usize) -> Tally
+fn tally_at(tallies: &[TaskTally], task: usize) -> TaskTally
     ensures { result ≡ get_or tallies.now task spec.nothing }
 {
     match tallies.get(task) {
@@ -37,12 +37,12 @@ fn tally_at(tallies: &[Tally], task: usize) -> Tally
 fn all_counted(
     alloc: Global,
     count: usize,
-    before: &[Tally],
+    before: &[TaskTally],
     lines: &[Line],
     kept: Option<u8>,
     was: &[TaskState],
     is: &[TaskState],
-) -> Result<Vec<Tally>, AllocError>
+) -> Result<Vec<TaskTally>, AllocError>
     ensures { IfOk result (λ tallies. tallies.items
         ≡ each (λ t. spec.counted t lines.now kept was.now is.now (get_or before.now t spec.nothing)) count) }
 {
@@ -71,7 +71,7 @@ fn all_spun(
     count: usize,
     before: &[u32],
     processors: &[Processor],
-    spins: &[Option<Spin>],
+    spins: &[Option<SpinWait>],
 ) -> Result<Vec<u32>, AllocError>
     ensures { IfOk result (λ counts. counts.items
         ≡ each (λ t. spec.spun t processors.now spins.now (get_or before.now t 0)) count) }
@@ -107,7 +107,7 @@ impl Tallies {
     }
 
     /// The counts of the tasks after one more event.
-    fn tallies_after(&self, alloc: Global, frame: &Frame) -> Result<Vec<Tally>, AllocError>
+    fn tallies_after(&self, alloc: Global, frame: &Frame) -> Result<Vec<TaskTally>, AllocError>
         ensures { IfOk result (λ tallies. tallies.items
             ≡ (spec.counts_after (spec.counts_of self.now) (table_of frame.now)).tallies) }
     {

@@ -7,7 +7,7 @@ use std::alloc::{AllocError, Global};
 
 /// What a line tells of a call.
 #[derive(Clone, Copy, PartialEq, Eq)]
-pub enum Outcome {
+pub enum ToldOutcome {
     /// It is made, and is answered this code at once.
     Answered(Er),
     /// It is made, and its caller begins to wait.
@@ -21,12 +21,12 @@ pub enum Outcome {
 pub struct CallTold {
     pub caller: Caller,
     pub service: Service,
-    pub outcome: Outcome,
+    pub outcome: ToldOutcome,
 }
 
 /// What the lines of a run told of calls so far.
 #[derive(Drop)]
-pub struct Calls {
+pub struct ToldCalls {
     /// What each line told, in order.
     pub told: Vec<CallTold>,
     /// By the number of a task, the call at which it began to wait last.
@@ -34,12 +34,12 @@ pub struct Calls {
 }
 
 /// What became of a call with this reply, or with none.
-fn outcome_of(reply: Option<Reply>) -> Outcome
+fn outcome_of(reply: Option<Reply>) -> ToldOutcome
     ensures { result ≡ spec.outcome_of reply }
 {
     match reply {
-        Some(reply) => Outcome::Answered(reply.code),
-        None => Outcome::Waits,
+        Some(reply) => ToldOutcome::Answered(reply.code),
+        None => ToldOutcome::Waits,
     }
 }
 
@@ -61,7 +61,7 @@ fn released(task: u8, service: Option<Service>, code: Er) -> Option<CallTold>
         Some(service) => Some(CallTold {
             caller: Caller::Task(task),
             service,
-            outcome: Outcome::Released(code),
+            outcome: ToldOutcome::Released(code),
         }),
         None => None,
     }
@@ -124,13 +124,13 @@ fn no_calls(alloc: Global, tasks: usize) -> Result<Vec<Option<Service>>, AllocEr
     Ok(waiting)
 }
 
-impl Calls {
+impl ToldCalls {
     /// No line is told yet, of a system with this many tasks. `AllocError` if memory runs out.
-    pub fn new(alloc: Global, tasks: usize) -> Result<Calls, AllocError>
+    pub fn new(alloc: Global, tasks: usize) -> Result<ToldCalls, AllocError>
         ensures told { IfOk result (λ calls. calls.told.items ≡ []) }
         ensures waiting { IfOk result (λ calls. calls.waiting.items ≡ replicate tasks None) }
     {
-        Ok(Calls {
+        Ok(ToldCalls {
             told: Vec::new(alloc),
             waiting: no_calls(alloc, tasks)?,
         })

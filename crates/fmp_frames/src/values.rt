@@ -10,9 +10,9 @@ use crate::codes::{
     handler_code, handling, lock_code, number_or_zero, one_if, refused_by, state_code, wait_code,
     wait_object,
 };
-use crate::variable::{Object, Variable};
+use crate::variable::{Variable, WaitedObject};
 use fmp_base::{Handler, Line, Lock, Phase, Processor, StateWord, TaskBlock, TaskState, WaitCause};
-use fmp_why::Spin;
+use fmp_why::SpinWait;
 use std::alloc::{AllocError, Global};
 
 /// A processor; one on which nothing runs and that nothing holds if there is none at the place.
@@ -137,20 +137,23 @@ fn running_interrupt(processors: &[Processor], place: usize) -> usize
         .count()
 }
 
-fn is_for(cause: WaitCause, object: Object) -> bool
+fn is_for(cause: WaitCause, object: WaitedObject) -> bool
     ensures { result ≡ spec.is_for object cause }
 {
     match (object, cause) {
-        (Object::Semaphore(place), WaitCause::Semaphore(other)) => usize::from(other) == place,
-        (Object::Flag(place), WaitCause::Flag { flag, .. }) => usize::from(flag) == place,
-        (Object::DataQueue(place), WaitCause::Sending { queue, .. }) => usize::from(queue) == place,
-        (Object::DataQueue(place), WaitCause::Receiving(queue)) => usize::from(queue) == place,
-        (Object::Mailbox(place), WaitCause::Mailbox(other)) => usize::from(other) == place,
+        (WaitedObject::Semaphore(place), WaitCause::Semaphore(other)) => usize::from(other)
+            == place,
+        (WaitedObject::Flag(place), WaitCause::Flag { flag, .. }) => usize::from(flag) == place,
+        (WaitedObject::DataQueue(place), WaitCause::Sending { queue, .. }) => usize::from(queue)
+            == place,
+        (WaitedObject::DataQueue(place), WaitCause::Receiving(queue)) => usize::from(queue)
+            == place,
+        (WaitedObject::Mailbox(place), WaitCause::Mailbox(other)) => usize::from(other) == place,
         _ => false,
     }
 }
 
-fn waits_for(block: &TaskBlock, object: Object) -> bool
+fn waits_for(block: &TaskBlock, object: WaitedObject) -> bool
     ensures { result ≡ spec.waits_for object block.now }
 {
     match block.phase {
@@ -160,7 +163,7 @@ fn waits_for(block: &TaskBlock, object: Object) -> bool
 }
 
 /// How many tasks wait for an object.
-fn waiting(blocks: &[TaskBlock], object: Object) -> usize
+fn waiting(blocks: &[TaskBlock], object: WaitedObject) -> usize
     ensures { result ≡ length (filter (spec.waits_for object) blocks.now) }
 {
     blocks
@@ -170,7 +173,7 @@ fn waiting(blocks: &[TaskBlock], object: Object) -> usize
 }
 
 /// The lock for which the actor of the processor at a place spins.
-fn spun_lock(spins: &[Option<Spin>], place: usize) -> Option<u8>
+fn spun_lock(spins: &[Option<SpinWait>], place: usize) -> Option<u8>
     ensures { result ≡ spec.lock_of (get_or spins.now place None) }
 {
     match spins.get(place) {

@@ -2,7 +2,7 @@
 
 /// An object for which tasks can wait, by its place.
 #[derive(Clone, Copy)]
-pub enum Object {
+pub enum WaitedObject {
     Semaphore(usize),
     Flag(usize),
     DataQueue(usize),
@@ -53,7 +53,7 @@ pub enum Variable {
     /// The value of a shared word, as 32 bits.
     Word(usize),
     /// How many tasks wait for an object.
-    Waiting(Object),
+    Waiting(WaitedObject),
 }
 
 impl Variable {

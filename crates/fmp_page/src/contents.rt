@@ -6,8 +6,8 @@ use crate::words::Told;
 use fmp_base::{Caller, Handler, System};
 use fmp_json::{begin, begin_list, end_list, number_member};
 use fmp_timeline::{
-    Canvas, Deeds, Made, Object, Page, Run, Sign, Track, append_call, bytes_of, handler_text,
-    task_bytes,
+    CallMade, Canvas, Deeds, ObjectHistory, PicturePage, Run, Sign, Track, append_call, bytes_of,
+    handler_text, task_bytes,
 };
 use json::Writer;
 use std::alloc::{AllocError, Global};
@@ -19,7 +19,7 @@ pub struct Source<'a> {
     pub sys: &'a System,
     pub run: &'a Run,
     /// The measures of the picture.
-    pub page: Page,
+    pub page: PicturePage,
 }
 
 impl Source<'_> {
@@ -170,7 +170,7 @@ impl Source<'_> {
         end_list(writer)
     }
 
-    fn write_object(self, object: &Object, writer: &mut Writer) -> Result<(), AllocError> {
+    fn write_object(self, object: &ObjectHistory, writer: &mut Writer) -> Result<(), AllocError> {
         self.begin_thing(bytes_of(self.sys, object.topic), writer)?;
         self.write_track(&object.track, writer)?;
         self.end_thing(writer)
@@ -184,7 +184,7 @@ impl Source<'_> {
         end_list(writer)
     }
 
-    fn write_calls_of(self, calls: &[Made], writer: &mut Writer) -> Result<(), AllocError> {
+    fn write_calls_of(self, calls: &[CallMade], writer: &mut Writer) -> Result<(), AllocError> {
         for made in calls {
             if self.has(made.event) {
                 let mut text = Canvas::new(self.alloc);

@@ -3,7 +3,7 @@ use crate::contents::{Source, contents_of};
 use crate::script::SCRIPT;
 use crate::style::STYLE;
 use fmp_base::System;
-use fmp_timeline::{Canvas, Page, Run};
+use fmp_timeline::{Canvas, PicturePage, Run};
 use std::alloc::{AllocError, Global};
 
 /// What stands before the title. The policy lets the page load nothing.
@@ -48,7 +48,7 @@ pub fn page_of(
     sys: &System,
     run: &Run,
     name: &[u8],
-    page: Page,
+    page: PicturePage,
     picture: &[u8],
 ) -> Result<Vec<u8>, AllocError> {
     let contents = contents_of(Source {

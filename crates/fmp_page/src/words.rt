@@ -3,7 +3,7 @@ use crate::contents::Source;
 use fmp_base::Lock;
 use fmp_slices::append_state;
 use fmp_timeline::{
-    Canvas, Handling, ObjectShown, Occupant, TaskShown, Topic, bytes_of, task_bytes,
+    ArgumentTopic, Canvas, Handling, ObjectShown, Occupant, TaskShown, bytes_of, task_bytes,
 };
 use std::alloc::AllocError;
 
@@ -31,7 +31,7 @@ impl Told for Lock {
             Lock::Free => {}
             Lock::Cpu => out.raw("CPU lock held"),
             Lock::Spin(place) => {
-                out.plain(bytes_of(source.sys, Topic::SpinLock(place)));
+                out.plain(bytes_of(source.sys, ArgumentTopic::SpinLock(place)));
                 out.raw(" held");
             }
         }

@@ -4,7 +4,7 @@ use std::alloc::{AllocError, Global};
 
 /// What changes.
 #[derive(Clone, Copy)]
-pub enum Subject {
+pub enum ChangeSubject {
     /// The state of the task at a place.
     Task(u8),
     /// What the processor at a place runs.
@@ -13,9 +13,9 @@ pub enum Subject {
 
 /// A change at an event.
 #[derive(Clone, Copy)]
-pub struct Change {
+pub struct TrackChange {
     pub event: u32,
-    pub subject: Subject,
+    pub subject: ChangeSubject,
 }
 
 /// Appends the changes of a track, as keys: the event, whether it is a processor, and the place.
@@ -48,16 +48,16 @@ fn sorted_keys(alloc: Global, run: &Run) -> Result<Vec<(u32, bool, u8)>, AllocEr
 
 /// All changes of a run, those of setup first: in order of events, at each the tasks in order of number, and then the
 /// processors. `AllocError` if memory runs out.
-pub fn changes_of(alloc: Global, run: &Run) -> Result<Vec<Change>, AllocError> {
+pub fn changes_of(alloc: Global, run: &Run) -> Result<Vec<TrackChange>, AllocError> {
     let keys = sorted_keys(alloc, run)?;
     let mut changes = Vec::with_capacity(alloc, keys.len())?;
     for (event, is_processor, place) in keys.as_slice() {
         let subject = if *is_processor {
-            Subject::Processor(*place)
+            ChangeSubject::Processor(*place)
         } else {
-            Subject::Task(*place)
+            ChangeSubject::Task(*place)
         };
-        changes.push(Change {
+        changes.push(TrackChange {
             event: *event,
             subject,
         })?;

@@ -3,7 +3,7 @@ use crate::clock::Clock;
 use crate::entries::{append_flow_end, append_flow_start};
 use crate::lanes::{lane_of, task_lane};
 use fmp_base::System;
-use fmp_timeline::{Bond, Link};
+use fmp_timeline::{ActorLink, Bond};
 use std::alloc::{AllocError, Global};
 
 /// What an arrow says.
@@ -29,7 +29,7 @@ fn append_link(
     sys: &System,
     clock: &Clock,
     number: u64,
-    link: &Link,
+    link: &ActorLink,
     out: &mut Vec<u8>,
 ) -> Result<(), AllocError> {
     let Some(lane) = lane_of(sys, link.from) else {
@@ -52,7 +52,7 @@ pub fn append_links(
     alloc: Global,
     sys: &System,
     clock: &Clock,
-    links: &[Link],
+    links: &[ActorLink],
     out: &mut Vec<u8>,
 ) -> Result<(), AllocError> {
     let mut number = 0u64;

@@ -3,7 +3,7 @@
 ghost use Rattle.std.specs.Prelude.{◌≡◌, ◌++◌, OnOk};
 ghost use Rattle.fmp_slices.specs.StandardLog as spec;
 
-use crate::changes::{Change, Subject, changes_of};
+use crate::changes::{ChangeSubject, TrackChange, changes_of};
 use crate::clock::Clock;
 use crate::labels::append;
 use crate::resource_file::{append_context, append_handler, append_object};
@@ -189,10 +189,14 @@ impl LineSource<'_> {
         self.append_context(time, processor, occupant.actor(), out)
     }
 
-    fn append_change(self, change: Change, out: &mut Vec<u8>) -> Result<(), AllocError> {
+    fn append_change(self, change: TrackChange, out: &mut Vec<u8>) -> Result<(), AllocError> {
         match change.subject {
-            Subject::Task(task) => self.append_task(change.event, task, out),
-            Subject::Processor(processor) => self.append_processor(change.event, processor, out),
+            ChangeSubject::Task(task) => self.append_task(change.event, task, out),
+            ChangeSubject::Processor(processor) => self.append_processor(
+                change.event,
+                processor,
+                out,
+            ),
         }
     }
 }

@@ -3,7 +3,7 @@ use Rattle.std.specs.Prelude.{Option, None, Some, Bool, true, false, ◌||◌, n
 use Rattle.fmp_base.specs.declared.codes.Er.{Er}
 use Rattle.fmp_base.specs.declared.codes.Er.TheVariants as er
 use Rattle.fmp_base.specs.declared.calls.Reply.{Reply}
-use Rattle.fmp_timeline.specs.declared.marks.Made.{Made}
+use Rattle.fmp_timeline.specs.declared.marks.CallMade.{CallMade}
 
 abbrev pub is_ok : Er → Bool
 is_ok er.Ok = true
@@ -15,5 +15,5 @@ is_accepted None = false
 is_accepted (Some r) = is_ok r.code
 
 -- a call waits, is refused, or ends a wait
-abbrev pub is_named_first : Made → Bool
+abbrev pub is_named_first : CallMade → Bool
 is_named_first m = m.releases || not (is_accepted m.reply)

@@ -9,7 +9,7 @@ use std::mem::swap;
 
 /// A value in the text of a picture.
 #[derive(Clone, Copy)]
-pub enum Piece<'a> {
+pub enum CanvasPiece<'a> {
     /// As it stands.
     Raw(&'a str),
     /// Bytes whose marks of SVG are escaped.
@@ -182,19 +182,19 @@ impl Canvas {
         self.is_cut = self.is_cut || label.is_cut;
     }
 
-    fn piece(&mut self, piece: &Piece<'_>) {
+    fn piece(&mut self, piece: &CanvasPiece<'_>) {
         match piece {
-            Piece::Raw(text) => self.raw(text),
-            Piece::Text(text) => self.text(text),
-            Piece::Label(label) => self.label(label),
-            Piece::Number(number) => self.number(*number),
-            Piece::Numbered(before, number, behind) => self.numbered(before, *number, behind),
-            Piece::At(length) => self.length(*length),
+            CanvasPiece::Raw(text) => self.raw(text),
+            CanvasPiece::Text(text) => self.text(text),
+            CanvasPiece::Label(label) => self.label(label),
+            CanvasPiece::Number(number) => self.number(*number),
+            CanvasPiece::Numbered(before, number, behind) => self.numbered(before, *number, behind),
+            CanvasPiece::At(length) => self.length(*length),
         }
     }
 
     /// A text with these values in place of each `{}`.
-    pub fn put(&mut self, form: &str, values: &[Piece<'_>]) {
+    pub fn put(&mut self, form: &str, values: &[CanvasPiece<'_>]) {
         let mut values = values.iter();
         for part in form.split("{}") {
             self.raw(part);

@@ -17,20 +17,21 @@ mod states;
 mod tracks;
 mod waits;
 
-pub use canvas::{Canvas, Piece};
+pub use canvas::{Canvas, CanvasPiece};
 pub use fmp_why::deed_words;
 pub use font::{number_width, width};
 pub use lanes::{Presence, Showing, showing_of};
 pub use lengths::{Tenths, px};
 pub use looks::{BarLook, all_looks, look_of};
-pub use marks::{Bond, Link, Made, Mark, Migration, Sign};
+pub use marks::{ActorLink, Bond, CallMade, EventMark, Migration, Sign};
 pub use names::{
-    Topic, append_call, append_handler, append_value, bytes_of, handler_text, task_bytes, wait_name,
+    ArgumentTopic, append_call, append_handler, append_value, bytes_of, handler_text, task_bytes,
+    wait_name,
 };
-pub use objects::{Object, ObjectShown, Objects};
-pub use page::{Choice, Page, Span};
+pub use objects::{ObjectHistories, ObjectHistory, ObjectShown};
+pub use page::{Choice, PanelSpan, PicturePage};
 pub use run::{Deeds, Note, Run};
-pub use spins::{Spin, Spins};
+pub use spins::{SpinSpan, Spins};
 pub use states::{Handling, Moment, Occupant, TaskShown, tasks_shown};
 pub use tracks::{Stay, Track};
-pub use waits::{Told, Waits};
+pub use waits::{ToldWait, Waits};

@@ -56,14 +56,14 @@ impl Sign {
 
 /// A mark at an event.
 #[derive(Clone, Copy)]
-pub struct Mark {
+pub struct EventMark {
     pub event: u32,
     pub sign: Sign,
 }
 
 /// A service call at an event.
 #[derive(Clone, Copy)]
-pub struct Made {
+pub struct CallMade {
     pub event: u32,
     pub call: Call,
     pub reply: Option<Reply>,
@@ -90,7 +90,7 @@ fn is_accepted(reply: Option<Reply>) -> bool
     }
 }
 
-impl Made {
+impl CallMade {
     /// Whether the name of the call stands in its lane before those of others do: if it waits, is refused, or ends a
     /// wait.
     pub fn is_named_first(&self) -> bool
@@ -115,7 +115,7 @@ pub enum Bond {
 
 /// A line from an actor to the task on which it acted.
 #[derive(Clone, Copy)]
-pub struct Link {
+pub struct ActorLink {
     pub event: u32,
     pub from: Caller,
     pub task: u8,
@@ -223,7 +223,7 @@ pub fn line_sign(line: Line) -> Option<(Caller, Sign)> {
 }
 
 /// The link of a line to a task that the actor starts or releases.
-pub fn line_link(line: Line, event: u32, actor: Option<Caller>) -> Option<Link> {
+pub fn line_link(line: Line, event: u32, actor: Option<Caller>) -> Option<ActorLink> {
     let (task, bond) = match line {
         Line::Starts { task, .. } => (task, Bond::Starts),
         Line::Gets { task, .. } => (task, Bond::Releases),
@@ -233,7 +233,7 @@ pub fn line_link(line: Line, event: u32, actor: Option<Caller>) -> Option<Link> 
     if from == Caller::Task(task) {
         return None;
     }
-    Some(Link {
+    Some(ActorLink {
         event,
         from,
         task,

@@ -5,7 +5,7 @@ use std::alloc::Global;
 
 /// What an argument or a wait is about.
 #[derive(Clone, Copy, PartialEq, Eq)]
-pub enum Topic {
+pub enum ArgumentTopic {
     Task(u8),
     Semaphore(u8),
     Flag(u8),
@@ -17,29 +17,29 @@ pub enum Topic {
 }
 
 /// The name of what a topic is, if there is one.
-fn name_of(sys: &System, topic: Topic) -> Option<&Name> {
+fn name_of(sys: &System, topic: ArgumentTopic) -> Option<&Name> {
     match topic {
-        Topic::Task(place) => Some(&sys.tasks.get(usize::from(place))?.name),
-        Topic::SharedWord(place) => Some(&sys.shared_words.get(usize::from(place))?.name),
-        Topic::SpinLock(place) => Some(&sys.spin_locks.get(usize::from(place))?.name),
-        Topic::Cyclic(place) => Some(&sys.cyclics.get(usize::from(place))?.name),
+        ArgumentTopic::Task(place) => Some(&sys.tasks.get(usize::from(place))?.name),
+        ArgumentTopic::SharedWord(place) => Some(&sys.shared_words.get(usize::from(place))?.name),
+        ArgumentTopic::SpinLock(place) => Some(&sys.spin_locks.get(usize::from(place))?.name),
+        ArgumentTopic::Cyclic(place) => Some(&sys.cyclics.get(usize::from(place))?.name),
         _ => object_name(sys, topic),
     }
 }
 
 /// The name of an object that tasks wait for, if a topic is one and it exists.
-fn object_name(sys: &System, topic: Topic) -> Option<&Name> {
+fn object_name(sys: &System, topic: ArgumentTopic) -> Option<&Name> {
     match topic {
-        Topic::Semaphore(place) => Some(&sys.semaphores.get(usize::from(place))?.name),
-        Topic::Flag(place) => Some(&sys.flags.get(usize::from(place))?.name),
-        Topic::DataQueue(place) => Some(&sys.data_queues.get(usize::from(place))?.name),
-        Topic::Mailbox(place) => Some(&sys.mailboxes.get(usize::from(place))?.name),
+        ArgumentTopic::Semaphore(place) => Some(&sys.semaphores.get(usize::from(place))?.name),
+        ArgumentTopic::Flag(place) => Some(&sys.flags.get(usize::from(place))?.name),
+        ArgumentTopic::DataQueue(place) => Some(&sys.data_queues.get(usize::from(place))?.name),
+        ArgumentTopic::Mailbox(place) => Some(&sys.mailboxes.get(usize::from(place))?.name),
         _ => None,
     }
 }
 
 /// The bytes of the name of what a topic is; none if there is nothing.
-pub fn bytes_of(sys: &System, topic: Topic) -> &[u8] {
+pub fn bytes_of(sys: &System, topic: ArgumentTopic) -> &[u8] {
     match name_of(sys, topic) {
         Some(name) => name.as_bytes(),
         None => &[],
@@ -48,13 +48,13 @@ pub fn bytes_of(sys: &System, topic: Topic) -> &[u8] {
 
 /// The bytes of the name of the task at a place.
 pub fn task_bytes(sys: &System, place: u8) -> &[u8] {
-    bytes_of(sys, Topic::Task(place))
+    bytes_of(sys, ArgumentTopic::Task(place))
 }
 
 /// Appends the name of a handler: of an interrupt these words and its number.
 pub fn append_handler(sys: &System, handler: Handler, words: &str, out: &mut Canvas) {
     match handler {
-        Handler::Cyclic(place) => out.plain(bytes_of(sys, Topic::Cyclic(place))),
+        Handler::Cyclic(place) => out.plain(bytes_of(sys, ArgumentTopic::Cyclic(place))),
         Handler::Interrupt(place) => out.numbered(words, u32::from(place).saturating_add(1), ""),
     }
 }
@@ -67,16 +67,16 @@ pub fn handler_text(alloc: Global, sys: &System, handler: Handler, words: &str) 
 }
 
 /// An object of a kind at a place, where a picture shows such objects.
-fn topic_of(kind: ObjectKind, place: u8) -> Option<Topic> {
+fn topic_of(kind: ObjectKind, place: u8) -> Option<ArgumentTopic> {
     match kind {
-        ObjectKind::Task => Some(Topic::Task(place)),
-        ObjectKind::Semaphore => Some(Topic::Semaphore(place)),
-        ObjectKind::Flag => Some(Topic::Flag(place)),
-        ObjectKind::DataQueue => Some(Topic::DataQueue(place)),
-        ObjectKind::Mailbox => Some(Topic::Mailbox(place)),
-        ObjectKind::SharedWord => Some(Topic::SharedWord(place)),
-        ObjectKind::SpinLock => Some(Topic::SpinLock(place)),
-        ObjectKind::Cyclic => Some(Topic::Cyclic(place)),
+        ObjectKind::Task => Some(ArgumentTopic::Task(place)),
+        ObjectKind::Semaphore => Some(ArgumentTopic::Semaphore(place)),
+        ObjectKind::Flag => Some(ArgumentTopic::Flag(place)),
+        ObjectKind::DataQueue => Some(ArgumentTopic::DataQueue(place)),
+        ObjectKind::Mailbox => Some(ArgumentTopic::Mailbox(place)),
+        ObjectKind::SharedWord => Some(ArgumentTopic::SharedWord(place)),
+        ObjectKind::SpinLock => Some(ArgumentTopic::SpinLock(place)),
+        ObjectKind::Cyclic => Some(ArgumentTopic::Cyclic(place)),
         ObjectKind::Message => None,
     }
 }
@@ -150,10 +150,10 @@ pub fn wait_name(sys: &System, cause: WaitCause) -> (&'static str, &[u8]) {
     match cause {
         WaitCause::Sleep => ("", b"sleep"),
         WaitCause::Delay => ("", b"delay"),
-        WaitCause::Semaphore(place) => ("", bytes_of(sys, Topic::Semaphore(place))),
-        WaitCause::Flag { flag, .. } => ("", bytes_of(sys, Topic::Flag(flag))),
-        WaitCause::Sending { queue, .. } => ("→", bytes_of(sys, Topic::DataQueue(queue))),
-        WaitCause::Receiving(queue) => ("←", bytes_of(sys, Topic::DataQueue(queue))),
-        WaitCause::Mailbox(place) => ("←", bytes_of(sys, Topic::Mailbox(place))),
+        WaitCause::Semaphore(place) => ("", bytes_of(sys, ArgumentTopic::Semaphore(place))),
+        WaitCause::Flag { flag, .. } => ("", bytes_of(sys, ArgumentTopic::Flag(flag))),
+        WaitCause::Sending { queue, .. } => ("→", bytes_of(sys, ArgumentTopic::DataQueue(queue))),
+        WaitCause::Receiving(queue) => ("←", bytes_of(sys, ArgumentTopic::DataQueue(queue))),
+        WaitCause::Mailbox(place) => ("←", bytes_of(sys, ArgumentTopic::Mailbox(place))),
     }
 }

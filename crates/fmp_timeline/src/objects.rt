@@ -1,6 +1,6 @@
 //! The objects of a run: their values, and the tasks that wait for them in the order of their queues.
 use crate::marks::{ends_wait, task_named};
-use crate::names::Topic;
+use crate::names::ArgumentTopic;
 use crate::states::Moment;
 use crate::tracks::Track;
 use fmp_base::{
@@ -21,8 +21,8 @@ pub struct ObjectShown {
 
 /// An object: what it is, how its tasks queue, what it is now, and what it was.
 #[derive(Drop)]
-pub struct Object {
-    pub topic: Topic,
+pub struct ObjectHistory {
+    pub topic: ArgumentTopic,
     order: QueueOrder,
     /// The most words that it holds, of a data queue.
     most: i32,
@@ -35,7 +35,7 @@ pub struct Object {
 /// A wait of a task for an object.
 #[derive(Clone, Copy, PartialEq, Eq)]
 struct Wait {
-    topic: Topic,
+    topic: ArgumentTopic,
     /// Whether it stands in its queue by priority.
     ranked: bool,
     /// Its priority, where these queue by priority, or 0.
@@ -46,38 +46,38 @@ struct Wait {
 
 /// All objects of a system, and the waits of its tasks.
 #[derive(Drop)]
-pub struct Objects {
-    pub all: Vec<Object>,
+pub struct ObjectHistories {
+    pub all: Vec<ObjectHistory>,
     waits: Vec<Option<Wait>>,
     /// Lists of tasks that waited for an object, one behind another.
     pub waiting: Vec<u8>,
 }
 
 /// What a wait is for, if it is for an object.
-fn topic_of(cause: WaitCause) -> Option<Topic> {
+fn topic_of(cause: WaitCause) -> Option<ArgumentTopic> {
     match cause {
         WaitCause::Sleep | WaitCause::Delay => None,
-        WaitCause::Semaphore(place) => Some(Topic::Semaphore(place)),
-        WaitCause::Flag { flag, .. } => Some(Topic::Flag(flag)),
+        WaitCause::Semaphore(place) => Some(ArgumentTopic::Semaphore(place)),
+        WaitCause::Flag { flag, .. } => Some(ArgumentTopic::Flag(flag)),
         WaitCause::Sending { queue, .. } | WaitCause::Receiving(queue) => {
-            Some(Topic::DataQueue(queue))
+            Some(ArgumentTopic::DataQueue(queue))
         }
-        WaitCause::Mailbox(place) => Some(Topic::Mailbox(place)),
+        WaitCause::Mailbox(place) => Some(ArgumentTopic::Mailbox(place)),
     }
 }
 
 /// The queue that a call names by this number, if it sends to one or receives from one.
-fn queue_named(kind: ObjectKind, number: i32) -> Option<Topic> {
+fn queue_named(kind: ObjectKind, number: i32) -> Option<ArgumentTopic> {
     let place = u8::try_from(number.checked_sub(1)?).ok()?;
     match kind {
-        ObjectKind::DataQueue => Some(Topic::DataQueue(place)),
-        ObjectKind::Mailbox => Some(Topic::Mailbox(place)),
+        ObjectKind::DataQueue => Some(ArgumentTopic::DataQueue(place)),
+        ObjectKind::Mailbox => Some(ArgumentTopic::Mailbox(place)),
         _ => None,
     }
 }
 
 /// The object in which an accepted call that releases no task queues one more, or one less.
-fn level_change(call: Call) -> Option<(Topic, i32)> {
+fn level_change(call: Call) -> Option<(ArgumentTopic, i32)> {
     let service = call.service();
     let change = match service.action()? {
         Action::Gives => 1,
@@ -115,7 +115,7 @@ fn replaced_task(lines: &[Line]) -> Option<u8> {
 fn keyed_waits(
     alloc: Global,
     waits: &[Option<Wait>],
-    topic: Topic,
+    topic: ArgumentTopic,
 ) -> Result<Vec<(u8, u32, u8)>, AllocError> {
     let mut keyed = Vec::new(alloc);
     for task in 0..waits.len().min(255) as u8 {
@@ -132,7 +132,7 @@ fn keyed_waits(
 fn append_queue(
     alloc: Global,
     waits: &[Option<Wait>],
-    topic: Topic,
+    topic: ArgumentTopic,
     out: &mut Vec<u8>,
 ) -> Result<(), AllocError> {
     let mut keyed = keyed_waits(alloc, waits, topic)?;
@@ -143,11 +143,11 @@ fn append_queue(
     Ok(())
 }
 
-impl Objects {
+impl ObjectHistories {
     fn add(
         &mut self,
         alloc: Global,
-        topic: Topic,
+        topic: ArgumentTopic,
         order: QueueOrder,
         most: i32,
     ) -> Result<(), AllocError> {
@@ -156,7 +156,7 @@ impl Objects {
             start: 0,
             end: 0,
         };
-        self.all.push(Object {
+        self.all.push(ObjectHistory {
             topic,
             order,
             most,
@@ -168,9 +168,9 @@ impl Objects {
     }
 
     /// The objects of a system, or none if they are not asked for. `AllocError` if memory runs out.
-    pub fn new(alloc: Global, sys: &System, wanted: bool) -> Result<Objects, AllocError> {
+    pub fn new(alloc: Global, sys: &System, wanted: bool) -> Result<ObjectHistories, AllocError> {
         let waits = vec![in alloc; None; sys.tasks.len()]?;
-        let mut objects = Objects {
+        let mut objects = ObjectHistories {
             all: Vec::new(alloc),
             waits,
             waiting: Vec::new(alloc),
@@ -192,7 +192,7 @@ impl Objects {
     fn add_semaphores(&mut self, alloc: Global, sys: &System) -> Result<(), AllocError> {
         for i in 0..sys.semaphores.len().min(255) as u8 {
             let config = &sys.semaphores[usize::from(i)];
-            self.add(alloc, Topic::Semaphore(i), config.order, 0)?;
+            self.add(alloc, ArgumentTopic::Semaphore(i), config.order, 0)?;
         }
         Ok(())
     }
@@ -200,7 +200,7 @@ impl Objects {
     fn add_flags(&mut self, alloc: Global, sys: &System) -> Result<(), AllocError> {
         for i in 0..sys.flags.len().min(255) as u8 {
             let config = &sys.flags[usize::from(i)];
-            self.add(alloc, Topic::Flag(i), config.order, 0)?;
+            self.add(alloc, ArgumentTopic::Flag(i), config.order, 0)?;
         }
         Ok(())
     }
@@ -209,7 +209,7 @@ impl Objects {
         for i in 0..sys.data_queues.len().min(255) as u8 {
             let config = &sys.data_queues[usize::from(i)];
             let most = i32::from(config.capacity);
-            self.add(alloc, Topic::DataQueue(i), config.order, most)?;
+            self.add(alloc, ArgumentTopic::DataQueue(i), config.order, most)?;
         }
         Ok(())
     }
@@ -217,20 +217,20 @@ impl Objects {
     fn add_mailboxes(&mut self, alloc: Global, sys: &System) -> Result<(), AllocError> {
         for i in 0..sys.mailboxes.len().min(255) as u8 {
             let config = &sys.mailboxes[usize::from(i)];
-            self.add(alloc, Topic::Mailbox(i), config.order, i32::MAX)?;
+            self.add(alloc, ArgumentTopic::Mailbox(i), config.order, i32::MAX)?;
         }
         Ok(())
     }
 
     fn add_shared_words(&mut self, alloc: Global, sys: &System) -> Result<(), AllocError> {
         for i in 0..sys.shared_words.len().min(255) as u8 {
-            self.add(alloc, Topic::SharedWord(i), QueueOrder::Fifo, 0)?;
+            self.add(alloc, ArgumentTopic::SharedWord(i), QueueOrder::Fifo, 0)?;
         }
         Ok(())
     }
 
     /// Whether a task that waits so for this object stands in its queue by priority.
-    fn is_ranked(&self, topic: Topic, cause: WaitCause) -> bool {
+    fn is_ranked(&self, topic: ArgumentTopic, cause: WaitCause) -> bool {
         if matches!(cause, WaitCause::Receiving(_)) {
             return false;
         }
@@ -328,9 +328,12 @@ impl Objects {
     fn take_values(&mut self, moment: &Moment<'_>) {
         for object in self.all.iter_mut() {
             let value = match object.topic {
-                Topic::Semaphore(i) => moment.semaphores.get(usize::from(i)).map(|x| i32::from(*x)),
-                Topic::Flag(i) => moment.flags.get(usize::from(i)).map(|x| i32::from(*x)),
-                Topic::SharedWord(i) => moment.shared_words.get(usize::from(i)).copied(),
+                ArgumentTopic::Semaphore(i) => moment
+                    .semaphores
+                    .get(usize::from(i))
+                    .map(|x| i32::from(*x)),
+                ArgumentTopic::Flag(i) => moment.flags.get(usize::from(i)).map(|x| i32::from(*x)),
+                ArgumentTopic::SharedWord(i) => moment.shared_words.get(usize::from(i)).copied(),
                 _ => None,
             };
             object.now.value = value.unwrap_or(object.now.value);

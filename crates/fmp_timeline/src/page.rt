@@ -22,7 +22,7 @@ pub struct Choice {
 
 /// The measures of a picture. All are pixels but `first`, `last`, `panels` and `per_panel`.
 #[derive(Clone, Copy)]
-pub struct Page {
+pub struct PicturePage {
     pub first: u32,
     pub last: u32,
     /// The width of an event.
@@ -116,9 +116,9 @@ fn heading_width(last: u32) -> u32 {
     u32::try_from(heading.0).unwrap_or(0) / 10 + 60
 }
 
-impl Page {
+impl PicturePage {
     /// The measures for what is chosen of a run.
-    pub fn new(sys: &System, run: &Run, choice: Choice) -> Page {
+    pub fn new(sys: &System, run: &Run, choice: Choice) -> PicturePage {
         let end = run.next_event().saturating_sub(1);
         let first = choice.first.min(end);
         let last = choice
@@ -142,7 +142,7 @@ impl Page {
             .saturating_add(lead)
             .saturating_add(plot)
             .saturating_add(26);
-        Page {
+        PicturePage {
             first,
             last,
             column,
@@ -180,13 +180,13 @@ impl Page {
 
 /// The events of a panel.
 #[derive(Clone, Copy)]
-pub struct Span {
-    pub page: Page,
+pub struct PanelSpan {
+    pub page: PicturePage,
     pub first: u32,
     pub last: u32,
 }
 
-impl Span {
+impl PanelSpan {
     /// Whether an event is one of the panel.
     pub fn has(&self, event: u32) -> bool {
         self.first <= event && event <= self.last

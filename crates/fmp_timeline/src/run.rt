@@ -1,10 +1,10 @@
 //! A run as it is drawn: the states of its lanes over its events, and what its events did.
 use crate::marks::{
-    Bond, Link, Made, Mark, Migration, Sign, actor_of, bond_of, ends_wait, line_link, line_sign,
-    moves, task_named,
+    ActorLink, Bond, CallMade, EventMark, Migration, Sign, actor_of, bond_of, ends_wait, line_link,
+    line_sign, moves, task_named,
 };
-use crate::objects::Objects;
-use crate::page::Span;
+use crate::objects::ObjectHistories;
+use crate::page::PanelSpan;
 use crate::spins::Spins;
 use crate::states::{Handling, Moment, Occupant, TaskShown};
 use crate::tracks::Track;
@@ -31,8 +31,8 @@ pub struct Note {
 /// What a task or a handler did, and what came to it.
 #[derive(Drop)]
 pub struct Deeds {
-    pub marks: Vec<Mark>,
-    pub calls: Vec<Made>,
+    pub marks: Vec<EventMark>,
+    pub calls: Vec<CallMade>,
 }
 
 /// A run so far: what each event did, and the states between them.
@@ -50,10 +50,10 @@ pub struct Run {
     pub priorities: Vec<u8>,
     /// Of tasks, cyclic handlers and interrupts, by `place_of`.
     pub deeds: Vec<Deeds>,
-    pub links: Vec<Link>,
+    pub links: Vec<ActorLink>,
     pub migrations: Vec<Migration>,
     pub spins: Spins,
-    pub objects: Objects,
+    pub objects: ObjectHistories,
     pub waits: Waits,
     /// The events at which a call was refused or a body at fault.
     pub wrong: Vec<u32>,
@@ -85,7 +85,7 @@ impl Run {
     /// call below.
     pub fn new(alloc: Global, sys: &System, objects: bool) -> Result<Run, AllocError> {
         let spins = Spins::new(alloc, usize::from(sys.processors))?;
-        let objects = Objects::new(alloc, sys, objects)?;
+        let objects = ObjectHistories::new(alloc, sys, objects)?;
         let waits = Waits::new(alloc, sys)?;
         let mut run = Run {
             notes: Vec::new(alloc),
@@ -152,7 +152,7 @@ impl Run {
     }
 
     /// Whether a handler is pending or runs after some event of a panel.
-    pub fn is_handling(&self, handler: Handler, span: &Span) -> bool {
+    pub fn is_handling(&self, handler: Handler, span: &PanelSpan) -> bool {
         let Some(track) = self.handling(handler) else {
             return false;
         };
@@ -166,7 +166,7 @@ impl Run {
 
     fn mark(&mut self, event: u32, at: Caller, sign: Sign) -> Result<(), AllocError> {
         if let Some(deeds) = self.deeds.get_mut(place_of(at)) {
-            deeds.marks.push(Mark { event, sign })?;
+            deeds.marks.push(EventMark { event, sign })?;
         }
         if sign.is_wrong() {
             self.wrong.push(event)?;
@@ -271,7 +271,7 @@ impl Run {
             Bond::Changes => true,
         };
         if seen && caller != Caller::Task(task) {
-            self.links.push(Link {
+            self.links.push(ActorLink {
                 event,
                 from: caller,
                 task,
@@ -295,7 +295,7 @@ impl Run {
             return Ok(());
         };
         if let Some(deeds) = self.deeds.get_mut(place_of(*caller)) {
-            deeds.calls.push(Made {
+            deeds.calls.push(CallMade {
                 event,
                 call: *call,
                 reply: *reply,

@@ -1,6 +1,6 @@
 //! Spinning spans, in which a processor's turns did nothing.
-use crate::marks::{Made, Mark, Sign};
-use crate::page::Span;
+use crate::marks::{CallMade, EventMark, Sign};
+use crate::page::PanelSpan;
 use crate::run::Run;
 use crate::states::{Moment, occupant_of};
 use crate::tracks::Stay;
@@ -10,7 +10,7 @@ use std::ops::Range;
 
 /// A span in which the turns of a processor do nothing.
 #[derive(Clone, Copy)]
-pub struct Spin {
+pub struct SpinSpan {
     /// The last event before it.
     pub from: u32,
     /// The event that ends it, if one does.
@@ -21,7 +21,7 @@ pub struct Spin {
     pub actor: Caller,
 }
 
-impl Spin {
+impl SpinSpan {
     /// Whether it is of a processor and covers one of these events.
     fn meets(&self, processor: u8, first: u32, last: u32) -> bool {
         let lasts = match self.to {
@@ -31,7 +31,7 @@ impl Spin {
         lasts && self.processor == processor && self.from <= last
     }
 
-    fn stay(self) -> Stay<Spin> {
+    fn stay(self) -> Stay<SpinSpan> {
         Stay {
             from: self.from,
             to: self.to,
@@ -44,9 +44,9 @@ impl Spin {
 #[derive(Drop)]
 pub struct Spins {
     /// Those that ended, in order of their ends.
-    pub ended: Vec<Spin>,
+    pub ended: Vec<SpinSpan>,
     /// That of each processor that goes on, if there is one.
-    pub open: Vec<Option<Spin>>,
+    pub open: Vec<Option<SpinSpan>>,
 }
 
 /// Whether the event is one of this processor's actor.
@@ -62,7 +62,7 @@ fn is_own(lines: &[Line], place: u8) -> bool {
 }
 
 /// Whether a span ends at this moment.
-fn ends(spin: &Spin, moment: &Moment<'_>) -> bool {
+fn ends(spin: &SpinSpan, moment: &Moment<'_>) -> bool {
     let actor = match moment.processors.get(usize::from(spin.processor)) {
         Some(processor) => occupant_of(processor).actor(),
         None => None,
@@ -84,7 +84,7 @@ impl Spins {
         if let Some(open) = self.open.get_mut(usize::from(processor))
             && open.is_none()
         {
-            *open = Some(Spin {
+            *open = Some(SpinSpan {
                 from,
                 to: None,
                 processor,
@@ -99,7 +99,7 @@ impl Spins {
             if let Some(spin) = *open
                 && ends(&spin, moment)
             {
-                self.ended.push(Spin {
+                self.ended.push(SpinSpan {
                     to: Some(event),
                     ..spin
                 })?;
@@ -110,7 +110,7 @@ impl Spins {
     }
 
     /// The span of a processor that has not ended.
-    fn open_at(&self, processor: u8) -> Option<Spin> {
+    fn open_at(&self, processor: u8) -> Option<SpinSpan> {
         *self.open.get(usize::from(processor))?
     }
 
@@ -133,7 +133,7 @@ impl Spins {
     }
 
     /// The span at a place, if it is of this processor and meets a panel.
-    pub fn stay(&self, place: usize, processor: u8, span: &Span) -> Option<Stay<Spin>> {
+    pub fn stay(&self, place: usize, processor: u8, span: &PanelSpan) -> Option<Stay<SpinSpan>> {
         let spin = match self.ended.get(place) {
             Some(spin) => *spin,
             None => self.open_at(processor)?,
@@ -144,7 +144,7 @@ impl Spins {
 }
 
 /// The place of the spin lock that a call got, if it asked for one.
-fn lock_got(made: &Made) -> Option<u8> {
+fn lock_got(made: &CallMade) -> Option<u8> {
     match (made.call, made.reply) {
         (Call::LocSpn { lock }, Some(reply)) if reply.code == Er::Ok => {
             u8::try_from(lock.checked_sub(1)?).ok()
@@ -154,7 +154,7 @@ fn lock_got(made: &Made) -> Option<u8> {
 }
 
 /// How a body stopped between two events, if it did.
-fn stop_between(marks: &[Mark], after: u32, before: u32) -> Option<Sign> {
+fn stop_between(marks: &[EventMark], after: u32, before: u32) -> Option<Sign> {
     let from = marks.partition_point(|mark| mark.event <= after);
     for mark in marks.get(from..).unwrap_or(&[]) {
         if mark.event >= before {
@@ -169,7 +169,7 @@ fn stop_between(marks: &[Mark], after: u32, before: u32) -> Option<Sign> {
 
 impl Run {
     /// The place of a spin lock that another processor holds where a span begins.
-    fn lock_beside(&self, spin: &Spin) -> Option<u8> {
+    fn lock_beside(&self, spin: &SpinSpan) -> Option<u8> {
         for place in 0..self.locks.len().min(8) as u8 {
             if place != spin.processor
                 && let Some(Lock::Spin(lock)) = self.locks[usize::from(place)].at(spin.from)
@@ -182,7 +182,7 @@ impl Run {
 
     /// The place of the spin lock for which the actor of a span spins: the one that it gets by its next call; where it
     /// makes none, one that another processor holds. None if it asks for none, but makes no progress.
-    pub fn lock_of(&self, spin: &Spin) -> Option<u8> {
+    pub fn lock_of(&self, spin: &SpinSpan) -> Option<u8> {
         let deeds = self.deeds_of(spin.actor)?;
         let place = deeds.calls.partition_point(|made| made.event <= spin.from);
         let next = deeds.calls.get(place);

@@ -15,7 +15,7 @@ pub struct Stay<S> {
 
 /// A state and the event that made it.
 #[derive(Clone, Copy)]
-struct Change<S> {
+struct StateChange<S> {
     event: u32,
     state: S,
 }
@@ -23,7 +23,7 @@ struct Change<S> {
 /// The states of something over the events of a run: one after each event, kept as changes.
 #[derive(Drop)]
 pub struct Track<S: Drop> {
-    changes: Vec<Change<S>>,
+    changes: Vec<StateChange<S>>,
 }
 
 impl<S: Copy + PartialEq> Track<S> {
@@ -42,7 +42,7 @@ impl<S: Copy + PartialEq> Track<S> {
     /// The state after this event, which is later than those before it.
     pub fn show(&mut self, event: u32, state: S) -> Result<(), AllocError> {
         if self.last() != Some(state) {
-            self.changes.push(Change { event, state })?;
+            self.changes.push(StateChange { event, state })?;
         }
         Ok(())
     }

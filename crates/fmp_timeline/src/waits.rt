@@ -2,23 +2,23 @@
 use crate::states::TaskShown;
 use crate::tracks::Stay;
 use fmp_base::{Call, Caller, Er, Line, ObjectKind, System, WaitCause};
-use fmp_why::{Deed, History, deed_for, object_of};
+use fmp_why::{History, ObjectDeed, deed_for, object_of};
 use std::alloc::{AllocError, Global};
 
 /// What is told of a wait as it was before an event, or at the end of the run.
 #[derive(Clone, Copy)]
-pub struct Told {
+pub struct ToldWait {
     /// The event of the call that waits.
     pub since: u32,
     /// Who acted last on what it is for, and at which event.
-    pub deed: Option<Deed>,
+    pub deed: Option<ObjectDeed>,
 }
 
 /// A wait that an event ended, or changed, and what was told of it before.
 #[derive(Clone, Copy)]
-struct Ended {
+struct EndedWait {
     event: u32,
-    told: Told,
+    told: ToldWait,
 }
 
 /// What the trace of a run has told of waits.
@@ -26,9 +26,9 @@ struct Ended {
 pub struct Waits {
     history: History,
     /// Of each task, in order of the events.
-    ended: Vec<Vec<Ended>>,
+    ended: Vec<Vec<EndedWait>>,
     /// Who took each spin lock, in order of the events.
-    takers: Vec<Vec<Deed>>,
+    takers: Vec<Vec<ObjectDeed>>,
 }
 
 /// The place of the spin lock that a line says is taken.
@@ -83,12 +83,12 @@ impl Waits {
     }
 
     /// What is told of a wait of a task for this, by what was noted so far.
-    fn told_now(&self, task: u8, cause: WaitCause) -> Told {
+    fn told_now(&self, task: u8, cause: WaitCause) -> ToldWait {
         let deed = match object_of(cause) {
             Some((kind, place)) => deed_for(cause, self.history.trail(kind, place)),
             None => None,
         };
-        Told {
+        ToldWait {
             since: self.history.since(usize::from(task)),
             deed,
         }
@@ -98,13 +98,13 @@ impl Waits {
     pub fn end(&mut self, event: u32, task: u8, cause: WaitCause) -> Result<(), AllocError> {
         let told = self.told_now(task, cause);
         if let Some(ended) = self.ended.get_mut(usize::from(task)) {
-            ended.push(Ended { event, told })?;
+            ended.push(EndedWait { event, told })?;
         }
         Ok(())
     }
 
     /// What was told of a task before this event, which ended or changed its wait.
-    fn told_before(&self, task: u8, event: u32) -> Option<Told> {
+    fn told_before(&self, task: u8, event: u32) -> Option<ToldWait> {
         let ended = self.ended.get(usize::from(task))?;
         let place = ended.partition_point(|end| end.event < event);
         let found = ended.get(place)?;
@@ -112,7 +112,7 @@ impl Waits {
     }
 
     /// What is told of a wait of a task that lasts so long, if it is one.
-    pub fn told(&self, task: u8, stay: &Stay<TaskShown>) -> Option<Told> {
+    pub fn told(&self, task: u8, stay: &Stay<TaskShown>) -> Option<ToldWait> {
         let cause = stay.state.wait?;
         match stay.to {
             Some(event) => self.told_before(task, event),
@@ -121,7 +121,7 @@ impl Waits {
     }
 
     /// Who took a spin lock last before this event, or before the end of the run.
-    pub fn taker(&self, lock: u8, before: Option<u32>) -> Option<Deed> {
+    pub fn taker(&self, lock: u8, before: Option<u32>) -> Option<ObjectDeed> {
         let takers = self.takers.get(usize::from(lock))?;
         let end = before.unwrap_or(u32::MAX);
         let place = takers.partition_point(|deed| deed.event < end);

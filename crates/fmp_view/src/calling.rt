@@ -6,14 +6,14 @@ ghost use Rattle.fmp_view.specs.Called.{begins_called};
 
 use fmp_base::System;
 use fmp_coming::Coming;
-use fmp_frames::{Calls, Frame, Viewer, append_calls, last_frame, show_all};
+use fmp_frames::{Frame, ToldCalls, Viewer, append_calls, last_frame, show_all};
 use fmp_kernel::{Body, Kernel};
 use std::alloc::{AllocError, Global};
 
 /// The calls of a run so far.
 #[derive(Drop)]
 pub struct CallView {
-    pub calls: Calls,
+    pub calls: ToldCalls,
 }
 
 impl CallView {
@@ -22,7 +22,7 @@ impl CallView {
         ensures { IfOk result (λ made. told_of made.calls ≡ begins_called (length setup.now.states.items)) }
     {
         Ok(CallView {
-            calls: Calls::new(alloc, setup.states.len())?,
+            calls: ToldCalls::new(alloc, setup.states.len())?,
         })
     }
 }

@@ -15,7 +15,7 @@ use fmp_engine::SimFault;
 use fmp_frames::{Viewer, last_frame, show_all};
 use fmp_kernel::{Body, Kernel};
 use fmp_page::page_of;
-use fmp_timeline::{Page, Run};
+use fmp_timeline::{PicturePage, Run};
 use fmp_watch::{IdleTurn, idle_turns};
 use std::alloc::{AllocError, Global};
 use thiserror::Error;
@@ -51,7 +51,7 @@ pub struct Picture {
 }
 
 /// Whether a page has not all events that are asked for, of a run whose last event is this.
-fn cut_of(page: &Page, drawing: Drawing, last: u32) -> Option<PictureCut> {
+fn cut_of(page: &PicturePage, drawing: Drawing, last: u32) -> Option<PictureCut> {
     let end = drawing.choice.last.min(last);
     if page.last >= end {
         return None;
@@ -180,7 +180,7 @@ fn framed(
     sys: &System,
     run: &Run,
     name: &[u8],
-    measures: Page,
+    measures: PicturePage,
     html: bool,
     picture: Vec<u8>,
 ) -> Result<Vec<u8>, AllocError> {
@@ -204,7 +204,7 @@ fn picture_of(
     if drawing.choice.first > last {
         return Err(TimelineFault::NoEvent(last));
     }
-    let page = Page::new(sys, run, drawing.choice);
+    let page = PicturePage::new(sys, run, drawing.choice);
     let times = times_for(run, times);
     match draw_timed(alloc, sys, run, name, page, times) {
         Ok(picture) => {

@@ -9,7 +9,7 @@ use fmp_coming::Coming;
 use fmp_drive::{NextRun, next_runs};
 use fmp_frames::{Frame, Viewer, last_frame, show_all};
 use fmp_kernel::{Body, Kernel};
-use fmp_why::{History, Scene, Spin, append_report};
+use fmp_why::{History, Scene, SpinWait, append_report};
 use std::alloc::{AllocError, Global};
 
 /// What was seen of a run: what its lines told, and the tasks and the processors after its last event.
@@ -23,7 +23,7 @@ pub struct RunWatcher {
     /// The processors.
     pub processors: Vec<Processor>,
     /// What the actor of each processor spins for.
-    pub spins: Vec<Option<Spin>>,
+    pub spins: Vec<Option<SpinWait>>,
 }
 
 impl RunWatcher {

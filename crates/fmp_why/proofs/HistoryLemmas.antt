@@ -11,9 +11,9 @@ use Rattle.fmp_base.specs.declared.events.Line.TheVariants as line
 use Rattle.fmp_base.specs.declared.states.Caller.{Caller}
 use Rattle.fmp_base.specs.declared.systems.SemaphoreConfig.{SemaphoreConfig}
 use Rattle.fmp_base.specs.Systems.{SystemTables}
-use Rattle.fmp_why.specs.declared.history.Act.{Act}
+use Rattle.fmp_why.specs.declared.history.ObjectAct.{ObjectAct}
 use Rattle.fmp_why.specs.declared.history.TaskPart.{TaskPart}
-use Rattle.fmp_why.specs.declared.history.Trail.{Trail}
+use Rattle.fmp_why.specs.declared.history.ObjectTrail.{ObjectTrail}
 use Rattle.fmp_why.specs.Histories.{Told, act_of, after_act, after_deed, after_done, count_of, done_in, holder_of, holders_from, is_done, is_on, is_same_kind, nothing, part_in, part_of, part_told, released_with, told_with, trail_of, trail_told, waits_from, waits_of}
 use Rattle.fmp_why.specs.HistoryTables.{IsTold, Tables, act_noted, changed_at, deed_noted, done_noted, holders_in, line_noted, lines_noted, part_noted, trails_in}
 use Rattle.fmp_why.specs.Obstacles.{is_task}
@@ -91,9 +91,9 @@ none-told sys h semaphores flags queues mailboxes locks tasks =
       parts = λ t. ap (λ (xs : List TaskPart). slice_get xs t) tasks ∙ get-replicate (length sys.tasks) t (record { event = 0; waits = None });
     }
   where
-    rows : (xs : List Trail) (n : ℕ) → xs ≡ replicate n nothing → (i : ℕ)
+    rows : (xs : List ObjectTrail) (n : ℕ) → xs ≡ replicate n nothing → (i : ℕ)
         → slice_get xs i ≡ (if nat_lt i n then Some nothing else None)
-    rows xs n e i = ap (λ (ys : List Trail). slice_get ys i) e ∙ get-replicate n i nothing
+    rows xs n e i = ap (λ (ys : List ObjectTrail). slice_get ys i) e ∙ get-replicate n i nothing
 
     none-of : (b : Bool) → b ≡ false → None ≡ (if b then Some nothing else None)
     none-of b e = ap (λ (c : Bool). if c then Some nothing else None) (sym e)
@@ -113,7 +113,7 @@ map-if true f x = refl
 map-if false f x = refl
 
 -- a deed changes the object of its kind at its place, and no other
-deed-there : (k l : ObjectKind) (i j : ℕ) (f : Trail → Trail) (h : Tables)
+deed-there : (k l : ObjectKind) (i j : ℕ) (f : ObjectTrail → ObjectTrail) (h : Tables)
     → slice_get (trails_in (deed_noted l j f h) k) i
     ≡ (if is_same_kind k l && nat_eq i j then option_map f (slice_get (trails_in h k) i) else slice_get (trails_in h k) i)
 deed-there kind.Semaphore kind.Semaphore i j f h = get-changed f h.semaphores j i
@@ -124,7 +124,7 @@ deed-there kind.SpinLock kind.SpinLock i j f h = get-changed f h.spin_locks j i
 deed-there k l i j f h = refl
 
 -- no task's part changes by a deed
-deed-tasks : (l : ObjectKind) (j : ℕ) (f : Trail → Trail) (h : Tables) → (deed_noted l j f h).tasks ≡ h.tasks
+deed-tasks : (l : ObjectKind) (j : ℕ) (f : ObjectTrail → ObjectTrail) (h : Tables) → (deed_noted l j f h).tasks ≡ h.tasks
 deed-tasks kind.Semaphore j f h = refl
 deed-tasks kind.Flag j f h = refl
 deed-tasks kind.DataQueue j f h = refl
@@ -133,13 +133,13 @@ deed-tasks kind.SpinLock j f h = refl
 deed-tasks _ j f h = refl
 
 -- if what is there is x, then after a deed it is what the deed makes of x
-on-there : (on b : Bool) (f : Trail → Trail) (x : Trail) (old : Option Trail) → old ≡ (if b then Some x else None)
+on-there : (on b : Bool) (f : ObjectTrail → ObjectTrail) (x : ObjectTrail) (old : Option ObjectTrail) → old ≡ (if b then Some x else None)
     → (if on then option_map f old else old) ≡ (if b then Some (if on then f x else x) else None)
 on-there true b f x old e = ap (option_map f) e ∙ map-if b f x
 on-there false b f x old e = e
 
-module _ (k : ObjectKind) (i event : ℕ) (b : Bool) (x : Trail) (h : Tables) where
-  act-there : (who : Caller) (act : Option Act) → slice_get (trails_in h k) i ≡ (if b then Some x else None)
+module _ (k : ObjectKind) (i event : ℕ) (b : Bool) (x : ObjectTrail) (h : Tables) where
+  act-there : (who : Caller) (act : Option ObjectAct) → slice_get (trails_in h k) i ≡ (if b then Some x else None)
       → slice_get (trails_in (act_noted event who act h) k) i
       ≡ (if b then Some (after_act k i event who act x) else None)
   act-there who None e = e
@@ -152,7 +152,7 @@ module _ (k : ObjectKind) (i event : ℕ) (b : Bool) (x : Trail) (h : Tables) wh
   done-there None e = e
   done-there (Some done) e = act-there done.0 (act_of done.1) e
 
-act-tasks : (event : ℕ) (who : Caller) (act : Option Act) (h : Tables) → (act_noted event who act h).tasks ≡ h.tasks
+act-tasks : (event : ℕ) (who : Caller) (act : Option ObjectAct) (h : Tables) → (act_noted event who act h).tasks ≡ h.tasks
 act-tasks event who None h = refl
 act-tasks event who (Some a) h =
     deed-tasks a.kind a.place (after_deed a.way (record { actor = who; event = event })) h
@@ -208,7 +208,7 @@ line-told sys told h event x is =
       trails = λ k i.
           done-there k i event (nat_lt i (count_of sys k)) (trail_of sys k i told) mid
           (done_in (λ t. waits_of (slice_get h.tasks t)) x)
-          (ap (λ (xs : List Trail). slice_get xs i) (part-trails (part_in x) now h k) ∙ is.trails k i)
+          (ap (λ (xs : List ObjectTrail). slice_get xs i) (part-trails (part_in x) now h k) ∙ is.trails k i)
           ∙ ap (λ (d : Option (Caller × Call)). if nat_lt i (count_of sys k) then Some (after_done k i event d (trail_of sys k i told)) else None) same;
       parts = λ t.
           ap (λ (xs : List TaskPart). slice_get xs t) (done-tasks event (done_in (λ t. waits_of (slice_get h.tasks t)) x) mid)
@@ -222,27 +222,27 @@ lines-told sys event [] told h is = is
 lines-told sys event (x ∷ xs) told h is =
     lines-told sys event xs ((event, x) ∷ told) (line_noted event x h) (line-told sys told h event x is)
 
-some-same : {x y : Trail} → Some x ≡ Some y → x ≡ y
+some-same : {x y : ObjectTrail} → Some x ≡ Some y → x ≡ y
 some-same h = cc
 
 -- no semaphore is left
-pub holders-end : (front : List (Option ℕ)) (cs : List SemaphoreConfig) (xs : List Trail) → length xs < 1
+pub holders-end : (front : List (Option ℕ)) (cs : List SemaphoreConfig) (xs : List ObjectTrail) → length xs < 1
     → front ≡ front ++ holders_in cs xs
 holders-end front [] [] h = sym (append-nil front)
 holders-end front (c ∷ cs) [] h = sym (append-nil front)
 holders-end front cs (x ∷ xs) h = absurd (omega (arith, h))
 
-none-there : {x : Trail} {A : Type 0} {a b : A} → None ≡ Some x → a ≡ b
+none-there : {x : ObjectTrail} {A : Type 0} {a b : A} → None ≡ Some x → a ≡ b
 none-there h = cc
 
 -- the holders, by what a trace has told of each semaphore
-holders-there : (sys : SystemTables) (told : Told) (i : ℕ) (cs : List SemaphoreConfig) (xs : List Trail)
+holders-there : (sys : SystemTables) (told : Told) (i : ℕ) (cs : List SemaphoreConfig) (xs : List ObjectTrail)
     → ((j : ℕ) → slice_get xs j ≡ (if nat_lt j (length cs) then Some (trail_of sys kind.Semaphore (i + j) told) else None))
     → holders_in cs xs ≡ holders_from sys told i cs
 holders-there sys told i [] xs e = refl
 holders-there sys told i (c ∷ cs) [] e = none-there (e 0 ∙ ap (λ (b : Bool). if b then Some (trail_of sys kind.Semaphore (i + 0) told) else None) (zero-lt (length cs)))
 holders-there sys told i (c ∷ cs) (x ∷ xs) e =
-    ap (λ (y : Trail). holder_of c y ∷ holders_in cs xs) (first x (e 0 ∙ ap (λ (b : Bool). if b then Some (trail_of sys kind.Semaphore (i + 0) told) else None) (zero-lt (length cs))))
+    ap (λ (y : ObjectTrail). holder_of c y ∷ holders_in cs xs) (first x (e 0 ∙ ap (λ (b : Bool). if b then Some (trail_of sys kind.Semaphore (i + 0) told) else None) (zero-lt (length cs))))
     ∙ ap (λ ys. holder_of c (trail_of sys kind.Semaphore i told) ∷ ys)
     (holders-there sys told (i + 1) cs xs (λ j. e (suc j)
     ∙ ap (λ (b : Bool). if b then Some (trail_of sys kind.Semaphore (i + suc j) told) else None) (lt-suc j (length cs))
@@ -254,7 +254,7 @@ holders-there sys told i (c ∷ cs) (x ∷ xs) e =
     none-more : (i : ℕ) → i + 0 ≡ i
     none-more i = omega arith
 
-    first : (x : Trail) → Some x ≡ Some (trail_of sys kind.Semaphore (i + 0) told) → x ≡ trail_of sys kind.Semaphore i told
+    first : (x : ObjectTrail) → Some x ≡ Some (trail_of sys kind.Semaphore (i + 0) told) → x ≡ trail_of sys kind.Semaphore i told
     first x h = some-same h ∙ ap (λ (n : ℕ). trail_of sys kind.Semaphore n told) (none-more i)
 
 pub holders-are : (sys : SystemTables) (told : Told) (h : Tables) → IsTold sys told h

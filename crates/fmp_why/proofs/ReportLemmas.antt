@@ -4,7 +4,7 @@ use Rattle.std.proofs.lemmas.List.{append-nil}
 use Rattle.std.specs.List.{list_all}
 use Rattle.std.specs.Prelude.{zip}
 use Rattle.fmp_base.specs.declared.states.Processor.{Processor}
-use Rattle.fmp_why.specs.declared.obstacles.Spin.{Spin}
+use Rattle.fmp_why.specs.declared.obstacles.SpinWait.{SpinWait}
 use Rattle.fmp_why.specs.Cycles.{cycle_tasks, next_but, next_of}
 use Rattle.fmp_why.specs.Reports.{Sight, holder_lines, stands}
 
@@ -17,7 +17,7 @@ no-holders x p [] over h = refl
 no-holders x p (cpu ∷ cpus) [] h = refl
 no-holders x p (cpu ∷ cpus) (o ∷ os) h = absurd (omega (arith, h))
 
-pub none-stand : (cpus : List Processor) (spins : List (Option Spin)) → length spins < 1
+pub none-stand : (cpus : List Processor) (spins : List (Option SpinWait)) → length spins < 1
     → list_all stands (zip cpus spins) ≡ true
 none-stand [] spins h = refl
 none-stand (cpu ∷ cpus) [] h = refl

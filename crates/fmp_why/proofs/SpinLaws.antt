@@ -18,7 +18,7 @@ use Rattle.fmp_base.specs.ProcessorCalls.{is_free, is_held, is_spin as is_spin_l
 use Rattle.fmp_base.specs.States.{KernelState, processor_at}
 use Rattle.fmp_base.specs.Steps.{actor_by, actor_of}
 use Rattle.fmp_base.specs.Systems.{SystemTables}
-use Rattle.fmp_why.specs.declared.obstacles.Spin.{Spin}
+use Rattle.fmp_why.specs.declared.obstacles.SpinWait.{SpinWait}
 use Rattle.fmp_why.specs.Obstacles.{asked_lock, held_by, held_lock, holder_of, holds_spin_lock, is_any_held, is_held_lock, is_open, is_some, may_spin, runs_task, spin_on, spins_by}
 use Rattle.fmp_why.specs.Verdicts.{is_spin}
 
@@ -114,7 +114,7 @@ none-held cpus (Some l) e =
     ap (held_by l) (position_from-zero (λ (cpu : Processor). is_spin_lock l cpu.lock) cpus
     ∙ none-from l 0 cpus (sym (ap is_some (position_from-zero holds_spin_lock cpus)) ∙ e))
 
-none-if : (may any : Bool) (found : Option Spin) → (may && any) ≡ false → (any ≡ false → found ≡ None)
+none-if : (may any : Bool) (found : Option SpinWait) → (may && any) ≡ false → (any ≡ false → found ≡ None)
     → (if may then found else None) ≡ None
 none-if false any found e h = refl
 none-if true any found e h = h e

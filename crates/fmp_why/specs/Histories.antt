@@ -18,10 +18,10 @@ use Rattle.fmp_base.specs.declared.states.Caller.TheVariants as caller
 use Rattle.fmp_base.specs.declared.systems.SemaphoreConfig.{SemaphoreConfig}
 use Rattle.fmp_base.specs.Services.{action as action_of, argument, arguments_of, object_kind, parameters, service_of}
 use Rattle.fmp_base.specs.Systems.{SystemTables}
-use Rattle.fmp_why.specs.declared.history.Act.{Act}
-use Rattle.fmp_why.specs.declared.history.Deed.{Deed}
+use Rattle.fmp_why.specs.declared.history.ObjectAct.{ObjectAct}
+use Rattle.fmp_why.specs.declared.history.ObjectDeed.{ObjectDeed}
 use Rattle.fmp_why.specs.declared.history.TaskPart.{TaskPart}
-use Rattle.fmp_why.specs.declared.history.Trail.{Trail}
+use Rattle.fmp_why.specs.declared.history.ObjectTrail.{ObjectTrail}
 use Rattle.fmp_why.specs.declared.history.Way.{Way}
 use Rattle.fmp_why.specs.declared.history.Way.TheVariants as way
 use Rattle.fmp_why.specs.Obstacles.{is_task}
@@ -109,12 +109,12 @@ place_of (pos zero) = None
 place_of (pos (suc i)) = Some i
 place_of (negsuc n) = None
 
-abbrev pub act_by : Option Way → Option ObjectKind → Option ℕ → Option Act
+abbrev pub act_by : Option Way → Option ObjectKind → Option ℕ → Option ObjectAct
 act_by (Some w) (Some k) (Some i) = Some (record { way = w; kind = k; place = i })
 act_by _ _ _ = None
 
 -- which object a call takes or gives, if it does
-abbrev pub act_of : Call → Option Act
+abbrev pub act_of : Call → Option ObjectAct
 act_of c =
     act_by (way_of (service_of c)) (first_kind (parameters (service_of c))) (place_of (argument (arguments_of c) 0))
 
@@ -127,7 +127,7 @@ is_same_kind kind.SpinLock kind.SpinLock = true
 is_same_kind _ _ = false
 
 -- an act is on the object of kind k at place i
-abbrev pub is_on : ObjectKind → ℕ → Act → Bool
+abbrev pub is_on : ObjectKind → ℕ → ObjectAct → Bool
 is_on k i a = is_same_kind k a.kind && nat_eq i a.place
 
 -- the holder after a task, or a handler, gave: it keeps what another gave
@@ -136,26 +136,26 @@ holder_after (Some t) (Some u) = if nat_eq t u then None else Some u
 holder_after _ holder = holder
 
 -- what was done to an object last, after this too
-abbrev pub after_deed : Way → Deed → Trail → Trail
+abbrev pub after_deed : Way → ObjectDeed → ObjectTrail → ObjectTrail
 after_deed way.Takes d trail = record trail { taken = Some d; holder = task_of d.actor }
 after_deed way.Gives d trail = record trail { given = Some d; holder = holder_after (task_of d.actor) trail.holder }
 
-abbrev pub after_act : (k : ObjectKind) → (i : ℕ) → (event : ℕ) → Caller → Option Act → Trail → Trail
+abbrev pub after_act : (k : ObjectKind) → (i : ℕ) → (event : ℕ) → Caller → Option ObjectAct → ObjectTrail → ObjectTrail
 after_act k i event who None trail = trail
 after_act k i event who (Some a) trail =
     if is_on k i a then after_deed a.way (record { actor = who; event = event }) trail else trail
 
-abbrev pub after_done : (k : ObjectKind) → (i : ℕ) → (event : ℕ) → Option (Caller × Call) → Trail → Trail
+abbrev pub after_done : (k : ObjectKind) → (i : ℕ) → (event : ℕ) → Option (Caller × Call) → ObjectTrail → ObjectTrail
 after_done k i event None trail = trail
 after_done k i event (Some done) trail = after_act k i event done.0 (act_of done.1) trail
 
 -- nothing was done to an object
-abbrev pub nothing : Trail
+abbrev pub nothing : ObjectTrail
 nothing = record { taken = None; given = None; holder = None }
 
 -- what was told of the object of kind k at place i: who took it last, who gave it last, and the task that took it last,
 -- unless that task has given it since
-abbrev pub trail_of : SystemTables → ObjectKind → ℕ → Told → Trail
+abbrev pub trail_of : SystemTables → ObjectKind → ℕ → Told → ObjectTrail
 trail_of sys k i [] = nothing
 trail_of sys k i (x ∷ told) =
     after_done k i x.0 (done_in (λ t. waits_of (part_told sys told t)) x.1) (trail_of sys k i told)
@@ -170,19 +170,19 @@ count_of sys kind.SpinLock = length sys.spin_locks
 count_of sys _ = 0
 
 -- the same, if the system has such an object
-abbrev pub trail_told : SystemTables → Told → ObjectKind → ℕ → Option Trail
+abbrev pub trail_told : SystemTables → Told → ObjectKind → ℕ → Option ObjectTrail
 trail_told sys told k i = if nat_lt i (count_of sys k) then Some (trail_of sys k i told) else None
 
 abbrev pub event_of : Option TaskPart → ℕ
 event_of None = 0
 event_of (Some x) = x.event
 
-abbrev pub trail_or : Option Trail → Trail
+abbrev pub trail_or : Option ObjectTrail → ObjectTrail
 trail_or None = nothing
 trail_or (Some x) = x
 
 -- the task that holds a semaphore: one that begins with no resource is held by none
-abbrev pub holder_of : SemaphoreConfig → Trail → Option ℕ
+abbrev pub holder_of : SemaphoreConfig → ObjectTrail → Option ℕ
 holder_of config trail = if nat_lt 0 config.initial then trail.holder else None
 
 -- the task that holds each of these semaphores, of which the first is at place i

@@ -7,18 +7,18 @@ use Rattle.fmp_base.specs.declared.events.Line.{Line}
 use Rattle.fmp_base.specs.declared.states.Caller.{Caller}
 use Rattle.fmp_base.specs.declared.systems.SemaphoreConfig.{SemaphoreConfig}
 use Rattle.fmp_base.specs.Systems.{SystemTables}
-use Rattle.fmp_why.specs.declared.history.Act.{Act}
+use Rattle.fmp_why.specs.declared.history.ObjectAct.{ObjectAct}
 use Rattle.fmp_why.specs.declared.history.History as declared
 use Rattle.fmp_why.specs.declared.history.TaskPart.{TaskPart}
-use Rattle.fmp_why.specs.declared.history.Trail.{Trail}
+use Rattle.fmp_why.specs.declared.history.ObjectTrail.{ObjectTrail}
 use Rattle.fmp_why.specs.Histories.{Told, act_of, after_deed, done_in, event_of, holder_of, part_in, part_told, trail_or, trail_told, waits_from, waits_of}
 
 pub record Tables : Type 0 where
-  pub semaphores : List Trail
-  pub flags : List Trail
-  pub data_queues : List Trail
-  pub mailboxes : List Trail
-  pub spin_locks : List Trail
+  pub semaphores : List ObjectTrail
+  pub flags : List ObjectTrail
+  pub data_queues : List ObjectTrail
+  pub mailboxes : List ObjectTrail
+  pub spin_locks : List ObjectTrail
   pub tasks : List TaskPart
 
 -- the tables that a `History` holds
@@ -34,7 +34,7 @@ tables h =
     }
 
 -- the objects of a kind
-abbrev pub trails_in : Tables → ObjectKind → List Trail
+abbrev pub trails_in : Tables → ObjectKind → List ObjectTrail
 trails_in h kind.Semaphore = h.semaphores
 trails_in h kind.Flag = h.flags
 trails_in h kind.DataQueue = h.data_queues
@@ -47,7 +47,7 @@ abbrev pub since_in : Tables → (t : ℕ) → ℕ
 since_in h t = event_of (slice_get h.tasks t)
 
 -- what was done last to the object of a kind at a place
-abbrev pub trail_in : Tables → ObjectKind → (i : ℕ) → Trail
+abbrev pub trail_in : Tables → ObjectKind → (i : ℕ) → ObjectTrail
 trail_in h k i = trail_or (slice_get (trails_in h k) i)
 
 -- the tables are what a trace has told, for each object and each task that the system has
@@ -62,7 +62,7 @@ changed_at f (x ∷ xs) zero = f x ∷ xs
 changed_at f (x ∷ xs) (suc i) = x ∷ changed_at f xs i
 
 -- the tables after a deed on the object of a kind at a place
-abbrev pub deed_noted : ObjectKind → ℕ → (Trail → Trail) → Tables → Tables
+abbrev pub deed_noted : ObjectKind → ℕ → (ObjectTrail → ObjectTrail) → Tables → Tables
 deed_noted kind.Semaphore i f h = record h { semaphores = changed_at f h.semaphores i }
 deed_noted kind.Flag i f h = record h { flags = changed_at f h.flags i }
 deed_noted kind.DataQueue i f h = record h { data_queues = changed_at f h.data_queues i }
@@ -70,7 +70,7 @@ deed_noted kind.Mailbox i f h = record h { mailboxes = changed_at f h.mailboxes 
 deed_noted kind.SpinLock i f h = record h { spin_locks = changed_at f h.spin_locks i }
 deed_noted _ i f h = h
 
-abbrev pub act_noted : (event : ℕ) → Caller → Option Act → Tables → Tables
+abbrev pub act_noted : (event : ℕ) → Caller → Option ObjectAct → Tables → Tables
 act_noted event who None h = h
 act_noted event who (Some a) h = deed_noted a.kind a.place (after_deed a.way (record { actor = who; event = event })) h
 
@@ -93,7 +93,7 @@ lines_noted event [] h = h
 lines_noted event (x ∷ xs) h = lines_noted event xs (line_noted event x h)
 
 -- the task that holds each semaphore, by what was done to each
-abbrev pub holders_in : List SemaphoreConfig → List Trail → List (Option ℕ)
+abbrev pub holders_in : List SemaphoreConfig → List ObjectTrail → List (Option ℕ)
 holders_in [] trails = []
 holders_in (x ∷ xs) [] = []
 holders_in (x ∷ xs) (trail ∷ trails) = holder_of x trail ∷ holders_in xs trails

@@ -15,7 +15,7 @@ use Rattle.fmp_base.specs.declared.states.TaskBlock.{TaskBlock}
 use Rattle.fmp_base.specs.declared.states.WaitCause.TheVariants as cause
 use Rattle.fmp_base.specs.Outcomes.{numbered}
 use Rattle.fmp_base.specs.ProcessorCalls.{is_free, is_spin}
-use Rattle.fmp_why.specs.declared.obstacles.Spin.{Spin}
+use Rattle.fmp_why.specs.declared.obstacles.SpinWait.{SpinWait}
 
 -- the spin lock that a call asks for by loc_spn, of this many
 abbrev pub asked_lock : (locks : ℕ) → Option Call → Option ℕ
@@ -27,11 +27,11 @@ abbrev pub holder_of : List Processor → ℕ → Option ℕ
 holder_of cpus l = position (λ cpu. is_spin l cpu.lock) cpus
 
 -- a spin lock that a processor holds
-abbrev pub held_by : (lock : ℕ) → Option ℕ → Option Spin
+abbrev pub held_by : (lock : ℕ) → Option ℕ → Option SpinWait
 held_by lock None = None
 held_by lock (Some p) = Some (record { lock = lock; holder = p })
 
-abbrev pub held_lock : List Processor → Option ℕ → Option Spin
+abbrev pub held_lock : List Processor → Option ℕ → Option SpinWait
 held_lock cpus None = None
 held_lock cpus (Some l) = held_by l (holder_of cpus l)
 
@@ -71,7 +71,7 @@ spins_by _ = false
 
 -- what the actor of a processor spins for, if its next call is this one: the spin lock that it asks for, if it may ask
 -- and some processor holds it
-abbrev pub spin_on : List Processor → (locks : ℕ) → Processor → Option Call → Option Spin
+abbrev pub spin_on : List Processor → (locks : ℕ) → Processor → Option Call → Option SpinWait
 spin_on cpus locks cpu c = if is_open cpu then held_lock cpus (asked_lock locks c) else None
 
 -- a processor runs task t
@@ -80,7 +80,7 @@ is_task t None = false
 is_task t (Some u) = nat_eq u t
 
 -- what task t spins for: what is spun for on the first processor that runs it
-abbrev pub spin_of : List Processor → List (Option Spin) → ℕ → Option Spin
+abbrev pub spin_of : List Processor → List (Option SpinWait) → ℕ → Option SpinWait
 spin_of [] spins t = None
 spin_of (x ∷ xs) [] t = None
 spin_of (x ∷ xs) (s ∷ ss) t = if is_task t x.run then s else spin_of xs ss t
@@ -95,7 +95,7 @@ wait_holder holders (phase.Waiting (cause.Semaphore s)) None = option_and_then (
 wait_holder holders _ _ = None
 
 -- the task that holds what a task spins for
-abbrev pub spin_holder : List Processor → Option Spin → Option ℕ
+abbrev pub spin_holder : List Processor → Option SpinWait → Option ℕ
 spin_holder cpus None = None
 spin_holder cpus (Some s) = run_at cpus s.holder
 
@@ -105,5 +105,5 @@ first_of (Some t) other = Some t
 first_of None other = other
 
 -- the task that holds what a task of this block waits for with no end, or spins for
-abbrev pub blocker_of : (holders : List (Option ℕ)) → List Processor → TaskBlock → Option Spin → Option ℕ
+abbrev pub blocker_of : (holders : List (Option ℕ)) → List Processor → TaskBlock → Option SpinWait → Option ℕ
 blocker_of holders cpus block spin = first_of (wait_holder holders block.phase block.deadline) (spin_holder cpus spin)

@@ -13,11 +13,11 @@ use Rattle.fmp_base.specs.declared.states.WaitCause.{WaitCause}
 use Rattle.fmp_base.specs.Systems.{SystemTables, tables_of}
 use Rattle.fmp_base.specs.Texts.{caller_name, task_name}
 use Rattle.fmp_named.specs.States.{object_text, wait_text}
-use Rattle.fmp_why.specs.declared.history.Deed.{Deed}
-use Rattle.fmp_why.specs.declared.obstacles.Spin.{Spin}
+use Rattle.fmp_why.specs.declared.history.ObjectDeed.{ObjectDeed}
+use Rattle.fmp_why.specs.declared.obstacles.SpinWait.{SpinWait}
 use Rattle.fmp_why.specs.declared.report.Scene as declared
-use Rattle.fmp_why.specs.declared.verdicts.Verdict.{Verdict}
-use Rattle.fmp_why.specs.declared.verdicts.Verdict.TheVariants as verdict
+use Rattle.fmp_why.specs.declared.verdicts.SystemVerdict.{SystemVerdict}
+use Rattle.fmp_why.specs.declared.verdicts.SystemVerdict.TheVariants as verdict
 use Rattle.fmp_why.specs.Cycles.{cycle_tasks}
 use Rattle.fmp_why.specs.HistoryTables.{Tables, holders_in, since_in, tables, trail_in}
 use Rattle.fmp_why.specs.Obstacles.{blocker_of, spin_of}
@@ -31,7 +31,7 @@ pub record Sight : Type 0 where
   pub blocks : List TaskBlock
   pub processors : List Processor
   -- what the actor of each processor spins for
-  pub spins : List (Option Spin)
+  pub spins : List (Option SpinWait)
   -- the next stretch on each processor reaches the bound
   pub over : List Bool
 
@@ -47,11 +47,11 @@ sight_of x =
     }
 
 -- who took the object of a kind at a place last
-abbrev pub taken_of : Sight → ObjectKind → (i : ℕ) → Option Deed
+abbrev pub taken_of : Sight → ObjectKind → (i : ℕ) → Option ObjectDeed
 taken_of x k i = (trail_in x.history k i).taken
 
 -- what was done to an object last, between these words, if something was
-abbrev pub deed_text : SystemTables → (front back : List ℕ) → Option Deed → List ℕ
+abbrev pub deed_text : SystemTables → (front back : List ℕ) → Option ObjectDeed → List ℕ
 deed_text sys front back None = []
 deed_text sys front back (Some d) =
     front ++ (caller_name sys d.actor ++ (codes " at event " ++ (decimal d.event ++ back)))
@@ -84,12 +84,12 @@ unfoldable pub doing_text : Sight → (t : ℕ) → (does : List ℕ) → Object
 doing_text x t does k i = task_name x.sys t ++ (does ++ object_text x.sys k i)
 
 -- task t spins for this
-abbrev pub spin_line : Sight → (t : ℕ) → Spin → List ℕ
+abbrev pub spin_line : Sight → (t : ℕ) → SpinWait → List ℕ
 spin_line x t s =
     doing_text x t (codes " spins for ") kind.SpinLock s.lock
     ++ (since_text x t ++ (taken_text x (codes "; taken by ") [] kind.SpinLock s.lock ++ 10 ∷ []))
 
-abbrev pub spinning_line : Sight → (t : ℕ) → Option Spin → List ℕ
+abbrev pub spinning_line : Sight → (t : ℕ) → Option SpinWait → List ℕ
 spinning_line x t None = []
 spinning_line x t (Some s) = spin_line x t s
 
@@ -109,7 +109,7 @@ held_up_lines x t [] = []
 held_up_lines x t (b ∷ bs) = held_up_line x t b b.phase ++ held_up_lines x (t + 1) bs
 
 -- what the processor at place p holds is spun for
-abbrev pub is_held_by : (p : ℕ) → Option Spin → Bool
+abbrev pub is_held_by : (p : ℕ) → Option SpinWait → Bool
 is_held_by p None = false
 is_held_by p (Some s) = nat_eq s.holder p
 
@@ -153,7 +153,7 @@ waited_for (phase.Waiting c) = object_of c
 waited_for phase.Dormant = None
 waited_for phase.Ready = None
 
-abbrev pub link_by : Sight → (t : ℕ) → (waited : Option (ObjectKind × ℕ)) → (spun : Option Spin) → List ℕ
+abbrev pub link_by : Sight → (t : ℕ) → (waited : Option (ObjectKind × ℕ)) → (spun : Option SpinWait) → List ℕ
 link_by x t (Some o) spun = link x t (codes " waits for ") o.0 o.1
 link_by x t None (Some s) = link x t (codes " spins for ") kind.SpinLock s.lock
 link_by x t None None = []
@@ -176,7 +176,7 @@ links x [] = []
 links x (t ∷ ts) = link_text x t ++ more_links x ts
 
 -- a processor does nothing: it runs nothing, or its actor spins
-abbrev pub stands : Processor × Option Spin → Bool
+abbrev pub stands : Processor × Option SpinWait → Bool
 stands p = is_spin p.1 || (not (is_some p.0.run) && not (is_some p.0.handler))
 
 abbrev pub has_no_limit : TaskBlock → Bool
@@ -200,7 +200,7 @@ deadlock_text quiet interrupts =
     else codes ": deadlock, unless another task or a handler signals\n"
 
 -- how tasks stand, of which each waits for the one that `blockers` has
-abbrev pub verdict_text : Sight → (blockers : List (Option ℕ)) → Verdict → List ℕ
+abbrev pub verdict_text : Sight → (blockers : List (Option ℕ)) → SystemVerdict → List ℕ
 verdict_text x bs verdict.Ended = codes "every task has ended\n"
 verdict_text x bs (verdict.Deadlock t) =
     links x (cycle_tasks bs t (length bs) (Some t)) ++ deadlock_text (is_quiet x) (length x.sys.interrupts)

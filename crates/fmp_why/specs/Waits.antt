@@ -4,8 +4,8 @@ use Rattle.fmp_base.specs.declared.catalogue.ObjectKind.{ObjectKind}
 use Rattle.fmp_base.specs.declared.catalogue.ObjectKind.TheVariants as kind
 use Rattle.fmp_base.specs.declared.states.WaitCause.{WaitCause}
 use Rattle.fmp_base.specs.declared.states.WaitCause.TheVariants as cause
-use Rattle.fmp_why.specs.declared.history.Deed.{Deed}
-use Rattle.fmp_why.specs.declared.history.Trail.{Trail}
+use Rattle.fmp_why.specs.declared.history.ObjectDeed.{ObjectDeed}
+use Rattle.fmp_why.specs.declared.history.ObjectTrail.{ObjectTrail}
 
 -- the object that a wait is for
 abbrev pub object_of : WaitCause → Option (ObjectKind × ℕ)
@@ -18,7 +18,7 @@ object_of (cause.Receiving i) = Some (kind.DataQueue, i)
 object_of (cause.Mailbox i) = Some (kind.Mailbox, i)
 
 -- who set a flag or sent to a queue last, and who took anything else last
-abbrev pub deed_for : WaitCause → Trail → Option Deed
+abbrev pub deed_for : WaitCause → ObjectTrail → Option ObjectDeed
 deed_for cause.Sleep trail = trail.taken
 deed_for cause.Delay trail = trail.taken
 deed_for (cause.Semaphore i) trail = trail.taken

@@ -12,24 +12,24 @@ use std::alloc::{AllocError, Global};
 
 /// What an actor did to an object, by the event.
 #[derive(Clone, Copy)]
-pub struct Deed {
+pub struct ObjectDeed {
     pub actor: Caller,
     pub event: u32,
 }
 
 /// What was done to an object last.
 #[derive(Clone, Copy)]
-pub struct Trail {
+pub struct ObjectTrail {
     /// Who acquired or received from it last.
-    pub taken: Option<Deed>,
+    pub taken: Option<ObjectDeed>,
     /// Who signalled it, set it or sent to it last.
-    pub given: Option<Deed>,
+    pub given: Option<ObjectDeed>,
     /// The task that took it last, unless that task has given it back since.
     pub holder: Option<u8>,
 }
 
 /// Nothing was done.
-const NOTHING: Trail = Trail {
+const NOTHING: ObjectTrail = ObjectTrail {
     taken: None,
     given: None,
     holder: None,
@@ -47,11 +47,11 @@ struct TaskPart {
 /// What a trace has told so far.
 #[derive(Drop)]
 pub struct History {
-    semaphores: Vec<Trail>,
-    flags: Vec<Trail>,
-    data_queues: Vec<Trail>,
-    mailboxes: Vec<Trail>,
-    spin_locks: Vec<Trail>,
+    semaphores: Vec<ObjectTrail>,
+    flags: Vec<ObjectTrail>,
+    data_queues: Vec<ObjectTrail>,
+    mailboxes: Vec<ObjectTrail>,
+    spin_locks: Vec<ObjectTrail>,
     tasks: Vec<TaskPart>,
 }
 
@@ -64,7 +64,7 @@ enum Way {
 
 /// What a call does, and to which object: that of a kind at a place.
 #[derive(Clone, Copy)]
-struct Act {
+struct ObjectAct {
     way: Way,
     kind: ObjectKind,
     place: usize,
@@ -213,12 +213,12 @@ fn first_place(call: Call) -> Option<usize>
 }
 
 /// Which object a call takes or gives, if it does.
-fn act_of(call: Call) -> Option<Act>
+fn act_of(call: Call) -> Option<ObjectAct>
     ensures { result ≡ spec.act_of call }
 {
     let service = call.service();
     match (way_of(service), kind_of(service), first_place(call)) {
-        (Some(way), Some(kind), Some(place)) => Some(Act { way, kind, place }),
+        (Some(way), Some(kind), Some(place)) => Some(ObjectAct { way, kind, place }),
         _ => None,
     }
 }
@@ -233,18 +233,18 @@ fn holder_after(giver: Option<u8>, holder: Option<u8>) -> Option<u8>
     }
 }
 
-impl Trail {
+impl ObjectTrail {
     /// What was done last, after this too.
-    fn with(self, way: Way, deed: Deed) -> Trail
+    fn with(self, way: Way, deed: ObjectDeed) -> ObjectTrail
         ensures { result ≡ spec.after_deed way deed self }
     {
         match way {
-            Way::Takes => Trail {
+            Way::Takes => ObjectTrail {
                 taken: Some(deed),
                 holder: task_of(deed.actor),
                 ..self
             },
-            Way::Gives => Trail {
+            Way::Gives => ObjectTrail {
                 given: Some(deed),
                 holder: holder_after(task_of(deed.actor), self.holder),
                 ..self
@@ -254,7 +254,7 @@ impl Trail {
 }
 
 /// One thing more was done to the object at a place.
-fn add(trails: &mut Vec<Trail>, place: usize, way: Way, deed: Deed)
+fn add(trails: &mut Vec<ObjectTrail>, place: usize, way: Way, deed: ObjectDeed)
     ensures { trails.new.items ≡ rows.changed_at (spec.after_deed way deed) trails.old.items place }
 {
     if place < trails.len() {
@@ -291,7 +291,7 @@ impl History {
     }
 
     /// An actor did to an object what a call does.
-    fn note_act(&mut self, act: Act, deed: Deed)
+    fn note_act(&mut self, act: ObjectAct, deed: ObjectDeed)
         ensures { rows.tables self.new
             ≡ rows.deed_noted act.kind act.place (spec.after_deed act.way deed) (rows.tables self.old) }
     {
@@ -312,7 +312,7 @@ impl History {
         if let Some((actor, call)) = done
             && let Some(act) = act_of(call)
         {
-            self.note_act(act, Deed { actor, event });
+            self.note_act(act, ObjectDeed { actor, event });
         }
     }
 
@@ -365,7 +365,7 @@ impl History {
     }
 
     /// What was done to the objects of a kind that is waited or spun for.
-    fn trails(&self, kind: ObjectKind) -> &[Trail]
+    fn trails(&self, kind: ObjectKind) -> &[ObjectTrail]
         ensures { result.now ≡ rows.trails_in (rows.tables self.now) kind }
     {
         match kind {
@@ -379,7 +379,7 @@ impl History {
     }
 
     /// What was done to an object of a kind that is waited or spun for.
-    pub fn trail(&self, kind: ObjectKind, place: u8) -> Trail
+    pub fn trail(&self, kind: ObjectKind, place: u8) -> ObjectTrail
         ensures row { result ≡ rows.trail_in (rows.tables self.now) kind place }
         ensures told { (sys : SystemTables) (told : spec.Told) → rows.IsTold sys told (rows.tables self.now)
             → result ≡ spec.trail_or (spec.trail_told sys told kind place) }
@@ -403,7 +403,7 @@ impl History {
 }
 
 /// The task that holds a semaphore, by what was done to it.
-fn holder_of(config: &SemaphoreConfig, trail: Trail) -> Option<u8>
+fn holder_of(config: &SemaphoreConfig, trail: ObjectTrail) -> Option<u8>
     ensures { result ≡ spec.holder_of config.now trail }
 {
     if config.initial > 0 {
@@ -417,7 +417,7 @@ fn holder_of(config: &SemaphoreConfig, trail: Trail) -> Option<u8>
 fn holders_of(
     alloc: Global,
     semaphores: &[SemaphoreConfig],
-    trails: &[Trail],
+    trails: &[ObjectTrail],
 ) -> Result<Vec<Option<u8>>, AllocError>
     ensures { IfOk result (λ holders. holders.items ≡ rows.holders_in semaphores.now trails.now) }
 {

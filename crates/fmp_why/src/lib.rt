@@ -10,8 +10,8 @@ mod verdicts;
 mod waits;
 
 pub use cycles::{first_on_cycle, is_on_cycle, next_of};
-pub use history::{Deed, History, Trail};
-pub use obstacles::{Spin, blocker_of, may_spin, spin_of, spin_on};
+pub use history::{History, ObjectDeed, ObjectTrail};
+pub use obstacles::{SpinWait, blocker_of, may_spin, spin_of, spin_on};
 pub use report::{Scene, append_report};
-pub use verdicts::{Verdict, is_spin, verdict_of};
+pub use verdicts::{SystemVerdict, is_spin, verdict_of};
 pub use waits::{deed_for, deed_words, object_of};

@@ -8,7 +8,7 @@ use fmp_base::{Call, Handler, Lock, Phase, Processor, TaskBlock, WaitCause};
 
 /// A spin lock for which an actor spins.
 #[derive(Clone, Copy, PartialEq, Eq)]
-pub struct Spin {
+pub struct SpinWait {
     /// The place of the spin lock.
     pub lock: u8,
     /// The place of the processor that holds it.
@@ -43,12 +43,12 @@ fn holder_of(processors: &[Processor], lock: u8) -> Option<usize>
 }
 
 /// A spin lock that a processor holds.
-fn held_lock(processors: &[Processor], lock: Option<u8>) -> Option<Spin>
+fn held_lock(processors: &[Processor], lock: Option<u8>) -> Option<SpinWait>
     ensures { result ≡ spec.held_lock processors.now lock }
 {
     let lock = lock?;
     let holder = holder_of(processors, lock)?;
-    Some(Spin { lock, holder })
+    Some(SpinWait { lock, holder })
 }
 
 fn is_free(lock: Lock) -> bool
@@ -117,7 +117,7 @@ pub fn spin_on(
     locks: u8,
     cpu: &Processor,
     call: Option<Call>,
-) -> Option<Spin>
+) -> Option<SpinWait>
     ensures { result ≡ spec.spin_on processors.now locks cpu.now call }
 {
     if is_open(cpu) {
@@ -137,7 +137,11 @@ fn is_task(task: usize, run: Option<u8>) -> bool
 }
 
 /// What a task spins for, by what is spun for on each processor.
-pub fn spin_of(processors: &[Processor], spins: &[Option<Spin>], task: usize) -> Option<Spin>
+pub fn spin_of(
+    processors: &[Processor],
+    spins: &[Option<SpinWait>],
+    task: usize,
+) -> Option<SpinWait>
     ensures { result ≡ spec.spin_of processors.now spins.now task }
 {
     let mut rest = spins;
@@ -170,7 +174,7 @@ fn wait_holder(holders: &[Option<u8>], phase: Phase, deadline: Option<u32>) -> O
     }
 }
 
-fn spin_holder(processors: &[Processor], spin: Option<Spin>) -> Option<u8>
+fn spin_holder(processors: &[Processor], spin: Option<SpinWait>) -> Option<u8>
     ensures { result ≡ spec.spin_holder processors.now spin }
 {
     match spin {
@@ -185,7 +189,7 @@ pub fn blocker_of(
     holders: &[Option<u8>],
     processors: &[Processor],
     block: &TaskBlock,
-    spin: Option<Spin>,
+    spin: Option<SpinWait>,
 ) -> Option<u8>
     ensures { result ≡ spec.blocker_of holders.now processors.now block.now spin }
 {

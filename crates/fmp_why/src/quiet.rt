@@ -5,20 +5,20 @@ ghost use Rattle.fmp_base.specs.Systems.{tables_of};
 ghost use Rattle.fmp_why.specs.Reports as spec;
 ghost use Rattle.fmp_why.specs.Reports.{sight_of};
 
-use crate::obstacles::Spin;
+use crate::obstacles::SpinWait;
 use crate::report::Scene;
 use crate::verdicts::is_spin;
 use fmp_base::{Processor, System, TaskBlock};
 
 /// Whether a processor does nothing: it runs nothing, or its actor spins.
-fn stands(cpu: &Processor, spin: Option<Spin>) -> bool
+fn stands(cpu: &Processor, spin: Option<SpinWait>) -> bool
     ensures { result ≡ spec.stands (cpu.now, spin) }
 {
     is_spin(spin) || (cpu.run.is_none() && cpu.handler.is_none())
 }
 
 /// Whether every processor does nothing.
-fn all_stand(processors: &[Processor], spins: &[Option<Spin>]) -> bool
+fn all_stand(processors: &[Processor], spins: &[Option<SpinWait>]) -> bool
     ensures { result ≡ list_all spec.stands (zip processors.now spins.now) }
 {
     let mut rest = spins;

@@ -1,16 +1,16 @@
 //! What is said of the tasks that wait and spin.
 ghost use Rattle.std.specs.Prelude.{◌≡◌, ◌++◌, IfOk, OnOk, decimal};
 ghost use Rattle.fmp_base.specs.Systems.{tables_of};
-ghost use Rattle.fmp_why.specs.declared.verdicts.Verdict.TheVariants.{Deadlock};
+ghost use Rattle.fmp_why.specs.declared.verdicts.SystemVerdict.TheVariants.{Deadlock};
 ghost use Rattle.fmp_why.specs.Reports as spec;
 ghost use Rattle.fmp_why.specs.Reports.{report, sight_of};
 ghost use Rattle.fmp_why.specs.Waits.{object_of as for_object};
 
 use crate::cycles::cycle_tasks;
-use crate::history::{Deed, History};
-use crate::obstacles::{Spin, blocker_of, spin_of};
+use crate::history::{History, ObjectDeed};
+use crate::obstacles::{SpinWait, blocker_of, spin_of};
 use crate::quiet::{deadlock_text, is_quiet, left_text};
-use crate::verdicts::{Verdict, verdict_of};
+use crate::verdicts::{SystemVerdict, verdict_of};
 use crate::waits::{deed_for, deed_words, object_of};
 use fmp_base::{Lock, ObjectKind, Phase, Processor, System, TaskBlock, WaitCause};
 use fmp_named::{append_caller, append_object, append_task, append_wait};
@@ -27,7 +27,7 @@ pub struct Scene<'a> {
     /// The processors.
     pub processors: &'a [Processor],
     /// What the actor of each processor spins for.
-    pub spins: &'a [Option<Spin>],
+    pub spins: &'a [Option<SpinWait>],
     /// Whether the next stretch on each processor reaches the bound, and so comes to no call.
     pub over: &'a [bool],
 }
@@ -50,7 +50,7 @@ fn append_deed(
     sys: &System,
     front: &[u8],
     back: &[u8],
-    deed: Option<Deed>,
+    deed: Option<ObjectDeed>,
     out: &mut Vec<u8>,
 ) -> Result<(), AllocError>
     ensures { OnOk result (out.new.items
@@ -68,7 +68,7 @@ fn append_deed(
 }
 
 /// Who took an object last, and at which event.
-fn taken_of(scene: &Scene<'_>, kind: ObjectKind, place: u8) -> Option<Deed>
+fn taken_of(scene: &Scene<'_>, kind: ObjectKind, place: u8) -> Option<ObjectDeed>
     ensures { result ≡ spec.taken_of (sight_of scene.now) kind place }
 {
     scene.history.trail(kind, place).taken
@@ -152,7 +152,7 @@ fn append_doing(
 fn append_spin(
     scene: &Scene<'_>,
     task: usize,
-    spin: Spin,
+    spin: SpinWait,
     out: &mut Vec<u8>,
 ) -> Result<(), AllocError>
     ensures { OnOk result (out.new.items ≡ out.old.items ++ spec.spin_line (sight_of scene.now) task spin) }
@@ -168,7 +168,7 @@ fn append_spin(
 fn append_spinning(
     scene: &Scene<'_>,
     task: usize,
-    spin: Option<Spin>,
+    spin: Option<SpinWait>,
     out: &mut Vec<u8>,
 ) -> Result<(), AllocError>
     ensures { OnOk result (out.new.items
@@ -233,7 +233,7 @@ fn append_all(scene: &Scene<'_>, out: &mut Vec<u8>) -> Result<(), AllocError>
 }
 
 /// Whether an actor spins for what the processor at a place holds.
-fn is_held_by(place: usize, spin: Option<Spin>) -> bool
+fn is_held_by(place: usize, spin: Option<SpinWait>) -> bool
     ensures { result ≡ spec.is_held_by place spin }
 {
     match spin {
@@ -355,7 +355,7 @@ fn append_link_by(
     scene: &Scene<'_>,
     task: usize,
     waited: Option<(ObjectKind, u8)>,
-    spun: Option<Spin>,
+    spun: Option<SpinWait>,
     out: &mut Vec<u8>,
 ) -> Result<(), AllocError>
     ensures { OnOk result (out.new.items
@@ -429,18 +429,18 @@ fn append_verdict(
     alloc: Global,
     scene: &Scene<'_>,
     blockers: &[Option<u8>],
-    verdict: Verdict,
+    verdict: SystemVerdict,
     out: &mut Vec<u8>,
 ) -> Result<(), AllocError>
     ensures { OnOk result (out.new.items
         ≡ out.old.items ++ spec.verdict_text (sight_of scene.now) blockers.now verdict) }
 {
     match verdict {
-        Verdict::Ended => append(b"every task has ended\n", out),
-        Verdict::Deadlock(task) => append_deadlock(alloc, scene, blockers, task, out),
-        Verdict::HeldUp if is_quiet(scene) => append(left_text(scene.sys).as_bytes(), out),
-        Verdict::HeldUp => Ok(()),
-        Verdict::Free => append(b"no task waits or spins\n", out),
+        SystemVerdict::Ended => append(b"every task has ended\n", out),
+        SystemVerdict::Deadlock(task) => append_deadlock(alloc, scene, blockers, task, out),
+        SystemVerdict::HeldUp if is_quiet(scene) => append(left_text(scene.sys).as_bytes(), out),
+        SystemVerdict::HeldUp => Ok(()),
+        SystemVerdict::Free => append(b"no task waits or spins\n", out),
     }
 }
 

@@ -3,12 +3,12 @@ ghost use Rattle.std.specs.Prelude.{◌≡◌, position};
 ghost use Rattle.fmp_why.specs.Verdicts as spec;
 
 use crate::cycles::first_on_cycle;
-use crate::obstacles::Spin;
+use crate::obstacles::SpinWait;
 use fmp_base::{Phase, TaskBlock};
 
 /// How the tasks of a system stand.
 #[derive(Clone, Copy)]
-pub enum Verdict {
+pub enum SystemVerdict {
     /// Every task is dormant.
     Ended,
     /// This task waits for itself, by way of others or not.
@@ -47,7 +47,7 @@ fn is_held_up(block: &TaskBlock) -> bool
 }
 
 /// Whether there is something that is spun for.
-pub fn is_spin(spin: Option<Spin>) -> bool
+pub fn is_spin(spin: Option<SpinWait>) -> bool
     ensures { result ≡ spec.is_spin spin }
 {
     match spin {
@@ -71,32 +71,36 @@ fn first_held_up(blocks: &[TaskBlock]) -> Option<usize>
 }
 
 /// The first processor whose actor spins.
-fn first_spin(spins: &[Option<Spin>]) -> Option<usize>
+fn first_spin(spins: &[Option<SpinWait>]) -> Option<usize>
     ensures { result ≡ position spec.is_spin spins.now }
 {
     spins.iter().position(|spin| is_spin(*spin))
 }
 
 /// Whether tasks are held up of which some are started and none waits for itself.
-fn held_up_or_free(blocks: &[TaskBlock], spins: &[Option<Spin>]) -> Verdict
+fn held_up_or_free(blocks: &[TaskBlock], spins: &[Option<SpinWait>]) -> SystemVerdict
     ensures { result ≡ spec.stuck_or_free (position spec.is_held_up blocks.now) (position spec.is_spin spins.now) }
 {
     match (first_held_up(blocks), first_spin(spins)) {
-        (None, None) => Verdict::Free,
-        _ => Verdict::HeldUp,
+        (None, None) => SystemVerdict::Free,
+        _ => SystemVerdict::HeldUp,
     }
 }
 
 /// How tasks stand, of which each waits for the one that `blockers` has; `spins` has what the actor of each processor
 /// spins for.
-pub fn verdict_of(blocks: &[TaskBlock], spins: &[Option<Spin>], blockers: &[Option<u8>]) -> Verdict
+pub fn verdict_of(
+    blocks: &[TaskBlock],
+    spins: &[Option<SpinWait>],
+    blockers: &[Option<u8>],
+) -> SystemVerdict
     ensures { result ≡ spec.verdict_of blocks.now spins.now blockers.now }
 {
     if first_started(blocks).is_none() {
-        return Verdict::Ended;
+        return SystemVerdict::Ended;
     }
     match first_on_cycle(blockers) {
-        Some(task) => Verdict::Deadlock(task),
+        Some(task) => SystemVerdict::Deadlock(task),
         None => held_up_or_free(blocks, spins),
     }
 }

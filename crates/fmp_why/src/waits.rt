@@ -2,7 +2,7 @@
 ghost use Rattle.std.specs.Prelude.{◌≡◌};
 ghost use Rattle.fmp_why.specs.Waits as spec;
 
-use crate::history::{Deed, Trail};
+use crate::history::{ObjectDeed, ObjectTrail};
 use fmp_base::{ObjectKind, WaitCause};
 
 /// The object that a wait is for: its kind and its place. None for a wakeup or the end of a delay.
@@ -21,7 +21,7 @@ pub fn object_of(cause: WaitCause) -> Option<(ObjectKind, u8)>
 
 /// Which deed is told of the object of a wait: who set or sent to it last, if the wait is for a flag or for room, and
 /// otherwise who took it last.
-pub fn deed_for(cause: WaitCause, trail: Trail) -> Option<Deed>
+pub fn deed_for(cause: WaitCause, trail: ObjectTrail) -> Option<ObjectDeed>
     ensures { result ≡ spec.deed_for cause trail }
 {
     match cause {

@@ -1,6 +1,6 @@
 use Rattle.std.proofs.Common.{◌≡◌, drop}
 use Rattle.fmp_frames.specs.Told.{told_after_all, told_of}
-use Rattle.fmp_frames.proofs.told.Calls.tell.Given as goal
+use Rattle.fmp_frames.proofs.told.ToldCalls.tell.Given as goal
 
 -- what is told so far, and by the lines that are left
 abbrev pub invariant-loop-line : goal.invariant-loop-line
