@@ -9,7 +9,7 @@ use Rattle.fmp_checked.specs.Checking.{CheckedView, InStep, IsBegun, IsChecked, 
 use Rattle.fmp_checked.proofs.Steps.{stepped}
 use Rattle.fmp_foreign.specs.declared.requests.Refusal.{Refusal}
 use Rattle.fmp_foreign.specs.Following.{HasFollowed}
-use Rattle.fmp_foreign.specs.declared.hosted.Hosted.{Hosted}
+use Rattle.fmp_foreign.specs.declared.hosted.HostedSystem.{HostedSystem}
 use Rattle.fmp_foreign.specs.Hosting.{IsNew, after, answer, answer_unless, reaction, refused}
 use Rattle.fmp_image_bytes.specs.Images.{ImageTables, image_at}
 use Rattle.fmp_image_parts.specs.Fields.{Fails}
@@ -40,7 +40,7 @@ module _ (old new last : Machine) (g : Given) (p : ℕ) (out : FmpOutcome) (numb
       let r = reaction k g in
       let asked : Machine = record old { text = Some a.text } in
       let free : answer k (Ok g) ≡ Ok (effect_of r) = ap (λ (x : Option Refusal). answer_unless x r) a.free in
-      let done : Hosted = after old.hosted (Ok g) in
+      let done : HostedSystem = after old.hosted (Ok g) in
       record {
         text = a.text;
         answer = Ok (effect_of r);
@@ -111,11 +111,11 @@ module _ (old new : Machine) (g : Given) (t u : TextKernel) where
   pub none_consulted : old.text ≡ None → new ≡ old → IsConsulted old.text old g new None
   none_consulted none is = subst (λ (x : Option TextKernel). IsConsulted x old g new None) (sym none) is
 
-pub first_plain : (text : List ℕ) (h : Hosted) (m b : Machine) → IsNew text h → m.hosted ≡ h → m.text ≡ None → m.last ≡ None
+pub first_plain : (text : List ℕ) (h : HostedSystem) (m b : Machine) → IsNew text h → m.hosted ≡ h → m.text ≡ None → m.last ≡ None
     → b ≡ m → IsFirst text b
 first_plain text h m b new is none last same =
     subst (λ (x : Machine). IsFirst text x) (sym same)
-    (subst (λ (x : Hosted). IsNew text x) (sym is) new, none, last)
+    (subst (λ (x : HostedSystem). IsNew text x) (sym is) new, none, last)
 
 pub first_of : (bound : ℕ) (i : ImageTables) (c : CheckedView) (m : Machine) → IsBegun i bound c.hosted c.text
     → IsCheckedMachine c.hosted c.text m → IsFirstOf i bound m

@@ -21,7 +21,7 @@ use Rattle.fmp_foreign.specs.declared.requests.Refusal.TheVariants as refusal
 use Rattle.fmp_foreign.specs.Hosting.{ForeignKernel, IsNew, after, answer, refused, restarted}
 use Rattle.fmp_foreign.specs.Looking.{acting_on}
 use Rattle.fmp_outside.specs.declared.given.Given.{Given}
-use Rattle.fmp_foreign.specs.declared.hosted.Hosted.{Hosted}
+use Rattle.fmp_foreign.specs.declared.hosted.HostedSystem.{HostedSystem}
 use Rattle.fmp_checked.specs.declared.following.Objection.{Objection}
 use Rattle.fmp_checked.specs.declared.following.Objection.TheVariants as objection
 use Rattle.fmp_instructions.specs.Machine.{code_meaning}
@@ -92,7 +92,7 @@ IsToldOfImage (load_fault.Image f) old new number =
     (new ≡ record { line = 0; kind = image_number f; code = pos 0 }) × (number ≡ 1)
 
 -- a hosted system with its text, before the first event
-pub record IsCheckedMachine (h : Hosted) (t : TextKernel) (m : Machine) : Type 0 where
+pub record IsCheckedMachine (h : HostedSystem) (t : TextKernel) (m : Machine) : Type 0 where
   pub hosted : m.hosted ≡ h
   pub text : m.text ≡ Some t
   pub step : InStep h.kernel t
@@ -100,7 +100,7 @@ pub record IsCheckedMachine (h : Hosted) (t : TextKernel) (m : Machine) : Type 0
 
 -- that of an image, after setup
 pub record IsFirstOf (i : ImageTables) (bound : ℕ) (m : Machine) : Type 0 where
-  pub hosted : Hosted
+  pub hosted : HostedSystem
   pub text : TextKernel
   pub begun : IsBegun i bound hosted text
   pub machine : IsCheckedMachine hosted text m
@@ -238,7 +238,7 @@ IsSameSystem (Some old) new =
     IfSome new (λ m. (m.hosted ≡ old.hosted) × (m.text ≡ old.text) × (m.last ≡ old.last)) × IsSome new
 
 -- counts of a system and of its events
-abbrev pub counts_of : Hosted → FmpCounts
+abbrev pub counts_of : HostedSystem → FmpCounts
 counts_of h =
     record {
       processors = h.system.processors;

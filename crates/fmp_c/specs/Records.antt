@@ -11,8 +11,8 @@ use Rattle.fmp_base.specs.declared.states.Caller.TheVariants as caller
 use Rattle.fmp_base.specs.declared.states.Handler.{Handler}
 use Rattle.fmp_base.specs.declared.states.Handler.TheVariants as handler
 use Rattle.fmp_base.specs.Codes.{code_of}
-use Rattle.fmp_foreign.specs.declared.foreign.Told.{Told}
-use Rattle.fmp_foreign.specs.declared.foreign.Told.TheVariants as told
+use Rattle.fmp_foreign.specs.declared.foreign.LastTold.{LastTold}
+use Rattle.fmp_foreign.specs.declared.foreign.LastTold.TheVariants as told
 use Rattle.fmp_foreign.specs.declared.looking.Acting.{Acting}
 use Rattle.fmp_foreign.specs.declared.requests.Refusal.{Refusal}
 use Rattle.fmp_foreign.specs.declared.requests.Refusal.TheVariants as refusal
@@ -44,7 +44,7 @@ value_or_0 (Some v) = v
 abbrev pub nobody : FmpActing
 nobody = record { who = 0; number = 0; told = 0; has_value = false; code = pos 0; value = pos 0 }
 
-abbrev pub told_row : Caller → Told → FmpActing
+abbrev pub told_row : Caller → LastTold → FmpActing
 told_row who (told.Starts exinf) =
     record { who = kind_of who; number = number_of who; told = 1; has_value = true; code = pos 0; value = exinf }
 told_row who (told.Replies r) =

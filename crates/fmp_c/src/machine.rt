@@ -10,7 +10,7 @@ ghost use Rattle.fmp_c.specs.Records as spec;
 use crate::records::{FmpOutcome, answer_number, changes};
 use fmp_base::Effect;
 use fmp_checked::{ImageBody, Objection, consult, restart_counts};
-use fmp_foreign::{Hosted, Refusal, Shadow};
+use fmp_foreign::{HostedSystem, Refusal, Shadow};
 use fmp_outside::Given;
 use fmp_trace::Page;
 
@@ -35,7 +35,7 @@ fn answered(why: Objection) -> Result<Effect, Refusal>
 /// A hosted system, the text of its bodies, what came to it last, and the page on which its lines are printed.
 #[derive(Drop)]
 pub struct Machine {
-    pub hosted: Hosted,
+    pub hosted: HostedSystem,
     /// The text that its bodies must follow; none where they may do as they like.
     pub text: Option<Shadow<ImageBody>>,
     /// What came with the last event that was done; none before the first.

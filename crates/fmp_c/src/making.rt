@@ -11,7 +11,7 @@ use crate::handle::FmpSystem;
 use crate::machine::Machine;
 use crate::records::FmpRefusal;
 use fmp_checked::Checked;
-use fmp_foreign::Hosted;
+use fmp_foreign::HostedSystem;
 use fmp_image_bytes::{Image, load};
 use fmp_image_parts::{ImageFault, LoadFault};
 use fmp_lex::{BuildFault, FaultKind};
@@ -71,7 +71,7 @@ fn boxed<T: Drop>(alloc: Global, value: T) -> Result<Box<T, Global>, AllocError>
 }
 
 /// A hosted system without a text, before the first event.
-fn plain(hosted: Hosted) -> Machine
+fn plain(hosted: HostedSystem) -> Machine
     ensures hosted { result.hosted ≡ hosted }
     ensures text { result.text ≡ None }
     ensures last { result.last ≡ None }
@@ -90,7 +90,7 @@ fn made(alloc: Global, text: &[u8]) -> Result<Box<Machine, Global>, BuildFault>
     ensures new { IfOk result (λ b. IsFirst text.now b.value) }
     ensures refused { IfErr result (λ fault. IsRead text.now (Err fault)) }
 {
-    let hosted = Hosted::new(alloc, text)?;
+    let hosted = HostedSystem::new(alloc, text)?;
     match boxed(alloc, plain(hosted)) {
         Ok(machine) => Ok(machine),
         Err(_) => Err(BuildFault::Memory),

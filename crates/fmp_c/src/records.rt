@@ -3,7 +3,7 @@ ghost use Rattle.std.specs.Prelude.{◌≡◌};
 ghost use Rattle.fmp_c.specs.Records as spec;
 
 use fmp_base::{Caller, Effect, Handler, Line};
-use fmp_foreign::{Acting, Refusal, Told};
+use fmp_foreign::{Acting, LastTold, Refusal};
 
 /// Who acts on a processor, and what it was told last.
 #[repr(C)]
@@ -131,13 +131,13 @@ impl FmpActing {
     {
         self.name(acting.caller);
         match acting.told {
-            Told::Starts(exinf) => {
+            LastTold::Starts(exinf) => {
                 self.told = 1;
                 self.has_value = true;
                 self.code = 0;
                 self.value = exinf;
             }
-            Told::Replies(reply) => {
+            LastTold::Replies(reply) => {
                 self.told = 2;
                 self.has_value = reply.value.is_some();
                 self.code = reply.code.code();

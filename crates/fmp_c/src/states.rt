@@ -3,7 +3,7 @@ ghost use Rattle.std.specs.Prelude.{◌≡◌};
 ghost use Rattle.fmp_c.specs.Exports.{no_state, state_at, state_row, word_number};
 
 use fmp_base::{StateWord, TaskState};
-use fmp_foreign::Hosted;
+use fmp_foreign::HostedSystem;
 
 /// What is shown of a task.
 #[repr(C)]
@@ -53,7 +53,7 @@ impl FmpState {
     }
 
     /// What is shown of the task of this number, from 1.
-    pub fn of(hosted: &Hosted, task: u8) -> FmpState
+    pub fn of(hosted: &HostedSystem, task: u8) -> FmpState
         ensures { result ≡ state_at hosted.now.kernel task }
     {
         if task == 0 || usize::from(task) > hosted.kernel.tables().task_count() {

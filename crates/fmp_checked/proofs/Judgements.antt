@@ -7,7 +7,7 @@ use Rattle.fmp_instructions.specs.Machine.{code_meaning}
 use Rattle.fmp_outside.specs.declared.given.Given.{Given}
 use Rattle.fmp_foreign.specs.declared.requests.Refusal.{Refusal}
 use Rattle.fmp_foreign.specs.Following.{HasFollowed}
-use Rattle.fmp_foreign.specs.declared.hosted.Hosted.{Hosted}
+use Rattle.fmp_foreign.specs.declared.hosted.HostedSystem.{HostedSystem}
 use Rattle.fmp_foreign.specs.Hosting.{ForeignKernel, after, reaction, refused, restarted}
 use Rattle.fmp_kernel.specs.Restarts.{counts_restarted}
 use Rattle.fmp_tasks.specs.Restarts.{clock_restarted}
@@ -38,7 +38,7 @@ module _ (k : ForeignKernel) (t u : TextKernel) (g : Given) where
       subst (λ (x : Option Refusal). IsChecked x k t g u a) (sym free)
       (subst (λ (b : Result Effect Objection). IsJudged k t g u b) (sym e) (refl, f))
 
-pub is_hosted : (h new : Hosted) (g : Given) (e : Effect) (a : Result Effect Objection) → a ≡ Ok e → new ≡ after h (Ok g)
+pub is_hosted : (h new : HostedSystem) (g : Given) (e : Effect) (a : Result Effect Objection) → a ≡ Ok e → new ≡ after h (Ok g)
     → new ≡ hosted_after h g a
 is_hosted h new g e a done is = is ∙ sym (ap (λ (b : Result Effect Objection). hosted_after h g b) done)
 
@@ -52,8 +52,8 @@ both_restarted k t s =
       worlds = record { states = ap (λ (x : KernelState). clock_restarted x) s.worlds.states; contexts = s.worlds.contexts };
     }
 
-pub restarted_step : (h new : Hosted) (t u : TextKernel) → new ≡ restarted h → u ≡ counts_restarted t → InStep h.kernel t
+pub restarted_step : (h new : HostedSystem) (t u : TextKernel) → new ≡ restarted h → u ≡ counts_restarted t → InStep h.kernel t
     → InStep new.kernel u
 restarted_step h new t u system text s =
-    subst (λ (x : Hosted). InStep x.kernel u) (sym system)
+    subst (λ (x : HostedSystem). InStep x.kernel u) (sym system)
     (subst (λ (x : TextKernel). InStep (restarted h).kernel x) (sym text) (both_restarted h.kernel t s))

@@ -17,9 +17,9 @@ use Rattle.fmp_outside.specs.declared.given.Given.{Given}
 use Rattle.fmp_outside.specs.Outside.{outside_run}
 use Rattle.fmp_outside.proofs.KeptPlaces.{follows-tied}
 use Rattle.fmp_outside.proofs.OutsideRuns.{RunsAgree, keeps_anyhow}
-use Rattle.fmp_foreign.specs.declared.foreign.Told.{Told}
-use Rattle.fmp_foreign.specs.declared.foreign.Told.TheVariants as told
-use Rattle.fmp_foreign.specs.declared.hosted.Hosted.{Hosted}
+use Rattle.fmp_foreign.specs.declared.foreign.LastTold.{LastTold}
+use Rattle.fmp_foreign.specs.declared.foreign.LastTold.TheVariants as told
+use Rattle.fmp_foreign.specs.declared.hosted.HostedSystem.{HostedSystem}
 use Rattle.fmp_foreign.specs.declared.requests.Refusal.{Refusal}
 use Rattle.fmp_foreign.specs.Following.{HasFollowed}
 use Rattle.fmp_foreign.specs.Foreign.{foreign_meaning}
@@ -72,7 +72,7 @@ module _ {B C : Type 0} where
               record { system = h.system; world = h.world; lines = h.lines; done = h.done }
 
 -- the context that is handed in with an act
-abbrev handed : Told
+abbrev handed : LastTold
 handed = told.Starts (pos 0)
 
 module _ (k new : ForeignKernel) (t u : TextKernel) where
@@ -80,9 +80,9 @@ module _ (k new : ForeignKernel) (t u : TextKernel) where
   together : (gs : List Given) → InStep k t → HasFollowed code_meaning t gs u
       → HasRun k new (outside_run k.system (foreign_meaning k.body) k.bound handed k.world gs) → InStep new u
   together gs h f r =
-      let F : Meaning Told = foreign_meaning k.body in
+      let F : Meaning LastTold = foreign_meaning k.body in
       let M : Meaning MachineContext = code_meaning t.body in
-      let o : Trace Told = outside_run k.system F k.bound handed k.world gs in
+      let o : Trace LastTold = outside_run k.system F k.bound handed k.world gs in
       let e : Trace MachineContext = run t.system M t.bound t.world f.events in
       let agree : RunsAgree t.system F k.bound handed M t.bound o e =
       subst
@@ -100,7 +100,7 @@ module _ (k new : ForeignKernel) (t u : TextKernel) where
       let here = r.done in
       let tied : WorldTied t.system Anyhow Anyhow o.world e.world = agree.1 in
       let left : WorldTied t.system Anyhow Anyhow new.world e.world =
-      subst (λ (w : World Told). WorldTied t.system Anyhow Anyhow w e.world) (sym r.world) tied in
+      subst (λ (w : World LastTold). WorldTied t.system Anyhow Anyhow w e.world) (sym r.world) tied in
       let right : WorldTied t.system Anyhow Anyhow new.world u.world =
       subst (λ (w : World MachineContext). WorldTied t.system Anyhow Anyhow new.world w) (sym world) left in
       record {
@@ -112,12 +112,12 @@ module _ (k new : ForeignKernel) (t u : TextKernel) where
       }
 
 -- what came was done by both
-pub stepped : (h new : Hosted) (t u : TextKernel) (g : Given) → refused h.kernel g ≡ None → new ≡ after h (Ok g)
+pub stepped : (h new : HostedSystem) (t u : TextKernel) (g : Given) → refused h.kernel g ≡ None → new ≡ after h (Ok g)
     → HasFollowed code_meaning t (g ∷ []) u → InStep h.kernel t → InStep new.kernel u
 stepped h new t u g free is f s =
-    let r : Reaction Told = reaction h.kernel g in
+    let r : Reaction LastTold = reaction h.kernel g in
     let now : new.kernel ≡ view_after h.kernel r =
-    ap (λ (i : Hosted). i.kernel) is ∙ ap (λ (o : Option Refusal). after_unless o h.kernel r) free in
+    ap (λ (i : HostedSystem). i.kernel) is ∙ ap (λ (o : Option Refusal). after_unless o h.kernel r) free in
     together h.kernel new.kernel t u (g ∷ []) s f
     (subst (λ (i : ForeignKernel). HasRun h.kernel i (run_on h.kernel.world r alone)) (sym now) (one_event h.kernel r))
 
@@ -126,11 +126,11 @@ pub gone_on : (k : ForeignKernel) (t u : TextKernel) → HasFollowed code_meanin
 gone_on k t u f s = together k k t u [] s f (no_event k)
 
 -- after setup
-pub begun : (i : ImageTables) (bound : ℕ) (h : Hosted) (t : TextKernel) → IsHostedBy i h → IsTextOf i bound t
+pub begun : (i : ImageTables) (bound : ℕ) (h : HostedSystem) (t : TextKernel) → IsHostedBy i h → IsTextOf i bound t
     → InStep h.kernel t
 begun i bound h t hosted text =
     let sys : SystemTables = i.system in
-    let F : Meaning Told = foreign_meaning h.kernel.body in
+    let F : Meaning LastTold = foreign_meaning h.kernel.body in
     let M : Meaning MachineContext = code_meaning i.code in
     let both = setup-tied sys Anyhow F 1 M bound (keeps_anyhow sys F 1 handed M bound) in
     let first : InStep (view_of_setup h.kernel.body 1 sys (setup sys F))

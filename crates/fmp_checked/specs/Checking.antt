@@ -11,7 +11,7 @@ use Rattle.fmp_instructions.specs.Machine.{code_meaning}
 use Rattle.fmp_image_bytes.specs.Images.{ImageTables}
 use Rattle.fmp_kernel.specs.KernelViews.{KernelView, view_of_setup}
 use Rattle.fmp_outside.specs.declared.given.Given.{Given}
-use Rattle.fmp_foreign.specs.declared.hosted.Hosted.{Hosted}
+use Rattle.fmp_foreign.specs.declared.hosted.HostedSystem.{HostedSystem}
 use Rattle.fmp_foreign.specs.declared.requests.Refusal.{Refusal}
 use Rattle.fmp_foreign.specs.Following.{DoesOtherwise, HasFollowed}
 use Rattle.fmp_foreign.specs.Foreign.{foreign_meaning}
@@ -37,11 +37,11 @@ pub record InStep {B C : Type 0} (k : ForeignKernel) (t : KernelView B C) : Type
 
 -- a hosted system and the text of its bodies
 pub record CheckedView : Type 0 where
-  pub hosted : Hosted
+  pub hosted : HostedSystem
   pub text : TextKernel
 
 -- the hosted system of an image, after setup
-pub record IsHostedBy (i : ImageTables) (h : Hosted) : Type 0 where
+pub record IsHostedBy (i : ImageTables) (h : HostedSystem) : Type 0 where
   pub system : tables_of h.system ≡ i.system
   pub kernel :
       h.kernel
@@ -53,12 +53,12 @@ abbrev pub IsTextOf : ImageTables → (bound : ℕ) → TextKernel → Type 0
 IsTextOf i bound t = t ≡ view_of_setup i.code bound i.system (setup i.system (code_meaning i.code))
 
 -- both
-pub record IsBegun (i : ImageTables) (bound : ℕ) (h : Hosted) (t : TextKernel) : Type 0 where
+pub record IsBegun (i : ImageTables) (bound : ℕ) (h : HostedSystem) (t : TextKernel) : Type 0 where
   pub hosted : IsHostedBy i h
   pub text : IsTextOf i bound t
 
 -- the hosted system after what came: where there is an objection, it stays as it is
-abbrev pub hosted_after : Hosted → Given → Result Effect Objection → Hosted
+abbrev pub hosted_after : HostedSystem → Given → Result Effect Objection → HostedSystem
 hosted_after h g (Ok effect) = after h (Ok g)
 hosted_after h g (Err why) = h
 

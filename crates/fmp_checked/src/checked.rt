@@ -9,7 +9,7 @@ ghost use Rattle.fmp_checked.specs.Checking.{InStep, IsBegun, IsChecked, IsHoste
 use crate::bodies::ImageBody;
 use crate::following::{Objection, follow, restart_counts};
 use fmp_base::{Effect, System};
-use fmp_foreign::{Foreign, Hosted, Shadow};
+use fmp_foreign::{Foreign, HostedSystem, Shadow};
 use fmp_image_bytes::Image;
 use fmp_kernel::Kernel;
 use fmp_outside::Given;
@@ -21,7 +21,7 @@ use std::marker::Model;
 /// lines of the last event that was done.
 #[derive(Drop)]
 pub struct Checked {
-    hosted: Hosted,
+    hosted: HostedSystem,
     text: Shadow<ImageBody>,
 }
 
@@ -36,13 +36,13 @@ impl Model for Checked {
 }
 
 /// The system of an image, hosted, after setup.
-fn hosted_by(alloc: Global, image: &Image) -> Result<Hosted, AllocError>
+fn hosted_by(alloc: Global, image: &Image) -> Result<HostedSystem, AllocError>
     ensures hosted { IfOk result (IsHostedBy image.now) }
     ensures range { IfOk result (λ h. IsInRange (tables_of h.system)) }
 {
     let system = copied_system(alloc, image.system())?;
     match Kernel::new(alloc, Foreign, &system, 1) {
-        Ok(kernel) => Ok(Hosted { system, kernel }),
+        Ok(kernel) => Ok(HostedSystem { system, kernel }),
         Err(_) => Err(AllocError),
     }
 }
@@ -103,14 +103,14 @@ impl Checked {
     }
 
     /// The system, as it is seen.
-    pub fn hosted(&self) -> &Hosted
+    pub fn hosted(&self) -> &HostedSystem
         ensures { result.now ≡ self.now.hosted }
     {
         &self.hosted
     }
 
     /// The system and the text.
-    pub fn into_parts(self) -> (Hosted, Shadow<ImageBody>)
+    pub fn into_parts(self) -> (HostedSystem, Shadow<ImageBody>)
         ensures parts { result ≡ (self.hosted, self.text) }
         ensures step { InStep self.hosted.kernel self.text }
     {

@@ -9,7 +9,7 @@ ghost use Rattle.fmp_checked.specs.Checking.{InStep, IsChecked, IsObjection, hos
 
 use crate::bodies::ImageBody;
 use fmp_base::Effect;
-use fmp_foreign::{Hosted, Refusal, Shadow, Verdict};
+use fmp_foreign::{BodyVerdict, HostedSystem, Refusal, Shadow};
 use fmp_outside::Given;
 
 /// Why nothing has happened in a checked system.
@@ -31,17 +31,21 @@ fn judge(text: &mut Shadow<ImageBody>, given: Given) -> Option<Objection>
     ensures objects { IfSome result (IsObjection text.old given text.new) }
 {
     match text.take(given, 1) {
-        Verdict::Follows => None,
-        Verdict::Differs => Some(Objection::Differs),
-        Verdict::Long => Some(Objection::Long),
-        Verdict::Full => Some(Objection::Full),
+        BodyVerdict::Follows => None,
+        BodyVerdict::Differs => Some(Objection::Differs),
+        BodyVerdict::Long => Some(Objection::Long),
+        BodyVerdict::Full => Some(Objection::Full),
     }
 }
 
 /// Why what comes is not done: it is refused, or the text does not do it next. Where there is no reason, the text has
 /// done it; else it has at most gone on within the stretch of the actor.
 #[tactic(auto, using(crate::proofs::Judgements::is_refused, crate::proofs::Judgements::is_objected, crate::proofs::Judgements::objected_step))]
-pub fn consult(text: &mut Shadow<ImageBody>, hosted: &Hosted, given: Given) -> Option<Objection>
+pub fn consult(
+    text: &mut Shadow<ImageBody>,
+    hosted: &HostedSystem,
+    given: Given,
+) -> Option<Objection>
     ensures free { result ≡ None → refused hosted.now.kernel given ≡ None }
     ensures follows { result ≡ None → HasFollowed code_meaning text.old (given ∷ []) text.new }
     ensures checked { IfSome result (λ why. IsChecked (refused hosted.now.kernel given) hosted.now.kernel text.old given
@@ -59,7 +63,7 @@ pub fn consult(text: &mut Shadow<ImageBody>, hosted: &Hosted, given: Given) -> O
 #[tactic(auto, using(crate::proofs::Judgements::is_followed, crate::proofs::Judgements::is_hosted))]
 pub fn follow(
     text: &mut Shadow<ImageBody>,
-    hosted: &mut Hosted,
+    hosted: &mut HostedSystem,
     given: Given,
 ) -> Result<Effect, Objection>
     ensures checked { IsChecked (refused hosted.old.kernel given) hosted.old.kernel text.old given text.new result }
@@ -73,7 +77,7 @@ pub fn follow(
 }
 
 /// What comes and is not refused, done.
-fn done(hosted: &mut Hosted, given: Given) -> Result<Effect, Objection>
+fn done(hosted: &mut HostedSystem, given: Given) -> Result<Effect, Objection>
     requires { refused hosted.old.kernel given ≡ None }
     ensures effect { result ≡ Ok (effect_of (reaction hosted.old.kernel given)) }
     ensures hosted { hosted.new ≡ after hosted.old (Ok given) }
@@ -85,7 +89,7 @@ fn done(hosted: &mut Hosted, given: Given) -> Result<Effect, Objection>
 }
 
 /// The counts begin again, those of a hosted system and those of its text.
-pub fn restart_counts(text: &mut Shadow<ImageBody>, hosted: &mut Hosted)
+pub fn restart_counts(text: &mut Shadow<ImageBody>, hosted: &mut HostedSystem)
     ensures text { text.new ≡ counts_restarted text.old }
     ensures hosted { hosted.new ≡ restarted hosted.old }
     ensures step { InStep hosted.old.kernel text.old → InStep hosted.new.kernel text.new }

@@ -7,7 +7,7 @@ use Rattle.fmp_lex.specs.declared.fault.TextFile.{TextFile}
 use Rattle.fmp_lex.specs.declared.fault.TextFile.TheVariants as file
 use Rattle.fmp_lex.specs.declared.place.Place.{Place}
 use Rattle.fmp_diagnosis.specs.declared.excerpt.Excerpt.{Excerpt}
-use Rattle.fmp_diagnosis.specs.declared.reports.Finding.{Finding}
+use Rattle.fmp_diagnosis.specs.declared.reports.FaultReport.{FaultReport}
 use Rattle.fmp_diagnosis.specs.declared.sentence.Texts.{Texts}
 use Rattle.fmp_diagnosis.specs.Culprits.{IsCulprit}
 use Rattle.fmp_diagnosis.specs.Excerpts.{IsExcerpt}
@@ -47,7 +47,7 @@ abbrev pub lines : Excerpt → List ℕ
 lines e = codes "\n    " ++ e.line.items ++ codes "\n    " ++ e.marks.items ++ codes "\n"
 
 -- a finding of the text of a file of this name as it is printed: its head, its sentence, and the line that it stands in
-abbrev pub report : (name : List ℕ) → Finding → List ℕ
+abbrev pub report : (name : List ℕ) → FaultReport → List ℕ
 report name f = head name f.line f.excerpt.column f.code.now f.refusal.now ++ f.sentence.items ++ lines f.excerpt
 
 -- the column behind a token that begins at this column, from `at` up to `end`: at least one column is marked
@@ -55,7 +55,7 @@ abbrev pub column_behind : (column at end : ℕ) → ℕ
 column_behind column at end = column + max (end - at) 1
 
 -- What is said of a fault of a text: where it is shown, its code, and some sentence.
-pub record IsFinding (text : List ℕ) (place : Place) (kind : FaultKind) (f : Finding) : Type 0 where
+pub record IsFinding (text : List ℕ) (place : Place) (kind : FaultKind) (f : FaultReport) : Type 0 where
   pub culprit : Place
   pub is_culprit : IsCulprit text place kind culprit
   pub line : f.line ≡ culprit.line
@@ -66,7 +66,7 @@ pub record IsFinding (text : List ℕ) (place : Place) (kind : FaultKind) (f : F
   pub said : 0 < length f.sentence.items
 
 -- What is said of what is legal at a place of a text, but usually a mistake.
-pub record IsWarning (text : List ℕ) (place : Place) (sentence : List ℕ) (f : Finding) : Type 0 where
+pub record IsWarning (text : List ℕ) (place : Place) (sentence : List ℕ) (f : FaultReport) : Type 0 where
   pub line : f.line ≡ place.line
   pub shows : IsExcerpt text (min place.start (length text)) place.end f.excerpt
   pub end : f.end ≡ column_behind f.excerpt.column (min place.start (length text)) place.end

@@ -1,7 +1,7 @@
 -- What is said of a fault of a steps text.
 use Rattle.std.specs.Prelude.{◌≡◌, ℕ, ◌+◌, ◌<◌, ◌≤◌, ◌==◌, List, [], length, max, codes, take}
 use Rattle.std.specs.List.{count_by}
-use Rattle.fmp_diagnosis.specs.declared.reports.Finding.{Finding}
+use Rattle.fmp_diagnosis.specs.declared.reports.FaultReport.{FaultReport}
 use Rattle.fmp_diagnosis.specs.declared.steps.StepFlaw.{StepFlaw}
 use Rattle.fmp_diagnosis.specs.declared.steps.StepFlaw.TheVariants as flaw
 use Rattle.fmp_diagnosis.specs.Excerpts.{IsExcerpt}
@@ -24,7 +24,7 @@ pub record IsInLine (number : ℕ) (text : List ℕ) (at : ℕ) : Type 0 where
   pub end : line_at text at < max number 1 → at ≡ length text
 
 -- What is said of a line of a steps text: a place in this line, its code, and some sentence.
-pub record IsStepFinding (text : List ℕ) (number : ℕ) (flaw : StepFlaw) (f : Finding) : Type 0 where
+pub record IsStepFinding (text : List ℕ) (number : ℕ) (flaw : StepFlaw) (f : FaultReport) : Type 0 where
   pub at : ℕ
   pub behind : ℕ
   pub stands : IsInLine number text at

@@ -10,23 +10,23 @@ use std::alloc::AllocError;
 
 /// What stands at the head of the construct that is not read to its end.
 #[derive(Clone, Copy)]
-enum Head {
+enum ConstructHead {
     Processors,
     Class,
     Api(Api),
 }
 
-fn head_of(kind: TokenKind) -> Option<Head> {
+fn head_of(kind: TokenKind) -> Option<ConstructHead> {
     match kind {
-        TokenKind::Keyword(Keyword::NumPrc) => Some(Head::Processors),
-        TokenKind::Keyword(Keyword::Class) => Some(Head::Class),
-        TokenKind::Api(api) => Some(Head::Api(api)),
+        TokenKind::Keyword(Keyword::NumPrc) => Some(ConstructHead::Processors),
+        TokenKind::Keyword(Keyword::Class) => Some(ConstructHead::Class),
+        TokenKind::Api(api) => Some(ConstructHead::Api(api)),
         _ => None,
     }
 }
 
 /// The last head among tokens, and its place.
-fn last_head(tokens: &Tokens<'_>) -> Option<(Head, usize)> {
+fn last_head(tokens: &Tokens<'_>) -> Option<(ConstructHead, usize)> {
     let mut found = None;
     for at in 0..tokens.len() {
         if let Some(head) = tokens.kind(at).and_then(head_of) {
@@ -161,8 +161,8 @@ fn say_from_api(
 /// Whether a static API may come behind these tokens.
 pub fn may_be_api(tokens: &Tokens<'_>) -> bool {
     match last_head(tokens) {
-        Some((Head::Class, at)) => tokens.len().saturating_sub(at) == 5,
-        Some((Head::Api(_), _)) => {
+        Some((ConstructHead::Class, at)) => tokens.len().saturating_sub(at) == 5,
+        Some((ConstructHead::Api(_), _)) => {
             is_symbol(tokens, tokens.len().saturating_sub(1), Symbol::Semicolon)
         }
         _ => false,
@@ -175,10 +175,13 @@ pub fn say_expected(tokens: &Tokens<'_>, out: &mut Vec<u8>) -> Result<(), AllocE
 {
     match last_head(tokens) {
         None => say_text("`NUM_PRC`", out),
-        Some((Head::Processors, at)) => {
+        Some((ConstructHead::Processors, at)) => {
             say_text(behind_processors(tokens.len().saturating_sub(at)), out)
         }
-        Some((Head::Class, at)) => say_text(behind_class(tokens.len().saturating_sub(at)), out),
-        Some((Head::Api(api), at)) => say_from_api(tokens, at, api, out),
+        Some((ConstructHead::Class, at)) => say_text(
+            behind_class(tokens.len().saturating_sub(at)),
+            out,
+        ),
+        Some((ConstructHead::Api(api), at)) => say_from_api(tokens, at, api, out),
     }
 }

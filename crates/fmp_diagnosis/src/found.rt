@@ -5,7 +5,7 @@ ghost use Rattle.fmp_diagnosis.specs.Reports.{IsWarning};
 
 use crate::apis::is_symbol;
 use crate::excerpt::excerpt_at;
-use crate::reports::{Finding, column_behind};
+use crate::reports::{FaultReport, column_behind};
 use crate::sentence::Texts;
 use fmp_lex::{Place, Symbol, TextFile, Tokens};
 use std::alloc::{AllocError, Global};
@@ -14,12 +14,12 @@ use std::alloc::{AllocError, Global};
 #[derive(Drop)]
 pub struct Warning {
     pub file: TextFile,
-    pub finding: Finding,
+    pub finding: FaultReport,
 }
 
 /// The warnings of two texts so far.
 #[derive(Drop)]
-pub struct Found<'a> {
+pub struct FoundWarnings<'a> {
     texts: Texts<'a>,
     pub list: Vec<Warning>,
 }
@@ -51,12 +51,12 @@ fn warning_at(
     text: &[u8],
     place: Place,
     sentence: Vec<u8>,
-) -> Result<Finding, AllocError>
+) -> Result<FaultReport, AllocError>
     ensures { IfOk result (IsWarning text.now place sentence.items) }
 {
     let at = (place.start as usize).min(text.len());
     let excerpt = excerpt_at(alloc, text, at, place.end as usize)?;
-    Ok(Finding {
+    Ok(FaultReport {
         line: place.line,
         end: column_behind(excerpt.column, at, place.end as usize),
         excerpt,
@@ -66,12 +66,12 @@ fn warning_at(
     })
 }
 
-impl<'a> Found<'a> {
+impl<'a> FoundWarnings<'a> {
     /// No warnings of these texts.
-    pub fn new(alloc: Global, texts: Texts<'a>) -> Found<'a>
+    pub fn new(alloc: Global, texts: Texts<'a>) -> FoundWarnings<'a>
         ensures { result.list.items ≡ [] }
     {
-        Found {
+        FoundWarnings {
             texts,
             list: Vec::new(alloc),
         }

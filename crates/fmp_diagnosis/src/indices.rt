@@ -4,7 +4,7 @@ ghost use Rattle.fmp_diagnosis.specs.Words.{IsSaid};
 
 use crate::apis::is_symbol;
 use crate::around::{begins_body_at, is_same, name_at};
-use crate::found::Found;
+use crate::found::FoundWarnings;
 use crate::words::{Word, say};
 use fmp_base::Name;
 use fmp_lex::{Keyword, Symbol, TextFile, TokenKind, Tokens};
@@ -119,7 +119,7 @@ fn say_misplaced(misplaced: Misplaced, out: &mut Vec<u8>) -> Result<(), AllocErr
 pub fn warn_of_indices(
     alloc: Global,
     src: &Tokens<'_>,
-    found: &mut Found<'_>,
+    found: &mut FoundWarnings<'_>,
 ) -> Result<(), AllocError> {
     let mut body = 0;
     for at in 0..src.len() {

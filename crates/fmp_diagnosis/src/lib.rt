@@ -43,7 +43,7 @@ pub use explanations::explain;
 pub use found::Warning;
 pub use known::name_meant;
 pub use nearness::nearest;
-pub use reports::{Finding, finding_at};
+pub use reports::{FaultReport, finding_at};
 pub use sentence::{Texts, say_fault};
 pub use steps::{StepFlaw, step_finding};
 pub use topics::{TOPICS, Topic, every_topic_is_found, topic_asked, topic_named};

@@ -3,7 +3,7 @@ ghost use Rattle.std.specs.Prelude.{OnOk};
 ghost use Rattle.fmp_diagnosis.specs.Words.{IsSaid};
 
 use crate::around::line_of;
-use crate::found::Found;
+use crate::found::FoundWarnings;
 use crate::words::{Word, say};
 use fmp_base::Service;
 use fmp_lex::{Keyword, Symbol, TextFile, TokenKind, Tokens};
@@ -11,37 +11,37 @@ use std::alloc::{AllocError, Global};
 
 /// The spin lock that is held at a token of a body.
 #[derive(Clone, Copy)]
-struct Walk {
+struct HeldLock {
     /// How many blocks are open.
     depth: usize,
     /// The place of the call that took the lock, and how many blocks are open there.
     held: Option<(usize, usize)>,
 }
 
-impl Walk {
+impl HeldLock {
     /// No lock is held.
-    fn released(self) -> Walk {
-        Walk { held: None, ..self }
+    fn released(self) -> HeldLock {
+        HeldLock { held: None, ..self }
     }
 
     /// The walk behind the end of a block. A lock that was taken in the block is known no more.
-    fn behind_block(self) -> Walk {
+    fn behind_block(self) -> HeldLock {
         let depth = self.depth.saturating_sub(1);
         match self.held {
-            Some((_, taken)) if taken > depth => Walk { depth, held: None },
-            held => Walk { depth, held },
+            Some((_, taken)) if taken > depth => HeldLock { depth, held: None },
+            held => HeldLock { depth, held },
         }
     }
 
     /// The walk behind the token at a place. Behind a jump no lock is known to be held.
-    fn behind(self, at: usize, kind: TokenKind) -> Walk {
+    fn behind(self, at: usize, kind: TokenKind) -> HeldLock {
         match kind {
-            TokenKind::Symbol(Symbol::LeftBrace) => Walk {
+            TokenKind::Symbol(Symbol::LeftBrace) => HeldLock {
                 depth: self.depth.saturating_add(1),
                 ..self
             },
             TokenKind::Symbol(Symbol::RightBrace) => self.behind_block(),
-            TokenKind::Service(Service::LocSpn) if self.held.is_none() => Walk {
+            TokenKind::Service(Service::LocSpn) if self.held.is_none() => HeldLock {
                 held: Some((at, self.depth)),
                 ..self
             },
@@ -81,9 +81,9 @@ fn say_nested(service: &'static str, line: u32, out: &mut Vec<u8>) -> Result<(),
 pub fn warn_of_locks(
     alloc: Global,
     src: &Tokens<'_>,
-    found: &mut Found<'_>,
+    found: &mut FoundWarnings<'_>,
 ) -> Result<(), AllocError> {
-    let mut walk = Walk {
+    let mut walk = HeldLock {
         depth: 0,
         held: None,
     };

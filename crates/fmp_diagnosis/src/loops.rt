@@ -1,7 +1,7 @@
 //! Warnings of loops that nothing in them can end.
 use crate::apis::is_symbol;
 use crate::around::name_at;
-use crate::found::Found;
+use crate::found::FoundWarnings;
 use crate::words::{Word, say};
 use fmp_cfgparse::ObjectName;
 use fmp_lex::{Keyword, Symbol, TextFile, TokenKind, Tokens};
@@ -87,7 +87,7 @@ fn is_endless(alloc: Global, tokens: &Tokens<'_>, at: usize) -> Result<bool, All
 pub fn warn_of_loops(
     alloc: Global,
     src: &Tokens<'_>,
-    found: &mut Found<'_>,
+    found: &mut FoundWarnings<'_>,
 ) -> Result<(), AllocError> {
     for at in 0..src.len() {
         if is_endless(alloc, src, at)? {

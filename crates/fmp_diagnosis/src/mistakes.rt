@@ -3,7 +3,7 @@ ghost use Rattle.std.specs.Prelude.{OnOk};
 ghost use Rattle.fmp_diagnosis.specs.Words.{IsSaid, MaySay};
 
 use crate::fields::object_of;
-use crate::walk::{Argument, BarredCall};
+use crate::walk::{BarredCall, WalkedArgument};
 use crate::words::{Word, say};
 use fmp_base::Name;
 use fmp_lex::{Api, Constant};
@@ -28,7 +28,7 @@ pub enum Mistake {
     /// The body of the call may never make it.
     Barred(BarredCall),
     /// The call has this argument, which is wrong.
-    Argument(Argument, Wrong),
+    Argument(WalkedArgument, Wrong),
     /// The shared word of this name stands in an expression.
     SharedWord(Name),
 }
@@ -74,7 +74,7 @@ fn say_wrong(wrong: Wrong, out: &mut Vec<u8>) -> Result<(), AllocError>
 }
 
 /// Says what a call takes as an argument.
-fn say_wanted(argument: Argument, out: &mut Vec<u8>) -> Result<(), AllocError>
+fn say_wanted(argument: WalkedArgument, out: &mut Vec<u8>) -> Result<(), AllocError>
     ensures { OnOk result (IsSaid out.old.items out.new.items) }
 {
     say(
@@ -106,7 +106,7 @@ fn say_range(wrong: Wrong, out: &mut Vec<u8>) -> Result<(), AllocError>
 }
 
 /// Says what is wrong with an argument of a call, and what the call takes.
-fn say_argument(argument: Argument, wrong: Wrong, out: &mut Vec<u8>) -> Result<(), AllocError>
+fn say_argument(argument: WalkedArgument, wrong: Wrong, out: &mut Vec<u8>) -> Result<(), AllocError>
     ensures { OnOk result (IsSaid out.old.items out.new.items) }
 {
     say_wrong(wrong, out)?;

@@ -9,7 +9,7 @@ use std::alloc::{AllocError, Global};
 
 /// An object of the configuration.
 #[derive(Clone, Copy)]
-pub struct Object {
+pub struct NamedObject {
     /// Its name.
     pub name: Name,
     /// The static API that makes it.
@@ -24,16 +24,16 @@ pub struct Object {
 
 /// The objects of a configuration, each found by its name.
 #[derive(Drop)]
-pub struct Objects {
+pub struct NamedObjects {
     names: IndexSet<ObjectName>,
     /// The objects, in order of text.
-    pub list: Vec<Object>,
+    pub list: Vec<NamedObject>,
 }
 
-impl Objects {
+impl NamedObjects {
     /// The objects that these tokens make. Of two of one name the first is found.
-    pub fn of(alloc: Global, tokens: &Tokens<'_>) -> Result<Objects, AllocError> {
-        let mut objects = Objects {
+    pub fn of(alloc: Global, tokens: &Tokens<'_>) -> Result<NamedObjects, AllocError> {
+        let mut objects = NamedObjects {
             names: IndexSet::new(alloc),
             list: Vec::new(alloc),
         };
@@ -47,7 +47,7 @@ impl Objects {
 
     fn add(&mut self, api: Api, name: Name, at: usize) -> Result<(), AllocError> {
         self.names.insert(ObjectName { name })?;
-        self.list.push(Object {
+        self.list.push(NamedObject {
             name,
             api,
             at,

@@ -4,7 +4,7 @@ ghost use Rattle.fmp_diagnosis.specs.Words.{IsSaid};
 
 use crate::apis::{api_at, begin_of, value_last};
 use crate::fields::{Field, attributes_of, fields_of};
-use crate::found::Found;
+use crate::found::FoundWarnings;
 use crate::words::{Word, say};
 use fmp_lex::{Api, Constant, TextFile, TokenKind, Tokens};
 use std::alloc::{AllocError, Global};
@@ -97,7 +97,7 @@ fn warn_of_field(
     at: usize,
     api: Api,
     field: Field,
-    found: &mut Found<'_>,
+    found: &mut FoundWarnings<'_>,
 ) -> Result<(), AllocError> {
     let begin = begin_of(cfg, at, api, field);
     for place in begin..value_last(cfg, begin).saturating_add(1) {
@@ -114,7 +114,7 @@ fn warn_of_field(
 pub fn warn_of_constants(
     alloc: Global,
     cfg: &Tokens<'_>,
-    found: &mut Found<'_>,
+    found: &mut FoundWarnings<'_>,
 ) -> Result<(), AllocError> {
     for at in 0..cfg.len() {
         if let Some(api) = api_at(cfg, at) {

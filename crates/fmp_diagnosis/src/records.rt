@@ -3,13 +3,13 @@ ghost use Rattle.std.specs.Prelude.{◌≡◌, ◌++◌, IfOk, OnOk};
 ghost use Rattle.std.specs.String.{string_bytes};
 ghost use Rattle.fmp_diagnosis.specs.Records as spec;
 
-use crate::reports::Finding;
+use crate::reports::FaultReport;
 use fmp_json::{begin, finish, number_member, text_member};
 use json::Writer;
 use std::alloc::{AllocError, Global};
 
 /// Writes where a finding stands, under the name of its file.
-fn write_place(writer: &mut Writer, name: &str, finding: &Finding) -> Result<(), AllocError>
+fn write_place(writer: &mut Writer, name: &str, finding: &FaultReport) -> Result<(), AllocError>
     ensures before { writer.new.before ≡ writer.old.before }
     ensures tokens { OnOk result (writer.new.tokens ≡ writer.old.tokens ++ spec.place_members name.now finding.now) }
 {
@@ -23,7 +23,7 @@ fn write_place(writer: &mut Writer, name: &str, finding: &Finding) -> Result<(),
 fn write_members(
     writer: &mut Writer,
     name: &str,
-    finding: &Finding,
+    finding: &FaultReport,
     code: &str,
     sentence: &str,
 ) -> Result<(), AllocError>
@@ -37,7 +37,7 @@ fn write_members(
 }
 
 /// The code of a finding in one text.
-fn code_of(alloc: Global, finding: &Finding) -> Result<String, AllocError>
+fn code_of(alloc: Global, finding: &FaultReport) -> Result<String, AllocError>
     ensures { IfOk result (λ code. string_bytes code ≡ finding.now.code.now ++ finding.now.refusal.now) }
 {
     let mut code = String::from_str(alloc, finding.code)?;
@@ -45,7 +45,7 @@ fn code_of(alloc: Global, finding: &Finding) -> Result<String, AllocError>
     Ok(code)
 }
 
-impl Finding {
+impl FaultReport {
     /// The finding as an object of JSON with a line feed behind it, under the name of its file: its members are `file`,
     /// `line`, `column`, `end` (the column behind the token), `code` and `sentence`. Bytes of the sentence that are no
     /// UTF-8 are replaced. `AllocError` if memory runs out.

@@ -91,7 +91,7 @@ fn append_excerpt(excerpt: &Excerpt, out: &mut Vec<u8>) -> Result<(), AllocError
 
 /// What is said of a fault of a text.
 #[derive(Drop)]
-pub struct Finding {
+pub struct FaultReport {
     /// The line, from 1.
     pub line: u32,
     /// The column of the token's first byte, its line and the marks under it.
@@ -106,7 +106,7 @@ pub struct Finding {
     pub sentence: Vec<u8>,
 }
 
-impl Finding {
+impl FaultReport {
     /// The finding as it is printed, under the name of its file: the line, the column, the code and the sentence, and
     /// the line of the text with marks. `AllocError` if memory runs out.
     pub fn report(&self, alloc: Global, name: &str) -> Result<Vec<u8>, AllocError>
@@ -160,7 +160,7 @@ pub fn finding_at(
     file: TextFile,
     place: Place,
     kind: FaultKind,
-) -> Result<Finding, AllocError>
+) -> Result<FaultReport, AllocError>
     ensures { IfOk result (IsFinding (spec.text_of texts.entry file) place kind) }
 {
     let text = texts.of(file);
@@ -168,7 +168,7 @@ pub fn finding_at(
     let at = (culprit.start as usize).min(text.len());
     let excerpt = excerpt_at(alloc, text, at, culprit.end as usize)?;
     let sentence = sentence_of(alloc, texts, file, place.start as usize, kind)?;
-    Ok(Finding {
+    Ok(FaultReport {
         line: culprit.line,
         end: column_behind(excerpt.column, at, culprit.end as usize),
         excerpt,

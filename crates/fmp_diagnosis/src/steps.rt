@@ -5,7 +5,7 @@ ghost use Rattle.fmp_diagnosis.specs.StepFindings.{IsStepFinding, line_at};
 ghost use Rattle.fmp_diagnosis.specs.Words.{IsSaid};
 
 use crate::excerpt::excerpt_at;
-use crate::reports::{Finding, column_behind};
+use crate::reports::{FaultReport, column_behind};
 use crate::words::{BYTE_ORDER_MARK, Word, say};
 use std::alloc::{AllocError, Global};
 
@@ -213,7 +213,7 @@ pub fn step_finding(
     text: &[u8],
     number: u32,
     flaw: StepFlaw,
-) -> Result<Finding, AllocError>
+) -> Result<FaultReport, AllocError>
     ensures { IfOk result (IsStepFinding text.now number flaw) }
 {
     let start = line_start(text, number);
@@ -222,7 +222,7 @@ pub fn step_finding(
     let at = within_line(text, start, found.from);
     let end = within_line(text, at, found.length);
     let excerpt = excerpt_at(alloc, text, at, end)?;
-    Ok(Finding {
+    Ok(FaultReport {
         line: number,
         end: column_behind(excerpt.column, at, end),
         excerpt,

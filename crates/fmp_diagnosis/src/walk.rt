@@ -1,13 +1,13 @@
 //! A walk over the calls of a task text, with the arguments that they have.
 use crate::apis::is_symbol;
 use crate::contexts::BodyKind;
-use crate::wanted::{Wanted, wanted_at};
+use crate::wanted::{WantedArgument, wanted_at};
 use fmp_base::{Name, Service};
 use fmp_lex::{Constant, Keyword, Symbol, TokenKind, Tokens};
 
 /// The call of a walk.
 #[derive(Clone, Copy)]
-pub struct Walk {
+pub struct CallWalk {
     /// The kind of the body that it stands in.
     body: Option<BodyKind>,
     service: Option<Service>,
@@ -17,10 +17,10 @@ pub struct Walk {
     argument: usize,
 }
 
-impl Walk {
+impl CallWalk {
     /// The walk before the first token.
-    pub fn new() -> Walk {
-        Walk {
+    pub fn new() -> CallWalk {
+        CallWalk {
             body: None,
             service: None,
             open: 0,
@@ -29,31 +29,31 @@ impl Walk {
     }
 
     /// The walk behind a token.
-    pub fn behind(self, kind: TokenKind) -> Walk {
+    pub fn behind(self, kind: TokenKind) -> CallWalk {
         match kind {
-            TokenKind::Keyword(Keyword::Task | Keyword::Handler) => Walk {
+            TokenKind::Keyword(Keyword::Task | Keyword::Handler) => CallWalk {
                 body: BodyKind::begun_by(kind),
                 ..self
             },
-            TokenKind::Service(service) => Walk {
+            TokenKind::Service(service) => CallWalk {
                 service: Some(service),
                 open: 0,
                 argument: 0,
                 ..self
             },
-            TokenKind::Symbol(Symbol::LeftParen) => Walk {
+            TokenKind::Symbol(Symbol::LeftParen) => CallWalk {
                 open: self.open.saturating_add(1),
                 ..self
             },
-            TokenKind::Symbol(Symbol::RightParen) => Walk {
+            TokenKind::Symbol(Symbol::RightParen) => CallWalk {
                 open: self.open.saturating_sub(1),
                 ..self
             },
-            TokenKind::Symbol(Symbol::Comma) if self.open == 1 => Walk {
+            TokenKind::Symbol(Symbol::Comma) if self.open == 1 => CallWalk {
                 argument: self.argument.saturating_add(1),
                 ..self
             },
-            TokenKind::Symbol(Symbol::Semicolon) => Walk {
+            TokenKind::Symbol(Symbol::Semicolon) => CallWalk {
                 service: None,
                 ..self
             },
@@ -75,12 +75,12 @@ impl Walk {
     }
 
     /// The argument that begins behind this token at a place, if it should not be just any number.
-    pub fn argument_behind(self, at: usize, kind: TokenKind) -> Option<Argument> {
+    pub fn argument_behind(self, at: usize, kind: TokenKind) -> Option<WalkedArgument> {
         let service = match kind {
             TokenKind::Symbol(Symbol::LeftParen | Symbol::Comma) if self.open == 1 => self.service?,
             _ => return None,
         };
-        Some(Argument {
+        Some(WalkedArgument {
             at: at.saturating_add(1),
             place: self.argument,
             service,
@@ -90,7 +90,7 @@ impl Walk {
 
     /// What the call takes in the place of the argument that the walk is in, if it is in one and not just any number is
     /// taken there.
-    fn wanted(self) -> Option<Wanted> {
+    fn wanted(self) -> Option<WantedArgument> {
         if self.open == 0 {
             return None;
         }
@@ -101,8 +101,8 @@ impl Walk {
     /// of which something is said.
     pub fn is_value(self, tokens: &Tokens<'_>, at: usize) -> bool {
         match self.wanted() {
-            Some(Wanted::Object(_)) => false,
-            Some(Wanted::Number(_)) => !is_argument(tokens, at),
+            Some(WantedArgument::Object(_)) => false,
+            Some(WantedArgument::Number(_)) => !is_argument(tokens, at),
             None => true,
         }
     }
@@ -117,14 +117,14 @@ pub struct BarredCall {
 
 /// An argument of a call.
 #[derive(Clone, Copy)]
-pub struct Argument {
+pub struct WalkedArgument {
     /// The place of its first token.
     pub at: usize,
     /// How many arguments stand before it.
     pub place: usize,
     pub service: Service,
     /// What the call takes there.
-    pub wanted: Wanted,
+    pub wanted: WantedArgument,
 }
 
 /// What an argument is, where it is a number, a constant or a name alone.

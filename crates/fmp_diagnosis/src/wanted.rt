@@ -5,19 +5,19 @@ use fmp_lex::Api;
 
 /// What an argument of a call should be, if not just any number.
 #[derive(Clone, Copy)]
-pub enum Wanted {
+pub enum WantedArgument {
     /// An object that this static API makes.
     Object(Api),
     /// A number of this meaning, and no object.
     Number(&'static str),
 }
 
-impl Wanted {
+impl WantedArgument {
     /// What is expected, with its article.
     pub fn called(self) -> &'static str {
         match self {
-            Wanted::Object(api) => object_of(api),
-            Wanted::Number(text) => text,
+            WantedArgument::Object(api) => object_of(api),
+            WantedArgument::Number(text) => text,
         }
     }
 }
@@ -50,11 +50,11 @@ fn number_wanted(parameter: Parameter) -> Option<&'static str> {
 }
 
 /// What the argument of a call at a place, from 0, should be.
-pub fn wanted_at(service: Service, place: usize) -> Option<Wanted> {
+pub fn wanted_at(service: Service, place: usize) -> Option<WantedArgument> {
     let parameter = *service.parameters().get(place)?;
     match parameter.object_kind() {
-        Some(kind) => Some(Wanted::Object(api_of(kind))),
-        None => Some(Wanted::Number(number_wanted(parameter)?)),
+        Some(kind) => Some(WantedArgument::Object(api_of(kind))),
+        None => Some(WantedArgument::Number(number_wanted(parameter)?)),
     }
 }
 

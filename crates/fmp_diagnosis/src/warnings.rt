@@ -7,17 +7,17 @@ ghost use Rattle.std.specs.Prelude.{◌≡◌, ◌<◌, ◌+◌, length, OnOk};
 use crate::apis::{api_at, entry_of, value_of};
 use crate::around::{begins_body_at, is_among, list_of, name_at};
 use crate::fields::Field;
-use crate::found::{Found, Warning};
+use crate::found::{FoundWarnings, Warning};
 use crate::indices::warn_of_indices;
 use crate::locks::warn_of_locks;
 use crate::loops::warn_of_loops;
 use crate::mistakes::{Mistake, Wrong, say_mistake};
 use crate::names::processors;
-use crate::objects::{Object, Objects};
+use crate::objects::{NamedObject, NamedObjects};
 use crate::packets::warn_of_constants;
 use crate::sentence::Texts;
-use crate::walk::{Argument, Lone, Walk, lone_argument};
-use crate::wanted::{Wanted, raised_by, range_at, takes_caller};
+use crate::walk::{CallWalk, Lone, WalkedArgument, lone_argument};
+use crate::wanted::{WantedArgument, raised_by, range_at, takes_caller};
 use crate::words::{Word, say};
 use fmp_base::{Name, Service};
 use fmp_lex::{Api, Constant, TextFile, Tokens};
@@ -29,7 +29,7 @@ const CALLS: u32 = 100;
 /// What is seen of the texts.
 #[derive(Drop)]
 struct Warnings {
-    objects: Objects,
+    objects: NamedObjects,
     /// Whether some call signals a semaphore that is not given by its name.
     signals_any: bool,
     /// Whether some call sets a flag that is not given by its name.
@@ -48,7 +48,7 @@ impl Warnings {
         tokens: &Tokens<'_>,
         at: usize,
         mistake: Mistake,
-        found: &mut Found<'_>,
+        found: &mut FoundWarnings<'_>,
     ) -> Result<(), AllocError>
         ensures { OnOk result (0 < self.old.room → length found.new.list.items ≡ length found.old.list.items + 1) }
     {
@@ -71,10 +71,10 @@ impl Warnings {
     }
 
     /// What is wrong with a name as an argument, if anything is.
-    fn wrong_name(&mut self, argument: Argument, name: Name) -> Option<Wrong> {
+    fn wrong_name(&mut self, argument: WalkedArgument, name: Name) -> Option<Wrong> {
         let found = self.objects.api_of(name);
         match (found, argument.wanted) {
-            (Some(api), Wanted::Object(wanted)) if api == wanted => {
+            (Some(api), WantedArgument::Object(wanted)) if api == wanted => {
                 self.objects.note_call(argument.service, name);
                 None
             }
@@ -90,14 +90,14 @@ impl Warnings {
     }
 
     /// A call has an argument that is not the name of an object of the kind that it takes there.
-    fn note_argument(&mut self, service: Service, wanted: Wanted) {
-        if let Wanted::Object(_) = wanted {
+    fn note_argument(&mut self, service: Service, wanted: WantedArgument) {
+        if let WantedArgument::Object(_) = wanted {
             self.note_any(service);
         }
     }
 
     /// What is wrong with the number that an argument stands for, where the call takes no object, if anything is.
-    fn wrong_number(&self, argument: Argument, lone: Lone) -> Option<Wrong> {
+    fn wrong_number(&self, argument: WalkedArgument, lone: Lone) -> Option<Wrong> {
         let number = lone.number()?;
         let (low, high) = range_at(argument.service, argument.place, self.processors)?;
         if low <= number && number <= high {
@@ -107,14 +107,14 @@ impl Warnings {
     }
 
     /// What is wrong with an argument, if anything is.
-    fn wrong(&mut self, tokens: &Tokens<'_>, argument: Argument) -> Option<Wrong> {
+    fn wrong(&mut self, tokens: &Tokens<'_>, argument: WalkedArgument) -> Option<Wrong> {
         let lone = lone_argument(tokens, argument.at);
         if let Some(Lone::Name(name)) = lone {
             return self.wrong_name(argument, name);
         }
         self.note_argument(argument.service, argument.wanted);
         match (lone?, argument.wanted) {
-            (lone, Wanted::Number(_)) => self.wrong_number(argument, lone),
+            (lone, WantedArgument::Number(_)) => self.wrong_number(argument, lone),
             (Lone::Number(0) | Lone::Constant(Constant::TskSelf), _)
                 if takes_caller(argument.service) => { None }
             (Lone::Number(number), _) => Some(Wrong::Number(number)),
@@ -125,7 +125,7 @@ impl Warnings {
 
     /// Notes the object whose name stands at a place. Bodies have names of their own. Of a shared word whose number is
     /// used as a value there, its name.
-    fn note_name(&mut self, tokens: &Tokens<'_>, at: usize, walk: Walk) -> Option<Name> {
+    fn note_name(&mut self, tokens: &Tokens<'_>, at: usize, walk: CallWalk) -> Option<Name> {
         let name = name_at(tokens, at)?;
         if at > 0 && begins_body_at(tokens, at - 1) {
             return None;
@@ -142,9 +142,9 @@ impl Warnings {
         &mut self,
         alloc: Global,
         tokens: &Tokens<'_>,
-        found: &mut Found<'_>,
+        found: &mut FoundWarnings<'_>,
     ) -> Result<(), AllocError> {
-        let mut walk = Walk::new();
+        let mut walk = CallWalk::new();
         for at in 0..tokens.len() {
             if let Some(kind) = tokens.kind(at) {
                 walk = walk.behind(kind);
@@ -196,7 +196,7 @@ fn warn_of_bodies(
     alloc: Global,
     entries: &[Name],
     src: &Tokens<'_>,
-    found: &mut Found<'_>,
+    found: &mut FoundWarnings<'_>,
 ) -> Result<(), AllocError> {
     for at in 0..src.len() {
         if let Some(body) = body_beside(src, at, entries) {
@@ -213,7 +213,7 @@ fn warn_of_bodies(
 }
 
 /// Whether an object starts without a call: a task or a cyclic handler that is started at setup.
-fn is_started(cfg: &Tokens<'_>, object: &Object) -> bool {
+fn is_started(cfg: &Tokens<'_>, object: &NamedObject) -> bool {
     match object.api {
         Api::CreTsk | Api::CreCyc => value_of(cfg, object.at, object.api, Field::Attribute) == 2,
         _ => false,
@@ -221,7 +221,7 @@ fn is_started(cfg: &Tokens<'_>, object: &Object) -> bool {
 }
 
 /// What is said of an object whose name stands nowhere in the task text.
-fn unnamed(cfg: &Tokens<'_>, object: &Object) -> Option<&'static str> {
+fn unnamed(cfg: &Tokens<'_>, object: &NamedObject) -> Option<&'static str> {
     if is_started(cfg, object) {
         return None;
     }
@@ -233,7 +233,7 @@ fn unnamed(cfg: &Tokens<'_>, object: &Object) -> Option<&'static str> {
 
 impl Warnings {
     /// What is said of an object that is not used as it should be.
-    fn neglect(&self, cfg: &Tokens<'_>, object: &Object) -> Option<&'static str> {
+    fn neglect(&self, cfg: &Tokens<'_>, object: &NamedObject) -> Option<&'static str> {
         if !object.is_named {
             return unnamed(cfg, object);
         }
@@ -253,7 +253,7 @@ impl Warnings {
         &self,
         alloc: Global,
         cfg: &Tokens<'_>,
-        found: &mut Found<'_>,
+        found: &mut FoundWarnings<'_>,
     ) -> Result<(), AllocError> {
         for object in &self.objects.list {
             if let Some(text) = self.neglect(cfg, object) {
@@ -272,7 +272,7 @@ impl Warnings {
     /// The objects of a configuration, and no warnings.
     fn new(alloc: Global, cfg: &Tokens<'_>) -> Result<Warnings, AllocError> {
         Ok(Warnings {
-            objects: Objects::of(alloc, cfg)?,
+            objects: NamedObjects::of(alloc, cfg)?,
             signals_any: false,
             sets_any: false,
             processors: i64::from(processors(cfg)),
@@ -286,7 +286,7 @@ impl Warnings {
         alloc: Global,
         cfg: &Tokens<'_>,
         src: &Tokens<'_>,
-        found: &mut Found<'_>,
+        found: &mut FoundWarnings<'_>,
     ) -> Result<(), AllocError> {
         self.calls(alloc, src, found)?;
         warn_of_indices(alloc, src, found)?;
@@ -305,7 +305,7 @@ impl Warnings {
 pub fn warnings_of(alloc: Global, texts: Texts<'_>) -> Result<Vec<Warning>, AllocError> {
     let cfg = list_of(alloc, texts.cfg)?;
     let src = list_of(alloc, texts.src)?;
-    let mut found = Found::new(alloc, texts);
+    let mut found = FoundWarnings::new(alloc, texts);
     Warnings::new(alloc, &cfg.tokens)?.look(alloc, &cfg.tokens, &src.tokens, &mut found)?;
     Ok(found.list)
 }

@@ -11,7 +11,7 @@ use Rattle.fmp_base.specs.Stretches.{Ending}
 use Rattle.fmp_base.specs.Systems.{SystemTables}
 use Rattle.fmp_coming.specs.Comings.{IsPlaceOf}
 use Rattle.fmp_coming.proofs.Places.{event_place}
-use Rattle.fmp_foreign.specs.declared.foreign.Told.TheVariants as told
+use Rattle.fmp_foreign.specs.declared.foreign.LastTold.TheVariants as told
 use Rattle.fmp_foreign.specs.Foreign.{foreign_meaning}
 use Rattle.fmp_foreign.specs.Hosting.{ForeignKernel, reaction}
 use Rattle.fmp_kernel.proofs.FrontLemmas.{RanOn, ran-stretched}

@@ -5,8 +5,8 @@ use Rattle.std.proofs.Math.Seq.{take-length}
 use Rattle.fmp_base.specs.Meanings.{Meaning}
 use Rattle.fmp_kernel.specs.KernelViews.{KernelView}
 use Rattle.fmp_outside.specs.declared.given.Given.{Given}
-use Rattle.fmp_foreign.specs.declared.shadow.Verdict.{Verdict}
-use Rattle.fmp_foreign.specs.declared.shadow.Verdict.TheVariants as verdict
+use Rattle.fmp_foreign.specs.declared.shadow.BodyVerdict.{BodyVerdict}
+use Rattle.fmp_foreign.specs.declared.shadow.BodyVerdict.TheVariants as verdict
 use Rattle.fmp_foreign.specs.Following.{Departs, DoesOtherwise, HasFollowed}
 use Rattle.fmp_foreign.proofs.Following.{and_then}
 
@@ -32,7 +32,7 @@ module _ {B C : Type 0} (meaning : B → Meaning C) (old mid new : KernelView B 
   pub all_followed : HasFollowed meaning old (take (length gs) gs) mid → HasFollowed meaning old gs mid
   all_followed h = subst (λ (xs : List Given). HasFollowed meaning old xs mid) (take-length gs) h
 
-  pub departs : (at : ℕ) (why : Verdict) (g : Given) → slice_get gs at ≡ Some g → HasFollowed meaning old (take at gs) mid
+  pub departs : (at : ℕ) (why : BodyVerdict) (g : Given) → slice_get gs at ≡ Some g → HasFollowed meaning old (take at gs) mid
       → HasFollowed meaning mid [] new → why ≢ verdict.Follows → (why ≡ verdict.Differs → DoesOtherwise meaning new g)
       → (turns : ℕ) → (why ≡ verdict.Long → new.taken ≡ mid.taken + turns) → (why ≡ verdict.Full → 2 ^ 31 ≤ new.taken)
       → Departs meaning old gs new turns (record { at = at; why = why })

@@ -12,7 +12,7 @@ use Rattle.fmp_outside.specs.Keeping.{Follows}
 use Rattle.fmp_outside.specs.Outside.{act_of}
 use Rattle.fmp_worlds.specs.Stamps.{Going, actor_at_number}
 use Rattle.fmp_foreign.specs.declared.shadow.Departure.{Departure}
-use Rattle.fmp_foreign.specs.declared.shadow.Verdict.TheVariants as verdict
+use Rattle.fmp_foreign.specs.declared.shadow.BodyVerdict.TheVariants as verdict
 
 -- from the kernel old on the text does each of these, in order, in between only keeps its places, and so comes to the
 -- kernel new

@@ -5,11 +5,11 @@ use Rattle.fmp_base.specs.Meanings.{Meaning, handler_start}
 use Rattle.fmp_base.specs.Stretches as ends
 use Rattle.fmp_base.specs.Systems.{SystemTables}
 use Rattle.fmp_contexts.specs.Contexts.{BeginsIn, Entered}
-use Rattle.fmp_foreign.specs.declared.foreign.Told.{Told}
-use Rattle.fmp_foreign.specs.declared.foreign.Told.TheVariants as told
+use Rattle.fmp_foreign.specs.declared.foreign.LastTold.{LastTold}
+use Rattle.fmp_foreign.specs.declared.foreign.LastTold.TheVariants as told
 
 -- a body starts with its extended information, makes no stretch of its own, and is told replies
-abbrev pub foreign_meaning : Unit {0} → Meaning Told
+abbrev pub foreign_meaning : Unit {0} → Meaning LastTold
 foreign_meaning f =
     record {
       start = λ body exinf. told.Starts exinf;

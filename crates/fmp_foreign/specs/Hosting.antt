@@ -16,19 +16,19 @@ use Rattle.fmp_outside.specs.declared.given.Act.TheVariants as act
 use Rattle.fmp_outside.specs.declared.given.Given.{Given}
 use Rattle.fmp_outside.specs.declared.given.Given.TheVariants as given
 use Rattle.fmp_outside.specs.Outside.{outside_step}
-use Rattle.fmp_foreign.specs.declared.foreign.Told.{Told}
-use Rattle.fmp_foreign.specs.declared.foreign.Told.TheVariants as told
-use Rattle.fmp_foreign.specs.declared.hosted.Hosted.{Hosted}
+use Rattle.fmp_foreign.specs.declared.foreign.LastTold.{LastTold}
+use Rattle.fmp_foreign.specs.declared.foreign.LastTold.TheVariants as told
+use Rattle.fmp_foreign.specs.declared.hosted.HostedSystem.{HostedSystem}
 use Rattle.fmp_foreign.specs.declared.requests.Refusal.{Refusal}
 use Rattle.fmp_foreign.specs.declared.requests.Refusal.TheVariants as refusal
 use Rattle.fmp_foreign.specs.Foreign.{foreign_meaning}
 
 -- a kernel of bodies that run elsewhere
 abbrev pub ForeignKernel : Type 0
-ForeignKernel = KernelView (Unit {0}) Told
+ForeignKernel = KernelView (Unit {0}) LastTold
 
 -- such a kernel of the system that a text describes, after setup
-pub record IsNew (text : List ℕ) (h : Hosted) : Type 0 where
+pub record IsNew (text : List ℕ) (h : HostedSystem) : Type 0 where
   pub read : Describes text h.system
   pub kernel :
       h.kernel
@@ -74,14 +74,14 @@ abbrev pub refused : ForeignKernel → Given → Option Refusal
 refused k g = if nat_lt k.taken (2 ^ 31) then refused_number k g else Some refusal.Full
 
 -- what it does
-abbrev pub reaction : ForeignKernel → Given → Reaction Told
+abbrev pub reaction : ForeignKernel → Given → Reaction LastTold
 reaction k g = outside_step k.system (foreign_meaning k.body) k.bound (told.Starts (pos 0)) k.world g
 
-abbrev pub answer_unless : Option Refusal → Reaction Told → Result Effect Refusal
+abbrev pub answer_unless : Option Refusal → Reaction LastTold → Result Effect Refusal
 answer_unless None r = Ok (effect_of r)
 answer_unless (Some why) r = Err why
 
-abbrev pub after_unless : Option Refusal → ForeignKernel → Reaction Told → ForeignKernel
+abbrev pub after_unless : Option Refusal → ForeignKernel → Reaction LastTold → ForeignKernel
 after_unless None k r = view_after k r
 after_unless (Some why) k r = k
 
@@ -91,10 +91,10 @@ answer k (Ok g) = answer_unless (refused k g) (reaction k g)
 answer k (Err why) = Err why
 
 -- the hosted system after it
-abbrev pub after : Hosted → Result Given Refusal → Hosted
+abbrev pub after : HostedSystem → Result Given Refusal → HostedSystem
 after h (Ok g) = record h { kernel = after_unless (refused h.kernel g) h.kernel (reaction h.kernel g) }
 after h (Err why) = h
 
 -- the hosted system with counts that begin again
-abbrev pub restarted : Hosted → Hosted
+abbrev pub restarted : HostedSystem → HostedSystem
 restarted h = record h { kernel = counts_restarted h.kernel }

@@ -9,13 +9,13 @@ use Rattle.fmp_base.specs.declared.states.Caller.{Caller}
 use Rattle.fmp_base.specs.Meanings.{context_of}
 use Rattle.fmp_base.specs.States.{KernelState, processor_at}
 use Rattle.fmp_base.specs.Steps.{actor_of}
-use Rattle.fmp_foreign.specs.declared.foreign.Told.{Told}
+use Rattle.fmp_foreign.specs.declared.foreign.LastTold.{LastTold}
 use Rattle.fmp_foreign.specs.declared.looking.Acting.{Acting}
 use Rattle.fmp_foreign.specs.declared.looking.Bodies.{Bodies}
 use Rattle.fmp_foreign.specs.Hosting.{ForeignKernel}
 
 -- the caller, where it goes on from what it was told
-abbrev pub acting_from : Caller → Option (Held Told) → Option Acting
+abbrev pub acting_from : Caller → Option (Held LastTold) → Option Acting
 acting_from who None = None
 acting_from who (Some (Awaits t)) = None
 acting_from who (Some (Goes t)) = Some (record { caller = who; told = t })

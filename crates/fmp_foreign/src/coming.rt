@@ -1,21 +1,21 @@
 //! What comes to a kernel whose bodies run elsewhere.
 ghost use Rattle.std.specs.Prelude.{◌≡◌, pos};
 ghost use Rattle.fmp_base.specs.Stretches.{ending};
-ghost use Rattle.fmp_foreign.specs.declared.foreign.Told.TheVariants as told;
+ghost use Rattle.fmp_foreign.specs.declared.foreign.LastTold.TheVariants as told;
 ghost use Rattle.fmp_foreign.specs.Hosting.{reaction};
 ghost use Rattle.fmp_outside.specs.Outside.{ending_by};
 
-use crate::foreign::{Foreign, Told};
+use crate::foreign::{Foreign, LastTold};
 use fmp_base::{Effect, Event, Stretch};
 use fmp_coming::Coming;
 use fmp_kernel::{Kernel, run_place};
 use fmp_outside::{Act, Given};
 
 /// The stretch that ends with this act.
-fn stretch_of(act: Act) -> Stretch<Told>
+fn stretch_of(act: Act) -> Stretch<LastTold>
     ensures { ending result ≡ ending_by (told.Starts (pos 0)) act }
 {
-    let told = Told::Starts(0);
+    let told = LastTold::Starts(0);
     match act {
         Act::Call(call) => Stretch::Call(told, call),
         Act::End => Stretch::End(told),

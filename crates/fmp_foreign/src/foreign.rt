@@ -6,7 +6,7 @@ use std::marker::Model;
 
 /// What a body that runs elsewhere was told last.
 #[derive(Clone, Copy)]
-pub enum Told {
+pub enum LastTold {
     /// Its extended information, at its start.
     Starts(i32),
     /// The reply to its last call.
@@ -26,7 +26,7 @@ impl Model for Foreign {
 impl Body for Foreign {
     ghost use Rattle.fmp_foreign.specs.Foreign.{foreign_meaning};
 
-    type Ctx = Told;
+    type Ctx = LastTold;
 
     ghost meaning = { foreign_meaning };
 
@@ -34,16 +34,16 @@ impl Body for Foreign {
 
     ghost is_context = { λ f entry told. Unit {0} };
 
-    fn start(&self, entry: u8, exinf: i32) -> Told {
-        Told::Starts(exinf)
+    fn start(&self, entry: u8, exinf: i32) -> LastTold {
+        LastTold::Starts(exinf)
     }
 
-    fn stretch(&self, entry: u8, n: u64, c: Told) -> Stretch<Told> {
+    fn stretch(&self, entry: u8, n: u64, c: LastTold) -> Stretch<LastTold> {
         Stretch::Over(c)
     }
 
-    fn deliver(&self, entry: u8, c: Told, r: Reply) -> Told {
-        Told::Replies(r)
+    fn deliver(&self, entry: u8, c: LastTold, r: Reply) -> LastTold {
+        LastTold::Replies(r)
     }
 
     ghost stays = { λ body entry low high c le fits. absurd (cc fits) };

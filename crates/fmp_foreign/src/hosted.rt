@@ -24,23 +24,23 @@ const INTERRUPTS: u8 = 32;
 
 /// A system with its kernel.
 #[derive(Drop)]
-pub struct Hosted {
+pub struct HostedSystem {
     /// The system that its configuration describes.
     pub system: System,
     /// The kernel of this system.
     pub kernel: Kernel<Foreign>,
 }
 
-impl Hosted {
+impl HostedSystem {
     /// The system that a configuration describes, after setup, or the first fault of the text, as `read_cfg` gives it.
     /// `BuildFault::Memory` if memory runs out: no call after this one takes any.
-    pub fn new(alloc: Global, text: &[u8]) -> Result<Hosted, BuildFault>
+    pub fn new(alloc: Global, text: &[u8]) -> Result<HostedSystem, BuildFault>
         ensures new { IfOk result (IsNew text.now) }
         ensures refused { IfErr result (λ fault. IsRead text.now (Err fault)) }
     {
         let system = read_cfg(alloc, text)?;
         match Kernel::new(alloc, Foreign, &system, 1) {
-            Ok(kernel) => Ok(Hosted { system, kernel }),
+            Ok(kernel) => Ok(HostedSystem { system, kernel }),
             Err(_) => Err(BuildFault::Memory),
         }
     }

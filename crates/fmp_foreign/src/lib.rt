@@ -11,8 +11,8 @@ mod requests;
 mod same;
 mod shadow;
 
-pub use foreign::{Foreign, Told};
-pub use hosted::Hosted;
+pub use foreign::{Foreign, LastTold};
+pub use hosted::HostedSystem;
 pub use looking::{Acting, Bodies};
 pub use requests::{Refusal, call_of};
-pub use shadow::{Departure, Shadow, Verdict};
+pub use shadow::{BodyVerdict, Departure, Shadow};

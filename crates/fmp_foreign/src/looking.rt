@@ -4,8 +4,8 @@ ghost use Rattle.std.specs.List.{list_any};
 ghost use Rattle.fmp_base.specs.Runs.{task_state};
 ghost use Rattle.fmp_foreign.specs.Looking.{acting_on, bodies_of, caller_at, callers_in, is_begin, is_end, is_start};
 
-use crate::foreign::Told;
-use crate::hosted::Hosted;
+use crate::foreign::LastTold;
+use crate::hosted::HostedSystem;
 use fmp_base::{Caller, Held, Line, TaskState};
 use fmp_kernel::actors::actor_on;
 
@@ -14,7 +14,7 @@ use fmp_kernel::actors::actor_on;
 #[derive(Clone, Copy)]
 pub struct Acting {
     pub caller: Caller,
-    pub told: Told,
+    pub told: LastTold,
 }
 
 /// What an event did to bodies.
@@ -67,7 +67,7 @@ fn is_end(line: &Line) -> bool
     matches!(line, Line::End { .. } | Line::Fault { .. })
 }
 
-impl Hosted {
+impl HostedSystem {
     /// Who acts on the processor of this number, from 1, and what it was told last. None where there is no such
     /// processor, or it has no actor.
     pub fn acting(&self, p: u8) -> Option<Acting>

@@ -16,7 +16,7 @@ const MOST_EVENTS: u32 = 1 << 31;
 
 /// Whether the text of a body does what the body does.
 #[derive(Clone, Copy, Debug, PartialEq, Eq)]
-pub enum Verdict {
+pub enum BodyVerdict {
     /// It does it, and its kernel has made the event.
     Follows,
     /// It does another thing.
@@ -32,8 +32,8 @@ pub enum Verdict {
 pub struct Departure {
     /// The place, from 0, of the first thing in the journal that the text does not follow.
     pub at: usize,
-    /// Why it does not; never `Verdict::Follows`.
-    pub why: Verdict,
+    /// Why it does not; never `BodyVerdict::Follows`.
+    pub why: BodyVerdict,
 }
 
 /// A kernel that runs the text of bodies, beside those bodies or in place of their own kernel.
@@ -67,48 +67,48 @@ fn next_stretch<B: Body>(kernel: &Kernel<B>, bound: u64, p: u8) -> Option<Stretc
 
 /// How the next stretch of the text stands to what comes: it ends so, or otherwise, or is over its bound.
 #[tactic(auto, using(crate::proofs::Judging::nobody_follows, crate::proofs::Judging::over_goes_on))]
-fn judge<B: Body>(kernel: &Kernel<B>, bound: u64, given: Given) -> Verdict
+fn judge<B: Body>(kernel: &Kernel<B>, bound: u64, given: Given) -> BodyVerdict
     requires { kernel.now.bound ≡ bound }
-    ensures follows { result ≡ Verdict.Follows
+    ensures follows { result ≡ BodyVerdict.Follows
         → IsOfText kernel.now.system (B.meaning kernel.now.body) kernel.now.bound kernel.now.world given }
-    ensures differs { result ≡ Verdict.Differs → DoesOtherwise B.meaning kernel.now given }
-    ensures long { result ≡ Verdict.Long → GoesOn B.meaning kernel.now given }
-    ensures full { result ≢ Verdict.Full }
+    ensures differs { result ≡ BodyVerdict.Differs → DoesOtherwise B.meaning kernel.now given }
+    ensures long { result ≡ BodyVerdict.Long → GoesOn B.meaning kernel.now given }
+    ensures full { result ≢ BodyVerdict.Full }
 {
     let Given::Act(p, act) = given else {
-        return Verdict::Follows;
+        return BodyVerdict::Follows;
     };
     let Some(stretch) = next_stretch(kernel, bound, p) else {
-        return Verdict::Follows;
+        return BodyVerdict::Follows;
     };
     match Act::of(stretch) {
         Some(made) => {
             if is_same(made, act) {
-                Verdict::Follows
+                BodyVerdict::Follows
             } else {
-                Verdict::Differs
+                BodyVerdict::Differs
             }
         }
-        None => Verdict::Long,
+        None => BodyVerdict::Long,
     }
 }
 
 /// What comes, in one turn of the text.
 #[tactic(auto, using(crate::proofs::Following::once, crate::proofs::Following::within, crate::proofs::Following::within_counts, crate::proofs::Following::nothing_yet))]
-fn take_turn<B: Body>(kernel: &mut Kernel<B>, bound: u64, given: Given) -> Verdict
+fn take_turn<B: Body>(kernel: &mut Kernel<B>, bound: u64, given: Given) -> BodyVerdict
     requires { kernel.old.bound ≡ bound }
-    ensures follows { result ≡ Verdict.Follows → HasFollowed B.meaning kernel.old (given ∷ []) kernel.new }
-    ensures stays { result ≢ Verdict.Follows → HasFollowed B.meaning kernel.old [] kernel.new }
-    ensures differs { result ≡ Verdict.Differs → DoesOtherwise B.meaning kernel.new given }
-    ensures long { result ≡ Verdict.Long → kernel.new.taken ≡ kernel.old.taken + 1 }
-    ensures full { result ≡ Verdict.Full → 2 ^ 31 ≤ kernel.new.taken }
+    ensures follows { result ≡ BodyVerdict.Follows → HasFollowed B.meaning kernel.old (given ∷ []) kernel.new }
+    ensures stays { result ≢ BodyVerdict.Follows → HasFollowed B.meaning kernel.old [] kernel.new }
+    ensures differs { result ≡ BodyVerdict.Differs → DoesOtherwise B.meaning kernel.new given }
+    ensures long { result ≡ BodyVerdict.Long → kernel.new.taken ≡ kernel.old.taken + 1 }
+    ensures full { result ≡ BodyVerdict.Full → 2 ^ 31 ≤ kernel.new.taken }
     ensures bound { kernel.new.bound ≡ bound }
 {
     if kernel.taken() >= MOST_EVENTS {
-        return Verdict::Full;
+        return BodyVerdict::Full;
     }
     let verdict = judge(kernel, bound, given);
-    if verdict != Verdict::Differs {
+    if verdict != BodyVerdict::Differs {
         kernel.step_long(given.event());
     }
     verdict
@@ -116,22 +116,22 @@ fn take_turn<B: Body>(kernel: &mut Kernel<B>, bound: u64, given: Given) -> Verdi
 
 /// What comes, in at most `turns` turns of the text.
 #[tactic(auto, using(crate::proofs::Following::nothing_yet))]
-fn take_turns<B: Body>(kernel: &mut Kernel<B>, bound: u64, given: Given, turns: u32) -> Verdict
+fn take_turns<B: Body>(kernel: &mut Kernel<B>, bound: u64, given: Given, turns: u32) -> BodyVerdict
     requires { kernel.old.bound ≡ bound }
-    ensures follows { result ≡ Verdict.Follows → HasFollowed B.meaning kernel.old (given ∷ []) kernel.new }
-    ensures stays { result ≢ Verdict.Follows → HasFollowed B.meaning kernel.old [] kernel.new }
-    ensures differs { result ≡ Verdict.Differs → DoesOtherwise B.meaning kernel.new given }
-    ensures long { result ≡ Verdict.Long → kernel.new.taken ≡ kernel.old.taken + turns }
-    ensures full { result ≡ Verdict.Full → 2 ^ 31 ≤ kernel.new.taken }
+    ensures follows { result ≡ BodyVerdict.Follows → HasFollowed B.meaning kernel.old (given ∷ []) kernel.new }
+    ensures stays { result ≢ BodyVerdict.Follows → HasFollowed B.meaning kernel.old [] kernel.new }
+    ensures differs { result ≡ BodyVerdict.Differs → DoesOtherwise B.meaning kernel.new given }
+    ensures long { result ≡ BodyVerdict.Long → kernel.new.taken ≡ kernel.old.taken + turns }
+    ensures full { result ≡ BodyVerdict.Full → 2 ^ 31 ≤ kernel.new.taken }
     ensures bound { kernel.new.bound ≡ bound }
 {
     for _ in 0..turns {
         let verdict = take_turn(kernel, bound, given);
-        if verdict != Verdict::Long {
+        if verdict != BodyVerdict::Long {
             return verdict;
         }
     }
-    Verdict::Long
+    BodyVerdict::Long
 }
 
 /// What stands at this place of a journal.
@@ -158,7 +158,7 @@ fn replay_all<B: Body>(
     for at in 0..journal.len() {
         let given = given_at(journal, at);
         let why = take_turns(kernel, bound, given, turns);
-        if why != Verdict::Follows {
+        if why != BodyVerdict::Follows {
             return Err(Departure { at, why });
         }
     }
@@ -184,12 +184,12 @@ impl<B: Body> Shadow<B> {
     /// What comes, in at most `turns` turns of the text. It follows where the text does just this next, and its kernel
     /// has then made the event. Else its kernel has only gone on within the stretch of the actor: up to where the text
     /// does another thing, or for all of the turns, after which another call goes on.
-    pub fn take(&mut self, given: Given, turns: u32) -> Verdict
-        ensures follows { result ≡ Verdict.Follows → HasFollowed B.meaning self.old (given ∷ []) self.new }
-        ensures stays { result ≢ Verdict.Follows → HasFollowed B.meaning self.old [] self.new }
-        ensures differs { result ≡ Verdict.Differs → DoesOtherwise B.meaning self.new given }
-        ensures long { result ≡ Verdict.Long → self.new.taken ≡ self.old.taken + turns }
-        ensures full { result ≡ Verdict.Full → 2 ^ 31 ≤ self.new.taken }
+    pub fn take(&mut self, given: Given, turns: u32) -> BodyVerdict
+        ensures follows { result ≡ BodyVerdict.Follows → HasFollowed B.meaning self.old (given ∷ []) self.new }
+        ensures stays { result ≢ BodyVerdict.Follows → HasFollowed B.meaning self.old [] self.new }
+        ensures differs { result ≡ BodyVerdict.Differs → DoesOtherwise B.meaning self.new given }
+        ensures long { result ≡ BodyVerdict.Long → self.new.taken ≡ self.old.taken + turns }
+        ensures full { result ≡ BodyVerdict.Full → 2 ^ 31 ≤ self.new.taken }
     {
         take_turns(&mut self.kernel, self.bound, given, turns)
     }

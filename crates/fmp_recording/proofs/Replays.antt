@@ -10,9 +10,9 @@ use Rattle.fmp_base.specs.Steps.{Reaction, Nothing, Did, Kept}
 use Rattle.fmp_base.specs.Systems.{SystemTables, tables_of}
 use Rattle.fmp_base.specs.Texts.{events_text, lines_text, states_text}
 use Rattle.fmp_cfgparse.specs.Configurations.{Describes}
-use Rattle.fmp_foreign.specs.declared.foreign.Told.{Told}
-use Rattle.fmp_foreign.specs.declared.foreign.Told.TheVariants as told
-use Rattle.fmp_foreign.specs.declared.hosted.Hosted.{Hosted}
+use Rattle.fmp_foreign.specs.declared.foreign.LastTold.{LastTold}
+use Rattle.fmp_foreign.specs.declared.foreign.LastTold.TheVariants as told
+use Rattle.fmp_foreign.specs.declared.hosted.HostedSystem.{HostedSystem}
 use Rattle.fmp_foreign.specs.declared.requests.Refusal.{Refusal}
 use Rattle.fmp_foreign.specs.Foreign.{foreign_meaning}
 use Rattle.fmp_foreign.specs.Hosting.{ForeignKernel, after_unless, answer_unless, reaction, refused}
@@ -32,14 +32,14 @@ use Rattle.fmp_trace.specs.ListedStates.{listed_states_text}
 use Rattle.fmp_trace.proofs.ListedStates.{listed_states_are_states}
 
 -- an event was done, and its lines are written
-module _ (old new : Hosted) (g : Given) (before after : List ℕ) (tied : old.kernel.system ≡ tables_of old.system) where
-  record IsTaken (o : Option Refusal) (r : Reaction Told) : Type 0 where
+module _ (old new : HostedSystem) (g : Given) (before after : List ℕ) (tied : old.kernel.system ≡ tables_of old.system) where
+  record IsTaken (o : Option Refusal) (r : Reaction LastTold) : Type 0 where
     taken : o ≡ None
     kernel : new.kernel ≡ view_after old.kernel r
     system : new.system ≡ old.system
     text : after ≡ before ++ added_by old.kernel r
 
-  done_by : (o : Option Refusal) (r : Reaction Told) → answer_unless o r ≡ Ok effect.Done
+  done_by : (o : Option Refusal) (r : Reaction LastTold) → answer_unless o r ≡ Ok effect.Done
       → new ≡ record old { kernel = after_unless o old.kernel r }
       → after ≡ before ++ lines_text (tables_of new.system) new.kernel.done new.kernel.lines → IsTaken o r
   done_by (Some why) r e n t = absurd cc
@@ -48,14 +48,14 @@ module _ (old new : Hosted) (g : Given) (before after : List ℕ) (tied : old.ke
   done_by None (Did d) e n t =
       record {
         taken = refl;
-        kernel = ap (λ (h : Hosted). h.kernel) n;
-        system = ap (λ (h : Hosted). h.system) n;
+        kernel = ap (λ (h : HostedSystem). h.kernel) n;
+        system = ap (λ (h : HostedSystem). h.system) n;
         text = t
-            ∙ ap (λ (h : Hosted). before ++ lines_text (tables_of h.system) h.kernel.done h.kernel.lines) n
+            ∙ ap (λ (h : HostedSystem). before ++ lines_text (tables_of h.system) h.kernel.done h.kernel.lines) n
             ∙ ap (λ (s : SystemTables). before ++ lines_text s (old.kernel.done + 1) d.lines) (sym tied);
       }
 
-  kept_by : (o : Option Refusal) (r : Reaction Told) → answer_unless o r ≡ Ok effect.Kept
+  kept_by : (o : Option Refusal) (r : Reaction LastTold) → answer_unless o r ≡ Ok effect.Kept
       → new ≡ record old { kernel = after_unless o old.kernel r } → after ≡ before → IsTaken o r
   kept_by (Some why) r e n t = absurd cc
   kept_by None Nothing e n t = absurd cc
@@ -63,12 +63,12 @@ module _ (old new : Hosted) (g : Given) (before after : List ℕ) (tied : old.ke
   kept_by None (Kept p w) e n t =
       record {
         taken = refl;
-        kernel = ap (λ (h : Hosted). h.kernel) n;
-        system = ap (λ (h : Hosted). h.system) n;
+        kernel = ap (λ (h : HostedSystem). h.kernel) n;
+        system = ap (λ (h : HostedSystem). h.system) n;
         text = t ∙ sym (append-nil before);
       }
 
-  nothing_by : (o : Option Refusal) (r : Reaction Told) → answer_unless o r ≡ Ok effect.Nothing
+  nothing_by : (o : Option Refusal) (r : Reaction LastTold) → answer_unless o r ≡ Ok effect.Nothing
       → new ≡ record old { kernel = after_unless o old.kernel r } → after ≡ before → IsTaken o r
   nothing_by (Some why) r e n t = absurd cc
   nothing_by None (Did d) e n t = absurd cc
@@ -76,8 +76,8 @@ module _ (old new : Hosted) (g : Given) (before after : List ℕ) (tied : old.ke
   nothing_by None Nothing e n t =
       record {
         taken = refl;
-        kernel = ap (λ (h : Hosted). h.kernel) n;
-        system = ap (λ (h : Hosted). h.system) n;
+        kernel = ap (λ (h : HostedSystem). h.kernel) n;
+        system = ap (λ (h : HostedSystem). h.system) n;
         text = t ∙ sym (append-nil before);
       }
 
@@ -97,7 +97,7 @@ module _ (old new : Hosted) (g : Given) (before after : List ℕ) (tied : old.ke
       → after ≡ before → HasTaken old new g before after
   taken_nothing e n t = as_taken (nothing_by (refused old.kernel g) (reaction old.kernel g) e n t)
 
-refused_by : (o : Option Refusal) (r : Reaction Told) (why : Refusal) → answer_unless o r ≡ Err why → o ≡ Some why
+refused_by : (o : Option Refusal) (r : Reaction LastTold) (why : Refusal) → answer_unless o r ≡ Err why → o ≡ Some why
 refused_by None r why e = cc
 refused_by (Some w) r why e = cc
 
@@ -105,14 +105,14 @@ pub not_taken : (k : ForeignKernel) (g : Given) (why : Refusal) → hosting.answ
 not_taken k g why e = refused_by (refused k g) (reaction k g) why e
 
 -- a run, event by event
-world_by : (k : ForeignKernel) (gs : List Given) (r : Reaction Told)
+world_by : (k : ForeignKernel) (gs : List Given) (r : Reaction LastTold)
     → (run_on k.world r (λ v. outside_run k.system (foreign_meaning k.body) k.bound (told.Starts (pos 0)) v gs)).world
     ≡ (run_of (view_after k r) gs).world
 world_by k gs Nothing = refl
 world_by k gs (Did d) = refl
 world_by k gs (Kept p w) = refl
 
-text_by : (k : ForeignKernel) (gs : List Given) (r : Reaction Told)
+text_by : (k : ForeignKernel) (gs : List Given) (r : Reaction LastTold)
     → events_text k.system (k.done + 1)
     (run_on k.world r (λ v. outside_run k.system (foreign_meaning k.body) k.bound (told.Starts (pos 0)) v gs)).events
     ≡ added_by k r ++ text_of (view_after k r) gs
@@ -120,27 +120,27 @@ text_by k gs Nothing = refl
 text_by k gs (Did d) = refl
 text_by k gs (Kept p w) = refl
 
-tables_by : (k : ForeignKernel) (r : Reaction Told) → (view_after k r).system ≡ k.system
+tables_by : (k : ForeignKernel) (r : Reaction LastTold) → (view_after k r).system ≡ k.system
 tables_by k Nothing = refl
 tables_by k (Did d) = refl
 tables_by k (Kept p w) = refl
 
 -- a replay on its way: what is left leads to where all leads
-pub record Continues (old h : Hosted) (gs left : List Given) (before now : List ℕ) : Type 0 where
+pub record Continues (old h : HostedSystem) (gs left : List Given) (before now : List ℕ) : Type 0 where
   pub refusal : refusal_in h.kernel left ≡ refusal_in old.kernel gs
   pub text : now ++ text_of h.kernel left ≡ before ++ text_of old.kernel gs
   pub world : (run_of h.kernel left).world ≡ (run_of old.kernel gs).world
   pub tables : h.kernel.system ≡ old.kernel.system
   pub system : h.system ≡ old.system
 
-pub begins : (old : Hosted) (gs : List Given) (before : List ℕ) → Continues old old gs gs before before
+pub begins : (old : HostedSystem) (gs : List Given) (before : List ℕ) → Continues old old gs gs before before
 begins old gs before = record { refusal = refl; text = refl; world = refl; tables = refl; system = refl }
 
-module _ (old h : Hosted) (gs left : List Given) (before text : List ℕ) (c : Continues old h gs left before text) where
+module _ (old h : HostedSystem) (gs left : List Given) (before text : List ℕ) (c : Continues old h gs left before text) where
   pub tied : old.kernel.system ≡ tables_of old.system → h.kernel.system ≡ tables_of h.system
   tied e = c.tables ∙ e ∙ ap (λ (s : System). tables_of s) (sym c.system)
 
-  pub goes_on : (g : Given) (rest : List Given) (new : Hosted) (after : List ℕ) → HasTaken h new g text after
+  pub goes_on : (g : Given) (rest : List Given) (new : HostedSystem) (after : List ℕ) → HasTaken h new g text after
       → left ≡ g ∷ rest → Continues old new gs rest before after
   goes_on g rest new after t split =
       let k = h.kernel in
@@ -188,21 +188,21 @@ module _ (old h : Hosted) (gs left : List Given) (before text : List ℕ) (c : C
       }
 
 -- a replay line by line on its way: what is left leads to where all leads
-pub record Leads (old h : Hosted) (rs left : List RecordedLine) (before now : List ℕ) : Type 0 where
+pub record Leads (old h : HostedSystem) (rs left : List RecordedLine) (before now : List ℕ) : Type 0 where
   pub refusal : first_refusal h.kernel left ≡ first_refusal old.kernel rs
   pub text : now ++ text_after h.kernel left ≡ before ++ text_after old.kernel rs
   pub kernel : kernel_after h.kernel left ≡ kernel_after old.kernel rs
   pub tables : h.kernel.system ≡ old.kernel.system
   pub system : h.system ≡ old.system
 
-pub leads_first : (old : Hosted) (rs : List RecordedLine) (before : List ℕ) → Leads old old rs rs before before
+pub leads_first : (old : HostedSystem) (rs : List RecordedLine) (before : List ℕ) → Leads old old rs rs before before
 leads_first old rs before = record { refusal = refl; text = refl; kernel = refl; tables = refl; system = refl }
 
-module _ (old h : Hosted) (rs left : List RecordedLine) (before text : List ℕ) (c : Leads old h rs left before text) where
+module _ (old h : HostedSystem) (rs left : List RecordedLine) (before text : List ℕ) (c : Leads old h rs left before text) where
   pub leads_tied : old.kernel.system ≡ tables_of old.system → h.kernel.system ≡ tables_of h.system
   leads_tied e = c.tables ∙ e ∙ ap (λ (s : System). tables_of s) (sym c.system)
 
-  pub leads_on : (r : RecordedLine) (rest : List RecordedLine) (new : Hosted) (after : List ℕ)
+  pub leads_on : (r : RecordedLine) (rest : List RecordedLine) (new : HostedSystem) (after : List ℕ)
       → HasDone h new r text after → left ≡ r ∷ rest → Leads old new rs rest before after
   leads_on (recorded.Came g) rest new after t split =
       let k = h.kernel in
@@ -226,18 +226,18 @@ module _ (old h : Hosted) (rs left : List RecordedLine) (before text : List ℕ)
   leads_on recorded.Restart rest new after t split =
       let k = h.kernel in
       record {
-        refusal = ap (λ (j : Hosted). first_refusal j.kernel rest) t.0
+        refusal = ap (λ (j : HostedSystem). first_refusal j.kernel rest) t.0
             ∙ ap (λ (xs : List RecordedLine). first_refusal k xs) (sym split)
             ∙ c.refusal;
         text = ap (λ (xs : List ℕ). xs ++ text_after new.kernel rest) t.1
-            ∙ ap (λ (j : Hosted). text ++ text_after j.kernel rest) t.0
+            ∙ ap (λ (j : HostedSystem). text ++ text_after j.kernel rest) t.0
             ∙ ap (λ (xs : List RecordedLine). text ++ text_after k xs) (sym split)
             ∙ c.text;
-        kernel = ap (λ (j : Hosted). kernel_after j.kernel rest) t.0
+        kernel = ap (λ (j : HostedSystem). kernel_after j.kernel rest) t.0
             ∙ ap (λ (xs : List RecordedLine). kernel_after k xs) (sym split)
             ∙ c.kernel;
-        tables = ap (λ (j : Hosted). j.kernel.system) t.0 ∙ c.tables;
-        system = ap (λ (j : Hosted). j.system) t.0 ∙ c.system;
+        tables = ap (λ (j : HostedSystem). j.kernel.system) t.0 ∙ c.tables;
+        system = ap (λ (j : HostedSystem). j.system) t.0 ∙ c.system;
       }
 
   pub not_all : (r : RecordedLine) (rest : List RecordedLine) (why : ReplayFault) → IsWhyNotDone h.kernel r why
@@ -307,7 +307,7 @@ whole_runs_are_replayed system recording gs before after e h =
     ∙ ap (λ (rs : List RecordedLine). before ++ recorded_trace sys rs) same
     ∙ ap (λ (xs : List ℕ). before ++ (lines_text sys 0 k.lines ++ (xs ++ states_text sys (kernel_after k (came_lines gs)).world.state)))
     (came_text k gs)
-    ∙ ap (λ (w : World Told). before ++ (lines_text sys 0 k.lines ++ (text_of k gs ++ states_text sys w.state)))
+    ∙ ap (λ (w : World LastTold). before ++ (lines_text sys 0 k.lines ++ (text_of k gs ++ states_text sys w.state)))
     (came_world k gs)
 
 -- what is written of a run is replayed to its trace

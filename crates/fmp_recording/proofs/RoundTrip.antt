@@ -15,8 +15,8 @@ use Rattle.fmp_outside.specs.declared.given.Act.{Act}
 use Rattle.fmp_outside.specs.declared.given.Act.TheVariants as act
 use Rattle.fmp_outside.specs.declared.given.Given.{Given}
 use Rattle.fmp_outside.specs.declared.given.Given.TheVariants as given
-use Rattle.fmp_recording.specs.declared.faults.Flaw.{Flaw}
-use Rattle.fmp_recording.specs.declared.faults.Flaw.TheVariants as flaw
+use Rattle.fmp_recording.specs.declared.faults.RecordingFlaw.{RecordingFlaw}
+use Rattle.fmp_recording.specs.declared.faults.RecordingFlaw.TheVariants as flaw
 use Rattle.fmp_recording.specs.declared.faults.RecordingFault.{RecordingFault}
 use Rattle.fmp_recording.specs.declared.faults.RecordingFault.TheVariants as recording_fault
 use Rattle.fmp_recording.specs.declared.recorded.RecordedLine.{RecordedLine}
@@ -226,12 +226,12 @@ given_again processors (given.Act p a) small h =
     let plain = digits_plain (decimal p) (decimal_digits p (omega (arith, h.1))) in
     ap (λ (c : Cut). given_by processors c) (cut_word (codes "run") (decimal p ++ 32 ∷ act_text a) refl)
     ∙ ap (λ (c : Cut). given_act (number_up_to processors (number_of c.word)) (act_in c.rest)) (cut_word (decimal p) (act_text a) plain)
-    ∙ ap (λ (r : Result ℕ Flaw). given_act r (act_by (cut (act_text a)))) (ranged_again processors p h.0 h.1 small)
+    ∙ ap (λ (r : Result ℕ RecordingFlaw). given_act r (act_by (cut (act_text a)))) (ranged_again processors p h.0 h.1 small)
     ∙ ap (λ (o : Option Act). given_act (Ok p) o) (act_again a h.2)
 given_again processors given.Tick small h = refl
 given_again processors (given.Int i) small h =
     ap (λ (c : Cut). given_by processors c) (cut_word (codes "int") (decimal i) refl)
-    ∙ ap (λ (r : Result ℕ Flaw). given_int r) (ranged_again 32 i h.0 h.1 (omega arith))
+    ∙ ap (λ (r : Result ℕ RecordingFlaw). given_int r) (ranged_again 32 i h.0 h.1 (omega arith))
 
 given_clear : (processors : ℕ) (g : Given) → processors < 256 → IsRecorded processors g → Clear (given_text g)
 given_clear processors (given.Act p a) small h =
@@ -245,7 +245,7 @@ given_line : (processors : ℕ) (g : Given) → processors < 256 → IsRecorded 
 given_line processors g small h = clear_line (given_text g) (given_clear processors g small h)
 
 -- what comes is never written as `restart` is
-abbrev came_line : List ℕ → Result Given Flaw → Bool → Result RecordedLine Flaw
+abbrev came_line : List ℕ → Result Given RecordingFlaw → Bool → Result RecordedLine RecordingFlaw
 came_line line r t = cond t (Ok recorded.Restart) (came_by r)
 
 not_restart : (g : Given) → is_restart (given_text g) ≡ false
@@ -269,7 +269,7 @@ came_numbered : (processors n : ℕ) (line : List ℕ) (g : Given) → is_restar
     → n ≤ 2 ^ 31 → recorded_at processors n line ≡ Ok (recorded.Came g)
 came_numbered processors n line g other e few =
     numbered processors n line (recorded.Came g)
-    (ap (λ (t : Bool). came_line line (line_meaning processors line) t) other ∙ ap (λ (r : Result Given Flaw). came_by r) e) few
+    (ap (λ (t : Bool). came_line line (line_meaning processors line) t) other ∙ ap (λ (r : Result Given RecordingFlaw). came_by r) e) few
 
 line_again : (processors n : ℕ) (g : Given) → processors < 256 → IsRecorded processors g → n ≤ 2 ^ 31
     → recorded_at processors n (given_text g) ≡ Ok (recorded.Came g)
@@ -277,7 +277,7 @@ line_again processors n g small h few =
     let w = given_text g in
     came_numbered processors n w g (not_restart g)
     (ap (λ (o : Option ℕ). with_time (given_in processors (said_before o w)) (time_behind o w)) (untimed w (given_clear processors g small h))
-    ∙ ap (λ (r : Result Given Flaw). with_time r (Ok None)) (given_again processors g small h)) few
+    ∙ ap (λ (r : Result Given RecordingFlaw). with_time r (Ok None)) (given_again processors g small h)) few
 
 pub lines_again : (processors n : ℕ) (gs : List Given) → processors < 256 → AllByRecursion (IsRecorded processors) gs
     → n + length gs ≤ 2 ^ 31 + 1 → recorded_from processors n (lines_of (recording_text gs)) ≡ Ok (came_lines gs)
@@ -354,8 +354,8 @@ timed_line processors n g t small h k few =
     let clear = given_clear processors g small h in
     came_numbered processors n line g (not_restart_behind g (time_text t))
     (ap (λ (x : List ℕ). with_time (given_in processors x) (time_behind (time_place line) line)) (said_again w t clear)
-    ∙ ap (λ (r : Result (Option ℕ) Flaw). with_time (given_in processors w) r) (time_again w t clear k)
-    ∙ ap (λ (r : Result Given Flaw). with_time r (Ok t)) (given_again processors g small h)) few
+    ∙ ap (λ (r : Result (Option ℕ) RecordingFlaw). with_time (given_in processors w) r) (time_again w t clear k)
+    ∙ ap (λ (r : Result Given RecordingFlaw). with_time r (Ok t)) (given_again processors g small h)) few
 
 time_line : (t : Option ℕ) → IsTime t → IsLine (time_text t)
 time_line None k = tt
@@ -391,7 +391,7 @@ read_times_again processors (g ∷ gs) (t ∷ ts) small h k e =
     let rest = times_of (timed_text gs ts) in
     ap (λ ls. line_times ls) (first_timed processors g t (timed_text gs ts) small h.0 k.0)
     ∙ ap (λ (b : Bool). cond b rest (line_time line ∷ rest)) (not_restart_behind g (time_text t))
-    ∙ ap (λ (r : Result (Option ℕ) Flaw). time_or_none r ∷ rest)
+    ∙ ap (λ (r : Result (Option ℕ) RecordingFlaw). time_or_none r ∷ rest)
     (time_again (given_text g) t (given_clear processors g small h.0) k.0)
     ∙ ap (λ (us : List (Option ℕ)). t ∷ us) (read_times_again processors gs ts small h.1 k.1 (omega (arith, e)))
 

@@ -7,7 +7,7 @@ use Rattle.std.specs.Prelude.{codes}
 use Rattle.fmp_base.specs.declared.systems.System.{System}
 use Rattle.fmp_base.specs.Steps.{Reaction, Nothing, Did, Kept}
 use Rattle.fmp_base.specs.Systems.{tables_of}
-use Rattle.fmp_foreign.specs.declared.foreign.Told.{Told}
+use Rattle.fmp_foreign.specs.declared.foreign.LastTold.{LastTold}
 use Rattle.fmp_foreign.specs.declared.requests.Refusal.{Refusal}
 use Rattle.fmp_foreign.specs.declared.requests.Refusal.TheVariants as refusal
 use Rattle.fmp_foreign.specs.Hosting.{ForeignKernel, is_number, reaction, refused, refused_number}
@@ -16,8 +16,8 @@ use Rattle.fmp_kernel.specs.Restarts.{counts_restarted}
 use Rattle.fmp_outside.specs.declared.given.Act.{Act}
 use Rattle.fmp_outside.specs.declared.given.Given.{Given}
 use Rattle.fmp_outside.specs.declared.given.Given.TheVariants as given
-use Rattle.fmp_recording.specs.declared.faults.Flaw.{Flaw}
-use Rattle.fmp_recording.specs.declared.faults.Flaw.TheVariants as flaw
+use Rattle.fmp_recording.specs.declared.faults.RecordingFlaw.{RecordingFlaw}
+use Rattle.fmp_recording.specs.declared.faults.RecordingFlaw.TheVariants as flaw
 use Rattle.fmp_recording.specs.declared.faults.RecordingFault.{RecordingFault}
 use Rattle.fmp_recording.specs.declared.faults.RecordingFault.TheVariants as recording_fault
 use Rattle.fmp_recording.specs.declared.recorded.RecordedLine.{RecordedLine}
@@ -32,7 +32,7 @@ Fits processors (given.Act p a) = is_number processors p ≡ true
 Fits processors given.Tick = Unit {0}
 Fits processors (given.Int i) = is_number 32 i ≡ true
 
-by_test : (most m n : ℕ) (t : Bool) → is_number most m ≡ t → ◌≡◌ {A = Result ℕ Flaw} (cond t (Ok m) (Err flaw.Range)) (Ok n)
+by_test : (most m n : ℕ) (t : Bool) → is_number most m ≡ t → ◌≡◌ {A = Result ℕ RecordingFlaw} (cond t (Ok m) (Err flaw.Range)) (Ok n)
     → is_number most n ≡ true
 by_test most m n true h e = let same : m ≡ n = cc in subst (λ (x : ℕ). is_number most x ≡ true) same h
 by_test most m n false h e = cc
@@ -42,14 +42,14 @@ number_fits most None n e = cc
 number_fits most (Some (negsuc m)) n e = cc
 number_fits most (Some (pos m)) n e = by_test most m n (is_number most m) refl e
 
-act_fits : (processors : ℕ) (r : Result ℕ Flaw) (o : Option Act) (g : Given)
+act_fits : (processors : ℕ) (r : Result ℕ RecordingFlaw) (o : Option Act) (g : Given)
     → ((n : ℕ) → r ≡ Ok n → is_number processors n ≡ true) → given_act r o ≡ Ok g → Fits processors g
 act_fits processors (Err f) o g h e = absurd cc
 act_fits processors (Ok p) None g h e = absurd cc
 act_fits processors (Ok p) (Some a) g h e =
     let same : given.Act p a ≡ g = cc in subst (λ (x : Given). Fits processors x) same (h p refl)
 
-int_fits : (processors : ℕ) (r : Result ℕ Flaw) (g : Given) → ((n : ℕ) → r ≡ Ok n → is_number 32 n ≡ true)
+int_fits : (processors : ℕ) (r : Result ℕ RecordingFlaw) (g : Given) → ((n : ℕ) → r ≡ Ok n → is_number 32 n ≡ true)
     → given_int r ≡ Ok g → Fits processors g
 int_fits processors (Err f) g h e = absurd cc
 int_fits processors (Ok i) g h e =
@@ -83,7 +83,7 @@ text_fits processors line g e =
     by_word processors (cut line).rest g (bytes_eq (cut line).word (codes "run")) (bytes_eq (cut line).word (codes "int"))
     (bytes_eq (cut line).word (codes "tick")) e
 
-without_its_time : (r : Result Given Flaw) (t : Result (Option ℕ) Flaw) (g : Given) → with_time r t ≡ Ok g → r ≡ Ok g
+without_its_time : (r : Result Given RecordingFlaw) (t : Result (Option ℕ) RecordingFlaw) (g : Given) → with_time r t ≡ Ok g → r ≡ Ok g
 without_its_time (Err f) t g e = absurd cc
 without_its_time (Ok h) (Err f) g e = absurd cc
 without_its_time (Ok h) (Ok t) g e = e
@@ -97,7 +97,7 @@ abbrev LineFits : (processors : ℕ) → RecordedLine → Type 0
 LineFits processors (recorded.Came g) = Fits processors g
 LineFits processors recorded.Restart = Unit {0}
 
-came_fits : (processors : ℕ) (m : Result Given Flaw) (r : RecordedLine) → ((g : Given) → m ≡ Ok g → Fits processors g)
+came_fits : (processors : ℕ) (m : Result Given RecordingFlaw) (r : RecordedLine) → ((g : Given) → m ≡ Ok g → Fits processors g)
     → came_by m ≡ Ok r → LineFits processors r
 came_fits processors (Err f) r h e = absurd cc
 came_fits processors (Ok g) r h e =
@@ -110,7 +110,7 @@ by_restart processors line r true e =
 by_restart processors line r false e =
     came_fits processors (line_meaning processors line) r (λ g h. line_fits processors line g h) e
 
-unfaulty : (n : ℕ) (m : Result RecordedLine Flaw) (r : RecordedLine) → fault_at n m ≡ Ok r → m ≡ Ok r
+unfaulty : (n : ℕ) (m : Result RecordedLine RecordingFlaw) (r : RecordedLine) → fault_at n m ≡ Ok r → m ≡ Ok r
 unfaulty n (Ok h) r e = cc
 unfaulty n (Err flaw.Form) r e = cc
 unfaulty n (Err flaw.Range) r e = cc
@@ -164,7 +164,7 @@ not_refused : (k : ForeignKernel) (g : Given) → k.taken < 2 ^ 31 → Fits k.sy
 not_refused k g low h =
     ap (λ (t : Bool). cond t (refused_number k g) (Some refusal.Full)) (lt-ltb k.taken (2 ^ 31) low) ∙ in_range k g h
 
-on_from : (k : ForeignKernel) (rs : List RecordedLine) (r : Reaction Told)
+on_from : (k : ForeignKernel) (rs : List RecordedLine) (r : Reaction LastTold)
     → AllByRecursion (LineFits k.system.processors) rs → k.taken + 1 + length rs ≤ 2 ^ 31
     → ((j : ForeignKernel) → AllByRecursion (LineFits j.system.processors) rs → j.taken + length rs ≤ 2 ^ 31
     → first_refusal j rs ≡ None) → first_refusal (view_after k r) rs ≡ None

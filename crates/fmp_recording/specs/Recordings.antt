@@ -11,8 +11,8 @@ use Rattle.fmp_outside.specs.declared.given.Act.{Act}
 use Rattle.fmp_outside.specs.declared.given.Act.TheVariants as act
 use Rattle.fmp_outside.specs.declared.given.Given.{Given}
 use Rattle.fmp_outside.specs.declared.given.Given.TheVariants as given
-use Rattle.fmp_recording.specs.declared.faults.Flaw.{Flaw}
-use Rattle.fmp_recording.specs.declared.faults.Flaw.TheVariants as flaw
+use Rattle.fmp_recording.specs.declared.faults.RecordingFlaw.{RecordingFlaw}
+use Rattle.fmp_recording.specs.declared.faults.RecordingFlaw.TheVariants as flaw
 use Rattle.fmp_recording.specs.declared.faults.RecordingFault.{RecordingFault}
 use Rattle.fmp_recording.specs.declared.faults.RecordingFault.TheVariants as fault
 use Rattle.fmp_recording.specs.declared.recorded.RecordedLine.{RecordedLine}
@@ -116,7 +116,7 @@ arguments_in (suc n) [] = None
 arguments_in (suc n) (b ∷ bs) = in_front_of (number_of (cut bs).word) (arguments_in n (cut bs).rest)
 
 -- a number from 1 to the greatest
-abbrev pub number_up_to : (most : ℕ) → Option ℤ → Result ℕ Flaw
+abbrev pub number_up_to : (most : ℕ) → Option ℤ → Result ℕ RecordingFlaw
 number_up_to most None = Err flaw.Form
 number_up_to most (Some (pos n)) = if nat_le 1 n && nat_le n most then Ok n else Err flaw.Range
 number_up_to most (Some (negsuc n)) = Err flaw.Range
@@ -160,30 +160,30 @@ abbrev pub act_in : List ℕ → Option Act
 act_in [] = None
 act_in (b ∷ bs) = act_by (cut bs)
 
-abbrev pub given_act : Result ℕ Flaw → Option Act → Result Given Flaw
+abbrev pub given_act : Result ℕ RecordingFlaw → Option Act → Result Given RecordingFlaw
 given_act (Err f) a = Err f
 given_act (Ok p) None = Err flaw.Form
 given_act (Ok p) (Some a) = Ok (given.Act p a)
 
-abbrev pub run_in : (processors : ℕ) → List ℕ → Result Given Flaw
+abbrev pub run_in : (processors : ℕ) → List ℕ → Result Given RecordingFlaw
 run_in processors [] = Err flaw.Form
 run_in processors (b ∷ bs) =
     given_act (number_up_to processors (number_of (cut bs).word)) (act_in (cut bs).rest)
 
-abbrev pub given_int : Result ℕ Flaw → Result Given Flaw
+abbrev pub given_int : Result ℕ RecordingFlaw → Result Given RecordingFlaw
 given_int (Err f) = Err f
 given_int (Ok i) = Ok (given.Int i)
 
-abbrev pub int_in : List ℕ → Result Given Flaw
+abbrev pub int_in : List ℕ → Result Given RecordingFlaw
 int_in [] = Err flaw.Form
 int_in (b ∷ bs) = given_int (number_up_to 32 (number_of bs))
 
-abbrev pub tick_in : List ℕ → Result Given Flaw
+abbrev pub tick_in : List ℕ → Result Given RecordingFlaw
 tick_in [] = Ok given.Tick
 tick_in (b ∷ bs) = Err flaw.Form
 
 -- what comes, from its word and what stands behind
-abbrev pub given_by : (processors : ℕ) → Cut → Result Given Flaw
+abbrev pub given_by : (processors : ℕ) → Cut → Result Given RecordingFlaw
 given_by processors c =
     if bytes_eq c.word (codes "run") then run_in processors c.rest
     else if bytes_eq c.word (codes "int") then int_in c.rest
@@ -192,7 +192,7 @@ given_by processors c =
 
 -- what a text says that comes: `run P CALL A ..` with all arguments of the call, `run P end`, `run P fault F_OVF`,
 -- `F_DIV` or `F_IDX`, with P from 1 to the number of processors; `tick`; `int I` with I from 1 to 32
-abbrev pub given_in : (processors : ℕ) → List ℕ → Result Given Flaw
+abbrev pub given_in : (processors : ℕ) → List ℕ → Result Given RecordingFlaw
 given_in processors text = given_by processors (cut text)
 
 abbrev pub behind_blank : (line : List ℕ) → (at_sign : Option ℕ) → Option ℕ
@@ -204,11 +204,11 @@ abbrev pub time_place : List ℕ → Option ℕ
 time_place line = behind_blank line (position (λ b. nat_eq b 64) line)
 
 -- a time, in microseconds: from 0 to 2^53
-abbrev pub time_number : Option ℕ → Result ℕ Flaw
+abbrev pub time_number : Option ℕ → Result ℕ RecordingFlaw
 time_number None = Err flaw.Form
 time_number (Some n) = if nat_le n (2 ^ 53) then Ok n else Err flaw.Range
 
-abbrev pub some_time : Result ℕ Flaw → Result (Option ℕ) Flaw
+abbrev pub some_time : Result ℕ RecordingFlaw → Result (Option ℕ) RecordingFlaw
 some_time (Err f) = Err f
 some_time (Ok n) = Ok (Some n)
 
@@ -218,35 +218,35 @@ said_before None line = line
 said_before (Some k) line = take k line
 
 -- its time, if it has one
-abbrev pub time_behind : (place : Option ℕ) → List ℕ → Result (Option ℕ) Flaw
+abbrev pub time_behind : (place : Option ℕ) → List ℕ → Result (Option ℕ) RecordingFlaw
 time_behind None line = Ok None
 time_behind (Some k) line = some_time (time_number (numeral_value (drop (k + 2) line)))
 
-abbrev pub with_time : Result Given Flaw → Result (Option ℕ) Flaw → Result Given Flaw
+abbrev pub with_time : Result Given RecordingFlaw → Result (Option ℕ) RecordingFlaw → Result Given RecordingFlaw
 with_time (Err f) time = Err f
 with_time (Ok g) (Err f) = Err f
 with_time (Ok g) (Ok time) = Ok g
 
 -- What a line without its line feed says: what comes, and maybe ` @N` behind it, where N says when it came, in
 -- microseconds since the start. Of two flaws it has that of what comes.
-abbrev pub line_meaning : (processors : ℕ) → List ℕ → Result Given Flaw
+abbrev pub line_meaning : (processors : ℕ) → List ℕ → Result Given RecordingFlaw
 line_meaning processors line =
     with_time (given_in processors (said_before (time_place line) line)) (time_behind (time_place line) line)
 
 abbrev pub is_restart : List ℕ → Bool
 is_restart line = bytes_eq line restart_text
 
-abbrev pub came_by : Result Given Flaw → Result RecordedLine Flaw
+abbrev pub came_by : Result Given RecordingFlaw → Result RecordedLine RecordingFlaw
 came_by (Err f) = Err f
 came_by (Ok g) = Ok (recorded.Came g)
 
 -- What a line of a recording says: `restart` and no more, that the counts began again; any other, what comes and maybe
 -- when.
-abbrev pub recorded_in : (processors : ℕ) → List ℕ → Result RecordedLine Flaw
+abbrev pub recorded_in : (processors : ℕ) → List ℕ → Result RecordedLine RecordingFlaw
 recorded_in processors line =
     if is_restart line then Ok recorded.Restart else came_by (line_meaning processors line)
 
-abbrev pub time_or_none : Result (Option ℕ) Flaw → Option ℕ
+abbrev pub time_or_none : Result (Option ℕ) RecordingFlaw → Option ℕ
 time_or_none (Err f) = None
 time_or_none (Ok time) = time
 
@@ -265,7 +265,7 @@ abbrev pub times_of : List ℕ → List (Option ℕ)
 times_of text = line_times (lines_of text)
 
 -- a flaw of line n
-abbrev pub fault_at : ℕ → Result RecordedLine Flaw → Result RecordedLine RecordingFault
+abbrev pub fault_at : ℕ → Result RecordedLine RecordingFlaw → Result RecordedLine RecordingFault
 fault_at n (Ok r) = Ok r
 fault_at n (Err flaw.Form) = Err (fault.Line n)
 fault_at n (Err flaw.Range) = Err (fault.Range n)

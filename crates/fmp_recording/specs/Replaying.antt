@@ -8,9 +8,9 @@ use Rattle.fmp_base.specs.Systems.{SystemTables, tables_of}
 use Rattle.fmp_base.specs.Steps.{Reaction, Nothing, Did, Kept}
 use Rattle.fmp_base.specs.Texts.{events_text, lines_text, states_text, trace_text}
 use Rattle.fmp_cfgparse.specs.Configurations.{Describes, IsRead}
-use Rattle.fmp_foreign.specs.declared.foreign.Told.{Told}
-use Rattle.fmp_foreign.specs.declared.foreign.Told.TheVariants as told
-use Rattle.fmp_foreign.specs.declared.hosted.Hosted.{Hosted}
+use Rattle.fmp_foreign.specs.declared.foreign.LastTold.{LastTold}
+use Rattle.fmp_foreign.specs.declared.foreign.LastTold.TheVariants as told
+use Rattle.fmp_foreign.specs.declared.hosted.HostedSystem.{HostedSystem}
 use Rattle.fmp_foreign.specs.declared.requests.Refusal.{Refusal}
 use Rattle.fmp_foreign.specs.Foreign.{foreign_meaning}
 use Rattle.fmp_foreign.specs.Hosting.{ForeignKernel, reaction, refused, restarted}
@@ -28,7 +28,7 @@ use Rattle.fmp_recording.specs.RecordingLaws.{IsRecorded, IsRecordedLine}
 use Rattle.fmp_recording.specs.Recordings.{IsFaultOf, came_lines, recorded_lines_text, recorded_of, recording_text}
 
 -- the run of a kernel over what comes to it
-abbrev pub run_of : ForeignKernel → List Given → Trace Told
+abbrev pub run_of : ForeignKernel → List Given → Trace LastTold
 run_of k gs = outside_run k.system (foreign_meaning k.body) k.bound (told.Starts (pos 0)) k.world gs
 
 -- the text of the lines of its events, numbered on
@@ -45,13 +45,13 @@ refusal_in k [] = None
 refusal_in k (g ∷ gs) = or_else (refused k g) (refusal_in (view_after k (reaction k g)) gs)
 
 -- what an event adds to a text
-abbrev pub added_by : ForeignKernel → Reaction Told → List ℕ
+abbrev pub added_by : ForeignKernel → Reaction LastTold → List ℕ
 added_by k Nothing = []
 added_by k (Did d) = lines_text k.system (k.done + 1) d.lines
 added_by k (Kept p w) = []
 
 -- a kernel has taken what came, and the lines of its event are written
-pub record HasTaken (old new : Hosted) (g : Given) (before after : List ℕ) : Type 0 where
+pub record HasTaken (old new : HostedSystem) (g : Given) (before after : List ℕ) : Type 0 where
   pub taken : refused old.kernel g ≡ None
   pub kernel : new.kernel ≡ view_after old.kernel (reaction old.kernel g)
   pub system : new.system ≡ old.system
@@ -66,7 +66,7 @@ IsWhyNotTaken k g fault.Memory = Unit {0}
 
 -- a kernel has taken all that was recorded: the lines of the recorded run are written, and it stands where that run
 -- ends
-pub record HasReplayed (old new : Hosted) (gs : List Given) (before after : List ℕ) : Type 0 where
+pub record HasReplayed (old new : HostedSystem) (gs : List Given) (before after : List ℕ) : Type 0 where
   pub taken : refusal_in old.kernel gs ≡ None
   pub text : after ≡ before ++ text_of old.kernel gs
   pub world : new.kernel.world ≡ (run_of old.kernel gs).world
@@ -99,7 +99,7 @@ first_refusal k (recorded.Came g ∷ rs) = or_else (refused k g) (first_refusal 
 first_refusal k (recorded.Restart ∷ rs) = first_refusal (counts_restarted k) rs
 
 -- a kernel has done what a line says
-abbrev pub HasDone : (old new : Hosted) → RecordedLine → (before after : List ℕ) → Type 0
+abbrev pub HasDone : (old new : HostedSystem) → RecordedLine → (before after : List ℕ) → Type 0
 HasDone old new (recorded.Came g) before after = HasTaken old new g before after
 HasDone old new recorded.Restart before after = (new ≡ restarted old) × (after ≡ before)
 
@@ -108,7 +108,7 @@ IsWhyNotDone k (recorded.Came g) why = IsWhyNotTaken k g why
 IsWhyNotDone k recorded.Restart why = ⊥
 
 -- a kernel has done what all lines say: the lines of its events are written
-pub record HasDoneAll (old new : Hosted) (rs : List RecordedLine) (before after : List ℕ) : Type 0 where
+pub record HasDoneAll (old new : HostedSystem) (rs : List RecordedLine) (before after : List ℕ) : Type 0 where
   pub taken : first_refusal old.kernel rs ≡ None
   pub text : after ≡ before ++ text_after old.kernel rs
   pub kernel : new.kernel ≡ kernel_after old.kernel rs

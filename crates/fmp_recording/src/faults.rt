@@ -20,7 +20,7 @@ pub enum RecordingFault {
 
 /// What is wrong with a line.
 #[derive(Clone, Copy, Debug)]
-pub enum Flaw {
+pub enum RecordingFlaw {
     /// It is of no form.
     Form,
     /// Its number is out of range.

@@ -3,7 +3,7 @@ ghost use Rattle.std.specs.Prelude.{◌≡◌};
 ghost use Rattle.fmp_steps.specs.Steps.{digits_number, numeral_value};
 ghost use Rattle.fmp_recording.specs.Recordings.{capped, negative, number_of, number_up_to, positive, time_number};
 
-use crate::faults::Flaw;
+use crate::faults::RecordingFlaw;
 
 /// The latest time, in microseconds since the start.
 const LATEST: u64 = 1 << 53;
@@ -76,7 +76,7 @@ pub fn number_in(text: &[u8]) -> Option<i32>
 }
 
 /// The number from 1 to `most` that a text is.
-pub fn ranged_in(text: &[u8], most: u8) -> Result<u8, Flaw>
+pub fn ranged_in(text: &[u8], most: u8) -> Result<u8, RecordingFlaw>
     ensures { result ≡ number_up_to most (number_of text.now) }
 {
     match number_in(text) {
@@ -84,15 +84,15 @@ pub fn ranged_in(text: &[u8], most: u8) -> Result<u8, Flaw>
             if number >= 1 && number <= i32::from(most) {
                 Ok(number as u8)
             } else {
-                Err(Flaw::Range)
+                Err(RecordingFlaw::Range)
             }
         }
-        None => Err(Flaw::Form),
+        None => Err(RecordingFlaw::Form),
     }
 }
 
 /// The time that a text is, in microseconds.
-pub fn time_in(text: &[u8]) -> Result<u64, Flaw>
+pub fn time_in(text: &[u8]) -> Result<u64, RecordingFlaw>
     ensures { result ≡ time_number (numeral_value text.now) }
 {
     match numeral_in(text) {
@@ -100,9 +100,9 @@ pub fn time_in(text: &[u8]) -> Result<u64, Flaw>
             if number <= LATEST {
                 Ok(number)
             } else {
-                Err(Flaw::Range)
+                Err(RecordingFlaw::Range)
             }
         }
-        None => Err(Flaw::Form),
+        None => Err(RecordingFlaw::Form),
     }
 }

@@ -5,7 +5,7 @@ ghost use Rattle.fmp_base.specs.Words.{service_named};
 ghost use Rattle.fmp_recording.specs.Recordings.{IsFaultOf, act_in as spec_act, arguments_in, call_in as spec_call, came, end_in as spec_end, fault_in as spec_fault, fault_named, given_in as spec_given, in_front_of, int_in as spec_int, is_restart as spec_restart, line_meaning, line_times, recorded_at as spec_at, recorded_in as spec_recorded, recorded_of, recording_of, run_in as spec_run, tick_in as spec_tick, times_of};
 
 use crate::cutting::{first_line, first_word};
-use crate::faults::{Flaw, RecordingFault};
+use crate::faults::{RecordingFault, RecordingFlaw};
 use crate::numbers::{number_in, ranged_in};
 use crate::recorded::RecordedLine;
 use crate::timing::{time_of, time_or_none, without_time};
@@ -119,43 +119,43 @@ fn act_in(rest: &[u8]) -> Option<Act>
 }
 
 /// What stands behind `run`.
-fn run_in(processors: u8, rest: &[u8]) -> Result<Given, Flaw>
+fn run_in(processors: u8, rest: &[u8]) -> Result<Given, RecordingFlaw>
     ensures { result ≡ spec_run processors rest.now }
 {
     let [_, text @ ..] = rest else {
-        return Err(Flaw::Form);
+        return Err(RecordingFlaw::Form);
     };
     let (word, rest) = first_word(text);
     let p = ranged_in(word, processors)?;
     match act_in(rest) {
         Some(act) => Ok(Given::Act(p, act)),
-        None => Err(Flaw::Form),
+        None => Err(RecordingFlaw::Form),
     }
 }
 
 /// What stands behind `int`.
-fn int_in(rest: &[u8]) -> Result<Given, Flaw>
+fn int_in(rest: &[u8]) -> Result<Given, RecordingFlaw>
     ensures { result ≡ spec_int rest.now }
 {
     let [_, word @ ..] = rest else {
-        return Err(Flaw::Form);
+        return Err(RecordingFlaw::Form);
     };
     Ok(Given::Int(ranged_in(word, INTERRUPTS)?))
 }
 
 /// A tick, if nothing stands behind it.
-fn tick_in(rest: &[u8]) -> Result<Given, Flaw>
+fn tick_in(rest: &[u8]) -> Result<Given, RecordingFlaw>
     ensures { result ≡ spec_tick rest.now }
 {
     if rest.is_empty() {
         Ok(Given::Tick)
     } else {
-        Err(Flaw::Form)
+        Err(RecordingFlaw::Form)
     }
 }
 
 /// What a text says that comes.
-fn given_in(text: &[u8], processors: u8) -> Result<Given, Flaw>
+fn given_in(text: &[u8], processors: u8) -> Result<Given, RecordingFlaw>
     ensures { result ≡ spec_given processors text.now }
 {
     let (word, rest) = first_word(text);
@@ -163,12 +163,12 @@ fn given_in(text: &[u8], processors: u8) -> Result<Given, Flaw>
         b"run" => run_in(processors, rest),
         b"int" => int_in(rest),
         b"tick" => tick_in(rest),
-        _ => Err(Flaw::Form),
+        _ => Err(RecordingFlaw::Form),
     }
 }
 
 /// What a line says: what comes, and maybe when it came.
-fn said_in(line: &[u8], processors: u8) -> Result<Given, Flaw>
+fn said_in(line: &[u8], processors: u8) -> Result<Given, RecordingFlaw>
     ensures { result ≡ line_meaning processors line.now }
 {
     let given = given_in(without_time(line), processors)?;
@@ -186,7 +186,7 @@ fn is_restart(line: &[u8]) -> bool
 }
 
 /// What a line of a recording says.
-fn recorded_in(line: &[u8], processors: u8) -> Result<RecordedLine, Flaw>
+fn recorded_in(line: &[u8], processors: u8) -> Result<RecordedLine, RecordingFlaw>
     ensures { result ≡ spec_recorded processors line.now }
 {
     if is_restart(line) {
@@ -207,8 +207,8 @@ fn recorded_at(line: &[u8], number: u32, processors: u8) -> Result<RecordedLine,
     }
     match recorded_in(line, processors) {
         Ok(recorded) => Ok(recorded),
-        Err(Flaw::Form) => Err(RecordingFault::Line { line: number }),
-        Err(Flaw::Range) => Err(RecordingFault::Range { line: number }),
+        Err(RecordingFlaw::Form) => Err(RecordingFault::Line { line: number }),
+        Err(RecordingFlaw::Range) => Err(RecordingFault::Range { line: number }),
     }
 }
 

@@ -10,7 +10,7 @@ use crate::faults::RecordingFault;
 use crate::reading::read_lines;
 use crate::recorded::RecordedLine;
 use fmp_base::{Effect, TaskState};
-use fmp_foreign::{Foreign, Hosted, Refusal};
+use fmp_foreign::{Foreign, HostedSystem, Refusal};
 use fmp_kernel::Kernel;
 use fmp_lex::BuildFault;
 use fmp_outside::Given;
@@ -38,7 +38,7 @@ pub enum ReplayFault {
 
 /// Takes what comes, and appends the lines of the event if it is done.
 #[tactic(auto, using(crate::proofs::Replays::taken_done, crate::proofs::Replays::taken_kept, crate::proofs::Replays::taken_nothing, crate::proofs::Replays::not_taken))]
-fn take_one(hosted: &mut Hosted, given: Given, trace: &mut Vec<u8>) -> Result<(), ReplayFault>
+fn take_one(hosted: &mut HostedSystem, given: Given, trace: &mut Vec<u8>) -> Result<(), ReplayFault>
     requires { hosted.old.kernel.system ≡ tables_of hosted.old.system }
     ensures ok { OnOk result (HasTaken hosted.old hosted.new given trace.old.items trace.new.items) }
     ensures err { IfErr result (IsWhyNotTaken hosted.old.kernel given) }
@@ -64,7 +64,7 @@ fn take_one(hosted: &mut Hosted, given: Given, trace: &mut Vec<u8>) -> Result<()
 /// Takes what was recorded, one after the other, and appends the lines of each event that is done. It stops at the
 /// first that is refused, and where memory runs out: the text then has an unfinished end.
 pub fn replay(
-    hosted: &mut Hosted,
+    hosted: &mut HostedSystem,
     recording: &[Given],
     trace: &mut Vec<u8>,
 ) -> Result<(), ReplayFault>
@@ -79,7 +79,11 @@ pub fn replay(
 }
 
 /// Does what a line says, and appends the lines of the event if one is done.
-fn do_line(hosted: &mut Hosted, line: RecordedLine, trace: &mut Vec<u8>) -> Result<(), ReplayFault>
+fn do_line(
+    hosted: &mut HostedSystem,
+    line: RecordedLine,
+    trace: &mut Vec<u8>,
+) -> Result<(), ReplayFault>
     requires { hosted.old.kernel.system ≡ tables_of hosted.old.system }
     ensures ok { OnOk result (HasDone hosted.old hosted.new line trace.old.items trace.new.items) }
     ensures err { IfErr result (IsWhyNotDone hosted.old.kernel line) }
@@ -97,7 +101,7 @@ fn do_line(hosted: &mut Hosted, line: RecordedLine, trace: &mut Vec<u8>) -> Resu
 /// they did. It appends the lines of each event that is done. It stops at the first that is refused, and where memory
 /// runs out: the text then has an unfinished end.
 pub fn replay_lines(
-    hosted: &mut Hosted,
+    hosted: &mut HostedSystem,
     lines: &[RecordedLine],
     trace: &mut Vec<u8>,
 ) -> Result<(), ReplayFault>
@@ -125,7 +129,11 @@ fn states_of(alloc: Global, kernel: &Kernel<Foreign>) -> Result<Vec<TaskState>, 
 }
 
 /// Appends the states of all tasks.
-fn append_states(alloc: Global, hosted: &Hosted, trace: &mut Vec<u8>) -> Result<(), AllocError>
+fn append_states(
+    alloc: Global,
+    hosted: &HostedSystem,
+    trace: &mut Vec<u8>,
+) -> Result<(), AllocError>
     requires { hosted.now.kernel.system ≡ tables_of hosted.now.system }
     ensures ok { OnOk result (trace.new.items
         ≡ trace.old.items ++ states_text (tables_of hosted.now.system) hosted.now.kernel.world.state) }
@@ -137,7 +145,7 @@ fn append_states(alloc: Global, hosted: &Hosted, trace: &mut Vec<u8>) -> Result<
 /// Reads a recording, and does what its lines say, up to the states at the end.
 fn replay_text(
     alloc: Global,
-    hosted: &mut Hosted,
+    hosted: &mut HostedSystem,
     recording: &[u8],
     trace: &mut Vec<u8>,
 ) -> Result<(), ReplayFault>
@@ -171,7 +179,7 @@ pub fn replay_recording(
     ensures ok { OnOk result (IsReplay cfg.now recording.now trace.old.items trace.new.items) }
     ensures err { IfErr result (IsReplayFault cfg.now recording.now) }
 {
-    match Hosted::new(alloc, cfg) {
+    match HostedSystem::new(alloc, cfg) {
         Ok(mut hosted) => {
             let replayed = replay_text(alloc, &mut hosted, recording, trace);
             drop(hosted);

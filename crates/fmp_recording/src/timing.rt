@@ -2,7 +2,7 @@
 ghost use Rattle.std.specs.Prelude.{◌≡◌, ◌+◌, ◌≤◌, IfSome, length, nat_eq, position};
 ghost use Rattle.fmp_recording.specs.Recordings.{line_time, said_before, time_behind, time_place as spec_place};
 
-use crate::faults::Flaw;
+use crate::faults::RecordingFlaw;
 use crate::numbers::time_in;
 
 fn at_sign_in(text: &[u8]) -> Option<usize>
@@ -39,7 +39,7 @@ pub fn without_time(line: &[u8]) -> &[u8]
 }
 
 /// The time of a line, if it has one.
-pub fn time_of(line: &[u8]) -> Result<Option<u64>, Flaw>
+pub fn time_of(line: &[u8]) -> Result<Option<u64>, RecordingFlaw>
     ensures { result ≡ time_behind (spec_place line.now) line.now }
 {
     match time_place(line) {

@@ -5,7 +5,7 @@ use std::alloc::Global;
 
 /// What the seats of a board are to do.
 #[derive(Clone, Copy)]
-pub struct Plan {
+pub struct SeatPlan {
     /// How many seats there are, 1 to 64.
     pub seats: u8,
     /// How many of them follow.
@@ -31,7 +31,7 @@ pub struct Plan {
 pub struct Asked<'a> {
     pub image: &'a str,
     pub journal: &'a str,
-    pub plan: Plan,
+    pub plan: SeatPlan,
     pub timed: bool,
 }
 
@@ -45,8 +45,8 @@ fn number_asked(words: &ArgMatches<'_>, id: &str) -> u32 {
     words.get_one::<u32>(id).unwrap_or(1)
 }
 
-fn plan_of(words: &ArgMatches<'_>) -> Plan {
-    Plan {
+fn plan_of(words: &ArgMatches<'_>) -> SeatPlan {
+    SeatPlan {
         seats: u8::try_from(number_asked(words, "seats")).unwrap_or(1),
         followers: u8::try_from(number_asked(words, "followers")).unwrap_or(0),
         share: number_asked(words, "share") as usize,

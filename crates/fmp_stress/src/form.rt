@@ -18,7 +18,7 @@ const EVENTS_MAX: u64 = 1_048_576;
 
 /// What an argument is.
 #[derive(Clone, Copy)]
-enum Kind {
+enum ArgumentKind {
     /// A word that has to be there.
     Word,
     /// An option without a value.
@@ -28,60 +28,68 @@ enum Kind {
 }
 
 /// An argument: its name, what it is, and what help says of it.
-struct Argument(&'static str, Kind, &'static str);
+struct Argument(&'static str, ArgumentKind, &'static str);
 
 /// The arguments in the order in which help lists them.
 static ARGUMENTS: [Argument; 12] = [
-    Argument("IMAGE", Kind::Word, "Image that 'fmp build' has written"),
-    Argument("JOURNAL", Kind::Word, "File that the journal is written to"),
+    Argument(
+        "IMAGE",
+        ArgumentKind::Word,
+        "Image that 'fmp build' has written",
+    ),
+    Argument(
+        "JOURNAL",
+        ArgumentKind::Word,
+        "File that the journal is written to",
+    ),
     Argument(
         "seats",
-        Kind::Number(1, 64, "8"),
+        ArgumentKind::Number(1, 64, "8"),
         "How many seats the board has; the last one reads the finished row",
     ),
     Argument(
         "followers",
-        Kind::Number(0, 63, "0"),
+        ArgumentKind::Number(0, 63, "0"),
         "How many of them follow while the others call",
     ),
     Argument(
         "share",
-        Kind::Number(1, 64, "1"),
+        ArgumentKind::Number(1, 64, "1"),
         "How many seats a thread has; two of them meet now and then",
     ),
     Argument(
         "turns",
-        Kind::Number(1, EVENTS_MAX, "100"),
+        ArgumentKind::Number(1, EVENTS_MAX, "100"),
         "How many turns a seat has",
     ),
     Argument(
         "ticks",
-        Kind::Number(0, EVENTS_MAX, "0"),
+        ArgumentKind::Number(0, EVENTS_MAX, "0"),
         "How many ticks the first seat that calls feeds, one a turn at most",
     ),
     Argument(
         "capacity",
-        Kind::Number(1, EVENTS_MAX, "1048576"),
+        ArgumentKind::Number(1, EVENTS_MAX, "1048576"),
         "How many events the journal has room for",
     ),
     Argument(
         "bound",
-        Kind::Number(1, BOUND_MAX, "100000"),
+        ArgumentKind::Number(1, BOUND_MAX, "100000"),
         "How many instructions a stretch may take",
     ),
     Argument(
         "seed",
-        Kind::Number(0, u64::MAX, "1"),
+        ArgumentKind::Number(0, u64::MAX, "1"),
         "What the turns are drawn by",
     ),
     Argument(
         "own",
-        Kind::Flag,
+        ArgumentKind::Flag,
         "Each seat takes tickets of one processor, by its number, and does nothing else",
     ),
     Argument(
         "time",
-        Kind::Flag,
+        ArgumentKind::Flag,
         "Print how long the calls and the last reads took",
     ),
 ];
@@ -91,9 +99,9 @@ fn argument_of<'a>(alloc: Global, argument: &Argument) -> Arg<'a> {
     let Argument(id, kind, help) = *argument;
     let made = Arg::new(alloc, id).help(help);
     match kind {
-        Kind::Word => made.required(true),
-        Kind::Flag => made.long(id).action(ArgAction::SetTrue),
-        Kind::Number(low, high, default) => made
+        ArgumentKind::Word => made.required(true),
+        ArgumentKind::Flag => made.long(id).action(ArgAction::SetTrue),
+        ArgumentKind::Number(low, high, default) => made
             .long(id)
             .value_name("N")
             .value_parser(ValueParser::unsigned(low, high))

@@ -2,10 +2,10 @@
 ghost use Rattle.std.specs.Prelude.{◌≡◌, ◌<◌, All, IfOk, length};
 ghost use Rattle.fmp_board.specs.Boards.{IsAt, blank as blank_of};
 
-use crate::asking::Plan;
+use crate::asking::SeatPlan;
 use crate::exit::StressExit;
-use crate::place::{Answers, Place, Record};
-use crate::threads::{Party, Team, Times, Worked, run};
+use crate::place::{SeatAnswers, SeatCalls, SeatRecord};
+use crate::threads::{Party, SeatWork, Team, Times, run};
 use fmp_base::Event;
 use fmp_files::Failure;
 use fmp_hostrun::{Blank, Board, BoardFault, Closed, Seat, Site};
@@ -18,13 +18,13 @@ use std::time::Clock;
 
 /// What came of a board.
 #[derive(Drop)]
-pub struct Hosted {
+pub struct HostedBoard {
     /// The journal.
     pub journal: Vec<Event>,
     /// What the seats of each team did, first of those that followed.
-    pub teams: Vec<Vec<Record>>,
+    pub teams: Vec<Vec<SeatRecord>>,
     /// The answers to all calls, by count.
-    pub answers: Answers,
+    pub answers: SeatAnswers,
     /// How many seats there were.
     pub seats: u32,
     /// How many of them read anything but the journal.
@@ -34,7 +34,7 @@ pub struct Hosted {
 }
 
 /// The last of the seats of a board, of which there is one.
-fn last_of<S: Site>(alloc: Global, seats: &mut Vec<Seat>) -> Place<S>
+fn last_of<S: Site>(alloc: Global, seats: &mut Vec<Seat>) -> SeatCalls<S>
     requires at { All (IsAt S.row_id) seats.old.items }
     requires some { 0 < length seats.old.items }
     ensures { All (IsAt S.row_id) seats.new.items }
@@ -42,14 +42,14 @@ fn last_of<S: Site>(alloc: Global, seats: &mut Vec<Seat>) -> Place<S>
     let Some(seat) = seats.pop() else {
         unreachable!()
     };
-    Place::new(alloc, seat)
+    SeatCalls::new(alloc, seat)
 }
 
 /// A new team of a seat. It is dropped if there is no memory for it.
 fn push_team<S: Site>(
     alloc: Global,
     teams: &mut Vec<Team<S>>,
-    place: Place<S>,
+    place: SeatCalls<S>,
     caller: Option<usize>,
 ) {
     let mut places = Vec::new(alloc);
@@ -62,7 +62,7 @@ fn push_team<S: Site>(
 }
 
 /// Gives a seat to its team: the first ones follow, each by itself, and the others call, a fixed number in a team.
-fn seat_in<S: Site>(alloc: Global, teams: &mut Vec<Team<S>>, place: Place<S>, plan: &Plan) {
+fn seat_in<S: Site>(alloc: Global, teams: &mut Vec<Team<S>>, place: SeatCalls<S>, plan: &SeatPlan) {
     let number = place.number();
     if number < plan.followers {
         push_team(alloc, teams, place, None);
@@ -77,33 +77,33 @@ fn seat_in<S: Site>(alloc: Global, teams: &mut Vec<Team<S>>, place: Place<S>, pl
 }
 
 /// All seats of a board, in their teams but for the last one.
-fn party_of<S: Site>(alloc: Global, mut seats: Vec<Seat>, plan: &Plan) -> Party<S>
+fn party_of<S: Site>(alloc: Global, mut seats: Vec<Seat>, plan: &SeatPlan) -> Party<S>
     requires at { All (IsAt S.row_id) seats.items }
     requires some { 0 < length seats.items }
 {
     let last = last_of::<S>(alloc, &mut seats);
     let mut teams = Vec::new(alloc);
     for seat in seats {
-        seat_in(alloc, &mut teams, Place::new(alloc, seat), plan);
+        seat_in(alloc, &mut teams, SeatCalls::new(alloc, seat), plan);
     }
     Party { teams, last }
 }
 
 /// What seats did.
 #[derive(Drop)]
-struct Ended {
-    records: Vec<Vec<Record>>,
-    last: Record,
+struct SeatsDone {
+    records: Vec<Vec<SeatRecord>>,
+    last: SeatRecord,
     times: Times,
 }
 
-fn ended_of<S: Site>(worked: Worked<S>) -> Result<Ended, AllocError> {
-    let Worked {
+fn ended_of<S: Site>(worked: SeatWork<S>) -> Result<SeatsDone, AllocError> {
+    let SeatWork {
         records,
         last,
         times,
     } = worked;
-    Ok(Ended {
+    Ok(SeatsDone {
         records: records?,
         last: last.record(),
         times,
@@ -116,8 +116,8 @@ fn opened<'a, S: Site + Send + Sync, R: Threads + Wait + Clock + Sync>(
     alloc: Global,
     blank: Blank<'a>,
     seats: Vec<Seat>,
-    plan: &Plan,
-) -> (Result<Ended, AllocError>, Closed<'a>)
+    plan: &SeatPlan,
+) -> (Result<SeatsDone, AllocError>, Closed<'a>)
     requires blank { blank ≡ blank_of S.image S.bound S.row_id }
     requires seats { All (IsAt S.row_id) seats.items }
     requires some { 0 < length seats.items }
@@ -138,9 +138,9 @@ fn journal_of(alloc: Global, closed: &Closed<'_>) -> Result<Vec<Event>, AllocErr
     Ok(events)
 }
 
-impl Hosted {
+impl HostedBoard {
     /// Counts what a seat did.
-    fn count(&mut self, record: &Record) {
+    fn count(&mut self, record: &SeatRecord) {
         self.seats = self.seats.saturating_add(1);
         self.answers = self.answers.with(record.answers);
         if record.followed.as_slice() != self.journal.as_slice() {
@@ -149,7 +149,7 @@ impl Hosted {
     }
 
     /// Counts what the seats of a team did.
-    fn count_team(&mut self, team: &[Record]) {
+    fn count_team(&mut self, team: &[SeatRecord]) {
         for record in team {
             self.count(record);
         }
@@ -159,14 +159,14 @@ impl Hosted {
 /// What came of a board whose seats did this.
 fn judged(
     alloc: Global,
-    ended: Result<Ended, AllocError>,
+    ended: Result<SeatsDone, AllocError>,
     closed: &Closed<'_>,
-) -> Result<Hosted, AllocError> {
+) -> Result<HostedBoard, AllocError> {
     let ended = ended?;
-    let mut hosted = Hosted {
+    let mut hosted = HostedBoard {
         journal: journal_of(alloc, closed)?,
         teams: Vec::new(alloc),
-        answers: Answers::none(),
+        answers: SeatAnswers::none(),
         seats: 0,
         differing: 0,
         times: ended.times,
@@ -182,9 +182,9 @@ fn judged(
 /// The same, of a board that is given up.
 fn judged_at_end(
     alloc: Global,
-    ended: Result<Ended, AllocError>,
+    ended: Result<SeatsDone, AllocError>,
     closed: Closed<'_>,
-) -> Result<Hosted, AllocError> {
+) -> Result<HostedBoard, AllocError> {
     let hosted = judged(alloc, ended, &closed);
     drop(closed);
     hosted
@@ -210,8 +210,8 @@ fn run_board<R: Threads + Wait + Clock + Sync>(
     rt: &R,
     alloc: Global,
     image: &Image,
-    plan: &Plan,
-) -> Result<Result<Hosted, AllocError>, BoardFault> {
+    plan: &SeatPlan,
+) -> Result<Result<HostedBoard, AllocError>, BoardFault> {
     let (blank, seats) = board_of(alloc, image, plan.bound, plan.capacity, plan.seats)?;
     let (ended, closed) = opened::<Brand, R>(rt, alloc, blank, seats, plan);
     Ok(judged_at_end(alloc, ended, closed))
@@ -222,8 +222,8 @@ pub fn host<R: Threads + Wait + Clock + Sync>(
     rt: &R,
     alloc: Global,
     image: &Image,
-    plan: &Plan,
-) -> Result<Hosted, StressExit> {
+    plan: &SeatPlan,
+) -> Result<HostedBoard, StressExit> {
     match run_board(rt, alloc, image, plan) {
         Ok(Ok(hosted)) => Ok(hosted),
         Ok(Err(error)) => Err(StressExit::Failed(Failure::Memory(error))),

@@ -17,7 +17,7 @@ const MOST_TRIES: u32 = 1000;
 
 /// The answers to the calls of a seat, by count.
 #[derive(Clone, Copy)]
-pub struct Answers {
+pub struct SeatAnswers {
     /// Events that were journaled.
     pub journaled: u32,
     /// Events that did nothing.
@@ -34,10 +34,10 @@ pub struct Answers {
     pub lost: u32,
 }
 
-impl Answers {
+impl SeatAnswers {
     /// No answers yet.
-    pub fn none() -> Answers {
-        Answers {
+    pub fn none() -> SeatAnswers {
+        SeatAnswers {
             journaled: 0,
             nothing: 0,
             idle: 0,
@@ -49,8 +49,8 @@ impl Answers {
     }
 
     /// Both together.
-    pub fn with(self, more: Answers) -> Answers {
-        Answers {
+    pub fn with(self, more: SeatAnswers) -> SeatAnswers {
+        SeatAnswers {
             journaled: self.journaled.saturating_add(more.journaled),
             nothing: self.nothing.saturating_add(more.nothing),
             idle: self.idle.saturating_add(more.idle),
@@ -75,23 +75,23 @@ impl Answers {
 
 /// What a seat did.
 #[derive(Drop)]
-pub struct Record {
+pub struct SeatRecord {
     /// The events that it followed.
     pub followed: Vec<Event>,
     /// What a follower printed of them, where it read by one.
     pub printed: Vec<u8>,
     /// The answers to its calls.
-    pub answers: Answers,
+    pub answers: SeatAnswers,
 }
 
 /// A seat of a board with what came of its calls.
 #[derive(Drop)]
-pub struct Place<S: Site> {
+pub struct SeatCalls<S: Site> {
     seat: Seat,
     /// How many events it has seen at least.
     seen: u32,
     followed: Vec<Event>,
-    answers: Answers,
+    answers: SeatAnswers,
     board: PhantomData<S>,
     ghost at: { IsAt S.row_id seat },
 }
@@ -160,13 +160,13 @@ fn pulled<S: Site>(
     follower: &mut Follower<'_, '_, S>,
     calling: &AtomicU64,
     mut printed: Vec<u8>,
-) -> Record {
+) -> SeatRecord {
     let mut followed = Vec::new(alloc);
-    let mut answers = Answers::none();
+    let mut answers = SeatAnswers::none();
     if pull_all(follower, calling, &mut followed, &mut printed).is_err() {
         answers.lost = 1;
     }
-    Record {
+    SeatRecord {
         followed,
         printed,
         answers,
@@ -179,7 +179,7 @@ fn printed<S: Site>(
     board: &Board<'_, S>,
     mut seat: Seat,
     calling: &AtomicU64,
-) -> Result<Record, AllocError>
+) -> Result<SeatRecord, AllocError>
     requires { IsAt S.row_id seat }
 {
     if seat.place() != 0 {
@@ -196,18 +196,18 @@ fn printed<S: Site>(
     }
 }
 
-impl<S: Site> Place<S> {
+impl<S: Site> SeatCalls<S> {
     ghost use Rattle.fmp_board.specs.Boards.{IsAt};
 
     /// A seat that made no call yet.
-    pub fn new(alloc: Global, seat: Seat) -> Place<S>
+    pub fn new(alloc: Global, seat: Seat) -> SeatCalls<S>
         requires { IsAt S.row_id seat }
     {
-        Place {
+        SeatCalls {
             seat,
             seen: 0,
             followed: Vec::new(alloc),
-            answers: Answers::none(),
+            answers: SeatAnswers::none(),
             board: PhantomData,
         }
     }
@@ -272,7 +272,7 @@ impl<S: Site> Place<S> {
     }
 
     /// Meets another seat.
-    pub fn meet<R: Wait>(&mut self, rt: &R, board: &Board<'_, S>, other: &mut Place<S>) {
+    pub fn meet<R: Wait>(&mut self, rt: &R, board: &Board<'_, S>, other: &mut SeatCalls<S>) {
         board.meet(rt, &mut self.seat, &mut other.seat);
         self.seen = self.seen.max(other.seen);
         other.seen = self.seen;
@@ -306,7 +306,7 @@ impl<S: Site> Place<S> {
     }
 
     /// Reads the row until no team is calling and it has no more events: what it did.
-    pub fn follow(mut self, board: &Board<'_, S>, calling: &AtomicU64) -> Record {
+    pub fn follow(mut self, board: &Board<'_, S>, calling: &AtomicU64) -> SeatRecord {
         for _ in 0..u64::MAX {
             let is_last = calling.load(Ordering::SeqCst) == 0;
             if self.read(board) {
@@ -322,14 +322,18 @@ impl<S: Site> Place<S> {
 
     /// Reads the row by a follower, which prints it, until no team is calling and it has no more events: what it did.
     /// The seat made no call yet.
-    pub fn print(self, board: &Board<'_, S>, calling: &AtomicU64) -> Result<Record, AllocError> {
+    pub fn print(
+        self,
+        board: &Board<'_, S>,
+        calling: &AtomicU64,
+    ) -> Result<SeatRecord, AllocError> {
         let alloc = *self.followed.allocator();
         printed(alloc, board, self.seat, calling)
     }
 
     /// What it did.
-    pub fn record(self) -> Record {
-        let Place {
+    pub fn record(self) -> SeatRecord {
+        let SeatCalls {
             seat: _,
             seen: _,
             followed,
@@ -337,7 +341,7 @@ impl<S: Site> Place<S> {
             board: _,
         } = self;
         let printed = Vec::new(*followed.allocator());
-        Record {
+        SeatRecord {
             followed,
             printed,
             answers,

@@ -1,8 +1,8 @@
 //! A run of the program, from the words of its command line to its status.
 use crate::asking::{Asked, asked_of};
 use crate::exit::StressExit;
-use crate::hosting::{Hosted, host};
-use crate::place::Record;
+use crate::hosting::{HostedBoard, host};
+use crate::place::SeatRecord;
 use fmp_base::Event;
 use fmp_files::{Failure, Outside, end, print, read_file, refuse, write_file};
 use fmp_image_bytes::{Image, load};
@@ -49,7 +49,7 @@ fn write_follower<O: Outside>(
     outside: &mut O,
     journal: &str,
     number: usize,
-    team: &[Record],
+    team: &[SeatRecord],
 ) -> Result<(), Failure> {
     let [record, ..] = team else {
         return Err(Failure::Memory(AllocError));
@@ -65,7 +65,7 @@ fn write_followed<O: Outside>(
     alloc: Global,
     outside: &mut O,
     journal: &str,
-    teams: &[Vec<Record>],
+    teams: &[Vec<SeatRecord>],
     followers: u8,
 ) -> Result<(), Failure> {
     for (place, team) in teams.iter().enumerate() {
@@ -79,12 +79,12 @@ fn write_followed<O: Outside>(
 
 /// What is printed of a board: a line for each count and, if asked for, how long it took.
 #[derive(Clone, Copy)]
-struct Summary<'a> {
-    hosted: &'a Hosted,
+struct BoardSummary<'a> {
+    hosted: &'a HostedBoard,
     timed: bool,
 }
 
-impl Summary<'_> {
+impl BoardSummary<'_> {
     /// Each count, by its name.
     fn counts(&self) -> [(&'static str, usize); 10] {
         let answers = self.hosted.answers;
@@ -103,7 +103,7 @@ impl Summary<'_> {
     }
 }
 
-impl fmt::Display for Summary<'_> {
+impl fmt::Display for BoardSummary<'_> {
     fn fmt<W: fmt::Write>(&self, f: &mut fmt::Formatter<W>) -> fmt::Result {
         for (name, count) in &self.counts() {
             write!(f, "{name} {count}\n")?;
@@ -122,12 +122,12 @@ fn write_all<O: Outside>(
     alloc: Global,
     outside: &mut O,
     asked: Asked<'_>,
-    hosted: &Hosted,
+    hosted: &HostedBoard,
 ) -> Result<String, Failure> {
     let journal = asked.journal;
     write_steps(alloc, outside, journal, &hosted.journal)?;
     write_followed(alloc, outside, journal, &hosted.teams, asked.plan.followers)?;
-    let summary = Summary {
+    let summary = BoardSummary {
         hosted,
         timed: asked.timed,
     };

@@ -1,6 +1,6 @@
 //! The threads that share a board.
-use crate::asking::Plan;
-use crate::place::{Place, Record};
+use crate::asking::SeatPlan;
+use crate::place::{SeatCalls, SeatRecord};
 use crate::turns::{call, call_alone};
 use fmp_hostrun::{Board, Site};
 use std::alloc::AllocError;
@@ -13,9 +13,9 @@ use std::time::Clock;
 /// Seats that share a thread.
 #[derive(Drop)]
 pub struct Team<S: Site> {
-    pub places: Vec<Place<S>>,
+    pub places: Vec<SeatCalls<S>>,
     /// What those did that are done.
-    pub records: Vec<Record>,
+    pub records: Vec<SeatRecord>,
     /// The place of the first one among all that call, or none if they follow.
     pub caller: Option<usize>,
 }
@@ -26,7 +26,7 @@ pub struct Party<S: Site> {
     /// Those that follow, and then those that call.
     pub teams: Vec<Team<S>>,
     /// The one that reads the finished row and closes the board. It calls only where no other one does.
-    pub last: Place<S>,
+    pub last: SeatCalls<S>,
 }
 
 /// How long a run took, in microseconds, or 0 if the clock cannot be read.
@@ -42,11 +42,11 @@ pub struct Times {
 
 /// What came of all seats of a board.
 #[derive(Drop)]
-pub struct Worked<S: Site> {
+pub struct SeatWork<S: Site> {
     /// What the teams did.
-    pub records: Result<Vec<Vec<Record>>, AllocError>,
+    pub records: Result<Vec<Vec<SeatRecord>>, AllocError>,
     /// The one that closes the board.
-    pub last: Place<S>,
+    pub last: SeatCalls<S>,
     /// How long it took.
     pub times: Times,
 }
@@ -67,9 +67,9 @@ impl<S: Site> Team<S> {
         self,
         rt: &R,
         board: &Board<'_, S>,
-        plan: &Plan,
+        plan: &SeatPlan,
         calling: &AtomicU64,
-    ) -> Vec<Record> {
+    ) -> Vec<SeatRecord> {
         let Team {
             mut places,
             mut records,
@@ -107,15 +107,15 @@ fn count_calling<S: Site>(teams: &[Team<S>]) -> u64 {
 fn work_all<S: Site + Send + Sync, R: Threads + Wait + Sync>(
     rt: &R,
     board: &Board<'_, S>,
-    plan: &Plan,
+    plan: &SeatPlan,
     teams: Vec<Team<S>>,
-) -> Result<Vec<Vec<Record>>, AllocError> {
+) -> Result<Vec<Vec<SeatRecord>>, AllocError> {
     let calling = AtomicU64::new(count_calling(&teams));
     let calling = &calling;
     thread::map_vec(
         rt,
         teams,
-        &|team: Team<S>| -> Vec<Record> { team.work(rt, board, plan, calling) },
+        &|team: Team<S>| -> Vec<SeatRecord> { team.work(rt, board, plan, calling) },
     )
 }
 
@@ -123,9 +123,9 @@ fn work_all<S: Site + Send + Sync, R: Threads + Wait + Sync>(
 pub fn run<S: Site + Send + Sync, R: Threads + Wait + Clock + Sync>(
     rt: &R,
     board: &Board<'_, S>,
-    plan: &Plan,
+    plan: &SeatPlan,
     party: Party<S>,
-) -> Worked<S> {
+) -> SeatWork<S> {
     let Party { teams, mut last } = party;
     let began = now(rt);
     if plan.seats == 1 {
@@ -140,7 +140,7 @@ pub fn run<S: Site + Send + Sync, R: Threads + Wait + Clock + Sync>(
         reads: now(rt).saturating_sub(called),
         read: last.read_count().saturating_sub(before),
     };
-    Worked {
+    SeatWork {
         records,
         last,
         times,

@@ -1,6 +1,6 @@
 //! What seats do in their turns.
-use crate::asking::Plan;
-use crate::place::Place;
+use crate::asking::SeatPlan;
+use crate::place::SeatCalls;
 use fmp_base::Event;
 use fmp_hostrun::{Board, Site};
 use rand_core::SeedableRng;
@@ -12,7 +12,7 @@ use std::sync::Wait;
 const MEETING: u32 = 4;
 
 /// What a seat does in a turn.
-enum Deed {
+enum SeatDeed {
     /// Runs this processor by a ticket.
     Run(u8),
     /// Runs this processor by a ticket, of which the outcome is submitted after this event.
@@ -34,7 +34,7 @@ struct Draws<'a, 'b, S: Site> {
 
 impl<'a, 'b, S: Site> Draws<'a, 'b, S> {
     /// The draws of the thread whose first seat has this place among those of all threads.
-    fn new(board: &'b Board<'a, S>, plan: &Plan, first: usize) -> Draws<'a, 'b, S> {
+    fn new(board: &'b Board<'a, S>, plan: &SeatPlan, first: usize) -> Draws<'a, 'b, S> {
         Draws {
             board,
             processors: board.processors(),
@@ -59,53 +59,53 @@ impl<'a, 'b, S: Site> Draws<'a, 'b, S> {
     }
 
     /// What the seat of this number does next.
-    fn deed(&mut self, number: u8) -> Deed {
+    fn deed(&mut self, number: u8) -> SeatDeed {
         if self.own {
-            return Deed::Run(self.processor(u32::from(number)));
+            return SeatDeed::Run(self.processor(u32::from(number)));
         }
         let word = self.random.next_word();
         let other = word / 16;
         match word % 16 {
-            0 => Deed::Feed(Event::Run(self.processor(other))),
-            1 => Deed::Feed(Event::Int(self.interrupt(other))),
-            2 => Deed::Read,
+            0 => SeatDeed::Feed(Event::Run(self.processor(other))),
+            1 => SeatDeed::Feed(Event::Int(self.interrupt(other))),
+            2 => SeatDeed::Read,
             3 => {
                 let event = Event::Run(self.processor(other / 64));
-                Deed::RunLate(self.processor(other), event)
+                SeatDeed::RunLate(self.processor(other), event)
             }
-            _ => Deed::Run(self.processor(other)),
+            _ => SeatDeed::Run(self.processor(other)),
         }
     }
 }
 
 /// One turn of a seat.
-fn take_turn<S: Site, R: Wait>(rt: &R, draws: &mut Draws<'_, '_, S>, place: &mut Place<S>) {
+fn take_turn<S: Site, R: Wait>(rt: &R, draws: &mut Draws<'_, '_, S>, place: &mut SeatCalls<S>) {
     match draws.deed(place.number()) {
-        Deed::Run(p) => place.run(rt, draws.board, p),
-        Deed::RunLate(p, event) => place.run_late(rt, draws.board, p, event),
-        Deed::Feed(event) => place.feed(rt, draws.board, event),
-        Deed::Read => {
+        SeatDeed::Run(p) => place.run(rt, draws.board, p),
+        SeatDeed::RunLate(p, event) => place.run_late(rt, draws.board, p, event),
+        SeatDeed::Feed(event) => place.feed(rt, draws.board, event),
+        SeatDeed::Read => {
             place.read(draws.board);
         }
     }
 }
 
 /// One turn of each seat.
-fn take_turns<S: Site, R: Wait>(rt: &R, draws: &mut Draws<'_, '_, S>, places: &mut [Place<S>]) {
+fn take_turns<S: Site, R: Wait>(rt: &R, draws: &mut Draws<'_, '_, S>, places: &mut [SeatCalls<S>]) {
     for place in places {
         take_turn(rt, draws, place);
     }
 }
 
 /// The first two seats meet.
-fn meet<S: Site, R: Wait>(rt: &R, board: &Board<'_, S>, places: &mut [Place<S>]) {
+fn meet<S: Site, R: Wait>(rt: &R, board: &Board<'_, S>, places: &mut [SeatCalls<S>]) {
     if let [one, other, ..] = places {
         one.meet(rt, board, other);
     }
 }
 
 /// The first seat feeds a tick.
-fn tick<S: Site, R: Wait>(rt: &R, board: &Board<'_, S>, places: &mut [Place<S>]) {
+fn tick<S: Site, R: Wait>(rt: &R, board: &Board<'_, S>, places: &mut [SeatCalls<S>]) {
     if let [one, ..] = places {
         one.feed(rt, board, Event::Tick);
     }
@@ -115,9 +115,9 @@ fn tick<S: Site, R: Wait>(rt: &R, board: &Board<'_, S>, places: &mut [Place<S>])
 pub fn call<S: Site, R: Wait>(
     rt: &R,
     board: &Board<'_, S>,
-    plan: &Plan,
+    plan: &SeatPlan,
     first: usize,
-    places: &mut [Place<S>],
+    places: &mut [SeatCalls<S>],
 ) {
     let mut draws = Draws::new(board, plan, first);
     let mut left = if first == 0 { plan.ticks } else { 0 };
@@ -138,8 +138,8 @@ pub fn call<S: Site, R: Wait>(
 pub fn call_alone<S: Site, R: Wait>(
     rt: &R,
     board: &Board<'_, S>,
-    plan: &Plan,
-    place: &mut Place<S>,
+    plan: &SeatPlan,
+    place: &mut SeatCalls<S>,
 ) {
     let mut draws = Draws::new(board, plan, 0);
     for _ in 0..plan.turns {

@@ -10,7 +10,7 @@ use Rattle.fmp_steps.specs.declared.faults.StepsFault.{StepsFault}
 use Rattle.fmp_steps.specs.declared.faults.StepsFault.TheVariants as fault
 use Rattle.fmp_steps.specs.Steps.{steps_of}
 use Rattle.fmp_diagnosis.specs.declared.found.Warning.{Warning}
-use Rattle.fmp_diagnosis.specs.declared.reports.Finding.{Finding}
+use Rattle.fmp_diagnosis.specs.declared.reports.FaultReport.{FaultReport}
 use Rattle.fmp_diagnosis.specs.declared.sentence.Texts.{Texts}
 use Rattle.fmp_diagnosis.specs.declared.steps.StepFlaw.{StepFlaw}
 use Rattle.fmp_diagnosis.specs.declared.steps.StepFlaw.TheVariants as flaw
@@ -20,14 +20,14 @@ use Rattle.fmp_diagnosis.specs.StepFindings.{IsStepFinding}
 use Rattle.fmp_view.specs.declared.faults.FileNames.{FileNames}
 use Rattle.fmp_view.specs.declared.faults.Form.{Form}
 use Rattle.fmp_view.specs.declared.faults.Form.TheVariants as form
-use Rattle.fmp_view.specs.declared.faults.Found.{Found}
-use Rattle.fmp_view.specs.declared.faults.Found.TheVariants as found
+use Rattle.fmp_view.specs.declared.faults.TextsVerdict.{TextsVerdict}
+use Rattle.fmp_view.specs.declared.faults.TextsVerdict.TheVariants as found
 use Rattle.fmp_view.specs.declared.faults.Shown.{Shown}
 use Rattle.fmp_view.specs.declared.faults.Shown.TheVariants as shown
 use Rattle.fmp_view.specs.declared.faults.StepFault.{StepFault}
 
 -- this is the first fault of two texts; or they build the image of a system with this number of processors
-abbrev pub IsFound : (cfg src : List ℕ) → Found → Type 0
+abbrev pub IsFound : (cfg src : List ℕ) → TextsVerdict → Type 0
 IsFound cfg src (found.Faulty f) = IsBuildFault cfg src (build.At f.file f.place f.kind)
 IsFound cfg src (found.Sound processors) =
     (i : ImageTables) × Builds cfg src i × (processors ≡ i.system.processors)
@@ -49,7 +49,7 @@ name_of names file.Configuration = names.cfg.now
 name_of names file.Source = names.src.now
 
 -- a finding in the text of a file of this name, as it is printed
-abbrev pub printed : Form → (name : List ℕ) → Finding → List ℕ
+abbrev pub printed : Form → (name : List ℕ) → FaultReport → List ℕ
 printed form.Text name f = report name f
 printed form.Json name f = record_text name f
 
@@ -60,16 +60,16 @@ warnings_text form names = flat_map (λ w. printed form (name_of names w.file) w
 -- the first fault of a steps text is reported, under the name of its file
 abbrev pub IsStepShown : Form → FileNames → (processors : ℕ) → (text : List ℕ) → (out : List ℕ) → Type 0
 IsStepShown form names processors text out =
-    (s : StepFault) × (f : Finding)
+    (s : StepFault) × (f : FaultReport)
     × HasStepFault processors text (Some s)
     × IsStepFinding text s.line s.flaw f
     × (out ≡ printed form names.steps.now f)
 
 -- Of two texts with a fault their first one is reported, under the name of its file; of others the first fault of the
 -- steps, and if they have none, warnings.
-abbrev pub IsShownOf : Form → FileNames → Texts → (steps : List ℕ) → Found → Shown → Type 0
+abbrev pub IsShownOf : Form → FileNames → Texts → (steps : List ℕ) → TextsVerdict → Shown → Type 0
 IsShownOf form names t steps (found.Faulty f) (shown.Faulty out) =
-    (x : Finding)
+    (x : FaultReport)
     × IsFinding (text_of t f.file) f.place f.kind x
     × (out.items ≡ printed form (name_of names f.file) x)
 IsShownOf form names t steps (found.Faulty f) (shown.Sound out) = ⊥
@@ -80,7 +80,7 @@ IsShownOf form names t steps (found.Sound processors) (shown.Sound out) =
 
 -- what is shown of two texts and of steps
 pub record IsShown (form : Form) (names : FileNames) (t : Texts) (steps : List ℕ) (s : Shown) : Type 0 where
-  pub found : Found
+  pub found : TextsVerdict
   pub is : IsFound t.cfg.now t.src.now found
   pub shows : IsShownOf form names t steps found s
 

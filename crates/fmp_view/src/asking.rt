@@ -43,7 +43,7 @@ const FROM_AFTER_TO: &str = "--from is later than --to";
 
 /// What a run is of: the names of its files.
 #[derive(Clone, Copy)]
-pub enum Run<'a> {
+pub enum RunFiles<'a> {
     /// An image over a steps text, with this bound of a stretch, 1 to 2^48.
     Steps {
         image: &'a str,
@@ -57,19 +57,19 @@ pub enum Run<'a> {
     },
 }
 
-impl<'a> Run<'a> {
+impl<'a> RunFiles<'a> {
     /// The names of its two files: of the system, and of what came to it.
     pub fn files(self) -> (&'a str, &'a str) {
         match self {
-            Run::Steps { image, steps, .. } => (image, steps),
-            Run::Recording { cfg, recording } => (cfg, recording),
+            RunFiles::Steps { image, steps, .. } => (image, steps),
+            RunFiles::Recording { cfg, recording } => (cfg, recording),
         }
     }
 }
 
 /// What two runs of one system are of: the names of their files.
 #[derive(Clone, Copy)]
-pub struct Runs<'a> {
+pub struct RunPair<'a> {
     /// The image, or the configuration.
     pub system: &'a str,
     pub a: &'a str,
@@ -114,9 +114,9 @@ pub enum Asked<'a> {
     /// Print the trace of a run of the texts of these files, over the steps if there are steps.
     Run(FileNames<'a>, Running),
     /// Print the trace of a recorded run of a system.
-    Recorded(Run<'a>, Form),
+    Recorded(RunFiles<'a>, Form),
     /// Print the table of the calls of a recorded run of a system.
-    Calls(Run<'a>),
+    Calls(RunFiles<'a>),
     /// Take commands of standard input on the system of the texts of these files, with this bound, 1 to 2^48.
     Step(FileNames<'a>, Form, u64),
     /// Print steps of an image: at most `events`, 0 to 2^20, in turn or at random.
@@ -127,27 +127,27 @@ pub enum Asked<'a> {
         bound: u64,
     },
     /// Say what each task waits or spins for after an event of a run, by its number, or after the last one.
-    Why(Run<'a>, Option<u32>),
+    Why(RunFiles<'a>, Option<u32>),
     /// Say whether a run meets the expectations of the text of this file.
-    Expect(Run<'a>, &'a str),
+    Expect(RunFiles<'a>, &'a str),
     /// Show the first event in which two runs of a system differ.
-    Diff(Runs<'a>),
+    Diff(RunPair<'a>),
     /// Print the table of a run.
-    Stats(Run<'a>),
+    Stats(RunFiles<'a>),
     /// Write a run to a file, for viewers of waveforms or of traces.
-    Waves(Run<'a>, &'a str, Format),
+    Waves(RunFiles<'a>, &'a str, Format),
     /// Write the picture of a run to a file.
-    Timeline(Run<'a>, &'a str, Drawing),
+    Timeline(RunFiles<'a>, &'a str, Drawing),
 }
 
 /// What a run is of.
-fn run_of<'a>(words: &ArgMatches<'a>) -> Run<'a> {
+fn run_of<'a>(words: &ArgMatches<'a>) -> RunFiles<'a> {
     match text_of(words, "recording") {
-        Some(recording) => Run::Recording {
+        Some(recording) => RunFiles::Recording {
             cfg: word_of(words, "IMAGE"),
             recording,
         },
-        None => Run::Steps {
+        None => RunFiles::Steps {
             image: word_of(words, "IMAGE"),
             steps: word_of(words, "STEPS"),
             bound: bound_of(words),
@@ -159,14 +159,14 @@ fn run_of<'a>(words: &ArgMatches<'a>) -> Run<'a> {
 /// stands in their place.
 fn behind_run<'a>(words: &ArgMatches<'a>, id: &str) -> &'a str {
     match run_of(words) {
-        Run::Steps { .. } => word_of(words, id),
-        Run::Recording { .. } => word_of(words, "STEPS"),
+        RunFiles::Steps { .. } => word_of(words, id),
+        RunFiles::Recording { .. } => word_of(words, "STEPS"),
     }
 }
 
 /// What two runs are of.
-fn runs_of<'a>(words: &ArgMatches<'a>) -> Runs<'a> {
-    Runs {
+fn runs_of<'a>(words: &ArgMatches<'a>) -> RunPair<'a> {
+    RunPair {
         system: word_of(words, "IMAGE"),
         a: word_of(words, "A"),
         b: word_of(words, "B"),
@@ -269,7 +269,7 @@ fn running_of(words: &ArgMatches<'_>) -> Running {
 }
 
 /// What `run` asks for of a recorded run.
-fn recorded_asked<'a>(words: &ArgMatches<'a>, run: Run<'a>) -> Asked<'a> {
+fn recorded_asked<'a>(words: &ArgMatches<'a>, run: RunFiles<'a>) -> Asked<'a> {
     if flag_of(words, "calls") {
         Asked::Calls(run)
     } else {
@@ -282,7 +282,7 @@ fn run_asked<'a>(words: &ArgMatches<'a>) -> Asked<'a> {
     match text_of(words, "recording") {
         Some(recording) => {
             let cfg = word_of(words, "CFG");
-            recorded_asked(words, Run::Recording { cfg, recording })
+            recorded_asked(words, RunFiles::Recording { cfg, recording })
         }
         None => Asked::Run(names_of(words), running_of(words)),
     }

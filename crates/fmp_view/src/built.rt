@@ -6,7 +6,7 @@ ghost use Rattle.fmp_instructions.specs.Machine.{code_meaning};
 ghost use Rattle.fmp_replay.specs.Replays.{kernel_after};
 ghost use Rattle.fmp_view.specs.Traces.{IsTrace};
 
-use crate::commands::{Ending, Output, output_of};
+use crate::commands::{DriveEnding, RunOutput, output_of};
 use crate::driving::driven;
 use crate::faults::Form;
 use crate::open_image::OpenImage;
@@ -50,7 +50,7 @@ pub struct Traced {
     /// The trace, and the states at its end.
     pub text: Vec<u8>,
     /// How its drive ended, if it was driven.
-    pub ending: Option<Ending>,
+    pub ending: Option<DriveEnding>,
     /// What each task waits or spins for at the end.
     pub why: Vec<u8>,
 }
@@ -59,7 +59,7 @@ pub struct Traced {
 #[derive(Drop)]
 struct Stepped {
     events: Vec<Event>,
-    ending: Option<Ending>,
+    ending: Option<DriveEnding>,
 }
 
 /// The image that two texts build.
@@ -103,7 +103,7 @@ fn driven_events(alloc: Global, image: &Image, run: Running) -> Result<Stepped, 
         kept_bound(run.bound),
     )?;
     let next = drive.next;
-    let ending = Ending {
+    let ending = DriveEnding {
         stop: drive.driven.stop,
         next,
         processors: image.system().processors,
@@ -157,7 +157,12 @@ fn printed(
 {
     let bound = kept_bound(run.bound);
     if run.calls {
-        return output_of(alloc, &OpenImage::new(image, bound), events, Output::Calls);
+        return output_of(
+            alloc,
+            &OpenImage::new(image, bound),
+            events,
+            RunOutput::Calls,
+        );
     }
     image_trace(alloc, run.form, image, events, bound)
 }

@@ -41,7 +41,7 @@ pub fn code(alloc: Global, word: &str) -> Result<Option<Vec<u8>>, AllocError> {
 
 /// How a drive ended.
 #[derive(Clone, Copy)]
-pub struct Ending {
+pub struct DriveEnding {
     pub stop: DriveStop,
     /// How the next run of each processor ends, by places from 0.
     pub next: [NextRun; 8],
@@ -54,7 +54,7 @@ pub struct Ending {
 pub struct DrivenText {
     /// The text of the steps.
     pub steps: Vec<u8>,
-    pub ending: Ending,
+    pub ending: DriveEnding,
     /// What each task waits or spins for at the end.
     pub why: Vec<u8>,
 }
@@ -73,7 +73,7 @@ fn driven_text(
     print_steps(&drive.driven.steps, &mut steps)?;
     let why = why_of(alloc, &OpenImage::new(image, bound), &drive.driven.steps)?;
     let next = drive.next;
-    let ending = Ending {
+    let ending = DriveEnding {
         stop: drive.driven.stop,
         next,
         processors: image.system().processors,
@@ -180,7 +180,7 @@ fn dump_on<B: Body, T: Coming<B>>(
 
 /// What is made of a run.
 #[derive(Clone, Copy)]
-pub enum Output {
+pub enum RunOutput {
     /// The table of what each task did.
     Table,
     /// The waveform, as a value change dump.
@@ -198,16 +198,16 @@ fn output_on<B: Body, T: Coming<B>>(
     body: &B,
     n: u64,
     events: &[T],
-    output: Output,
+    output: RunOutput,
 ) -> Result<Vec<u8>, AllocError>
     requires few { kernel.old.taken + length events.now ≤ 2 ^ 31 }
     requires body { body.now ≡ kernel.old.body }
     requires bound { n ≡ kernel.old.bound }
 {
     match output {
-        Output::Table => table_on(alloc, sys, kernel, body, n, events),
-        Output::Dump => dump_on(alloc, sys, kernel, body, n, events),
-        Output::Calls => calls_on(alloc, sys, kernel, body, n, events),
+        RunOutput::Table => table_on(alloc, sys, kernel, body, n, events),
+        RunOutput::Dump => dump_on(alloc, sys, kernel, body, n, events),
+        RunOutput::Calls => calls_on(alloc, sys, kernel, body, n, events),
     }
 }
 
@@ -217,7 +217,7 @@ pub fn output_of<O: Opened, T: Coming<O::Bodies>>(
     alloc: Global,
     opened: &O,
     events: &[T],
-    output: Output,
+    output: RunOutput,
 ) -> Result<Vec<u8>, AllocError>
     requires { length events.now ≤ 2 ^ 31 }
 {
@@ -237,7 +237,7 @@ pub fn output_of<O: Opened, T: Coming<O::Bodies>>(
     made
 }
 
-impl RunLook for Output {
+impl RunLook for RunOutput {
     type Made = Vec<u8>;
 
     fn of<O: Opened, T: Coming<O::Bodies>>(

@@ -1,5 +1,5 @@
 //! What a search saw: how far it went, what was never made or run, the greatest counts and lengths, and the answers.
-use crate::sources::{Sources, say, say_made, say_place};
+use crate::sources::{ExploredSources, say, say_made, say_place};
 use fmp_base::{Name, System};
 use fmp_explore::{Coverage, Report, Variety};
 use fmp_explore_names::{answered_calls, append_answers, append_name, is_queue};
@@ -21,7 +21,7 @@ pub fn say_extent(alloc: Global, out: &mut Vec<u8>, report: &Report) -> Result<(
 fn say_unmade(
     alloc: Global,
     out: &mut Vec<u8>,
-    sources: &Sources<'_>,
+    sources: &ExploredSources<'_>,
     coverage: &Coverage,
 ) -> Result<(), AllocError> {
     let sites = coverage.never_made(alloc, sources.image.code())?;
@@ -45,7 +45,7 @@ fn say_unmade(
 fn say_answers(
     alloc: Global,
     out: &mut Vec<u8>,
-    sources: &Sources<'_>,
+    sources: &ExploredSources<'_>,
     coverage: &Coverage,
 ) -> Result<(), AllocError> {
     if !sources.named.answers {
@@ -57,15 +57,15 @@ fn say_answers(
 
 /// A line of what there is of one kind, which begins with a title where there is any.
 #[derive(Clone, Copy)]
-struct Row<'a> {
+struct CoverageRow<'a> {
     title: &'a str,
     is_begun: bool,
 }
 
-impl<'a> Row<'a> {
+impl<'a> CoverageRow<'a> {
     /// A line with this title.
-    fn new(title: &'a str) -> Row<'a> {
-        Row {
+    fn new(title: &'a str) -> CoverageRow<'a> {
+        CoverageRow {
             title,
             is_begun: false,
         }
@@ -102,7 +102,7 @@ impl<'a> Row<'a> {
 
 /// Appends the tasks and the cyclic handlers that never ran.
 fn say_unrun(out: &mut Vec<u8>, sys: &System, coverage: &Coverage) -> Result<(), AllocError> {
-    let mut row = Row::new("never run: ");
+    let mut row = CoverageRow::new("never run: ");
     for (t, config) in sys.tasks.iter().enumerate() {
         if coverage.runs.tasks.get(t) == Some(&false) {
             row.say_name(out, config.name)?;
@@ -123,7 +123,7 @@ fn say_counts(
     sys: &System,
     counts: &[u16],
 ) -> Result<(), AllocError> {
-    let mut row = Row::new("greatest counts: ");
+    let mut row = CoverageRow::new("greatest counts: ");
     for (s, config) in sys.semaphores.iter().enumerate() {
         if let Some(count) = counts.get(s) {
             row.say_number(alloc, out, config.name, usize::from(*count))?;
@@ -139,7 +139,7 @@ fn say_lengths(
     sys: &System,
     coverage: &Coverage,
 ) -> Result<(), AllocError> {
-    let mut row = Row::new("greatest lengths: ");
+    let mut row = CoverageRow::new("greatest lengths: ");
     for (d, config) in sys.data_queues.iter().enumerate() {
         if let Some(words) = coverage.peaks.words.get(d) {
             row.say_number(alloc, out, config.name, usize::from(*words))?;
@@ -157,7 +157,7 @@ fn say_lengths(
 pub fn say_coverage(
     alloc: Global,
     out: &mut Vec<u8>,
-    sources: &Sources<'_>,
+    sources: &ExploredSources<'_>,
     coverage: &Coverage,
 ) -> Result<(), AllocError> {
     let sys = sources.image.system();
@@ -181,7 +181,7 @@ fn hint_of(variety: &Variety) -> &'static str {
 pub fn say_varieties(
     alloc: Global,
     out: &mut Vec<u8>,
-    sources: &Sources<'_>,
+    sources: &ExploredSources<'_>,
     report: &Report,
 ) -> Result<(), AllocError> {
     let mut most = 0;

@@ -4,7 +4,7 @@ ghost use Rattle.fmp_view.specs.Claimed.{IsExplored, IsReportText, Tells, text_o
 
 use crate::covering::{say_coverage, say_extent, say_varieties};
 use crate::finding::say_finding;
-use crate::sources::Sources;
+use crate::sources::ExploredSources;
 use fmp_explore::{Finding, Question, Report, SearchWatcher, explore};
 use fmp_explore_names::{append_ending, status_of};
 use fmp_trace::print_steps;
@@ -21,7 +21,7 @@ pub struct Explored {
 /// What is printed of findings: nothing where there are none.
 fn findings_text(
     alloc: Global,
-    sources: &Sources<'_>,
+    sources: &ExploredSources<'_>,
     findings: &[Finding],
 ) -> Result<Vec<u8>, AllocError>
     ensures { IfOk result (λ text. findings.now ≡ [] → text.items ≡ []) }
@@ -38,7 +38,7 @@ fn findings_text(
 /// What is printed behind the end of a search: how far it went, and what falls out of it.
 fn extent_text(
     alloc: Global,
-    sources: &Sources<'_>,
+    sources: &ExploredSources<'_>,
     report: &Report,
 ) -> Result<Vec<u8>, AllocError> {
     let mut text = Vec::new(alloc);
@@ -51,7 +51,7 @@ fn extent_text(
 /// What is printed of a report: its findings, what is claimed or why the search ended, and what the search saw.
 fn report_text(
     alloc: Global,
-    sources: &Sources<'_>,
+    sources: &ExploredSources<'_>,
     question: &Question,
     report: &Report,
 ) -> Result<Vec<u8>, AllocError>
@@ -96,7 +96,7 @@ fn steps_texts(alloc: Global, findings: &[Finding]) -> Result<Vec<Vec<u8>>, Allo
 /// What is printed of a report, its steps texts, and the status.
 fn explored_report(
     alloc: Global,
-    sources: &Sources<'_>,
+    sources: &ExploredSources<'_>,
     question: &Question,
     report: &Report,
 ) -> Result<Explored, AllocError>
@@ -113,7 +113,7 @@ fn explored_report(
 /// Explores the schedules of an image. `AllocError` if there is no memory to begin with, or for what is printed.
 pub fn explored_image<W: SearchWatcher>(
     alloc: Global,
-    sources: &Sources<'_>,
+    sources: &ExploredSources<'_>,
     question: &Question,
     watcher: &mut W,
 ) -> Result<Explored, AllocError>

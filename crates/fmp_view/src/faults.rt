@@ -1,10 +1,10 @@
 //! What is shown of the texts of a system, and of the steps of a run of it: the first fault, or the warnings.
 ghost use Rattle.std.specs.Prelude.{◌≡◌, IfOk, Ok, Some};
-ghost use Rattle.fmp_view.specs.declared.faults.Found.TheVariants as found;
+ghost use Rattle.fmp_view.specs.declared.faults.TextsVerdict.TheVariants as found;
 ghost use Rattle.fmp_view.specs.Faults as spec;
 ghost use Rattle.fmp_view.specs.Faults.{HasStepFault, IsFound, IsShown, IsShownOf, warnings_text};
 
-use fmp_diagnosis::{Finding, StepFlaw, Texts, Warning, finding_at, step_finding, warnings_of};
+use fmp_diagnosis::{FaultReport, StepFlaw, Texts, Warning, finding_at, step_finding, warnings_of};
 use fmp_image::build;
 use fmp_lex::{BuildFault, FaultKind, Place, TextFile};
 use fmp_trace::{StepsFault, read_steps};
@@ -32,7 +32,7 @@ pub struct FileNames<'a> {
 
 /// The first fault of two texts.
 #[derive(Clone, Copy)]
-pub struct Fault {
+pub struct TextsFault {
     pub file: TextFile,
     pub place: Place,
     pub kind: FaultKind,
@@ -40,9 +40,9 @@ pub struct Fault {
 
 /// What two texts are found to be.
 #[derive(Clone, Copy)]
-pub enum Found {
+pub enum TextsVerdict {
     /// They have this fault.
-    Faulty(Fault),
+    Faulty(TextsFault),
     /// They build the image of a system with this many processors.
     Sound(u8),
 }
@@ -83,17 +83,21 @@ impl Shown {
 }
 
 /// The first fault of two texts, or how many processors their system has.
-fn found_in(alloc: Global, cfg: &[u8], src: &[u8]) -> Result<Found, AllocError>
+fn found_in(alloc: Global, cfg: &[u8], src: &[u8]) -> Result<TextsVerdict, AllocError>
     ensures { IfOk result (IsFound cfg.now src.now) }
 {
     match build(alloc, cfg, src) {
         Ok(image) => {
             let processors = image.system().processors;
             drop(image);
-            Ok(Found::Sound(processors))
+            Ok(TextsVerdict::Sound(processors))
         }
         Err(BuildFault::Memory) => Err(AllocError),
-        Err(BuildFault::At(file, place, kind)) => Ok(Found::Faulty(Fault { file, place, kind })),
+        Err(BuildFault::At(file, place, kind)) => Ok(TextsVerdict::Faulty(TextsFault {
+            file,
+            place,
+            kind,
+        })),
     }
 }
 
@@ -128,7 +132,12 @@ fn name_of<'a>(names: FileNames<'a>, file: TextFile) -> &'a str
 }
 
 /// A finding in the text of a file of this name, as it is printed.
-fn printed(alloc: Global, form: Form, name: &str, finding: &Finding) -> Result<Vec<u8>, AllocError>
+fn printed(
+    alloc: Global,
+    form: Form,
+    name: &str,
+    finding: &FaultReport,
+) -> Result<Vec<u8>, AllocError>
     ensures { IfOk result (λ out. out.items ≡ spec.printed form name.now finding.now) }
 {
     match form {
@@ -181,7 +190,7 @@ fn shown_of(
     names: FileNames<'_>,
     texts: Texts<'_>,
     steps: &[u8],
-    fault: Fault,
+    fault: TextsFault,
 ) -> Result<Shown, AllocError>
     ensures { IfOk result (IsShownOf form names.entry texts.entry steps.now (found.Faulty fault)) }
 {
@@ -202,7 +211,9 @@ pub fn shown_fault(
     ensures { IfOk result (IsShown form names.entry texts.entry steps.now) }
 {
     match found_in(alloc, texts.cfg, texts.src)? {
-        Found::Faulty(fault) => shown_of(alloc, form, names, texts, steps, fault),
-        Found::Sound(processors) => shown_behind(alloc, form, names, texts, steps, processors),
+        TextsVerdict::Faulty(fault) => shown_of(alloc, form, names, texts, steps, fault),
+        TextsVerdict::Sound(processors) => shown_behind(
+            alloc, form, names, texts, steps, processors,
+        ),
     }
 }

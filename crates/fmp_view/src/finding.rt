@@ -1,5 +1,5 @@
 //! What is printed of a finding: what is seen after its steps, and the call to which it belongs.
-use crate::sources::{Sources, say, say_made, say_place};
+use crate::sources::{ExploredSources, say, say_made, say_place};
 use crate::stuck::held_up;
 use fmp_base::{Line, System};
 use fmp_explore::{CallSite, Finding, FindingKind, Left, Started, Together, left_by};
@@ -8,7 +8,7 @@ use fmp_trace::print;
 use std::alloc::{AllocError, Global};
 
 /// The line of a finding: of its call, or of the head of the body that goes on for ever.
-fn line_of(sources: &Sources<'_>, finding: &Finding, site: CallSite) -> Option<u32> {
+fn line_of(sources: &ExploredSources<'_>, finding: &Finding, site: CallSite) -> Option<u32> {
     match finding.kind {
         FindingKind::Endless(_) => sources.lines.head(site.body),
         FindingKind::Line(_)
@@ -37,7 +37,7 @@ fn say_line(
 fn say_started(
     alloc: Global,
     out: &mut Vec<u8>,
-    sources: &Sources<'_>,
+    sources: &ExploredSources<'_>,
     started: Started,
 ) -> Result<(), AllocError> {
     if let Some(config) = sources.image.system().tasks.get(usize::from(started.task)) {
@@ -60,7 +60,7 @@ fn say_started(
 fn say_deadlock(
     alloc: Global,
     out: &mut Vec<u8>,
-    sources: &Sources<'_>,
+    sources: &ExploredSources<'_>,
     started: &[Started],
 ) -> Result<(), AllocError> {
     for (i, task) in started.iter().enumerate() {
@@ -74,7 +74,7 @@ fn say_deadlock(
 fn say_holder(
     alloc: Global,
     out: &mut Vec<u8>,
-    sources: &Sources<'_>,
+    sources: &ExploredSources<'_>,
     together: Together,
 ) -> Result<(), AllocError> {
     say(out, ": while ")?;
@@ -96,7 +96,7 @@ fn say_holder(
 fn say_left(
     alloc: Global,
     out: &mut Vec<u8>,
-    sources: &Sources<'_>,
+    sources: &ExploredSources<'_>,
     kind: FindingKind,
     left: &Left,
 ) -> Result<(), AllocError> {
@@ -120,7 +120,7 @@ fn say_left(
 fn say_kind(
     alloc: Global,
     out: &mut Vec<u8>,
-    sources: &Sources<'_>,
+    sources: &ExploredSources<'_>,
     finding: &Finding,
 ) -> Result<(), AllocError> {
     match left_by(alloc, sources.image, sources.bound, &finding.steps)? {
@@ -133,7 +133,7 @@ fn say_kind(
 fn say_site(
     alloc: Global,
     out: &mut Vec<u8>,
-    sources: &Sources<'_>,
+    sources: &ExploredSources<'_>,
     finding: &Finding,
     site: Option<CallSite>,
 ) -> Result<(), AllocError> {
@@ -148,7 +148,7 @@ fn say_site(
 fn say_stuck(
     alloc: Global,
     out: &mut Vec<u8>,
-    sources: &Sources<'_>,
+    sources: &ExploredSources<'_>,
     finding: &Finding,
     task: u8,
 ) -> Result<(), AllocError> {
@@ -173,7 +173,7 @@ fn say_stuck(
 fn say_seen(
     alloc: Global,
     out: &mut Vec<u8>,
-    sources: &Sources<'_>,
+    sources: &ExploredSources<'_>,
     finding: &Finding,
 ) -> Result<(), AllocError> {
     if let FindingKind::Stuck(task) = finding.kind {
@@ -187,7 +187,7 @@ fn say_seen(
 pub fn say_finding(
     alloc: Global,
     out: &mut Vec<u8>,
-    sources: &Sources<'_>,
+    sources: &ExploredSources<'_>,
     finding: &Finding,
     number: usize,
 ) -> Result<(), AllocError> {

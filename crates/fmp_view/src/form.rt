@@ -178,7 +178,7 @@ pub const EVENTS_MAX: u32 = 1_048_576;
 
 /// What the value of an option is.
 #[derive(Clone, Copy)]
-enum Value {
+enum OptionValue {
     /// A text.
     Text,
     /// When the clock may advance.
@@ -193,7 +193,7 @@ enum Value {
 
 /// What an argument of a command is.
 #[derive(Clone, Copy)]
-enum Kind {
+enum ArgumentKind {
     /// A word that has to be there.
     Word,
     /// A word that may be left out.
@@ -207,7 +207,7 @@ enum Kind {
     /// An option without a value that does not go with this other one.
     FlagWithout(&'static str),
     /// An option with a value, which help calls so.
-    Option(&'static str, Value),
+    Option(&'static str, OptionValue),
     /// An option with a text, which help calls so, that may be given again.
     Again(&'static str),
     /// An option with a text, which help calls so: it or the other option has to be given, and not both.
@@ -215,7 +215,7 @@ enum Kind {
 }
 
 /// An argument of a command: its name, what it is, and what help says of it.
-struct Argument(&'static str, Kind, &'static str);
+struct Argument(&'static str, ArgumentKind, &'static str);
 
 /// A command as help shows it.
 struct Form {
@@ -226,37 +226,57 @@ struct Form {
     example: &'static str,
 }
 
-const CFG: Argument = Argument("CFG", Kind::Word, "Configuration, as 'fmp check' reads it");
+const CFG: Argument = Argument(
+    "CFG",
+    ArgumentKind::Word,
+    "Configuration, as 'fmp check' reads it",
+);
 
-const SRC: Argument = Argument("SRC", Kind::Word, "Bodies of its tasks and handlers");
+const SRC: Argument = Argument(
+    "SRC",
+    ArgumentKind::Word,
+    "Bodies of its tasks and handlers",
+);
 
-const IMAGE: Argument = Argument("IMAGE", Kind::Word, "Image that 'fmp build' has written");
+const IMAGE: Argument = Argument(
+    "IMAGE",
+    ArgumentKind::Word,
+    "Image that 'fmp build' has written",
+);
 
-const OF_SYSTEM: Argument = Argument("IMAGE", Kind::Word, SYSTEM);
+const OF_SYSTEM: Argument = Argument("IMAGE", ArgumentKind::Word, SYSTEM);
 
-const OF_RUN: Argument = Argument("STEPS", Kind::WordNoRecording, STEPS);
+const OF_RUN: Argument = Argument("STEPS", ArgumentKind::WordNoRecording, STEPS);
 
-const BEFORE_MORE: Argument = Argument("STEPS", Kind::Word, STEPS_BEFORE_MORE);
+const BEFORE_MORE: Argument = Argument("STEPS", ArgumentKind::Word, STEPS_BEFORE_MORE);
 
-const RECORDED: Argument = Argument("recording", Kind::Option("FILE", Value::Text), RECORDING);
+const RECORDED: Argument = Argument(
+    "recording",
+    ArgumentKind::Option("FILE", OptionValue::Text),
+    RECORDING,
+);
 
 const AT_MOST: Argument = Argument(
     "events",
-    Kind::Option("N", Value::Default(0, EVENTS_MAX as u64, "1000")),
+    ArgumentKind::Option("N", OptionValue::Default(0, EVENTS_MAX as u64, "1000")),
     EVENTS,
 );
 
-const AT_RANDOM: Argument = Argument("seed", Kind::Option("S", Value::Number(0, u64::MAX)), SEED);
+const AT_RANDOM: Argument = Argument(
+    "seed",
+    ArgumentKind::Option("S", OptionValue::Number(0, u64::MAX)),
+    SEED,
+);
 
 const BOUNDED: Argument = Argument(
     "bound",
-    Kind::Option("N", Value::Default(1, BOUND_MAX, "100000")),
+    ArgumentKind::Option("N", OptionValue::Default(1, BOUND_MAX, "100000")),
     BOUND,
 );
 
 const JSON: Argument = Argument(
     "json",
-    Kind::Flag,
+    ArgumentKind::Flag,
     "Print an object of JSON a line, for other programs",
 );
 
@@ -265,7 +285,7 @@ static CODE: Form = Form {
     about: "Says what a code means, when it comes, and an example",
     arguments: &[Argument(
         "CODE",
-        Kind::WordOrNegative,
+        ArgumentKind::WordOrNegative,
         "A code as it is printed, or its number: E_PAR, -17, F_OVF, B4, L2, S1, H4",
     )],
     example: "Example: fmp_view code E_PAR",
@@ -274,7 +294,12 @@ static CODE: Form = Form {
 static FAULT: Form = Form {
     name: "fault",
     about: "Shows the fault of two texts and of steps, and what was expected there; else warnings, if any",
-    arguments: &[CFG, SRC, Argument("STEPS", Kind::MayBeWord, STEPS), JSON],
+    arguments: &[
+        CFG,
+        SRC,
+        Argument("STEPS", ArgumentKind::MayBeWord, STEPS),
+        JSON,
+    ],
     example: "Example: fmp_view fault examples/queue.cfg examples/queue.src --json",
 };
 
@@ -285,17 +310,17 @@ static RUN: Form = Form {
         CFG,
         Argument(
             "SRC",
-            Kind::WordNoRecording,
+            ArgumentKind::WordNoRecording,
             "Bodies of its tasks and handlers",
         ),
         Argument(
             "STEPS",
-            Kind::MayBeWord,
+            ArgumentKind::MayBeWord,
             "Text of the events, as 'fmp sim' reads it; without it the system is driven",
         ),
         RECORDED,
         JSON,
-        Argument("calls", Kind::FlagWithout("json"), CALLS),
+        Argument("calls", ArgumentKind::FlagWithout("json"), CALLS),
         AT_MOST,
         AT_RANDOM,
         BOUNDED,
@@ -327,7 +352,7 @@ static WHY: Form = Form {
         BOUNDED,
         Argument(
             "at",
-            Kind::Option("K", Value::Number(0, EVENTS_MAX as u64)),
+            ArgumentKind::Option("K", OptionValue::Number(0, EVENTS_MAX as u64)),
             AT,
         ),
     ],
@@ -340,29 +365,41 @@ static EXPLORE: Form = Form {
     arguments: &[
         CFG,
         SRC,
-        Argument("never", Kind::Again("WHAT"), NEVER),
-        Argument("alone", Kind::Again("A,B"), ALONE),
-        Argument("rest", Kind::Again("TASK"), REST),
-        Argument("ticks", Kind::Option("WHEN", Value::When), TICKS),
-        Argument("ints", Kind::Option("K", Value::Number(0, 255)), INTS),
-        Argument("queued", Kind::Option("K", Value::Number(0, 255)), QUEUED),
+        Argument("never", ArgumentKind::Again("WHAT"), NEVER),
+        Argument("alone", ArgumentKind::Again("A,B"), ALONE),
+        Argument("rest", ArgumentKind::Again("TASK"), REST),
+        Argument(
+            "ticks",
+            ArgumentKind::Option("WHEN", OptionValue::When),
+            TICKS,
+        ),
+        Argument(
+            "ints",
+            ArgumentKind::Option("K", OptionValue::Number(0, 255)),
+            INTS,
+        ),
+        Argument(
+            "queued",
+            ArgumentKind::Option("K", OptionValue::Number(0, 255)),
+            QUEUED,
+        ),
         BOUNDED,
         Argument(
             "states",
-            Kind::Option("S", Value::Default(1, 1 << 31, "16777216")),
+            ArgumentKind::Option("S", OptionValue::Default(1, 1 << 31, "16777216")),
             STATES,
         ),
         Argument(
             "all",
-            Kind::Flag,
+            ArgumentKind::Flag,
             "Go on after the first finding, for the first of each kind at each call",
         ),
         Argument(
             "answers",
-            Kind::Flag,
+            ArgumentKind::Flag,
             "Print the answers that each call ever gets, by its line of SRC",
         ),
-        Argument("out", Kind::Option("NAME", Value::Text), OUT),
+        Argument("out", ArgumentKind::Option("NAME", OptionValue::Text), OUT),
     ],
     example: "Example: fmp_view explore examples/queue.cfg examples/queue.src --never E_TMOUT",
 };
@@ -373,12 +410,12 @@ static EXPORT: Form = Form {
     arguments: &[
         CFG,
         SRC,
-        Argument("c", Kind::Either("DIR", "toppers"), DIR),
-        Argument("toppers", Kind::Either("DIR", "c"), TARGET_DIR),
-        Argument("fmp3", Kind::FlagWithout("c"), FMP3),
+        Argument("c", ArgumentKind::Either("DIR", "toppers"), DIR),
+        Argument("toppers", ArgumentKind::Either("DIR", "c"), TARGET_DIR),
+        Argument("fmp3", ArgumentKind::FlagWithout("c"), FMP3),
         Argument(
             "line-directives",
-            Kind::FlagWithout("toppers"),
+            ArgumentKind::FlagWithout("toppers"),
             LINE_DIRECTIVES,
         ),
     ],
@@ -389,9 +426,13 @@ static IMPORT: Form = Form {
     name: "import",
     about: "Makes a configuration of TOPPERS/FMP, FMP3 or uITRON 4.0 one of this project, and says what is left out",
     arguments: &[
-        Argument("CFG", Kind::Word, FOREIGN),
-        Argument("define", Kind::Again("NAME=VALUE"), DEFINE),
-        Argument("out", Kind::Option("OUT", Value::Text), IMPORTED),
+        Argument("CFG", ArgumentKind::Word, FOREIGN),
+        Argument("define", ArgumentKind::Again("NAME=VALUE"), DEFINE),
+        Argument(
+            "out",
+            ArgumentKind::Option("OUT", OptionValue::Text),
+            IMPORTED,
+        ),
     ],
     example: "Example: fmp_view import sample1.cfg --define LOGTASK_PRIORITY=3 --out sample1.fmp.cfg",
 };
@@ -401,11 +442,15 @@ static DIFF: Form = Form {
     about: "Shows the first event in which two runs of a system differ, and the states then",
     arguments: &[
         OF_SYSTEM,
-        Argument("A", Kind::Word, STEPS),
-        Argument("B", Kind::Word, "Text of the events of the other run"),
+        Argument("A", ArgumentKind::Word, STEPS),
+        Argument(
+            "B",
+            ArgumentKind::Word,
+            "Text of the events of the other run",
+        ),
         Argument(
             "recordings",
-            Kind::Flag,
+            ArgumentKind::Flag,
             "A and B are recordings, and IMAGE is their configuration",
         ),
         BOUNDED,
@@ -421,7 +466,7 @@ static EXPECTED: Form = Form {
         BEFORE_MORE,
         RECORDED,
         BOUNDED,
-        Argument("EXPECT", Kind::WordNoRecording, EXPECT),
+        Argument("EXPECT", ArgumentKind::WordNoRecording, EXPECT),
     ],
     example: "Example: fmp_view expect queue.img drive.steps queue.expect",
 };
@@ -441,8 +486,12 @@ static WAVES: Form = Form {
         BEFORE_MORE,
         RECORDED,
         BOUNDED,
-        Argument("OUT", Kind::WordNoRecording, "File that is written"),
-        Argument("format", Kind::Option("FORMAT", Value::Format), FORMAT),
+        Argument("OUT", ArgumentKind::WordNoRecording, "File that is written"),
+        Argument(
+            "format",
+            ArgumentKind::Option("FORMAT", OptionValue::Format),
+            FORMAT,
+        ),
     ],
     example: "Example: fmp_view waves queue.img drive.steps queue.vcd",
 };
@@ -457,27 +506,27 @@ static TIMELINE: Form = Form {
         BOUNDED,
         Argument(
             "OUT",
-            Kind::WordNoRecording,
+            ArgumentKind::WordNoRecording,
             "File that the picture, an SVG, or the page is written to",
         ),
         Argument(
             "from",
-            Kind::Option("K", Value::Default(0, EVENTS_MAX as u64, "0")),
+            ArgumentKind::Option("K", OptionValue::Default(0, EVENTS_MAX as u64, "0")),
             FROM,
         ),
         Argument(
             "to",
-            Kind::Option("K", Value::Number(0, EVENTS_MAX as u64)),
+            ArgumentKind::Option("K", OptionValue::Number(0, EVENTS_MAX as u64)),
             TO,
         ),
         Argument(
             "objects",
-            Kind::Flag,
+            ArgumentKind::Flag,
             "Draw semaphores, eventflags, data queues, mailboxes and shared words too",
         ),
         Argument(
             "html",
-            Kind::Flag,
+            ArgumentKind::Flag,
             "Write a page around the picture that shows each state and what happened;
 objects are drawn too",
         ),
@@ -493,13 +542,15 @@ fn with_number<'a>(option: Arg<'a>, low: u64, high: u64) -> Arg<'a> {
 }
 
 /// An option with a value of this kind.
-fn with_value<'a>(option: Arg<'a>, value: Value) -> Arg<'a> {
+fn with_value<'a>(option: Arg<'a>, value: OptionValue) -> Arg<'a> {
     match value {
-        Value::Text => option,
-        Value::When => option.value_parser(TICKS_WHEN).default_value("any"),
-        Value::Format => option.value_parser(FORMATS).default_value("vcd"),
-        Value::Number(low, high) => with_number(option, low, high),
-        Value::Default(low, high, number) => with_number(option, low, high).default_value(number),
+        OptionValue::Text => option,
+        OptionValue::When => option.value_parser(TICKS_WHEN).default_value("any"),
+        OptionValue::Format => option.value_parser(FORMATS).default_value("vcd"),
+        OptionValue::Number(low, high) => with_number(option, low, high),
+        OptionValue::Default(low, high, number) => with_number(option, low, high).default_value(
+            number,
+        ),
     }
 }
 
@@ -508,22 +559,22 @@ fn argument_of<'a>(alloc: Global, argument: &Argument) -> Result<Arg<'a>, AllocE
     let Argument(id, kind, help) = *argument;
     let made = Arg::new(alloc, id).help(help);
     Ok(match kind {
-        Kind::Word => made.required(true),
-        Kind::MayBeWord => made,
-        Kind::WordOrNegative => made.required(true).allow_negative_numbers(true),
-        Kind::Flag => made.long(id).action(ArgAction::SetTrue),
-        Kind::FlagWithout(other) => made
+        ArgumentKind::Word => made.required(true),
+        ArgumentKind::MayBeWord => made,
+        ArgumentKind::WordOrNegative => made.required(true).allow_negative_numbers(true),
+        ArgumentKind::Flag => made.long(id).action(ArgAction::SetTrue),
+        ArgumentKind::FlagWithout(other) => made
             .long(id)
             .action(ArgAction::SetTrue)
             .conflicts_with(other)?,
-        Kind::Option(name, value) => with_value(made.long(id).value_name(name), value),
-        Kind::Again(name) => made.long(id).value_name(name).action(ArgAction::Append),
-        Kind::Either(name, other) => made
+        ArgumentKind::Option(name, value) => with_value(made.long(id).value_name(name), value),
+        ArgumentKind::Again(name) => made.long(id).value_name(name).action(ArgAction::Append),
+        ArgumentKind::Either(name, other) => made
             .long(id)
             .value_name(name)
             .required_unless_present(other)?
             .conflicts_with(other)?,
-        Kind::WordNoRecording => made
+        ArgumentKind::WordNoRecording => made
             .required_unless_present("recording")?
             .conflicts_with("recording")?,
     })

@@ -5,10 +5,10 @@ ghost use Rattle.fmp_view.specs.Claimed.{HoldsOfWords};
 ghost use Rattle.fmp_view.specs.Explored.{AsksToExplore};
 
 use crate::asking::{
-    Asked, Cmd, Drawing, Run, Runs, command, dump_over_input, no_code, parsed, picture_of_nothing,
-    picture_over_input,
+    Asked, Cmd, Drawing, RunFiles, RunPair, command, dump_over_input, no_code, parsed,
+    picture_of_nothing, picture_over_input,
 };
-use crate::commands::{DrivenText, Output, code, steps};
+use crate::commands::{DrivenText, RunOutput, code, steps};
 use crate::comparing::{diff, diff_recordings};
 use crate::exit::ViewExit;
 use crate::expecting::Expectations;
@@ -72,14 +72,14 @@ fn run_drive<O: Outside>(
 fn made_of_run<O: Outside, L: RunLook>(
     alloc: Global,
     outside: &O,
-    run: Run<'_>,
+    run: RunFiles<'_>,
     look: &L,
 ) -> Result<L::Made, ViewExit> {
     let (one, other) = run.files();
     let (one, other) = read_both(alloc, outside, one, other)?;
     match run {
-        Run::Steps { bound, .. } => look_at_image(alloc, look, &one, &other, bound),
-        Run::Recording { .. } => look_at_recording(alloc, look, &one, &other),
+        RunFiles::Steps { bound, .. } => look_at_image(alloc, look, &one, &other, bound),
+        RunFiles::Recording { .. } => look_at_recording(alloc, look, &one, &other),
     }
 }
 
@@ -92,7 +92,7 @@ fn write<O: Outside>(alloc: Global, outside: &mut O, out: &str, bytes: &[u8]) ->
 }
 
 /// Whether a file is one of those of a run.
-fn is_read<O: Outside>(outside: &O, out: &str, run: Run<'_>) -> bool {
+fn is_read<O: Outside>(outside: &O, out: &str, run: RunFiles<'_>) -> bool {
     let (one, other) = run.files();
     outside.is_one_file(out, one) || outside.is_one_file(out, other)
 }
@@ -101,11 +101,11 @@ fn is_read<O: Outside>(outside: &O, out: &str, run: Run<'_>) -> bool {
 fn waves_of<O: Outside>(
     alloc: Global,
     outside: &O,
-    run: Run<'_>,
+    run: RunFiles<'_>,
     format: Format,
 ) -> Result<Vec<u8>, ViewExit> {
     match format {
-        Format::Dump => made_of_run(alloc, outside, run, &Output::Dump),
+        Format::Dump => made_of_run(alloc, outside, run, &RunOutput::Dump),
         Format::Trace(format) => made_of_run(alloc, outside, run, &format),
     }
 }
@@ -114,7 +114,7 @@ fn waves_of<O: Outside>(
 fn write_waves<O: Outside>(
     alloc: Global,
     outside: &mut O,
-    run: Run<'_>,
+    run: RunFiles<'_>,
     out: &str,
     format: Format,
 ) -> u8 {
@@ -147,7 +147,7 @@ fn difference_over<O: Outside>(
     alloc: Global,
     outside: &O,
     system: &[u8],
-    runs: Runs<'_>,
+    runs: RunPair<'_>,
 ) -> Result<Option<Vec<u8>>, ViewExit> {
     let (a, b) = read_both(alloc, outside, runs.a, runs.b)?;
     match runs.bound {
@@ -160,7 +160,7 @@ fn difference_over<O: Outside>(
 fn difference_of<O: Outside>(
     alloc: Global,
     outside: &O,
-    runs: Runs<'_>,
+    runs: RunPair<'_>,
 ) -> Result<Option<Vec<u8>>, ViewExit> {
     let system = read_file(alloc, outside, runs.system, None)?;
     difference_over(alloc, outside, &system, runs)
@@ -170,7 +170,7 @@ fn difference_of<O: Outside>(
 fn failure_of<O: Outside>(
     alloc: Global,
     outside: &O,
-    run: Run<'_>,
+    run: RunFiles<'_>,
     name: &str,
 ) -> Result<Option<Vec<u8>>, ViewExit> {
     let text = read_file(alloc, outside, name, None)?;
@@ -195,31 +195,31 @@ fn print_difference<O: Outside>(
 }
 
 /// Prints what each task of a run waits or spins for after an event.
-fn print_why<O: Outside>(alloc: Global, outside: &mut O, run: Run<'_>, at: Option<u32>) -> u8 {
+fn print_why<O: Outside>(alloc: Global, outside: &mut O, run: RunFiles<'_>, at: Option<u32>) -> u8 {
     let made = made_of_run(alloc, outside, run, &Why { at });
     print_made(alloc, outside, made)
 }
 
 /// Prints the table of a run.
-fn print_stats<O: Outside>(alloc: Global, outside: &mut O, run: Run<'_>) -> u8 {
+fn print_stats<O: Outside>(alloc: Global, outside: &mut O, run: RunFiles<'_>) -> u8 {
     let made = made_of_run(alloc, outside, run, &Stats);
     print_made(alloc, outside, made)
 }
 
 /// Prints which expectation a run fails, with status 4 if it fails one.
-fn print_failure<O: Outside>(alloc: Global, outside: &mut O, run: Run<'_>, name: &str) -> u8 {
+fn print_failure<O: Outside>(alloc: Global, outside: &mut O, run: RunFiles<'_>, name: &str) -> u8 {
     let made = failure_of(alloc, outside, run, name);
     print_difference(alloc, outside, made)
 }
 
 /// Prints the first event in which two runs of a system differ, with status 4 if they differ.
-fn print_diff<O: Outside>(alloc: Global, outside: &mut O, runs: Runs<'_>) -> u8 {
+fn print_diff<O: Outside>(alloc: Global, outside: &mut O, runs: RunPair<'_>) -> u8 {
     let made = difference_of(alloc, outside, runs);
     print_difference(alloc, outside, made)
 }
 
 /// What is printed of a recorded run.
-fn print_recorded<O: Outside>(alloc: Global, outside: &mut O, run: Run<'_>, form: Form) -> u8 {
+fn print_recorded<O: Outside>(alloc: Global, outside: &mut O, run: RunFiles<'_>, form: Form) -> u8 {
     match made_of_run(alloc, outside, run, &form) {
         Ok(traced) => print_run(alloc, outside, &traced.text, None, &traced.why),
         Err(exit) => end(outside, &exit),
@@ -227,8 +227,8 @@ fn print_recorded<O: Outside>(alloc: Global, outside: &mut O, run: Run<'_>, form
 }
 
 /// Prints the table of the calls of a run.
-fn print_calls<O: Outside>(alloc: Global, outside: &mut O, run: Run<'_>) -> u8 {
-    let made = made_of_run(alloc, outside, run, &Output::Calls);
+fn print_calls<O: Outside>(alloc: Global, outside: &mut O, run: RunFiles<'_>) -> u8 {
+    let made = made_of_run(alloc, outside, run, &RunOutput::Calls);
     print_made(alloc, outside, made)
 }
 
@@ -236,7 +236,7 @@ fn print_calls<O: Outside>(alloc: Global, outside: &mut O, run: Run<'_>) -> u8 {
 fn run_timeline<O: Outside>(
     alloc: Global,
     outside: &O,
-    run: Run<'_>,
+    run: RunFiles<'_>,
     drawing: Drawing,
 ) -> Result<Picture, ViewExit> {
     let (system, _) = run.files();
@@ -262,7 +262,7 @@ fn say_cut<O: Outside>(outside: &mut O, cut: Option<PictureCut>) {
 fn write_timeline<O: Outside>(
     alloc: Global,
     outside: &mut O,
-    run: Run<'_>,
+    run: RunFiles<'_>,
     out: &str,
     drawing: Drawing,
 ) -> u8 {

@@ -9,7 +9,7 @@ use crate::exploration::{no_question, steps_over_input};
 use crate::exploring::{Explored, explored_image};
 use crate::faults::{FileNames, Form};
 use crate::reading::read_both;
-use crate::sources::{Exploring, Named, Sources};
+use crate::sources::{ExploredSources, Exploring, Named};
 use crate::texts::print_fault;
 use fmp_explore::{Question, SearchWatcher};
 use fmp_explore_names::{CallLines, ExploreChoices, LocalNames, question_by, wanted_by};
@@ -150,7 +150,7 @@ fn explore_question<O: Outside>(
         out: out.as_str(),
         answers: exploring.answers,
     };
-    let sources = Sources {
+    let sources = ExploredSources {
         image,
         bound: exploring.bound,
         lines,

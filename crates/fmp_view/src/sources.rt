@@ -35,7 +35,7 @@ pub struct Named<'a> {
 
 /// What is explored, and where its calls stand in the text.
 #[derive(Clone, Copy)]
-pub struct Sources<'a> {
+pub struct ExploredSources<'a> {
     pub image: &'a Image,
     pub bound: u64,
     pub lines: &'a CallLines,
@@ -60,7 +60,7 @@ pub fn say_made(out: &mut Vec<u8>, text: Result<String, AllocError>) -> Result<(
 pub fn say_place(
     alloc: Global,
     out: &mut Vec<u8>,
-    sources: &Sources<'_>,
+    sources: &ExploredSources<'_>,
     line: Option<u32>,
 ) -> Result<(), AllocError> {
     say(out, sources.named.src)?;

@@ -1,5 +1,5 @@
 //! What is printed of a run, and what is said of how its drive ended.
-use crate::commands::Ending;
+use crate::commands::DriveEnding;
 use crate::exit::ViewExit;
 use fmp_base::Call;
 use fmp_drive::{DriveStop, NextRun};
@@ -34,7 +34,7 @@ fn say_next<O: Outside>(outside: &mut O, stop: DriveStop, processor: usize, next
 }
 
 /// Says why a drive has stopped, and of each processor why it does not go on.
-fn say_end<O: Outside>(outside: &mut O, ending: Ending) {
+fn say_end<O: Outside>(outside: &mut O, ending: DriveEnding) {
     say_stop(outside, ending.stop);
     for p in 0..usize::from(ending.processors).min(8) {
         say_next(outside, ending.stop, p + 1, ending.next[p]);
@@ -53,7 +53,7 @@ pub fn print_run<O: Outside>(
     alloc: Global,
     outside: &mut O,
     text: &[u8],
-    ending: Option<Ending>,
+    ending: Option<DriveEnding>,
     why: &[u8],
 ) -> u8 {
     if let Some(ending) = ending {

@@ -3,7 +3,7 @@ ghost use Rattle.std.specs.Prelude.{◌≡◌, ◌+◌, ◌≤◌, ◌^◌, IfOk
 ghost use Rattle.fmp_frames.specs.Shown.{WasShown};
 ghost use Rattle.fmp_frames.specs.Timing.{first_timed, timed_of};
 
-use crate::commands::{Output, output_of};
+use crate::commands::{RunOutput, output_of};
 use crate::exit::{ViewExit, memory};
 use crate::looking::RunLook;
 use crate::opened::Opened;
@@ -100,7 +100,7 @@ fn stats_of<O: Opened, T: Coming<O::Bodies>>(
 ) -> Result<Vec<u8>, AllocError>
     requires { length events.now ≤ 2 ^ 31 }
 {
-    let mut table = output_of(alloc, opened, events, Output::Table)?;
+    let mut table = output_of(alloc, opened, events, RunOutput::Table)?;
     let times = known_times(alloc, times)?;
     if !times.is_empty() {
         let responses = responses_of(alloc, opened, events, &times)?;

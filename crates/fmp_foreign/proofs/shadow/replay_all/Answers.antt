@@ -1,5 +1,5 @@
 use Rattle.std.proofs.Common.{◌≡◌, ◌≢◌, rules}
-use Rattle.fmp_foreign.specs.declared.shadow.Verdict.TheVariants as verdict
+use Rattle.fmp_foreign.specs.declared.shadow.BodyVerdict.TheVariants as verdict
 use Rattle.fmp_foreign.proofs.Journals.{departs, further}
 use Rattle.fmp_foreign.proofs.shadow.replay_all.Goals as goal
 

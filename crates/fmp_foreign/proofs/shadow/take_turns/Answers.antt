@@ -1,5 +1,5 @@
 use Rattle.std.proofs.Common.{◌≡◌, ◌≢◌, [], ◌∷◌, arith, rules}
-use Rattle.fmp_foreign.specs.declared.shadow.Verdict.TheVariants as verdict
+use Rattle.fmp_foreign.specs.declared.shadow.BodyVerdict.TheVariants as verdict
 use Rattle.fmp_foreign.proofs.Following.{and_then}
 use Rattle.fmp_foreign.proofs.shadow.take_turns.Goals as goal
 

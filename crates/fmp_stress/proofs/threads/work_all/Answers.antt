@@ -1,7 +1,7 @@
 use denote.Param.Send.{sendable}
 use Rattle.std.proofs.Crossing.{crosses}
 use Rattle.fmp_board.proofs.Crossing.{board_sync}
-use Rattle.fmp_stress.proofs.asking.Plan.TheSendSync as plan
+use Rattle.fmp_stress.proofs.asking.SeatPlan.TheSendSync as plan
 use Rattle.fmp_stress.proofs.threads.work_all.Goals as goal
 
 -- many threads may share what the closure lends
