@@ -10,7 +10,8 @@ err_is P (Ok t) x h p = tt
 err_is P (Err y) x h p = subst P (sym h) p
 
 -- an end for a failure
-pub failed_is : (Of : Failure → Type 0) (exit : Exit) (failure : Failure) → exit ≡ Failed failure → Of failure → IsFailed Of exit
+pub failed_is : (Of : Failure → Type 0) (exit : Exit) (failure : Failure) → exit ≡ Failed failure → Of failure
+    → IsFailed Of exit
 failed_is Of exit failure is of = subst (IsFailed Of) (sym is) of
 
 -- the same, where the error was made of another one

@@ -1,11 +1,13 @@
 -- From what clap's getters say to the rows of its matches.
-use Rattle.std.proofs.Common.{◌≡◌, ◌∙◌, ◌<◌, ◌^◌, ℕ, [], arith, length, true, List, Option, Some, None, Result, Ok, Err, IfErr, IsErrAnd, ap, ap₂, refl, sym, subst, true≢false, option_map}
+use Rattle.std.proofs.Common.{◌≡◌, ◌∙◌, ◌<◌, ◌^◌, ℕ, [], arith, length, true, List, Option, Some, None, Result, Ok, Err}
+use Rattle.std.proofs.Common.{IfErr, IsErrAnd, ap, ap₂, refl, sym, subst, true≢false, option_map}
 use Rattle.std.specs.Option.{IsSomeAnd, is_some, unwrap_or}
 use Rattle.std.specs.Str.Parse.{ParsesUnsigned}
 use Rattle.clap.specs.Values.{IsUnsignedIn}
 use Rattle.clap.specs.Matches.{ReadsOne}
 use Rattle.clap.specs.declared.error.Error.{Error}
-use Rattle.clap.specs.Words.{App, HasKind, HasMatchesOf, Row, Text, fault_of, is_simple, is_simple_and_free, kind_of, subcommand_of, subcommand_rows_of}
+use Rattle.clap.specs.Words.{App, HasKind, HasMatchesOf, Row, Text, fault_of, is_simple, is_simple_and_free, kind_of}
+use Rattle.clap.specs.Words.{subcommand_of, subcommand_rows_of}
 use Rattle.clap.specs.declared.parser.matches.ArgMatches.{ArgMatches}
 use Rattle.fmp.specs.Asked.{AsksFor, IsAsked, IsRefused}
 use Rattle.fmp.specs.Form.{fmp}
@@ -29,15 +31,23 @@ both_views f g h (Some a) (Some b) e d = ap₂ (λ x y. Some (x, y)) (some-same 
 
 -- a number that was read has a text
 pub number_read : {E : Type 0} (gives : List ℕ → Result ℕ E → Type 0) (text : Option (List ℕ)) (read : Option ℕ) (n : ℕ)
-    → (text ≡ None → read ≡ None) → ((t : List ℕ) → text ≡ Some t → ReadsOne {T = ℕ} {E = E} gives t read) → read ≡ Some n
+    → (text ≡ None → read ≡ None) → ((t : List ℕ) → text ≡ Some t → ReadsOne {T = ℕ} {E = E} gives t read) → read
+    ≡ Some n
     → (t : List ℕ) × (text ≡ Some t) × gives t (Ok n)
 number_read gives None read n none some is = absurd (some≢none n (sym is ∙ none refl))
 number_read gives (Some t) None n none some is = absurd (some≢none n (sym is))
-number_read gives (Some t) (Some m) n none some is = (t, refl, subst (λ (k : ℕ). gives t (Ok k)) (some-same is) (some t refl))
+number_read gives (Some t) (Some m) n none some is = (
+  t,
+  refl,
+  subst (λ (k : ℕ). gives t (Ok k)) (some-same is)
+      (some t refl),
+)
 
 -- a text that spells a number of a range is read as one of n bits, if the range fits into these
-pub number_given : {E : Type 0} (bits least most : ℕ) (gives : List ℕ → Result ℕ E → Type 0) (text : Option (List ℕ)) (read : Option ℕ)
-    → most < 2 ^ bits → IsSomeAnd text (IsUnsignedIn least most) → ((t : List ℕ) → text ≡ Some t → ReadsOne {T = ℕ} {E = E} gives t read)
+pub number_given : {E : Type 0} (bits least most : ℕ) (gives : List ℕ → Result ℕ E → Type 0) (text : Option (List ℕ))
+    (read : Option ℕ)
+    → most < 2 ^ bits → IsSomeAnd text (IsUnsignedIn least most)
+    → ((t : List ℕ) → text ≡ Some t → ReadsOne {T = ℕ} {E = E} gives t read)
     → ((t : List ℕ) (r : Result ℕ E) → gives t r → ParsesUnsigned bits 10 t r) → is_some read ≡ true
 number_given bits least most gives None read fits is reads parses = absurd is
 number_given bits least most gives (Some t) (Some n) fits is reads parses = refl
@@ -51,29 +61,37 @@ form_is_simple = refl
 pub form_is_free : is_simple_and_free fmp ≡ true
 form_is_free = refl
 
-pub asks_for : (words : List Text) (name : Text) (rows : List Row) (cmd : Cmd) → 1 < length words → fault_of fmp words ≡ []
+pub asks_for : (words : List Text) (name : Text) (rows : List Row) (cmd : Cmd) → 1 < length words → fault_of fmp words
+    ≡ []
     → subcommand_of fmp words ≡ Some (name, rows) → IsAsked name rows cmd → AsksFor words cmd
 asks_for words name rows (Check config tasks) long fits entered asked = (long, fits, (name, rows, entered, asked))
 asks_for words name rows (Build config tasks image) long fits entered asked = (long, fits, (name, rows, entered, asked))
 asks_for words name rows (Sim image steps bound) long fits entered asked = (long, fits, (name, rows, entered, asked))
-asks_for words name rows (Host image journal turns ticks bound) long fits entered asked = (long, fits, (name, rows, entered, asked))
+asks_for words name rows (Host image journal turns ticks bound) long fits entered asked =
+    (long, fits, (name, rows, entered, asked))
 asks_for words name rows Stored long fits entered asked = absurd asked
 
 -- what stands on the other side of an option is there
-pub some_beside : {A R : Type 0} (view : A → R) (o : Option A) (rows : Option R) (P : R → Type 0) → option_map view o ≡ rows → IsSomeAnd rows P → is_some o ≡ true
+pub some_beside : {A R : Type 0} (view : A → R) (o : Option A) (rows : Option R) (P : R → Type 0) → option_map view o
+    ≡ rows → IsSomeAnd rows P → is_some o ≡ true
 some_beside view None rows P e has = absurd (subst (λ r. IsSomeAnd r P) (sym e) has)
 some_beside view (Some x) rows P e has = refl
 
 -- a parse of this form that succeeds has no fault, and has entered the subcommand that the words name
-pub fits_form : (app : App) (words : List Text) → app ≡ fmp → (is_simple_and_free app ≡ true → fault_of app words ≡ []) → fault_of fmp words ≡ []
-fits_form app words form none = sym (ap (λ (a : App). fault_of a words) form) ∙ none (ap is_simple_and_free form ∙ form_is_free)
+pub fits_form : (app : App) (words : List Text) → app ≡ fmp → (is_simple_and_free app ≡ true → fault_of app words
+    ≡ []) → fault_of fmp words ≡ []
+fits_form app words form none = sym (ap (λ (a : App). fault_of a words) form)
+    ∙ none (ap is_simple_and_free form ∙ form_is_free)
 
-pub enters_form : (app : App) (words : List Text) (m : ArgMatches) (seen : Option (Text × List Row)) → app ≡ fmp → HasMatchesOf app words m
+pub enters_form : (app : App) (words : List Text) (m : ArgMatches) (seen : Option (Text × List Row)) → app ≡ fmp
+    → HasMatchesOf app words m
     → seen ≡ subcommand_rows_of m → seen ≡ subcommand_of fmp words
-enters_form app words m seen form has is = is ∙ (has (ap is_simple form ∙ form_is_simple)).1 ∙ ap (λ (a : App). subcommand_of a words) form
+enters_form app words m seen form has is = is ∙ (has (ap is_simple form ∙ form_is_simple)).1
+    ∙ ap (λ (a : App). subcommand_of a words) form
 
 -- an error of such a parse is why the words are refused
-pub refused_form : {T : Type 0} (app : App) (words : List Text) (e : Error) (r : Result T Error) → app ≡ fmp → IsErrAnd r (λ x. x ≡ e)
+pub refused_form : {T : Type 0} (app : App) (words : List Text) (e : Error) (r : Result T Error) → app ≡ fmp
+    → IsErrAnd r (λ x. x ≡ e)
     → (is_simple_and_free app ≡ true → HasKind (fault_of app words) e) → IfErr r (λ x. IsRefused words (kind_of x))
 refused_form app words e (Ok x) form is fails = tt
 refused_form app words e (Err x) form is fails =

@@ -8,16 +8,19 @@ use Rattle.fmp.specs.declared.perform.Exit.{Exit}
 
 module _ {T : Type 0} (gave stopped : T → T → List ℕ → Type 0) (from to : T) where
   -- a text of which more holds
-  pub gives_then : (P Q : List ℕ → Type 0) (left : List ℕ) → ((text : List ℕ) → P text → Q text) → GivesText gave P from to left
+  pub gives_then : (P Q : List ℕ → Type 0) (left : List ℕ) → ((text : List ℕ) → P text → Q text)
+      → GivesText gave P from to left
       → GivesText gave Q from to left
   gives_then P Q left f h = record { text = h.text; holds = f h.text h.holds; given = h.given }
 
-  stopped_then : (P Q : List ℕ → Type 0) (left : List ℕ) → ((text : List ℕ) → P text → Q text) → GivesText stopped P from to left
+  stopped_then : (P Q : List ℕ → Type 0) (left : List ℕ) → ((text : List ℕ) → P text → Q text)
+      → GivesText stopped P from to left
       → GivesText stopped Q from to left
   stopped_then P Q left f h = record { text = h.text; holds = f h.text h.holds; given = h.given }
 
   pub cut_then : (Why Why' : Exit → Type 0) (P Q : List ℕ → Type 0) → ((exit : Exit) → Why exit → Why' exit)
-      → ((text : List ℕ) → P text → Q text) → (cut : CommandCut) → IsWhyCut gave stopped Why P from to cut → IsWhyCut gave stopped Why' Q from to cut
+      → ((text : List ℕ) → P text → Q text) → (cut : CommandCut) → IsWhyCut gave stopped Why P from to cut
+      → IsWhyCut gave stopped Why' Q from to cut
   cut_then Why Why' P Q why f (Refused exit) h = (why exit h.0, h.1)
   cut_then Why Why' P Q why f Stopped h = (h.0, stopped_then P Q h.0 f h.1)
 

@@ -1,5 +1,6 @@
 -- Whether two names lead to one file.
-use Rattle.std.proofs.Common.{◌≡◌, ◌≢◌, ◌⊎◌, inl, inr, ℕ, Bool, true, false, true≢false, IsTrue, IfSome, List, Option, Some, subst, sym}
+use Rattle.std.proofs.Common.{◌≡◌, ◌≢◌, ◌⊎◌, inl, inr, ℕ, Bool, true, false, true≢false, IsTrue, IfSome, List, Option}
+use Rattle.std.proofs.Common.{Some, subst, sym}
 use Rattle.std.specs.Prelude.{IsFalse}
 use Rattle.fmp_files.specs.Outside.{Files}
 use Rattle.fmp.specs.Runs.{AreOne, CanBeOne}

@@ -1,16 +1,29 @@
 -- The rows of a parse with no fault: each has values, which its argument accepts.
-use Rattle.std.proofs.Common.{◌≡◌, ◌∙◌, ◌<◌, ◌⊎◌, inl, inr, ◌++◌, ◌||◌, ◌&&◌, ℕ, zero, suc, List, [], ◌∷◌, length, Bool, true, false, cond, Option, Some, None, IfSome, ap, refl, sym, subst, arith, append-nil, find, fold, codes, bytes_eq, is_some, slice_get, chars, drop, encode_utf8}
+use Rattle.std.proofs.Common.{◌≡◌, ◌∙◌, ◌<◌, ◌⊎◌, inl, inr, ◌++◌, ◌||◌, ◌&&◌, ℕ, zero, suc, List, [], ◌∷◌, length, Bool}
+use Rattle.std.proofs.Common.{true, false, cond, Option, Some, None, IfSome, ap, refl, sym, subst, arith, append-nil}
+use Rattle.std.proofs.Common.{find, fold, codes, bytes_eq, is_some, slice_get, chars, drop, encode_utf8}
 use Rattle.std.proofs.lemmas.Bool.{lt-ltb, ne_eqb}
 use Rattle.std.specs.Option.{option_map_or}
 use Rattle.clap.specs.Facts.{unwrap_or_range}
-use Rattle.clap.specs.Faults.{action_fault, bundle_fault, bundle_step_fault, default_fault, defaults_fault, flag_word_fault, flags_fault, level_fault, long_fault, option_fault, react_fault, settle_fault, short_fault, step_fault, turn_fault, use_fault, values_fault, walk_fault, word_fault, other_fault, check_fault}
+use Rattle.clap.specs.Faults.{action_fault, bundle_fault, bundle_step_fault, default_fault, defaults_fault}
+use Rattle.clap.specs.Faults.{flag_word_fault, flags_fault, level_fault, long_fault, option_fault, react_fault}
+use Rattle.clap.specs.Faults.{settle_fault, short_fault, step_fault, turn_fault, use_fault, values_fault, walk_fault}
+use Rattle.clap.specs.Faults.{word_fault, other_fault, check_fault}
 use Rattle.clap.specs.Kinds.{Kinds, or_else, request_kinds}
 use Rattle.clap.specs.Simple.{Shape}
-use Rattle.clap.specs.Walk.{Held, Names, Outcome, Row, Rule, Step, Text, Waiting, Walk, action_of, after_flag, after_step, arg_by_id, arg_by_index, arg_by_long, arg_by_short, at_row, attached_value, bundle_met, bundle_step, default_rows, finished, has_row, is_empty, is_pending, long_met, long_or_other, more_values, nothing_held, option_met, plain_word, reacted, reading_by, rows_after, settled, settled_rows, short_met, short_or_plain, subcommand_met, subcommand_or_other, takes_several, takes_values, to_positional, used, used_as, used_by_id, values_or_missing, walk, walk_from, walked, walked_from, with_default, with_values, without, word_met}
+use Rattle.clap.specs.Walk.{Held, Names, Outcome, Row, Rule, Step, Text, Waiting, Walk, action_of, after_flag}
+use Rattle.clap.specs.Walk.{after_step, arg_by_id, arg_by_index, arg_by_long, arg_by_short, at_row, attached_value}
+use Rattle.clap.specs.Walk.{bundle_met, bundle_step, default_rows, finished, has_row, is_empty, is_pending, long_met}
+use Rattle.clap.specs.Walk.{long_or_other, more_values, nothing_held, option_met, plain_word, reacted, reading_by}
+use Rattle.clap.specs.Walk.{rows_after, settled, settled_rows, short_met, short_or_plain, subcommand_met}
+use Rattle.clap.specs.Walk.{subcommand_or_other, takes_several, takes_values, to_positional, used, used_as, used_by_id}
+use Rattle.clap.specs.Walk.{values_or_missing, walk, walk_from, walked, walked_from, with_default, with_values, without}
+use Rattle.clap.specs.Walk.{word_met}
 use Rattle.clap.specs.Walk.{done, waits, plain, refused, idle, option, positional, next, trailing, subcommand, value}
 use Rattle.clap.specs.Lexer.{long_of, short_of}
 use Rattle.clap.specs.declared.builder.action.ArgAction.{ArgAction}
-use Rattle.clap.specs.declared.builder.action.ArgAction.TheVariants.{Set, Append, SetTrue, SetFalse, Count, Help, HelpShort, HelpLong, Version}
+use Rattle.clap.specs.declared.builder.action.ArgAction.TheVariants.{Set, Append, SetTrue, SetFalse, Count, Help}
+use Rattle.clap.specs.declared.builder.action.ArgAction.TheVariants.{HelpShort, HelpLong, Version}
 use Rattle.clap.specs.declared.parser.matches.ValueSource.TheVariants.{CommandLine, DefaultValue}
 use Rattle.clap.specs.declared.parser.matches.ValueSource.{ValueSource}
 
@@ -27,11 +40,13 @@ each_append P (x ∷ xs) ys h k = (h.0, each_append P xs ys h.1 k)
 some-is : {X : Type 0} (P : X → Type 0) (x y : X) → Some x ≡ Some y → P x → P y
 some-is P x y e h = subst (λ o. IfSome o P) e h
 
-pub found_one : {X : Type 0} (P : X → Type 0) (p : X → Bool) (xs : List X) (x : X) → find p xs ≡ Some x → Each P xs → P x × (p x ≡ true)
+pub found_one : {X : Type 0} (P : X → Type 0) (p : X → Bool) (xs : List X) (x : X) → find p xs ≡ Some x → Each P xs
+    → P x × (p x ≡ true)
 found_one P p [] x e h = cc
 found_one P p (y ∷ ys) x e h = go (p y) refl e (λ same. found_one P p ys x same h.1)
   where
-    go : (b : Bool) → p y ≡ b → cond b (Some y) (find p ys) ≡ Some x → (find p ys ≡ Some x → P x × (p x ≡ true)) → P x × (p x ≡ true)
+    go : (b : Bool) → p y ≡ b → cond b (Some y) (find p ys) ≡ Some x → (find p ys ≡ Some x → P x × (p x ≡ true)) → P x
+        × (p x ≡ true)
     go true t same later = some-is (λ z. P z × (p z ≡ true)) y x same (h.0, t)
     go false t same later = later same
 
@@ -53,24 +68,30 @@ IsSound c r = IfSome (arg_by_id c r.id) (λ a. HasValues a r)
 -- an argument with a name of its own, which takes a value or asks for help
 abbrev pub IsUsual : List Rule → Rule → Type 0
 IsUsual c a = (arg_by_id c a.id ≡ Some a)
-    × (((action_of a ≡ Set) × (0 < (unwrap_or_range a.range).start_inclusive)) ⊎ (0 < length (request_kinds (action_of a))))
+    × (((action_of a ≡ Set) × (0 < (unwrap_or_range a.range).start_inclusive))
+    ⊎ (0 < length (request_kinds (action_of a))))
 
-pub at_none : (id : Text) (change : Row → List Row) (missing rows : List Row) → has_row id rows ≡ false → at_row id change missing rows ≡ rows ++ missing
+pub at_none : (id : Text) (change : Row → List Row) (missing rows : List Row) → has_row id rows ≡ false
+    → at_row id change missing rows ≡ rows ++ missing
 at_none id change missing [] none = refl
 at_none id change missing (r ∷ rs) none = go (bytes_eq r.id id) none (at_none id change missing rs)
   where
-    go : (b : Bool) → (b || has_row id rs) ≡ false → (has_row id rs ≡ false → at_row id change missing rs ≡ rs ++ missing)
+    go : (b : Bool) → (b || has_row id rs) ≡ false → (has_row id rs ≡ false → at_row id change missing rs ≡ rs
+        ++ missing)
         → cond b (change r ++ rs) (r ∷ at_row id change missing rs) ≡ r ∷ (rs ++ missing)
     go true e later = cc
     go false e later = ap (λ xs. r ∷ xs) (later e)
 
-new_row : (c : List Rule) (a : Rule) (s : ValueSource) (v : Text) (vs : List Text) (rows : List Row) → arg_by_id c a.id ≡ Some a → has_row a.id rows ≡ false
-    → values_fault a (v ∷ vs) ≡ [] → Each (IsSound c) rows → Each (IsSound c) (with_values a.id (reading_by a) s (v ∷ vs) rows)
+new_row : (c : List Rule) (a : Rule) (s : ValueSource) (v : Text) (vs : List Text) (rows : List Row)
+    → arg_by_id c a.id ≡ Some a → has_row a.id rows ≡ false
+    → values_fault a (v ∷ vs) ≡ [] → Each (IsSound c) rows → Each (IsSound c)
+    (with_values a.id (reading_by a) s (v ∷ vs) rows)
 new_row c a s v vs rows first none accepted h =
     let row : Row = record { id = a.id; values = v ∷ vs; count = None; source = Some s; reading = reading_by a } in
     let has : HasValues a row = record { some = omega arith; accepted = accepted; reading = refl } in
     let sound : IsSound c row = subst (λ o. IfSome o (λ x. HasValues x row)) (sym first) has in
-    subst (Each (IsSound c)) (sym (at_none a.id (more_values s (v ∷ vs)) (row ∷ []) rows none)) (each_append (IsSound c) rows (row ∷ []) h (sound, tt))
+    subst (Each (IsSound c)) (sym (at_none a.id (more_values s (v ∷ vs)) (row ∷ []) rows none))
+    (each_append (IsSound c) rows (row ∷ []) h (sound, tt))
 
 -- one value at least is asked for
 none_asked : (least most : ℕ) → 0 < least → Rattle.clap.specs.Kinds.range_kinds least most 0 ≡ [] → ⊥
@@ -78,7 +99,8 @@ none_asked least most some e =
     let b = lt-ltb 0 least some in
     let bad = rw b at e in cc
 
-set_sound : (c : List Rule) (a : Rule) (values : List Text) (rows : List Row) → arg_by_id c a.id ≡ Some a → 0 < (unwrap_or_range a.range).start_inclusive
+set_sound : (c : List Rule) (a : Rule) (values : List Text) (rows : List Row) → arg_by_id c a.id ≡ Some a
+    → 0 < (unwrap_or_range a.range).start_inclusive
     → use_fault false a values rows ≡ [] → action_of a ≡ Set → Each (IsSound c) rows
     → Each (IsSound c) (used_as Set a.id (reading_by a) (values_or_missing a values) rows)
 set_sound c a [] rows first least e set h = absurd (none_asked _ _ least (or_both _ _ e).0)
@@ -87,13 +109,16 @@ set_sound c a (v ∷ vs) rows first least e set h =
     let (fresh, accepted) = or_both _ _ acted in
     let none : has_row a.id rows ≡ false = go (has_row a.id rows) fresh in
     let kept : without a.id rows ≡ rows = at_none a.id (λ _. []) [] rows none ∙ append-nil rows in
-    subst (λ rs. Each (IsSound c) (with_values a.id (reading_by a) CommandLine (v ∷ vs) rs)) (sym kept) (new_row c a CommandLine v vs rows first none accepted h)
+    subst (λ rs. Each (IsSound c) (with_values a.id (reading_by a) CommandLine (v ∷ vs) rs)) (sym kept)
+    (new_row c a CommandLine v vs rows first none accepted h)
   where
-    go : (b : Bool) → cond (b && true) (Rattle.clap.specs.declared.error.kind.ErrorKind.TheVariants.ArgumentConflict ∷ []) [] ≡ [] → b ≡ false
+    go : (b : Bool) → cond (b && true) (Rattle.clap.specs.declared.error.kind.ErrorKind.TheVariants.ArgumentConflict
+        ∷ []) [] ≡ [] → b ≡ false
     go true e = cc
     go false e = refl
 
-asks_fault : (x : ArgAction) (again : Bool) (a : Rule) (values : List Text) (rows : List Row) → 0 < length (request_kinds x) → action_fault x again a values rows ≡ [] → ⊥
+asks_fault : (x : ArgAction) (again : Bool) (a : Rule) (values : List Text) (rows : List Row)
+    → 0 < length (request_kinds x) → action_fault x again a values rows ≡ [] → ⊥
 asks_fault Set again a values rows asks e = omega arith
 asks_fault Append again a values rows asks e = omega arith
 asks_fault SetTrue again a values rows asks e = omega arith
@@ -104,17 +129,20 @@ asks_fault HelpShort again a values rows asks e = cc
 asks_fault HelpLong again a values rows asks e = cc
 asks_fault Version again a values rows asks e = cc
 
-use_sound : (c : List Rule) (a : Rule) (values : List Text) (rows : List Row) → IsUsual c a → use_fault false a values rows ≡ []
+use_sound : (c : List Rule) (a : Rule) (values : List Text) (rows : List Row) → IsUsual c a
+    → use_fault false a values rows ≡ []
     → Each (IsSound c) rows → Each (IsSound c) (used a values rows)
 use_sound c a values rows usual e h = elim usual.1 [
-  | inl takes ↦ subst (λ x. Each (IsSound c) (used_as x a.id (reading_by a) (values_or_missing a values) rows)) (sym takes.0)
+  | inl takes ↦ subst (λ x. Each (IsSound c) (used_as x a.id (reading_by a) (values_or_missing a values) rows))
+      (sym takes.0)
       (set_sound c a values rows usual.0 takes.1 e takes.0 h)
   | inr asks ↦ absurd (asks_fault (action_of a) false a (values_or_missing a values) rows asks (or_both _ _ e).1)
 ]
 
 module _ (c : List Rule) (all : Each (IsUsual c) c) where
   by_id_sound : (id : Text) (values : List Text) (rows : List Row) (o : Option Rule) → arg_by_id c id ≡ o
-      → option_map_or (λ a. use_fault false a values rows) o [] ≡ [] → Each (IsSound c) rows → Each (IsSound c) (used_by_id o values rows)
+      → option_map_or (λ a. use_fault false a values rows) o [] ≡ [] → Each (IsSound c) rows
+      → Each (IsSound c) (used_by_id o values rows)
   by_id_sound id values rows None is e h = h
   by_id_sound id values rows (Some a) is e h = use_sound c a values rows (found_one (IsUsual c) _ c a is all).0 e h
 
@@ -124,7 +152,8 @@ module _ (c : List Rule) (all : Each (IsUsual c) c) where
   pending_sound rows None e h = h
   pending_sound rows (Some q) e h = by_id_sound q.0 q.1 rows (arg_by_id c q.0) refl e h
 
-  pub settled_sound : (h : Held) → settle_fault c false h ≡ [] → Each (IsSound c) h.rows → Each (IsSound c) (settled c h).rows
+  pub settled_sound : (h : Held) → settle_fault c false h ≡ [] → Each (IsSound c) h.rows
+      → Each (IsSound c) (settled c h).rows
   settled_sound h e sound = pending_sound h.rows h.pending e sound
 
   reacted_sound : (a : Rule) (values : List Text) (h : Held) → IsUsual c a → react_fault c false a values h ≡ []
@@ -139,7 +168,8 @@ module _ (c : List Rule) (all : Each (IsUsual c) c) where
   option_sound a (Some v) h usual e sound = reacted_sound a (v ∷ []) h usual e sound
 
   flag_sound : (a : Rule) (v : Option Text) (h : Held) → IsUsual c a
-      → cond (is_some v) (Rattle.clap.specs.declared.error.kind.ErrorKind.TheVariants.TooManyValues ∷ []) (react_fault c false a [] h) ≡ []
+      → cond (is_some v) (Rattle.clap.specs.declared.error.kind.ErrorKind.TheVariants.TooManyValues ∷ [])
+      (react_fault c false a [] h) ≡ []
       → Each (IsSound c) h.rows → Each (IsSound c) (Rattle.clap.specs.Walk.flag_met c a v h).0.rows
   flag_sound a None h usual e sound = reacted_sound a [] h usual e sound
   flag_sound a (Some v) h usual e sound = sound
@@ -151,7 +181,8 @@ module _ (c : List Rule) (all : Each (IsUsual c) c) where
     where
       go : (b : Bool)
           → cond b (option_fault c false a v h)
-          (cond (is_some v) (Rattle.clap.specs.declared.error.kind.ErrorKind.TheVariants.TooManyValues ∷ []) (react_fault c false a [] h)) ≡ []
+          (cond (is_some v) (Rattle.clap.specs.declared.error.kind.ErrorKind.TheVariants.TooManyValues ∷ [])
+          (react_fault c false a [] h)) ≡ []
           → Each (IsSound c) (cond b (option_met c a v h) (Rattle.clap.specs.Walk.flag_met c a v h)).0.rows
       go true f = option_sound a v h usual f sound
       go false f = flag_sound a v h usual f sound
@@ -174,22 +205,27 @@ module _ (c : List Rule) (all : Each (IsUsual c) c) where
       go : (b : Bool)
           → cond b (option_fault c false a (attached_value rest) h)
           (or_else (react_fault c false a [] h) (flags_fault c false k rest 0 (reacted c a [] h))) ≡ []
-          → Each (IsSound c) (cond b (option_met c a (attached_value rest) h) (bundle_met c k rest 0 done (reacted c a [] h))).0.rows
+          → Each (IsSound c) (cond b (option_met c a (attached_value rest) h)
+          (bundle_met c k rest 0 done (reacted c a [] h))).0.rows
       go true f = option_sound a (attached_value rest) h usual f sound
-      go false f = let (here, after) = or_both _ _ f in more rest 0 done (reacted c a [] h) after (reacted_sound a [] h usual here sound)
+      go false f = let (here, after) = or_both _ _ f in more rest 0 done (reacted c a [] h) after
+          (reacted_sound a [] h usual here sound)
 
   step_of_bundle : (k : ℕ) → BundleIsSound k → (o : Option ℕ) (flags : Text) (skip : ℕ) (so_far : Outcome) (h : Held)
       → bundle_step_fault c false o flags skip h (flags_fault c false k) ≡ [] → Each (IsSound c) h.rows
       → Each (IsSound c) (bundle_step c o flags skip so_far h (bundle_met c k)).0.rows
   step_of_bundle k more None flags skip so_far h e sound = sound
   step_of_bundle k more (Some x) flags zero so_far h e sound =
-      short_sound k more (arg_by_short c x) (drop (length (encode_utf8 x)) flags) h (usual_found _ (arg_by_short c x) refl) e sound
-  step_of_bundle k more (Some x) flags (suc skip) so_far h e sound = more (drop (length (encode_utf8 x)) flags) skip so_far h e sound
+      short_sound k more (arg_by_short c x) (drop (length (encode_utf8 x)) flags) h
+      (usual_found _ (arg_by_short c x) refl) e sound
+  step_of_bundle k more (Some x) flags (suc skip) so_far h e sound = more
+      (drop (length (encode_utf8 x)) flags) skip so_far h e sound
 
   bundle_sound : (k : ℕ) → BundleIsSound k
   unfolding flags_fault bundle_met
   bundle_sound zero flags skip so_far h e sound = sound
-  bundle_sound (suc k) flags skip so_far h e sound = step_of_bundle k (bundle_sound k) (slice_get (chars flags) 0) flags skip so_far h e sound
+  bundle_sound (suc k) flags skip so_far h e sound = step_of_bundle k (bundle_sound k)
+      (slice_get (chars flags) 0) flags skip so_far h e sound
 
   -- ---- one word
 
@@ -202,26 +238,31 @@ module _ (c : List Rule) (all : Each (IsUsual c) c) where
       go None = refl
       go (Some a) = refl
 
-  flag_rows : (waiting : Waiting) (word : Text) (h : Held) (o : Outcome) → (after_flag c waiting word h o).0.rows ≡ h.rows
+  flag_rows : (waiting : Waiting) (word : Text) (h : Held) (o : Outcome) → (after_flag c waiting word h o).0.rows
+      ≡ h.rows
   flag_rows waiting word h done = refl
   flag_rows waiting word h (waits id) = refl
   flag_rows waiting word h plain = plain_rows waiting word h
   flag_rows waiting word h refused = plain_rows waiting word h
 
-  after_flag_sound : (waiting : Waiting) (word : Text) (h : Held) (o : Outcome) → Each (IsSound c) h.rows → Each (IsSound c) (after_flag c waiting word h o).0.rows
+  after_flag_sound : (waiting : Waiting) (word : Text) (h : Held) (o : Outcome) → Each (IsSound c) h.rows
+      → Each (IsSound c) (after_flag c waiting word h o).0.rows
   after_flag_sound waiting word h o sound = subst (Each (IsSound c)) (sym (flag_rows waiting word h o)) sound
 
-  short_word_sound : (waiting : Waiting) (word : Text) (o : Option Text) (h : Held) → option_map_or (λ flags. bundle_fault c false flags h) o [] ≡ []
+  short_word_sound : (waiting : Waiting) (word : Text) (o : Option Text) (h : Held)
+      → option_map_or (λ flags. bundle_fault c false flags h) o [] ≡ []
       → Each (IsSound c) h.rows → Each (IsSound c) (short_or_plain c waiting word o h).0.rows
   short_word_sound waiting word None h e sound = subst (Each (IsSound c)) (sym (plain_rows waiting word h)) sound
   short_word_sound waiting word (Some flags) h e sound =
       after_flag_sound waiting word _ _ (bundle_sound (length flags) flags h.skip plain (record h { skip = 0 }) e sound)
 
-  flag_word_sound : (waiting : Waiting) (word : Text) (o : Option (Text × Option Text)) (h : Held) → flag_word_fault c false o word h ≡ []
+  flag_word_sound : (waiting : Waiting) (word : Text) (o : Option (Text × Option Text)) (h : Held)
+      → flag_word_fault c false o word h ≡ []
       → Each (IsSound c) h.rows → Each (IsSound c) (long_or_other c waiting word o h).0.rows
   flag_word_sound waiting word None h e sound = short_word_sound waiting word (short_of word) h e sound
   flag_word_sound waiting word (Some p) h e sound =
-      after_flag_sound waiting word _ _ (long_sound (arg_by_long c p.0) p.1 h (usual_found _ (arg_by_long c p.0) refl) e sound)
+      after_flag_sound waiting word _ _ (long_sound (arg_by_long c p.0) p.1 h
+      (usual_found _ (arg_by_long c p.0) refl) e sound)
 
   positional_sound : (o : Option Rule) (word : Text) (w : Walk) (h : Held)
       → option_map_or (λ a. Rattle.clap.specs.Faults.positional_fault c false a h) o [] ≡ [] → Each (IsSound c) h.rows
@@ -246,22 +287,26 @@ IsNoHelp disabled value = Unit {0}
 abbrev pub StopsAtNoHelp : Bool → Option (Text × List Text) → Type 0
 StopsAtNoHelp disabled stop = IfSome stop (λ p. disabled ≡ false → bytes_eq p.0 (codes "help") ≡ false)
 
-plain_no_help : (disabled : Bool) (c : List Rule) (waiting : Waiting) (word : Text) (h : Held) → IsNoHelp disabled (plain_word c waiting word h).1
+plain_no_help : (disabled : Bool) (c : List Rule) (waiting : Waiting) (word : Text) (h : Held)
+    → IsNoHelp disabled (plain_word c waiting word h).1
 plain_no_help disabled c idle word h = tt
 plain_no_help disabled c (option id) word h = tt
 plain_no_help disabled c positional word h = tt
 
-flag_no_help : (disabled : Bool) (c : List Rule) (waiting : Waiting) (word : Text) (h : Held) (o : Outcome) → IsNoHelp disabled (after_flag c waiting word h o).1
+flag_no_help : (disabled : Bool) (c : List Rule) (waiting : Waiting) (word : Text) (h : Held) (o : Outcome)
+    → IsNoHelp disabled (after_flag c waiting word h o).1
 flag_no_help disabled c waiting word h done = tt
 flag_no_help disabled c waiting word h (waits id) = tt
 flag_no_help disabled c waiting word h plain = plain_no_help disabled c waiting word h
 flag_no_help disabled c waiting word h refused = plain_no_help disabled c waiting word h
 
-short_no_help : (disabled : Bool) (c : List Rule) (waiting : Waiting) (word : Text) (o : Option Text) (h : Held) → IsNoHelp disabled (short_or_plain c waiting word o h).1
+short_no_help : (disabled : Bool) (c : List Rule) (waiting : Waiting) (word : Text) (o : Option Text) (h : Held)
+    → IsNoHelp disabled (short_or_plain c waiting word o h).1
 short_no_help disabled c waiting word None h = plain_no_help disabled c waiting word h
 short_no_help disabled c waiting word (Some flags) h = flag_no_help disabled c waiting word _ _
 
-word_no_help : (disabled : Bool) (c : List Rule) (waiting : Waiting) (word : Text) (o : Option (Text × Option Text)) (h : Held) → IsNoHelp disabled (long_or_other c waiting word o h).1
+word_no_help : (disabled : Bool) (c : List Rule) (waiting : Waiting) (word : Text) (o : Option (Text × Option Text))
+    (h : Held) → IsNoHelp disabled (long_or_other c waiting word o h).1
 word_no_help disabled c waiting word None h = short_no_help disabled c waiting word (short_of word) h
 word_no_help disabled c waiting word (Some p) h = flag_no_help disabled c waiting word _ _
 
@@ -274,9 +319,15 @@ abbrev pub Stands : Shape → Walk → Type 0
 Stands s w = Each (IsSound s.rules) w.held.rows × StopsAtNoHelp s.disable_help_subcommand w.stopped
 
 module _ (s : Shape) (usual : IsUsualLevel s) where
-  other_stands : (o : Option Text) (waiting : Waiting) (position : ℕ) (word : Text) (h : Held) → other_fault s o word h ≡ [] → Each (IsSound s.rules) h.rows
-      → Each (IsSound s.rules) (subcommand_or_other s.rules o waiting position word h).0.rows × IsNoHelp s.disable_help_subcommand (subcommand_or_other s.rules o waiting position word h).1
-  other_stands (Some name) waiting position word h e sound = (sound, λ enabled. go (bytes_eq name (codes "help")) (rw enabled at e))
+  other_stands : (o : Option Text) (waiting : Waiting) (position : ℕ) (word : Text) (h : Held)
+      → other_fault s o word h ≡ [] → Each (IsSound s.rules) h.rows
+      → Each (IsSound s.rules) (subcommand_or_other s.rules o waiting position word h).0.rows
+      × IsNoHelp s.disable_help_subcommand (subcommand_or_other s.rules o waiting position word h).1
+  other_stands (Some name) waiting position word h e sound = (
+    sound,
+    λ enabled. go (bytes_eq name (codes "help"))
+        (rw enabled at e),
+  )
     where
       go : (b : Bool)
           → cond (b && true) (Rattle.clap.specs.declared.error.kind.ErrorKind.TheVariants.DisplayHelp
@@ -284,42 +335,56 @@ module _ (s : Shape) (usual : IsUsualLevel s) where
       go true f = cc
       go false f = refl
   other_stands None waiting position word h e sound =
-      go (bytes_eq word (45 ∷ 45 ∷ [])) (subst (λ again. cond (bytes_eq word (45 ∷ 45 ∷ [])) [] (flag_word_fault s.rules again (long_of word) word h) ≡ []) usual.again e)
+      go (bytes_eq word (45 ∷ 45 ∷ [])) (subst (λ again. cond (bytes_eq word (45 ∷ 45 ∷ [])) []
+      (flag_word_fault s.rules again (long_of word) word h) ≡ []) usual.again e)
     where
       go : (b : Bool) → cond b [] (flag_word_fault s.rules false (long_of word) word h) ≡ []
-          → Each (IsSound s.rules) (cond b (h, trailing position) (long_or_other s.rules waiting word (long_of word) h)).0.rows
-          × IsNoHelp s.disable_help_subcommand (cond b (h, trailing position) (long_or_other s.rules waiting word (long_of word) h)).1
+          → Each (IsSound s.rules) (cond b (h, trailing position) (long_or_other s.rules waiting word
+          (long_of word) h)).0.rows
+          × IsNoHelp s.disable_help_subcommand (cond b (h, trailing position)
+          (long_or_other s.rules waiting word (long_of word) h)).1
       go true f = (sound, tt)
-      go false f = (flag_word_sound s.rules usual.rules waiting word (long_of word) h f sound, word_no_help s.disable_help_subcommand s.rules waiting word (long_of word) h)
+      go false f = (
+        flag_word_sound s.rules usual.rules waiting word (long_of word) h f sound,
+        word_no_help
+            s.disable_help_subcommand s.rules waiting word (long_of word) h,
+      )
 
   met_stands : (names : Names) (is_trailing : Bool) (waiting : Waiting) (position : ℕ) (word : Text) (h : Held)
       → word_fault s names is_trailing waiting word h ≡ [] → Each (IsSound s.rules) h.rows
-      → Each (IsSound s.rules) (word_met s.rules names is_trailing waiting position word h).0.rows × IsNoHelp s.disable_help_subcommand (word_met s.rules names is_trailing waiting position word h).1
+      → Each (IsSound s.rules) (word_met s.rules names is_trailing waiting position word h).0.rows
+      × IsNoHelp s.disable_help_subcommand (word_met s.rules names is_trailing waiting position word h).1
   met_stands names true waiting position word h e sound = (sound, tt)
-  met_stands names false waiting position word h e sound = other_stands (subcommand_met names waiting word) waiting position word h e sound
+  met_stands names false waiting position word h e sound = other_stands
+      (subcommand_met names waiting word) waiting position word h e sound
 
-  positional_stop : (o : Option Rule) (word : Text) (w : Walk) (h : Held) → StopsAtNoHelp s.disable_help_subcommand w.stopped
+  positional_stop : (o : Option Rule) (word : Text) (w : Walk) (h : Held)
+      → StopsAtNoHelp s.disable_help_subcommand w.stopped
       → StopsAtNoHelp s.disable_help_subcommand (to_positional s.rules o word w h).stopped
   positional_stop None word w h stop = stop
   positional_stop (Some a) word w h stop = tt
 
-  after_stands : (word : Text) (w : Walk) (h : Held) (step : Step) → step_fault s w.position h step ≡ [] → Each (IsSound s.rules) h.rows → IsNoHelp s.disable_help_subcommand step
+  after_stands : (word : Text) (w : Walk) (h : Held) (step : Step) → step_fault s w.position h step ≡ []
+      → Each (IsSound s.rules) h.rows → IsNoHelp s.disable_help_subcommand step
       → StopsAtNoHelp s.disable_help_subcommand w.stopped → Stands s (after_step s.rules word w h step)
   after_stands word w h (next waiting) e sound calm stop = (sound, stop)
   after_stands word w h (trailing position) e sound calm stop = (sound, stop)
   after_stands word w h (subcommand name) e sound calm stop = (sound, calm)
   after_stands word w h value e sound calm stop = (
-    positional_sound s.rules usual.rules (arg_by_index s.rules w.position) word w h (taken (arg_by_index s.rules w.position) e) sound,
+    positional_sound s.rules usual.rules (arg_by_index s.rules w.position) word w h
+        (taken (arg_by_index s.rules w.position) e) sound,
     positional_stop (arg_by_index s.rules w.position) word w h stop,
   )
     where
       taken : (o : Option Rule)
-          → option_map_or (λ a. Rattle.clap.specs.Faults.positional_fault s.rules s.args_override_self a h) o (Rattle.clap.specs.Faults.stray_fault s) ≡ []
+          → option_map_or (λ a. Rattle.clap.specs.Faults.positional_fault s.rules s.args_override_self a h) o
+          (Rattle.clap.specs.Faults.stray_fault s) ≡ []
           → option_map_or (λ a. Rattle.clap.specs.Faults.positional_fault s.rules false a h) o [] ≡ []
       taken None f = refl
       taken (Some a) f = subst (λ again. Rattle.clap.specs.Faults.positional_fault s.rules again a h ≡ []) usual.again f
 
-  turn_stands : (names : Names) (w : Walk) (word : Text) → turn_fault s names w word ≡ [] → Stands s w → Stands s (walked s.rules names w word)
+  turn_stands : (names : Names) (w : Walk) (word : Text) → turn_fault s names w word ≡ [] → Stands s w
+      → Stands s (walked s.rules names w word)
   unfolding walked
   turn_stands names w word e stands = go w.stopped e stands.1
     where
@@ -334,7 +399,8 @@ module _ (s : Shape) (usual : IsUsualLevel s) where
           let (sound, calm) = met_stands names w.is_trailing w.waiting w.position word w.held fits stands.0 in
           after_stands word w _ _ goes sound calm stands.1
 
-  walk_stands : (names : Names) (words : List Text) (w : Walk) → walk_fault s names w words ≡ [] → Stands s w → Stands s (fold (walked s.rules names) w words)
+  walk_stands : (names : Names) (words : List Text) (w : Walk) → walk_fault s names w words ≡ [] → Stands s w
+      → Stands s (fold (walked s.rules names) w words)
   unfolding walk_fault
   walk_stands names [] w e stands = stands
   walk_stands names (word ∷ words) w e stands =
@@ -343,7 +409,8 @@ module _ (s : Shape) (usual : IsUsualLevel s) where
 
   -- ---- defaults
 
-  default_sound : (a : Rule) (rows : List Row) → IsUsual s.rules a → default_fault rows a ≡ [] → Each (IsSound s.rules) rows → Each (IsSound s.rules) (with_default rows a)
+  default_sound : (a : Rule) (rows : List Row) → IsUsual s.rules a → default_fault rows a ≡ []
+      → Each (IsSound s.rules) rows → Each (IsSound s.rules) (with_default rows a)
   default_sound a rows own e sound = go (has_row a.id rows) refl a.defaults e
     where
       go : (b : Bool) → has_row a.id rows ≡ b → (values : List Text)
@@ -357,7 +424,8 @@ module _ (s : Shape) (usual : IsUsualLevel s) where
           subst (λ b. cond b [] (or_else (request_kinds (action_of a)) (values_fault a (v ∷ vs))) ≡ []) some f in
           new_row s.rules a DefaultValue v vs rows own.0 has (or_both _ _ given).1 sound
 
-  defaults_sound : (rest : List Rule) (rows : List Row) → Each (IsUsual s.rules) rest → defaults_fault rows rest ≡ [] → Each (IsSound s.rules) rows
+  defaults_sound : (rest : List Rule) (rows : List Row) → Each (IsUsual s.rules) rest → defaults_fault rows rest ≡ []
+      → Each (IsSound s.rules) rows
       → Each (IsSound s.rules) (fold with_default rows rest)
   unfolding defaults_fault
   defaults_sound [] rows own e sound = sound
@@ -366,8 +434,10 @@ module _ (s : Shape) (usual : IsUsualLevel s) where
       defaults_sound rest (with_default rows a) own.1 after (default_sound a rows own.0 here sound)
 
   -- what stands after one level of a parse with no fault
-  pub level_stands : (names : Names) (words : List Text) (has : Bool) (below : Kinds) → level_fault s names nothing_held words has below ≡ []
-      → Each (IsSound s.rules) (rows_after s.rules names words) × StopsAtNoHelp s.disable_help_subcommand (walk s.rules names nothing_held words).stopped
+  pub level_stands : (names : Names) (words : List Text) (has : Bool) (below : Kinds)
+      → level_fault s names nothing_held words has below ≡ []
+      → Each (IsSound s.rules) (rows_after s.rules names words)
+      × StopsAtNoHelp s.disable_help_subcommand (walk s.rules names nothing_held words).stopped
       × (below ≡ []) × (check_fault s (rows_after s.rules names words) has ≡ [])
   level_stands names words has below e =
       let (walks, rest) = or_both _ _ e in
@@ -376,5 +446,10 @@ module _ (s : Shape) (usual : IsUsualLevel s) where
       let (defaults, checks) = or_both _ _ rest3 in
       let stands = walk_stands names words (walk_from nothing_held) walks (tt, tt) in
       let end = (walk s.rules names nothing_held words).held in
-      let settled_here = subst (λ again. settle_fault s.rules again end ≡ []) usual.again settles in
-      (defaults_sound s.rules (settled s.rules end).rows usual.rules defaults (settled_sound s.rules usual.rules end settled_here stands.0), stands.1, under, checks)
+      let settled_here = subst (λ again. settle_fault s.rules again end ≡ []) usual.again settles in (
+        defaults_sound s.rules (settled s.rules end).rows usual.rules defaults
+            (settled_sound s.rules usual.rules end settled_here stands.0),
+        stands.1,
+        under,
+        checks,
+      )

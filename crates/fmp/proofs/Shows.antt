@@ -12,9 +12,11 @@ use Rattle.fmp.specs.declared.perform.Exit.{Exit}
 use Rattle.fmp.specs.declared.perform.Exit.TheVariants.{Failed}
 use Rattle.fmp.specs.Performed.{IsWhyNot, status_of}
 use Rattle.fmp.specs.Printing.{PrintsFront}
-use Rattle.fmp.specs.Runs.{AreInputs, CarriedOut, EndsCommand, IsNoneOf, KeepsInputs, done, failed, faulty, unread, writes_to}
+use Rattle.fmp.specs.Runs.{AreInputs, CarriedOut, EndsCommand, IsNoneOf, KeepsInputs, done, failed, faulty, unread}
+use Rattle.fmp.specs.Runs.{writes_to}
 
-module _ (files : Files) (can_fail : Bool) (before : Option (List Deed)) (cmd : Cmd) (fileless : output_of cmd ≡ None) where
+module _ (files : Files) (can_fail : Bool) (before : Option (List Deed)) (cmd : Cmd)
+    (fileless : output_of cmd ≡ None) where
   -- it writes over nothing that it reads
   pub kept : KeepsInputs files cmd
   kept = subst (λ (o : Option (List ℕ)). IfSome o (IsNoneOf files (inputs_of cmd))) (sym fileless) tt
@@ -33,21 +35,27 @@ module _ (files : Files) (can_fail : Bool) (before : Option (List Deed)) (cmd : 
         → EndsCommand files can_fail cmd before after status
     ends_all after status p zero =
         done p.text before kept (carried after [] p)
-        (all_printed (subst (λ (bytes : List ℕ). Prints before bytes after) (sym (p.text_is ∙ append-nil p.front)) p.printed) zero)
+        (all_printed (subst (λ (bytes : List ℕ). Prints before bytes after)
+        (sym (p.text_is ∙ append-nil p.front)) p.printed) zero)
 
     -- standard output has failed
     pub ends_cut : (between after : Option (List Deed)) (left : List ℕ) (status : ℕ) → IsTrue can_fail
-        → PrintsFront cmd inputs before between left → Says between after → status ≡ 3 → EndsCommand files can_fail cmd before after status
+        → PrintsFront cmd inputs before between left → Says between after → status ≡ 3
+        → EndsCommand files can_fail cmd before after status
     ends_cut between after left status fails p said three =
-        done p.text before kept (carried between left p) (some_printed fails p.front left p.text_is between p.printed said three)
+        done p.text before kept (carried between left p) (some_printed fails p.front left p.text_is between p.printed
+        said three)
 
     -- it is not carried out
     pub ends_refused : (exit : Exit) (between after : Option (List Deed)) (status : ℕ) → IsWhyNot cmd inputs exit
-        → Does before [] between → Says between after → status ≡ status_of exit → EndsCommand files can_fail cmd before after status
-    ends_refused exit between after status why nothing said same = failed exit between kept (faulty inputs read why nothing) said same
+        → Does before [] between → Says between after → status ≡ status_of exit
+        → EndsCommand files can_fail cmd before after status
+    ends_refused exit between after status why nothing said same = failed exit between kept
+        (faulty inputs read why nothing) said same
 
   -- a file could not be read, or memory ran out
-  pub ends_failed : (failure : Failure) (after : Option (List Deed)) (status : ℕ) → IsFailureOf files (inputs_of cmd) failure
+  pub ends_failed : (failure : Failure) (after : Option (List Deed)) (status : ℕ)
+      → IsFailureOf files (inputs_of cmd) failure
       → Says before after → status ≡ 3 → EndsCommand files can_fail cmd before after status
   ends_failed failure after status of said same =
       failed (Failed failure) before kept (unread of (does_nothing before)) said same

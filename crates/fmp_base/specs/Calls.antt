@@ -14,7 +14,9 @@ use Rattle.fmp_base.specs.Permissions.{permission, is_barred}
 use Rattle.fmp_base.specs.Services.{service_of}
 use Rattle.fmp_base.specs.States.{KernelState, task_at, processor_at}
 use Rattle.fmp_base.specs.Systems.{SystemTables}
-use Rattle.fmp_base.specs.TaskCalls.{act_tsk, iact_tsk, can_act, ter_tsk, chg_pri, get_pri, mact_tsk, mig_tsk, slp_tsk, tslp_tsk, wup_tsk, iwup_tsk, can_wup, rel_wai, sus_tsk, rsm_tsk, dly_tsk, rot_rdq, irot_rdq, mrot_rdq, get_tid}
+use Rattle.fmp_base.specs.TaskCalls.{act_tsk, iact_tsk, can_act, ter_tsk, chg_pri, get_pri, mact_tsk, mig_tsk, slp_tsk}
+use Rattle.fmp_base.specs.TaskCalls.{tslp_tsk, wup_tsk, iwup_tsk, can_wup, rel_wai, sus_tsk, rsm_tsk, dly_tsk, rot_rdq}
+use Rattle.fmp_base.specs.TaskCalls.{irot_rdq, mrot_rdq, get_tid}
 use Rattle.fmp_base.specs.SemaphoreCalls.{sig_sem, wai_sem, twai_sem, ld_shr, st_shr}
 use Rattle.fmp_base.specs.FlagCalls.{set_flg, clr_flg, wai_flg, twai_flg}
 use Rattle.fmp_base.specs.DataQueueCalls.{snd_dtq, tsnd_dtq, fsnd_dtq, rcv_dtq, trcv_dtq}

@@ -7,7 +7,8 @@ use Rattle.fmp_base.specs.declared.states.Lock.TheVariants.{Free}
 use Rattle.fmp_base.specs.declared.states.Phase.{Phase}
 use Rattle.fmp_base.specs.declared.states.Phase.TheVariants.{Dormant, Ready, Waiting}
 use Rattle.fmp_base.specs.declared.states.TaskBlock.{TaskBlock}
-use Rattle.fmp_base.specs.States.{KernelState, Progress, unchanged, processor_at, with_processor, with_task, with_last, with_removed}
+use Rattle.fmp_base.specs.States.{KernelState, Progress, unchanged, processor_at, with_processor, with_task, with_last}
+use Rattle.fmp_base.specs.States.{with_removed}
 use Rattle.fmp_base.specs.Systems.{SystemTables, task_config, found}
 
 -- the block of a task that starts: a stored processor becomes the assigned one

@@ -1,7 +1,8 @@
 -- The main error codes of the uITRON 4.0 specification, section 2.4.5.
 use Rattle.std.specs.Prelude.{ℕ, ℤ, pos, negsuc, List, codes}
 use Rattle.fmp_base.specs.declared.codes.Er.{Er}
-use Rattle.fmp_base.specs.declared.codes.Er.TheVariants.{Ok, Sys, Nospt, Rsatr, Par, Id, Ctx, Iluse, Obj, Qovr, Rlwai, Tmout}
+use Rattle.fmp_base.specs.declared.codes.Er.TheVariants.{Ok, Sys, Nospt, Rsatr, Par, Id, Ctx, Iluse, Obj, Qovr, Rlwai}
+use Rattle.fmp_base.specs.declared.codes.Er.TheVariants.{Tmout}
 
 -- the number of a code: `negsuc n` is the number -(n + 1)
 abbrev pub code_of : Er → ℤ

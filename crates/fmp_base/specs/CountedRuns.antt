@@ -11,7 +11,8 @@ use Rattle.fmp_base.specs.Finishes.{ended_in, Finishes, over, did, did_nothing, 
 use Rattle.fmp_base.specs.declared.bodies.HandlerContext.{HandlerContext}
 use Rattle.fmp_base.specs.declared.bodies.Held.{Held}
 use Rattle.fmp_base.specs.declared.bodies.Held.TheVariants.{Goes, Awaits}
-use Rattle.fmp_base.specs.Meanings.{Meaning, Contexts, World, task_body, context_at, body_in, context_in, context_of, caller_body, with_context}
+use Rattle.fmp_base.specs.Meanings.{Meaning, Contexts, World, task_body, context_at, body_in, context_in, context_of}
+use Rattle.fmp_base.specs.Meanings.{caller_body, with_context}
 use Rattle.fmp_base.specs.Runs.{Trace, after_first, completed_by, completed_on, complete_run}
 use Rattle.fmp_base.specs.Steps.{Done, Reaction, Nothing, Did, Kept, with_place, step}
 use Rattle.fmp_base.specs.Stretches.{Ending}
@@ -19,7 +20,8 @@ use Rattle.fmp_base.specs.Stretches as ends
 use Rattle.fmp_base.specs.Systems.{SystemTables}
 use Rattle.fmp_base.specs.TieLaws.{body_in-tied, AllTied-context_at, context_of-tied, step-tied}
 use Rattle.fmp_base.specs.Ties as ties
-use Rattle.fmp_base.specs.Ties.{OptionTied, AllTied, StretchTied, Any, KeepsTie, HandlerTied, HeldTied, ContextsTied, WorldTied, KeptOn, DoneTied}
+use Rattle.fmp_base.specs.Ties.{OptionTied, AllTied, StretchTied, Any, KeepsTie, HandlerTied, HeldTied, ContextsTied}
+use Rattle.fmp_base.specs.Ties.{WorldTied, KeptOn, DoneTied}
 
 AllTied-set_left : {C D : Type 0} (R : ℕ → C → D → Type 0) (cs : List (Option C)) (ds : List (Option D)) (i : ℕ)
     (c : Option C)
@@ -115,7 +117,8 @@ module _ {C : Type 0} (sys : SystemTables) (M : Meaning C) (n size t : ℕ) wher
         state = l.state;
       }
 
-  pub plainly : (v : World (KeptTimes C)) (es : List Event) (xs : List Effect) (ds : List Event) (r : Trace (KeptTimes C))
+  pub plainly : (v : World (KeptTimes C)) (es : List Event) (xs : List Effect) (ds : List Event)
+      (r : Trace (KeptTimes C))
       → Finishes sys (counted M) (OnceMore M n size) t v es xs ds r
       → (w : World C) → WorldTied sys Same Same v w → Plainly w ds r
   plainly _ _ _ _ _ (over v) w h = record { trace = ended_in w; complete = refl; events = refl; state = h.states }

@@ -1,5 +1,6 @@
 -- The service calls on data queues (uITRON 4.0, section 4.4.3).
-use Rattle.std.specs.Prelude.{ℕ, ℤ, pos, List, [], ◌∷◌, ◌++◌, Option, Some, None, Bool, true, false, length, nat_eq, nat_lt, slice_set, get_or}
+use Rattle.std.specs.Prelude.{ℕ, ℤ, pos, List, [], ◌∷◌, ◌++◌, Option, Some, None, Bool, true, false, length, nat_eq}
+use Rattle.std.specs.Prelude.{nat_lt, slice_set, get_or}
 use Rattle.fmp_base.specs.declared.codes.Er.TheVariants as er
 use Rattle.fmp_base.specs.declared.states.Phase.{Phase}
 use Rattle.fmp_base.specs.declared.states.Phase.TheVariants.{Dormant, Ready, Waiting}
@@ -9,7 +10,8 @@ use Rattle.fmp_base.specs.declared.states.WaitCause.{WaitCause}
 use Rattle.fmp_base.specs.declared.states.WaitCause.TheVariants as cause
 use Rattle.fmp_base.specs.declared.states.WaitQueue.TheVariants as queue
 use Rattle.fmp_base.specs.Changes.{released}
-use Rattle.fmp_base.specs.Outcomes.{CallOutcome, code, given, succeeds, succeeds_in, gives, waits_within, limit_of, numbered, tested, refused_if}
+use Rattle.fmp_base.specs.Outcomes.{CallOutcome, code, given, succeeds, succeeds_in, gives, waits_within, limit_of}
+use Rattle.fmp_base.specs.Outcomes.{numbered, tested, refused_if}
 use Rattle.fmp_base.specs.Queues.{first_waiting}
 use Rattle.fmp_base.specs.States.{KernelState, unchanged, task_at}
 use Rattle.fmp_base.specs.Systems.{SystemTables, data_queue_config}

@@ -6,7 +6,8 @@ use Rattle.fmp_base.specs.declared.events.Event.{Event}
 use Rattle.fmp_base.specs.declared.events.Event.TheVariants.{Run, Tick, Int}
 use Rattle.fmp_base.specs.declared.events.Line.{Line}
 use Rattle.fmp_base.specs.Meanings.{Meaning, World}
-use Rattle.fmp_base.specs.Runs.{Trace, after_first, run, run_on, done_events, done_on, effects, effects_on, completed_by, completed_on, complete_run}
+use Rattle.fmp_base.specs.Runs.{Trace, after_first, run, run_on, done_events, done_on, effects, effects_on}
+use Rattle.fmp_base.specs.Runs.{completed_by, completed_on, complete_run}
 use Rattle.fmp_base.specs.Steps.{Reaction, Nothing, Did, Kept, with_place, step}
 use Rattle.fmp_base.specs.Systems.{SystemTables}
 use Rattle.fmp_base.specs.Ties.{KeepsTie, HeldTied, WorldTied, KeptOn, DoneTied, TraceAgrees}

@@ -1,5 +1,6 @@
 -- The service calls on eventflags (uITRON 4.0, section 4.4.2).
-use Rattle.std.specs.Prelude.{ℕ, zero, suc, ℤ, pos, negsuc, List, [], ◌∷◌, Option, Some, None, Bool, true, false, not, ◌&&◌, length, nat_eq, slice_set, get_or, bit_and, bit_or}
+use Rattle.std.specs.Prelude.{ℕ, zero, suc, ℤ, pos, negsuc, List, [], ◌∷◌, Option, Some, None, Bool, true, false, not}
+use Rattle.std.specs.Prelude.{◌&&◌, length, nat_eq, slice_set, get_or, bit_and, bit_or}
 use Rattle.fmp_base.specs.declared.codes.Er.TheVariants as er
 use Rattle.fmp_base.specs.declared.states.FlagMode.{FlagMode}
 use Rattle.fmp_base.specs.declared.states.FlagMode.TheVariants as modes
@@ -11,7 +12,8 @@ use Rattle.fmp_base.specs.declared.states.WaitCause.{WaitCause}
 use Rattle.fmp_base.specs.declared.states.WaitCause.TheVariants as cause
 use Rattle.fmp_base.specs.declared.states.WaitQueue.TheVariants as queue
 use Rattle.fmp_base.specs.Changes.{released}
-use Rattle.fmp_base.specs.Outcomes.{CallOutcome, given, succeeds, succeeds_in, gives, waits_within, limit_of, numbered, ranged, tested, refused_if}
+use Rattle.fmp_base.specs.Outcomes.{CallOutcome, given, succeeds, succeeds_in, gives, waits_within, limit_of, numbered}
+use Rattle.fmp_base.specs.Outcomes.{ranged, tested, refused_if}
 use Rattle.fmp_base.specs.Queues.{wait_queue}
 use Rattle.fmp_base.specs.States.{KernelState, Progress, unchanged, task_at}
 use Rattle.fmp_base.specs.Systems.{SystemTables, flag_config}

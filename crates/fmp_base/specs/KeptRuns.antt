@@ -3,7 +3,8 @@ use Rattle.std.specs.Prelude.{ℕ, ◌+◌, ◌*◌, ◌≤◌, ◌≡◌, refl,
 use Rattle.std.proofs.Common.{sym, ◌∙◌, arith}
 use Rattle.fmp_base.specs.declared.events.Effect.{Effect}
 use Rattle.fmp_base.specs.declared.events.Event.{Event}
-use Rattle.fmp_base.specs.KeptTimes.{KeptTimes, counted, OnceMore, AtCall, After, counted_begins, counted_keeps, nothing_text}
+use Rattle.fmp_base.specs.KeptTimes.{KeptTimes, counted, OnceMore, AtCall, After, counted_begins, counted_keeps}
+use Rattle.fmp_base.specs.KeptTimes.{nothing_text}
 use Rattle.fmp_base.specs.CountedRuns.{Same, keeps_same, plainly}
 use Rattle.fmp_base.specs.Finishes.{Finishes, IsComplete}
 use Rattle.fmp_base.specs.FinishLaws.{finished-like, done_events-first, IsComplete-agrees}

@@ -7,7 +7,8 @@ use Rattle.fmp_base.specs.Stretches.{Ending, is_over}
 use Rattle.fmp_base.specs.Stretches as ends
 use Rattle.fmp_base.specs.Ties.{StretchTied, over, kept, call, end_, fault, Any, KeepsTie}
 use Rattle.fmp_base.specs.NothingLaws.{Never, hands_over}
-use Rattle.fmp_base.specs.KeptTies.{Handed, Follows, KeptTied, not_kept, kept_again, kept_ends_within, ended_too, kept_few}
+use Rattle.fmp_base.specs.KeptTies.{Handed, Follows, KeptTied, not_kept, kept_again, kept_ends_within, ended_too}
+use Rattle.fmp_base.specs.KeptTies.{kept_few}
 
 -- the context in which a stretch begins, and how often it has been kept since
 pub record KeptTimes (C : Type 0) : Type 0 where
@@ -162,7 +163,8 @@ module _ {C D : Type 0} (R S : ℕ → C → D → Type 0) (N : Meaning C) (M : 
   by_over x (ends.End d) none ended = ended refl
   by_over x (ends.Fault d w) none ended = ended refl
 
-  pub nothing_text : (i t body : ℕ) (k : C) (d : KeptTimes D) → After i body k d → hands_over (N.stretch body n k) ≡ false
+  pub nothing_text : (i t body : ℕ) (k : C) (d : KeptTimes D) → After i body k d → hands_over (N.stretch body n k)
+      ≡ false
       → StretchTied Any Any Never (counted_ending (M.stretch body t d.context)) (N.stretch body n k)
   nothing_text i t body k d h free =
       let m = n * d.times in

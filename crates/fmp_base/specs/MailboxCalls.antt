@@ -1,5 +1,6 @@
 -- The service calls on mailboxes (uITRON 4.0, section 4.4.4). A message is its number and its priority.
-use Rattle.std.specs.Prelude.{ℕ, ◌+◌, ℤ, pos, List, [], ◌∷◌, ◌++◌, Option, Some, None, Bool, false, ◌&&◌, ◌||◌, length, nat_eq, nat_lt, slice_set, get_or, if◌then◌else◌}
+use Rattle.std.specs.Prelude.{ℕ, ◌+◌, ℤ, pos, List, [], ◌∷◌, ◌++◌, Option, Some, None, Bool, false, ◌&&◌, ◌||◌, length}
+use Rattle.std.specs.Prelude.{nat_eq, nat_lt, slice_set, get_or, if◌then◌else◌}
 use Rattle.fmp_base.specs.declared.codes.Er.TheVariants as er
 use Rattle.fmp_base.specs.declared.states.TaskBlock.{TaskBlock}
 use Rattle.fmp_base.specs.declared.states.TimeLimit.{TimeLimit}
@@ -8,7 +9,8 @@ use Rattle.fmp_base.specs.declared.states.WaitQueue.TheVariants as queue
 use Rattle.fmp_base.specs.declared.systems.QueueOrder.{QueueOrder}
 use Rattle.fmp_base.specs.declared.systems.QueueOrder.TheVariants.{Fifo, Priority}
 use Rattle.fmp_base.specs.Changes.{released}
-use Rattle.fmp_base.specs.Outcomes.{CallOutcome, given, succeeds, succeeds_in, gives, waits_within, limit_of, numbered, tested, refused_if}
+use Rattle.fmp_base.specs.Outcomes.{CallOutcome, given, succeeds, succeeds_in, gives, waits_within, limit_of, numbered}
+use Rattle.fmp_base.specs.Outcomes.{tested, refused_if}
 use Rattle.fmp_base.specs.Queues.{first_waiting, is_by_priority}
 use Rattle.fmp_base.specs.States.{KernelState, unchanged, task_at}
 use Rattle.fmp_base.specs.Systems.{SystemTables, mailbox_config, message_config}

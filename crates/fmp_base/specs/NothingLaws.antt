@@ -13,13 +13,15 @@ use Rattle.fmp_base.specs.declared.bodies.Held.{Held}
 use Rattle.fmp_base.specs.declared.bodies.Held.TheVariants.{Goes, Awaits}
 use Rattle.fmp_base.specs.Meanings.{Meaning, Contexts, World, caller_body, context_of}
 use Rattle.fmp_base.specs.States.{KernelState, Progress, processor_at}
-use Rattle.fmp_base.specs.Steps.{Nothing, actor_of, answered, stretched, run_in, run_by, interrupted, interrupted_by, step}
+use Rattle.fmp_base.specs.Steps.{Nothing, actor_of, answered, stretched, run_in, run_by, interrupted, interrupted_by}
+use Rattle.fmp_base.specs.Steps.{step}
 use Rattle.fmp_base.specs.Stretches.{Ending, is_over}
 use Rattle.fmp_base.specs.Stretches as ends
 use Rattle.fmp_base.specs.Systems.{SystemTables, interrupt_config}
 use Rattle.fmp_base.specs.Ticks.{is_pending}
 use Rattle.fmp_base.specs.TieLaws.{caller_body-tied, context_of-tied}
-use Rattle.fmp_base.specs.Ties.{StretchTied, over, kept, call, end_, fault, Any, OptionTied, HeldTied, ContextsTied, WorldTied}
+use Rattle.fmp_base.specs.Ties.{StretchTied, over, kept, call, end_, fault, Any, OptionTied, HeldTied, ContextsTied}
+use Rattle.fmp_base.specs.Ties.{WorldTied}
 
 abbrev pub Never : {C : Type 0} → C → Type 0
 Never c = ⊥

@@ -1,12 +1,15 @@
 -- What the operators of the task language give: exact arithmetic, then the test of 32 bits.
-use Rattle.std.specs.Prelude.{ℕ, zero, suc, ◌^◌, Bool, true, false, not, nat_lt, if◌then◌else◌, ℤ, pos, negsuc, ◌+ℤ◌, ◌-ℤ◌, ◌*ℤ◌, neg_ℤ, int_div, int_rem, int_lt, Result, Ok, Err}
+use Rattle.std.specs.Prelude.{ℕ, zero, suc, ◌^◌, Bool, true, false, not, nat_lt, if◌then◌else◌, ℤ, pos, negsuc, ◌+ℤ◌}
+use Rattle.std.specs.Prelude.{◌-ℤ◌, ◌*ℤ◌, neg_ℤ, int_div, int_rem, int_lt, Result, Ok, Err}
 use Rattle.std.specs.Int.{w32, int_bit_and, int_bit_or, int_bit_xor}
 use Rattle.fmp_base.specs.declared.bodies.Fault.{Fault}
 use Rattle.fmp_base.specs.declared.bodies.Fault.TheVariants.{Overflow, Division, Index}
 use Rattle.fmp_base.specs.declared.operators.UnaryOperator.{UnaryOperator}
 use Rattle.fmp_base.specs.declared.operators.UnaryOperator.TheVariants.{Negate, Not, Complement}
 use Rattle.fmp_base.specs.declared.operators.BinaryOperator.{BinaryOperator}
-use Rattle.fmp_base.specs.declared.operators.BinaryOperator.TheVariants.{Add, Subtract, Multiply, Divide, Remainder, And, Or, ExclusiveOr, Equal, NotEqual, Less, LessOrEqual, Greater, GreaterOrEqual}
+use Rattle.fmp_base.specs.declared.operators.BinaryOperator.TheVariants.{Add, Subtract, Multiply, Divide, Remainder}
+use Rattle.fmp_base.specs.declared.operators.BinaryOperator.TheVariants.{And, Or, ExclusiveOr, Equal, NotEqual, Less}
+use Rattle.fmp_base.specs.declared.operators.BinaryOperator.TheVariants.{LessOrEqual, Greater, GreaterOrEqual}
 
 -- a number, or the fault in its place
 abbrev pub Value : Type 0

@@ -1,5 +1,6 @@
 -- The outcome of a service call, and the tests of its arguments (uITRON 4.0, section 2.1).
-use Rattle.std.specs.Prelude.{ℕ, zero, suc, ◌^◌, ℤ, pos, negsuc, Option, Some, None, Bool, true, false, nat_lt, nat_le, if◌then◌else◌}
+use Rattle.std.specs.Prelude.{ℕ, zero, suc, ◌^◌, ℤ, pos, negsuc, Option, Some, None, Bool, true, false, nat_lt, nat_le}
+use Rattle.std.specs.Prelude.{if◌then◌else◌}
 use Rattle.fmp_base.specs.declared.calls.Answer.{Answer}
 use Rattle.fmp_base.specs.declared.calls.Answer.TheVariants.{Replies, Waits}
 use Rattle.fmp_base.specs.declared.calls.Reply.{Reply}

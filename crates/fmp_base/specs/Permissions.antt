@@ -4,7 +4,8 @@ use Rattle.fmp_base.specs.declared.calls.Call.{Call}
 use Rattle.fmp_base.specs.declared.services.Service.{Service}
 use Rattle.fmp_base.specs.declared.services.Service.TheVariants as service
 use Rattle.fmp_base.specs.declared.permissions.Permission.{Permission}
-use Rattle.fmp_base.specs.declared.permissions.Permission.TheVariants.{Anywhere, LockedTasks, Tasks, TasksOnOthers, WaitingTasks, Handlers}
+use Rattle.fmp_base.specs.declared.permissions.Permission.TheVariants.{Anywhere, LockedTasks, Tasks, TasksOnOthers}
+use Rattle.fmp_base.specs.declared.permissions.Permission.TheVariants.{WaitingTasks, Handlers}
 use Rattle.fmp_base.specs.declared.states.Caller.{Caller}
 use Rattle.fmp_base.specs.declared.states.Caller.TheVariants as caller
 use Rattle.fmp_base.specs.declared.states.Processor.{Processor}

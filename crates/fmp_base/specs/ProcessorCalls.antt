@@ -1,6 +1,7 @@
 -- The service calls on cyclic handlers and on the state of the caller's processor p (uITRON 4.0, sections 4.7.2
 -- and 4.8; FMP kernel, spin locks).
-use Rattle.std.specs.Prelude.{ℕ, ℤ, List, [], ◌∷◌, Option, Some, None, Bool, true, false, ◌||◌, not, length, nat_eq, slice_set}
+use Rattle.std.specs.Prelude.{ℕ, ℤ, List, [], ◌∷◌, Option, Some, None, Bool, true, false, ◌||◌, not, length, nat_eq}
+use Rattle.std.specs.Prelude.{slice_set}
 use Rattle.fmp_base.specs.declared.calls.Answer.TheVariants.{Spins}
 use Rattle.fmp_base.specs.declared.codes.Er.TheVariants as er
 use Rattle.fmp_base.specs.declared.states.Lock.{Lock}

@@ -1,13 +1,15 @@
 -- The service calls on semaphores and shared words (uITRON 4.0, section 4.4.1). Shared words are this
 -- kernel's own.
-use Rattle.std.specs.Prelude.{ℕ, zero, suc, ◌+◌, ℤ, Option, Some, None, length, nat_lt, slice_set, get_or, pos, if◌then◌else◌}
+use Rattle.std.specs.Prelude.{ℕ, zero, suc, ◌+◌, ℤ, Option, Some, None, length, nat_lt, slice_set, get_or, pos}
+use Rattle.std.specs.Prelude.{if◌then◌else◌}
 use Rattle.fmp_base.specs.declared.codes.Er.TheVariants as er
 use Rattle.fmp_base.specs.declared.states.TaskBlock.{TaskBlock}
 use Rattle.fmp_base.specs.declared.states.TimeLimit.{TimeLimit}
 use Rattle.fmp_base.specs.declared.states.WaitCause.TheVariants as cause
 use Rattle.fmp_base.specs.declared.states.WaitQueue.TheVariants as queue
 use Rattle.fmp_base.specs.Changes.{released}
-use Rattle.fmp_base.specs.Outcomes.{CallOutcome, code, refused, succeeds, succeeds_in, gives, waits_within, limit_of, numbered, tested}
+use Rattle.fmp_base.specs.Outcomes.{CallOutcome, code, refused, succeeds, succeeds_in, gives, waits_within, limit_of}
+use Rattle.fmp_base.specs.Outcomes.{numbered, tested}
 use Rattle.fmp_base.specs.Queues.{first_waiting}
 use Rattle.fmp_base.specs.States.{KernelState, unchanged, task_at}
 use Rattle.fmp_base.specs.Systems.{SystemTables, semaphore_config}

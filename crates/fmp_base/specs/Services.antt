@@ -1,14 +1,17 @@
 -- The service calls: function codes, names, parameters, arguments, and what they do.
-use Rattle.std.specs.Prelude.{ℕ, ℤ, pos, List, [], ◌∷◌, length, Option, Some, None, Bool, true, false, not, codes, get_or}
+use Rattle.std.specs.Prelude.{ℕ, ℤ, pos, List, [], ◌∷◌, length, Option, Some, None, Bool, true, false, not, codes}
+use Rattle.std.specs.Prelude.{get_or}
 use Rattle.std.specs.List.{filter, position}
 use Rattle.fmp_base.specs.declared.services.Service.{Service}
 use Rattle.fmp_base.specs.declared.services.Service.TheVariants as service
 use Rattle.fmp_base.specs.declared.catalogue.Action.{Action}
 use Rattle.fmp_base.specs.declared.catalogue.Action.TheVariants.{Activates, WakesUp, Migrates, Changes, Gives, Takes}
 use Rattle.fmp_base.specs.declared.catalogue.ObjectKind.{ObjectKind}
-use Rattle.fmp_base.specs.declared.catalogue.ObjectKind.TheVariants.{Task, Semaphore, Flag, DataQueue, Mailbox, Message, SharedWord, SpinLock, Cyclic}
+use Rattle.fmp_base.specs.declared.catalogue.ObjectKind.TheVariants.{Task, Semaphore, Flag, DataQueue, Mailbox, Message}
+use Rattle.fmp_base.specs.declared.catalogue.ObjectKind.TheVariants.{SharedWord, SpinLock, Cyclic}
 use Rattle.fmp_base.specs.declared.catalogue.Parameter.{Parameter}
-use Rattle.fmp_base.specs.declared.catalogue.Parameter.TheVariants.{Object, TaskOrCaller, Processor, Priority, Pattern, Mode, Number, Delay, Limit, Out}
+use Rattle.fmp_base.specs.declared.catalogue.Parameter.TheVariants.{Object, TaskOrCaller, Processor, Priority, Pattern}
+use Rattle.fmp_base.specs.declared.catalogue.Parameter.TheVariants.{Mode, Number, Delay, Limit, Out}
 use Rattle.fmp_base.specs.declared.calls.Call.{Call}
 use Rattle.fmp_base.specs.declared.calls.Call.TheVariants as call
 

@@ -3,7 +3,8 @@
 -- starts the task. A start looks at no other object, and no object is changed once it is made, so the APIs of one table
 -- may be carried out before those of another: setup is defined over the tables, the tasks in order of number, which is
 -- the order of the text.
-use Rattle.std.specs.Prelude.{ℕ, ◌+◌, List, [], ◌∷◌, Option, Some, None, Bool, true, false, replicate, length, map, if◌then◌else◌}
+use Rattle.std.specs.Prelude.{ℕ, ◌+◌, List, [], ◌∷◌, Option, Some, None, Bool, true, false, replicate, length, map}
+use Rattle.std.specs.Prelude.{if◌then◌else◌}
 use Rattle.fmp_base.specs.declared.bodies.Held.{Held}
 use Rattle.fmp_base.specs.declared.bodies.Held.TheVariants.{Goes}
 use Rattle.fmp_base.specs.declared.states.Phase.TheVariants.{Dormant}

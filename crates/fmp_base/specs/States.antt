@@ -16,7 +16,8 @@
 -- _to: to the first task that waits, if one does (message_sent_to)
 -- _in: in the state, list or world that is given (succeeds_in, priority_in)
 -- _on: on processor p (settled_on); of runs, what comes after a reaction (run_on)
-use Rattle.std.specs.Prelude.{ℕ, zero, suc, ◌+◌, ℤ, List, [], ◌∷◌, ◌++◌, Option, None, Bool, false, slice_get, slice_set, filter, not, nat_eq}
+use Rattle.std.specs.Prelude.{ℕ, zero, suc, ◌+◌, ℤ, List, [], ◌∷◌, ◌++◌, Option, None, Bool, false, slice_get}
+use Rattle.std.specs.Prelude.{slice_set, filter, not, nat_eq}
 use Rattle.fmp_base.specs.declared.events.Line.{Line}
 use Rattle.fmp_base.specs.declared.states.Lock.TheVariants.{Free}
 use Rattle.fmp_base.specs.declared.states.Phase.TheVariants.{Dormant}

@@ -18,7 +18,8 @@ use Rattle.fmp_base.specs.declared.states.Processor.{Processor}
 use Rattle.fmp_base.specs.declared.systems.InterruptConfig.{InterruptConfig}
 use Rattle.fmp_base.specs.Calls.{called}
 use Rattle.fmp_base.specs.Changes.{ended_itself}
-use Rattle.fmp_base.specs.Meanings.{Meaning, Contexts, World, caller_body, context_of, with_context, with_handler_context, task_begun, contexts_after_all}
+use Rattle.fmp_base.specs.Meanings.{Meaning, Contexts, World, caller_body, context_of, with_context}
+use Rattle.fmp_base.specs.Meanings.{with_handler_context, task_begun, contexts_after_all}
 use Rattle.fmp_base.specs.Outcomes.{CallOutcome}
 use Rattle.fmp_base.specs.Settles.{settled}
 use Rattle.fmp_base.specs.States.{KernelState, Progress, unchanged, task_at, processor_at, with_processor}

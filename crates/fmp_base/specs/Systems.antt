@@ -1,5 +1,6 @@
 -- The tables of an accepted configuration, as data without memory, and look-ups in them by place.
-use Rattle.std.specs.Prelude.{ℕ, ◌+◌, pos, List, [], ◌∷◌, Option, Some, None, Bool, true, false, slice_get, nat_eq, if◌then◌else◌}
+use Rattle.std.specs.Prelude.{ℕ, ◌+◌, pos, List, [], ◌∷◌, Option, Some, None, Bool, true, false, slice_get, nat_eq}
+use Rattle.std.specs.Prelude.{if◌then◌else◌}
 use Rattle.fmp_base.specs.declared.names.Name.{Name}
 use Rattle.fmp_base.specs.declared.systems.Entry.{Entry}
 use Rattle.fmp_base.specs.declared.systems.Entry.TheVariants as entry

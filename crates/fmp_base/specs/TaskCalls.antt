@@ -1,6 +1,7 @@
 -- The service calls that manage tasks (uITRON 4.0, sections 4.1 and 4.2; FMP kernel, task management).
 -- p is the processor of the caller, me the caller's place, x a task's block.
-use Rattle.std.specs.Prelude.{ℕ, zero, suc, ◌+◌, ◌^◌, ℤ, pos, Option, Some, None, Bool, true, false, ◌||◌, not, length, nat_eq, nat_lt, if◌then◌else◌}
+use Rattle.std.specs.Prelude.{ℕ, zero, suc, ◌+◌, ◌^◌, ℤ, pos, Option, Some, None, Bool, true, false, ◌||◌, not, length}
+use Rattle.std.specs.Prelude.{nat_eq, nat_lt, if◌then◌else◌}
 use Rattle.fmp_base.specs.declared.codes.Er.TheVariants as er
 use Rattle.fmp_base.specs.declared.states.Phase.{Phase}
 use Rattle.fmp_base.specs.declared.states.Phase.TheVariants.{Dormant, Ready, Waiting}
@@ -9,7 +10,8 @@ use Rattle.fmp_base.specs.declared.states.TimeLimit.{TimeLimit}
 use Rattle.fmp_base.specs.declared.states.WaitCause.{WaitCause}
 use Rattle.fmp_base.specs.declared.states.WaitCause.TheVariants as cause
 use Rattle.fmp_base.specs.Changes.{started, released, ended, suspended}
-use Rattle.fmp_base.specs.Outcomes.{CallOutcome, code, refused, succeeds, succeeds_in, gives, waits, waits_within, limit_of, numbered, named, ranged, tested, refused_if, on_task}
+use Rattle.fmp_base.specs.Outcomes.{CallOutcome, code, refused, succeeds, succeeds_in, gives, waits, waits_within}
+use Rattle.fmp_base.specs.Outcomes.{limit_of, numbered, named, ranged, tested, refused_if, on_task}
 use Rattle.fmp_base.specs.Queues.{is_ready, queue_of, stands_by_priority, first_ready}
 use Rattle.fmp_base.specs.States.{KernelState, unchanged, clock_after, task_at, with_task, with_last}
 use Rattle.fmp_base.specs.Systems.{SystemTables, task_config, is_allowed_by}

@@ -1,5 +1,6 @@
 -- The system clock, the ends of limited waits, cyclic handlers and interrupts (uITRON 4.0, sections 4.7 and 4.9).
-use Rattle.std.specs.Prelude.{ℕ, ◌+◌, List, [], ◌∷◌, ◌++◌, Option, Some, None, Bool, true, false, length, nat_eq, slice_get, slice_set}
+use Rattle.std.specs.Prelude.{ℕ, ◌+◌, List, [], ◌∷◌, ◌++◌, Option, Some, None, Bool, true, false, length, nat_eq}
+use Rattle.std.specs.Prelude.{slice_get, slice_set}
 use Rattle.fmp_base.specs.declared.codes.Er.{Er}
 use Rattle.fmp_base.specs.declared.codes.Er.TheVariants as er
 use Rattle.fmp_base.specs.declared.events.Line.TheVariants as line

@@ -1,6 +1,7 @@
 -- The laws of ties: from one stretch to whole runs. No case for any service call is needed, since no call looks
 -- into a context.
-use Rattle.std.specs.Prelude.{ℕ, zero, suc, ◌+◌, ◌≡◌, refl, List, [], ◌∷◌, ◌++◌, Option, Some, None, Bool, true, false, map, slice_get, slice_set, replicate, length}
+use Rattle.std.specs.Prelude.{ℕ, zero, suc, ◌+◌, ◌≡◌, refl, List, [], ◌∷◌, ◌++◌, Option, Some, None, Bool, true, false}
+use Rattle.std.specs.Prelude.{map, slice_get, slice_set, replicate, length}
 use Rattle.std.proofs.Common.{subst, sym, ap, ◌∙◌}
 use Rattle.fmp_base.specs.declared.bodies.HandlerContext.{HandlerContext}
 use Rattle.fmp_base.specs.declared.bodies.HandlerStart.{HandlerStart}
@@ -20,16 +21,22 @@ use Rattle.fmp_base.specs.declared.states.Handler.{Handler}
 use Rattle.fmp_base.specs.declared.systems.InterruptConfig.{InterruptConfig}
 use Rattle.fmp_base.specs.declared.systems.TaskConfig.{TaskConfig}
 use Rattle.fmp_base.specs.Calls.{called}
-use Rattle.fmp_base.specs.Meanings.{Meaning, Contexts, World, task_body, handler_start, fresh_context, context_at, context_in, body_in, context_of, caller_body, context_for, with_context, told, delivered_to, called_back, task_begun, handler_begun, contexts_after, contexts_after_all}
+use Rattle.fmp_base.specs.Meanings.{Meaning, Contexts, World, task_body, handler_start, fresh_context, context_at}
+use Rattle.fmp_base.specs.Meanings.{context_in, body_in, context_of, caller_body, context_for, with_context, told}
+use Rattle.fmp_base.specs.Meanings.{delivered_to, called_back, task_begun, handler_begun, contexts_after}
+use Rattle.fmp_base.specs.Meanings.{contexts_after_all}
 use Rattle.fmp_base.specs.Runs.{Trace, completed_by, completed_on, complete_run}
 use Rattle.fmp_base.specs.Settles.{settled}
 use Rattle.fmp_base.specs.Setups.{setup, first_contexts, all_started, created_state}
 use Rattle.fmp_base.specs.States.{KernelState, Progress, unchanged, processor_at, places_from}
-use Rattle.fmp_base.specs.Steps.{Reaction, Nothing, Did, Kept, with_place, finished, actor_of, actor_ended, contexts_ended, ended_with, answered, stretched, run_in, run_by, interrupted, interrupted_by, step}
+use Rattle.fmp_base.specs.Steps.{Reaction, Nothing, Did, Kept, with_place, finished, actor_of, actor_ended}
+use Rattle.fmp_base.specs.Steps.{contexts_ended, ended_with, answered, stretched, run_in, run_by, interrupted}
+use Rattle.fmp_base.specs.Steps.{interrupted_by, step}
 use Rattle.fmp_base.specs.Stretches.{Ending}
 use Rattle.fmp_base.specs.Systems.{SystemTables, body_of, task_config, interrupt_config}
 use Rattle.fmp_base.specs.Ticks.{ticked, with_interrupt_pending}
-use Rattle.fmp_base.specs.Ties.{OptionTied, AllTied, StretchTied, over, kept, call, end_, fault, Any, KeepsTie, HandlerTied, HeldTied, ContextsTied, WorldTied, BothDone, KeptOn, DoneTied, TraceAgrees}
+use Rattle.fmp_base.specs.Ties.{OptionTied, AllTied, StretchTied, over, kept, call, end_, fault, Any, KeepsTie}
+use Rattle.fmp_base.specs.Ties.{HandlerTied, HeldTied, ContextsTied, WorldTied, BothDone, KeptOn, DoneTied, TraceAgrees}
 
 pub AllTied-slice_set : {C D : Type 0} (R : ℕ → C → D → Type 0) (cs : List (Option C)) (ds : List (Option D)) (i : ℕ)
     (c : Option C) (d : Option D)

@@ -1,6 +1,7 @@
 -- The words of both texts: constants, API names, service names and keywords; and the bytes of which words and names are
 -- made.
-use Rattle.std.specs.Prelude.{ℤ, pos, negsuc, ℕ, Bool, false, ◌==◌, ◌&&◌, ◌||◌, nat_eq, nat_le, List, [], ◌∷◌, Option, codes, find}
+use Rattle.std.specs.Prelude.{ℤ, pos, negsuc, ℕ, Bool, false, ◌==◌, ◌&&◌, ◌||◌, nat_eq, nat_le, List, [], ◌∷◌, Option}
+use Rattle.std.specs.Prelude.{codes, find}
 use Rattle.std.specs.Str.{bytes_eq}
 use Rattle.fmp_base.specs.declared.services.Service.{Service}
 use Rattle.fmp_base.specs.Codes.{code_of, code_name}

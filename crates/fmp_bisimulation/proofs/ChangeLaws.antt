@@ -1,5 +1,6 @@
 -- Start, release, end and suspension of a task come to the same in alike states.
-use Rattle.std.proofs.Common.{◌≡◌, ℕ, zero, suc, List, [], ◌∷◌, ◌++◌, Option, None, Bool, true, false, refl, sym, ap, subst}
+use Rattle.std.proofs.Common.{◌≡◌, ℕ, zero, suc, List, [], ◌∷◌, ◌++◌, Option, None, Bool, true, false, refl, sym, ap}
+use Rattle.std.proofs.Common.{subst}
 use Rattle.fmp_base.specs.declared.calls.Reply.{Reply}
 use Rattle.fmp_base.specs.declared.events.Line.{Line}
 use Rattle.fmp_base.specs.declared.events.Line.TheVariants as line
@@ -7,14 +8,17 @@ use Rattle.fmp_base.specs.declared.states.Phase.{Phase}
 use Rattle.fmp_base.specs.declared.states.Phase.TheVariants.{Dormant, Ready, Waiting}
 use Rattle.fmp_base.specs.declared.states.TaskBlock.{TaskBlock}
 use Rattle.fmp_base.specs.declared.states.WaitCause.{WaitCause}
-use Rattle.fmp_base.specs.Changes.{started_block, started_as, started, released_state, released, ended_block, ended_by, ended, with_nothing_run, ended_itself, suspended_by, suspended}
+use Rattle.fmp_base.specs.Changes.{started_block, started_as, started, released_state, released, ended_block, ended_by}
+use Rattle.fmp_base.specs.Changes.{ended, with_nothing_run, ended_itself, suspended_by, suspended}
 use Rattle.fmp_base.specs.States.{KernelState, Progress, unchanged, task_at, processor_at, with_task}
 use Rattle.fmp_base.specs.Systems.{SystemTables}
 use Rattle.fmp_bisimulation.specs.Alike.{SameTime, SameBlock, AlikeStates, SameProgress, Place, stands_at}
 use Rattle.fmp_bisimulation.proofs.TimeLaws.{by_block, blocks-at}
-use Rattle.fmp_bisimulation.proofs.StateLaws.{Stays, alike-with_task, alike-with_last, alike-with_removed, alike-changed}
+use Rattle.fmp_bisimulation.proofs.StateLaws.{Stays, alike-with_task, alike-with_last, alike-with_removed}
+use Rattle.fmp_bisimulation.proofs.StateLaws.{alike-changed}
 
-pub unchanged-same : (sys : SystemTables) (s u : KernelState) → AlikeStates sys s u → SameProgress sys (unchanged s) (unchanged u)
+pub unchanged-same : (sys : SystemTables) (s u : KernelState) → AlikeStates sys s u
+    → SameProgress sys (unchanged s) (unchanged u)
 unchanged-same sys s u h = record { state = h; lines = refl }
 
 -- the same blocks but for their deadlines
@@ -38,7 +42,8 @@ pub started-same : (sys : SystemTables) (g i : Progress) (t : ℕ) (x : TaskBloc
     → SameProgress sys (started sys g t x) (started sys i t (record x { deadline = d }))
 started-same sys g i t x d h = started_as-same sys g i t (started_block sys t x) h
 
-released_state-same : (sys : SystemTables) (b : Bool) (s u : KernelState) (t : ℕ) (x y : TaskBlock) → AlikeStates sys s u
+released_state-same : (sys : SystemTables) (b : Bool) (s u : KernelState) (t : ℕ) (x y : TaskBlock)
+    → AlikeStates sys s u
     → SameBlock s.clock u.clock x y → AlikeStates sys (released_state b s t x) (released_state b u t y)
 released_state-same sys true s u t x y h k = alike-with_removed sys s u t x y h k
 released_state-same sys false s u t x y h k = alike-with_last sys s u t x y h k
@@ -53,10 +58,12 @@ released-same sys g i t x d reply h =
     }
 
 ended_by-same : (sys : SystemTables) (n : ℕ) (g i : Progress) (t : ℕ) (y : TaskBlock) → SameProgress sys g i
-    → SameProgress sys (ended_by n sys g t (record y { deadline = None })) (ended_by n sys i t (record y { deadline = None }))
+    → SameProgress sys (ended_by n sys g t (record y { deadline = None }))
+    (ended_by n sys i t (record y { deadline = None }))
 ended_by-same sys zero g i t y h =
     record {
-      state = alike-with_removed sys g.state i.state t _ _ h.state (same-but g.state.clock i.state.clock y None None tt);
+      state = alike-with_removed sys g.state i.state t _ _ h.state (same-but g.state.clock i.state.clock y None None
+          tt);
       lines = h.lines;
     }
 ended_by-same sys (suc n) g i t y h = started-same sys g i t (record y { activations = n; deadline = None }) None h
@@ -65,7 +72,8 @@ pub ended-same : (sys : SystemTables) (g i : Progress) (t : ℕ) (x : TaskBlock)
     → SameProgress sys (ended sys g t x) (ended sys i t (record x { deadline = d }))
 ended-same sys g i t x d h = ended_by-same sys x.activations g i t (ended_block sys t x) h
 
-pub ended_itself-same : (sys : SystemTables) (s u : KernelState) (p t : ℕ) (x : TaskBlock) (d : Option ℕ) → AlikeStates sys s u
+pub ended_itself-same : (sys : SystemTables) (s u : KernelState) (p t : ℕ) (x : TaskBlock) (d : Option ℕ)
+    → AlikeStates sys s u
     → SameProgress sys (ended_itself sys s p t x) (ended_itself sys u p t (record x { deadline = d }))
 ended_itself-same sys s u p t x d h =
     ended-same sys (unchanged (with_nothing_run s p)) (unchanged (with_nothing_run u p)) t x d
@@ -76,7 +84,11 @@ pub stays-counts : (sys : SystemTables) (x : TaskBlock) (activations : ℕ) (nex
     → Stays sys x (record x { activations = activations; next_processor = next; wakeups = wakeups })
 stays-counts sys x activations next wakeups c = by_place c where
   by_place : (c : Place)
-      → stands_at sys c x ≡ stands_at sys c (record x { activations = activations; next_processor = next; wakeups = wakeups })
+      → stands_at sys c x ≡ stands_at sys c (record x {
+        activations = activations;
+        next_processor = next;
+        wakeups = wakeups;
+      })
   by_place (Place.ReadyAt p priority) = refl
   by_place (Place.WaitsAt q priority) = refl
 
@@ -88,14 +100,17 @@ stays-waiting sys x w b e c = by_place c where
   by_place (Place.WaitsAt q priority) = refl
 
 -- a task that is or stays suspended; one that waits keeps its place
-pub suspension-same : (sys : SystemTables) (s u : KernelState) (t : ℕ) (x : TaskBlock) (d : Option ℕ) (b : Bool) (w : WaitCause)
+pub suspension-same : (sys : SystemTables) (s u : KernelState) (t : ℕ) (x : TaskBlock) (d : Option ℕ) (b : Bool)
+    (w : WaitCause)
     → AlikeStates sys s u → SameTime s.clock u.clock x.deadline d → x.phase ≡ Waiting w → task_at s.tasks t ≡ x
-    → AlikeStates sys (with_task s t (record x { suspended = b })) (with_task u t (record x { suspended = b; deadline = d }))
+    → AlikeStates sys (with_task s t (record x { suspended = b })) (with_task u t
+    (record x { suspended = b; deadline = d }))
 suspension-same sys s u t x d b w h k e there =
     alike-with_task sys s u t _ _ h (same-but s.clock u.clock (record x { suspended = b }) x.deadline d k)
     (subst (λ (z : TaskBlock). Stays sys z (record x { suspended = b })) (sym there) (stays-waiting sys x w b e))
 
-pub suspended-same : (sys : SystemTables) (s u : KernelState) (t : ℕ) (x : TaskBlock) (d : Option ℕ) → AlikeStates sys s u
+pub suspended-same : (sys : SystemTables) (s u : KernelState) (t : ℕ) (x : TaskBlock) (d : Option ℕ)
+    → AlikeStates sys s u
     → SameTime s.clock u.clock x.deadline d → task_at s.tasks t ≡ x
     → AlikeStates sys (suspended s t x) (suspended u t (record x { deadline = d }))
 suspended-same sys s u t x d h k there = by_phase x.phase refl where
@@ -115,6 +130,7 @@ pub released_at-same : (sys : SystemTables) (g i : Progress) (t : ℕ) (reply : 
 released_at-same sys g i t reply h =
     let a = h.state in
     let x = task_at g.state.tasks t in
-    by_block (λ (y : TaskBlock). SameProgress sys (released g t x reply) (released i t y reply)) g.state.clock i.state.clock x
+    by_block (λ (y : TaskBlock). SameProgress sys (released g t x reply) (released i t y reply)) g.state.clock
+    i.state.clock x
     (task_at i.state.tasks t) (blocks-at g.state.clock i.state.clock g.state.tasks i.state.tasks a.tasks t)
     (λ d k. released-same sys g i t x d reply h)

@@ -1,5 +1,6 @@
 -- Contexts that are the same, but for some tasks, stay so by lines.
-use Rattle.std.proofs.Common.{◌≡◌, ℕ, zero, suc, List, [], ◌∷◌, Option, Some, None, Bool, true, false, ◌||◌, refl, sym, ◌∙◌, ap, subst, nat_eq, length, slice_set}
+use Rattle.std.proofs.Common.{◌≡◌, ℕ, zero, suc, List, [], ◌∷◌, Option, Some, None, Bool, true, false, ◌||◌, refl, sym}
+use Rattle.std.proofs.Common.{◌∙◌, ap, subst, nat_eq, length, slice_set}
 use Rattle.std.proofs.lemmas.Bool.{ne_eqb}
 use Rattle.fmp_base.specs.declared.bodies.HandlerContext.{HandlerContext}
 use Rattle.fmp_base.specs.declared.bodies.Held.{Held}
@@ -8,7 +9,8 @@ use Rattle.fmp_base.specs.declared.events.Line.{Line}
 use Rattle.fmp_base.specs.declared.events.Line.TheVariants as line
 use Rattle.fmp_base.specs.declared.states.Caller.{Caller}
 use Rattle.fmp_base.specs.declared.states.Caller.TheVariants as caller
-use Rattle.fmp_base.specs.Meanings.{Meaning, Contexts, body_in, caller_body, context_at, context_for, context_in, context_of, contexts_after, contexts_after_all, task_body, told, with_context}
+use Rattle.fmp_base.specs.Meanings.{Meaning, Contexts, body_in, caller_body, context_at, context_for, context_in}
+use Rattle.fmp_base.specs.Meanings.{context_of, contexts_after, contexts_after_all, task_body, told, with_context}
 use Rattle.fmp_base.specs.Steps.{contexts_ended}
 use Rattle.fmp_base.specs.Systems.{SystemTables}
 use Rattle.fmp_bisimulation.proofs.RestLaws.{starts, starts_by}
@@ -40,7 +42,8 @@ both_long : {A : Type 0} (xs ys : List (Option A)) (t : ℕ) (x y : Option A) �
     → length (slice_set xs t x) ≡ length (slice_set ys t y)
 both_long xs ys t x y e = set_long xs t x ∙ e ∙ sym (set_long ys t y)
 
-agree-update : {A : Type 0} (on : ℕ → Bool) (xs ys : List (Option A)) (t : ℕ) (x y : Option A) → Agree on xs ys → (on t ≡ true → x ≡ y)
+agree-update : {A : Type 0} (on : ℕ → Bool) (xs ys : List (Option A)) (t : ℕ) (x y : Option A) → Agree on xs ys
+    → (on t ≡ true → x ≡ y)
     → Agree on (slice_set xs t x) (slice_set ys t y)
 agree-update on xs ys t x y h k =
     record {
@@ -57,11 +60,13 @@ agree-set : {A : Type 0} (on : ℕ → Bool) (xs ys : List (Option A)) (t : ℕ)
     → Agree (λ v. on v || nat_eq v t) (slice_set xs t x) (slice_set ys t x)
 agree-set on xs ys t x h =
     record {
-      at = λ v e. set_both xs ys h.long t v x x (λ same. refl) (λ n. h.at v (other (on v) (nat_eq v t) e (ne_eqb v t n)));
+      at = λ v e. set_both xs ys h.long t v x x (λ same. refl) (λ n. h.at v
+          (other (on v) (nat_eq v t) e (ne_eqb v t n)));
       long = both_long xs ys t x x h.long;
     }
 
-agree-less : {A : Type 0} (on less : ℕ → Bool) (xs ys : List (Option A)) → ((t : ℕ) → less t ≡ true → on t ≡ true) → Agree on xs ys
+agree-less : {A : Type 0} (on less : ℕ → Bool) (xs ys : List (Option A)) → ((t : ℕ) → less t ≡ true → on t ≡ true)
+    → Agree on xs ys
     → Agree less xs ys
 agree-less on less xs ys k h = record { at = λ t e. h.at t (k t e); long = h.long }
 
@@ -86,13 +91,20 @@ module _ {C : Type 0} (sys : SystemTables) (M : Meaning C) (on : ℕ → Bool) w
       unstarted _ _ (agree-update on xs ys t _ _ h
       (λ e. ap (λ (c : Option (Held C)). told M (task_body sys t) reply c) (h.at t e)))
 
-  line-agrees : (l : Line) (hs : List (Option (HandlerContext (Held C)))) (xs ys : List (Option (Held C))) → Agree on xs ys
+  line-agrees : (l : Line) (hs : List (Option (HandlerContext (Held C)))) (xs ys : List (Option (Held C)))
+      → Agree on xs ys
       → Both (λ t. on t || starts_by t l) (contexts_after sys M (record { tasks = xs; handlers = hs }) l)
       (contexts_after sys M (record { tasks = ys; handlers = hs }) l)
   line-agrees (line.Starts p t) hs xs ys h = record { tasks = agree-set on xs ys t _ h; handlers = refl }
   line-agrees (line.Gets p t reply) hs xs ys h = record { tasks = told-agrees xs ys t reply h; handlers = refl }
-  line-agrees (line.Call p (caller.Task t) c (Some reply)) hs xs ys h = record { tasks = told-agrees xs ys t reply h; handlers = refl }
-  line-agrees (line.Call p (caller.Handler i) c (Some reply)) hs xs ys h = record { tasks = unstarted xs ys h; handlers = refl }
+  line-agrees (line.Call p (caller.Task t) c (Some reply)) hs xs ys h = record {
+    tasks = told-agrees xs ys t reply h;
+    handlers = refl;
+  }
+  line-agrees (line.Call p (caller.Handler i) c (Some reply)) hs xs ys h = record {
+    tasks = unstarted xs ys h;
+    handlers = refl;
+  }
   line-agrees (line.Call p who c None) hs xs ys h = record { tasks = unstarted xs ys h; handlers = refl }
   line-agrees (line.Begins p i) hs xs ys h = record { tasks = unstarted xs ys h; handlers = refl }
   line-agrees l hs xs ys h = record { tasks = unstarted xs ys h; handlers = refl }
@@ -100,7 +112,8 @@ module _ {C : Type 0} (sys : SystemTables) (M : Meaning C) (on : ℕ → Bool) w
   after-agrees : (l : Line) (cs ds : Contexts (Held C)) → Both on cs ds
       → Both (λ t. on t || starts_by t l) (contexts_after sys M cs l) (contexts_after sys M ds l)
   after-agrees l cs ds b =
-      subst (λ (hs : List (Option (HandlerContext (Held C)))). Both (λ t. on t || starts_by t l) (contexts_after sys M cs l)
+      subst (λ (hs : List (Option (HandlerContext (Held C)))). Both (λ t. on t || starts_by t l)
+      (contexts_after sys M cs l)
       (contexts_after sys M (record { tasks = ds.tasks; handlers = hs }) l)) b.handlers
       (line-agrees l cs.handlers cs.tasks ds.tasks b.tasks)
 
@@ -112,7 +125,8 @@ module _ {C : Type 0} (sys : SystemTables) (M : Meaning C) (on : ℕ → Bool) w
   with_context-agrees cs ds p (caller.Handler i) c b =
       record {
         tasks = b.tasks;
-        handlers = ap (λ (hs : List (Option (HandlerContext (Held C)))). slice_set hs p (context_for (body_in (context_at hs p)) c))
+        handlers = ap (λ (hs : List (Option (HandlerContext (Held C)))). slice_set hs p
+            (context_for (body_in (context_at hs p)) c))
             b.handlers;
       }
 
@@ -148,10 +162,14 @@ grouped true b c h = refl
 grouped false b c h = h
 
 -- after all lines they agree on these tasks, and on those that a line starts
-pub all-agree : {C : Type 0} (sys : SystemTables) (M : Meaning C) (on : ℕ → Bool) (ls : List Line) (cs ds : Contexts (Held C)) → Both on cs ds
+pub all-agree : {C : Type 0} (sys : SystemTables) (M : Meaning C) (on : ℕ → Bool) (ls : List Line)
+    (cs ds : Contexts (Held C)) → Both on cs ds
     → Both (λ t. on t || starts t ls) (contexts_after_all sys M cs ls) (contexts_after_all sys M ds ls)
 all-agree sys M on [] cs ds b =
-    record { tasks = agree-less on (λ t. on t || false) cs.tasks ds.tasks (λ t e. plainly (on t) e) b.tasks; handlers = b.handlers }
+    record {
+      tasks = agree-less on (λ t. on t || false) cs.tasks ds.tasks (λ t e. plainly (on t) e) b.tasks;
+      handlers = b.handlers;
+    }
 all-agree sys M on (l ∷ ls) cs ds b =
     let r = all-agree sys M (λ t. on t || starts_by t l) ls (contexts_after sys M cs l) (contexts_after sys M ds l)
     (after-agrees sys M on l cs ds b) in

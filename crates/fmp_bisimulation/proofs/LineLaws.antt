@@ -8,7 +8,8 @@ use Rattle.fmp_base.specs.declared.states.Handler.{Handler}
 use Rattle.fmp_base.specs.declared.states.Processor.{Processor}
 use Rattle.fmp_base.specs.Meanings.{Meaning, Contexts, contexts_after, contexts_after_all}
 use Rattle.fmp_base.specs.Queues.{top}
-use Rattle.fmp_base.specs.Settles.{all_settled, dispatch_lines, dispatched, handler_to_begin, is_dispatch_held, is_same_task, settled, settled_on, settled_with, without_pending}
+use Rattle.fmp_base.specs.Settles.{all_settled, dispatch_lines, dispatched, handler_to_begin, is_dispatch_held}
+use Rattle.fmp_base.specs.Settles.{is_same_task, settled, settled_on, settled_with, without_pending}
 use Rattle.fmp_base.specs.States.{KernelState, Progress, places_from, processor_at, with_processor}
 use Rattle.fmp_base.specs.Systems.{SystemTables}
 use Rattle.fmp_bisimulation.specs.Closed.{timeless, all_timeless}
@@ -41,12 +42,14 @@ regrouped own s ls ms = ap (λ (l : List Line). behind [] (record { state = s; l
 dispatched-behind : (own : List Line) (g : Progress) (p : ℕ) (cpu : Processor) (t : Option ℕ)
     → dispatched (behind own g) p cpu t ≡ behind own (dispatched g p cpu t)
 dispatched-behind own g p cpu t =
-    regrouped own (with_processor g.state p (record cpu { run = t })) g.lines (dispatch_lines (is_same_task cpu.run t) p t)
+    regrouped own (with_processor g.state p (record cpu { run = t })) g.lines
+    (dispatch_lines (is_same_task cpu.run t) p t)
 
 settled_with-behind : (b : Option Handler) (own : List Line) (g : Progress) (p : ℕ) (cpu : Processor)
     → settled_with b (behind own g) p cpu ≡ behind own (settled_with b g p cpu)
 settled_with-behind (Some h) own g p cpu =
-    regrouped own (with_processor (without_pending g.state h) p (record cpu { handler = Some h })) g.lines (line.Begins p h ∷ [])
+    regrouped own (with_processor (without_pending g.state h) p (record cpu { handler = Some h })) g.lines
+    (line.Begins p h ∷ [])
 settled_with-behind None own g p cpu =
     elim (is_dispatch_held cpu) as (λ b. cond b (behind own g) (dispatched (behind own g) p cpu (top g.state p))
     ≡ behind own (cond b g (dispatched g p cpu (top g.state p)))) [
@@ -63,5 +66,6 @@ all_settled-behind sys own g (p ∷ ps) =
     ∙ all_settled-behind sys own (settled_on sys g p cpu) ps
 
 -- settling goes on behind the lines that there are
-pub settled-behind : (sys : SystemTables) (own : List Line) (g : Progress) → settled sys (behind own g) ≡ behind own (settled sys g)
+pub settled-behind : (sys : SystemTables) (own : List Line) (g : Progress) → settled sys (behind own g)
+    ≡ behind own (settled sys g)
 settled-behind sys own g = all_settled-behind sys own g (places_from 0 (length g.state.processors))

@@ -1,5 +1,6 @@
 -- The service calls on semaphores, shared words and eventflags come to the same in alike states.
-use Rattle.std.proofs.Common.{◌+◌, ℕ, zero, suc, ℤ, pos, List, [], ◌∷◌, Option, Some, None, Bool, true, false, ◌&&◌, not, refl, subst, length, nat_lt, slice_set, get_or}
+use Rattle.std.proofs.Common.{◌+◌, ℕ, zero, suc, ℤ, pos, List, [], ◌∷◌, Option, Some, None, Bool, true, false, ◌&&◌}
+use Rattle.std.proofs.Common.{not, refl, subst, length, nat_lt, slice_set, get_or}
 use Rattle.fmp_base.specs.declared.codes.Er.TheVariants as er
 use Rattle.fmp_base.specs.declared.states.FlagMode.{FlagMode}
 use Rattle.fmp_base.specs.declared.states.TaskBlock.{TaskBlock}
@@ -7,20 +8,25 @@ use Rattle.fmp_base.specs.declared.states.TimeLimit.{TimeLimit}
 use Rattle.fmp_base.specs.declared.states.WaitCause.TheVariants as cause
 use Rattle.fmp_base.specs.declared.states.WaitQueue.TheVariants as queue
 use Rattle.fmp_base.specs.Changes.{released}
-use Rattle.fmp_base.specs.FlagCalls.{with_pattern, pattern_at, satisfies, is_satisfied, walked, walk, bits_set, set_flg, clr_flg, mode_of, is_empty, obtained, awaited_by, awaited, flag_tested, wai_flg, twai_flg}
+use Rattle.fmp_base.specs.FlagCalls.{with_pattern, pattern_at, satisfies, is_satisfied, walked, walk, bits_set, set_flg}
+use Rattle.fmp_base.specs.FlagCalls.{clr_flg, mode_of, is_empty, obtained, awaited_by, awaited, flag_tested, wai_flg}
+use Rattle.fmp_base.specs.FlagCalls.{twai_flg}
 use Rattle.fmp_base.specs.Outcomes.{CallOutcome, code, given, succeeds_in, limit_of, numbered, ranged, refused_if}
 use Rattle.fmp_base.specs.Queues.{first_waiting, wait_queue}
-use Rattle.fmp_base.specs.SemaphoreCalls.{with_count, signalled_to, signalled, sig_sem, acquired_by, wai_sem, twai_sem, ld_shr, st_shr}
+use Rattle.fmp_base.specs.SemaphoreCalls.{with_count, signalled_to, signalled, sig_sem, acquired_by, wai_sem, twai_sem}
+use Rattle.fmp_base.specs.SemaphoreCalls.{ld_shr, st_shr}
 use Rattle.fmp_base.specs.States.{KernelState, Progress, unchanged, task_at}
 use Rattle.fmp_base.specs.Systems.{SystemTables, semaphore_config, flag_config}
 use Rattle.fmp_bisimulation.specs.Alike.{AlikeStates, SameProgress, SameOutcome}
 use Rattle.fmp_bisimulation.proofs.ChangeLaws.{unchanged-same, released-same, released_at-same}
-use Rattle.fmp_bisimulation.proofs.OutcomeLaws.{succeeds-same, succeeds_in-same, gives-same, either-same, refused-same, tested-same, refused_if-same, waits_within-same}
+use Rattle.fmp_bisimulation.proofs.OutcomeLaws.{succeeds-same, succeeds_in-same, gives-same, either-same, refused-same}
+use Rattle.fmp_bisimulation.proofs.OutcomeLaws.{tested-same, refused_if-same, waits_within-same}
 use Rattle.fmp_bisimulation.proofs.ReadLaws.{wait_queue-same, first_waiting-same}
 use Rattle.fmp_bisimulation.proofs.StateLaws.{View, seen, alike-changed}
 use Rattle.fmp_bisimulation.proofs.TimeLaws.{by_block, blocks-at}
 
-walked-same : (sys : SystemTables) (satisfied clears : Bool) (f : ℕ) (g i after later : Progress) (rest : Progress → Progress)
+walked-same : (sys : SystemTables) (satisfied clears : Bool) (f : ℕ) (g i after later : Progress)
+    (rest : Progress → Progress)
     → SameProgress sys g i → SameProgress sys after later
     → ((g i : Progress) → SameProgress sys g i → SameProgress sys (rest g) (rest i))
     → SameProgress sys (walked satisfied clears f g after rest) (walked satisfied clears f i later rest)
@@ -53,22 +59,26 @@ module _ (sys : SystemTables) (s : KernelState) (v : View) (h : AlikeStates sys 
   counted-same i n =
       succeeds_in-same sys _ _ (alike-changed sys (λ z. with_count z i n) (λ z. refl) (λ z. refl) s (seen s v) h)
 
-  signalled_to-same : (o : Option ℕ) (i n : ℕ) → SameOutcome sys (signalled_to o sys s i n) (signalled_to o sys (seen s v) i n)
+  signalled_to-same : (o : Option ℕ) (i n : ℕ) → SameOutcome sys (signalled_to o sys s i n)
+      (signalled_to o sys (seen s v) i n)
   signalled_to-same (Some t) i n =
       succeeds-same sys _ _
       (released_at-same sys (unchanged s) (unchanged (seen s v)) t (code er.Ok) (unchanged-same sys s (seen s v) h))
   signalled_to-same None i n =
-      either-same sys (nat_lt n (semaphore_config sys i).most) _ _ _ _ (counted-same i (n + 1)) (refused-same sys s (seen s v) h er.Qovr)
+      either-same sys (nat_lt n (semaphore_config sys i).most) _ _ _ _ (counted-same i (n + 1))
+      (refused-same sys s (seen s v) h er.Qovr)
 
   signalled-same : (i : ℕ) → SameOutcome sys (signalled sys s i) (signalled sys (seen s v) i)
   signalled-same i =
-      subst (λ (o : Option ℕ). SameOutcome sys (signalled sys s i) (signalled_to o sys (seen s v) i (get_or s.semaphores i 0)))
+      subst (λ (o : Option ℕ). SameOutcome sys (signalled sys s i) (signalled_to o sys (seen s v) i
+      (get_or s.semaphores i 0)))
       (first_waiting-same sys s (seen s v) (queue.Semaphore i) h)
       (signalled_to-same (first_waiting sys s (queue.Semaphore i)) i (get_or s.semaphores i 0))
 
   pub sig_sem-same : (i : ℤ) → SameOutcome sys (sig_sem sys s i) (sig_sem sys (seen s v) i)
   sig_sem-same i =
-      tested-same sys s (seen s v) h er.Id (numbered (length s.semaphores) i) (signalled sys s) (signalled sys (seen s v))
+      tested-same sys s (seen s v) h er.Id (numbered (length s.semaphores) i) (signalled sys s)
+      (signalled sys (seen s v))
       (λ n. signalled-same n)
 
   acquired_by-same : (n me : ℕ) (x : TaskBlock) (d : Option ℕ) (m : TimeLimit) (i : ℕ)
@@ -98,7 +108,8 @@ module _ (sys : SystemTables) (s : KernelState) (v : View) (h : AlikeStates sys 
   st_shr-same w value =
       tested-same sys s (seen s v) h er.Id (numbered (length s.shared_words) w) _ _
       (λ n. succeeds_in-same sys _ _
-      (alike-changed sys (λ z. record z { shared_words = slice_set z.shared_words n value }) (λ z. refl) (λ z. refl) s (seen s v) h))
+      (alike-changed sys (λ z. record z { shared_words = slice_set z.shared_words n value }) (λ z. refl) (λ z. refl) s
+      (seen s v) h))
 
   pattern-same : (f bits : ℕ) → AlikeStates sys (with_pattern s f bits) (with_pattern (seen s v) f bits)
   pattern-same f bits = alike-changed sys (λ z. with_pattern z f bits) (λ z. refl) (λ z. refl) s (seen s v) h
@@ -131,10 +142,12 @@ module _ (sys : SystemTables) (s : KernelState) (v : View) (h : AlikeStates sys 
       → SameOutcome sys (awaited_by b sys s me x m f pattern mode)
       (awaited_by b sys (seen s v) me (record x { deadline = d }) m f pattern mode)
   awaited_by-same true me x d m f pattern mode = obtained-same (flag_config sys f).clears f
-  awaited_by-same false me x d m f pattern mode = waits_within-same sys s (seen s v) h m me x d (cause.Flag f pattern mode)
+  awaited_by-same false me x d m f pattern mode = waits_within-same sys s (seen s v) h m me x d
+      (cause.Flag f pattern mode)
 
   awaited-same : (me : ℕ) (x : TaskBlock) (d : Option ℕ) (f pattern : ℕ) (mode : FlagMode) (m : TimeLimit)
-      → SameOutcome sys (awaited sys s me x f pattern mode m) (awaited sys (seen s v) me (record x { deadline = d }) f pattern mode m)
+      → SameOutcome sys (awaited sys s me x f pattern mode m) (awaited sys (seen s v) me
+      (record x { deadline = d }) f pattern mode m)
   awaited-same me x d f pattern mode m =
       let y = record x { deadline = d } in
       let multiple = (flag_config sys f).multiple in
@@ -142,7 +155,8 @@ module _ (sys : SystemTables) (s : KernelState) (v : View) (h : AlikeStates sys 
       subst (λ (ts : List ℕ). SameOutcome sys (awaited sys s me x f pattern mode m)
       (refused_if (not multiple && not (is_empty ts)) (seen s v) er.Iluse rest))
       (wait_queue-same sys s (seen s v) (queue.Flag f) h)
-      (refused_if-same sys s (seen s v) h (not multiple && not (is_empty (wait_queue sys s (queue.Flag f)))) er.Iluse _ rest
+      (refused_if-same sys s (seen s v) h (not multiple && not (is_empty (wait_queue sys s (queue.Flag f)))) er.Iluse
+      _ rest
       (awaited_by-same (satisfies mode pattern (pattern_at s f)) me x d m f pattern mode))
 
   flag_tested-same : (f b o : ℤ) (go then : ℕ → ℕ → FlagMode → CallOutcome)
@@ -158,7 +172,9 @@ module _ (sys : SystemTables) (s : KernelState) (v : View) (h : AlikeStates sys 
   wai_flg-same me x d m f b o = flag_tested-same f b o _ _ (λ i bits mode. awaited-same me x d i bits mode m)
 
   pub twai_flg-same : (me : ℕ) (x : TaskBlock) (d : Option ℕ) (f b o tmout : ℤ)
-      → SameOutcome sys (twai_flg sys s me x f b o tmout) (twai_flg sys (seen s v) me (record x { deadline = d }) f b o tmout)
+      → SameOutcome sys (twai_flg sys s me x f b o tmout) (twai_flg sys (seen s v) me
+      (record x { deadline = d }) f b o tmout)
   twai_flg-same me x d f b o tmout =
       flag_tested-same f b o _ _
-      (λ i bits mode. tested-same sys s (seen s v) h er.Par (limit_of tmout) _ _ (λ m. awaited-same me x d i bits mode m))
+      (λ i bits mode. tested-same sys s (seen s v) h er.Par (limit_of tmout) _ _
+      (λ m. awaited-same me x d i bits mode m))

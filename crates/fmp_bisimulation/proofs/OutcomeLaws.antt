@@ -6,7 +6,8 @@ use Rattle.fmp_base.specs.declared.states.TaskBlock.{TaskBlock}
 use Rattle.fmp_base.specs.declared.states.TimeLimit.{TimeLimit}
 use Rattle.fmp_base.specs.declared.states.TimeLimit.TheVariants as limit
 use Rattle.fmp_base.specs.declared.states.WaitCause.{WaitCause}
-use Rattle.fmp_base.specs.Outcomes.{CallOutcome, refused, succeeds, succeeds_in, gives, waits, waits_within, numbered, named, tested, refused_if, on_task}
+use Rattle.fmp_base.specs.Outcomes.{CallOutcome, refused, succeeds, succeeds_in, gives, waits, waits_within, numbered}
+use Rattle.fmp_base.specs.Outcomes.{named, tested, refused_if, on_task}
 use Rattle.fmp_base.specs.States.{KernelState, Progress, clock_after, task_at}
 use Rattle.fmp_base.specs.Systems.{SystemTables}
 use Rattle.fmp_base.specs.TaskCalls.{self_or, by_number}
@@ -15,16 +16,20 @@ use Rattle.fmp_bisimulation.proofs.ChangeLaws.{unchanged-same, same-but}
 use Rattle.fmp_bisimulation.proofs.StateLaws.{alike-with_last}
 use Rattle.fmp_bisimulation.proofs.TimeLaws.{by_block, blocks-at, blocks-long, same-after}
 
-pub succeeds-same : (sys : SystemTables) (g i : Progress) → SameProgress sys g i → SameOutcome sys (succeeds g) (succeeds i)
+pub succeeds-same : (sys : SystemTables) (g i : Progress) → SameProgress sys g i
+    → SameOutcome sys (succeeds g) (succeeds i)
 succeeds-same sys g i h = record { answer = refl; progress = h }
 
-pub succeeds_in-same : (sys : SystemTables) (s u : KernelState) → AlikeStates sys s u → SameOutcome sys (succeeds_in s) (succeeds_in u)
+pub succeeds_in-same : (sys : SystemTables) (s u : KernelState) → AlikeStates sys s u
+    → SameOutcome sys (succeeds_in s) (succeeds_in u)
 succeeds_in-same sys s u h = record { answer = refl; progress = unchanged-same sys s u h }
 
-pub gives-same : (sys : SystemTables) (v : ℤ) (g i : Progress) → SameProgress sys g i → SameOutcome sys (gives v g) (gives v i)
+pub gives-same : (sys : SystemTables) (v : ℤ) (g i : Progress) → SameProgress sys g i
+    → SameOutcome sys (gives v g) (gives v i)
 gives-same sys v g i h = record { answer = refl; progress = h }
 
-pub either-same : (sys : SystemTables) (b : Bool) (o p o' p' : CallOutcome) → SameOutcome sys o p → SameOutcome sys o' p'
+pub either-same : (sys : SystemTables) (b : Bool) (o p o' p' : CallOutcome) → SameOutcome sys o p
+    → SameOutcome sys o' p'
     → SameOutcome sys (if b then o else o') (if b then p else p')
 either-same sys true o p o' p' h k = h
 either-same sys false o p o' p' h k = k
@@ -38,7 +43,8 @@ module _ (sys : SystemTables) (s u : KernelState) (h : AlikeStates sys s u) wher
   pub refused-same : (e : Er) → SameOutcome sys (refused s e) (refused u e)
   refused-same e = record { answer = refl; progress = unchanged-same sys s u h }
 
-  pub tested-same : {A : Type 0} (e : Er) (o : Option A) (f g : A → CallOutcome) → ((a : A) → SameOutcome sys (f a) (g a))
+  pub tested-same : {A : Type 0} (e : Er) (o : Option A) (f g : A → CallOutcome)
+      → ((a : A) → SameOutcome sys (f a) (g a))
       → SameOutcome sys (tested s e o f) (tested u e o g)
   tested-same e None f g k = refused-same e
   tested-same e (Some a) f g k = k a
@@ -48,7 +54,8 @@ module _ (sys : SystemTables) (s u : KernelState) (h : AlikeStates sys s u) wher
   refused_if-same true e o p k = refused-same e
   refused_if-same false e o p k = k
 
-  pub waits-same : (t : ℕ) (x : TaskBlock) (d : Option ℕ) (c : WaitCause) (a b : Option ℕ) → SameTime s.clock u.clock a b
+  pub waits-same : (t : ℕ) (x : TaskBlock) (d : Option ℕ) (c : WaitCause) (a b : Option ℕ)
+      → SameTime s.clock u.clock a b
       → SameOutcome sys (waits s t x c a) (waits u t (record x { deadline = d }) c b)
   waits-same t x d c a b k =
       let block = same-but s.clock u.clock (record x { phase = Waiting c }) a b k in
@@ -62,7 +69,8 @@ module _ (sys : SystemTables) (s u : KernelState) (h : AlikeStates sys s u) wher
       waits-same t x d c (Some (clock_after s n)) (Some (clock_after u n)) (same-after s.clock u.clock n)
 
   pub on_task-same : (o : Option ℕ) (f g : ℕ → TaskBlock → CallOutcome)
-      → ((t : ℕ) (x : TaskBlock) (d : Option ℕ) → IsSeenAs s u t x d → SameOutcome sys (f t x) (g t (record x { deadline = d })))
+      → ((t : ℕ) (x : TaskBlock) (d : Option ℕ) → IsSeenAs s u t x d
+      → SameOutcome sys (f t x) (g t (record x { deadline = d })))
       → SameOutcome sys (on_task s o f) (on_task u o g)
   on_task-same None f g k = record { answer = refl; progress = unchanged-same sys s u h }
   on_task-same (Some t) f g k =
@@ -72,14 +80,16 @@ module _ (sys : SystemTables) (s u : KernelState) (h : AlikeStates sys s u) wher
       (λ d l. k t x d (record { there = refl; time = l }))
 
   pub on_self-same : (me : ℕ) (t : ℤ) (f g : ℕ → TaskBlock → CallOutcome)
-      → ((t : ℕ) (x : TaskBlock) (d : Option ℕ) → IsSeenAs s u t x d → SameOutcome sys (f t x) (g t (record x { deadline = d })))
+      → ((t : ℕ) (x : TaskBlock) (d : Option ℕ) → IsSeenAs s u t x d
+      → SameOutcome sys (f t x) (g t (record x { deadline = d })))
       → SameOutcome sys (on_task s (self_or s me t) f) (on_task u (self_or u me t) g)
   on_self-same me t f g k =
       subst (λ (n : ℕ). SameOutcome sys (on_task s (self_or s me t) f) (on_task u (named me n t) g))
       (blocks-long s.clock u.clock s.tasks u.tasks h.tasks) (on_task-same (self_or s me t) f g k)
 
   pub on_number-same : (t : ℤ) (f g : ℕ → TaskBlock → CallOutcome)
-      → ((t : ℕ) (x : TaskBlock) (d : Option ℕ) → IsSeenAs s u t x d → SameOutcome sys (f t x) (g t (record x { deadline = d })))
+      → ((t : ℕ) (x : TaskBlock) (d : Option ℕ) → IsSeenAs s u t x d
+      → SameOutcome sys (f t x) (g t (record x { deadline = d })))
       → SameOutcome sys (on_task s (by_number s t) f) (on_task u (by_number u t) g)
   on_number-same t f g k =
       subst (λ (n : ℕ). SameOutcome sys (on_task s (by_number s t) f) (on_task u (numbered n t) g))

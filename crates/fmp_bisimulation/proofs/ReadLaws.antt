@@ -1,12 +1,15 @@
 -- Alike states have the same queues.
-use Rattle.std.proofs.Common.{◌≡◌, ℕ, List, [], ◌∷◌, Option, Some, Bool, true, false, ◌&&◌, ◌||◌, not, refl, sym, ◌∙◌, ap, filter, nat_eq, nat_le, nat_lt, cond, arith}
+use Rattle.std.proofs.Common.{◌≡◌, ℕ, List, [], ◌∷◌, Option, Some, Bool, true, false, ◌&&◌, ◌||◌, not, refl, sym, ◌∙◌}
+use Rattle.std.proofs.Common.{ap, filter, nat_eq, nat_le, nat_lt, cond, arith}
 use Rattle.std.proofs.lemmas.Bool.Decides.{nat_tests}
 use Rattle.std.proofs.lemmas.List.Elements.{filter_agree}
 use Rattle.fmp_base.specs.declared.states.TaskBlock.{TaskBlock}
 use Rattle.fmp_base.specs.declared.states.WaitQueue.{WaitQueue}
 use Rattle.fmp_base.specs.declared.systems.QueueOrder.{QueueOrder}
 use Rattle.fmp_base.specs.declared.systems.QueueOrder.TheVariants.{Fifo, Priority}
-use Rattle.fmp_base.specs.Queues.{arranged, first_of, first_ready, first_urgent, first_waiting, is_by_priority, is_ready_on, more_urgent, order_of, placed, priority_in, ready_queue, sorted, top, wait_queue, waits_in}
+use Rattle.fmp_base.specs.Queues.{arranged, first_of, first_ready, first_urgent, first_waiting, is_by_priority}
+use Rattle.fmp_base.specs.Queues.{is_ready_on, more_urgent, order_of, placed, priority_in, ready_queue, sorted, top}
+use Rattle.fmp_base.specs.Queues.{wait_queue, waits_in}
 use Rattle.fmp_base.specs.States.{KernelState, task_at}
 use Rattle.fmp_base.specs.Systems.{SystemTables}
 use Rattle.fmp_bisimulation.specs.Alike.{AlikeStates, Place}
@@ -17,11 +20,13 @@ pub filter-both : (P Q : ℕ → Bool) (l : List ℕ) → filter P (filter Q l) 
 filter-both P Q [] = refl
 filter-both P Q (u ∷ us) = by_test (Q u) (P u) (filter-both P Q us) refl where
   by_test : (b c : Bool) → filter P (filter Q us) ≡ filter (λ v. Q v && P v) us → P u ≡ c
-      → filter P (cond b (u ∷ filter Q us) (filter Q us)) ≡ cond (b && P u) (u ∷ filter (λ v. Q v && P v) us) (filter (λ v. Q v && P v) us)
+      → filter P (cond b (u ∷ filter Q us) (filter Q us)) ≡ cond (b && P u) (u ∷ filter (λ v. Q v && P v) us)
+      (filter (λ v. Q v && P v) us)
   by_test true c rest e = ap (λ (l : List ℕ). cond (P u) (u ∷ l) l) rest
   by_test false c rest e = rest
 
-priority-same : (sys : SystemTables) (s u : KernelState) → AlikeStates sys s u → (t : ℕ) → priority_in s.tasks t ≡ priority_in u.tasks t
+priority-same : (sys : SystemTables) (s u : KernelState) → AlikeStates sys s u → (t : ℕ) → priority_in s.tasks t
+    ≡ priority_in u.tasks t
 priority-same sys s u h t =
     let b = blocks-at s.clock u.clock s.tasks u.tasks h.tasks t in ap (λ (z : TaskBlock). z.priority) b.rest
 
@@ -34,13 +39,16 @@ placed-agree f g h t (u ∷ us) =
 
 sorted-agree : (f g : ℕ → ℕ) → ((t : ℕ) → f t ≡ g t) → (l : List ℕ) → sorted f l ≡ sorted g l
 sorted-agree f g h [] = refl
-sorted-agree f g h (t ∷ ts) = placed-agree f g h t (sorted f ts) ∙ ap (λ (l : List ℕ). placed g t l) (sorted-agree f g h ts)
+sorted-agree f g h (t ∷ ts) = placed-agree f g h t (sorted f ts)
+    ∙ ap (λ (l : List ℕ). placed g t l) (sorted-agree f g h ts)
 
--- lists whose tasks of each priority are the same, where two tables have the same priorities, are sorted to the same list
+-- lists whose tasks of each priority are the same, where two tables have the same priorities, are sorted to the same
+-- list
 sorted-both : (f g : ℕ → ℕ) (xs ys : List ℕ) → ((t : ℕ) → f t ≡ g t)
     → ((p : ℕ) → filter (λ t. nat_eq (f t) p) xs ≡ filter (λ t. nat_eq (g t) p) ys) → sorted f xs ≡ sorted g ys
 sorted-both f g xs ys h same =
-    sorted-told f xs ys (λ p. same p ∙ filter_agree _ _ (λ t. ap (λ (n : ℕ). nat_eq n p) (sym (h t))) ys) ∙ sorted-agree f g h ys
+    sorted-told f xs ys (λ p. same p ∙ filter_agree _ _ (λ t. ap (λ (n : ℕ). nat_eq n p) (sym (h t))) ys)
+    ∙ sorted-agree f g h ys
 
 -- the ready tasks of one priority
 ready-same : (sys : SystemTables) (s u : KernelState) (p priority : ℕ) → AlikeStates sys s u
@@ -57,11 +65,13 @@ first_ready-same sys s u p priority h = ap (λ (l : List ℕ). first_of l) (read
 urgent-sorted : (tasks : List TaskBlock) (l : List ℕ) → first_urgent tasks l ≡ first_of (sorted (priority_in tasks) l)
 urgent-sorted tasks [] = refl
 urgent-sorted tasks (t ∷ ts) =
-    ap (λ (o : Option ℕ). more_urgent tasks t o) (urgent-sorted tasks ts) ∙ by_head (sorted (priority_in tasks) ts) where
+    ap (λ (o : Option ℕ). more_urgent tasks t o) (urgent-sorted tasks ts)
+    ∙ by_head (sorted (priority_in tasks) ts) where
       flip : (a b : ℕ) → nat_lt b a ≡ not (nat_le a b)
       flip a b = grind (arith, nat_tests)
 
-      by_test : (u : ℕ) (us rest : List ℕ) (b : Bool) → cond (not b) (Some u) (Some t) ≡ first_of (cond b (t ∷ u ∷ us) (u ∷ rest))
+      by_test : (u : ℕ) (us rest : List ℕ) (b : Bool) → cond (not b) (Some u) (Some t)
+          ≡ first_of (cond b (t ∷ u ∷ us) (u ∷ rest))
       by_test u us rest true = refl
       by_test u us rest false = refl
 
@@ -74,7 +84,8 @@ urgent-sorted tasks (t ∷ ts) =
 pub top-same : (sys : SystemTables) (s u : KernelState) (p : ℕ) → AlikeStates sys s u → top s p ≡ top u p
 top-same sys s u p h =
     urgent-sorted s.tasks (ready_queue s p)
-    ∙ ap (λ (l : List ℕ). first_of l) (sorted-both _ _ (ready_queue s p) (ready_queue u p) (priority-same sys s u h) (λ priority. ready-same sys s u p priority h))
+    ∙ ap (λ (l : List ℕ). first_of l) (sorted-both _ _ (ready_queue s p) (ready_queue u p) (priority-same sys s u h)
+    (λ priority. ready-same sys s u p priority h))
     ∙ sym (urgent-sorted u.tasks (ready_queue u p))
 
 pub wait_queue-same : (sys : SystemTables) (s u : KernelState) (q : WaitQueue) → AlikeStates sys s u
@@ -93,18 +104,23 @@ wait_queue-same sys s u q h = by_order (order_of sys q) (λ priority. h.order (P
   plainly false false = refl
 
   by_order : (o : QueueOrder)
-      → ((priority : ℕ) → filter (λ t. waits_in q (task_at s.tasks t) && (nat_eq (priority_in s.tasks t) priority || not (is_by_priority o))) s.order
-      ≡ filter (λ t. waits_in q (task_at u.tasks t) && (nat_eq (priority_in u.tasks t) priority || not (is_by_priority o))) u.order)
+      → ((priority : ℕ) → filter (λ t. waits_in q (task_at s.tasks t)
+      && (nat_eq (priority_in s.tasks t) priority || not (is_by_priority o))) s.order
+      ≡ filter (λ t. waits_in q (task_at u.tasks t) && (nat_eq (priority_in u.tasks t) priority
+      || not (is_by_priority o))) u.order)
       → arranged o (priority_in s.tasks) (filter (λ t. waits_in q (task_at s.tasks t)) s.order)
       ≡ arranged o (priority_in u.tasks) (filter (λ t. waits_in q (task_at u.tasks t)) u.order)
   by_order Fifo same =
-      filter_agree _ _ (λ t. always (waits_in q (task_at s.tasks t)) (nat_eq (priority_in s.tasks t) 0)) s.order ∙ same 0
+      filter_agree _ _ (λ t. always (waits_in q (task_at s.tasks t)) (nat_eq (priority_in s.tasks t) 0)) s.order
+      ∙ same 0
       ∙ sym (filter_agree _ _ (λ t. always (waits_in q (task_at u.tasks t)) (nat_eq (priority_in u.tasks t) 0)) u.order)
   by_order Priority same =
       sorted-both _ _ _ _ (priority-same sys s u h)
       (λ p. filter-both _ (λ t. waits_in q (task_at s.tasks t)) s.order
-      ∙ filter_agree _ _ (λ t. plainly (waits_in q (task_at s.tasks t)) (nat_eq (priority_in s.tasks t) p)) s.order ∙ same p
-      ∙ sym (filter_agree _ _ (λ t. plainly (waits_in q (task_at u.tasks t)) (nat_eq (priority_in u.tasks t) p)) u.order)
+      ∙ filter_agree _ _ (λ t. plainly (waits_in q (task_at s.tasks t)) (nat_eq (priority_in s.tasks t) p)) s.order
+      ∙ same p
+      ∙ sym (filter_agree _ _ (λ t. plainly (waits_in q (task_at u.tasks t)) (nat_eq (priority_in u.tasks t) p))
+      u.order)
       ∙ sym (filter-both _ (λ t. waits_in q (task_at u.tasks t)) u.order))
 
 pub first_waiting-same : (sys : SystemTables) (s u : KernelState) (q : WaitQueue) → AlikeStates sys s u

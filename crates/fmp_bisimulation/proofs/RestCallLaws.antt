@@ -1,5 +1,7 @@
 -- A task that is off stays so in every service call that has no line that starts it.
-use Rattle.std.proofs.Common.{◌≡◌, ◌+◌, ◌^◌, ℕ, zero, suc, ℤ, pos, List, [], ◌∷◌, ◌++◌, Option, Some, None, Bool, true, false, ◌&&◌, ◌||◌, not, refl, ap, subst, nat_eq, nat_le, nat_lt, length, get_or, filter, cond, if◌then◌else◌}
+use Rattle.std.proofs.Common.{◌≡◌, ◌+◌, ◌^◌, ℕ, zero, suc, ℤ, pos, List, [], ◌∷◌, ◌++◌, Option, Some, None, Bool, true}
+use Rattle.std.proofs.Common.{false, ◌&&◌, ◌||◌, not, refl, ap, subst, nat_eq, nat_le, nat_lt, length, get_or, filter}
+use Rattle.std.proofs.Common.{cond, if◌then◌else◌}
 use Rattle.std.specs.List.{AllByRecursion}
 use Rattle.fmp_base.specs.declared.calls.Call.{Call}
 use Rattle.fmp_base.specs.declared.calls.Call.TheVariants as call
@@ -25,20 +27,27 @@ use Rattle.fmp_base.specs.declared.systems.QueueOrder.{QueueOrder}
 use Rattle.fmp_base.specs.declared.systems.QueueOrder.TheVariants.{Fifo, Priority}
 use Rattle.fmp_base.specs.Calls.{case_of, called}
 use Rattle.fmp_base.specs.Changes.{released}
-use Rattle.fmp_base.specs.DataQueueCalls.{words_at, with_words, has_room, queued_by, word_sent_to, word_sent, forced_in, forced_to, offered_word, oldest_taken, sender_taken_from, word_received_from}
-use Rattle.fmp_base.specs.FlagCalls.{pattern_at, satisfies, is_satisfied, walked, walk, obtained, awaited_by, is_empty, mode_of, flag_tested, awaited}
+use Rattle.fmp_base.specs.DataQueueCalls.{words_at, with_words, has_room, queued_by, word_sent_to, word_sent, forced_in}
+use Rattle.fmp_base.specs.DataQueueCalls.{forced_to, offered_word, oldest_taken, sender_taken_from, word_received_from}
+use Rattle.fmp_base.specs.FlagCalls.{pattern_at, satisfies, is_satisfied, walked, walk, obtained, awaited_by, is_empty}
+use Rattle.fmp_base.specs.FlagCalls.{mode_of, flag_tested, awaited}
 use Rattle.fmp_base.specs.MailboxCalls.{messages_at, message_priority, is_queued, message_sent_to, message_taken_from}
-use Rattle.fmp_base.specs.Outcomes.{CallOutcome, code, given, refused, waits, waits_within, limit_of, numbered, ranged, tested, refused_if, on_task}
+use Rattle.fmp_base.specs.Outcomes.{CallOutcome, code, given, refused, waits, waits_within, limit_of, numbered, ranged}
+use Rattle.fmp_base.specs.Outcomes.{tested, refused_if, on_task}
 use Rattle.fmp_base.specs.Permissions.{permission, is_barred}
 use Rattle.fmp_base.specs.ProcessorCalls.{cpu_locked_from, cpu_unlocked_from, is_held, is_spin, spin_lock_taken}
-use Rattle.fmp_base.specs.Queues.{arranged, first_of, first_ready, first_waiting, is_by_priority, is_queue, is_ready, order_of, placed, priority_in, queue_of, sorted, wait_queue, waits_in}
+use Rattle.fmp_base.specs.Queues.{arranged, first_of, first_ready, first_waiting, is_by_priority, is_queue, is_ready}
+use Rattle.fmp_base.specs.Queues.{order_of, placed, priority_in, queue_of, sorted, wait_queue, waits_in}
 use Rattle.fmp_base.specs.SemaphoreCalls.{signalled_to, acquired_by}
 use Rattle.fmp_base.specs.Services.{service_of}
 use Rattle.fmp_base.specs.States.{KernelState, Progress, unchanged, clock_after, task_at, processor_at}
 use Rattle.fmp_base.specs.Systems.{SystemTables, semaphore_config, flag_config, data_queue_config, mailbox_config}
-use Rattle.fmp_base.specs.TaskCalls.{is_dormant, self_or, by_number, activated_by, goes_last, moved_by, or_if_zero, allowed_processor, activated_on_by, assigned_by, slept_by, wakeup_queued, woken_from, woken_by, released_by, resumed_by, rotated}
+use Rattle.fmp_base.specs.TaskCalls.{is_dormant, self_or, by_number, activated_by, goes_last, moved_by, or_if_zero}
+use Rattle.fmp_base.specs.TaskCalls.{allowed_processor, activated_on_by, assigned_by, slept_by, wakeup_queued}
+use Rattle.fmp_base.specs.TaskCalls.{woken_from, woken_by, released_by, resumed_by, rotated}
 use Rattle.fmp_bisimulation.specs.Alike.{is_none, is_off}
-use Rattle.fmp_bisimulation.proofs.RestLaws.{Rests, rests-still, rests-kept, rests-waits, rests-started, rests-released, rests-ended, rests-ended_itself, rests-suspended}
+use Rattle.fmp_bisimulation.proofs.RestLaws.{Rests, rests-still, rests-kept, rests-waits, rests-started, rests-released}
+use Rattle.fmp_bisimulation.proofs.RestLaws.{rests-ended, rests-ended_itself, rests-suspended}
 
 -- tasks in a queue wait
 every-filter : (f : ℕ → Bool) (l : List ℕ) → AllByRecursion (λ t. f t ≡ true) (filter f l)
@@ -49,14 +58,16 @@ every-filter f (t ∷ ts) = by_test (f t) refl (every-filter f ts) where
   by_test true e rest = (e, rest)
   by_test false e rest = rest
 
-every-placed : (P : ℕ → Type 0) (f : ℕ → ℕ) (t : ℕ) (l : List ℕ) → P t → AllByRecursion P l → AllByRecursion P (placed f t l)
+every-placed : (P : ℕ → Type 0) (f : ℕ → ℕ) (t : ℕ) (l : List ℕ) → P t → AllByRecursion P l
+    → AllByRecursion P (placed f t l)
 every-placed P f t [] h k = (h, tt)
 every-placed P f t (u ∷ us) h (k, ks) = by_test (nat_le (f t) (f u)) (every-placed P f t us h ks) where
   by_test : (b : Bool) → AllByRecursion P (placed f t us) → AllByRecursion P (cond b (t ∷ u ∷ us) (u ∷ placed f t us))
   by_test true rest = (h, (k, ks))
   by_test false rest = (k, rest)
 
-every-arranged : (P : ℕ → Type 0) (o : QueueOrder) (f : ℕ → ℕ) (l : List ℕ) → AllByRecursion P l → AllByRecursion P (arranged o f l)
+every-arranged : (P : ℕ → Type 0) (o : QueueOrder) (f : ℕ → ℕ) (l : List ℕ) → AllByRecursion P l
+    → AllByRecursion P (arranged o f l)
 every-arranged P Fifo f l h = h
 every-arranged P Priority f [] h = tt
 every-arranged P Priority f (t ∷ ts) (h, hs) = every-placed P f t (sorted f ts) h (every-arranged P Priority f ts hs)
@@ -85,21 +96,25 @@ first_waiting-on sys s q t e =
     let waits : waits_in q x ≡ true =
     every-first (λ u. waits_in q (task_at s.tasks u) ≡ true) (wait_queue sys s q) t
     (every-arranged (λ u. waits_in q (task_at s.tasks u) ≡ true) (order_of sys q) (priority_in s.tasks)
-    (filter (λ u. waits_in q (task_at s.tasks u)) s.order) (every-filter (λ u. waits_in q (task_at s.tasks u)) s.order)) e in
+    (filter (λ u. waits_in q (task_at s.tasks u)) s.order) (every-filter
+    (λ u. waits_in q (task_at s.tasks u)) s.order)) e in
     queued-on q x.phase (is_none x.deadline) waits
 
-walked-rests : (s : KernelState) (satisfied clears : Bool) (f : ℕ) (g after : Progress) (rest : Progress → Progress) → Rests s g
+walked-rests : (s : KernelState) (satisfied clears : Bool) (f : ℕ) (g after : Progress) (rest : Progress → Progress)
+    → Rests s g
     → (satisfied ≡ true → Rests s after) → ((i : Progress) → Rests s i → Rests s (rest i))
     → Rests s (walked satisfied clears f g after rest)
 walked-rests s false clears f g after rest h k go = go g h
 walked-rests s true false f g after rest h k go = go after (k refl)
 walked-rests s true true f g after rest h k go = k refl
 
-walk-rests : (s : KernelState) (clears : Bool) (f bits : ℕ) (ts : List ℕ) (g : Progress) → Rests s g → Rests s (walk clears f bits ts g)
+walk-rests : (s : KernelState) (clears : Bool) (f bits : ℕ) (ts : List ℕ) (g : Progress) → Rests s g
+    → Rests s (walk clears f bits ts g)
 walk-rests s clears f bits [] g h = h
 walk-rests s clears f bits (t ∷ ts) g h =
     let x = task_at g.state.tasks t in
-    walked-rests s (is_satisfied x.phase bits) clears f g (released g t x (given (pos bits))) (λ z. walk clears f bits ts z) h
+    walked-rests s (is_satisfied x.phase bits) clears f g (released g t x (given (pos bits)))
+    (λ z. walk clears f bits ts z) h
     (λ e. rests-released s g t x (given (pos bits)) h (satisfied-on x.phase bits (is_none x.deadline) e))
     (λ i k. walk-rests s clears f bits ts i k)
 
@@ -115,7 +130,8 @@ module _ (sys : SystemTables) (s : KernelState) where
   still : Rests s (unchanged s)
   still = rests-still s
 
-  tested-rests : {A : Type 0} (e : Er) (o : Option A) (f : A → CallOutcome) → ((a : A) → Rest (f a)) → Rest (tested s e o f)
+  tested-rests : {A : Type 0} (e : Er) (o : Option A) (f : A → CallOutcome) → ((a : A) → Rest (f a))
+      → Rest (tested s e o f)
   tested-rests e None f k = still
   tested-rests e (Some a) f k = k a
 
@@ -123,7 +139,8 @@ module _ (sys : SystemTables) (s : KernelState) where
   refused_if-rests true e o k = still
   refused_if-rests false e o k = k
 
-  on_task-rests : (o : Option ℕ) (f : ℕ → TaskBlock → CallOutcome) → ((t : ℕ) → Rest (f t (task_at s.tasks t))) → Rest (on_task s o f)
+  on_task-rests : (o : Option ℕ) (f : ℕ → TaskBlock → CallOutcome) → ((t : ℕ) → Rest (f t (task_at s.tasks t)))
+      → Rest (on_task s o f)
   on_task-rests None f k = still
   on_task-rests (Some t) f k = k t
 
@@ -131,36 +148,46 @@ module _ (sys : SystemTables) (s : KernelState) where
   either-rests true o p h k = h
   either-rests false o p h k = k
 
-  releases : (t : ℕ) (reply : Reply) → is_off (task_at s.tasks t) ≡ false → Rests s (released (unchanged s) t (task_at s.tasks t) reply)
+  releases : (t : ℕ) (reply : Reply) → is_off (task_at s.tasks t) ≡ false
+      → Rests s (released (unchanged s) t (task_at s.tasks t) reply)
   releases t reply on = rests-released s (unchanged s) t (task_at s.tasks t) reply still on
 
   activated_by-rests : (p : Phase) (t : ℕ) → Rest (activated_by p sys s t (task_at s.tasks t))
   activated_by-rests Dormant t = rests-started sys s (unchanged s) t (task_at s.tasks t) still
   activated_by-rests Ready t =
-      either-rests (nat_lt (task_at s.tasks t).activations sys.queue_limit) _ (refused s er.Qovr) (rests-kept s t _ refl) still
+      either-rests (nat_lt (task_at s.tasks t).activations sys.queue_limit) _ (refused s er.Qovr)
+      (rests-kept s t _ refl) still
   activated_by-rests (Waiting c) t =
-      either-rests (nat_lt (task_at s.tasks t).activations sys.queue_limit) _ (refused s er.Qovr) (rests-kept s t _ refl) still
+      either-rests (nat_lt (task_at s.tasks t).activations sys.queue_limit) _ (refused s er.Qovr)
+      (rests-kept s t _ refl) still
 
-  moved_by-rests : (b : Bool) (t : ℕ) (y : TaskBlock) → is_off y ≡ is_off (task_at s.tasks t) → Rests s (unchanged (moved_by b s t y))
+  moved_by-rests : (b : Bool) (t : ℕ) (y : TaskBlock) → is_off y ≡ is_off (task_at s.tasks t)
+      → Rests s (unchanged (moved_by b s t y))
   moved_by-rests true t y e = rests-kept s t y e
   moved_by-rests false t y e = rests-kept s t y e
 
   activated_on_by-rests : (p : Phase) (t c : ℕ) → Rest (activated_on_by p sys s t (task_at s.tasks t) c)
-  activated_on_by-rests Dormant t c = rests-started sys s (unchanged s) t (record (task_at s.tasks t) { processor = c }) still
+  activated_on_by-rests Dormant t c = rests-started sys s (unchanged s) t
+      (record (task_at s.tasks t) { processor = c }) still
   activated_on_by-rests Ready t c =
-      either-rests (nat_lt (task_at s.tasks t).activations sys.queue_limit) _ (refused s er.Qovr) (rests-kept s t _ refl) still
+      either-rests (nat_lt (task_at s.tasks t).activations sys.queue_limit) _ (refused s er.Qovr)
+      (rests-kept s t _ refl) still
   activated_on_by-rests (Waiting w) t c =
-      either-rests (nat_lt (task_at s.tasks t).activations sys.queue_limit) _ (refused s er.Qovr) (rests-kept s t _ refl) still
+      either-rests (nat_lt (task_at s.tasks t).activations sys.queue_limit) _ (refused s er.Qovr)
+      (rests-kept s t _ refl) still
 
   assigned_by-rests : (b : Bool) (t c : ℕ) → Rests s (unchanged (assigned_by b s t (task_at s.tasks t) c))
   assigned_by-rests true t c = still
-  assigned_by-rests false t c = moved_by-rests (is_ready (task_at s.tasks t)) t (record (task_at s.tasks t) { processor = c }) refl
+  assigned_by-rests false t c = moved_by-rests (is_ready (task_at s.tasks t)) t
+      (record (task_at s.tasks t) { processor = c }) refl
 
   wakeup_queued-rests : (t : ℕ) → Rest (wakeup_queued sys s t (task_at s.tasks t))
   wakeup_queued-rests t =
-      either-rests (nat_lt (task_at s.tasks t).wakeups sys.queue_limit) _ (refused s er.Qovr) (rests-kept s t _ refl) still
+      either-rests (nat_lt (task_at s.tasks t).wakeups sys.queue_limit) _ (refused s er.Qovr)
+      (rests-kept s t _ refl) still
 
-  woken_from-rests : (c : WaitCause) (t : ℕ) → is_off (task_at s.tasks t) ≡ false → Rest (woken_from c sys s t (task_at s.tasks t))
+  woken_from-rests : (c : WaitCause) (t : ℕ) → is_off (task_at s.tasks t) ≡ false
+      → Rest (woken_from c sys s t (task_at s.tasks t))
   woken_from-rests cause.Sleep t on = releases t (code er.Ok) on
   woken_from-rests c t on = wakeup_queued-rests t
 
@@ -174,7 +201,8 @@ module _ (sys : SystemTables) (s : KernelState) where
   released_by-rests Ready t e = still
   released_by-rests (Waiting c) t e = releases t (code er.Rlwai) (waiting-on (task_at s.tasks t) c e)
 
-  resumed_by-rests : (p : Phase) (t : ℕ) (y : TaskBlock) → is_off y ≡ is_off (task_at s.tasks t) → Rests s (unchanged (resumed_by p s t y))
+  resumed_by-rests : (p : Phase) (t : ℕ) (y : TaskBlock) → is_off y ≡ is_off (task_at s.tasks t)
+      → Rests s (unchanged (resumed_by p s t y))
   resumed_by-rests Dormant t y e = rests-kept s t y e
   resumed_by-rests Ready t y e = rests-kept s t y e
   resumed_by-rests (Waiting c) t y e = rests-kept s t y e
@@ -185,7 +213,8 @@ module _ (sys : SystemTables) (s : KernelState) where
 
   signalled_to-rests : (o : Option ℕ) (i n : ℕ) → ((t : ℕ) → o ≡ Some t → is_off (task_at s.tasks t) ≡ false)
       → Rest (signalled_to o sys s i n)
-  signalled_to-rests None i n on = either-rests (nat_lt n (semaphore_config sys i).most) _ (refused s er.Qovr) still still
+  signalled_to-rests None i n on = either-rests (nat_lt n (semaphore_config sys i).most) _
+      (refused s er.Qovr) still still
   signalled_to-rests (Some t) i n on = releases t (code er.Ok) (on t refl)
 
   sends : (i : ℤ) → Rest (case_of sys s 0 0 (task_at [] 0) (call.SigSem i))
@@ -208,10 +237,12 @@ module _ (sys : SystemTables) (s : KernelState) where
     by_room true = still
     by_room false = k
 
-  word_sent-rests : (me : ℕ) (x : TaskBlock) (m : TimeLimit) (d : ℕ) (w : ℤ) → Rest (waits_within m s me x (cause.Sending d w))
+  word_sent-rests : (me : ℕ) (x : TaskBlock) (m : TimeLimit) (d : ℕ) (w : ℤ)
+      → Rest (waits_within m s me x (cause.Sending d w))
       → Rest (word_sent sys s me x w m d)
   word_sent-rests me x m d w k =
-      word_sent_to-rests (first_waiting sys s (queue.Receivers d)) me x m d w (λ t e. first_waiting-on sys s (queue.Receivers d) t e) k
+      word_sent_to-rests (first_waiting sys s (queue.Receivers d)) me x m d w
+      (λ t e. first_waiting-on sys s (queue.Receivers d) t e) k
 
   forced_to-rests : (o : Option ℕ) (d : ℕ) (w : ℤ) → ((t : ℕ) → o ≡ Some t → is_off (task_at s.tasks t) ≡ false)
       → Rest (forced_to o sys s d w)
@@ -225,16 +256,20 @@ module _ (sys : SystemTables) (s : KernelState) where
   forces d w =
       tested-rests er.Id (numbered (length s.data_queues) d) _
       (λ i. refused_if-rests (nat_eq (data_queue_config sys i).capacity 0) er.Iluse _
-      (forced_to-rests (first_waiting sys s (queue.Receivers i)) i w (λ t e. first_waiting-on sys s (queue.Receivers i) t e)))
+      (forced_to-rests (first_waiting sys s (queue.Receivers i)) i w (λ t e. first_waiting-on sys s
+      (queue.Receivers i) t e)))
 
-  oldest_taken-rests : (o : Option ℕ) (d : ℕ) (w : ℤ) (ws : List ℤ) → ((t : ℕ) → o ≡ Some t → is_off (task_at s.tasks t) ≡ false)
+  oldest_taken-rests : (o : Option ℕ) (d : ℕ) (w : ℤ) (ws : List ℤ)
+      → ((t : ℕ) → o ≡ Some t → is_off (task_at s.tasks t) ≡ false)
       → Rest (oldest_taken o s d w ws)
   oldest_taken-rests None d w ws on = still
   oldest_taken-rests (Some t) d w ws on =
-      rests-released s (unchanged (with_words s d (ws ++ offered_word (task_at s.tasks t).phase ∷ []))) t (task_at s.tasks t) (code er.Ok)
+      rests-released s (unchanged (with_words s d (ws ++ offered_word (task_at s.tasks t).phase ∷ []))) t
+      (task_at s.tasks t) (code er.Ok)
       still (on t refl)
 
-  message_sent_to-rests : (o : Option ℕ) (mailbox message : ℕ) → ((t : ℕ) → o ≡ Some t → is_off (task_at s.tasks t) ≡ false)
+  message_sent_to-rests : (o : Option ℕ) (mailbox message : ℕ)
+      → ((t : ℕ) → o ≡ Some t → is_off (task_at s.tasks t) ≡ false)
       → Rest (message_sent_to o sys s mailbox message)
   message_sent_to-rests (Some t) mailbox message on = releases t (given (pos (message + 1))) (on t refl)
   message_sent_to-rests None mailbox message on = still
@@ -278,16 +313,19 @@ module _ (sys : SystemTables) (s : KernelState) where
     acquired_by-rests zero m i = waits_within-rests m (cause.Semaphore i)
     acquired_by-rests (suc n) m i = still
 
-    awaited_by-rests : (b : Bool) (m : TimeLimit) (f pattern : ℕ) (mode : FlagMode) → Rest (awaited_by b sys s me x m f pattern mode)
+    awaited_by-rests : (b : Bool) (m : TimeLimit) (f pattern : ℕ) (mode : FlagMode)
+        → Rest (awaited_by b sys s me x m f pattern mode)
     awaited_by-rests true m f pattern mode = obtained-rests (flag_config sys f).clears f
     awaited_by-rests false m f pattern mode = waits_within-rests m (cause.Flag f pattern mode)
 
     awaited-rests : (f pattern : ℕ) (mode : FlagMode) (m : TimeLimit) → Rest (awaited sys s me x f pattern mode m)
     awaited-rests f pattern mode m =
-        refused_if-rests (not (flag_config sys f).multiple && not (is_empty (wait_queue sys s (queue.Flag f)))) er.Iluse _
+        refused_if-rests (not (flag_config sys f).multiple && not (is_empty (wait_queue sys s (queue.Flag f))))
+        er.Iluse _
         (awaited_by-rests (satisfies mode pattern (pattern_at s f)) m f pattern mode)
 
-    flag_tested-rests : (f b o : ℤ) (go : ℕ → ℕ → FlagMode → CallOutcome) → ((i bits : ℕ) (mode : FlagMode) → Rest (go i bits mode))
+    flag_tested-rests : (f b o : ℤ) (go : ℕ → ℕ → FlagMode → CallOutcome)
+        → ((i bits : ℕ) (mode : FlagMode) → Rest (go i bits mode))
         → Rest (flag_tested s f b o go)
     flag_tested-rests f b o go k =
         tested-rests er.Id (numbered (length s.flags) f) _ (λ i. tested-rests er.Par (ranged 1 65535 b) _
@@ -296,13 +334,16 @@ module _ (sys : SystemTables) (s : KernelState) where
     received_from-rests : (words : List ℤ) (m : TimeLimit) (d : ℕ) → Rest (word_received_from words sys s me x m d)
     received_from-rests [] m d =
         by_sender (first_waiting sys s (queue.Senders d)) (λ t e. first_waiting-on sys s (queue.Senders d) t e) where
-          by_sender : (o : Option ℕ) → ((t : ℕ) → o ≡ Some t → is_off (task_at s.tasks t) ≡ false) → Rest (sender_taken_from o s me x m d)
+          by_sender : (o : Option ℕ) → ((t : ℕ) → o ≡ Some t → is_off (task_at s.tasks t) ≡ false)
+              → Rest (sender_taken_from o s me x m d)
           by_sender None k = waits_within-rests m (cause.Receiving d)
           by_sender (Some t) k = releases t (code er.Ok) (k t refl)
     received_from-rests (w ∷ ws) m d =
-        oldest_taken-rests (first_waiting sys s (queue.Senders d)) d w ws (λ t e. first_waiting-on sys s (queue.Senders d) t e)
+        oldest_taken-rests (first_waiting sys s (queue.Senders d)) d w ws
+        (λ t e. first_waiting-on sys s (queue.Senders d) t e)
 
-    taken_from-rests : (messages : List ℕ) (m : TimeLimit) (mailbox : ℕ) → Rest (message_taken_from messages s me x m mailbox)
+    taken_from-rests : (messages : List ℕ) (m : TimeLimit) (mailbox : ℕ)
+        → Rest (message_taken_from messages s me x m mailbox)
     taken_from-rests [] m mailbox = waits_within-rests m (cause.Mailbox mailbox)
     taken_from-rests (message ∷ rest) m mailbox = still
 
@@ -310,35 +351,43 @@ module _ (sys : SystemTables) (s : KernelState) where
     case_of-rests p (call.Put value) = still
     case_of-rests p (call.LdShr word) = tested-rests er.Id (numbered (length s.shared_words) word) _ (λ n. still)
     case_of-rests p (call.StShr word value) = tested-rests er.Id (numbered (length s.shared_words) word) _ (λ n. still)
-    case_of-rests p (call.ActTsk task) = on_task-rests (self_or s me task) _ (λ t. activated_by-rests (task_at s.tasks t).phase t)
+    case_of-rests p (call.ActTsk task) = on_task-rests (self_or s me task) _
+        (λ t. activated_by-rests (task_at s.tasks t).phase t)
     case_of-rests p (call.CanAct task) = on_task-rests (self_or s me task) _ (λ t. rests-kept s t _ refl)
     case_of-rests p call.ExtTsk = rests-ended_itself sys s p me x
     case_of-rests p (call.TerTsk task) =
         on_task-rests (by_number s task) _ (λ t. refused_if-rests (nat_eq t me) er.Iluse _
-        (refused_if-rests (is_dormant (task_at s.tasks t).phase || not (nat_eq (task_at s.tasks t).processor p)) er.Obj _
+        (refused_if-rests (is_dormant (task_at s.tasks t).phase || not (nat_eq (task_at s.tasks t).processor p))
+        er.Obj _
         (rests-ended sys s (unchanged s) t (task_at s.tasks t) still)))
     case_of-rests p (call.ChgPri task priority) =
         on_task-rests (self_or s me task) _ (λ t. tested-rests er.Par (ranged 0 16 priority) _
         (λ n. refused_if-rests (is_dormant (task_at s.tasks t).phase) er.Obj _
         (moved_by-rests (goes_last sys (task_at s.tasks t)) t _ refl)))
     case_of-rests p (call.GetPri task) =
-        on_task-rests (self_or s me task) _ (λ t. refused_if-rests (is_dormant (task_at s.tasks t).phase) er.Obj _ still)
+        on_task-rests (self_or s me task) _ (λ t. refused_if-rests (is_dormant (task_at s.tasks t).phase) er.Obj _
+        still)
     case_of-rests p (call.MactTsk task processor) =
         on_task-rests (self_or s me task) _ (λ t. tested-rests er.Par (allowed_processor sys t processor) _
         (λ n. activated_on_by-rests (task_at s.tasks t).phase t n))
     case_of-rests p (call.MigTsk task processor) =
         on_task-rests (self_or s me task) _ (λ t. tested-rests er.Par (allowed_processor sys t processor) _
-        (λ n. refused_if-rests (is_dormant (task_at s.tasks t).phase || not (nat_eq (task_at s.tasks t).processor p)) er.Obj _
+        (λ n. refused_if-rests (is_dormant (task_at s.tasks t).phase || not (nat_eq (task_at s.tasks t).processor p))
+        er.Obj _
         (assigned_by-rests (nat_eq (task_at s.tasks t).processor n) t n)))
     case_of-rests p call.SlpTsk = slept_by-rests x.wakeups limit.Forever
     case_of-rests p (call.TslpTsk tmout) = tested-rests er.Par (limit_of tmout) _ (λ m. slept_by-rests x.wakeups m)
-    case_of-rests p (call.WupTsk task) = on_task-rests (self_or s me task) _ (λ t. woken_by-rests (task_at s.tasks t).phase t refl)
+    case_of-rests p (call.WupTsk task) = on_task-rests (self_or s me task) _
+        (λ t. woken_by-rests (task_at s.tasks t).phase t refl)
     case_of-rests p (call.CanWup task) =
-        on_task-rests (self_or s me task) _ (λ t. refused_if-rests (is_dormant (task_at s.tasks t).phase) er.Obj _ (rests-kept s t _ refl))
-    case_of-rests p (call.RelWai task) = on_task-rests (by_number s task) _ (λ t. released_by-rests (task_at s.tasks t).phase t refl)
+        on_task-rests (self_or s me task) _ (λ t. refused_if-rests (is_dormant (task_at s.tasks t).phase) er.Obj _
+        (rests-kept s t _ refl))
+    case_of-rests p (call.RelWai task) = on_task-rests (by_number s task) _
+        (λ t. released_by-rests (task_at s.tasks t).phase t refl)
     case_of-rests p (call.SusTsk task) =
         on_task-rests (self_or s me task) _ (λ t. refused_if-rests (is_dormant (task_at s.tasks t).phase) er.Obj _
-        (refused_if-rests (task_at s.tasks t).suspended er.Qovr _ (rests-suspended (task_at s.tasks t).phase s t _ refl)))
+        (refused_if-rests (task_at s.tasks t).suspended er.Qovr _ (rests-suspended
+        (task_at s.tasks t).phase s t _ refl)))
     case_of-rests p (call.RsmTsk task) =
         on_task-rests (by_number s task) _ (λ t. refused_if-rests (not (task_at s.tasks t).suspended) er.Obj _
         (resumed_by-rests (task_at s.tasks t).phase t _ refl))
@@ -346,21 +395,25 @@ module _ (sys : SystemTables) (s : KernelState) where
         tested-rests er.Par (ranged 0 (2 ^ 30) delay) _ (λ n. waits-rests cause.Delay (Some (clock_after s n)))
     case_of-rests p (call.SigSem semaphore) = sends semaphore
     case_of-rests p (call.WaiSem semaphore) =
-        tested-rests er.Id (numbered (length s.semaphores) semaphore) _ (λ n. acquired_by-rests (get_or s.semaphores n 0) limit.Forever n)
+        tested-rests er.Id (numbered (length s.semaphores) semaphore) _
+        (λ n. acquired_by-rests (get_or s.semaphores n 0) limit.Forever n)
     case_of-rests p (call.PolSem semaphore) =
-        tested-rests er.Id (numbered (length s.semaphores) semaphore) _ (λ n. acquired_by-rests (get_or s.semaphores n 0) limit.Poll n)
+        tested-rests er.Id (numbered (length s.semaphores) semaphore) _
+        (λ n. acquired_by-rests (get_or s.semaphores n 0) limit.Poll n)
     case_of-rests p (call.TwaiSem semaphore tmout) =
         tested-rests er.Id (numbered (length s.semaphores) semaphore) _ (λ n. tested-rests er.Par (limit_of tmout) _
         (λ m. acquired_by-rests (get_or s.semaphores n 0) m n))
     case_of-rests p (call.SetFlg flag pattern) = sets flag pattern
     case_of-rests p (call.ClrFlg flag pattern) =
-        tested-rests er.Id (numbered (length s.flags) flag) _ (λ i. tested-rests er.Par (ranged 0 65535 pattern) _ (λ bits. still))
+        tested-rests er.Id (numbered (length s.flags) flag) _ (λ i. tested-rests er.Par (ranged 0 65535 pattern) _
+        (λ bits. still))
     case_of-rests p (call.WaiFlg flag pattern mode) =
         flag_tested-rests flag pattern mode _ (λ i bits o. awaited-rests i bits o limit.Forever)
     case_of-rests p (call.PolFlg flag pattern mode) =
         flag_tested-rests flag pattern mode _ (λ i bits o. awaited-rests i bits o limit.Poll)
     case_of-rests p (call.TwaiFlg flag pattern mode tmout) =
-        flag_tested-rests flag pattern mode _ (λ i bits o. tested-rests er.Par (limit_of tmout) _ (λ m. awaited-rests i bits o m))
+        flag_tested-rests flag pattern mode _ (λ i bits o. tested-rests er.Par (limit_of tmout) _
+        (λ m. awaited-rests i bits o m))
     case_of-rests p (call.SndDtq queue word) =
         tested-rests er.Id (numbered (length s.data_queues) queue) _
         (λ i. word_sent-rests me x limit.Forever i word (waits_within-rests limit.Forever (cause.Sending i word)))
@@ -371,21 +424,28 @@ module _ (sys : SystemTables) (s : KernelState) where
         (λ m. word_sent-rests me x m i word (waits_within-rests m (cause.Sending i word))))
     case_of-rests p (call.FsndDtq queue word) = forces queue word
     case_of-rests p (call.RcvDtq queue) =
-        tested-rests er.Id (numbered (length s.data_queues) queue) _ (λ i. received_from-rests (words_at s i) limit.Forever i)
+        tested-rests er.Id (numbered (length s.data_queues) queue) _ (λ i. received_from-rests
+        (words_at s i) limit.Forever i)
     case_of-rests p (call.PrcvDtq queue) =
-        tested-rests er.Id (numbered (length s.data_queues) queue) _ (λ i. received_from-rests (words_at s i) limit.Poll i)
+        tested-rests er.Id (numbered (length s.data_queues) queue) _ (λ i. received_from-rests
+        (words_at s i) limit.Poll i)
     case_of-rests p (call.TrcvDtq queue tmout) =
         tested-rests er.Id (numbered (length s.data_queues) queue) _ (λ i. tested-rests er.Par (limit_of tmout) _
         (λ m. received_from-rests (words_at s i) m i))
     case_of-rests p (call.SndMbx mailbox message) =
-        tested-rests er.Id (numbered (length s.mailboxes) mailbox) _ (λ i. tested-rests er.Id (numbered (length sys.messages) message) _
-        (λ g. refused_if-rests (is_by_priority (mailbox_config sys i).message_order && nat_lt (mailbox_config sys i).most
+        tested-rests er.Id (numbered (length s.mailboxes) mailbox) _ (λ i. tested-rests er.Id
+        (numbered (length sys.messages) message) _
+        (λ g. refused_if-rests (is_by_priority (mailbox_config sys i).message_order
+        && nat_lt (mailbox_config sys i).most
         (message_priority sys g)) er.Par _ (refused_if-rests (is_queued g s.mailboxes) er.Obj _
-        (message_sent_to-rests (first_waiting sys s (queue.Mailbox i)) i g (λ t e. first_waiting-on sys s (queue.Mailbox i) t e)))))
+        (message_sent_to-rests (first_waiting sys s (queue.Mailbox i)) i g
+        (λ t e. first_waiting-on sys s (queue.Mailbox i) t e)))))
     case_of-rests p (call.RcvMbx mailbox) =
-        tested-rests er.Id (numbered (length s.mailboxes) mailbox) _ (λ i. taken_from-rests (messages_at s i) limit.Forever i)
+        tested-rests er.Id (numbered (length s.mailboxes) mailbox) _ (λ i. taken_from-rests
+        (messages_at s i) limit.Forever i)
     case_of-rests p (call.PrcvMbx mailbox) =
-        tested-rests er.Id (numbered (length s.mailboxes) mailbox) _ (λ i. taken_from-rests (messages_at s i) limit.Poll i)
+        tested-rests er.Id (numbered (length s.mailboxes) mailbox) _ (λ i. taken_from-rests
+        (messages_at s i) limit.Poll i)
     case_of-rests p (call.TrcvMbx mailbox tmout) =
         tested-rests er.Id (numbered (length s.mailboxes) mailbox) _ (λ i. tested-rests er.Par (limit_of tmout) _
         (λ m. taken_from-rests (messages_at s i) m i))
@@ -398,15 +458,20 @@ module _ (sys : SystemTables) (s : KernelState) where
     case_of-rests p call.UnlCpu = unlocks (processor_at s p).lock p
     case_of-rests p call.DisDsp = still
     case_of-rests p call.EnaDsp = still
-    case_of-rests p (call.LocSpn lock) = tested-rests er.Id (numbered (length sys.spin_locks) lock) _ (λ i. spins (is_held i s.processors) p i)
+    case_of-rests p (call.LocSpn lock) = tested-rests er.Id (numbered (length sys.spin_locks) lock) _
+        (λ i. spins (is_held i s.processors) p i)
     case_of-rests p (call.TrySpn lock) =
-        tested-rests er.Id (numbered (length sys.spin_locks) lock) _ (λ i. refused_if-rests (is_held i s.processors) er.Obj _ still)
+        tested-rests er.Id (numbered (length sys.spin_locks) lock) _ (λ i. refused_if-rests
+        (is_held i s.processors) er.Obj _ still)
     case_of-rests p (call.UnlSpn lock) =
         tested-rests er.Id (numbered (length sys.spin_locks) lock) _
         (λ i. refused_if-rests (not (is_spin i (processor_at s p).lock)) er.Iluse _ still)
-    case_of-rests p (call.IactTsk task) = on_task-rests (by_number s task) _ (λ t. activated_by-rests (task_at s.tasks t).phase t)
-    case_of-rests p (call.IwupTsk task) = on_task-rests (by_number s task) _ (λ t. woken_by-rests (task_at s.tasks t).phase t refl)
-    case_of-rests p (call.IrelWai task) = on_task-rests (by_number s task) _ (λ t. released_by-rests (task_at s.tasks t).phase t refl)
+    case_of-rests p (call.IactTsk task) = on_task-rests (by_number s task) _
+        (λ t. activated_by-rests (task_at s.tasks t).phase t)
+    case_of-rests p (call.IwupTsk task) = on_task-rests (by_number s task) _
+        (λ t. woken_by-rests (task_at s.tasks t).phase t refl)
+    case_of-rests p (call.IrelWai task) = on_task-rests (by_number s task) _
+        (λ t. released_by-rests (task_at s.tasks t).phase t refl)
     case_of-rests p (call.IsigSem semaphore) = sends semaphore
     case_of-rests p (call.IsetFlg flag pattern) = sets flag pattern
     case_of-rests p (call.IpsndDtq queue word) =
@@ -424,11 +489,14 @@ module _ (sys : SystemTables) (s : KernelState) where
   handler-rests p h (call.LdShr word) = tested-rests er.Id (numbered (length s.shared_words) word) _ (λ n. still)
   handler-rests p h (call.StShr word value) = tested-rests er.Id (numbered (length s.shared_words) word) _ (λ n. still)
   handler-rests p h (call.IactTsk task) =
-      refused_if-rests _ er.Ctx _ (on_task-rests (by_number s task) _ (λ t. activated_by-rests (task_at s.tasks t).phase t))
+      refused_if-rests _ er.Ctx _ (on_task-rests (by_number s task) _ (λ t. activated_by-rests
+      (task_at s.tasks t).phase t))
   handler-rests p h (call.IwupTsk task) =
-      refused_if-rests _ er.Ctx _ (on_task-rests (by_number s task) _ (λ t. woken_by-rests (task_at s.tasks t).phase t refl))
+      refused_if-rests _ er.Ctx _ (on_task-rests (by_number s task) _ (λ t. woken_by-rests
+      (task_at s.tasks t).phase t refl))
   handler-rests p h (call.IrelWai task) =
-      refused_if-rests _ er.Ctx _ (on_task-rests (by_number s task) _ (λ t. released_by-rests (task_at s.tasks t).phase t refl))
+      refused_if-rests _ er.Ctx _ (on_task-rests (by_number s task) _ (λ t. released_by-rests
+      (task_at s.tasks t).phase t refl))
   handler-rests p h (call.IsigSem semaphore) = refused_if-rests _ er.Ctx _ (sends semaphore)
   handler-rests p h (call.IsetFlg flag pattern) = refused_if-rests _ er.Ctx _ (sets flag pattern)
   handler-rests p h (call.IpsndDtq queue word) =
@@ -436,10 +504,12 @@ module _ (sys : SystemTables) (s : KernelState) where
       (λ i. word_sent-rests 0 (task_at [] 0) limit.Poll i word still))
   handler-rests p h (call.IfsndDtq queue word) = refused_if-rests _ er.Ctx _ (forces queue word)
   handler-rests p h (call.IrotRdq priority) =
-      refused_if-rests _ er.Ctx _ (tested-rests er.Par (ranged 1 16 priority) _ (λ n. rotated-rests (first_ready s p n)))
+      refused_if-rests _ er.Ctx _ (tested-rests er.Par (ranged 1 16 priority) _
+      (λ n. rotated-rests (first_ready s p n)))
   handler-rests p h c = still
 
   pub called-rests : (p : ℕ) (who : Caller) (c : Call) → IsCaller s who → Rest (called sys s p who c)
   called-rests p (caller.Task me) c on =
-      refused_if-rests (is_barred (permission (service_of c)) (processor_at s p) (caller.Task me) c) er.Ctx _ (case_of-rests me on p c)
+      refused_if-rests (is_barred (permission (service_of c)) (processor_at s p) (caller.Task me) c) er.Ctx _
+      (case_of-rests me on p c)
   called-rests p (caller.Handler h) c on = handler-rests p h c

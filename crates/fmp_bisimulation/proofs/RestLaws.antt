@@ -1,5 +1,6 @@
 -- A task that is off stays so unless a line starts it: the changes of which calls are made, the clock, settling.
-use Rattle.std.proofs.Common.{◌≡◌, ℕ, zero, suc, List, [], ◌∷◌, ◌++◌, Option, Some, None, Bool, true, false, ◌||◌, refl, sym, ◌∙◌, ap, subst, nat_eq, length, slice_get, slice_set, cond}
+use Rattle.std.proofs.Common.{◌≡◌, ℕ, zero, suc, List, [], ◌∷◌, ◌++◌, Option, Some, None, Bool, true, false, ◌||◌, refl}
+use Rattle.std.proofs.Common.{sym, ◌∙◌, ap, subst, nat_eq, length, slice_get, slice_set, cond}
 use Rattle.std.proofs.lemmas.Bool.{eq-eqb}
 use Rattle.fmp_base.specs.declared.calls.Reply.{Reply}
 use Rattle.fmp_base.specs.declared.events.Line.{Line}
@@ -10,13 +11,16 @@ use Rattle.fmp_base.specs.declared.states.Phase.{Phase}
 use Rattle.fmp_base.specs.declared.states.Phase.TheVariants.{Dormant, Ready, Waiting}
 use Rattle.fmp_base.specs.declared.states.Processor.{Processor}
 use Rattle.fmp_base.specs.declared.states.TaskBlock.{TaskBlock}
-use Rattle.fmp_base.specs.Changes.{started_block, started, released_state, released, ended_block, ended_by, ended, ended_itself, with_nothing_run, suspended_by}
+use Rattle.fmp_base.specs.Changes.{started_block, started, released_state, released, ended_block, ended_by, ended}
+use Rattle.fmp_base.specs.Changes.{ended_itself, with_nothing_run, suspended_by}
 use Rattle.fmp_base.specs.Outcomes.{code}
-use Rattle.fmp_base.specs.Settles.{all_settled, begun, dispatch_lines, dispatched, handler_to_begin, is_dispatch_held, is_same_task, settled, settled_on, settled_with}
+use Rattle.fmp_base.specs.Settles.{all_settled, begun, dispatch_lines, dispatched, handler_to_begin, is_dispatch_held}
+use Rattle.fmp_base.specs.Settles.{is_same_task, settled, settled_on, settled_with}
 use Rattle.fmp_base.specs.Queues.{top}
 use Rattle.fmp_base.specs.States.{KernelState, Progress, unchanged, task_at, places_from, processor_at}
 use Rattle.fmp_base.specs.Systems.{SystemTables, cyclic_config, found}
-use Rattle.fmp_base.specs.Ticks.{all_cycled, all_timed_out, cycled, cycled_by, is_due, is_pending, pended_by, ticked, timed_out, timed_out_by, timeout_code, with_clock_advanced}
+use Rattle.fmp_base.specs.Ticks.{all_cycled, all_timed_out, cycled, cycled_by, is_due, is_pending, pended_by, ticked}
+use Rattle.fmp_base.specs.Ticks.{timed_out, timed_out_by, timeout_code, with_clock_advanced}
 use Rattle.fmp_bisimulation.specs.Alike.{is_off}
 
 -- a line starts this task
@@ -35,7 +39,8 @@ or-assoc false b c = refl
 pub starts-append : (t : ℕ) (xs ys : List Line) → starts t (xs ++ ys) ≡ (starts t xs || starts t ys)
 starts-append t [] ys = refl
 starts-append t (l ∷ ls) ys =
-    ap (λ (b : Bool). starts_by t l || b) (starts-append t ls ys) ∙ sym (or-assoc (starts_by t l) (starts t ls) (starts t ys))
+    ap (λ (b : Bool). starts_by t l || b) (starts-append t ls ys)
+    ∙ sym (or-assoc (starts_by t l) (starts t ls) (starts t ys))
 
 -- who was off is off, or was started
 abbrev pub Rested : (before after started : Bool) → Type 0
@@ -71,7 +76,8 @@ rested-more false b c d h = tt
 abbrev pub Rests : KernelState → Progress → Type 0
 Rests s g = (t : ℕ) → Rested (is_off (task_at s.tasks t)) (is_off (task_at g.state.tasks t)) (starts t g.lines)
 
-set_at : (P : TaskBlock → Type 0) (xs : List TaskBlock) (t : ℕ) (y : TaskBlock) (v : ℕ) → (v ≡ t → P y) → P (task_at xs v)
+set_at : (P : TaskBlock → Type 0) (xs : List TaskBlock) (t : ℕ) (y : TaskBlock) (v : ℕ) → (v ≡ t → P y)
+    → P (task_at xs v)
     → P (task_at (slice_set xs t y) v)
 set_at P [] t y v h k = k
 set_at P (x ∷ xs) zero y zero h k = h refl
@@ -86,7 +92,8 @@ rests-still s t = rested-same (is_off (task_at s.tasks t)) false
 pub rests-lines : (s : KernelState) (g : Progress) (ls : List Line) → Rests s g
     → (t : ℕ) → Rested (is_off (task_at s.tasks t)) (is_off (task_at g.state.tasks t)) (starts t (g.lines ++ ls))
 rests-lines s g ls h t =
-    subst (λ (b : Bool). Rested (is_off (task_at s.tasks t)) (is_off (task_at g.state.tasks t)) b) (sym (starts-append t g.lines ls))
+    subst (λ (b : Bool). Rested (is_off (task_at s.tasks t)) (is_off (task_at g.state.tasks t)) b)
+    (sym (starts-append t g.lines ls))
     (rested-more (is_off (task_at s.tasks t)) (is_off (task_at g.state.tasks t)) (starts t g.lines) (starts t ls) (h t))
 
 -- a task changes, and is off as before
@@ -99,8 +106,10 @@ rests-kept s t y e v =
     (rested-same (is_off (task_at s.tasks v)) false)
 
 -- a task that is not off changes
-rests-set : (s : KernelState) (g : Progress) (t : ℕ) (y : TaskBlock) → Rests s g → is_off (task_at g.state.tasks t) ≡ false
-    → (v : ℕ) → Rested (is_off (task_at s.tasks v)) (is_off (task_at (slice_set g.state.tasks t y) v)) (starts v g.lines)
+rests-set : (s : KernelState) (g : Progress) (t : ℕ) (y : TaskBlock) → Rests s g → is_off (task_at g.state.tasks t)
+    ≡ false
+    → (v : ℕ) → Rested (is_off (task_at s.tasks v)) (is_off (task_at (slice_set g.state.tasks t y) v))
+    (starts v g.lines)
 rests-set s g t y h on v =
     set_at (λ z. Rested (is_off (task_at s.tasks v)) (is_off z) (starts v g.lines)) g.state.tasks t y v
     (λ same. rested-on (is_off (task_at s.tasks v)) (is_off y) (starts v g.lines)
@@ -110,7 +119,8 @@ rests-set s g t y h on v =
 
 -- a task is off now
 rests-ends : (s : KernelState) (g : Progress) (t : ℕ) (y : TaskBlock) → Rests s g → is_off y ≡ true
-    → (v : ℕ) → Rested (is_off (task_at s.tasks v)) (is_off (task_at (slice_set g.state.tasks t y) v)) (starts v g.lines)
+    → (v : ℕ) → Rested (is_off (task_at s.tasks v)) (is_off (task_at (slice_set g.state.tasks t y) v))
+    (starts v g.lines)
 rests-ends s g t y h off v =
     set_at (λ z. Rested (is_off (task_at s.tasks v)) (is_off z) (starts v g.lines)) g.state.tasks t y v
     (λ same. subst (λ (b : Bool). Rested (is_off (task_at s.tasks v)) b (starts v g.lines)) (sym off)
@@ -121,7 +131,8 @@ pub rests-waits : (s : KernelState) (t : ℕ) (y : TaskBlock) → is_off (task_a
     → (v : ℕ) → Rested (is_off (task_at s.tasks v)) (is_off (task_at (slice_set s.tasks t y) v)) false
 rests-waits s t y on = rests-set s (unchanged s) t y (rests-still s) on
 
-pub rests-started : (sys : SystemTables) (s : KernelState) (g : Progress) (t : ℕ) (x : TaskBlock) → Rests s g → Rests s (started sys g t x)
+pub rests-started : (sys : SystemTables) (s : KernelState) (g : Progress) (t : ℕ) (x : TaskBlock) → Rests s g
+    → Rests s (started sys g t x)
 rests-started sys s g t x h v =
     let y = started_block sys t x in
     let l : Line = line.Starts y.processor t in
@@ -153,15 +164,18 @@ rests-released s g t x reply h on =
     released_by x.suspended s g.state t y (g.lines ++ line.Gets x.processor t reply ∷ [])
     (rests-set s told t y (rests-lines s g (line.Gets x.processor t reply ∷ []) h) on)
 
-ended_by-rests : (n : ℕ) (sys : SystemTables) (s : KernelState) (g : Progress) (t : ℕ) (y : TaskBlock) → is_off y ≡ true → Rests s g
+ended_by-rests : (n : ℕ) (sys : SystemTables) (s : KernelState) (g : Progress) (t : ℕ) (y : TaskBlock) → is_off y
+    ≡ true → Rests s g
     → Rests s (ended_by n sys g t y)
 ended_by-rests zero sys s g t y off h = rests-ends s g t y h off
 ended_by-rests (suc n) sys s g t y off h = rests-started sys s g t (record y { activations = n }) h
 
-pub rests-ended : (sys : SystemTables) (s : KernelState) (g : Progress) (t : ℕ) (x : TaskBlock) → Rests s g → Rests s (ended sys g t x)
+pub rests-ended : (sys : SystemTables) (s : KernelState) (g : Progress) (t : ℕ) (x : TaskBlock) → Rests s g
+    → Rests s (ended sys g t x)
 rests-ended sys s g t x h = ended_by-rests x.activations sys s g t (ended_block sys t x) refl h
 
-pub rests-ended_itself : (sys : SystemTables) (s : KernelState) (p t : ℕ) (x : TaskBlock) → Rests s (ended_itself sys s p t x)
+pub rests-ended_itself : (sys : SystemTables) (s : KernelState) (p t : ℕ) (x : TaskBlock)
+    → Rests s (ended_itself sys s p t x)
 rests-ended_itself sys s p t x = rests-ended sys s (unchanged (with_nothing_run s p)) t x (rests-still s)
 
 pub rests-suspended : (p : Phase) (s : KernelState) (t : ℕ) (y : TaskBlock) → is_off y ≡ is_off (task_at s.tasks t)
@@ -192,15 +206,18 @@ all_timed_out-rests s g (t ∷ ts) h =
     (timed_out_by-rests (is_due g.state.clock (task_at g.state.tasks t).deadline) s g t h
     (λ e. off-due (task_at g.state.tasks t) g.state.clock e))
 
-pended_by-rests : (b : Bool) (sys : SystemTables) (s : KernelState) (g : Progress) (c : ℕ) → Rests s g → Rests s (pended_by b sys g c)
+pended_by-rests : (b : Bool) (sys : SystemTables) (s : KernelState) (g : Progress) (c : ℕ) → Rests s g
+    → Rests s (pended_by b sys g c)
 pended_by-rests true sys s g c h = h
 pended_by-rests false sys s g c h = rests-lines s g (line.Pends (cyclic_config sys c).processor c ∷ []) h
 
-cycled_by-rests : (b : Bool) (sys : SystemTables) (s : KernelState) (g : Progress) (c : ℕ) → Rests s g → Rests s (cycled_by b sys g c)
+cycled_by-rests : (b : Bool) (sys : SystemTables) (s : KernelState) (g : Progress) (c : ℕ) → Rests s g
+    → Rests s (cycled_by b sys g c)
 cycled_by-rests true sys s g c h = pended_by-rests (is_pending g.state.pending_cyclics c) sys s g c h
 cycled_by-rests false sys s g c h = h
 
-all_cycled-rests : (sys : SystemTables) (s : KernelState) (g : Progress) (cs : List ℕ) → Rests s g → Rests s (all_cycled sys g cs)
+all_cycled-rests : (sys : SystemTables) (s : KernelState) (g : Progress) (cs : List ℕ) → Rests s g
+    → Rests s (all_cycled sys g cs)
 all_cycled-rests sys s g [] h = h
 all_cycled-rests sys s g (c ∷ cs) h =
     all_cycled-rests sys s (cycled sys g c) cs
@@ -212,7 +229,8 @@ ticked-rests sys s =
     (all_timed_out-rests s (unchanged (with_clock_advanced s)) (places_from 0 (length s.tasks)) (rests-still s))
 
 -- settling
-begun-rests : (i : Handler) (s : KernelState) (g : Progress) (p : ℕ) (cpu : Processor) → Rests s g → Rests s (begun g p cpu i)
+begun-rests : (i : Handler) (s : KernelState) (g : Progress) (p : ℕ) (cpu : Processor) → Rests s g
+    → Rests s (begun g p cpu i)
 begun-rests (handler.Interrupt i) s g p cpu h = rests-lines s g (line.Begins p (handler.Interrupt i) ∷ []) h
 begun-rests (handler.Cyclic i) s g p cpu h = rests-lines s g (line.Begins p (handler.Cyclic i) ∷ []) h
 
@@ -225,7 +243,8 @@ settled_with-rests None s g p cpu h =
       | false ↦ rests-lines s g (dispatch_lines (is_same_task cpu.run (top g.state p)) p (top g.state p)) h
     ]
 
-all_settled-rests : (sys : SystemTables) (s : KernelState) (g : Progress) (ps : List ℕ) → Rests s g → Rests s (all_settled sys g ps)
+all_settled-rests : (sys : SystemTables) (s : KernelState) (g : Progress) (ps : List ℕ) → Rests s g
+    → Rests s (all_settled sys g ps)
 all_settled-rests sys s g [] h = h
 all_settled-rests sys s g (p ∷ ps) h =
     all_settled-rests sys s (settled_on sys g p (processor_at g.state p)) ps

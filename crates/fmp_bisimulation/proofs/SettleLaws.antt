@@ -1,12 +1,15 @@
 -- Processors settle in the same way in alike states.
-use Rattle.std.proofs.Common.{refl, ◌≡◌, ℕ, List, [], ◌∷◌, ◌++◌, Option, Some, None, true, false, ◌||◌, ap, subst, length, cond}
+use Rattle.std.proofs.Common.{refl, ◌≡◌, ℕ, List, [], ◌∷◌, ◌++◌, Option, Some, None, true, false, ◌||◌, ap, subst}
+use Rattle.std.proofs.Common.{length, cond}
 use Rattle.fmp_base.specs.declared.events.Line.{Line}
 use Rattle.fmp_base.specs.declared.events.Line.TheVariants as line
 use Rattle.fmp_base.specs.declared.states.Handler.{Handler}
 use Rattle.fmp_base.specs.declared.states.Handler.TheVariants as handler
 use Rattle.fmp_base.specs.declared.states.Processor.{Processor}
 use Rattle.fmp_base.specs.ProcessorCalls.{is_cpu_locked}
-use Rattle.fmp_base.specs.Settles.{all_settled, begun, dispatch_lines, dispatched, handler_to_begin, is_dispatch_held, is_same_task, pending_handler, runs_handler, settled, settled_on, settled_with, without_pending}
+use Rattle.fmp_base.specs.Settles.{all_settled, begun, dispatch_lines, dispatched, handler_to_begin, is_dispatch_held}
+use Rattle.fmp_base.specs.Settles.{is_same_task, pending_handler, runs_handler, settled, settled_on, settled_with}
+use Rattle.fmp_base.specs.Settles.{without_pending}
 use Rattle.fmp_base.specs.Queues.{top}
 use Rattle.fmp_base.specs.States.{KernelState, Progress, places_from, processor_at, with_processor}
 use Rattle.fmp_base.specs.Systems.{SystemTables}
@@ -28,7 +31,8 @@ alike-with_processor : (sys : SystemTables) (s u : KernelState) (p : ℕ) (cpu :
 alike-with_processor sys s u p cpu h =
     alike-changed sys (λ z. with_processor z p cpu) (λ z. refl) (λ z. refl) s u h
 
-pending-same : (sys : SystemTables) (s u : KernelState) (p : ℕ) → AlikeStates sys s u → pending_handler sys s p ≡ pending_handler sys u p
+pending-same : (sys : SystemTables) (s u : KernelState) (p : ℕ) → AlikeStates sys s u → pending_handler sys s p
+    ≡ pending_handler sys u p
 pending-same sys s u p h = ap (λ (z : KernelState). pending_handler sys z p) h.rest
 
 begun-same : (sys : SystemTables) (g i : Progress) (p : ℕ) (cpu : Processor) (h : Handler) → SameProgress sys g i
@@ -47,11 +51,13 @@ dispatched-same sys g i p cpu t k =
       lines = ap (λ (ls : List Line). ls ++ dispatch_lines (is_same_task cpu.run t) p t) k.lines;
     }
 
-settled_with-same : (sys : SystemTables) (b : Option Handler) (g i : Progress) (p : ℕ) (cpu : Processor) → SameProgress sys g i
+settled_with-same : (sys : SystemTables) (b : Option Handler) (g i : Progress) (p : ℕ) (cpu : Processor)
+    → SameProgress sys g i
     → SameProgress sys (settled_with b g p cpu) (settled_with b i p cpu)
 settled_with-same sys (Some h) g i p cpu k = begun-same sys g i p cpu h k
 settled_with-same sys None g i p cpu k =
-    elim (is_dispatch_held cpu) as (λ b. SameProgress sys (cond b g (dispatched g p cpu (top g.state p))) (cond b i (dispatched i p cpu (top i.state p)))) [
+    elim (is_dispatch_held cpu) as (λ b. SameProgress sys (cond b g (dispatched g p cpu (top g.state p)))
+    (cond b i (dispatched i p cpu (top i.state p)))) [
       | true ↦ k
       | false ↦ subst (λ (t : Option ℕ). SameProgress sys (dispatched g p cpu (top g.state p)) (dispatched i p cpu t))
           (top-same sys g.state i.state p k.state) (dispatched-same sys g i p cpu (top g.state p) k)
@@ -61,7 +67,8 @@ settled_on-same : (sys : SystemTables) (g i : Progress) (p : ℕ) (cpu : Process
     → SameProgress sys (settled_on sys g p cpu) (settled_on sys i p cpu)
 settled_on-same sys g i p cpu k =
     subst (λ (b : Option Handler). SameProgress sys (settled_on sys g p cpu) (settled_with b i p cpu))
-    (ap (λ (b : Option Handler). cond (runs_handler cpu.handler || is_cpu_locked cpu) None b) (pending-same sys g.state i.state p k.state))
+    (ap (λ (b : Option Handler). cond (runs_handler cpu.handler || is_cpu_locked cpu) None b)
+    (pending-same sys g.state i.state p k.state))
     (settled_with-same sys (handler_to_begin sys g.state p cpu) g i p cpu k)
 
 all_settled-same : (sys : SystemTables) (g i : Progress) (ps : List ℕ) → SameProgress sys g i
@@ -70,11 +77,13 @@ all_settled-same sys g i [] k = k
 all_settled-same sys g i (p ∷ ps) k =
     let a = k.state in
     all_settled-same sys (settled_on sys g p (processor_at g.state p)) (settled_on sys i p (processor_at i.state p)) ps
-    (subst (λ (cpu : Processor). SameProgress sys (settled_on sys g p (processor_at g.state p)) (settled_on sys i p cpu))
+    (subst (λ (cpu : Processor). SameProgress sys (settled_on sys g p (processor_at g.state p))
+    (settled_on sys i p cpu))
     (processors-same sys g.state i.state a p)
     (settled_on-same sys g i p (processor_at g.state p) k))
 
-pub settled-same : (sys : SystemTables) (g i : Progress) → SameProgress sys g i → SameProgress sys (settled sys g) (settled sys i)
+pub settled-same : (sys : SystemTables) (g i : Progress) → SameProgress sys g i
+    → SameProgress sys (settled sys g) (settled sys i)
 settled-same sys g i k =
     let a = k.state in
     subst (λ (n : ℕ). SameProgress sys (settled sys g) (all_settled sys i (places_from 0 n)))

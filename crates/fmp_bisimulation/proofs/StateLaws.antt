@@ -1,5 +1,6 @@
 -- Alike states: what they are to each other, and how they stay alike when a task changes.
-use Rattle.std.proofs.Common.{◌≡◌, ℕ, zero, suc, List, [], ◌∷◌, Option, Bool, false, refl, sym, ◌∙◌, ap, nat_eq, slice_set, subst}
+use Rattle.std.proofs.Common.{◌≡◌, ℕ, zero, suc, List, [], ◌∷◌, Option, Bool, false, refl, sym, ◌∙◌, ap, nat_eq}
+use Rattle.std.proofs.Common.{slice_set, subst}
 use Rattle.std.proofs.lemmas.Bool.{ne_eqb, eqb-false}
 use Rattle.std.proofs.lemmas.List.Elements.{filter_agree}
 use Rattle.fmp_base.specs.declared.states.TaskBlock.{TaskBlock}
@@ -7,11 +8,17 @@ use Rattle.fmp_base.specs.States.{KernelState, task_at, with_task, with_last, wi
 use Rattle.fmp_base.specs.Systems.{SystemTables}
 use Rattle.fmp_bisimulation.specs.Alike.{SameBlock, AlikeStates, Place, stands_at, untimed}
 use Rattle.fmp_bisimulation.proofs.OrderLaws.{same-without, same-to_end}
-use Rattle.fmp_bisimulation.proofs.TimeLaws.{blocks-at, blocks-set, blocks-refl, blocks-sym, blocks-chained, times-refl, times-sym, times-chained}
+use Rattle.fmp_bisimulation.proofs.TimeLaws.{blocks-at, blocks-set, blocks-refl, blocks-sym, blocks-chained, times-refl}
+use Rattle.fmp_bisimulation.proofs.TimeLaws.{times-sym, times-chained}
 
 pub alike-refl : (sys : SystemTables) (s : KernelState) → AlikeStates sys s s
 alike-refl sys s =
-    record { tasks = blocks-refl s.clock s.tasks; order = λ c. refl; due_times = times-refl s.clock s.due_times; rest = refl }
+    record {
+      tasks = blocks-refl s.clock s.tasks;
+      order = λ c. refl;
+      due_times = times-refl s.clock s.due_times;
+      rest = refl;
+    }
 
 pub alike-sym : (sys : SystemTables) (s u : KernelState) → AlikeStates sys s u → AlikeStates sys u s
 alike-sym sys s u h =
@@ -22,7 +29,8 @@ alike-sym sys s u h =
       rest = sym h.rest;
     }
 
-pub alike-chained : (sys : SystemTables) (s u v : KernelState) → AlikeStates sys s u → AlikeStates sys u v → AlikeStates sys s v
+pub alike-chained : (sys : SystemTables) (s u v : KernelState) → AlikeStates sys s u → AlikeStates sys u v
+    → AlikeStates sys s v
 alike-chained sys s u v h k =
     record {
       tasks = blocks-chained s.clock u.clock v.clock s.tasks u.tasks v.tasks h.tasks k.tasks;
@@ -31,12 +39,14 @@ alike-chained sys s u v h k =
       rest = h.rest ∙ k.rest;
     }
 
-others-set : (xs : List TaskBlock) (t u : ℕ) (x : TaskBlock) → nat_eq u t ≡ false → task_at xs u ≡ task_at (slice_set xs t x) u
+others-set : (xs : List TaskBlock) (t u : ℕ) (x : TaskBlock) → nat_eq u t ≡ false → task_at xs u
+    ≡ task_at (slice_set xs t x) u
 others-set [] t u x h = refl
 others-set (v ∷ vs) zero zero x h = cc
 others-set (v ∷ vs) zero (suc u) x h = refl
 others-set (v ∷ vs) (suc t) zero x h = refl
-others-set (v ∷ vs) (suc t) (suc u) x h = others-set vs t u x (ne_eqb u t (λ e. eqb-false (suc u) (suc t) h (ap (λ (n : ℕ). suc n) e)))
+others-set (v ∷ vs) (suc t) (suc u) x h = others-set vs t u x (ne_eqb u t
+    (λ e. eqb-false (suc u) (suc t) h (ap (λ (n : ℕ). suc n) e)))
 
 pub stands_at-same : (sys : SystemTables) (c : Place) (a b : ℕ) (x y : TaskBlock) → SameBlock a b x y
     → stands_at sys c x ≡ stands_at sys c y
@@ -88,14 +98,16 @@ stays-set f (b ∷ bs) (suc t) x h (suc v) = stays-set f bs t x h v
 
 -- task t becomes x in its place
 pub alike-with_task : (sys : SystemTables) (s u : KernelState) (t : ℕ) (x y : TaskBlock) → AlikeStates sys s u
-    → SameBlock s.clock u.clock x y → Stays sys (task_at s.tasks t) x → AlikeStates sys (with_task s t x) (with_task u t y)
+    → SameBlock s.clock u.clock x y → Stays sys (task_at s.tasks t) x
+    → AlikeStates sys (with_task s t x) (with_task u t y)
 alike-with_task sys s u t x y h k a =
     let same = blocks-at s.clock u.clock s.tasks u.tasks h.tasks t in
     record {
       tasks = blocks-set s.clock u.clock s.tasks u.tasks h.tasks t x y k;
       order = λ c. filter_agree _ _ (stays-set (λ z. stands_at sys c z) s.tasks t x (a c)) s.order ∙ h.order c
           ∙ sym (filter_agree _ _ (stays-set (λ z. stands_at sys c z) u.tasks t y
-          (sym (stands_at-same sys c s.clock u.clock _ _ same) ∙ a c ∙ stands_at-same sys c s.clock u.clock x y k)) u.order);
+          (sym (stands_at-same sys c s.clock u.clock _ _ same) ∙ a c ∙ stands_at-same sys c s.clock u.clock x y k))
+          u.order);
       due_times = h.due_times;
       rest = h.rest;
     }
@@ -121,8 +133,10 @@ by_view Q sys s u h q =
     subst Q e (q (view_of u) (subst (λ (z : KernelState). AlikeStates sys s z) (sym e) h))
 
 -- what changes only parts that are the same in alike states leaves them alike
-pub alike-changed : (sys : SystemTables) (f : KernelState → KernelState) → ((z : KernelState) → view_of (f z) ≡ view_of z)
-    → ((z : KernelState) → untimed (f z) ≡ f (untimed z)) → (s u : KernelState) → AlikeStates sys s u → AlikeStates sys (f s) (f u)
+pub alike-changed : (sys : SystemTables) (f : KernelState → KernelState)
+    → ((z : KernelState) → view_of (f z) ≡ view_of z)
+    → ((z : KernelState) → untimed (f z) ≡ f (untimed z)) → (s u : KernelState) → AlikeStates sys s u
+    → AlikeStates sys (f s) (f u)
 alike-changed sys f keeps untimes s u h =
     let moved : AlikeStates sys (seen (f s) (view_of s)) (seen (f u) (view_of u)) =
     record {

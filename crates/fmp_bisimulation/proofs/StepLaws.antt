@@ -1,5 +1,6 @@
 -- An event does the same in alike worlds.
-use Rattle.std.proofs.Common.{◌≡◌, ◌+◌, ℕ, zero, suc, List, [], ◌∷◌, ◌++◌, Option, Some, None, Bool, true, false, ◌&&◌, ◌||◌, not, refl, sym, ◌∙◌, ap, subst}
+use Rattle.std.proofs.Common.{◌≡◌, ◌+◌, ℕ, zero, suc, List, [], ◌∷◌, ◌++◌, Option, Some, None, Bool, true, false, ◌&&◌}
+use Rattle.std.proofs.Common.{◌||◌, not, refl, sym, ◌∙◌, ap, subst}
 use Rattle.fmp_base.specs.declared.bodies.Held.{Held}
 use Rattle.fmp_base.specs.declared.bodies.Held.TheVariants.{Goes, Awaits}
 use Rattle.fmp_base.specs.declared.calls.Answer.{Answer}
@@ -20,7 +21,9 @@ use Rattle.fmp_base.specs.Meanings.{Meaning, Contexts, World, caller_body, conte
 use Rattle.fmp_base.specs.Outcomes.{CallOutcome}
 use Rattle.fmp_base.specs.Settles.{settled}
 use Rattle.fmp_base.specs.States.{KernelState, Progress, task_at, processor_at}
-use Rattle.fmp_base.specs.Steps.{Done, Reaction, Nothing, Did, Kept, concluded, finished, actor_by, actor_of, handler_ended, actor_ended, answered, call_made, contexts_ended, ended_with, stretched, run_in, run_by, interrupted_by, interrupted, step}
+use Rattle.fmp_base.specs.Steps.{Done, Reaction, Nothing, Did, Kept, concluded, finished, actor_by, actor_of}
+use Rattle.fmp_base.specs.Steps.{handler_ended, actor_ended, answered, call_made, contexts_ended, ended_with, stretched}
+use Rattle.fmp_base.specs.Steps.{run_in, run_by, interrupted_by, interrupted, step}
 use Rattle.fmp_base.specs.Stretches.{Ending}
 use Rattle.fmp_base.specs.Stretches as ends
 use Rattle.fmp_base.specs.Systems.{SystemTables, interrupt_config}
@@ -33,17 +36,20 @@ use Rattle.fmp_bisimulation.specs.Alike.{AlikeStates, Alike, SameContexts, SameP
 use Rattle.fmp_bisimulation.specs.Closed.{all_timeless, BothAlike, KeepsAlike}
 use Rattle.fmp_bisimulation.proofs.CallLaws.{called-same}
 use Rattle.fmp_bisimulation.proofs.ChangeLaws.{unchanged-same, ended_itself-same}
-use Rattle.fmp_bisimulation.proofs.ContextLaws.{Both, IsOn, all-agree, body-agrees, context_of-agrees, ended-agrees, with_context-agrees}
+use Rattle.fmp_bisimulation.proofs.ContextLaws.{Both, IsOn, all-agree, body-agrees, context_of-agrees, ended-agrees}
+use Rattle.fmp_bisimulation.proofs.ContextLaws.{with_context-agrees}
 use Rattle.fmp_bisimulation.proofs.LineLaws.{timeless-append, after_all-timeless, behind, settled-behind}
 use Rattle.fmp_bisimulation.proofs.RestCallLaws.{IsCaller, called-rests}
-use Rattle.fmp_bisimulation.proofs.RestLaws.{Rested, Rests, rests-ended_itself, rests-still, settled-rests, starts, starts-append, ticked-rests}
+use Rattle.fmp_bisimulation.proofs.RestLaws.{Rested, Rests, rests-ended_itself, rests-still, settled-rests, starts}
+use Rattle.fmp_bisimulation.proofs.RestLaws.{starts-append, ticked-rests}
 use Rattle.fmp_bisimulation.proofs.SettleLaws.{settled-same}
 use Rattle.fmp_bisimulation.proofs.StateLaws.{View, seen, by_view, alike-changed}
 use Rattle.fmp_bisimulation.proofs.TickLaws.{ticked-same}
 use Rattle.fmp_bisimulation.proofs.TimeLaws.{by_block, blocks-at}
 
 -- who acts on a processor is a handler, or a task that it runs
-acts : (s : KernelState) (h : Option Handler) (r : Option ℕ) → ((t : ℕ) → r ≡ Some t → is_off (task_at s.tasks t) ≡ false)
+acts : (s : KernelState) (h : Option Handler) (r : Option ℕ) → ((t : ℕ) → r ≡ Some t → is_off (task_at s.tasks t)
+    ≡ false)
     → (who : Caller) → actor_by h r ≡ Some who → IsCaller s who
 acts s (Some i) r on (caller.Handler j) e = tt
 acts s (Some i) r on (caller.Task t) e = cc
@@ -89,12 +95,14 @@ module _ {C : Type 0} (sys : SystemTables) (M : Meaning C) where
       ∙ sym (after_all-timeless sys M ds (other ++ i.lines)) in
       let after = all-agree sys M on (own ++ g.lines) cs ds b in
       let agreed = after.tasks in
-      let contexts : SameContexts g.state (contexts_after_all sys M cs (own ++ g.lines)) (contexts_after_all sys M ds (own ++ g.lines)) =
+      let contexts : SameContexts g.state (contexts_after_all sys M cs (own ++ g.lines))
+      (contexts_after_all sys M ds (own ++ g.lines)) =
       record { tasks = λ t off. agreed.at t (rest t off); handlers = after.handlers; long = agreed.long } in (
         lines,
         record {
           states = h.state;
-          contexts = subst (λ (z : Contexts (Held C)). SameContexts g.state (contexts_after_all sys M cs (own ++ g.lines)) z) same contexts;
+          contexts = subst (λ (z : Contexts (Held C)). SameContexts g.state
+              (contexts_after_all sys M cs (own ++ g.lines)) z) same contexts;
         },
       )
 
@@ -107,7 +115,8 @@ module _ {C : Type 0} (sys : SystemTables) (M : Meaning C) where
       → BothDone (finished sys M cs own g) (finished sys M ds other i)
   finished-same s cs ds own other g i e h b r =
       let rested = settled-rests sys s g r in
-      subst (λ (z : Progress). BothDone (finished sys M cs own g) (concluded sys M ds z)) (sym (settled-behind sys other i))
+      subst (λ (z : Progress). BothDone (finished sys M cs own g) (concluded sys M ds z))
+      (sym (settled-behind sys other i))
       (subst (λ (z : Progress). BothDone (concluded sys M cs z) (concluded sys M ds (behind other (settled sys i))))
       (sym (settled-behind sys own g))
       (concluded-same (on_in s) cs ds own other (settled sys g) (settled sys i) e (settled-same sys g i h) b
@@ -119,7 +128,8 @@ module _ {C : Type 0} (sys : SystemTables) (M : Meaning C) where
       → Both (on_in s) cs ds → Rests s g → BothDone (finished sys M cs (own ∷ []) g) (finished sys M ds (own ∷ []) i)
   own-same s cs ds own g i h b r = finished-same s cs ds (own ∷ []) (own ∷ []) g i refl h b r
 
-  answered-same : (s : KernelState) (a : Answer) (cs ds : Contexts (Held C)) (p : ℕ) (who : Caller) (c : Call) (g i : Progress)
+  answered-same : (s : KernelState) (a : Answer) (cs ds : Contexts (Held C)) (p : ℕ) (who : Caller) (c : Call)
+      (g i : Progress)
       → SameProgress sys g i → Both (on_in s) cs ds → Rests s g
       → BothAlike SameWorlds (answered a sys M cs p who c g) (answered a sys M ds p who c i)
   answered-same s (Replies reply) cs ds p who c g i h b r = own-same s cs ds (line.Call p who c (Some reply)) g i h b r
@@ -131,7 +141,8 @@ module _ {C : Type 0} (sys : SystemTables) (M : Meaning C) where
       → SameOutcome sys o q → Both (on_in s) cs ds → Rests s o.progress
       → BothAlike SameWorlds (call_made sys M cs p who c o) (call_made sys M ds p who c q)
   call_made-same s cs ds p who c o q h b r =
-      subst (λ (a : Answer). BothAlike SameWorlds (call_made sys M cs p who c o) (answered a sys M ds p who c q.progress)) h.answer
+      subst (λ (a : Answer). BothAlike SameWorlds (call_made sys M cs p who c o)
+      (answered a sys M ds p who c q.progress)) h.answer
       (answered-same s o.answer cs ds p who c o.progress q.progress h.progress b r)
 
   module _ (n : ℕ) (cs ds : Contexts (Held C)) (s : KernelState) (v : View) (h : AlikeStates sys s (seen s v))
@@ -142,7 +153,8 @@ module _ {C : Type 0} (sys : SystemTables) (M : Meaning C) where
     abbrev other : World C
     other = record { state = seen s v; contexts = ds }
 
-    actor_ended-same : (p : ℕ) (who : Caller) → SameProgress sys (actor_ended sys s p who) (actor_ended sys (seen s v) p who)
+    actor_ended-same : (p : ℕ) (who : Caller) → SameProgress sys (actor_ended sys s p who)
+        (actor_ended sys (seen s v) p who)
     actor_ended-same p (caller.Task t) =
         let x = task_at s.tasks t in
         by_block (λ (y : TaskBlock). SameProgress sys (ended_itself sys s p t x) (ended_itself sys (seen s v) p t y))
@@ -155,7 +167,8 @@ module _ {C : Type 0} (sys : SystemTables) (M : Meaning C) where
     actor_ended-rests p (caller.Task t) = rests-ended_itself sys s p t (task_at s.tasks t)
     actor_ended-rests p (caller.Handler i) = rests-still s
 
-    ended_with-same : (p : ℕ) (who : Caller) (own : Line) → BothDone (ended_with sys M one p who own) (ended_with sys M other p who own)
+    ended_with-same : (p : ℕ) (who : Caller) (own : Line) → BothDone (ended_with sys M one p who own)
+        (ended_with sys M other p who own)
     ended_with-same p who own =
         own-same s (contexts_ended sys M cs p who) (contexts_ended sys M ds p who) own _ _ (actor_ended-same p who)
         (ended-agrees sys M (on_in s) cs ds p who b) (actor_ended-rests p who)
@@ -163,8 +176,10 @@ module _ {C : Type 0} (sys : SystemTables) (M : Meaning C) where
     stretched-same : (p : ℕ) (who : Caller) → IsCaller s who → (x : Ending C)
         → BothAlike SameWorlds (stretched sys M one p who x) (stretched sys M other p who x)
     stretched-same p who is (ends.Call c made) =
-        call_made-same s (with_context cs p who (Some (Awaits c))) (with_context ds p who (Some (Awaits c))) p who made _ _
-        (called-same sys s (seen s v) h p who made) (with_context-agrees sys M (on_in s) cs ds p who (Some (Awaits c)) b)
+        call_made-same s (with_context cs p who (Some (Awaits c))) (with_context ds p who (Some (Awaits c))) p who
+        made _ _
+        (called-same sys s (seen s v) h p who made) (with_context-agrees sys M (on_in s) cs ds p who
+        (Some (Awaits c)) b)
         (called-rests sys s p who made is)
     stretched-same p who is (ends.End c) = ended_with-same p who (line.End p who)
     stretched-same p who is (ends.Fault c fault) = ended_with-same p who (line.Fault p who fault)
@@ -175,7 +190,11 @@ module _ {C : Type 0} (sys : SystemTables) (M : Meaning C) where
           refl,
           record {
             states = h;
-            contexts = record { tasks = λ t off. tasks.at t (on_of (is_off (task_at s.tasks t)) off); handlers = agreed.handlers; long = tasks.long };
+            contexts = record {
+              tasks = λ t off. tasks.at t (on_of (is_off (task_at s.tasks t)) off);
+              handlers = agreed.handlers;
+              long = tasks.long;
+            };
           },
         )
 
@@ -196,15 +215,18 @@ module _ {C : Type 0} (sys : SystemTables) (M : Meaning C) where
         → BothAlike SameWorlds (run_by sys M n one p who) (run_by sys M n other p who)
     run_by-same p None is = tt
     run_by-same p (Some who) is =
-        subst (λ (held : Option (Held C)). BothAlike SameWorlds (run_by sys M n one p (Some who)) (run_in sys M n other p who held))
+        subst (λ (held : Option (Held C)). BothAlike SameWorlds (run_by sys M n one p (Some who))
+        (run_in sys M n other p who held))
         (context_of-agrees sys M (on_in s) cs ds p who b (is_on who (is who refl)))
         (run_in-same p who (is who refl) (context_of cs p who))
 
-    interrupted_by-same : (c : Bool) (i : ℕ) → BothAlike SameWorlds (interrupted_by c sys M one i) (interrupted_by c sys M other i)
+    interrupted_by-same : (c : Bool) (i : ℕ) → BothAlike SameWorlds (interrupted_by c sys M one i)
+        (interrupted_by c sys M other i)
     interrupted_by-same true i = tt
     interrupted_by-same false i =
         own-same s cs ds (line.Int i) _ _
-        (unchanged-same sys _ _ (alike-changed sys (λ z. with_interrupt_pending z i) (λ z. refl) (λ z. refl) s (seen s v) h)) b
+        (unchanged-same sys _ _ (alike-changed sys (λ z. with_interrupt_pending z i) (λ z. refl) (λ z. refl) s
+        (seen s v) h)) b
         (rests-still s)
 
     interrupted-same : (config : Option InterruptConfig) (i : ℕ)
@@ -219,14 +241,17 @@ module _ {C : Type 0} (sys : SystemTables) (M : Meaning C) where
     seen-step : (e : Event) → BothAlike SameWorlds (step sys M n one e) (step sys M n other e)
     seen-step (Run zero) = tt
     seen-step (Run (suc p)) =
-        run_by-same p (actor_of (processor_at s p)) (acts s (processor_at s p).handler (processor_at s p).run (runs_on p))
+        run_by-same p (actor_of (processor_at s p)) (acts s (processor_at s p).handler (processor_at s p).run
+        (runs_on p))
     seen-step Tick =
-        finished-same s cs ds (line.Tick (s.clock + 1) ∷ []) (line.Tick (v.clock + 1) ∷ []) _ _ refl (ticked-same sys s (seen s v) h) b
+        finished-same s cs ds (line.Tick (s.clock + 1) ∷ []) (line.Tick (v.clock + 1) ∷ []) _ _ refl
+        (ticked-same sys s (seen s v) h) b
         (ticked-rests sys s)
     seen-step (Int zero) = tt
     seen-step (Int (suc i)) = interrupted-same (interrupt_config sys i) i
 
-  same-step : (n : ℕ) (v w : World C) (e : Event) → Alike sys v w → BothAlike SameWorlds (step sys M n v e) (step sys M n w e)
+  same-step : (n : ℕ) (v w : World C) (e : Event) → Alike sys v w
+      → BothAlike SameWorlds (step sys M n v e) (step sys M n w e)
   same-step n v w e h =
       let c = h.contexts in
       let b : Both (on_in v.state) v.contexts w.contexts =
@@ -234,7 +259,8 @@ module _ {C : Type 0} (sys : SystemTables) (M : Meaning C) where
         tasks = record { at = λ t on. c.tasks t (off_of (is_off (task_at (v.state).tasks t)) on); long = c.long };
         handlers = c.handlers;
       } in
-      by_view (λ (u : KernelState). BothAlike SameWorlds (step sys M n v e) (step sys M n (record { state = u; contexts = w.contexts }) e))
+      by_view (λ (u : KernelState). BothAlike SameWorlds (step sys M n v e)
+      (step sys M n (record { state = u; contexts = w.contexts }) e))
       sys v.state w.state h.states (λ a k. seen-step n v.contexts w.contexts v.state a k b h.settled e)
 
   -- a reaction in a settled world leaves a settled one

@@ -1,5 +1,6 @@
 -- The service calls on tasks come to the same in alike states.
-use Rattle.std.proofs.Common.{◌≡◌, ◌+◌, ◌^◌, ℕ, zero, suc, ℤ, pos, Option, Some, None, Bool, true, false, ◌&&◌, ◌||◌, not, refl, sym, ap, subst, nat_eq, nat_lt}
+use Rattle.std.proofs.Common.{◌≡◌, ◌+◌, ◌^◌, ℕ, zero, suc, ℤ, pos, Option, Some, None, Bool, true, false, ◌&&◌, ◌||◌}
+use Rattle.std.proofs.Common.{not, refl, sym, ap, subst, nat_eq, nat_lt}
 use Rattle.std.proofs.lemmas.Bool.{eqb-true}
 use Rattle.fmp_base.specs.declared.codes.Er.TheVariants as er
 use Rattle.fmp_base.specs.declared.states.Phase.{Phase}
@@ -12,13 +13,23 @@ use Rattle.fmp_base.specs.declared.states.WaitQueue.{WaitQueue}
 use Rattle.fmp_base.specs.declared.states.WaitQueue.TheVariants as queue
 use Rattle.fmp_base.specs.declared.systems.QueueOrder.{QueueOrder}
 use Rattle.fmp_base.specs.Outcomes.{code, succeeds_in, limit_of, numbered, ranged}
-use Rattle.fmp_base.specs.Queues.{is_by_priority, is_queue, is_ready, is_same_queue, order_of, queue_of, stands_by_priority, first_ready}
+use Rattle.fmp_base.specs.Queues.{is_by_priority, is_queue, is_ready, is_same_queue, order_of, queue_of}
+use Rattle.fmp_base.specs.Queues.{stands_by_priority, first_ready}
 use Rattle.fmp_base.specs.States.{KernelState, unchanged, clock_after, task_at, with_task}
 use Rattle.fmp_base.specs.Systems.{SystemTables, task_config}
-use Rattle.fmp_base.specs.TaskCalls.{is_dormant, activation_queued, activated_by, activated, act_tsk, iact_tsk, activations_cancelled, can_act, terminated, ter_tsk, goes_last, moved_by, or_if_zero, priority_changed, chg_pri, get_pri, allowed_processor, activation_queued_on, activated_on_by, mact_tsk, assigned_by, mig_tsk, slept_by, slp_tsk, tslp_tsk, wakeup_queued, woken_from, woken_by, woken, wup_tsk, iwup_tsk, can_wup, released_by, rel_wai, sus_tsk, resumed_by, rsm_tsk, dly_tsk, rotated, rot_rdq, irot_rdq, mrot_rdq, get_tid}
+use Rattle.fmp_base.specs.TaskCalls.{is_dormant, activation_queued, activated_by, activated, act_tsk, iact_tsk}
+use Rattle.fmp_base.specs.TaskCalls.{activations_cancelled, can_act, terminated, ter_tsk, goes_last, moved_by}
+use Rattle.fmp_base.specs.TaskCalls.{or_if_zero, priority_changed, chg_pri, get_pri, allowed_processor}
+use Rattle.fmp_base.specs.TaskCalls.{activation_queued_on, activated_on_by, mact_tsk, assigned_by, mig_tsk, slept_by}
+use Rattle.fmp_base.specs.TaskCalls.{slp_tsk, tslp_tsk, wakeup_queued, woken_from, woken_by, woken, wup_tsk, iwup_tsk}
+use Rattle.fmp_base.specs.TaskCalls.{can_wup, released_by, rel_wai, sus_tsk, resumed_by, rsm_tsk, dly_tsk, rotated}
+use Rattle.fmp_base.specs.TaskCalls.{rot_rdq, irot_rdq, mrot_rdq, get_tid}
 use Rattle.fmp_bisimulation.specs.Alike.{SameBlock, AlikeStates, SameOutcome, Place, stands_at}
-use Rattle.fmp_bisimulation.proofs.ChangeLaws.{unchanged-same, same-but, started-same, ended-same, released-same, suspended-same, suspension-same, stays-counts}
-use Rattle.fmp_bisimulation.proofs.OutcomeLaws.{IsSeenAs, succeeds-same, succeeds_in-same, gives-same, either-same, refused-same, tested-same, refused_if-same, waits-same, waits_within-same, on_self-same, on_number-same}
+use Rattle.fmp_bisimulation.proofs.ChangeLaws.{unchanged-same, same-but, started-same, ended-same, released-same}
+use Rattle.fmp_bisimulation.proofs.ChangeLaws.{suspended-same, suspension-same, stays-counts}
+use Rattle.fmp_bisimulation.proofs.OutcomeLaws.{IsSeenAs, succeeds-same, succeeds_in-same, gives-same, either-same}
+use Rattle.fmp_bisimulation.proofs.OutcomeLaws.{refused-same, tested-same, refused_if-same, waits-same}
+use Rattle.fmp_bisimulation.proofs.OutcomeLaws.{waits_within-same, on_self-same, on_number-same}
 use Rattle.fmp_bisimulation.proofs.ReadLaws.{first_ready-same}
 use Rattle.fmp_bisimulation.proofs.StateLaws.{Stays, View, seen, alike-with_task, alike-with_last}
 use Rattle.fmp_bisimulation.proofs.TimeLaws.{blocks-at, same-after}
@@ -34,16 +45,21 @@ none-so false true h = cc
 none-so true b h = cc
 
 same_queue-order : (sys : SystemTables) (q r : WaitQueue) → is_same_queue q r ≡ true → order_of sys q ≡ order_of sys r
-same_queue-order sys (queue.Semaphore a) (queue.Semaphore b) e = ap (λ (i : ℕ). order_of sys (queue.Semaphore i)) (eqb-true a b e)
+same_queue-order sys (queue.Semaphore a) (queue.Semaphore b) e = ap (λ (i : ℕ). order_of sys (queue.Semaphore i))
+    (eqb-true a b e)
 same_queue-order sys (queue.Flag a) (queue.Flag b) e = ap (λ (i : ℕ). order_of sys (queue.Flag i)) (eqb-true a b e)
-same_queue-order sys (queue.Senders a) (queue.Senders b) e = ap (λ (i : ℕ). order_of sys (queue.Senders i)) (eqb-true a b e)
+same_queue-order sys (queue.Senders a) (queue.Senders b) e = ap (λ (i : ℕ). order_of sys (queue.Senders i))
+    (eqb-true a b e)
 same_queue-order sys (queue.Receivers a) (queue.Receivers b) e = refl
-same_queue-order sys (queue.Mailbox a) (queue.Mailbox b) e = ap (λ (i : ℕ). order_of sys (queue.Mailbox i)) (eqb-true a b e)
+same_queue-order sys (queue.Mailbox a) (queue.Mailbox b) e = ap (λ (i : ℕ). order_of sys (queue.Mailbox i))
+    (eqb-true a b e)
 same_queue-order sys q r e = cc
 
 -- where a queue is not by priority, the priority of one who waits there is not looked at
-unsorted-same : (sys : SystemTables) (q : WaitQueue) (o : Option WaitQueue) (a b : Bool) → stands_by_priority sys o ≡ false
-    → (is_queue q o && (a || not (is_by_priority (order_of sys q)))) ≡ (is_queue q o && (b || not (is_by_priority (order_of sys q))))
+unsorted-same : (sys : SystemTables) (q : WaitQueue) (o : Option WaitQueue) (a b : Bool) → stands_by_priority sys o
+    ≡ false
+    → (is_queue q o && (a || not (is_by_priority (order_of sys q))))
+    ≡ (is_queue q o && (b || not (is_by_priority (order_of sys q))))
 unsorted-same sys q None a b h = refl
 unsorted-same sys q (Some r) a b h = by_test (is_same_queue q r) refl where
   always : (c d : Bool) → (c || not d) ≡ (c || not d)
@@ -66,28 +82,42 @@ unsorted-same sys q (Some r) a b h = by_test (is_same_queue q r) refl where
       plain a b (is_by_priority (order_of sys q)) first_come
 
 -- a task that is neither ready nor in a queue by priority stands where it does at each priority
-stays-priority : (sys : SystemTables) (x : TaskBlock) (n : ℕ) → goes_last sys x ≡ false → Stays sys x (record x { priority = n })
+stays-priority : (sys : SystemTables) (x : TaskBlock) (n : ℕ) → goes_last sys x ≡ false
+    → Stays sys x (record x { priority = n })
 stays-priority sys x n h c = by_place c where
   by_place : (c : Place) → stands_at sys c x ≡ stands_at sys c (record x { priority = n })
   by_place (Place.ReadyAt p priority) =
       let parts = none-so (is_ready x) (stands_by_priority sys (queue_of x.phase)) h in
-      not-both (is_ready x) (nat_eq x.processor p) (nat_eq x.priority priority) (nat_eq x.processor p) (nat_eq n priority) parts.0
+      not-both (is_ready x) (nat_eq x.processor p) (nat_eq x.priority priority) (nat_eq x.processor p)
+      (nat_eq n priority) parts.0
   by_place (Place.WaitsAt q priority) =
       let parts = none-so (is_ready x) (stands_by_priority sys (queue_of x.phase)) h in
       unsorted-same sys q (queue_of x.phase) (nat_eq x.priority priority) (nat_eq n priority) parts.1
 
 -- and one that is not ready on each processor
-stays-processor : (sys : SystemTables) (x : TaskBlock) (n : ℕ) → is_ready x ≡ false → Stays sys x (record x { processor = n })
+stays-processor : (sys : SystemTables) (x : TaskBlock) (n : ℕ) → is_ready x ≡ false
+    → Stays sys x (record x { processor = n })
 stays-processor sys x n h c = by_place c where
   by_place : (c : Place) → stands_at sys c x ≡ stands_at sys c (record x { processor = n })
   by_place (Place.ReadyAt p priority) =
-      not-both (is_ready x) (nat_eq x.processor p) (nat_eq x.priority priority) (nat_eq n p) (nat_eq x.priority priority) h
+      not-both (is_ready x) (nat_eq x.processor p) (nat_eq x.priority priority) (nat_eq n p)
+      (nat_eq x.priority priority) h
   by_place (Place.WaitsAt q priority) = refl
 
 module _ (sys : SystemTables) (s : KernelState) (v : View) (h : AlikeStates sys s (seen s v)) where
-  counted-same : (t : ℕ) (x : TaskBlock) (d : Option ℕ) (activations : ℕ) (next : Option ℕ) (wakeups : ℕ) → IsSeenAs s (seen s v) t x d
-      → AlikeStates sys (with_task s t (record x { activations = activations; next_processor = next; wakeups = wakeups }))
-      (with_task (seen s v) t (record x { activations = activations; next_processor = next; wakeups = wakeups; deadline = d }))
+  counted-same : (t : ℕ) (x : TaskBlock) (d : Option ℕ) (activations : ℕ) (next : Option ℕ) (wakeups : ℕ)
+      → IsSeenAs s (seen s v) t x d
+      → AlikeStates sys (with_task s t (record x {
+        activations = activations;
+        next_processor = next;
+        wakeups = wakeups;
+      }))
+      (with_task (seen s v) t (record x {
+        activations = activations;
+        next_processor = next;
+        wakeups = wakeups;
+        deadline = d;
+      }))
   counted-same t x d activations next wakeups k =
       let y = record x { activations = activations; next_processor = next; wakeups = wakeups } in
       alike-with_task sys s (seen s v) t _ _ h (same-but s.clock v.clock y x.deadline d k.time)
@@ -103,7 +133,8 @@ module _ (sys : SystemTables) (s : KernelState) (v : View) (h : AlikeStates sys 
   activated_by-same : (p : Phase) (t : ℕ) (x : TaskBlock) (d : Option ℕ) → IsSeenAs s (seen s v) t x d
       → SameOutcome sys (activated_by p sys s t x) (activated_by p sys (seen s v) t (record x { deadline = d }))
   activated_by-same Dormant t x d k =
-      succeeds-same sys _ _ (started-same sys (unchanged s) (unchanged (seen s v)) t x d (unchanged-same sys s (seen s v) h))
+      succeeds-same sys _ _ (started-same sys (unchanged s) (unchanged (seen s v)) t x d
+      (unchanged-same sys s (seen s v) h))
   activated_by-same Ready t x d k = activation_queued-same t x d k
   activated_by-same (Waiting w) t x d k = activation_queued-same t x d k
 
@@ -120,16 +151,19 @@ module _ (sys : SystemTables) (s : KernelState) (v : View) (h : AlikeStates sys 
   pub can_act-same : (me : ℕ) (t : ℤ) → SameOutcome sys (can_act s me t) (can_act (seen s v) me t)
   can_act-same me t =
       on_self-same sys s (seen s v) h me t (activations_cancelled s) (activations_cancelled (seen s v))
-      (λ u x d k. gives-same sys (pos x.activations) _ _ (unchanged-same sys _ _ (counted-same u x d 0 None x.wakeups k)))
+      (λ u x d k. gives-same sys (pos x.activations) _ _ (unchanged-same sys _ _
+      (counted-same u x d 0 None x.wakeups k)))
 
   pub ter_tsk-same : (p me : ℕ) (t : ℤ) → SameOutcome sys (ter_tsk sys s p me t) (ter_tsk sys (seen s v) p me t)
   ter_tsk-same p me t =
       on_number-same sys s (seen s v) h t (terminated sys s p me) (terminated sys (seen s v) p me)
       (λ u x d k. refused_if-same sys s (seen s v) h (nat_eq u me) er.Iluse _ _
       (refused_if-same sys s (seen s v) h (is_dormant x.phase || not (nat_eq x.processor p)) er.Obj _ _
-      (succeeds-same sys _ _ (ended-same sys (unchanged s) (unchanged (seen s v)) u x d (unchanged-same sys s (seen s v) h)))))
+      (succeeds-same sys _ _ (ended-same sys (unchanged s) (unchanged (seen s v)) u x d
+      (unchanged-same sys s (seen s v) h)))))
 
-  moved-same : (b : Bool) (t : ℕ) (x y : TaskBlock) → SameBlock s.clock v.clock x y → (b ≡ false → Stays sys (task_at s.tasks t) x)
+  moved-same : (b : Bool) (t : ℕ) (x y : TaskBlock) → SameBlock s.clock v.clock x y
+      → (b ≡ false → Stays sys (task_at s.tasks t) x)
       → AlikeStates sys (moved_by b s t x) (moved_by b (seen s v) t y)
   moved-same true t x y k stays = alike-with_last sys s (seen s v) t x y h k
   moved-same false t x y k stays = alike-with_task sys s (seen s v) t x y h k (stays refl)
@@ -141,12 +175,15 @@ module _ (sys : SystemTables) (s : KernelState) (v : View) (h : AlikeStates sys 
       refused_if-same sys s (seen s v) h (is_dormant x.phase) er.Obj _ _
       (succeeds_in-same sys _ _ (moved-same (goes_last sys x) t _ _
       (same-but s.clock v.clock (record x { priority = m }) x.deadline d k.time)
-      (λ e. subst (λ (z : TaskBlock). Stays sys z (record x { priority = m })) (sym k.there) (stays-priority sys x m e))))
+      (λ e. subst (λ (z : TaskBlock). Stays sys z (record x { priority = m })) (sym k.there)
+      (stays-priority sys x m e))))
 
-  pub chg_pri-same : (me : ℕ) (t priority : ℤ) → SameOutcome sys (chg_pri sys s me t priority) (chg_pri sys (seen s v) me t priority)
+  pub chg_pri-same : (me : ℕ) (t priority : ℤ) → SameOutcome sys (chg_pri sys s me t priority)
+      (chg_pri sys (seen s v) me t priority)
   chg_pri-same me t priority =
       on_self-same sys s (seen s v) h me t _ _
-      (λ u x d k. tested-same sys s (seen s v) h er.Par (ranged 0 16 priority) _ _ (λ n. priority_changed-same u x d n k))
+      (λ u x d k. tested-same sys s (seen s v) h er.Par (ranged 0 16 priority) _ _
+      (λ n. priority_changed-same u x d n k))
 
   pub get_pri-same : (me : ℕ) (t : ℤ) → SameOutcome sys (get_pri s me t) (get_pri (seen s v) me t)
   get_pri-same me t =
@@ -155,31 +192,36 @@ module _ (sys : SystemTables) (s : KernelState) (v : View) (h : AlikeStates sys 
       (gives-same sys (pos x.priority) _ _ (unchanged-same sys s (seen s v) h)))
 
   activation_queued_on-same : (t : ℕ) (x : TaskBlock) (d : Option ℕ) (c : ℕ) → IsSeenAs s (seen s v) t x d
-      → SameOutcome sys (activation_queued_on sys s t x c) (activation_queued_on sys (seen s v) t (record x { deadline = d }) c)
+      → SameOutcome sys (activation_queued_on sys s t x c) (activation_queued_on sys (seen s v) t
+      (record x { deadline = d }) c)
   activation_queued_on-same t x d c k =
       either-same sys (nat_lt x.activations sys.queue_limit) _ _ _ _
       (succeeds_in-same sys _ _ (counted-same t x d (x.activations + 1) (Some c) x.wakeups k))
       (refused-same sys s (seen s v) h er.Qovr)
 
   activated_on_by-same : (p : Phase) (t : ℕ) (x : TaskBlock) (d : Option ℕ) (c : ℕ) → IsSeenAs s (seen s v) t x d
-      → SameOutcome sys (activated_on_by p sys s t x c) (activated_on_by p sys (seen s v) t (record x { deadline = d }) c)
+      → SameOutcome sys (activated_on_by p sys s t x c) (activated_on_by p sys (seen s v) t
+      (record x { deadline = d }) c)
   activated_on_by-same Dormant t x d c k =
       succeeds-same sys _ _
-      (started-same sys (unchanged s) (unchanged (seen s v)) t (record x { processor = c }) d (unchanged-same sys s (seen s v) h))
+      (started-same sys (unchanged s) (unchanged (seen s v)) t (record x { processor = c }) d
+      (unchanged-same sys s (seen s v) h))
   activated_on_by-same Ready t x d c k = activation_queued_on-same t x d c k
   activated_on_by-same (Waiting w) t x d c k = activation_queued_on-same t x d c k
 
   pub mact_tsk-same : (me : ℕ) (t c : ℤ) → SameOutcome sys (mact_tsk sys s me t c) (mact_tsk sys (seen s v) me t c)
   mact_tsk-same me t c =
       on_self-same sys s (seen s v) h me t _ _
-      (λ u x d k. tested-same sys s (seen s v) h er.Par (allowed_processor sys u c) _ _ (λ n. activated_on_by-same x.phase u x d n k))
+      (λ u x d k. tested-same sys s (seen s v) h er.Par (allowed_processor sys u c) _ _
+      (λ n. activated_on_by-same x.phase u x d n k))
 
   assigned_by-same : (b : Bool) (t : ℕ) (x : TaskBlock) (d : Option ℕ) (c : ℕ) → IsSeenAs s (seen s v) t x d
       → AlikeStates sys (assigned_by b s t x c) (assigned_by b (seen s v) t (record x { deadline = d }) c)
   assigned_by-same true t x d c k = h
   assigned_by-same false t x d c k =
       moved-same (is_ready x) t _ _ (same-but s.clock v.clock (record x { processor = c }) x.deadline d k.time)
-      (λ e. subst (λ (z : TaskBlock). Stays sys z (record x { processor = c })) (sym k.there) (stays-processor sys x c e))
+      (λ e. subst (λ (z : TaskBlock). Stays sys z (record x { processor = c })) (sym k.there)
+      (stays-processor sys x c e))
 
   pub mig_tsk-same : (p me : ℕ) (t c : ℤ) → SameOutcome sys (mig_tsk sys s p me t c) (mig_tsk sys (seen s v) p me t c)
   mig_tsk-same p me t c =
@@ -210,11 +252,13 @@ module _ (sys : SystemTables) (s : KernelState) (v : View) (h : AlikeStates sys 
 
   pub wup_tsk-same : (me : ℕ) (t : ℤ) → SameOutcome sys (wup_tsk sys s me t) (wup_tsk sys (seen s v) me t)
   wup_tsk-same me t =
-      on_self-same sys s (seen s v) h me t (woken sys s) (woken sys (seen s v)) (λ u x d k. woken_by-same x.phase u x d k)
+      on_self-same sys s (seen s v) h me t (woken sys s) (woken sys (seen s v))
+      (λ u x d k. woken_by-same x.phase u x d k)
 
   pub iwup_tsk-same : (t : ℤ) → SameOutcome sys (iwup_tsk sys s t) (iwup_tsk sys (seen s v) t)
   iwup_tsk-same t =
-      on_number-same sys s (seen s v) h t (woken sys s) (woken sys (seen s v)) (λ u x d k. woken_by-same x.phase u x d k)
+      on_number-same sys s (seen s v) h t (woken sys s) (woken sys (seen s v))
+      (λ u x d k. woken_by-same x.phase u x d k)
 
   pub can_wup-same : (me : ℕ) (t : ℤ) → SameOutcome sys (can_wup s me t) (can_wup (seen s v) me t)
   can_wup-same me t =
@@ -245,9 +289,11 @@ module _ (sys : SystemTables) (s : KernelState) (v : View) (h : AlikeStates sys 
       → AlikeStates sys (resumed_by p s t (record x { suspended = false }))
       (resumed_by p (seen s v) t (record x { suspended = false; deadline = d }))
   resumed_by-same t x d k Dormant e =
-      alike-with_last sys s (seen s v) t _ _ h (same-but s.clock v.clock (record x { suspended = false }) x.deadline d k.time)
+      alike-with_last sys s (seen s v) t _ _ h (same-but s.clock v.clock
+      (record x { suspended = false }) x.deadline d k.time)
   resumed_by-same t x d k Ready e =
-      alike-with_last sys s (seen s v) t _ _ h (same-but s.clock v.clock (record x { suspended = false }) x.deadline d k.time)
+      alike-with_last sys s (seen s v) t _ _ h (same-but s.clock v.clock
+      (record x { suspended = false }) x.deadline d k.time)
   resumed_by-same t x d k (Waiting w) e = suspension-same sys s (seen s v) t x d false w h k.time e k.there
 
   pub rsm_tsk-same : (t : ℤ) → SameOutcome sys (rsm_tsk s t) (rsm_tsk (seen s v) t)
@@ -273,7 +319,8 @@ module _ (sys : SystemTables) (s : KernelState) (v : View) (h : AlikeStates sys 
       → ((i : ℕ) → x.wakeups ≡ suc i → IsSeenAs s (seen s v) me x d)
       → SameOutcome sys (tslp_tsk s me x tmout) (tslp_tsk (seen s v) me (record x { deadline = d }) tmout)
   tslp_tsk-same me x d tmout k =
-      tested-same sys s (seen s v) h er.Par (limit_of tmout) (slp_tsk s me x) (slp_tsk (seen s v) me (record x { deadline = d }))
+      tested-same sys s (seen s v) h er.Par (limit_of tmout) (slp_tsk s me x)
+      (slp_tsk (seen s v) me (record x { deadline = d }))
       (λ m. slp_tsk-same me x d m k)
 
   pub dly_tsk-same : (me : ℕ) (x : TaskBlock) (d : Option ℕ) (delay : ℤ)

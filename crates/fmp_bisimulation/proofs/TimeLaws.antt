@@ -1,5 +1,6 @@
 -- Times at two clocks.
-use Rattle.std.proofs.Common.{◌≡◌, ◌+◌, ℕ, zero, suc, List, [], ◌∷◌, Option, Some, None, Bool, true, false, refl, sym, ◌∙◌, ap, nat_eq, length, slice_get, slice_set, subst, arith}
+use Rattle.std.proofs.Common.{◌≡◌, ◌+◌, ℕ, zero, suc, List, [], ◌∷◌, Option, Some, None, Bool, true, false, refl, sym}
+use Rattle.std.proofs.Common.{◌∙◌, ap, nat_eq, length, slice_get, slice_set, subst, arith}
 use Rattle.std.proofs.lemmas.Bool.{eqb-true, eq-eqb}
 use Rattle.fmp_base.specs.declared.states.TaskBlock.{TaskBlock}
 use Rattle.fmp_base.specs.States.{task_at}
@@ -95,7 +96,8 @@ times-sym a b (x ∷ xs) (y ∷ ys) (h, hs) = (same_time-sym a b x y h, times-sy
 times-sym a b [] (y ∷ ys) h = absurd h
 times-sym a b (x ∷ xs) [] h = absurd h
 
-pub times-chained : (a b c : ℕ) (xs ys zs : List (Option ℕ)) → SameTimes a b xs ys → SameTimes b c ys zs → SameTimes a c xs zs
+pub times-chained : (a b c : ℕ) (xs ys zs : List (Option ℕ)) → SameTimes a b xs ys → SameTimes b c ys zs
+    → SameTimes a c xs zs
 times-chained a b c [] [] [] h k = tt
 times-chained a b c (x ∷ xs) (y ∷ ys) (z ∷ zs) (h, hs) (k, ks) =
     (same_time-chained a b c x y z h k, times-chained a b c xs ys zs hs ks)
@@ -113,14 +115,16 @@ by_block Q a b x y h q =
 pub same_block-refl : (a : ℕ) (x : TaskBlock) → SameBlock a a x x
 same_block-refl a x = record { rest = refl; deadline = same_time-refl a x.deadline }
 
-pub blocks-at : (a b : ℕ) (xs ys : List TaskBlock) → SameBlocks a b xs ys → (t : ℕ) → SameBlock a b (task_at xs t) (task_at ys t)
+pub blocks-at : (a b : ℕ) (xs ys : List TaskBlock) → SameBlocks a b xs ys → (t : ℕ)
+    → SameBlock a b (task_at xs t) (task_at ys t)
 blocks-at a b [] [] h t = record { rest = refl; deadline = tt }
 blocks-at a b (x ∷ xs) (y ∷ ys) (h, hs) zero = h
 blocks-at a b (x ∷ xs) (y ∷ ys) (h, hs) (suc t) = blocks-at a b xs ys hs t
 blocks-at a b [] (y ∷ ys) h t = absurd h
 blocks-at a b (x ∷ xs) [] h t = absurd h
 
-pub blocks-set : (a b : ℕ) (xs ys : List TaskBlock) → SameBlocks a b xs ys → (t : ℕ) (x y : TaskBlock) → SameBlock a b x y
+pub blocks-set : (a b : ℕ) (xs ys : List TaskBlock) → SameBlocks a b xs ys → (t : ℕ) (x y : TaskBlock)
+    → SameBlock a b x y
     → SameBlocks a b (slice_set xs t x) (slice_set ys t y)
 blocks-set a b [] [] h t x y k = tt
 blocks-set a b (v ∷ vs) (w ∷ ws) (h, hs) zero x y k = (k, hs)
@@ -136,8 +140,11 @@ blocks-long a b (x ∷ xs) [] h = absurd h
 
 pub blocks-advanced : (a b : ℕ) (xs ys : List TaskBlock) → SameBlocks a b xs ys → SameBlocks (a + 1) (b + 1) xs ys
 blocks-advanced a b [] [] h = tt
-blocks-advanced a b (x ∷ xs) (y ∷ ys) (h, hs) =
-    (record { rest = h.rest; deadline = same_time-advanced a b x.deadline y.deadline h.deadline }, blocks-advanced a b xs ys hs)
+blocks-advanced a b (x ∷ xs) (y ∷ ys) (h, hs) = (
+  record { rest = h.rest; deadline = same_time-advanced a b x.deadline y.deadline h.deadline },
+  blocks-advanced a b
+      xs ys hs,
+)
 blocks-advanced a b [] (y ∷ ys) h = absurd h
 blocks-advanced a b (x ∷ xs) [] h = absurd h
 
@@ -147,15 +154,22 @@ blocks-refl a (x ∷ xs) = (same_block-refl a x, blocks-refl a xs)
 
 pub blocks-sym : (a b : ℕ) (xs ys : List TaskBlock) → SameBlocks a b xs ys → SameBlocks b a ys xs
 blocks-sym a b [] [] h = tt
-blocks-sym a b (x ∷ xs) (y ∷ ys) (h, hs) =
-    (record { rest = sym h.rest; deadline = same_time-sym a b x.deadline y.deadline h.deadline }, blocks-sym a b xs ys hs)
+blocks-sym a b (x ∷ xs) (y ∷ ys) (h, hs) = (
+  record { rest = sym h.rest; deadline = same_time-sym a b x.deadline y.deadline h.deadline },
+  blocks-sym a b xs ys
+      hs,
+)
 blocks-sym a b [] (y ∷ ys) h = absurd h
 blocks-sym a b (x ∷ xs) [] h = absurd h
 
-pub blocks-chained : (a b c : ℕ) (xs ys zs : List TaskBlock) → SameBlocks a b xs ys → SameBlocks b c ys zs → SameBlocks a c xs zs
+pub blocks-chained : (a b c : ℕ) (xs ys zs : List TaskBlock) → SameBlocks a b xs ys → SameBlocks b c ys zs
+    → SameBlocks a c xs zs
 blocks-chained a b c [] [] [] h k = tt
 blocks-chained a b c (x ∷ xs) (y ∷ ys) (z ∷ zs) (h, hs) (k, ks) = (
-  record { rest = h.rest ∙ k.rest; deadline = same_time-chained a b c x.deadline y.deadline z.deadline h.deadline k.deadline },
+  record {
+    rest = h.rest ∙ k.rest;
+    deadline = same_time-chained a b c x.deadline y.deadline z.deadline h.deadline k.deadline;
+  },
   blocks-chained a b c xs ys zs hs ks,
 )
 blocks-chained a b c [] [] (z ∷ zs) h k = absurd k

@@ -22,7 +22,8 @@ same-off a b x y h =
     ∙ ap (λ (d : Bool). is_dormant y.phase && d) (same-none a b x.deadline y.deadline h.deadline)
 
 -- the tasks that are off are the same
-off-same : (sys : SystemTables) (s u : KernelState) → AlikeStates sys s u → (t : ℕ) → is_off (task_at s.tasks t) ≡ is_off (task_at u.tasks t)
+off-same : (sys : SystemTables) (s u : KernelState) → AlikeStates sys s u → (t : ℕ) → is_off (task_at s.tasks t)
+    ≡ is_off (task_at u.tasks t)
 off-same sys s u h t = same-off s.clock u.clock _ _ (blocks-at s.clock u.clock s.tasks u.tasks h.tasks t)
 
 pub worlds-refl : {C : Type 0} (sys : SystemTables) (w : World C) → IsSettled sys w.state → Alike sys w w

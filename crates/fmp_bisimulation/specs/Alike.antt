@@ -1,5 +1,6 @@
 -- Worlds that differ in nothing that a later event could show, but for the number of the clock.
-use Rattle.std.specs.Prelude.{ℕ, ◌+◌, ◌≡◌, List, [], ◌∷◌, Option, Some, None, Bool, true, false, filter, length, not, nat_eq, ◌&&◌, ◌||◌}
+use Rattle.std.specs.Prelude.{ℕ, ◌+◌, ◌≡◌, List, [], ◌∷◌, Option, Some, None, Bool, true, false, filter, length, not}
+use Rattle.std.specs.Prelude.{nat_eq, ◌&&◌, ◌||◌}
 use Rattle.fmp_base.specs.declared.states.TaskBlock.{TaskBlock}
 use Rattle.fmp_base.specs.declared.states.WaitQueue.{WaitQueue}
 use Rattle.fmp_base.specs.Meanings.{Contexts, World, context_at}

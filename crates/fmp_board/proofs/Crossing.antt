@@ -22,7 +22,8 @@ module _ (κ : NamedLft) (S : RattleType) (g : site.Ghosts S.Denot) where
       view_send (book.the_row κ S g) _ _ _ _
       (recorded_send (book.the_field κ S g).row _ _ (book.the_type κ S g).to_one
       (struct_send (shape (book.the_type κ S g))
-      (search (image.the_sync, kernel_send, vm.the_send, context.the_send, scribe.the_send, crosses, sendable) depth 40)))
+      (search (image.the_sync, kernel_send, vm.the_send, context.the_send, scribe.the_send, crosses, sendable) depth
+      40)))
 
   desk_send : IsSend S → IsSend (Desk.the_row κ S g)
   desk_send s = let inner = book_send s in search (crosses, sendable) depth 20

@@ -1,5 +1,6 @@
 -- A journal and its kernel after one more event.
-use Rattle.std.proofs.Common.{◌≡◌, ℕ, ◌+◌, ◌<◌, ◌≤◌, ◌^◌, List, [], ◌∷◌, ◌++◌, Option, None, length, refl, ap, ◌∙◌, sym, subst, arith, length-append}
+use Rattle.std.proofs.Common.{◌≡◌, ℕ, ◌+◌, ◌<◌, ◌≤◌, ◌^◌, List, [], ◌∷◌, ◌++◌, Option, None, length, refl, ap, ◌∙◌, sym}
+use Rattle.std.proofs.Common.{subst, arith, length-append}
 use Rattle.std.proofs.lemmas.List.Elements.{All-append, All-cons, All-nil}
 use Rattle.fmp_base.specs.declared.events.Effect.TheVariants as effect
 use Rattle.fmp_base.specs.declared.calls.Reply.{Reply}
@@ -32,12 +33,14 @@ abbrev Kernels : Type 0
 Kernels = KernelView (List BodyTables) MachineContext
 
 -- what an event does on the kernel of a replay
-pub step_there : (i : ImageTables) (n k m : ℕ) (kernel : Kernels) (journal : List JournalEntry) (e : Event) → IsReplay i n k m kernel journal
+pub step_there : (i : ImageTables) (n k m : ℕ) (kernel : Kernels) (journal : List JournalEntry) (e : Event)
+    → IsReplay i n k m kernel journal
     → step kernel.system (code_meaning kernel.body) kernel.bound kernel.world e ≡ reaction i n (events journal) e
 step_there i n k m kernel journal e r = step_of_replay i n (events journal) e kernel r.kernel_is
 
 -- fewer than 2^20 events were taken
-pub room_left : (i : ImageTables) (n k m : ℕ) (kernel : Kernels) (journal : List JournalEntry) → IsReplay i n k m kernel journal → length journal < k → k ≤ 2 ^ 20
+pub room_left : (i : ImageTables) (n k m : ℕ) (kernel : Kernels) (journal : List JournalEntry)
+    → IsReplay i n k m kernel journal → length journal < k → k ≤ 2 ^ 20
     → kernel.taken < 2 ^ 20
 room_left i n k m kernel journal r lt most =
     let taken : kernel.taken ≡ length (events journal) = ap (λ (v : Kernels). v.taken) r.kernel_is in
@@ -60,18 +63,22 @@ kept_by (Did d) h = absurd (cc)
 kept_by (Kept p w) h = (p, w, refl)
 
 -- an entry whose event is taken is one more of the journal
-pub journal_more : (i : ImageTables) (n k m : ℕ) (journal : List JournalEntry) (x : JournalEntry) (r : Reaction MachineContext) → IsJournal i n k m journal → length journal < k → x.seat < m
+pub journal_more : (i : ImageTables) (n k m : ℕ) (journal : List JournalEntry) (x : JournalEntry)
+    (r : Reaction MachineContext) → IsJournal i n k m journal → length journal < k → x.seat < m
     → reaction i n (events journal) x.event ≡ r → IsTaken r → IsJournal i n k m (journal ++ x ∷ [])
 journal_more i n k m journal x r j lt seat h t =
     record {
       legal = subst (IsLegal i n) (sym (events-last journal x)) (legal_last i n (events journal) x.event r j.legal h t);
       room = omega (arith, length-append journal (x ∷ []), lt);
-      seats = All-append (λ y. y.seat < m) journal (x ∷ []) j.seats (All-cons (λ y. y.seat < m) x [] seat (All-nil (λ y. y.seat < m)));
+      seats = All-append (λ y. y.seat < m) journal (x ∷ []) j.seats (All-cons (λ y. y.seat < m) x [] seat
+          (All-nil (λ y. y.seat < m)));
     }
 
-pub replay_more : (i : ImageTables) (n k m : ℕ) (kernel now : Kernels) (journal : List JournalEntry) (x : JournalEntry) (r : Reaction MachineContext)
+pub replay_more : (i : ImageTables) (n k m : ℕ) (kernel now : Kernels) (journal : List JournalEntry)
+    (x : JournalEntry) (r : Reaction MachineContext)
     → IsReplay i n k m kernel journal → length journal < k → x.seat < m
-    → reaction i n (events journal) x.event ≡ r → IsTaken r → now ≡ view_after kernel r → IsReplay i n k m now (journal ++ x ∷ [])
+    → reaction i n (events journal) x.event ≡ r → IsTaken r → now ≡ view_after kernel r
+    → IsReplay i n k m now (journal ++ x ∷ [])
 replay_more i n k m kernel now journal x r was lt seat h t is =
     record {
       kernel_is =
@@ -81,21 +88,26 @@ replay_more i n k m kernel now journal x r was lt seat h t is =
     }
 
 -- a board begins with an empty journal
-pub replay_begins : (i : ImageTables) (n k m : ℕ) (kernel : Kernels) → kernel ≡ kernel_after i n [] → IsReplay i n k m kernel []
+pub replay_begins : (i : ImageTables) (n k m : ℕ) (kernel : Kernels) → kernel ≡ kernel_after i n []
+    → IsReplay i n k m kernel []
 replay_begins i n k m kernel h =
     record {
       kernel_is = h;
       journal_is = record { legal = none_legal i n; room = omega arith; seats = All-nil (λ y. y.seat < m) };
     }
 
-pub receipt_done : {C : Type 0} (r : Reaction C) (d : Done C) (before number : ℕ) (reply : Option Reply) → r ≡ Did d → number ≡ before + 1 → reply ≡ call_reply d.lines
+pub receipt_done : {C : Type 0} (r : Reaction C) (d : Done C) (before number : ℕ) (reply : Option Reply) → r ≡ Did d
+    → number ≡ before + 1 → reply ≡ call_reply d.lines
     → receipt number effect.Done reply ≡ receipt_of before r
 receipt_done r d before number reply h n y =
-    ap (λ (k : ℕ). receipt k effect.Done reply) n ∙ ap (λ (x : Option Reply). receipt (before + 1) effect.Done x) y ∙ sym (ap (receipt_of before) h)
+    ap (λ (k : ℕ). receipt k effect.Done reply) n ∙ ap (λ (x : Option Reply). receipt (before + 1) effect.Done x) y
+    ∙ sym (ap (receipt_of before) h)
 
-pub receipt_nothing : {C : Type 0} (r : Reaction C) (before : ℕ) → r ≡ Nothing → receipt 0 effect.Nothing None ≡ receipt_of before r
+pub receipt_nothing : {C : Type 0} (r : Reaction C) (before : ℕ) → r ≡ Nothing → receipt 0 effect.Nothing None
+    ≡ receipt_of before r
 receipt_nothing r before h = sym (ap (receipt_of before) h)
 
-pub receipt_kept : {C : Type 0} (r : Reaction C) (p : ℕ) (w : World C) (before number : ℕ) → r ≡ Kept p w → number ≡ before + 1
+pub receipt_kept : {C : Type 0} (r : Reaction C) (p : ℕ) (w : World C) (before number : ℕ) → r ≡ Kept p w → number
+    ≡ before + 1
     → receipt number effect.Kept None ≡ receipt_of before r
 receipt_kept r p w before number h n = ap (λ (k : ℕ). receipt k effect.Kept None) n ∙ sym (ap (receipt_of before) h)

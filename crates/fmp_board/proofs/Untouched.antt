@@ -1,5 +1,6 @@
 -- A board whose seats have counted no entry.
-use Rattle.std.proofs.Common.{◌≡◌, ℕ, ◌<◌, ◌==◌, Bool, true, false, cond, List, [], ◌∷◌, ◌∙◌, Some, slice_get, length, ap, arith, refl, subst, zero}
+use Rattle.std.proofs.Common.{◌≡◌, ℕ, ◌<◌, ◌==◌, Bool, true, false, cond, List, [], ◌∷◌, ◌∙◌, Some, slice_get, length}
+use Rattle.std.proofs.Common.{ap, arith, refl, subst, zero}
 use Rattle.std.proofs.lemmas.Bool.Decides.{nat_tests}
 use Rattle.std.proofs.lemmas.Option.{get_or_from_slice_get, slice_get_within}
 use Rattle.std.specs.List.{All}
@@ -23,16 +24,19 @@ counts_first false x rest is = absurd (cc is)
 one_counted : (x : JournalEntry) (journal : List JournalEntry) → 0 < length (own x.seat (x ∷ journal))
 one_counted x journal = counts_first (x.seat == x.seat) x (own x.seat journal) (same_number x.seat)
 
-no_entry : (row : RowId) (seats : List SeatState) (journal : List JournalEntry) → AreNew row seats → All (λ x. x.seat < row.seats) journal
+no_entry : (row : RowId) (seats : List SeatState) (journal : List JournalEntry) → AreNew row seats
+    → All (λ x. x.seat < row.seats) journal
     → All (HasCounted journal) seats → journal ≡ []
 no_entry row seats [] new of_row counted = refl
 no_entry row seats (x ∷ journal) new of_row counted =
     let seat : SeatState = new_seat row x.seat in
-    let none = by_place (HasCounted (x ∷ journal)) seats x.seat seat counted (new.1 x.seat (of_row zero x (omega arith))) in
+    let none = by_place (HasCounted (x ∷ journal)) seats x.seat seat counted
+    (new.1 x.seat (of_row zero x (omega arith))) in
     absurd (omega (arith, none.1, one_counted x journal))
 
 -- a board that all of its seats close, none of which has counted an entry, has an empty journal
-pub none_written : (i : ImageTables) (n : ℕ) (row : RowId) (seats : List SeatState) (closed : ClosedState) → IsCountedBy i n row.capacity row.seats seats closed
+pub none_written : (i : ImageTables) (n : ℕ) (row : RowId) (seats : List SeatState) (closed : ClosedState)
+    → IsCountedBy i n row.capacity row.seats seats closed
     → AreNew row seats → closed.events ≡ []
 none_written i n row seats closed c new =
     c.events_are ∙ ap events (no_entry row seats c.journal new c.journal_is.seats c.counted)

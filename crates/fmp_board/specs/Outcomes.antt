@@ -1,5 +1,6 @@
 -- Tickets, the outcomes of their stretches, and the answers to outcomes.
-use Rattle.std.specs.Prelude.{◌≡◌, ◌≢◌, ℕ, zero, suc, ◌<◌, ◌≤◌, List, Some, Option, Result, get_or, length, MatchOption, MatchResult}
+use Rattle.std.specs.Prelude.{◌≡◌, ◌≢◌, ℕ, zero, suc, ◌<◌, ◌≤◌, List, Some, Option, Result, get_or, length, MatchOption}
+use Rattle.std.specs.Prelude.{MatchResult}
 use mathlib.Core.List.{IsPrefix}
 use Rattle.fmp_base.specs.declared.events.Event.TheVariants.{Run}
 use Rattle.fmp_base.specs.Stretches.{Ending, Over}

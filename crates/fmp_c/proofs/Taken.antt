@@ -1,5 +1,6 @@
 -- What a machine makes of what came, and the first machine of an image.
-use Rattle.std.proofs.Common.{◌≡◌, ◌∙◌, ap, sym, subst, refl, ℕ, List, [], ◌∷◌, Option, Some, None, IfSome, Result, Ok, Err}
+use Rattle.std.proofs.Common.{◌≡◌, ◌∙◌, ap, sym, subst, refl, ℕ, List, [], ◌∷◌, Option, Some, None, IfSome, Result, Ok}
+use Rattle.std.proofs.Common.{Err}
 use Rattle.fmp_base.specs.declared.events.Effect.{Effect}
 use Rattle.fmp_base.specs.Steps.{effect_of}
 use Rattle.fmp_instructions.specs.Machine.{code_meaning}
@@ -18,7 +19,9 @@ use Rattle.fmp_image_parts.specs.declared.fault.LoadFault.TheVariants as load_fa
 use Rattle.fmp_outside.specs.declared.given.Given.{Given}
 use Rattle.fmp_c.specs.declared.machine.Machine.{Machine}
 use Rattle.fmp_c.specs.declared.records.FmpOutcome.{FmpOutcome}
-use Rattle.fmp_c.specs.Exports.{HasAgreed, HasObjected, IsCheckedMachine, IsConsulted, IsFirst, IsFirstChecked, IsFirstOf, IsTakenBy, IsTakenChecked, answered, checked_number, last_by, machine_after, outcome_of}
+use Rattle.fmp_c.specs.Exports.{HasAgreed, HasObjected, IsCheckedMachine, IsConsulted, IsFirst, IsFirstChecked}
+use Rattle.fmp_c.specs.Exports.{IsFirstOf, IsTakenBy, IsTakenChecked, answered, checked_number, last_by, machine_after}
+use Rattle.fmp_c.specs.Exports.{outcome_of}
 use Rattle.fmp_c.specs.Records.{answer_number}
 
 -- where there is no text, or it agrees
@@ -111,7 +114,8 @@ module _ (old new : Machine) (g : Given) (t u : TextKernel) where
   pub none_consulted : old.text ≡ None → new ≡ old → IsConsulted old.text old g new None
   none_consulted none is = subst (λ (x : Option TextKernel). IsConsulted x old g new None) (sym none) is
 
-pub first_plain : (text : List ℕ) (h : HostedSystem) (m b : Machine) → IsNew text h → m.hosted ≡ h → m.text ≡ None → m.last ≡ None
+pub first_plain : (text : List ℕ) (h : HostedSystem) (m b : Machine) → IsNew text h → m.hosted ≡ h → m.text ≡ None
+    → m.last ≡ None
     → b ≡ m → IsFirst text b
 first_plain text h m b new is none last same =
     subst (λ (x : Machine). IsFirst text x) (sym same)
@@ -124,7 +128,8 @@ first_of bound i c m begun machine = record { hosted = c.hosted; text = c.text; 
 pub first_boxed : (bound : ℕ) (i : ImageTables) (m b : Machine) → IsFirstOf i bound m → b ≡ m → IsFirstOf i bound b
 first_boxed bound i m b first same = subst (λ (x : Machine). IsFirstOf i bound x) (sym same) first
 
-pub first_checked : (bytes : List ℕ) (bound : ℕ) (i : ImageTables) (m : Machine) → image_at bytes ≡ Ok i → IsFirstOf i bound m
+pub first_checked : (bytes : List ℕ) (bound : ℕ) (i : ImageTables) (m : Machine) → image_at bytes ≡ Ok i
+    → IsFirstOf i bound m
     → IsFirstChecked bytes bound m
 first_checked bytes bound i m spelled first = record { image = i; spelled = spelled; first = first }
 

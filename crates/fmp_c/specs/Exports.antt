@@ -1,5 +1,6 @@
 -- What the exports answer of the system that a handle holds.
-use Rattle.std.specs.Prelude.{◌≡◌, ℕ, ℤ, pos, ◌+◌, ◌-◌, List, [], ◌∷◌, length, IfSome, IsSome, if◌then◌else◌, nat_eq, nat_lt, Option, Some, None, Result, Ok, Err}
+use Rattle.std.specs.Prelude.{◌≡◌, ℕ, ℤ, pos, ◌+◌, ◌-◌, List, [], ◌∷◌, length, IfSome, IsSome, if◌then◌else◌, nat_eq}
+use Rattle.std.specs.Prelude.{nat_lt, Option, Some, None, Result, Ok, Err}
 use Rattle.fmp_base.specs.declared.bodies.Fault.{Fault}
 use Rattle.fmp_base.specs.declared.codes.Er.{Er}
 use Rattle.fmp_base.specs.declared.events.Effect.{Effect}

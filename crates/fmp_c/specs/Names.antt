@@ -1,5 +1,6 @@
 -- What C reads of a system's tables: counts, names and numbers, by kinds of objects and their numbers, which go from 1.
-use Rattle.std.specs.Prelude.{ℕ, ◌-◌, List, [], length, Option, Some, None, ◌++◌, drop, slice_get, if◌then◌else◌, nat_eq, nat_le}
+use Rattle.std.specs.Prelude.{ℕ, ◌-◌, List, [], length, Option, Some, None, ◌++◌, drop, slice_get, if◌then◌else◌}
+use Rattle.std.specs.Prelude.{nat_eq, nat_le}
 use Rattle.fmp_base.specs.declared.names.Name.{Name}
 use Rattle.fmp_base.specs.declared.systems.Entry.{Entry}
 use Rattle.fmp_base.specs.declared.systems.Entry.TheVariants as entry

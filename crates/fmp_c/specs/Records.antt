@@ -1,6 +1,7 @@
 -- What C is told of a system and of its events, as records of numbers. Numbers of tasks, handlers, interrupts and
 -- processors go from 1.
-use Rattle.std.specs.Prelude.{ℕ, ◌+◌, ◌^◌, ℤ, pos, List, [], ◌∷◌, Option, Some, None, Result, Ok, Err, Bool, true, false, bit_or, get_or, is_some}
+use Rattle.std.specs.Prelude.{ℕ, ◌+◌, ◌^◌, ℤ, pos, List, [], ◌∷◌, Option, Some, None, Result, Ok, Err, Bool, true}
+use Rattle.std.specs.Prelude.{false, bit_or, get_or, is_some}
 use Rattle.fmp_base.specs.declared.calls.Reply.{Reply}
 use Rattle.fmp_base.specs.declared.events.Effect.{Effect}
 use Rattle.fmp_base.specs.declared.events.Effect.TheVariants as effect

@@ -1,5 +1,6 @@
 -- What the fields of a tree can be, where its tokens are those of a text.
-use Rattle.std.proofs.Common.{◌≡◌, ℕ, zero, suc, ℤ, pos, negsuc, ◌-◌, ◌^◌, ◌<◌, true, List, [], ◌∷◌, Option, Some, None, slice_get, option_and_then, FitsSigned, refl, subst, arith}
+use Rattle.std.proofs.Common.{◌≡◌, ℕ, zero, suc, ℤ, pos, negsuc, ◌-◌, ◌^◌, ◌<◌, true, List, [], ◌∷◌, Option, Some, None}
+use Rattle.std.proofs.Common.{slice_get, option_and_then, FitsSigned, refl, subst, arith}
 use Rattle.std.proofs.Math.Facts.{sfits_lit, sfits_to_z, Fits-of_lt}
 use Rattle.std.proofs.lemmas.Nat.{mod_below, or_lt}
 use Rattle.std.specs.Int.{w32, cast_unsigned}
@@ -22,10 +23,12 @@ use Rattle.fmp_cfgparse.specs.declared.forms.ApiPart.TheVariants as part
 use Rattle.fmp_cfgparse.specs.declared.tree.Item.{Item}
 use Rattle.fmp_cfgparse.specs.declared.tree.Item.TheVariants as item
 use Rattle.fmp_cfgparse.specs.Apis.{gives_name}
-use Rattle.fmp_cfgparse.specs.Grammar.{name_of, plain_item_of, OneItem, MoreItem, OneValue, OnePart, Parts, api_parts, OneApi, OneClass, Config}
+use Rattle.fmp_cfgparse.specs.Grammar.{name_of, plain_item_of, OneItem, MoreItem, OneValue, OnePart, Parts, api_parts}
+use Rattle.fmp_cfgparse.specs.Grammar.{OneApi, OneClass, Config}
 use Rattle.fmp_cfgparse.specs.Tables.{IsObjectName}
 use Rattle.fmp_cfgparse.specs.Trees.{FieldTree, value, name, ApiTree, ClassTree, ConfigurationTree}
-use Rattle.fmp_cfgparse.specs.Values.{item_number, joined, joined_items, value_number, or_zero, field_number, number_at, name_at}
+use Rattle.fmp_cfgparse.specs.Values.{item_number, joined, joined_items, value_number, or_zero, field_number, number_at}
+use Rattle.fmp_cfgparse.specs.Values.{name_at}
 use Rattle.fmp_cfgparse.proofs.KnownTokens.{IsKnown, IsKnownAt, known_at}
 
 -- what an item, a field, an API and a class can be
@@ -52,7 +55,8 @@ IsKnownClass c = AllByRecursion IsKnownApi c.apis
 
 -- ---- the trees that tokens spell
 
-number_token : (o : Option TokenKind) (z : ℤ) → IsKnownAt o → option_and_then plain_item_of o ≡ Some (item.Number z) → FitsSigned w32 z
+number_token : (o : Option TokenKind) (z : ℤ) → IsKnownAt o → option_and_then plain_item_of o ≡ Some (item.Number z)
+    → FitsSigned w32 z
 number_token None z h e = cc
 number_token (Some (kind.Number n)) z h e = let same : n ≡ z = cc in subst (λ (x : ℤ). FitsSigned w32 x) same h
 number_token (Some (kind.Constant c)) z h e = cc
@@ -74,7 +78,8 @@ name_token (Some (kind.Keyword k)) n h e = cc
 name_token (Some (kind.Symbol s)) n h e = cc
 name_token (Some (kind.Bad f)) n h e = cc
 
-named_form : (a : Api) → gives_name a ≡ true → (ps : List ApiPart) × (api_parts a ≡ part.Mark mark.LeftParen ∷ part.Name ∷ ps)
+named_form : (a : Api) → gives_name a ≡ true → (ps : List ApiPart)
+    × (api_parts a ≡ part.Mark mark.LeftParen ∷ part.Name ∷ ps)
 named_form api.CreTsk e = (_, refl)
 named_form api.CreSem e = (_, refl)
 named_form api.CreFlg e = (_, refl)
@@ -106,7 +111,8 @@ module _ (ts : List TokenKind) (known : AllByRecursion IsKnown ts) where
   name_part part.Value l i n j x = absurd x
   name_part part.Name l i n j x = name_token (slice_get ts i) n (known_at ts i known) x.0
 
-  value_part : (p : ApiPart) (l i : ℕ) (v : List Item) (j : ℕ) → OnePart p ts l i (Some (value v)) j → AllByRecursion IsKnownItem v
+  value_part : (p : ApiPart) (l i : ℕ) (v : List Item) (j : ℕ) → OnePart p ts l i (Some (value v)) j
+      → AllByRecursion IsKnownItem v
   value_part (part.Mark m) l i v j x = absurd x
   value_part part.Name l i v j x = absurd x
   value_part part.Value l i v j x = value_known l i v j x
@@ -116,32 +122,38 @@ module _ (ts : List TokenKind) (known : AllByRecursion IsKnown ts) where
   part_known p l i (Some (name n)) j x = name_part p l i n j x
   part_known p l i (Some (value v)) j x = value_part p l i v j x
 
-  put_known : (f : Option FieldTree) (more : List FieldTree) → IsKnownPart f → AllByRecursion IsKnownField more → AllByRecursion IsKnownField (put f more)
+  put_known : (f : Option FieldTree) (more : List FieldTree) → IsKnownPart f → AllByRecursion IsKnownField more
+      → AllByRecursion IsKnownField (put f more)
   put_known None more h k = k
   put_known (Some f) more h k = (h, k)
 
-  parts_known : (ps : List ApiPart) (l i : ℕ) (fields : List FieldTree) (j : ℕ) → Parts ps ts l i fields j → AllByRecursion IsKnownField fields
+  parts_known : (ps : List ApiPart) (l i : ℕ) (fields : List FieldTree) (j : ℕ) → Parts ps ts l i fields j
+      → AllByRecursion IsKnownField fields
   parts_known [] l i fields j x = rw x.0 tt
   parts_known (p ∷ ps) l i fields j x =
       rw x.2 (put_known x.0 x.1 (part_known p l i x.0 x.3 x.4) (parts_known ps l x.3 x.1 j x.5))
 
   -- a form that begins with a name gives it first
-  leading : (f : Option FieldTree) (more : List FieldTree) (l i j : ℕ) → OnePart part.Name ts l i f j → IsObjectName (name_at (put f more) 0)
+  leading : (f : Option FieldTree) (more : List FieldTree) (l i j : ℕ) → OnePart part.Name ts l i f j
+      → IsObjectName (name_at (put f more) 0)
   leading None more l i j x = absurd x
   leading (Some (value v)) more l i j x = absurd x
   leading (Some (name n)) more l i j x = name_part part.Name l i n j x
 
-  behind_mark : (m : Mark) (f : Option FieldTree) (more : List FieldTree) (l i j : ℕ) → OnePart (part.Mark m) ts l i f j → put f more ≡ more
+  behind_mark : (m : Mark) (f : Option FieldTree) (more : List FieldTree) (l i j : ℕ)
+      → OnePart (part.Mark m) ts l i f j → put f more ≡ more
   behind_mark m None more l i j x = refl
   behind_mark m (Some (value v)) more l i j x = absurd x
   behind_mark m (Some (name n)) more l i j x = absurd x
 
-  name_first : (m : Mark) (ps : List ApiPart) (l i : ℕ) (fields : List FieldTree) (j : ℕ) → Parts (part.Mark m ∷ part.Name ∷ ps) ts l i fields j → IsObjectName (name_at fields 0)
+  name_first : (m : Mark) (ps : List ApiPart) (l i : ℕ) (fields : List FieldTree) (j : ℕ)
+      → Parts (part.Mark m ∷ part.Name ∷ ps) ts l i fields j → IsObjectName (name_at fields 0)
   name_first m ps l i fields j x =
       let y = x.5 in
       rw (x.2, behind_mark m x.0 x.1 l i x.3 x.4, y.2) (leading y.0 y.1 l x.3 y.3 y.4)
 
-  api_names : (a : Api) (l i : ℕ) (fields : List FieldTree) (j : ℕ) → Parts (api_parts a) ts l i fields j → gives_name a ≡ true → IsObjectName (name_at fields 0)
+  api_names : (a : Api) (l i : ℕ) (fields : List FieldTree) (j : ℕ) → Parts (api_parts a) ts l i fields j
+      → gives_name a ≡ true → IsObjectName (name_at fields 0)
   api_names a l i fields j x e =
       let named = named_form a e in
       name_first mark.LeftParen named.0 l i fields j (subst (λ ps. Parts ps ts l i fields j) named.1 x)
@@ -159,7 +171,8 @@ module _ (ts : List TokenKind) (known : AllByRecursion IsKnown ts) where
   class_known : (l i : ℕ) (c : ClassTree) (j : ℕ) → OneClass ts l i c j → IsKnownClass c
   class_known l i c j x = apis_known l x.9 c.apis x.11 x.12
 
-  classes_known : (l i : ℕ) (classes : List ClassTree) (j : ℕ) → Star OneClass ts l i classes j → AllByRecursion IsKnownClass classes
+  classes_known : (l i : ℕ) (classes : List ClassTree) (j : ℕ) → Star OneClass ts l i classes j
+      → AllByRecursion IsKnownClass classes
   classes_known l i [] j x = tt
   classes_known l i (c ∷ more) j x = (class_known l i c x.0 x.1, classes_known l x.0 more j x.2)
 
@@ -215,13 +228,15 @@ below (pos n) h = let low : n < 2 ^ 31 = h.sfits in omega arith
 below (negsuc n) h = omega arith
 
 joined_fits : (x y : Option ℤ) → Fit x → Fit y → Fit (joined x y)
-joined_fits (Some x) (Some y) h k = sfits_to_z (Fits-of_lt (or_lt 32 (cast_unsigned w32 x) (cast_unsigned w32 y) (below x h) (below y k)))
+joined_fits (Some x) (Some y) h k = sfits_to_z (Fits-of_lt (or_lt 32 (cast_unsigned w32 x) (cast_unsigned w32 y)
+    (below x h) (below y k)))
 joined_fits (Some x) None h k = tt
 joined_fits None y h k = tt
 
 items_fit : (x : Option ℤ) (items : List Item) → Fit x → AllByRecursion IsKnownItem items → Fit (joined_items x items)
 items_fit x [] h k = h
-items_fit x (a ∷ more) h k = items_fit (joined x (item_number a)) more (joined_fits x (item_number a) h (item_fits a k.0)) k.1
+items_fit x (a ∷ more) h k = items_fit (joined x (item_number a)) more (joined_fits x (item_number a) h
+    (item_fits a k.0)) k.1
 
 or_zero_fits : (x : Option ℤ) → Fit x → FitsSigned w32 (or_zero x)
 or_zero_fits (Some z) h = h
@@ -237,5 +252,6 @@ field_known [] k h = tt
 field_known (f ∷ more) zero h = h.0
 field_known (f ∷ more) (suc k) h = field_known more k h.1
 
-pub number_fits : (fields : List FieldTree) (k : ℕ) → AllByRecursion IsKnownField fields → FitsSigned w32 (number_at fields k)
+pub number_fits : (fields : List FieldTree) (k : ℕ) → AllByRecursion IsKnownField fields
+    → FitsSigned w32 (number_at fields k)
 number_fits fields k h = field_fits (slice_get fields k) (field_known fields k h)

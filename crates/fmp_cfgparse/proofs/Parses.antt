@@ -17,7 +17,20 @@ is_parse : (text : List ℕ) (f : BuildFault) → IsSyntaxFault file.Configurati
 is_parse text build.Memory x = tt
 is_parse text (build.At f place why) x = x
 
-pub parse_stopped : (text : List ℕ) (ts : List Token) (j : ℕ) (end : Place) (why : GrammarFault) (f : BuildFault) → length text ≤ text_max → Cuts text 0 ts →
-    IsFirstFault Config (kinds_of ts) j why → end ≡ text_end text → f ≡ fault_of file.Configuration end (slice_get ts j) why → IsParse text (Err f)
+pub parse_stopped : (text : List ℕ) (ts : List Token) (j : ℕ) (end : Place) (why : GrammarFault) (f : BuildFault)
+    → length text ≤ text_max → Cuts text 0 ts →
+    IsFirstFault Config (kinds_of ts) j why → end ≡ text_end text → f
+    ≡ fault_of file.Configuration end (slice_get ts j) why → IsParse text (Err f)
 parse_stopped text ts j end why f short cut first there is =
-    is_parse text f (inr (short, (ts, cut, j, why, first, is ∙ ap (λ p. fault_of file.Configuration p (slice_get ts j) why) there)))
+    is_parse text f (inr (
+      short,
+      (
+        ts,
+        cut,
+        j,
+        why,
+        first,
+        is ∙ ap (λ p. fault_of file.Configuration p
+            (slice_get ts j) why) there,
+      ),
+    ))

@@ -16,7 +16,8 @@ use Rattle.fmp_cfgparse.proofs.KnownTrees.{tree_known}
 use Rattle.fmp_cfgparse.proofs.Walks.{configured_keeps}
 
 -- the text spells this tree, and that is what the tree makes
-pub made_keeps : (text : List ℕ) (ts : List Token) (tree : ConfigurationTree) (g : Making) → Spells Config text ts tree → configured tree ≡ Ok g → IsConfiguration g.tables
+pub made_keeps : (text : List ℕ) (ts : List Token) (tree : ConfigurationTree) (g : Making)
+    → Spells Config text ts tree → configured tree ≡ Ok g → IsConfiguration g.tables
 made_keeps text ts tree g spelled makes =
     configured_keeps tree g (tree_known (kinds_of ts) (cuts_known text 0 ts spelled.1) tree spelled.2) makes
 

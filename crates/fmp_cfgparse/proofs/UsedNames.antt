@@ -15,7 +15,8 @@ pub used_any : (name : Name) (keys : List ObjectName) →
 used_any name [] = refl
 used_any name (k ∷ ks) = ap (λ b. bytes_eq (name_text name) (name_text k.name) || b) (used_any name ks)
 
-pub put_last : (key : ObjectName) (keys after : List ObjectName) → is_used (map name_of keys) key.name ≡ false → after ≡ insert_key same_bytes keys key →
+pub put_last : (key : ObjectName) (keys after : List ObjectName) → is_used (map name_of keys) key.name ≡ false → after
+    ≡ insert_key same_bytes keys key →
     map name_of after ≡ map name_of keys ++ key.name ∷ []
 put_last key keys after unused is =
     let none : list_any (same_bytes key) keys ≡ false = sym (used_any key.name keys) ∙ unused in

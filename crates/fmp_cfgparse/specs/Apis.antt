@@ -1,6 +1,7 @@
 -- The static APIs: what each refuses, and the object that it makes (uITRON 4.0, section 4; CRE_MSG and CRE_SHR are
 -- of this system's own).
-use Rattle.std.specs.Prelude.{ℕ, ◌+◌, ◌-◌, ◌%◌, ◌/◌, ℤ, List, [], ◌∷◌, ◌++◌, length, slice_index, Option, Some, None, Bool, true, false, ◌&&◌, ◌||◌, not, nat_eq, nat_le, if◌then◌else◌, codes}
+use Rattle.std.specs.Prelude.{ℕ, ◌+◌, ◌-◌, ◌%◌, ◌/◌, ℤ, List, [], ◌∷◌, ◌++◌, length, slice_index, Option, Some, None}
+use Rattle.std.specs.Prelude.{Bool, true, false, ◌&&◌, ◌||◌, not, nat_eq, nat_le, if◌then◌else◌, codes}
 use Rattle.std.specs.Str.{bytes_eq}
 use Rattle.fmp_base.specs.declared.codes.Er.TheVariants as er
 use Rattle.fmp_base.specs.declared.names.Name.{Name}
@@ -12,7 +13,8 @@ use Rattle.fmp_base.specs.declared.words.Api.TheVariants as api
 use Rattle.fmp_cfgparse.specs.declared.places.ClassProcessors.{ClassProcessors}
 use Rattle.fmp_lex.specs.declared.fault.FaultKind.{FaultKind}
 use Rattle.fmp_lex.specs.declared.fault.FaultKind.TheVariants as fault
-use Rattle.fmp_cfgparse.specs.Objects.{task, semaphore, flag, data_queue, mailbox, message, shared_word, spin_lock, cyclic, interrupt}
+use Rattle.fmp_cfgparse.specs.Objects.{task, semaphore, flag, data_queue, mailbox, message, shared_word, spin_lock}
+use Rattle.fmp_cfgparse.specs.Objects.{cyclic, interrupt}
 use Rattle.fmp_cfgparse.specs.Trees.{FieldTree, ApiTree}
 use Rattle.fmp_cfgparse.specs.Values.{number_at, name_at, all_known, between, held}
 

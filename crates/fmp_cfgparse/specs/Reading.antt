@@ -11,7 +11,8 @@ use Rattle.fmp_lex.specs.Reading.{At, Item, ParseResult, Right, Anywhere, IsWhol
 use Rattle.fmp_cfgparse.specs.declared.forms.ApiPart.{ApiPart}
 use Rattle.fmp_cfgparse.specs.declared.tree.Configuration.{Configuration}
 use Rattle.fmp_cfgparse.specs.declared.tree.Item as tree
-use Rattle.fmp_cfgparse.specs.Grammar.{token_number, name_of, api_of, OneItem, OneValue, OnePart, Parts, OneApi, OneClass, Config}
+use Rattle.fmp_cfgparse.specs.Grammar.{token_number, name_of, api_of, OneItem, OneValue, OnePart, Parts, OneApi}
+use Rattle.fmp_cfgparse.specs.Grammar.{OneClass, Config}
 use Rattle.fmp_cfgparse.specs.Trees.{FieldTree, ApiTree, ClassTree, ConfigurationTree, configuration_view}
 
 -- no `|` follows

@@ -1,5 +1,6 @@
 -- The tables that a configuration describes: the names of their objects, and the rules that they keep.
-use Rattle.std.specs.Prelude.{◌≡◌, ℕ, ◌≤◌, FitsSigned, List, [], ◌∷◌, ◌++◌, length, map, None, Bool, true, false, ◌&&◌, nat_eq}
+use Rattle.std.specs.Prelude.{◌≡◌, ℕ, ◌≤◌, FitsSigned, List, [], ◌∷◌, ◌++◌, length, map, None, Bool, true, false, ◌&&◌}
+use Rattle.std.specs.Prelude.{nat_eq}
 use Rattle.std.specs.Int.{w32}
 use Rattle.std.specs.List.{AllByRecursion, IsDistinct, list_all}
 use Rattle.std.specs.Str.{bytes_eq}

@@ -38,7 +38,8 @@ module _ (k : ForeignKernel) (t u : TextKernel) (g : Given) where
       subst (λ (x : Option Refusal). IsChecked x k t g u a) (sym free)
       (subst (λ (b : Result Effect Objection). IsJudged k t g u b) (sym e) (refl, f))
 
-pub is_hosted : (h new : HostedSystem) (g : Given) (e : Effect) (a : Result Effect Objection) → a ≡ Ok e → new ≡ after h (Ok g)
+pub is_hosted : (h new : HostedSystem) (g : Given) (e : Effect) (a : Result Effect Objection) → a ≡ Ok e → new
+    ≡ after h (Ok g)
     → new ≡ hosted_after h g a
 is_hosted h new g e a done is = is ∙ sym (ap (λ (b : Result Effect Objection). hosted_after h g b) done)
 
@@ -49,10 +50,14 @@ both_restarted k t s =
       system = s.system;
       lines = s.lines;
       done = refl;
-      worlds = record { states = ap (λ (x : KernelState). clock_restarted x) s.worlds.states; contexts = s.worlds.contexts };
+      worlds = record {
+        states = ap (λ (x : KernelState). clock_restarted x) s.worlds.states;
+        contexts = s.worlds.contexts;
+      };
     }
 
-pub restarted_step : (h new : HostedSystem) (t u : TextKernel) → new ≡ restarted h → u ≡ counts_restarted t → InStep h.kernel t
+pub restarted_step : (h new : HostedSystem) (t u : TextKernel) → new ≡ restarted h → u ≡ counts_restarted t
+    → InStep h.kernel t
     → InStep new.kernel u
 restarted_step h new t u system text s =
     subst (λ (x : HostedSystem). InStep x.kernel u) (sym system)

@@ -1,5 +1,6 @@
 -- The code of a body does what the body does, within n instructions.
-use Rattle.std.proofs.Common.{◌≡◌, ℕ, zero, suc, ◌+◌, ◌*◌, ◌≤◌, true, false, List, [], ◌∷◌, length, Some, None, refl, sym, ap, ◌∙◌, subst, arith, ℤ}
+use Rattle.std.proofs.Common.{◌≡◌, ℕ, zero, suc, ◌+◌, ◌*◌, ◌≤◌, true, false, List, [], ◌∷◌, length, Some, None, refl}
+use Rattle.std.proofs.Common.{sym, ap, ◌∙◌, subst, arith, ℤ}
 use Rattle.fmp_base.specs.Stretches.{Ending, is_over}
 use Rattle.fmp_base.specs.Stretches as ends
 use Rattle.fmp_base.specs.KeptTies.{Handed}
@@ -47,7 +48,8 @@ module _ (scope : Scope) (code : List Instruction) where
   -- the same tie from the other side
   turned :
       (o : Ending TextContext) (m : Ending MachineContext) → is_over o ≡ false →
-      StretchTied (Tied scope code) (SameLocalsBack scope) Handed o m → StretchTied CodeTied (SameLocals scope) Handed m o
+      StretchTied (Tied scope code) (SameLocalsBack scope) Handed o m
+      → StretchTied CodeTied (SameLocals scope) Handed m o
   turned _ _ e (over m) = absurd (cc e)
   turned _ _ e (kept k m h) = absurd (cc e)
   turned _ _ e (call c d made h) = call d c made h
@@ -56,10 +58,12 @@ module _ (scope : Scope) (code : List Instruction) where
 
   comes_first :
       (n p : ℕ) (l : List ℤ) (o : Ending TextContext) (m : Ending MachineContext) → is_over o ≡ false →
-      is_over m ≡ false → exec code n p [] l ≡ m → Comes scope code n p l o → StretchTied CodeTied (SameLocals scope) Handed m o
+      is_over m ≡ false → exec code n p [] l ≡ m → Comes scope code n p l o
+      → StretchTied CodeTied (SameLocals scope) Handed m o
   comes_first n p l o m going ended e h =
       let same : h.outcome ≡ m = exec-one_end code h.steps n p [] l h.outcome m h.ended ended h.by e in
-      turned o m going (subst (λ (x : Ending MachineContext). StretchTied (Tied scope code) (SameLocalsBack scope) Handed o x) same h.same)
+      turned o m going (subst (λ (x : Ending MachineContext). StretchTied (Tied scope code)
+      (SameLocalsBack scope) Handed o x) same h.same)
 
   ended_first :
       (n p : ℕ) (l : List ℤ) (o : Ending TextContext) (m : Ending MachineContext) → is_over m ≡ false →

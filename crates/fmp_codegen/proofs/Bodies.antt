@@ -1,5 +1,6 @@
 -- The code of an accepted text does what its bodies do.
-use Rattle.std.proofs.Common.{◌≡◌, ℕ, zero, suc, ◌+◌, ◌*◌, ◌≤◌, Bool, true, false, ◌||◌, ◌&&◌, nat_lt, List, [], ◌∷◌, ◌++◌, length, map, Option, Some, None, refl, sym, subst, arith, ℤ}
+use Rattle.std.proofs.Common.{◌≡◌, ℕ, zero, suc, ◌+◌, ◌*◌, ◌≤◌, Bool, true, false, ◌||◌, ◌&&◌, nat_lt, List, [], ◌∷◌}
+use Rattle.std.proofs.Common.{◌++◌, length, map, Option, Some, None, refl, sym, subst, arith, ℤ}
 use Rattle.std.specs.Prelude.{slice_get, nat_le, if◌then◌else◌}
 use Rattle.std.proofs.Math.Nat.{le-max_left, le-max_right}
 use Rattle.std.proofs.lemmas.Bool.{leb-true, ltb-false}
@@ -24,7 +25,8 @@ use Rattle.fmp_instructions.specs.Instructions.{BodyTables, found_instructions, 
 use Rattle.fmp_instructions.specs.Longer.{exec-longer}
 use Rattle.fmp_instructions.specs.Machine.{code_start, code_stretch, code_deliver, stack_of}
 use Rattle.fmp_instructions.specs.Resuming.{exec-resumes, exec-stuck}
-use Rattle.fmp_codegen.specs.Compiling.{is_among, length_offence, body_offence, bodies_offence, compiled, IsAccepted, variables_offence, size_offence}
+use Rattle.fmp_codegen.specs.Compiling.{is_among, length_offence, body_offence, bodies_offence, compiled, IsAccepted}
+use Rattle.fmp_codegen.specs.Compiling.{variables_offence, size_offence}
 use Rattle.fmp_codegen.specs.Laws.{DoesText}
 use Rattle.fmp_scopes.specs.declared.offences.Offence.{Offence}
 use Rattle.fmp_scopes.specs.Naming.{first_offence, uses_offence, block_uses}
@@ -63,7 +65,8 @@ body-accepted tables names body h =
     let twice : Offence = record { at = body.name.at; why = fault.TwiceNamed } in
     let named = if is_among body.name.name names then Some twice else first_offence variables after in
     let many : Offence = record { at = body.at; why = fault.Limit } in
-    let all = skips (is_among body.name.name names) twice (first_offence variables after) (skips (nat_le 255 (length names)) many named h) in
+    let all = skips (is_among body.name.name names) twice (first_offence variables after)
+    (skips (nat_le 255 (length names)) many named h) in
     let rest = none-second variables after all in
     record {
       variables = none-first variables after all;
@@ -112,7 +115,8 @@ pub names-known :
     bodies_offence tables names bodies ≡ None →
     uses_offence (scope_of tables (body_at bodies k)) (block_uses (body_at bodies k).statements) ≡ None
 names-known tables names [] k h = refl
-names-known tables names (b ∷ bs) zero h = (body-accepted tables names b (none-first (body_offence tables names b) (bodies_offence tables (names ++ b.name.name ∷ []) bs) h)).names
+names-known tables names (b ∷ bs) zero h = (body-accepted tables names b
+    (none-first (body_offence tables names b) (bodies_offence tables (names ++ b.name.name ∷ []) bs) h)).names
 names-known tables names (b ∷ bs) (suc k) h = names-known tables (names ++ b.name.name ∷ []) bs k
     (none-second (body_offence tables names b) (bodies_offence tables (names ++ b.name.name ∷ []) bs) h)
 
@@ -128,7 +132,8 @@ few_places :
 few_places tables ls [] h le = omega (arith, le)
 few_places tables ls (d ∷ ds) h le =
     let j = variable-judged tables ls d ds h in
-    let more = few_places tables (ls ++ local_of d ∷ []) ds j.rest (omega (arith, total-append ls (local_of d), j.few)) in
+    let more = few_places tables (ls ++ local_of d ∷ []) ds j.rest (omega
+    (arith, total-append ls (local_of d), j.few)) in
     omega (arith, more, total-append ls (local_of d))
 
 -- the places of declared variables
@@ -145,7 +150,8 @@ length_some (Some l) h =
     leb-true 1 n (and_front (nat_le 1 n) (nat_le n 63) right)
 
 pub has-places :
-    (tables : SystemTables) (ls : List Local) (ds : List Declaration) → variables_offence tables ls ds ≡ None → HasPlaces ds
+    (tables : SystemTables) (ls : List Local) (ds : List Declaration) → variables_offence tables ls ds ≡ None
+    → HasPlaces ds
 has-places tables ls [] h k lt = absurd (omega (arith, lt))
 has-places tables ls (d ∷ ds) h zero lt = length_some d.length (variable-judged tables ls d ds h).length
 has-places tables ls (d ∷ ds) h (suc k) lt =
@@ -157,7 +163,8 @@ pub places-few :
 places-few tables names [] k h = omega arith
 places-few tables names (b ∷ bs) zero h =
     few-places tables b
-    (body-accepted tables names b (none-first (body_offence tables names b) (bodies_offence tables (names ++ b.name.name ∷ []) bs) h)).variables
+    (body-accepted tables names b (none-first (body_offence tables names b)
+    (bodies_offence tables (names ++ b.name.name ∷ []) bs) h)).variables
 places-few tables names (b ∷ bs) (suc k) h = places-few tables (names ++ b.name.name ∷ []) bs k
     (none-second (body_offence tables names b) (bodies_offence tables (names ++ b.name.name ∷ []) bs) h)
 
@@ -174,7 +181,8 @@ instructions-compiled tables (b ∷ bs) (suc k) = instructions-compiled tables b
 body_stands :
     (tables : SystemTables) (body : BodyTree) (exinf : ℤ) →
     uses_offence (scope_of tables body) (block_uses body.statements) ≡ None →
-    Reaches (body_code tables body) 0 (StandsSomehow (scope_of tables body) (body_code tables body) (start body exinf).todo)
+    Reaches (body_code tables body) 0 (StandsSomehow (scope_of tables body) (body_code tables body)
+    (start body exinf).todo)
 body_stands tables body exinf named =
     let scope = scope_of tables body in
     let code = body_code tables body in
@@ -245,7 +253,8 @@ module _ (tables : SystemTables) (bodies : List BodyTree) (accepted : IsAccepted
       let b = body_at bodies body in
       subst (λ (is : List Instruction). ContextTied (scope_of tables b) is (code_start exinf) (start b exinf))
       (sym (instructions-compiled tables bodies body))
-      (started_tied tables b exinf (names-known tables [] bodies body accepted) (places-few tables [] bodies body accepted))
+      (started_tied tables b exinf (names-known tables [] bodies body accepted)
+      (places-few tables [] bodies body accepted))
 
   delivers_tied :
       (body : ℕ) (d : MachineContext) (c : TextContext) (reply : Reply) → CodeTied tables bodies code body d c →

@@ -1,10 +1,14 @@
 -- The entries of a depth table stand at their places; there is one for each instruction.
-use Rattle.std.proofs.Common.{◌≡◌, ℕ, ◌+◌, ◌<◌, List, [], ◌∷◌, ◌++◌, length, Some, refl, ap, ◌∙◌, subst, arith, append_assoc, length-append}
+use Rattle.std.proofs.Common.{◌≡◌, ℕ, ◌+◌, ◌<◌, List, [], ◌∷◌, ◌++◌, length, Some, refl, ap, ◌∙◌, subst, arith}
+use Rattle.std.proofs.Common.{append_assoc, length-append}
 use Rattle.std.specs.Prelude.{slice_get}
 use Rattle.std.proofs.Math.Seq.{get_or-append_seam}
 use Rattle.std.proofs.lemmas.Option.{slice_get-get_or}
-use Rattle.fmp_tasklang.specs.Trees.{ExpressionTree, number, named, element, unary, binary, both, either, StatementTree, assign, assign_element, service_call, if_then, if_else, while, break, continue, return, Block, empty, next, BodyTree}
-use Rattle.fmp_scopes.specs.DepthTables.{expression_depths, arguments_depths, statement_depths, block_depths, body_depths}
+use Rattle.fmp_tasklang.specs.Trees.{ExpressionTree, number, named, element, unary, binary, both, either, StatementTree}
+use Rattle.fmp_tasklang.specs.Trees.{assign, assign_element, service_call, if_then, if_else, while, break, continue}
+use Rattle.fmp_tasklang.specs.Trees.{return, Block, empty, next, BodyTree}
+use Rattle.fmp_scopes.specs.DepthTables.{expression_depths, arguments_depths, statement_depths, block_depths}
+use Rattle.fmp_scopes.specs.DepthTables.{body_depths}
 use Rattle.fmp_scopes.specs.Sizes.{expression_size, arguments_size, statement_size, block_size, body_size}
 
 -- the entries stand in the table from this place on
@@ -27,7 +31,8 @@ pub depths_all : (ds before : List ℕ) → HasDepths (before ++ ds) (length bef
 depths_all [] before = tt
 depths_all (d ∷ ds) before =
     let within : length before < length (before ++ d ∷ ds) = omega (arith, length-append before (d ∷ ds)) in
-    let here = slice_get-get_or (before ++ d ∷ ds) (length before) d within ∙ ap Some (get_or-append_seam before d ds d) in
+    let here = slice_get-get_or (before ++ d ∷ ds) (length before) d within
+    ∙ ap Some (get_or-append_seam before d ds d) in
     let n : length (before ++ d ∷ []) ≡ length before + 1 = omega (arith, length-append before (d ∷ [])) in
     let rest = depths_all ds (before ++ d ∷ []) in
     let rest' = subst (λ l. HasDepths l (length (before ++ d ∷ [])) ds) (append_assoc before (d ∷ []) ds) rest in

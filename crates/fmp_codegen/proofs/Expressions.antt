@@ -1,5 +1,6 @@
 -- What the code of an expression does.
-use Rattle.std.proofs.Common.{◌≡◌, ℕ, suc, ◌+◌, ◌<◌, ◌≤◌, Bool, true, false, cond, List, [], ◌∷◌, ◌++◌, Some, Result, Ok, Err, refl, ap, ◌∙◌, subst, arith, ℤ, pos}
+use Rattle.std.proofs.Common.{◌≡◌, ℕ, suc, ◌+◌, ◌<◌, ◌≤◌, Bool, true, false, cond, List, [], ◌∷◌, ◌++◌, Some, Result}
+use Rattle.std.proofs.Common.{Ok, Err, refl, ap, ◌∙◌, subst, arith, ℤ, pos}
 use Rattle.std.specs.Prelude.{slice_get, get_or}
 use Rattle.fmp_base.specs.declared.bodies.Fault.{Fault}
 use Rattle.fmp_base.specs.Stretches as ends
@@ -7,9 +8,11 @@ use Rattle.fmp_base.specs.Operators.{Value, is_zero, truth_of, unary_value, bina
 use Rattle.fmp_tasklang.specs.Trees.{ExpressionTree, number, named, element, unary, binary, both, either}
 use Rattle.fmp_tasklang.specs.Scopes.{Scope, NameMeaning, Variable, Array, Object, Unknown, meaning_of}
 use Rattle.fmp_tasklang.specs.Layout.{first_place, places_at}
-use Rattle.fmp_tasklang.specs.Values.{Values, value_at, array_number, array_places, name_value, element_value, both_value, either_value, value, values}
+use Rattle.fmp_tasklang.specs.Values.{Values, value_at, array_number, array_places, name_value, element_value}
+use Rattle.fmp_tasklang.specs.Values.{both_value, either_value, value, values}
 use Rattle.fmp_instructions.specs.declared.instructions.Instruction.{Instruction}
-use Rattle.fmp_instructions.specs.declared.instructions.Instruction.TheVariants.{Push, Load, Unary, Truth, Binary, Jump, JumpIfZero}
+use Rattle.fmp_instructions.specs.declared.instructions.Instruction.TheVariants.{Push, Load, Unary, Truth, Binary, Jump}
+use Rattle.fmp_instructions.specs.declared.instructions.Instruction.TheVariants.{JumpIfZero}
 use Rattle.fmp_instructions.specs.Machine.{at, gives, on_place, act, exec}
 use Rattle.fmp_scopes.specs.Scheme.{array_base, name_code, load_element, expression_code, arguments_code}
 use Rattle.fmp_scopes.specs.Sizes.{expression_size, arguments_size}
@@ -20,7 +23,8 @@ use Rattle.fmp_codegen.proofs.Places.{IsPlain}
 use Rattle.fmp_codegen.proofs.Tied.{tied-variable, tied-element, place-within, array-within}
 
 -- the machine goes from one place, operands and locals to others, and rises by at least a place for each instruction
-pub record Leads (code : List Instruction) (p : ℕ) (stack locals : List ℤ) (q : ℕ) (stack' locals' : List ℤ) : Type 0 where
+pub record Leads (code : List Instruction) (p : ℕ) (stack locals : List ℤ) (q : ℕ)
+    (stack' locals' : List ℤ) : Type 0 where
   pub steps : ℕ
   pub rises : p + steps ≤ q
   pub by : (k : ℕ) → exec code (steps + k) p stack locals ≡ exec code k q stack' locals'
@@ -33,7 +37,8 @@ pub record Faults (code : List Instruction) (p : ℕ) (stack locals : List ℤ) 
   pub by : exec code steps p stack locals ≡ ends.Fault (at place locals) f
 
 -- the machine comes to q with the operands that `go` makes of the result, or faults before
-abbrev pub Runs : {A : Type 0} → List Instruction → ℕ → (stack locals : List ℤ) → ℕ → (A → List ℤ) → Result A Fault → Type 0
+abbrev pub Runs : {A : Type 0} → List Instruction → ℕ → (stack locals : List ℤ) → ℕ → (A → List ℤ) → Result A Fault
+    → Type 0
 Runs code p stack locals q go (Ok x) = Leads code p stack locals q (go x) locals
 Runs code p stack locals q go (Err f) = Faults code p stack locals q f
 
@@ -181,25 +186,29 @@ module _ (scope : Scope) (code : List Instruction) (plain : IsPlain scope) (l : 
       let h = has_back code p (expression_size e) front (i ∷ []) (length-expression_code scope e p) has in
       bind_runs code p s l pe _ (λ x. x ∷ s) (λ x. x ∷ s) (value scope vs e) (element_value scope vs m) (omega arith)
       (expression_runs e p s (has_front code p front (i ∷ []) has))
-      (λ x. element_runs m pe _ s x (place_in (array_places scope m) x) (omega arith) refl (one_step code pe (x ∷ s) l i h.0))
+      (λ x. element_runs m pe _ s x (place_in (array_places scope m) x) (omega arith) refl
+      (one_step code pe (x ∷ s) l i h.0))
   expression_runs (unary op e) p s has =
       let pe = p + expression_size e in
       let front = expression_code scope e p in
       let h = has_back code p (expression_size e) front (Unary op ∷ []) (length-expression_code scope e p) has in
       bind_runs code p s l pe _ (λ x. x ∷ s) (λ x. x ∷ s) (value scope vs e) (unary_value op) (omega arith)
       (expression_runs e p s (has_front code p front (Unary op ∷ []) has))
-      (λ x. gives_runs code pe _ (x ∷ s) s l (unary_value op x) (omega arith) (one_step code pe (x ∷ s) l (Unary op) h.0))
+      (λ x. gives_runs code pe _ (x ∷ s) s l (unary_value op x) (omega arith)
+      (one_step code pe (x ∷ s) l (Unary op) h.0))
   expression_runs (binary op a b) p s has =
       let pa = p + expression_size a in
       let pb = pa + expression_size b in
       let first = expression_code scope a p in
       let second = expression_code scope b pa in
-      let hb = has_back code p (expression_size a) first (second ++ Binary op ∷ []) (length-expression_code scope a p) has in
+      let hb = has_back code p (expression_size a) first (second ++ Binary op ∷ [])
+      (length-expression_code scope a p) has in
       let h = has_back code pa (expression_size b) second (Binary op ∷ []) (length-expression_code scope b pa) hb in
       bind_runs code p s l pa _ (λ x. x ∷ s) (λ x. x ∷ s) (value scope vs a)
       (λ x. and_then (value scope vs b) (binary_value op x)) (omega arith)
       (expression_runs a p s (has_front code p first (second ++ Binary op ∷ []) has))
-      (λ x. bind_runs code pa (x ∷ s) l pb _ (λ y. y ∷ x ∷ s) (λ y. y ∷ s) (value scope vs b) (binary_value op x) (omega arith)
+      (λ x. bind_runs code pa (x ∷ s) l pb _ (λ y. y ∷ x ∷ s) (λ y. y ∷ s) (value scope vs b) (binary_value op x)
+      (omega arith)
       (expression_runs b pa (x ∷ s) (has_front code pa second (Binary op ∷ []) hb))
       (λ y. gives_runs code pb _ (y ∷ x ∷ s) s l (binary_value op x y) (omega arith)
       (one_step code pb (y ∷ x ∷ s) l (Binary op) h.0)))
@@ -214,15 +223,18 @@ module _ (scope : Scope) (code : List Instruction) (plain : IsPlain scope) (l : 
       let h = has_back code p (expression_size a) first rest (length-expression_code scope a p) has in
       let ht = has_back code (pa + 1) (expression_size b) second tail (length-expression_code scope b (pa + 1)) h.1 in
       let push = at_place code (pb + 1 + 1) (pb + 2) (Push (pos 0)) (omega arith) ht.1.1.0 in
-      bind_runs code p s l pa _ (λ x. x ∷ s) (λ x. x ∷ s) (value scope vs a) (λ x. both_value x (value scope vs b)) (omega arith)
+      bind_runs code p s l pa _ (λ x. x ∷ s) (λ x. x ∷ s) (value scope vs a) (λ x. both_value x (value scope vs b))
+      (omega arith)
       (expression_runs a p s (has_front code p first rest has))
-      (λ x. branch_runs code pa (pb + 2) _ x s l (λ x. x ∷ s) (Ok (pos 0)) (and_then (value scope vs b) (λ y. Ok (truth_of y)))
+      (λ x. branch_runs code pa (pb + 2) _ x s l (λ x. x ∷ s) (Ok (pos 0))
+      (and_then (value scope vs b) (λ y. Ok (truth_of y)))
       (is_zero x) (omega arith)
       (one_step code pa (x ∷ s) l (JumpIfZero (pb + 2)) h.0)
       (let e : pb + 2 + 1 ≡ last = omega arith in
       goes code (pb + 2) _ s (pos 0 ∷ s) l l (omega arith)
       (λ k. one_step code (pb + 2) s l (Push (pos 0)) push k ∙ ap (λ n. exec code k n (pos 0 ∷ s) l) e))
-      (bind_runs code (pa + 1) s l pb _ (λ y. y ∷ s) (λ y. y ∷ s) (value scope vs b) (λ y. Ok (truth_of y)) (omega arith)
+      (bind_runs code (pa + 1) s l pb _ (λ y. y ∷ s) (λ y. y ∷ s) (value scope vs b) (λ y. Ok (truth_of y))
+      (omega arith)
       (expression_runs b (pa + 1) s (has_front code (pa + 1) second tail h.1))
       (λ y. leads_on code pb (y ∷ s) l (pb + 1) (truth_of y ∷ s) l _ (truth_of y ∷ s) l
       (goes code pb (pb + 1) (y ∷ s) (truth_of y ∷ s) l l (omega arith) (one_step code pb (y ∷ s) l Truth ht.0))
@@ -238,20 +250,25 @@ module _ (scope : Scope) (code : List Instruction) (plain : IsPlain scope) (l : 
       let h = has_back code p (expression_size a) first rest (length-expression_code scope a p) has in
       let e3 : pa + 1 + 1 + 1 ≡ pa + 3 = omega arith in
       let ht = subst (λ n. HasAt code n tail) e3 h.1.1.1 in
-      let hu = has_back code (pa + 3) (expression_size b) second (Truth ∷ []) (length-expression_code scope b (pa + 3)) ht in
-      bind_runs code p s l pa _ (λ x. x ∷ s) (λ x. x ∷ s) (value scope vs a) (λ x. either_value x (value scope vs b)) (omega arith)
+      let hu = has_back code (pa + 3) (expression_size b) second (Truth ∷ [])
+      (length-expression_code scope b (pa + 3)) ht in
+      bind_runs code p s l pa _ (λ x. x ∷ s) (λ x. x ∷ s) (value scope vs a) (λ x. either_value x (value scope vs b))
+      (omega arith)
       (expression_runs a p s (has_front code p first rest has))
-      (λ x. branch_runs code pa (pa + 3) _ x s l (λ x. x ∷ s) (and_then (value scope vs b) (λ y. Ok (truth_of y))) (Ok (pos 1))
+      (λ x. branch_runs code pa (pa + 3) _ x s l (λ x. x ∷ s) (and_then (value scope vs b) (λ y. Ok (truth_of y)))
+      (Ok (pos 1))
       (is_zero x) (omega arith)
       (one_step code pa (x ∷ s) l (JumpIfZero (pa + 3)) h.0)
-      (bind_runs code (pa + 3) s l pb _ (λ y. y ∷ s) (λ y. y ∷ s) (value scope vs b) (λ y. Ok (truth_of y)) (omega arith)
+      (bind_runs code (pa + 3) s l pb _ (λ y. y ∷ s) (λ y. y ∷ s) (value scope vs b) (λ y. Ok (truth_of y))
+      (omega arith)
       (expression_runs b (pa + 3) s (has_front code (pa + 3) second (Truth ∷ []) ht))
       (λ y.
       let e : pb + 1 ≡ last = omega arith in
       goes code pb _ (y ∷ s) (truth_of y ∷ s) l l (omega arith)
       (λ k. one_step code pb (y ∷ s) l Truth hu.0 k ∙ ap (λ n. exec code k n (truth_of y ∷ s) l) e)))
       (leads_on code (pa + 1) s l (pa + 1 + 1) (pos 1 ∷ s) l _ (pos 1 ∷ s) l
-      (goes code (pa + 1) (pa + 1 + 1) s (pos 1 ∷ s) l l (omega arith) (one_step code (pa + 1) s l (Push (pos 1)) h.1.0))
+      (goes code (pa + 1) (pa + 1 + 1) s (pos 1 ∷ s) l l (omega arith) (one_step code (pa + 1) s l
+      (Push (pos 1)) h.1.0))
       (jumps_to code (pa + 1 + 1) (pb + 1) _ (pos 1 ∷ s) l (omega arith) h.1.1.0 (omega arith))))
 
   -- the code of the arguments of a call pushes their values

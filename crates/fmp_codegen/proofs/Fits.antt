@@ -1,31 +1,40 @@
 -- The code of a tree keeps to its depth table.
-use Rattle.std.proofs.Common.{◌≡◌, ℕ, ◌+◌, ◌-◌, ◌<◌, ◌≤◌, Bool, true, false, ◌&&◌, nat_eq, nat_le, nat_lt, List, [], ◌∷◌, ◌++◌, length, Option, Some, None, refl, sym, ap, ◌∙◌, subst, ⊎_elim, arith, pos}
+use Rattle.std.proofs.Common.{◌≡◌, ℕ, ◌+◌, ◌-◌, ◌<◌, ◌≤◌, Bool, true, false, ◌&&◌, nat_eq, nat_le, nat_lt, List, []}
+use Rattle.std.proofs.Common.{◌∷◌, ◌++◌, length, Option, Some, None, refl, sym, ap, ◌∙◌, subst, ⊎_elim, arith, pos}
 use Rattle.std.specs.Prelude.{slice_get, is_some, option_map}
 use Rattle.std.proofs.lemmas.Bool.{cases_lt}
 use Rattle.std.proofs.lemmas.Bool.Decides.{nat_tests}
 use Rattle.fmp_base.specs.Services.{arity, out_place}
 use Rattle.fmp_base.specs.Systems.{found}
 use Rattle.fmp_tasklang.specs.declared.trees.Word.{Word}
-use Rattle.fmp_tasklang.specs.Trees.{ExpressionTree, number, named, element, unary, binary, both, either, CallTree, StatementTree, assign, assign_element, service_call, if_then, if_else, while, break, continue, return, Block, empty, next}
+use Rattle.fmp_tasklang.specs.Trees.{ExpressionTree, number, named, element, unary, binary, both, either, CallTree}
+use Rattle.fmp_tasklang.specs.Trees.{StatementTree, assign, assign_element, service_call, if_then, if_else, while}
+use Rattle.fmp_tasklang.specs.Trees.{break, continue, return, Block, empty, next}
 use Rattle.fmp_tasklang.specs.Layout.{total_places, first_place, places_at}
 use Rattle.fmp_tasklang.specs.Scopes.{Scope, NameMeaning, Variable, Array, Object, Unknown, meaning_of}
 use Rattle.fmp_tasklang.specs.Stretches.{variable_number}
 use Rattle.fmp_tasklang.specs.Values.{array_number, array_places}
 use Rattle.fmp_instructions.specs.declared.instructions.Instruction.{Instruction}
-use Rattle.fmp_instructions.specs.declared.instructions.Instruction.TheVariants.{Push, Load, Store, Unary, Truth, Binary, Jump, JumpIfZero, End}
+use Rattle.fmp_instructions.specs.declared.instructions.Instruction.TheVariants.{Push, Load, Store, Unary, Truth}
+use Rattle.fmp_instructions.specs.declared.instructions.Instruction.TheVariants.{Binary, Jump, JumpIfZero, End}
 use Rattle.fmp_instructions.specs.Verify.{array_fits, depth_is, entry_is, local_fits, is_same, places_fit, wants, fits}
 use Rattle.fmp_tasklang.specs.CallForms.{CallFits, StatementFits, BlockFits}
 use Rattle.fmp_scopes.specs.Depths.{expression_depth, arguments_depth, statement_depth, block_depth}
 use Rattle.fmp_scopes.specs.DepthTables.{expression_depths, arguments_depths, statement_depths, block_depths}
-use Rattle.fmp_scopes.specs.Naming.{Writes, ReadsElement, WritesElement, use_offence, uses_offence, expression_uses, arguments_uses, word_uses, call_uses, statement_uses, block_uses}
-use Rattle.fmp_scopes.specs.Scheme.{array_base, name_code, load_element, store_element, word_place, expression_code, arguments_code, target_place, call_instruction, statement_code, block_code}
+use Rattle.fmp_scopes.specs.Naming.{Writes, ReadsElement, WritesElement, use_offence, uses_offence, expression_uses}
+use Rattle.fmp_scopes.specs.Naming.{arguments_uses, word_uses, call_uses, statement_uses, block_uses}
+use Rattle.fmp_scopes.specs.Scheme.{array_base, name_code, load_element, store_element, word_place, expression_code}
+use Rattle.fmp_scopes.specs.Scheme.{arguments_code, target_place, call_instruction, statement_code, block_code}
 use Rattle.fmp_scopes.specs.Sizes.{expression_size, arguments_size, statement_size, block_size}
 use Rattle.fmp_codegen.specs.Tie.{HasAt}
-use Rattle.fmp_codegen.proofs.DepthLengths.{HasDepths, depths_front, depths_back, length-expression_depths, length-arguments_depths, length-statement_depths, length-block_depths}
+use Rattle.fmp_codegen.proofs.DepthLengths.{HasDepths, depths_front, depths_back, length-expression_depths}
+use Rattle.fmp_codegen.proofs.DepthLengths.{length-arguments_depths, length-statement_depths, length-block_depths}
 use Rattle.fmp_codegen.proofs.Standing.{has_front, has_back}
-use Rattle.fmp_emission.proofs.Lengths.{length-expression_code, length-arguments_code, length-statement_code, length-block_code}
+use Rattle.fmp_emission.proofs.Lengths.{length-expression_code, length-arguments_code, length-statement_code}
+use Rattle.fmp_emission.proofs.Lengths.{length-block_code}
 use Rattle.fmp_scopes.proofs.LeastDepths.{one-le-expression_depth, arguments-le-depth}
-use Rattle.fmp_scopes.proofs.KnownNames.{none-first, none-second, uses_front, uses_back, target_is, target_means, read_array, written_array, call-named, arguments-named}
+use Rattle.fmp_scopes.proofs.KnownNames.{none-first, none-second, uses_front, uses_back, target_is, target_means}
+use Rattle.fmp_scopes.proofs.KnownNames.{read_array, written_array, call-named, arguments-named}
 use Rattle.fmp_codegen.proofs.Places.{IsLaidOut, below-all}
 
 pub both_true : (a b : Bool) → a ≡ true → b ≡ true → (a && b) ≡ true
@@ -60,13 +69,15 @@ module _ (scope : Scope) (code : List Instruction) (table : List ℕ) (laid : Is
   fit_join a b c f g q i d le lt hi hd = ⊎_elim (λ h. f q i d le h hi hd) (λ h. g q i d h lt hi hd) (cases_lt q b)
 
   pub fit_at :
-      (p q : ℕ) (i : Instruction) (d : ℕ) → p + 1 ≡ q → slice_get code p ≡ Some i → slice_get table p ≡ Some d → d ≤ 64 →
+      (p q : ℕ) (i : Instruction) (d : ℕ) → p + 1 ≡ q → slice_get code p ≡ Some i → slice_get table p ≡ Some d
+      → d ≤ 64 →
       wants locals table p d i ≡ true → AllFit p q
   fit_at p q i d e hi hd le w r j x a b hj hx =
       let same : r ≡ p = omega arith in
       let i' : j ≡ i = let s = ap (λ n. slice_get code n) same in cc in
       let d' : x ≡ d = let s = ap (λ n. slice_get table n) same in cc in
-      ap (λ n. fits locals table n x j) same ∙ ap (λ n. fits locals table p n j) d' ∙ ap (λ n. fits locals table p d n) i'
+      ap (λ n. fits locals table n x j) same ∙ ap (λ n. fits locals table p n j) d'
+      ∙ ap (λ n. fits locals table p d n) i'
       ∙ both_true (nat_le d 64) (wants locals table p d i) (le_true d 64 le) w
 
   pub entry_at : (q d d' : ℕ) → slice_get table q ≡ Some d → d ≡ d' → d ≤ 64 → entry_is table q d' ≡ true
@@ -98,7 +109,8 @@ module _ (scope : Scope) (code : List Instruction) (table : List ℕ) (laid : Is
   named_fits (Variable v) p d one le hi hd end =
       let place = first_place scope.locals v in
       fit_at p (p + 1) (Load place) d refl hi hd (omega arith)
-      (both_true (nat_lt place locals) (entry_is table (p + 1) (d + 1)) (lt_true place locals (variable_below v (one v refl)))
+      (both_true (nat_lt place locals) (entry_is table (p + 1) (d + 1))
+      (lt_true place locals (variable_below v (one v refl)))
       (entry_at (p + 1) (d + 1) (d + 1) end refl le))
   named_fits (Array v) p d one le hi hd end =
       fit_at p (p + 1) (Push (pos 0)) d refl hi hd (omega arith) (entry_at (p + 1) (d + 1) (d + 1) end refl le)
@@ -116,8 +128,10 @@ module _ (scope : Scope) (code : List Instruction) (table : List ℕ) (laid : Is
       let a = laid.arrays w.name v (sym is ∙ array) in
       let there : array_places scope m ≡ places_at scope.locals v = ap (array_places scope) array in
       let within = below-all scope.locals v in
-      both_true (nat_le 1 (array_base scope m) && nat_le 1 (array_places scope m)) (nat_le (array_base scope m + array_places scope m) locals)
-      (both_true (nat_le 1 (array_base scope m)) (nat_le 1 (array_places scope m)) (le_true 1 (array_base scope m) a.behind)
+      both_true (nat_le 1 (array_base scope m) && nat_le 1 (array_places scope m))
+      (nat_le (array_base scope m + array_places scope m) locals)
+      (both_true (nat_le 1 (array_base scope m)) (nat_le 1 (array_places scope m))
+      (le_true 1 (array_base scope m) a.behind)
       (le_true 1 (array_places scope m) (omega (arith, a.some, there))))
       (le_true (array_base scope m + array_places scope m) locals (omega (arith, within, there)))
 
@@ -151,7 +165,8 @@ module _ (scope : Scope) (code : List Instruction) (table : List ℕ) (laid : Is
       inner le refl ht.0)
       (fit_at pe q i (d + 1) after hi.0 ht.0 (omega arith)
       (both_true (array && nat_le 1 (d + 1)) (entry_is table (pe + 1) (d + 1))
-      (both_true array (nat_le 1 (d + 1)) (array_fits_there w m refl (read_array scope w here)) (le_true 1 (d + 1) (omega arith)))
+      (both_true array (nat_le 1 (d + 1)) (array_fits_there w m refl (read_array scope w here))
+      (le_true 1 (d + 1) (omega arith)))
       (entry_at (pe + 1) (d + 1) (d + 1) (entry_moved (pe + 1) q (d + 1) after end) refl (omega arith))))
   expression_fits (unary op e) p q d has hd known le eq end =
       let pe = p + expression_size e in
@@ -162,7 +177,8 @@ module _ (scope : Scope) (code : List Instruction) (table : List ℕ) (laid : Is
       let some = one-le-expression_depth e in
       let after : pe + 1 ≡ q = omega arith in
       fit_join p pe q
-      (expression_fits e p pe d (has_front code p front (Unary op ∷ []) has) (depths_front table p entries ((d + 1) ∷ []) hd)
+      (expression_fits e p pe d (has_front code p front (Unary op ∷ []) has)
+      (depths_front table p entries ((d + 1) ∷ []) hd)
       known le refl ht.0)
       (fit_at pe q (Unary op) (d + 1) after hi.0 ht.0 (omega arith)
       (both_true (nat_le 1 (d + 1)) (entry_is table (pe + 1) (d + 1)) (le_true 1 (d + 1) (omega arith))
@@ -181,7 +197,8 @@ module _ (scope : Scope) (code : List Instruction) (table : List ℕ) (laid : Is
       let ha = has_back code p (expression_size a) first tail (length-expression_code scope a p) has in
       let hb = has_back code pa (expression_size b) second (Binary op ∷ []) (length-expression_code scope b pa) ha in
       let ta = depths_back table p (expression_size a) entries rest (length-expression_depths a d) hd in
-      let tb = depths_back table pa (expression_size b) entries_b ((d + 2) ∷ []) (length-expression_depths b (d + 1)) ta in
+      let tb = depths_back table pa (expression_size b) entries_b ((d + 2) ∷ [])
+      (length-expression_depths b (d + 1)) ta in
       let fb = depths_front table pa entries_b ((d + 2) ∷ []) ta in
       let some = one-le-expression_depth b in
       let after : pb + 1 ≡ q = omega arith in
@@ -221,7 +238,8 @@ module _ (scope : Scope) (code : List Instruction) (table : List ℕ) (laid : Is
       let end3 = entry_moved (pb + 2 + 1) q (d + 1) e3 end in
       let end4 = entry_moved (pb + 1 + 1 + 1) q (d + 1) e4 end in
       fit_join p pa q
-      (expression_fits a p pa d (has_front code p first rest has) (depths_front table p entries drest hd) known_a (omega arith) refl
+      (expression_fits a p pa d (has_front code p first rest has) (depths_front table p entries drest hd) known_a
+      (omega arith) refl
       t.0)
       (fit_join pa (pa + 1) q
       (fit_at pa (pa + 1) (JumpIfZero (pb + 2)) (d + 1) refl h.0 t.0 (omega arith)
@@ -258,14 +276,17 @@ module _ (scope : Scope) (code : List Instruction) (table : List ℕ) (laid : Is
       let e3 : pa + 1 + 1 + 1 ≡ pa + 3 = omega arith in
       let hb = subst (λ m. HasAt code m tail) e3 h.1.1.1 in
       let tb = subst (λ m. HasDepths table m dtail) e3 t.1.1.1 in
-      let hu = has_back code (pa + 3) (expression_size b) second (Truth ∷ []) (length-expression_code scope b (pa + 3)) hb in
-      let tu = depths_back table (pa + 3) (expression_size b) entries_b ((d + 1) ∷ []) (length-expression_depths b d) tb in
+      let hu = has_back code (pa + 3) (expression_size b) second (Truth ∷ [])
+      (length-expression_code scope b (pa + 3)) hb in
+      let tu = depths_back table (pa + 3) (expression_size b) entries_b ((d + 1) ∷ [])
+      (length-expression_depths b d) tb in
       let fb = depths_front table (pa + 3) entries_b ((d + 1) ∷ []) tb in
       let some = one-le-expression_depth a in
       let e4 : pb + 1 ≡ q = omega arith in
       let end4 = entry_moved (pb + 1) q (d + 1) e4 end in
       fit_join p pa q
-      (expression_fits a p pa d (has_front code p first rest has) (depths_front table p entries drest hd) known_a (omega arith) refl
+      (expression_fits a p pa d (has_front code p first rest has) (depths_front table p entries drest hd) known_a
+      (omega arith) refl
       t.0)
       (fit_join pa (pa + 1) q
       (fit_at pa (pa + 1) (JumpIfZero (pa + 3)) (d + 1) refl h.0 t.0 (omega arith)
@@ -280,7 +301,8 @@ module _ (scope : Scope) (code : List Instruction) (table : List ℕ) (laid : Is
       (fit_at (pa + 1 + 1) (pa + 3) (Jump (pb + 1)) (d + 1) e3 h.1.1.0 t.1.1.0 (omega arith)
       (entry_at (pb + 1) (d + 1) (d + 1) end4 refl (omega arith)))
       (fit_join (pa + 3) pb q
-      (expression_fits b (pa + 3) pb d (has_front code (pa + 3) second (Truth ∷ []) hb) fb known_b (omega arith) refl tu.0)
+      (expression_fits b (pa + 3) pb d (has_front code (pa + 3) second (Truth ∷ []) hb) fb known_b
+      (omega arith) refl tu.0)
       (fit_at pb q Truth (d + 1) e4 hu.0 tu.0 (omega arith)
       (both_true (nat_le 1 (d + 1)) (entry_is table (pb + 1) (d + 1)) (le_true 1 (d + 1) (omega arith))
       (entry_at (pb + 1) (d + 1) (d + 1) end4 refl (omega arith))))))))
@@ -312,7 +334,8 @@ module _ (scope : Scope) (code : List Instruction) (table : List ℕ) (laid : Is
       let h = has_back code p (expression_size e) first others (length-expression_code scope e p) has in
       let t = depths_back table p (expression_size e) entries rest (length-expression_depths e d) hd in
       fit_join p pe q
-      (expression_fits e p pe d (has_front code p first others has) (depths_front table p entries rest hd) known_e (omega arith) refl
+      (expression_fits e p pe d (has_front code p first others has) (depths_front table p entries rest hd) known_e
+      (omega arith) refl
       (arguments_first es (d + 1) m pe q t (omega arith) (omega arith) end))
       (arguments_fit es pe q (d + 1) m h t known_es (omega arith) (omega arith) (omega arith) end)
 
@@ -323,7 +346,8 @@ module _ (scope : Scope) (code : List Instruction) (table : List ℕ) (laid : Is
       let n = arguments_size c.arguments in
       let entries = arguments_depths c.arguments 0 in
       let t = depths_back table p n entries (length c.arguments ∷ []) (length-arguments_depths c.arguments 0) h in
-      arguments_first c.arguments 0 (length c.arguments) p (p + n) (depths_front table p entries _ h) refl (omega arith) t.0
+      arguments_first c.arguments 0 (length c.arguments) p (p + n) (depths_front table p entries _ h) refl
+      (omega arith) t.0
   statement_first (if_then e s) p h = expression_first e 0 p (depths_front table p (expression_depths e 0) _ h)
   statement_first (if_else e s r) p h = expression_first e 0 p (depths_front table p (expression_depths e 0) _ h)
   statement_first (while e s) p h = expression_first e 0 p (depths_front table p (expression_depths e 0) _ h)
@@ -339,7 +363,8 @@ module _ (scope : Scope) (code : List Instruction) (table : List ℕ) (laid : Is
 
   -- the test of a choice
   test_fits :
-      (pe q : ℕ) → slice_get code pe ≡ Some (JumpIfZero q) → Entry pe 1 → Entry q 0 → Entry (pe + 1) 0 → AllFit pe (pe + 1)
+      (pe q : ℕ) → slice_get code pe ≡ Some (JumpIfZero q) → Entry pe 1 → Entry q 0 → Entry (pe + 1) 0
+      → AllFit pe (pe + 1)
   test_fits pe q h t a b =
       fit_at pe (pe + 1) (JumpIfZero q) 1 refl h t (omega arith)
       (both_true (nat_le 1 1 && entry_is table q (1 - 1)) (entry_is table (pe + 1) (1 - 1))
@@ -357,7 +382,8 @@ module _ (scope : Scope) (code : List Instruction) (table : List ℕ) (laid : Is
       ap (option_map (first_place scope.locals)) (target_is scope w writes) in (
         ap is_some place,
         ap (local_fits locals) place ∙
-            lt_true (target_place scope w) locals (variable_below v (laid.plain w.name v (target_means scope w writes))),
+            lt_true (target_place scope w) locals (variable_below v (laid.plain w.name v
+            (target_means scope w writes))),
       )
 
   call_fits :
@@ -409,7 +435,8 @@ module _ (scope : Scope) (code : List Instruction) (table : List ℕ) (laid : Is
         let entries_e = expression_depths e 1 in
         let hb = has_back code p (expression_size i) first (second ++ st ∷ []) (length-expression_code scope i p) has in
         let h = has_back code pi (expression_size e) second (st ∷ []) (length-expression_code scope e pi) hb in
-        let tb = depths_back table p (expression_size i) entries (entries_e ++ 2 ∷ []) (length-expression_depths i 0) hd in
+        let tb = depths_back table p (expression_size i) entries (entries_e ++ 2 ∷ [])
+        (length-expression_depths i 0) hd in
         let t = depths_back table pi (expression_size e) entries_e (2 ∷ []) (length-expression_depths e 1) tb in
         let fe = depths_front table pi entries_e (2 ∷ []) tb in
         let uses = expression_uses i ++ expression_uses e in
@@ -419,7 +446,8 @@ module _ (scope : Scope) (code : List Instruction) (table : List ℕ) (laid : Is
         let array = array_fits locals (array_base scope m) (array_places scope m) in
         fit_join p pi q
         (expression_fits i p pi 0 (has_front code p first (second ++ st ∷ []) has)
-        (depths_front table p entries (entries_e ++ 2 ∷ []) hd) (uses_front scope (expression_uses i) (expression_uses e) inner)
+        (depths_front table p entries (entries_e ++ 2 ∷ []) hd) (uses_front scope (expression_uses i)
+        (expression_uses e) inner)
         (omega arith) refl (expression_first e 1 pi fe))
         (fit_join pi pe q
         (expression_fits e pi pe 1 (has_front code pi second (st ∷ []) hb) fe
@@ -456,11 +484,13 @@ module _ (scope : Scope) (code : List Instruction) (table : List ℕ) (laid : Is
         let tail = JumpIfZero over ∷ block_code scope s (pe + 1) again exit in
         let entries = expression_depths e 0 in
         let h = has_back code p (expression_size e) front tail (length-expression_code scope e p) has in
-        let t = depths_back table p (expression_size e) entries (1 ∷ block_depths s) (length-expression_depths e 0) hd in
+        let t = depths_back table p (expression_size e) entries (1 ∷ block_depths s)
+        (length-expression_depths e 0) hd in
         let known_s = uses_back scope (expression_uses e) (block_uses s) known in
         let e1 : over ≡ q = omega arith in
         fit_join p pe q
-        (expression_fits e p pe 0 (has_front code p front tail has) (depths_front table p entries (1 ∷ block_depths s) hd)
+        (expression_fits e p pe 0 (has_front code p front tail has) (depths_front table p entries
+        (1 ∷ block_depths s) hd)
         (uses_front scope (expression_uses e) (block_uses s) known) (omega arith) refl t.0)
         (fit_join pe (pe + 1) q
         (test_fits pe over h.0 t.0 (entry_moved over q 0 e1 end) (block_first s (pe + 1) q t.1 e1 end))
@@ -478,7 +508,8 @@ module _ (scope : Scope) (code : List Instruction) (table : List ℕ) (laid : Is
         let dtail = 1 ∷ (block_depths s ++ dother) in
         let h = has_back code p (expression_size e) front tail (length-expression_code scope e p) has in
         let t = depths_back table p (expression_size e) entries dtail (length-expression_depths e 0) hd in
-        let hj = has_back code (pe + 1) (block_size s) first other (length-block_code scope s (pe + 1) again exit) h.1 in
+        let hj = has_back code (pe + 1) (block_size s) first other (length-block_code scope s (pe + 1) again exit) h.1
+        in
         let tj = depths_back table (pe + 1) (block_size s) (block_depths s) dother (length-block_depths s) t.1 in
         let ts = depths_front table (pe + 1) (block_depths s) dother t.1 in
         let names = uses_back scope (expression_uses e) (block_uses s ++ block_uses r) known in
@@ -491,7 +522,8 @@ module _ (scope : Scope) (code : List Instruction) (table : List ℕ) (laid : Is
         (fit_join pe (pe + 1) q
         (test_fits pe (ps + 1) h.0 t.0 (block_first r (ps + 1) q tj.1 e1 end) (block_first s (pe + 1) ps ts refl tj.0))
         (fit_join (pe + 1) ps q
-        (block_fits s (pe + 1) ps again exit (has_front code (pe + 1) first other h.1) ts known_s fit.0 (omega arith) refl
+        (block_fits s (pe + 1) ps again exit (has_front code (pe + 1) first other h.1) ts known_s fit.0
+        (omega arith) refl
         tj.0 ea ex)
         (fit_join ps (ps + 1) q
         (fit_at ps (ps + 1) (Jump over) 0 refl hj.0 tj.0 (omega arith)
@@ -507,7 +539,8 @@ module _ (scope : Scope) (code : List Instruction) (table : List ℕ) (laid : Is
         let dtail = 1 ∷ (block_depths s ++ 0 ∷ []) in
         let h = has_back code p (expression_size e) front tail (length-expression_code scope e p) has in
         let t = depths_back table p (expression_size e) entries dtail (length-expression_depths e 0) hd in
-        let hj = has_back code (pe + 1) (block_size s) inner (Jump p ∷ []) (length-block_code scope s (pe + 1) p (ps + 1)) h.1 in
+        let hj = has_back code (pe + 1) (block_size s) inner (Jump p ∷ [])
+        (length-block_code scope s (pe + 1) p (ps + 1)) h.1 in
         let tj = depths_back table (pe + 1) (block_size s) (block_depths s) (0 ∷ []) (length-block_depths s) t.1 in
         let ts = depths_front table (pe + 1) (block_depths s) (0 ∷ []) t.1 in
         let known_s = uses_back scope (expression_uses e) (block_uses s) known in
@@ -521,7 +554,8 @@ module _ (scope : Scope) (code : List Instruction) (table : List ℕ) (laid : Is
         (fit_join pe (pe + 1) q
         (test_fits pe (ps + 1) h.0 t.0 last (block_first s (pe + 1) ps ts refl tj.0))
         (fit_join (pe + 1) ps q
-        (block_fits s (pe + 1) ps p (ps + 1) (has_front code (pe + 1) inner (Jump p ∷ []) h.1) ts known_s fit (omega arith)
+        (block_fits s (pe + 1) ps p (ps + 1) (has_front code (pe + 1) inner (Jump p ∷ []) h.1) ts known_s fit
+        (omega arith)
         refl tj.0 first last)
         (fit_at ps q (Jump p) 0 e1 hj.0 tj.0 (omega arith) (entry_at p 0 0 first refl (omega arith)))))
     statement_fits break p q again exit has hd known fit le eq end ea ex =
@@ -533,7 +567,8 @@ module _ (scope : Scope) (code : List Instruction) (table : List ℕ) (laid : Is
 
     pub block_fits :
         (s : Block) (p q again exit : ℕ) → HasAt code p (block_code scope s p again exit) →
-        HasDepths table p (block_depths s) → uses_offence scope (block_uses s) ≡ None → BlockFits s → block_depth s ≤ 64 →
+        HasDepths table p (block_depths s) → uses_offence scope (block_uses s) ≡ None → BlockFits s
+        → block_depth s ≤ 64 →
         p + block_size s ≡ q → Entry q 0 → Entry again 0 → Entry exit 0 → AllFit p q
     block_fits empty p q again exit has hd known fit le eq end ea ex = λ r i d a b hi hx. absurd (omega arith)
     block_fits (next s rest) p q again exit has hd known fit le eq end ea ex =
@@ -541,11 +576,13 @@ module _ (scope : Scope) (code : List Instruction) (table : List ℕ) (laid : Is
         let front = statement_code scope s p again exit in
         let back = block_code scope rest p1 again exit in
         let h = has_back code p (statement_size s) front back (length-statement_code scope s p again exit) has in
-        let t = depths_back table p (statement_size s) (statement_depths s) (block_depths rest) (length-statement_depths s) hd in
+        let t = depths_back table p (statement_size s) (statement_depths s) (block_depths rest)
+        (length-statement_depths s) hd in
         fit_join p p1 q
         (statement_fits s p p1 again exit (has_front code p front back has)
         (depths_front table p (statement_depths s) (block_depths rest) hd)
         (uses_front scope (statement_uses s) (block_uses rest) known) fit.0 (omega arith) refl
         (block_first rest p1 q t (omega arith) end) ea ex)
-        (block_fits rest p1 q again exit h t (uses_back scope (statement_uses s) (block_uses rest) known) fit.1 (omega arith)
+        (block_fits rest p1 q again exit h t (uses_back scope (statement_uses s) (block_uses rest) known) fit.1
+        (omega arith)
         (omega arith) end ea ex)

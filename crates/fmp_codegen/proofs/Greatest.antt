@@ -1,8 +1,11 @@
 -- The greatest entry of a depth table is the depth of its tree.
 use Rattle.std.proofs.Common.{◌≡◌, ℕ, ◌+◌, max, List, [], ◌∷◌, ◌++◌, length, refl, arith}
-use Rattle.fmp_tasklang.specs.Trees.{ExpressionTree, number, named, element, unary, binary, both, either, StatementTree, assign, assign_element, service_call, if_then, if_else, while, break, continue, return, Block, empty, next, BodyTree}
+use Rattle.fmp_tasklang.specs.Trees.{ExpressionTree, number, named, element, unary, binary, both, either, StatementTree}
+use Rattle.fmp_tasklang.specs.Trees.{assign, assign_element, service_call, if_then, if_else, while, break, continue}
+use Rattle.fmp_tasklang.specs.Trees.{return, Block, empty, next, BodyTree}
 use Rattle.fmp_scopes.specs.Depths.{expression_depth, arguments_depth, statement_depth, block_depth, body_depth}
-use Rattle.fmp_scopes.specs.DepthTables.{expression_depths, arguments_depths, statement_depths, block_depths, body_depths}
+use Rattle.fmp_scopes.specs.DepthTables.{expression_depths, arguments_depths, statement_depths, block_depths}
+use Rattle.fmp_scopes.specs.DepthTables.{body_depths}
 use Rattle.fmp_codegen.specs.Laws.{greatest}
 use Rattle.fmp_scopes.proofs.LeastDepths.{one-le-expression_depth}
 
@@ -11,7 +14,8 @@ greatest-append [] b = omega arith
 greatest-append (d ∷ a) b = omega (arith, greatest-append a b)
 
 -- an expression at d leaves d + 1
-greatest-expression : (e : ExpressionTree) (d : ℕ) → max (greatest (expression_depths e d)) (d + 1) ≡ d + expression_depth e
+greatest-expression : (e : ExpressionTree) (d : ℕ) → max (greatest (expression_depths e d)) (d + 1) ≡ d
+    + expression_depth e
 greatest-expression (number k) d = omega arith
 greatest-expression (named w) d = omega arith
 greatest-expression (element w e) d =
@@ -30,7 +34,13 @@ greatest-arguments :
     max (greatest (arguments_depths es d)) (d + length es) ≡ d + arguments_depth es
 greatest-arguments [] d = omega arith
 greatest-arguments (e ∷ es) d =
-    simp greatest-append (omega (arith, greatest-expression e d, greatest-arguments es (d + 1), one-le-expression_depth e))
+    simp greatest-append (omega (
+      arith,
+      greatest-expression e d,
+      greatest-arguments es
+          (d + 1),
+      one-le-expression_depth e,
+    ))
 
 mutual
   greatest-statement : (s : StatementTree) → greatest (statement_depths s) ≡ statement_depth s

@@ -1,5 +1,6 @@
 -- Bodies and variables are judged one after another.
-use Rattle.std.proofs.Common.{◌≡◌, ℕ, ◌+◌, ◌<◌, ◌≤◌, List, [], ◌∷◌, ◌++◌, Option, Some, None, Err, length, take, drop, get_or, map, refl, sym, ap, ◌∙◌, subst, append_assoc}
+use Rattle.std.proofs.Common.{◌≡◌, ℕ, ◌+◌, ◌<◌, ◌≤◌, List, [], ◌∷◌, ◌++◌, Option, Some, None, Err, length, take, drop}
+use Rattle.std.proofs.Common.{get_or, map, refl, sym, ap, ◌∙◌, subst, append_assoc}
 use Rattle.std.proofs.lemmas.List.{take_more}
 use Rattle.fmp_base.specs.declared.names.Name.{Name}
 use Rattle.fmp_base.specs.Systems.{SystemTables}
@@ -32,7 +33,8 @@ take-step f xs i x h e =
     ap (map f) (take_more xs i x h) ∙ map-append f (take i xs) (get_or xs i x ∷ [])
     ∙ ap (λ y. map f (take i xs) ++ f y ∷ []) (sym e)
 
-module _ (tables : SystemTables) (bodies : List Body) (i : ℕ) (b : Body) (within : i < length bodies) (is : b ≡ get_or bodies i b)
+module _ (tables : SystemTables) (bodies : List Body) (i : ℕ) (b : Body) (within : i < length bodies)
+    (is : b ≡ get_or bodies i b)
     (whole : Option Offence) where
   abbrev names_before : ℕ → List Name
   names_before n = map (λ (x : Body). x.name.name) (take n bodies)
@@ -44,7 +46,8 @@ module _ (tables : SystemTables) (bodies : List Body) (i : ℕ) (b : Body) (with
       judged i ≡ first_offence (body_offence tables (names_before i) (body_view b)) (judged (i + 1))
   unrolled =
       ap (bodies_offence tables (names_before i)) (map-step body_view bodies i b within is)
-      ∙ ap (λ ns. first_offence (body_offence tables (names_before i) (body_view b)) (bodies_offence tables ns (map body_view (drop (i + 1) bodies))))
+      ∙ ap (λ ns. first_offence (body_offence tables (names_before i) (body_view b))
+      (bodies_offence tables ns (map body_view (drop (i + 1) bodies))))
       (sym (take-step (λ (x : Body). x.name.name) bodies i b within is))
 
   -- a body without a fault
@@ -53,14 +56,17 @@ module _ (tables : SystemTables) (bodies : List Body) (i : ℕ) (b : Body) (with
       ap (λ o. first_offence o (judged (i + 1))) h ∙ sym unrolled ∙ before
 
   -- the first body with a fault
-  pub judged-here : (o : Offence) → Some o ≡ body_offence tables (names_before i) (body_view b) → judged i ≡ whole → whole ≡ Some o
+  pub judged-here : (o : Offence) → Some o ≡ body_offence tables (names_before i) (body_view b) → judged i ≡ whole
+      → whole ≡ Some o
   judged-here o h before = sym before ∙ unrolled ∙ ap (λ x. first_offence x (judged (i + 1))) (sym h)
 
 -- one more body is compiled
 pub compiled-on :
     (tables : SystemTables) (bodies : List Body) (i : ℕ) (b : Body) → i < length bodies → b ≡ get_or bodies i b →
-    (code grown : List BodyTables) (c : BodyTables) (whole : List BodyTables) → grown ≡ code ++ c ∷ [] → c ≡ compiled_body tables (body_view b) →
-    code ++ compiled tables (map body_view (drop i bodies)) ≡ whole → grown ++ compiled tables (map body_view (drop (i + 1) bodies)) ≡ whole
+    (code grown : List BodyTables) (c : BodyTables) (whole : List BodyTables) → grown ≡ code ++ c ∷ [] → c
+    ≡ compiled_body tables (body_view b) →
+    code ++ compiled tables (map body_view (drop i bodies)) ≡ whole → grown
+    ++ compiled tables (map body_view (drop (i + 1) bodies)) ≡ whole
 compiled-on tables bodies i b within is code grown c whole grows made before =
     let rest = compiled tables (map body_view (drop (i + 1) bodies)) in
     let joined : (code ++ c ∷ []) ++ rest ≡ code ++ c ∷ rest = append_assoc code (c ∷ []) rest in
@@ -96,7 +102,8 @@ pub all-accepted :
     bodies_offence tables [] (map body_view bodies) →
     IsAccepted tables (map body_view bodies)
 all-accepted tables bodies i last h =
-    sym h ∙ ap (λ bs. bodies_offence tables (map (λ (b : Body). b.name.name) (take i bodies)) (map body_view bs)) (drop-all bodies i last)
+    sym h ∙ ap (λ bs. bodies_offence tables (map (λ (b : Body). b.name.name) (take i bodies)) (map body_view bs))
+    (drop-all bodies i last)
 
 pub all-compiled :
     (tables : SystemTables) (bodies : List Body) (i : ℕ) → length bodies ≤ i → (code : List BodyTables) →

@@ -1,5 +1,6 @@
 -- An accepted text has few bodies, and none of them needs many operands.
-use Rattle.std.proofs.Common.{◌≡◌, ◌+◌, ◌<◌, ◌≤◌, nat_le, List, [], ◌∷◌, ◌++◌, Some, None, length, map, arith, length-append}
+use Rattle.std.proofs.Common.{◌≡◌, ◌+◌, ◌<◌, ◌≤◌, nat_le, List, [], ◌∷◌, ◌++◌, Some, None, length, map, arith}
+use Rattle.std.proofs.Common.{length-append}
 use Rattle.std.specs.Prelude.{if◌then◌else◌}
 use Rattle.std.specs.List.{AllByRecursion}
 use Rattle.std.proofs.lemmas.Bool.{leb-false}
@@ -13,7 +14,8 @@ use Rattle.fmp_tasklang.specs.Layout.{exinf_local}
 use Rattle.fmp_tasklang.specs.Scopes.{scope_of}
 use Rattle.fmp_tasklang.specs.Views.{body_view}
 use Rattle.fmp_scopes.specs.declared.offences.Offence.{Offence}
-use Rattle.fmp_codegen.specs.Compiling.{is_among, variables_offence, size_offence, body_offence, bodies_offence, IsAccepted}
+use Rattle.fmp_codegen.specs.Compiling.{is_among, variables_offence, size_offence, body_offence, bodies_offence}
+use Rattle.fmp_codegen.specs.Compiling.{IsAccepted}
 use Rattle.fmp_scopes.specs.Depths.{body_depth}
 use Rattle.fmp_scopes.specs.Naming.{first_offence, uses_offence, block_uses}
 use Rattle.fmp_codegen.proofs.Bodies.{not-taken, body-accepted}
@@ -21,12 +23,14 @@ use Rattle.fmp_scopes.proofs.KnownNames.{none-first, none-second}
 use Rattle.fmp_codegen.proofs.VerifiedBodies.{is_small}
 
 -- a body without a fault is no 256th
-not-last : (tables : SystemTables) (names : List Name) (body : BodyTree) → body_offence tables names body ≡ None → length names < 255
+not-last : (tables : SystemTables) (names : List Name) (body : BodyTree) → body_offence tables names body ≡ None
+    → length names < 255
 not-last tables names body h =
     let limit : Offence = record { at = body.at; why = fault.Limit } in
     let twice : Offence = record { at = body.name.at; why = fault.TwiceNamed } in
     let uses = uses_offence (scope_of tables body) (block_uses body.statements) in
-    let after = first_offence (variables_offence tables (exinf_local ∷ []) body.variables) (first_offence uses (size_offence body)) in
+    let after = first_offence (variables_offence tables (exinf_local ∷ []) body.variables)
+    (first_offence uses (size_offence body)) in
     let rest = if is_among body.name.name names then Some twice else after in
     leb-false 255 (length names) (not-taken (nat_le 255 (length names)) limit rest h)
 
@@ -39,16 +43,23 @@ few-after tables names (b ∷ bs) h le =
     let rest = bodies_offence tables (names ++ b.name.name ∷ []) bs in
     let below = not-last tables names b (none-first first rest h) in
     let one = length-append names (b.name.name ∷ []) in
-    omega (arith, one, few-after tables (names ++ b.name.name ∷ []) bs (none-second first rest h) (omega (arith, one, below)))
+    omega (
+      arith,
+      one,
+      few-after tables (names ++ b.name.name ∷ []) bs (none-second first rest h)
+          (omega (arith, one, below)),
+    )
 
 pub few-bodies : (tables : SystemTables) (bodies : List BodyTree) → IsAccepted tables bodies → length bodies ≤ 255
 few-bodies tables bodies h = omega (arith, few-after tables [] bodies h (omega arith))
 
-pub few-viewed : (tables : SystemTables) (bodies : List Body) → IsAccepted tables (map body_view bodies) → length bodies ≤ 255
+pub few-viewed : (tables : SystemTables) (bodies : List Body) → IsAccepted tables (map body_view bodies)
+    → length bodies ≤ 255
 few-viewed tables bodies h = omega (arith, few-bodies tables (map body_view bodies) h, length-map bodies body_view)
 
 low-after :
-    (tables : SystemTables) (names : List Name) (bodies : List Body) → bodies_offence tables names (map body_view bodies) ≡ None →
+    (tables : SystemTables) (names : List Name) (bodies : List Body)
+    → bodies_offence tables names (map body_view bodies) ≡ None →
     AllByRecursion (λ (b : Body). body_depth (body_view b) ≤ 64) bodies
 low-after tables names [] h = tt
 low-after tables names (b ∷ bs) h =

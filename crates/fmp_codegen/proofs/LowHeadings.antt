@@ -27,6 +27,7 @@ low-after tables names (b ∷ bs) h =
 
 -- no body of an accepted text needs many operands
 pub low-headed :
-    (tables : SystemTables) (bodies : List BodyTree) (headings : List Heading) → IsAccepted tables bodies → AreHeadings headings bodies →
+    (tables : SystemTables) (bodies : List BodyTree) (headings : List Heading) → IsAccepted tables bodies
+    → AreHeadings headings bodies →
     AllByRecursion (λ (h : Heading). h.depth ≤ 64) headings
 low-headed tables bodies headings h are = rw are (low-after tables [] bodies h)

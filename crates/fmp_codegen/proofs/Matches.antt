@@ -1,5 +1,6 @@
 -- The machine comes to the same end as the text.
-use Rattle.std.proofs.Common.{◌≡◌, ℕ, zero, suc, ◌+◌, ◌<◌, ◌≤◌, true, false, List, [], ◌∷◌, length, Some, None, refl, sym, ap, ◌∙◌, subst, arith, ℤ}
+use Rattle.std.proofs.Common.{◌≡◌, ℕ, zero, suc, ◌+◌, ◌<◌, ◌≤◌, true, false, List, [], ◌∷◌, length, Some, None, refl}
+use Rattle.std.proofs.Common.{sym, ap, ◌∙◌, subst, arith, ℤ}
 use Rattle.std.specs.Prelude.{slice_get}
 use Rattle.std.proofs.lemmas.Option.{slice_get_within}
 use Rattle.fmp_base.specs.declared.bodies.Fault.{Fault}
@@ -76,7 +77,8 @@ module _ (scope : Scope) (code : List Instruction) where
   here p P h = record { jumps = 0; place = p; path = refl; holds = h }
 
   pub jump_first :
-      (p a b : ℕ) (P : ℕ → Type 0) → slice_get code p ≡ Some (Jump a) → p < a → a ≡ b → Reaches code b P → Reaches code p P
+      (p a b : ℕ) (P : ℕ → Type 0) → slice_get code p ≡ Some (Jump a) → p < a → a ≡ b → Reaches code b P
+      → Reaches code p P
   jump_first p a b P h lt e r =
       record {
         jumps = suc r.jumps;
@@ -109,7 +111,8 @@ module _ (scope : Scope) (code : List Instruction) where
         has_front code p front back has,
         block_stands b rest (p + statement_size s) again exit (uses_back scope (statement_uses s) (block_uses b) named)
             (has_back code p (statement_size s) front back (length-statement_code scope s p again exit) has)
-            (moved (p + (statement_size s + block_size b)) (p + statement_size s + block_size b) (Then rest again exit) (omega arith) r),
+            (moved (p + (statement_size s + block_size b)) (p + statement_size s + block_size b)
+            (Then rest again exit) (omega arith) r),
       )
 
   pub below_exit : (todo : List Item) (p again exit : ℕ) → Stands scope code todo p again exit → p ≤ exit
@@ -184,7 +187,12 @@ module _ (scope : Scope) (code : List Instruction) where
   pub match_turn :
       (t p q : ℕ) (l : List ℤ) (o : Ending TextContext) → slice_get code p ≡ Some (Jump q) → Match t q l o →
       Match (suc t) p l o
-  match_turn t p q l (ends.Over k) h m = (1 + m.0, omega (arith, m.1), ap is_over (one_step code p [] l (Jump q) h m.0) ∙ m.2)
+  match_turn t p q l (ends.Over k) h m = (
+    1 + m.0,
+    omega (arith, m.1),
+    ap is_over
+        (one_step code p [] l (Jump q) h m.0) ∙ m.2,
+  )
   match_turn t p q l (ends.Call c r) h m = comes_turn t p q l (ends.Call c r) h m
   match_turn t p q l (ends.End c) h m = comes_turn t p q l (ends.End c) h m
   match_turn t p q l (ends.Fault c f) h m = comes_turn t p q l (ends.Fault c f) h m

@@ -1,5 +1,6 @@
 -- A name that is a variable has one place among the locals of its body, and the places of an array stand together.
-use Rattle.std.proofs.Common.{◌≡◌, ℕ, zero, suc, ◌+◌, ◌<◌, ◌≤◌, Bool, true, false, List, [], ◌∷◌, length, map, Option, Some, None, refl, ap, subst, arith}
+use Rattle.std.proofs.Common.{◌≡◌, ℕ, zero, suc, ◌+◌, ◌<◌, ◌≤◌, Bool, true, false, List, [], ◌∷◌, length, map, Option}
+use Rattle.std.proofs.Common.{Some, None, refl, ap, subst, arith}
 use Rattle.std.specs.Prelude.{slice_get, is_some, if◌then◌else◌}
 use Rattle.std.specs.Str.{bytes_eq}
 use Rattle.std.proofs.lemmas.List.{length-map}
@@ -10,7 +11,8 @@ use Rattle.fmp_base.specs.Systems.{SystemTables}
 use Rattle.fmp_tasklang.specs.declared.trees.Declaration.{Declaration}
 use Rattle.fmp_tasklang.specs.declared.trees.Length.{Length}
 use Rattle.fmp_tasklang.specs.Layout.{Local, local_of, places_of, exinf_name, total_places, first_place, places_at}
-use Rattle.fmp_tasklang.specs.Scopes.{Scope, NameMeaning, Variable, Array, Object, Unknown, place_of, object_number, number_or, is_array_or_none, local_or, meaning_of, scope_of}
+use Rattle.fmp_tasklang.specs.Scopes.{Scope, NameMeaning, Variable, Array, Object, Unknown, place_of, object_number}
+use Rattle.fmp_tasklang.specs.Scopes.{number_or, is_array_or_none, local_or, meaning_of, scope_of}
 use Rattle.fmp_tasklang.specs.Trees.{BodyTree}
 use Rattle.fmp_scopes.specs.Scopes.{locals_with}
 

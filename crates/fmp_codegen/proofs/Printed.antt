@@ -28,10 +28,12 @@ abbrev pub Ended : SystemTables → List BodyTree → ℕ → MachineContext →
 Ended sys bodies body = SameLocals (scope_of sys (body_at bodies body))
 
 trace_text-same : {C D : Type 0} (sys : SystemTables) (first first' : List Line) (r : Trace C) (s : Trace D)
-    → first ≡ first' → r.events ≡ s.events → r.world.state ≡ s.world.state → trace_text sys first r ≡ trace_text sys first' s
+    → first ≡ first' → r.events ≡ s.events → r.world.state ≡ s.world.state → trace_text sys first r
+    ≡ trace_text sys first' s
 trace_text-same sys first first' r s p q e =
     ap (λ (ls : List Line). lines_text sys 0 ls ++ (events_text sys 1 r.events ++ states_text sys r.world.state)) p
-    ∙ ap (λ (lss : List (List Line)). lines_text sys 0 first' ++ (events_text sys 1 lss ++ states_text sys r.world.state)) q
+    ∙ ap (λ (lss : List (List Line)). lines_text sys 0 first'
+    ++ (events_text sys 1 lss ++ states_text sys r.world.state)) q
     ∙ ap (λ (w : KernelState). lines_text sys 0 first' ++ (events_text sys 1 s.events ++ states_text sys w)) e
 
 -- code and text print the same lines at setup

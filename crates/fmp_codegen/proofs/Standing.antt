@@ -1,5 +1,6 @@
 -- Code that stands at a place of other code: its parts stand there too.
-use Rattle.std.proofs.Common.{◌≡◌, ℕ, ◌+◌, ◌<◌, List, [], ◌∷◌, ◌++◌, length, Some, refl, ap, ◌∙◌, subst, arith, append_assoc, length-append}
+use Rattle.std.proofs.Common.{◌≡◌, ℕ, ◌+◌, ◌<◌, List, [], ◌∷◌, ◌++◌, length, Some, refl, ap, ◌∙◌, subst, arith}
+use Rattle.std.proofs.Common.{append_assoc, length-append}
 use Rattle.std.proofs.Math.Seq.{get_or-append_seam}
 use Rattle.std.proofs.lemmas.Option.{slice_get-get_or}
 use Rattle.fmp_instructions.specs.declared.instructions.Instruction.{Instruction}
@@ -22,7 +23,8 @@ pub has_all : (is before : List Instruction) → HasAt (before ++ is) (length be
 has_all [] before = tt
 has_all (i ∷ is) before =
     let within : length before < length (before ++ i ∷ is) = omega (arith, length-append before (i ∷ is)) in
-    let here = slice_get-get_or (before ++ i ∷ is) (length before) i within ∙ ap Some (get_or-append_seam before i is i) in
+    let here = slice_get-get_or (before ++ i ∷ is) (length before) i within
+    ∙ ap Some (get_or-append_seam before i is i) in
     let n : length (before ++ i ∷ []) ≡ length before + 1 = omega (arith, length-append before (i ∷ [])) in
     let rest = has_all is (before ++ i ∷ []) in
     let rest' = subst (λ l. HasAt l (length (before ++ i ∷ [])) is) (append_assoc before (i ∷ []) is) rest in

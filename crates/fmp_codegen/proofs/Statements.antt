@@ -1,5 +1,6 @@
 -- The machine follows the text, one thing to do after another.
-use Rattle.std.proofs.Common.{◌≡◌, ℕ, zero, suc, ◌+◌, ◌<◌, ◌≤◌, Bool, true, false, cond, List, [], ◌∷◌, ◌++◌, length, Some, Result, Ok, Err, refl, sym, ap, ◌∙◌, subst, arith, ℤ}
+use Rattle.std.proofs.Common.{◌≡◌, ℕ, zero, suc, ◌+◌, ◌<◌, ◌≤◌, Bool, true, false, cond, List, [], ◌∷◌, ◌++◌, length}
+use Rattle.std.proofs.Common.{Some, Result, Ok, Err, refl, sym, ap, ◌∙◌, subst, arith, ℤ}
 use Rattle.std.specs.Prelude.{slice_get, slice_set, if◌then◌else◌}
 use Rattle.std.proofs.lemmas.Option.{slice_get_within}
 use Rattle.fmp_base.specs.declared.bodies.Fault.{Fault}
@@ -8,25 +9,32 @@ use Rattle.fmp_base.specs.Services.{request}
 use Rattle.fmp_base.specs.Systems.{found}
 use Rattle.fmp_base.specs.Stretches as ends
 use Rattle.fmp_base.specs.Ties.{call, end_}
-use Rattle.fmp_tasklang.specs.Trees.{ExpressionTree, StatementTree, assign, assign_element, service_call, if_then, if_else, while, break, continue, return, Block, empty, next}
+use Rattle.fmp_tasklang.specs.Trees.{ExpressionTree, StatementTree, assign, assign_element, service_call, if_then}
+use Rattle.fmp_tasklang.specs.Trees.{if_else, while, break, continue, return, Block, empty, next}
 use Rattle.fmp_tasklang.specs.Scopes.{Scope, NameMeaning, meaning_of}
 use Rattle.fmp_tasklang.specs.Values.{Values, set_at, array_number, array_places, value, values}
 use Rattle.fmp_tasklang.specs.Contexts.{Item, Do, Mark, going, calling, written, received, items_before}
-use Rattle.fmp_tasklang.specs.Stretches.{Way, Next, Goes, Stops, variable_number, word_number, receivers_of, with_value, after_mark, from_mark, after_statement, after_item, statement_weight, block_weight, weight, follow, out_of_turns, walk, turns}
+use Rattle.fmp_tasklang.specs.Stretches.{Way, Next, Goes, Stops, variable_number, word_number, receivers_of, with_value}
+use Rattle.fmp_tasklang.specs.Stretches.{after_mark, from_mark, after_statement, after_item, statement_weight}
+use Rattle.fmp_tasklang.specs.Stretches.{block_weight, weight, follow, out_of_turns, walk, turns}
 use Rattle.fmp_instructions.specs.declared.instructions.Instruction.{Instruction}
 use Rattle.fmp_instructions.specs.declared.instructions.Instruction.TheVariants.{Store, Jump, JumpIfZero, End}
 use Rattle.fmp_instructions.specs.Machine.{at, on_place, unstacked, exec, call_before, replied}
 use Rattle.fmp_scopes.specs.Naming.{uses_offence, expression_uses, block_uses, use_offence, Writes}
-use Rattle.fmp_scopes.specs.Scheme.{array_base, store_element, expression_code, arguments_code, target_place, call_instruction, block_code}
+use Rattle.fmp_scopes.specs.Scheme.{array_base, store_element, expression_code, arguments_code, target_place}
+use Rattle.fmp_scopes.specs.Scheme.{call_instruction, block_code}
 use Rattle.fmp_scopes.specs.Sizes.{expression_size, arguments_size, statement_size, block_size}
 use Rattle.fmp_codegen.specs.Tie.{Stands, StandsSomehow, LocalsTied}
-use Rattle.fmp_codegen.proofs.Expressions.{Leads, Runs, stacked, one_step, leads_on, faults_on, runs_on, goes, jumps_to, expression_runs, arguments_run}
+use Rattle.fmp_codegen.proofs.Expressions.{Leads, Runs, stacked, one_step, leads_on, faults_on, runs_on, goes, jumps_to}
+use Rattle.fmp_codegen.proofs.Expressions.{expression_runs, arguments_run}
 use Rattle.fmp_codegen.proofs.Standing.{has_front, has_back}
 use Rattle.fmp_emission.proofs.Lengths.{length-expression_code, length-arguments_code, length-block_code}
 use Rattle.fmp_codegen.proofs.Places.{IsPlain}
 use Rattle.fmp_codegen.proofs.Tied.{tied-set, tied-store, place-within, array-within, reply-tied}
 use Rattle.fmp_scopes.proofs.KnownNames.{none-first, uses_front, uses_back, target_is, target_means}
-use Rattle.fmp_codegen.proofs.Matches.{Match, Stood, Then, below_exit, block_stands, fault_match, here, jump_first, match_on, match_turn, moved, path_leads, path_rises, room-least, stood, to_exit, to_mark}
+use Rattle.fmp_codegen.proofs.Matches.{Match, Stood, Then, below_exit, block_stands, fault_match, here, jump_first}
+use Rattle.fmp_codegen.proofs.Matches.{match_on, match_turn, moved, path_leads, path_rises, room-least, stood, to_exit}
+use Rattle.fmp_codegen.proofs.Matches.{to_mark}
 
 -- ---- the weight falls
 
@@ -146,7 +154,8 @@ module _ (scope : Scope) (code : List Instruction) (plain : IsPlain scope) where
         (λ x a. subst (λ o. Match scope code t p l (walk scope again fuel (written vs o x) rest)) (sym place)
         (match_on scope code t p (pe + 1) l (slice_set l v x) (walk scope again fuel (set_at vs n 0 x) rest)
         (leads_on code p [] l pe (x ∷ []) l (pe + 1) [] (slice_set l v x) a
-        (goes code pe (pe + 1) (x ∷ []) [] l (slice_set l v x) (omega arith) (one_step code pe (x ∷ []) l (Store v) st)))
+        (goes code pe (pe + 1) (x ∷ []) [] l (slice_set l v x) (omega arith)
+        (one_step code pe (x ∷ []) l (Store v) st)))
         (rec (slice_set l v x) (set_at vs n 0 x) rest (pe + 1) (tied-store scope l vs tied n x one) (omega arith)
         (stood scope code rest (pe + 1) back exit
         (moved scope code (p + (expression_size e + 1)) (pe + 1) (Then scope code rest back exit) (omega arith) h.2)))))
@@ -157,28 +166,34 @@ module _ (scope : Scope) (code : List Instruction) (plain : IsPlain scope) where
         let first = expression_code scope index p in
         let second = expression_code scope e pi in
         let i = store_element scope m in
-        let hb = has_back code p (expression_size index) first (second ++ i ∷ []) (length-expression_code scope index p) h.1 in
+        let hb = has_back code p (expression_size index) first (second ++ i ∷ [])
+        (length-expression_code scope index p) h.1 in
         let st = (has_back code pi (expression_size e) second (i ∷ []) (length-expression_code scope e pi) hb).0 in
         let in_code = slice_get_within code pe i st in
         let stands = stood scope code rest (pe + 1) back exit
-        (moved scope code (p + (expression_size index + expression_size e + 1)) (pe + 1) (Then scope code rest back exit) (omega arith) h.2) in
+        (moved scope code (p + (expression_size index + expression_size e + 1)) (pe + 1)
+        (Then scope code rest back exit) (omega arith) h.2) in
         with_value_follows p pi l vs rest (λ x. x ∷ []) (value scope vs index)
         (λ k. with_value (value scope vs e) vs rest
-        (λ x. with_value (place_in (array_places scope m) k) vs rest (λ place. Goes (set_at vs (array_number m) place x) rest)))
+        (λ x. with_value (place_in (array_places scope m) k) vs rest (λ place. Goes
+        (set_at vs (array_number m) place x) rest)))
         tied (omega arith)
         (expression_runs scope code plain l vs tied index p [] (has_front code p first (second ++ i ∷ []) h.1))
         (λ k a. with_value_follows p pe l vs rest (λ x. x ∷ k ∷ []) (value scope vs e)
-        (λ x. with_value (place_in (array_places scope m) k) vs rest (λ place. Goes (set_at vs (array_number m) place x) rest))
+        (λ x. with_value (place_in (array_places scope m) k) vs rest (λ place. Goes
+        (set_at vs (array_number m) place x) rest))
         tied (omega arith)
         (runs_on code p [] l pi (k ∷ []) pe (λ x. x ∷ k ∷ []) (value scope vs e) a
         (expression_runs scope code plain l vs tied e pi (k ∷ []) (has_front code pi second (i ∷ []) hb)))
-        (λ x b. store_follows m p pe (pe + 1) l vs rest k x (place_in (array_places scope m) k) tied refl (omega arith) refl b
+        (λ x b. store_follows m p pe (pe + 1) l vs rest k x (place_in (array_places scope m) k) tied refl
+        (omega arith) refl b
         (one_step code pe (x ∷ k ∷ []) l i st) (omega arith) stands))
     statement_follows (service_call c) rest p back exit l vs tied le h =
         let pe = p + arguments_size c.arguments in
         let i = call_instruction scope c in
         let front = arguments_code scope c.arguments p in
-        let st = (has_back code p (arguments_size c.arguments) front (i ∷ []) (length-arguments_code scope c.arguments p) h.1).0 in
+        let st = (has_back code p (arguments_size c.arguments) front (i ∷ [])
+        (length-arguments_code scope c.arguments p) h.1).0 in
         let in_code = slice_get_within code pe i st in
         let before : Some i ≡ slice_get code pe = sym st in
         let after : suc pe ≡ pe + 1 = omega arith in
@@ -190,17 +205,21 @@ module _ (scope : Scope) (code : List Instruction) (plain : IsPlain scope) where
           within = omega (arith, a.rises, room-least code t);
           outcome = ends.Call (at (pe + 1) l) (request c.service xs);
           by = a.by 1 ∙ one_step code pe (stacked xs []) l i st 0
-              ∙ ap (λ ys. ends.Call (at (pe + 1) l) (request c.service ys)) (unstacked-stacked xs [] [] ∙ append-nil xs);
+              ∙ ap (λ ys. ends.Call (at (pe + 1) l) (request c.service ys))
+              (unstacked-stacked xs [] [] ∙ append-nil xs);
           ended = refl;
           same = call (calling vs rest (receivers_of scope c)) (at (pe + 1) l) (request c.service xs)
               (record {
                 operands = refl;
                 locals = tied;
                 todo = stood scope code rest (pe + 1) back exit
-                    (moved scope code (p + (arguments_size c.arguments + 1)) (pe + 1) (Then scope code rest back exit) (omega arith) h.2);
+                    (moved scope code (p + (arguments_size c.arguments + 1)) (pe + 1) (Then scope code rest back exit)
+                    (omega arith) h.2);
                 reply = λ ls ws reply kept.
-                    subst (λ n. LocalsTied scope (replied (call_before code n) ls reply) (received ws (receivers_of scope c) reply)) after
-                    (subst (λ o. LocalsTied scope (replied o ls reply) (received ws (receivers_of scope c) reply)) before
+                    subst (λ n. LocalsTied scope (replied (call_before code n) ls reply)
+                    (received ws (receivers_of scope c) reply)) after
+                    (subst (λ o. LocalsTied scope (replied o ls reply) (received ws (receivers_of scope c) reply))
+                    before
                     (reply-tied scope plain ls ws c.service c.out c.result reply kept));
               });
         })
@@ -209,17 +228,21 @@ module _ (scope : Scope) (code : List Instruction) (plain : IsPlain scope) where
         let q = pe + 1 + block_size s in
         let front = expression_code scope e p in
         let tail = block_code scope s (pe + 1) back exit in
-        let hb = has_back code p (expression_size e) front (JumpIfZero q ∷ tail) (length-expression_code scope e p) h.1 in
+        let hb = has_back code p (expression_size e) front (JumpIfZero q ∷ tail)
+        (length-expression_code scope e p) h.1 in
         let in_code = slice_get_within code pe (JumpIfZero q) hb.0 in
         let named = uses_back scope (expression_uses e) (block_uses s) h.0 in
-        let r = moved scope code (p + (expression_size e + 1 + block_size s)) q (Then scope code rest back exit) (omega arith) h.2 in
+        let r = moved scope code (p + (expression_size e + 1 + block_size s)) q (Then scope code rest back exit)
+        (omega arith) h.2 in
         with_value_follows p pe l vs rest (λ x. x ∷ []) (value scope vs e)
         (λ x. Goes vs (if is_zero x then rest else items_before s rest)) tied (omega arith)
         (expression_runs scope code plain l vs tied e p [] (has_front code p front (JumpIfZero q ∷ tail) h.1))
         (λ x a. test_follows p pe q l vs x rest (items_before s rest) (is_zero x) tied a
-        (one_step code pe (x ∷ []) l (JumpIfZero q) hb.0) (omega arith) (omega arith) (omega (arith, weight-items_before s rest))
+        (one_step code pe (x ∷ []) l (JumpIfZero q) hb.0) (omega arith) (omega arith)
+        (omega (arith, weight-items_before s rest))
         (stood scope code rest q back exit r)
-        (stood scope code (items_before s rest) (pe + 1) back exit (block_stands scope code s rest (pe + 1) back exit named hb.1 r)))
+        (stood scope code (items_before s rest) (pe + 1) back exit (block_stands scope code s rest
+        (pe + 1) back exit named hb.1 r)))
     statement_follows (if_else e s r) rest p back exit l vs tied le h =
         let pe = p + expression_size e in
         let q = pe + 1 + block_size s + 1 in
@@ -227,36 +250,46 @@ module _ (scope : Scope) (code : List Instruction) (plain : IsPlain scope) where
         let front = expression_code scope e p in
         let first = block_code scope s (pe + 1) back exit in
         let other = Jump y ∷ block_code scope r q back exit in
-        let hb = has_back code p (expression_size e) front (JumpIfZero q ∷ (first ++ other)) (length-expression_code scope e p) h.1 in
+        let hb = has_back code p (expression_size e) front (JumpIfZero q ∷ (first ++ other))
+        (length-expression_code scope e p) h.1 in
         let hs = has_front code (pe + 1) first other hb.1 in
-        let hj = has_back code (pe + 1) (block_size s) first other (length-block_code scope s (pe + 1) back exit) hb.1 in
+        let hj = has_back code (pe + 1) (block_size s) first other (length-block_code scope s (pe + 1) back exit) hb.1
+        in
         let in_code = slice_get_within code pe (JumpIfZero q) hb.0 in
         let named = uses_back scope (expression_uses e) (block_uses s ++ block_uses r) h.0 in
         let named_s = uses_front scope (block_uses s) (block_uses r) named in
         let named_r = uses_back scope (block_uses s) (block_uses r) named in
-        let ry = moved scope code (p + (expression_size e + 1 + block_size s + 1 + block_size r)) y (Then scope code rest back exit) (omega arith) h.2 in
+        let ry = moved scope code (p + (expression_size e + 1 + block_size s + 1 + block_size r)) y
+        (Then scope code rest back exit) (omega arith) h.2 in
         with_value_follows p pe l vs rest (λ x. x ∷ []) (value scope vs e)
         (λ x. Goes vs (if is_zero x then items_before r rest else items_before s rest)) tied (omega arith)
-        (expression_runs scope code plain l vs tied e p [] (has_front code p front (JumpIfZero q ∷ (first ++ other)) h.1))
+        (expression_runs scope code plain l vs tied e p [] (has_front code p front
+        (JumpIfZero q ∷ (first ++ other)) h.1))
         (λ x a. test_follows p pe q l vs x (items_before r rest) (items_before s rest) (is_zero x) tied a
         (one_step code pe (x ∷ []) l (JumpIfZero q) hb.0) (omega arith)
         (omega (arith, weight-items_before r rest)) (omega (arith, weight-items_before s rest))
-        (stood scope code (items_before r rest) q back exit (block_stands scope code r rest q back exit named_r hj.1 ry))
-        (stood scope code (items_before s rest) (pe + 1) back exit (block_stands scope code s rest (pe + 1) back exit named_s hs
-        (jump_first scope code (pe + 1 + block_size s) y y (Then scope code rest back exit) hj.0 (omega arith) refl ry))))
+        (stood scope code (items_before r rest) q back exit (block_stands scope code r rest q back exit named_r hj.1
+        ry))
+        (stood scope code (items_before s rest) (pe + 1) back exit (block_stands scope code s rest
+        (pe + 1) back exit named_s hs
+        (jump_first scope code (pe + 1 + block_size s) y y (Then scope code rest back exit) hj.0
+        (omega arith) refl ry))))
     statement_follows (while e s) rest p back exit l vs tied le h =
         let pe = p + expression_size e in
         let q = pe + 1 + block_size s + 1 in
         let front = expression_code scope e p in
         let first = block_code scope s (pe + 1) p q in
         let tail = first ++ Jump p ∷ [] in
-        let hb = has_back code p (expression_size e) front (JumpIfZero q ∷ tail) (length-expression_code scope e p) h.1 in
+        let hb = has_back code p (expression_size e) front (JumpIfZero q ∷ tail)
+        (length-expression_code scope e p) h.1 in
         let hs = has_front code (pe + 1) first (Jump p ∷ []) hb.1 in
-        let hj = has_back code (pe + 1) (block_size s) first (Jump p ∷ []) (length-block_code scope s (pe + 1) p q) hb.1 in
+        let hj = has_back code (pe + 1) (block_size s) first (Jump p ∷ [])
+        (length-block_code scope s (pe + 1) p q) hb.1 in
         let in_code = slice_get_within code pe (JumpIfZero q) hb.0 in
         let named = uses_back scope (expression_uses e) (block_uses s) h.0 in
         let after : q ≡ p + (expression_size e + 1 + block_size s + 1) = omega arith in
-        let r = moved scope code (p + (expression_size e + 1 + block_size s + 1)) q (Then scope code rest back exit) (omega arith) h.2 in
+        let r = moved scope code (p + (expression_size e + 1 + block_size s + 1)) q (Then scope code rest back exit)
+        (omega arith) h.2 in
         with_value_follows p pe l vs rest (λ x. x ∷ []) (value scope vs e)
         (λ x. Goes vs (if is_zero x then rest else items_before s (Mark e s ∷ rest))) tied (omega arith)
         (expression_runs scope code plain l vs tied e p [] (has_front code p front (JumpIfZero q ∷ tail) h.1))
@@ -264,14 +297,17 @@ module _ (scope : Scope) (code : List Instruction) (plain : IsPlain scope) where
         (one_step code pe (x ∷ []) l (JumpIfZero q) hb.0) (omega arith) (omega arith)
         (omega (arith, weight-items_before s (Mark e s ∷ rest)))
         (stood scope code rest q back exit r)
-        (stood scope code (items_before s (Mark e s ∷ rest)) (pe + 1) p q (block_stands scope code s (Mark e s ∷ rest) (pe + 1) p q named hs
-        (here scope code (pe + 1 + block_size s) (Then scope code (Mark e s ∷ rest) p q) (hj.0, omega arith, after, h.0, back, exit, h.1, r)))))
+        (stood scope code (items_before s (Mark e s ∷ rest)) (pe + 1) p q
+        (block_stands scope code s (Mark e s ∷ rest) (pe + 1) p q named hs
+        (here scope code (pe + 1 + block_size s) (Then scope code (Mark e s ∷ rest) p q)
+        (hj.0, omega arith, after, h.0, back, exit, h.1, r)))))
     statement_follows break rest p back exit l vs tied le h =
         let b = path_rises scope code h.2.jumps (p + 1) h.2.place h.2.path in
         let c = below_exit scope code rest h.2.place back exit h.2.holds in
         match_on scope code t p exit l l (walk scope again fuel vs (after_mark rest))
         (jumps_to code p exit exit [] l (omega arith) h.1.0 refl)
-        (rec l vs (after_mark rest) exit tied (omega (arith, weight-after_mark rest)) (to_exit scope code rest h.2.place back exit h.2.holds))
+        (rec l vs (after_mark rest) exit tied (omega (arith, weight-after_mark rest))
+        (to_exit scope code rest h.2.place back exit h.2.holds))
     statement_follows continue rest p back exit l vs tied le h =
         let b = path_rises scope code h.2.jumps (p + 1) h.2.place h.2.path in
         rec l vs (from_mark rest) p tied (omega (arith, weight-from_mark rest))
@@ -281,7 +317,8 @@ module _ (scope : Scope) (code : List Instruction) (plain : IsPlain scope) where
         (here scope code p (StandsSomehow scope code []) (p, p, (h.1.0, h.1.0, h.1.0, omega arith, omega arith)))
 
     item_follows :
-        (todo : List Item) (p back exit : ℕ) (l : List ℤ) (vs : Values) → LocalsTied scope l vs → weight todo ≤ suc fuel →
+        (todo : List Item) (p back exit : ℕ) (l : List ℤ) (vs : Values) → LocalsTied scope l vs
+        → weight todo ≤ suc fuel →
         Stands scope code todo p back exit → Follows p l (after_item scope vs todo)
     item_follows [] p back exit l vs tied le h =
         let in_code = slice_get_within code p End h.0 in
@@ -316,7 +353,8 @@ module _ (scope : Scope) (code : List Instruction) (plain : IsPlain scope) where
       (t : ℕ) (l : List ℤ) (vs : Values) (todo : List Item) (p : ℕ) → LocalsTied scope l vs → Stood scope code p todo →
       Match scope code t p l (turns scope t vs todo)
   turns_follow zero l vs todo p tied h =
-      walk_follows 0 out_of_turns (λ e b rest p back exit l vs tied st. (0, omega arith, refl)) (weight todo) l vs todo p
+      walk_follows 0 out_of_turns (λ e b rest p back exit l vs tied st. (0, omega arith, refl))
+      (weight todo) l vs todo p
       tied (omega arith) h
   turns_follow (suc t) l vs todo p tied h =
       walk_follows (suc t) (turns scope t)

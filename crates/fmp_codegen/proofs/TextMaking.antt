@@ -1,5 +1,6 @@
 -- Bodies are made one after another.
-use Rattle.std.proofs.Common.{◌≡◌, ℕ, List, [], ◌∷◌, ◌++◌, Option, Some, None, Result, Ok, Err, inl, inr, ◌<◌, ◌≤◌, ◌↔◌, length, map, slice_get, true, false, refl, sym, ap, ◌∙◌, append_assoc, append-nil, arith}
+use Rattle.std.proofs.Common.{◌≡◌, ℕ, List, [], ◌∷◌, ◌++◌, Option, Some, None, Result, Ok, Err, inl, inr, ◌<◌, ◌≤◌, ◌↔◌}
+use Rattle.std.proofs.Common.{length, map, slice_get, true, false, refl, sym, ap, ◌∙◌, append_assoc, append-nil, arith}
 use Rattle.std.specs.Prelude.{IfOk, is_some}
 use Rattle.std.specs.List.{AllByRecursion}
 use Rattle.std.proofs.lemmas.Bool.{cases_lt}
@@ -65,16 +66,19 @@ last_offence tables before (x ∷ xs) b =
     let more = bodies_offence tables (before ++ one) xs in
     ap (first_offence first) (last_offence tables (before ++ one) xs b)
     ∙ first-assoc first more (body_offence tables ((before ++ one) ++ names xs) b)
-    ∙ ap (λ ns. first_offence (first_offence first more) (body_offence tables ns b)) (append_assoc before one (names xs))
+    ∙ ap (λ ns. first_offence (first_offence first more) (body_offence tables ns b))
+    (append_assoc before one (names xs))
 
 module _ (tables : SystemTables) (bodies : List BodyTree) (b : BodyTree) where
   abbrev one_more : List BodyTree
   one_more = bodies ++ b ∷ []
 
   -- behind a fault nothing changes
-  pub made-stays : (made : MadeBodies) (o : Offence) → made.offence ≡ Some o → AreMade tables made bodies → AreMade tables made one_more
+  pub made-stays : (made : MadeBodies) (o : Offence) → made.offence ≡ Some o → AreMade tables made bodies
+      → AreMade tables made one_more
   made-stays made o is h = record {
-    offence = is ∙ ap (λ x. first_offence x (body_offence tables (names bodies) b)) (sym is ∙ h.offence) ∙ sym (last_offence tables [] bodies b);
+    offence = is ∙ ap (λ x. first_offence x (body_offence tables (names bodies) b)) (sym is ∙ h.offence)
+        ∙ sym (last_offence tables [] bodies b);
     headings = λ none. let e : Some o ≡ None = sym is ∙ none in absurd (cc);
     code = λ none. let e : Some o ≡ None = sym is ∙ none in absurd (cc);
   }
@@ -104,8 +108,10 @@ module _ (tables : SystemTables) (bodies : List BodyTree) (b : BodyTree) where
         AreMade tables new one_more
     made-more is same headings code = record {
       offence = same ∙ fine ∙ sym is ∙ sym all_judged;
-      headings = λ none. headings ∙ ap (λ hs. hs ++ heading_of b ∷ []) (h.headings fine) ∙ sym (map-append heading_of bodies (b ∷ []));
-      code = λ none. code ∙ ap (λ cs. cs ++ compiled_body tables b ∷ []) (h.code fine) ∙ sym (map-append (compiled_body tables) bodies (b ∷ []));
+      headings = λ none. headings ∙ ap (λ hs. hs ++ heading_of b ∷ []) (h.headings fine)
+          ∙ sym (map-append heading_of bodies (b ∷ []));
+      code = λ none. code ∙ ap (λ cs. cs ++ compiled_body tables b ∷ []) (h.code fine)
+          ∙ sym (map-append (compiled_body tables) bodies (b ∷ []));
     }
 
 -- what the reader of a body answered, handed on
@@ -123,7 +129,8 @@ made-stopped tables ts Memory a = tt
 made-stopped tables ts (Fault f) a = whole_stopped Bodies EndsBodies ends_there ts f.at f.why a
 
 -- what is answered of the bodies that a text spells
-module _ (tables : SystemTables) (made : MadeBodies) (bodies : List BodyTree) (are : AreMade tables made bodies) (ts : List Token) where
+module _ (tables : SystemTables) (made : MadeBodies) (bodies : List BodyTree) (are : AreMade tables made bodies)
+    (ts : List Token) where
   pub text-compiled :
       (text : List ℕ) → Spells Bodies text ts bodies → (r : Result CompiledText BuildFault) → MadeText ts made r →
       IsTextCompiled tables text r
@@ -158,21 +165,36 @@ text-streamed tables text made c x headings code =
     let fine = x.4 in
     (x.0, x.1, x.2, sym are.offence ∙ fine, headings ∙ are.headings fine, code ∙ are.code fine)
 
-pub not_long : (text : List ℕ) (list : TokenList) → ((Ok list ≡ Err text_fault.TooLong) ↔ (text_max < length text)) → length text ≤ text_max
+pub not_long : (text : List ℕ) (list : TokenList) → ((Ok list ≡ Err text_fault.TooLong) ↔ (text_max < length text))
+    → length text ≤ text_max
 not_long text list h = elim (cases_lt text_max (length text)) [
   | inl lt ↦ let e = h.1 lt in absurd (cc)
   | inr le ↦ le
 ]
 
-text-fault : (tables : SystemTables) (text : List ℕ) (f : BuildFault) → IsSyntaxFault file.Source Bodies text f → IsTextCompiled tables text (Err f)
+text-fault : (tables : SystemTables) (text : List ℕ) (f : BuildFault) → IsSyntaxFault file.Source Bodies text f
+    → IsTextCompiled tables text (Err f)
 text-fault tables text build.Memory x = tt
 text-fault tables text (build.At f place why) x = inl x
 
-pub text-stopped : (tables : SystemTables) (text : List ℕ) (ts : List Token) (j : ℕ) (end : Place) (why : GrammarFault) (f : BuildFault) → length text ≤ text_max →
-    Cuts text 0 ts → IsFirstFault Bodies (kinds_of ts) j why → end ≡ text_end text → f ≡ fault_of file.Source end (slice_get ts j) why →
+pub text-stopped : (tables : SystemTables) (text : List ℕ) (ts : List Token) (j : ℕ) (end : Place)
+    (why : GrammarFault) (f : BuildFault) → length text ≤ text_max →
+    Cuts text 0 ts → IsFirstFault Bodies (kinds_of ts) j why → end ≡ text_end text → f
+    ≡ fault_of file.Source end (slice_get ts j) why →
     IsTextCompiled tables text (Err f)
 text-stopped tables text ts j end why f short cut first there is =
-    text-fault tables text f (inr (short, (ts, cut, j, why, first, is ∙ ap (λ p. fault_of file.Source p (slice_get ts j) why) there)))
+    text-fault tables text f (inr (
+      short,
+      (
+        ts,
+        cut,
+        j,
+        why,
+        first,
+        is
+            ∙ ap (λ p. fault_of file.Source p (slice_get ts j) why) there,
+      ),
+    ))
 
 pub some-there : (o : Option Offence) → is_some o ≡ true → (x : Offence) × (o ≡ Some x)
 some-there None h = absurd (cc)

@@ -1,8 +1,11 @@
 -- The values of the text's locals stand at their places among the code's locals.
-use Rattle.std.proofs.Common.{◌≡◌, ℕ, zero, suc, ◌+◌, ◌-◌, ◌<◌, ◌≤◌, Bool, true, false, List, [], ◌∷◌, ◌++◌, length, get_or, map, nat_lt, Option, Some, None, Ok, Err, refl, sym, ap, ◌∙◌, subst, arith, append_assoc, ℤ, pos, negsuc}
+use Rattle.std.proofs.Common.{◌≡◌, ℕ, zero, suc, ◌+◌, ◌-◌, ◌<◌, ◌≤◌, Bool, true, false, List, [], ◌∷◌, ◌++◌, length}
+use Rattle.std.proofs.Common.{get_or, map, nat_lt, Option, Some, None, Ok, Err, refl, sym, ap, ◌∙◌, subst, arith}
+use Rattle.std.proofs.Common.{append_assoc, ℤ, pos, negsuc}
 use Rattle.std.specs.Prelude.{slice_set, replicate, option_map, if◌then◌else◌}
 use Rattle.std.proofs.lemmas.Bool.{ltb-true}
-use Rattle.std.proofs.lemmas.List.{get_or_append_left, get_or-append-add, set-append_left, set-append_right, length-set, length-replicate, replicate-append-replicate}
+use Rattle.std.proofs.lemmas.List.{get_or_append_left, get_or-append-add, set-append_left, set-append_right, length-set}
+use Rattle.std.proofs.lemmas.List.{length-replicate, replicate-append-replicate}
 use Rattle.fmp_base.specs.declared.bodies.Fault.TheVariants as fault
 use Rattle.fmp_base.specs.declared.calls.Reply.{Reply}
 use Rattle.fmp_base.specs.declared.codes.Er.{Er}
@@ -104,7 +107,8 @@ module _ (scope : Scope) (l : List ℤ) (vs : Values) (h : LocalsTied scope l vs
       }
 
   -- a plain variable has one place
-  pub tied-variable : (v : ℕ) → places_at scope.locals v ≡ 1 → get_or l (first_place scope.locals v) (pos 0) ≡ value_at vs v 0
+  pub tied-variable : (v : ℕ) → places_at scope.locals v ≡ 1 → get_or l (first_place scope.locals v) (pos 0)
+      ≡ value_at vs v 0
   tied-variable v one =
       let first : first_place scope.locals v ≡ first_place scope.locals v + 0 = omega arith in
       ap (λ n. get_or l n (pos 0)) first ∙ tied-element v 0 (omega (arith, one))
@@ -126,7 +130,8 @@ pub place-within : (n : ℕ) (i : ℤ) (k : ℕ) → place_in n i ≡ Ok k → k
 place-within n (pos j) k e = below_test n j k (nat_lt j n) refl e
 place-within n (negsuc j) k e = absurd (cc e)
 
-pub array-within : (scope : Scope) (m : NameMeaning) (k : ℕ) → k < array_places scope m → k < places_at scope.locals (array_number m)
+pub array-within : (scope : Scope) (m : NameMeaning) (k : ℕ) → k < array_places scope m
+    → k < places_at scope.locals (array_number m)
 array-within scope (Variable v) k lt = absurd (omega (arith, lt))
 array-within scope (Array v) k lt = lt
 array-within scope (Object n) k lt = absurd (omega (arith, lt))
@@ -138,7 +143,8 @@ module _ (scope : Scope) (plain : IsPlain scope) where
   written_as :
       (l : List ℤ) (vs : Values) (m : NameMeaning) (x : ℤ) →
       ((v : ℕ) → m ≡ Variable v → places_at scope.locals v ≡ 1) → LocalsTied scope l vs →
-      LocalsTied scope (machine.written l (option_map (first_place scope.locals) (variable_number m)) x) (written vs (variable_number m) x)
+      LocalsTied scope (machine.written l (option_map (first_place scope.locals) (variable_number m)) x)
+      (written vs (variable_number m) x)
   written_as l vs (Variable v) x one h = tied-store scope l vs h v x (one v refl)
   written_as l vs (Array v) x one h = h
   written_as l vs (Object k) x one h = h
@@ -181,12 +187,14 @@ zeros_shape :
     counts (map (λ (d : Declaration). zeros (local_of d)) ds) ≡ widths (map local_of ds)
 zeros_shape [] = refl
 zeros_shape (d ∷ ds) =
-    ap (λ n. n ∷ counts (map (λ (e : Declaration). zeros (local_of e)) ds)) (length-replicate (local_of d).places (pos 0))
+    ap (λ n. n ∷ counts (map (λ (e : Declaration). zeros (local_of e)) ds))
+    (length-replicate (local_of d).places (pos 0))
     ∙ ap (λ ns. (local_of d).places ∷ ns) (zeros_shape ds)
 
 -- the code has 64 locals, of which all but the first are 0
 pub first-tied :
-    (tables : SystemTables) (body : BodyTree) (exinf : ℤ) (most : ℕ) → total_places (map local_of body.variables) ≤ most →
+    (tables : SystemTables) (body : BodyTree) (exinf : ℤ) (most : ℕ)
+    → total_places (map local_of body.variables) ≤ most →
     LocalsTied (scope_of tables body) (exinf ∷ replicate most (pos 0)) (first_values body exinf)
 first-tied tables body exinf most le =
     let n = total_places (map local_of body.variables) in

@@ -1,5 +1,6 @@
 -- Declared variables are judged one after another.
-use Rattle.std.proofs.Common.{◌≡◌, ℕ, ◌+◌, ◌<◌, ◌≤◌, Bool, true, false, ◌||◌, nat_lt, cond, List, ◌∷◌, Option, Some, None, length, take, drop, get_or, map, refl, sym, ap, ◌∙◌, arith}
+use Rattle.std.proofs.Common.{◌≡◌, ℕ, ◌+◌, ◌<◌, ◌≤◌, Bool, true, false, ◌||◌, nat_lt, cond, List, ◌∷◌, Option, Some}
+use Rattle.std.proofs.Common.{None, length, take, drop, get_or, map, refl, sym, ap, ◌∙◌, arith}
 use Rattle.std.specs.Prelude.{is_some, if◌then◌else◌}
 use Rattle.std.specs.Str.{bytes_eq}
 use Rattle.std.proofs.lemmas.Bool.Decides.{nat_tests}
@@ -77,17 +78,22 @@ module _ (tables : SystemTables) (vars : List Declaration) (i : ℕ) (d : Declar
   many-true h = grind (arith, nat_tests)
 
   -- the names before
-  among : is_among d.name.name (map (λ (l : Local). l.name) (locals_before i)) ≡ (bytes_eq (name_text d.name.name) (name_text exinf_name) || is_among d.name.name (map (λ (v : Declaration). v.name.name) (take i vars)))
+  among : is_among d.name.name (map (λ (l : Local). l.name) (locals_before i))
+      ≡ (bytes_eq (name_text d.name.name) (name_text exinf_name)
+      || is_among d.name.name (map (λ (v : Declaration). v.name.name) (take i vars)))
   among =
       among-cons d.name.name exinf_name (map (λ (l : Local). l.name) (map local_of (take i vars)))
-      ∙ ap (λ ns. bytes_eq (name_text d.name.name) (name_text exinf_name) || is_among d.name.name ns) (names-declared (take i vars))
+      ∙ ap (λ ns. bytes_eq (name_text d.name.name) (name_text exinf_name) || is_among d.name.name ns)
+      (names-declared (take i vars))
 
   named : (a b c : Bool) → bytes_eq (name_text d.name.name) (name_text exinf_name) ≡ a →
-      is_among d.name.name (map (λ (v : Declaration). v.name.name) (take i vars)) ≡ b → is_object tables d.name.name ≡ c →
+      is_among d.name.name (map (λ (v : Declaration). v.name.name) (take i vars)) ≡ b → is_object tables d.name.name
+      ≡ c →
       twice ≡ ((a || b) || c)
   named a b c p q r =
       ap (λ t. t || is_object tables d.name.name) among
-      ∙ ap (λ t. (t || is_among d.name.name (map (λ (v : Declaration). v.name.name) (take i vars))) || is_object tables d.name.name) p
+      ∙ ap (λ t. (t || is_among d.name.name (map (λ (v : Declaration). v.name.name) (take i vars)))
+      || is_object tables d.name.name) p
       ∙ ap (λ t. (a || t) || is_object tables d.name.name) q
       ∙ ap (λ t. (a || b) || t) r
 
@@ -95,12 +101,15 @@ module _ (tables : SystemTables) (vars : List Declaration) (i : ℕ) (d : Declar
   pub variable-on :
       (whole : Option Offence) → total_places (locals_before i) + places_of d.length ≤ 64 →
       bytes_eq (name_text d.name.name) (name_text exinf_name) ≡ false →
-      is_among d.name.name (map (λ (v : Declaration). v.name.name) (take i vars)) ≡ false → is_object tables d.name.name ≡ false →
+      is_among d.name.name (map (λ (v : Declaration). v.name.name) (take i vars)) ≡ false
+      → is_object tables d.name.name ≡ false →
       length_offence d.length ≡ None → judged i ≡ whole → judged (i + 1) ≡ whole
   variable-on whole h first other object right before =
       sym (unrolled
-      ∙ ap (λ t. if t then Some limit else (if twice then Some again else first_offence (length_offence d.length) (judged (i + 1)))) (many-false h)
-      ∙ ap (λ t. if t then Some again else first_offence (length_offence d.length) (judged (i + 1))) (named false false false first other object)
+      ∙ ap (λ t. if t then Some limit else (if twice then Some again else first_offence (length_offence d.length)
+      (judged (i + 1)))) (many-false h)
+      ∙ ap (λ t. if t then Some again else first_offence (length_offence d.length) (judged (i + 1)))
+      (named false false false first other object)
       ∙ ap (λ o. first_offence o (judged (i + 1))) right)
       ∙ before
 
@@ -110,30 +119,37 @@ module _ (tables : SystemTables) (vars : List Declaration) (i : ℕ) (d : Declar
       Some limit ≡ whole
   variable-many whole h before =
       sym (unrolled
-      ∙ ap (λ t. if t then Some limit else (if twice then Some again else first_offence (length_offence d.length) (judged (i + 1)))) (many-true h))
+      ∙ ap (λ t. if t then Some limit else (if twice then Some again else first_offence (length_offence d.length)
+      (judged (i + 1)))) (many-true h))
       ∙ before
 
   -- a name that is there already
   pub variable-twice :
       (whole : Option Offence) (a b c : Bool) → total_places (locals_before i) + places_of d.length ≤ 64 →
       bytes_eq (name_text d.name.name) (name_text exinf_name) ≡ a →
-      is_among d.name.name (map (λ (v : Declaration). v.name.name) (take i vars)) ≡ b → is_object tables d.name.name ≡ c →
+      is_among d.name.name (map (λ (v : Declaration). v.name.name) (take i vars)) ≡ b → is_object tables d.name.name
+      ≡ c →
       ((a || b) || c) ≡ true → judged i ≡ whole → Some again ≡ whole
   variable-twice whole a b c h first other object some before =
       sym (unrolled
-      ∙ ap (λ t. if t then Some limit else (if twice then Some again else first_offence (length_offence d.length) (judged (i + 1)))) (many-false h)
-      ∙ ap (λ t. if t then Some again else first_offence (length_offence d.length) (judged (i + 1))) (named a b c first other object ∙ some))
+      ∙ ap (λ t. if t then Some limit else (if twice then Some again else first_offence (length_offence d.length)
+      (judged (i + 1)))) (many-false h)
+      ∙ ap (λ t. if t then Some again else first_offence (length_offence d.length) (judged (i + 1)))
+      (named a b c first other object ∙ some))
       ∙ before
 
   -- a length out of range
   pub variable-length :
       (whole : Option Offence) (o : Offence) → total_places (locals_before i) + places_of d.length ≤ 64 →
       bytes_eq (name_text d.name.name) (name_text exinf_name) ≡ false →
-      is_among d.name.name (map (λ (v : Declaration). v.name.name) (take i vars)) ≡ false → is_object tables d.name.name ≡ false →
+      is_among d.name.name (map (λ (v : Declaration). v.name.name) (take i vars)) ≡ false
+      → is_object tables d.name.name ≡ false →
       Some o ≡ length_offence d.length → judged i ≡ whole → Some o ≡ whole
   variable-length whole o h first other object wrong before =
       sym (unrolled
-      ∙ ap (λ t. if t then Some limit else (if twice then Some again else first_offence (length_offence d.length) (judged (i + 1)))) (many-false h)
-      ∙ ap (λ t. if t then Some again else first_offence (length_offence d.length) (judged (i + 1))) (named false false false first other object)
+      ∙ ap (λ t. if t then Some limit else (if twice then Some again else first_offence (length_offence d.length)
+      (judged (i + 1)))) (many-false h)
+      ∙ ap (λ t. if t then Some again else first_offence (length_offence d.length) (judged (i + 1)))
+      (named false false false first other object)
       ∙ ap (λ x. first_offence x (judged (i + 1))) (sym wrong))
       ∙ before

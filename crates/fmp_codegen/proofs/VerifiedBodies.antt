@@ -1,5 +1,6 @@
 -- The code of an accepted text is verified.
-use Rattle.std.proofs.Common.{◌≡◌, ℕ, zero, suc, ◌+◌, ◌≤◌, Bool, true, false, ◌||◌, nat_lt, List, [], ◌∷◌, ◌++◌, Some, None, refl, subst, arith}
+use Rattle.std.proofs.Common.{◌≡◌, ℕ, zero, suc, ◌+◌, ◌≤◌, Bool, true, false, ◌||◌, nat_lt, List, [], ◌∷◌, ◌++◌, Some}
+use Rattle.std.proofs.Common.{None, refl, subst, arith}
 use Rattle.std.specs.Prelude.{slice_get}
 use Rattle.std.proofs.lemmas.Bool.{ltb-false}
 use Rattle.std.proofs.lemmas.Option.{slice_get_within}
@@ -21,7 +22,8 @@ use Rattle.fmp_scopes.specs.Scheme.{block_code, body_code}
 use Rattle.fmp_scopes.specs.Sizes.{block_size, body_size}
 use Rattle.fmp_codegen.specs.Tie.{HasAt}
 use Rattle.fmp_codegen.proofs.Bodies.{not-taken, Accepted, body-accepted, few-places, has-places}
-use Rattle.fmp_codegen.proofs.DepthLengths.{HasDepths, depths_front, depths_back, depths_all, length-block_depths, length-body_depths}
+use Rattle.fmp_codegen.proofs.DepthLengths.{HasDepths, depths_front, depths_back, depths_all, length-block_depths}
+use Rattle.fmp_codegen.proofs.DepthLengths.{length-body_depths}
 use Rattle.fmp_codegen.proofs.Fits.{fit_join, fit_at, block_first, block_fits}
 use Rattle.fmp_codegen.proofs.Places.{laid-out}
 use Rattle.fmp_codegen.proofs.Standing.{has_front, has_back, has_all}

@@ -1,6 +1,7 @@
 -- The tie between the text of a body and its code: the values of the text's locals at the places of the code's, and the
 -- program counter at the code of what is still to do.
-use Rattle.std.specs.Prelude.{◌≡◌, ℕ, zero, suc, ◌+◌, ◌<◌, ◌≤◌, max, ℤ, List, [], ◌∷◌, ◌++◌, map, length, Option, Some, None, slice_get}
+use Rattle.std.specs.Prelude.{◌≡◌, ℕ, zero, suc, ◌+◌, ◌<◌, ◌≤◌, max, ℤ, List, [], ◌∷◌, ◌++◌, map, length, Option, Some}
+use Rattle.std.specs.Prelude.{None, slice_get}
 use Rattle.fmp_base.specs.declared.calls.Reply.{Reply}
 use Rattle.fmp_base.specs.Systems.{SystemTables}
 use Rattle.fmp_tasklang.specs.Trees.{StatementTree, while, BodyTree}

@@ -1,5 +1,6 @@
 -- One more that comes to a kernel, between those that came and those that are left.
-use Rattle.std.proofs.Common.{◌≡◌, ◌∙◌, ℕ, ◌+◌, ◌<◌, ◌≤◌, List, [], ◌∷◌, length, drop, get_or, add-one, refl, ap, sym, subst, arith}
+use Rattle.std.proofs.Common.{◌≡◌, ◌∙◌, ℕ, ◌+◌, ◌<◌, ◌≤◌, List, [], ◌∷◌, length, drop, get_or, add-one, refl, ap, sym}
+use Rattle.std.proofs.Common.{subst, arith}
 use Rattle.std.proofs.Math.Seq.{drop-cons}
 use Rattle.fmp_base.specs.declared.events.Event.{Event}
 use Rattle.fmp_base.specs.Meanings.{Meaning}
@@ -8,7 +9,8 @@ use Rattle.fmp_coming.specs.Comings.{reaction_of, view_after_each}
 use Rattle.fmp_kernel.specs.KernelViews.{KernelView, view_after, view_after_all}
 
 -- a list from the place of this item on
-pub cut : {X : Type 0} (xs : List X) (i : ℕ) (x : X) → i < length xs → x ≡ get_or xs i x → drop i xs ≡ x ∷ drop (i + 1) xs
+pub cut : {X : Type 0} (xs : List X) (i : ℕ) (x : X) → i < length xs → x ≡ get_or xs i x → drop i xs ≡ x
+    ∷ drop (i + 1) xs
 cut xs i x h is = rw add-one (drop-cons xs i x h) ∙ ap (λ y. y ∷ drop (i + 1) xs) (sym is)
 
 module _ {B C : Type 0} where
@@ -45,8 +47,10 @@ module _ {B C : Type 0} where
   taken-step k k' o h = subst (λ (v : KernelView B C). v.taken ≤ k.taken + 1) (sym h) (one_more k o)
 
 -- what stands at the end, one more on
-pub after-step : {B C X : Type 0} (reaction : KernelView B C → X → Reaction C) (k k' end : KernelView B C) (xs : List X) (i : ℕ) (x : X)
-    → i < length xs → x ≡ get_or xs i x → k' ≡ view_after k (reaction k x) → view_after_each reaction k (drop i xs) ≡ end
+pub after-step : {B C X : Type 0} (reaction : KernelView B C → X → Reaction C) (k k' end : KernelView B C)
+    (xs : List X) (i : ℕ) (x : X)
+    → i < length xs → x ≡ get_or xs i x → k' ≡ view_after k (reaction k x) → view_after_each reaction k (drop i xs)
+    ≡ end
     → view_after_each reaction k' (drop (i + 1) xs) ≡ end
 after-step {B} {C} {X} reaction k k' end xs i x lt is h so_far =
     ap (λ (v : KernelView B C). view_after_each reaction v (drop (i + 1) xs)) h

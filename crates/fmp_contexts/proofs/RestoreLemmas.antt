@@ -15,15 +15,18 @@ held_fits : {C : Type 0} (P : C → Type 0) (b : Bool) (c : C) → P c → OfHel
 held_fits P true c h = h
 held_fits P false c h = h
 
-pub fitting_held : {B C : Type 0} {has_entry : B → ℕ → Type 0} {is_context : B → ℕ → C → Type 0} {body : B} {sys : SystemTables}
+pub fitting_held : {B C : Type 0} {has_entry : B → ℕ → Type 0} {is_context : B → ℕ → C → Type 0} {body : B}
+    {sys : SystemTables}
     (cs : Contexts (Held C)) (t : ℕ) (awaits : Bool) (c : C) → Fitting has_entry is_context body sys cs
     → is_context body (task_body sys t) c
     → Fitting has_entry is_context body sys (record cs { tasks = slice_set cs.tasks t (Some (held_by awaits c)) })
 fitting_held {is_context} {body} {sys} cs t awaits c h k =
     fitting_task cs t (Some (held_by awaits c)) h (held_fits (is_context body (task_body sys t)) awaits c k)
 
-pub fitting_begun : {B C : Type 0} {has_entry : B → ℕ → Type 0} {is_context : B → ℕ → C → Type 0} {body : B} {sys : SystemTables}
-    (cs : Contexts (Held C)) (p : ℕ) (h : Handler) (start : HandlerStart) (c : C) → Fitting has_entry is_context body sys cs
+pub fitting_begun : {B C : Type 0} {has_entry : B → ℕ → Type 0} {is_context : B → ℕ → C → Type 0} {body : B}
+    {sys : SystemTables}
+    (cs : Contexts (Held C)) (p : ℕ) (h : Handler) (start : HandlerStart) (c : C)
+    → Fitting has_entry is_context body sys cs
     → Entered has_entry body sys → handler_start sys h ≡ Some start → is_context body start.body c
     → Fitting has_entry is_context body sys
     (record cs { handlers = slice_set cs.handlers p (Some (record { body = start.body; context = Goes c })) })
@@ -34,10 +37,12 @@ fitting_begun {has_entry} {body = body} cs p h start c f e is k =
       context = k;
     })
 
-pub places_task : {C : Type 0} {sys : SystemTables} (cs : Contexts (Held C)) (t : ℕ) (c : Option (Held C)) → HasPlaces sys cs
+pub places_task : {C : Type 0} {sys : SystemTables} (cs : Contexts (Held C)) (t : ℕ) (c : Option (Held C))
+    → HasPlaces sys cs
     → HasPlaces sys (record cs { tasks = slice_set cs.tasks t c })
 places_task cs t c h = record { tasks = length-set _ _ _ ∙ h.tasks; handlers = h.handlers }
 
-pub places_handler : {C : Type 0} {sys : SystemTables} (cs : Contexts (Held C)) (p : ℕ) (c : Option (HandlerContext (Held C)))
+pub places_handler : {C : Type 0} {sys : SystemTables} (cs : Contexts (Held C)) (p : ℕ)
+    (c : Option (HandlerContext (Held C)))
     → HasPlaces sys cs → HasPlaces sys (record cs { handlers = slice_set cs.handlers p c })
 places_handler cs p c h = record { tasks = h.tasks; handlers = length-set _ _ _ ∙ h.handlers }

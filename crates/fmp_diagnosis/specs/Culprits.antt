@@ -1,5 +1,6 @@
 -- Where a fault is shown: at its place, or at the tokens beside it that are to be changed.
-use Rattle.std.specs.Prelude.{◌≡◌, ℕ, ◌-◌, ◌==◌, ◌&&◌, if◌then◌else◌, nat_le, Bool, true, false, List, length, min, option_map, slice_get, slice_range, Option, Some, None}
+use Rattle.std.specs.Prelude.{◌≡◌, ℕ, ◌-◌, ◌==◌, ◌&&◌, if◌then◌else◌, nat_le, Bool, true, false, List, length, min}
+use Rattle.std.specs.Prelude.{option_map, slice_get, slice_range, Option, Some, None}
 use Rattle.std.specs.Option.{unwrap_or}
 use Rattle.fmp_base.specs.declared.codes.Er.{Er}
 use Rattle.fmp_lex.specs.declared.fault.FaultKind.{FaultKind}

@@ -1,5 +1,6 @@
 -- The codes that the programs print, by their words.
-use Rattle.std.specs.Prelude.{ℕ, ◌≡◌, List, Option, Some, None, Bool, false, ◌||◌, codes, decimal, find, map, unsigned_abs}
+use Rattle.std.specs.Prelude.{ℕ, ◌≡◌, List, Option, Some, None, Bool, false, ◌||◌, codes, decimal, find, map}
+use Rattle.std.specs.Prelude.{unsigned_abs}
 use Rattle.std.specs.Char.{to_ascii_lowercase, to_ascii_uppercase}
 use Rattle.std.specs.Fmt.{signed_decimal}
 use Rattle.std.specs.Str.{bytes_eq}

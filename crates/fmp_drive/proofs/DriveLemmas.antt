@@ -1,5 +1,6 @@
 -- One more event of a drive.
-use Rattle.std.proofs.Common.{◌≡◌, refl, ℕ, ◌+◌, ◌<◌, ◌≤◌, List, [], ◌∷◌, ◌++◌, Option, Some, None, length, subst, sym, arith, ap, ◌∙◌}
+use Rattle.std.proofs.Common.{◌≡◌, refl, ℕ, ◌+◌, ◌<◌, ◌≤◌, List, [], ◌∷◌, ◌++◌, Option, Some, None, length, subst, sym}
+use Rattle.std.proofs.Common.{arith, ap, ◌∙◌}
 use Rattle.std.specs.List.{AllByRecursion}
 use Rattle.std.proofs.lemmas.List.{length_push}
 use Rattle.fmp_base.specs.declared.events.Effect.TheVariants as effect
@@ -20,7 +21,8 @@ use Rattle.fmp_drive.specs.declared.plan.Wish.{Wish}
 use Rattle.fmp_drive.specs.declared.plan.Wish.TheVariants.{Run, Tick, Interrupt}
 
 -- P holds of all, and of one more
-pub all_more : {A : Type 0} (P : A → Type 0) (xs : List A) (x : A) → AllByRecursion P xs → P x → AllByRecursion P (xs ++ x ∷ [])
+pub all_more : {A : Type 0} (P : A → Type 0) (xs : List A) (x : A) → AllByRecursion P xs → P x
+    → AllByRecursion P (xs ++ x ∷ [])
 all_more P [] x h p = (p, tt)
 all_more P (y ∷ ys) x h p = (h.0, all_more P ys x h.1 p)
 
@@ -31,13 +33,16 @@ module _ {C : Type 0} (sys : SystemTables) (M : Meaning C) (n : ℕ) where
 
   -- the world after one more event
   pub world_more : (w : World C) (es : List Event) (e : Event)
-      → (run sys M n w (es ++ e ∷ [])).world ≡ (one_step (run sys M n w es).world (step sys M n (run sys M n w es).world e)).world
+      → (run sys M n w (es ++ e ∷ [])).world ≡ (one_step (run sys M n w es).world
+      (step sys M n (run sys M n w es).world e)).world
   world_more w [] e = refl
   world_more w (x ∷ es) e = by_reaction (step sys M n w x) (λ v. world_more v es e) where
     by_reaction : (r : Reaction C)
-        → ((v : World C) → (run sys M n v (es ++ e ∷ [])).world ≡ (one_step (run sys M n v es).world (step sys M n (run sys M n v es).world e)).world)
+        → ((v : World C) → (run sys M n v (es ++ e ∷ [])).world
+        ≡ (one_step (run sys M n v es).world (step sys M n (run sys M n v es).world e)).world)
         → (run_on w r (λ v. run sys M n v (es ++ e ∷ []))).world
-        ≡ (one_step (run_on w r (λ v. run sys M n v es)).world (step sys M n (run_on w r (λ v. run sys M n v es)).world e)).world
+        ≡ (one_step (run_on w r (λ v. run sys M n v es)).world (step sys M n
+        (run_on w r (λ v. run sys M n v es)).world e)).world
     by_reaction Nothing h = h w
     by_reaction (Did d) h = h d.world
     by_reaction (Kept p u) h = h u
@@ -45,15 +50,18 @@ module _ {C : Type 0} (sys : SystemTables) (M : Meaning C) (n : ℕ) where
   -- how many are done of one more
   pub count_more : (w : World C) (es : List Event) (e : Event)
       → length (run sys M n w (es ++ e ∷ [])).events
-      ≡ length (run sys M n w es).events + length (one_step (run sys M n w es).world (step sys M n (run sys M n w es).world e)).events
+      ≡ length (run sys M n w es).events + length (one_step (run sys M n w es).world
+      (step sys M n (run sys M n w es).world e)).events
   count_more w [] e = omega arith
   count_more w (x ∷ es) e = by_reaction (step sys M n w x) (λ v. count_more v es e) where
     by_reaction : (r : Reaction C)
         → ((v : World C) → length (run sys M n v (es ++ e ∷ [])).events
-        ≡ length (run sys M n v es).events + length (one_step (run sys M n v es).world (step sys M n (run sys M n v es).world e)).events)
+        ≡ length (run sys M n v es).events + length (one_step (run sys M n v es).world
+        (step sys M n (run sys M n v es).world e)).events)
         → length (run_on w r (λ v. run sys M n v (es ++ e ∷ []))).events
         ≡ length (run_on w r (λ v. run sys M n v es)).events
-        + length (one_step (run_on w r (λ v. run sys M n v es)).world (step sys M n (run_on w r (λ v. run sys M n v es)).world e)).events
+        + length (one_step (run_on w r (λ v. run sys M n v es)).world (step sys M n
+        (run_on w r (λ v. run sys M n v es)).world e)).events
     by_reaction Nothing h = h w
     by_reaction (Did d) h = let more = h d.world in omega (arith, more)
     by_reaction (Kept p u) h = h u
@@ -109,18 +117,21 @@ module _ {B C : Type 0} (meaning : B → Meaning C) where
       → k' ≡ view_after k (reaction meaning k e) → k' ≡ k
   same_kernel k k' e h v = v ∙ ap (view_after k) (nothing_here (reaction meaning k e) h)
 
-  pub stands : (k : KernelView B C) (e : Event) → effect.Nothing ≡ effect_of (reaction meaning k e) → reaction meaning k e ≡ Nothing
+  pub stands : (k : KernelView B C) (e : Event) → effect.Nothing ≡ effect_of (reaction meaning k e)
+      → reaction meaning k e ≡ Nothing
   stands k e h = nothing_here (reaction meaning k e) h
 
   -- one number more that does nothing
-  stand_more : (k : KernelView B C) (source : EventSource) (first n : ℕ) → reaction meaning k (event_of source n) ≡ Nothing
+  stand_more : (k : KernelView B C) (source : EventSource) (first n : ℕ) → reaction meaning k (event_of source n)
+      ≡ Nothing
       → AllStand meaning k source first n → AllStand meaning k source first (n + 1)
   stand_more k source first n h all = λ m low high. elim (cases_order m n) [
     | inl same ↦ subst (λ (i : ℕ). reaction meaning k (event_of source i) ≡ Nothing) (sym same) h
     | inr o ↦ elim o [ inl below ↦ all m low below | inr above ↦ absurd (omega (arith, high, above)) ]
   ]
 
-  pub stand_step : (k0 k k' : KernelView B C) (source : EventSource) (first n : ℕ) (e : Event) → k ≡ k0 → e ≡ event_of source n
+  pub stand_step : (k0 k k' : KernelView B C) (source : EventSource) (first n : ℕ) (e : Event) → k ≡ k0 → e
+      ≡ event_of source n
       → effect.Nothing ≡ effect_of (reaction meaning k e) → k' ≡ view_after k (reaction meaning k e)
       → AllStand meaning k0 source first n → (k' ≡ k0) × AllStand meaning k0 source first (n + 1)
   stand_step k0 k k' source first n e same is h v all =
@@ -143,7 +154,8 @@ module _ {B C : Type 0} (meaning : B → Meaning C) where
   kept_step k0 k k' e same h v = taken_step k0 k k' e same (taken_kept (reaction meaning k e) h) v
 
   -- the end lies no farther than the number that is tried next
-  pub stand_end : (k : KernelView B C) (source : EventSource) (first n end : ℕ) → end ≤ n → AllStand meaning k source first n
+  pub stand_end : (k : KernelView B C) (source : EventSource) (first n end : ℕ) → end ≤ n
+      → AllStand meaning k source first n
       → AllStand meaning k source first end
   stand_end k source first n end le all = λ m low high. all m low (omega (arith, le, high))
 
@@ -191,7 +203,8 @@ module _ {B C : Type 0} (meaning : B → Meaning C) where
       → MatchOption r (P k × (k' ≡ k)) (λ e. HasTaken meaning k k' e × IsStep processors e)
       → MatchOption r (P k0 × (k' ≡ k0)) (λ e. HasTaken meaning k0 k' e × IsStep processors e)
   done_after r k0 k k' processors P same m =
-      subst (λ (x : KernelView B C). MatchOption r (P x × (k' ≡ x)) (λ e. HasTaken meaning x k' e × IsStep processors e)) same m
+      subst (λ (x : KernelView B C). MatchOption r (P x × (k' ≡ x)) (λ e. HasTaken meaning x k' e
+      × IsStep processors e)) same m
 
   -- the clock, where no processor could do anything
   pub due_after : (r : Option Event) (k0 k k' : KernelView B C) (processors : ℕ)
@@ -241,7 +254,8 @@ module _ {B C : Type 0} (meaning : B → Meaning C) where
   }
 
   -- the events that a kernel has run, and one more that it has taken
-  pub run_more : (k k1 k2 : KernelView B C) (es : List Event) (e : Event) → HasRun meaning k k1 es → HasTaken meaning k1 k2 e
+  pub run_more : (k k1 k2 : KernelView B C) (es : List Event) (e : Event) → HasRun meaning k k1 es
+      → HasTaken meaning k1 k2 e
       → HasRun meaning k k2 (es ++ e ∷ [])
   run_more k k1 k2 es e h s =
       let sys : SystemTables = k.system in
@@ -252,9 +266,11 @@ module _ {B C : Type 0} (meaning : B → Meaning C) where
       let left = left_by k1 k2 o s.taken s.view in
       let stop : World C → Trace C = λ v. record { world = v; events = [] } in
       let world_is : (run_on k1.world o stop).world ≡ (run_on w (step sys M k.bound w e) stop).world =
-      ap (λ (u : World C). (run_on u o stop).world) h.world ∙ ap (λ (x : Reaction C). (run_on w x stop).world) (sym there) in
+      ap (λ (u : World C). (run_on u o stop).world) h.world ∙ ap (λ (x : Reaction C). (run_on w x stop).world)
+      (sym there) in
       let count_is : length (run_on k1.world o stop).events ≡ length (run_on w (step sys M k.bound w e) stop).events =
-      ap (λ (u : World C). length (run_on u o stop).events) h.world ∙ ap (λ (x : Reaction C). length (run_on w x stop).events) (sym there) in
+      ap (λ (u : World C). length (run_on u o stop).events) h.world
+      ∙ ap (λ (x : Reaction C). length (run_on w x stop).events) (sym there) in
       let more = count_more sys M k.bound k.world es e in
       let before = h.done in
       let done_now = left.done in

@@ -35,7 +35,8 @@ AllStand meaning k source first end =
     (number : ℕ) → first ≤ number → number < end → reaction meaning k (event_of source number) ≡ Nothing
 
 -- the event is one of a source, by such a number, and no event by a smaller one from the first one on does anything
-pub record IsFirstFrom {B C : Type 0} (meaning : B → Meaning C) (k : KernelView B C) (source : EventSource) (first end : ℕ)
+pub record IsFirstFrom {B C : Type 0} (meaning : B → Meaning C) (k : KernelView B C) (source : EventSource)
+    (first end : ℕ)
     (e : Event) : Type 0 where
   pub number : ℕ
   pub first_on : first ≤ number
@@ -44,7 +45,8 @@ pub record IsFirstFrom {B C : Type 0} (meaning : B → Meaning C) (k : KernelVie
   pub others : AllStand meaning k source first number
 
 -- the kernel has taken the first event of a source, by such a number, that does something; or none does
-abbrev pub TakesFirst : {B C : Type 0} → (B → Meaning C) → (before after : KernelView B C) → EventSource → (first end : ℕ)
+abbrev pub TakesFirst : {B C : Type 0} → (B → Meaning C) → (before after : KernelView B C) → EventSource
+    → (first end : ℕ)
     → Option Event → Type 0
 TakesFirst meaning before after source first end None = AllStand meaning before source first end × (after ≡ before)
 TakesFirst meaning before after source first end (Some e) =

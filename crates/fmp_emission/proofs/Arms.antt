@@ -1,5 +1,6 @@
 -- What the arms of the emitter of statements have put together.
-use Rattle.std.proofs.Common.{◌≡◌, ℕ, ◌+◌, List, [], ◌∷◌, ◌++◌, length, ap, sym, ◌∙◌, arith, append_assoc, drop, length-append}
+use Rattle.std.proofs.Common.{◌≡◌, ℕ, ◌+◌, List, [], ◌∷◌, ◌++◌, length, ap, sym, ◌∙◌, arith, append_assoc, drop}
+use Rattle.std.proofs.Common.{length-append}
 use Rattle.std.specs.Prelude.{slice_set}
 use Rattle.std.proofs.Math.Seq.{drop-append_seam, set-append_seam}
 use Rattle.fmp_tasklang.specs.Trees.{ExpressionTree, Block, if_then, if_else, while}
@@ -15,12 +16,14 @@ use Rattle.fmp_emission.proofs.BreakLemmas.{led-block}
 use Rattle.fmp_emission.proofs.Lengths.{length-expression_code, length-block_code}
 
 -- a test and what stands behind it
-tested : {A : Type 0} (begun first : List A) (test : A) (rest : List A) → (begun ++ (first ++ test ∷ [])) ++ rest ≡ begun ++ (first ++ (test ∷ rest))
+tested : {A : Type 0} (begun first : List A) (test : A) (rest : List A) → (begun ++ (first ++ test ∷ [])) ++ rest
+    ≡ begun ++ (first ++ (test ∷ rest))
 tested begun first test rest =
     append_assoc begun (first ++ test ∷ []) rest ∙ ap (λ c. begun ++ c) (append_assoc first (test ∷ []) rest)
 
 -- a second piece behind
-piled : {A : Type 0} (begun first second third : List A) → (begun ++ (first ++ second)) ++ third ≡ begun ++ (first ++ (second ++ third))
+piled : {A : Type 0} (begun first second third : List A) → (begun ++ (first ++ second)) ++ third ≡ begun
+    ++ (first ++ (second ++ third))
 piled begun first second third =
     append_assoc begun (first ++ second) third ∙ ap (λ c. begun ++ c) (append_assoc first second third)
 
@@ -29,22 +32,26 @@ changed : {A : Type 0} (xs ys : List A) (y a : A) (n : ℕ) → n ≡ length xs 
 changed xs ys y a n e = ap (λ k. slice_set (xs ++ y ∷ ys) k a) e ∙ set-append_seam xs y ys a
 
 module _ (scope : Scope) (e : ExpressionTree) (b : Block) (begun made made' : List Instruction) (over again exit : ℕ)
-    (did : made ≡ begun ++ test_code scope e (length begun) over) (len : length made ≡ length begun + expression_size e + 1)
+    (did : made ≡ begun ++ test_code scope e (length begun) over) (len : length made ≡ length begun
+    + expression_size e + 1)
     (then_did : made' ≡ made ++ block_code scope b (length made) again exit) where
   abbrev inner : List Instruction
   inner = block_code scope b (length begun + expression_size e + 1) again exit
 
   -- a test and a block
   pub tested-block :
-      made' ≡ begun ++ (expression_code scope e (length begun) ++ (JumpIfZero (length begun + expression_size e + 1 + over) ∷ inner))
+      made' ≡ begun ++ (expression_code scope e (length begun)
+      ++ (JumpIfZero (length begun + expression_size e + 1 + over) ∷ inner))
   tested-block =
       then_did ∙ ap (λ n. made ++ block_code scope b n again exit) len ∙ ap (λ c. c ++ inner) did
-      ∙ tested begun (expression_code scope e (length begun)) (JumpIfZero (length begun + expression_size e + 1 + over)) inner
+      ∙ tested begun (expression_code scope e (length begun)) (JumpIfZero
+      (length begun + expression_size e + 1 + over)) inner
 
   -- the test leads elsewhere
   retested :
       (rest : List Instruction) (at to : ℕ) → at + 1 ≡ length made →
-      slice_set (begun ++ (expression_code scope e (length begun) ++ (JumpIfZero (length begun + expression_size e + 1 + over) ∷ rest))) at (JumpIfZero to)
+      slice_set (begun ++ (expression_code scope e (length begun)
+      ++ (JumpIfZero (length begun + expression_size e + 1 + over) ∷ rest))) at (JumpIfZero to)
       ≡ begun ++ (expression_code scope e (length begun) ++ (JumpIfZero to ∷ rest))
   retested rest at to place =
       let code = expression_code scope e (length begun) in
@@ -68,10 +75,12 @@ module _ (scope : Scope) (e : ExpressionTree) (b : Block) (begun made made' : Li
   -- a test, a block and a jump
   tested-jump :
       (whole : List Instruction) (to : ℕ) → whole ≡ made' ++ Jump to ∷ [] →
-      whole ≡ begun ++ (expression_code scope e (length begun) ++ (JumpIfZero (length begun + expression_size e + 1 + over) ∷ (inner ++ Jump to ∷ [])))
+      whole ≡ begun ++ (expression_code scope e (length begun)
+      ++ (JumpIfZero (length begun + expression_size e + 1 + over) ∷ (inner ++ Jump to ∷ [])))
   tested-jump whole to jumps =
       jumps ∙ ap (λ c. c ++ Jump to ∷ []) tested-block
-      ∙ piled begun (expression_code scope e (length begun)) (JumpIfZero (length begun + expression_size e + 1 + over) ∷ inner) (Jump to ∷ [])
+      ∙ piled begun (expression_code scope e (length begun)) (JumpIfZero (length begun + expression_size e + 1 + over)
+      ∷ inner) (Jump to ∷ [])
 
   -- the test leads behind the jump back, and the jumps of `break`s lead there too
   pub while-emitted :
@@ -81,7 +90,8 @@ module _ (scope : Scope) (e : ExpressionTree) (b : Block) (begun made made' : Li
       length turned ≡ length jumped → outer ≡ length old → noted ≡ old ++ block_breaks b (length made) →
       whole ≡ led_to (length turned) (drop outer noted) turned → (again' exit' : ℕ) →
       whole ≡ begun ++ statement_code scope (while e b) (length begun) again' exit'
-  while-emitted none jumped turned whole at outer old noted place more back jumps longer turns same before notes ends again' exit' =
+  while-emitted none jumped turned whole at outer old noted place more back jumps longer turns same before notes ends
+      again' exit' =
       let first = length begun + expression_size e + 1 in
       let after = first + block_size b + 1 in
       let code = expression_code scope e (length begun) in
@@ -105,7 +115,8 @@ module _ (scope : Scope) (e : ExpressionTree) (b : Block) (begun made made' : Li
         length-expression_code scope e (length begun),
       ) in
       ends ∙ ap (λ n. led_to n (drop outer noted) turned) there ∙ ap (λ ps. led_to after ps turned) places
-      ∙ ap (led_to after (block_breaks b first)) (turned_is ∙ sym (tested begun code (JumpIfZero after) (inner0 ++ Jump again ∷ [])))
+      ∙ ap (led_to after (block_breaks b first)) (turned_is ∙ sym (tested begun code (JumpIfZero after)
+      (inner0 ++ Jump again ∷ [])))
       ∙ led-block scope again after b head (Jump again ∷ []) first long
       ∙ tested begun code (JumpIfZero after) (block_code scope b first again after ++ Jump again ∷ [])
       ∙ ap (λ a. begun ++ (code ++ (JumpIfZero after ∷ (block_code scope b first a after ++ Jump a ∷ [])))) back
@@ -151,13 +162,15 @@ module _ (scope : Scope) (e : ExpressionTree) (b : Block) (begun made made' : Li
       ∙ ap (λ t. begun ++ (code ++ (JumpIfZero second ∷ (inner ++ (Jump t ∷ other))))) end
 
 -- their depths
-module _ (e : ExpressionTree) (b : Block) (begun made made' : List ℕ) (did : made ≡ begun ++ (expression_depths e 0 ++ 1 ∷ []))
+module _ (e : ExpressionTree) (b : Block) (begun made made' : List ℕ) (did : made ≡ begun
+    ++ (expression_depths e 0 ++ 1 ∷ []))
     (then_did : made' ≡ made ++ block_depths b) where
   pub if-deep : made' ≡ begun ++ statement_depths (if_then e b)
   if-deep =
       then_did ∙ ap (λ c. c ++ block_depths b) did ∙ tested begun (expression_depths e 0) 1 (block_depths b)
 
-  tested-deep : (whole : List ℕ) → whole ≡ made' ++ 0 ∷ [] → whole ≡ begun ++ (expression_depths e 0 ++ (1 ∷ (block_depths b ++ 0 ∷ [])))
+  tested-deep : (whole : List ℕ) → whole ≡ made' ++ 0 ∷ [] → whole ≡ begun
+      ++ (expression_depths e 0 ++ (1 ∷ (block_depths b ++ 0 ∷ [])))
   tested-deep whole jumps =
       jumps ∙ ap (λ c. c ++ 0 ∷ []) if-deep ∙ piled begun (expression_depths e 0) (1 ∷ block_depths b) (0 ∷ [])
 

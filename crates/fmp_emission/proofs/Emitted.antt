@@ -32,7 +32,8 @@ block-emitted scope made made' whole b more s again exit e before did len =
     (sym (ap (λ x. made ++ block_code scope x (length made) again exit) e) ∙ before) did
 
 pub block-deep :
-    (made made' whole : List ℕ) (b more : Block) (s : StatementTree) → b ≡ next s more → made ++ block_depths b ≡ whole →
+    (made made' whole : List ℕ) (b more : Block) (s : StatementTree) → b ≡ next s more → made ++ block_depths b
+    ≡ whole →
     made' ≡ made ++ statement_depths s → made' ++ block_depths more ≡ whole
 block-deep made made' whole b more s e before did =
     next-emitted made made' (statement_depths s) (block_depths more) whole
@@ -58,7 +59,8 @@ links-deep made made' whole ls more l d e before did =
     (sym (ap (λ x. made ++ links_depths x d) e) ∙ before) did
 
 pub arguments-emitted :
-    (scope : Scope) (made made' whole : List Instruction) (es more : List ExpressionTree) (a : ExpressionTree) → es ≡ a ∷ more →
+    (scope : Scope) (made made' whole : List Instruction) (es more : List ExpressionTree) (a : ExpressionTree) → es
+    ≡ a ∷ more →
     made ++ arguments_code scope es (length made) ≡ whole →
     made' ≡ made ++ expression_code scope a (length made) → length made' ≡ length made + expression_size a →
     made' ++ arguments_code scope more (length made') ≡ whole
@@ -85,7 +87,8 @@ pub load-named :
 load-named scope i v w same loads = loads ∙ ap (λ (z : Word). load_element scope (meaning_of scope z.name)) same
 
 pub element-emitted :
-    (scope : Scope) (e x : Expression) (w : Box Word Global) (index : Box Expression Global) (i : Instruction) → e ≡ Element w index →
+    (scope : Scope) (e x : Expression) (w : Box Word Global) (index : Box Expression Global) (i : Instruction) → e
+    ≡ Element w index →
     x ≡ index.value → i ≡ load_element scope (meaning_of scope w.value.name) → (begun made made' : List Instruction) →
     made ≡ begun ++ expression_code scope (expression_view x) (length begun) → made' ≡ made ++ i ∷ [] →
     made' ≡ begun ++ expression_code scope (expression_view e) (length begun)

@@ -1,7 +1,9 @@
 -- The lengths of the code of a tree.
 use Rattle.std.proofs.Common.{◌≡◌, ℕ, ◌+◌, List, [], ◌∷◌, length, refl, ap, arith, length-append}
 use Rattle.fmp_base.specs.Systems.{SystemTables}
-use Rattle.fmp_tasklang.specs.Trees.{ExpressionTree, number, named, element, unary, binary, both, either, StatementTree, assign, assign_element, service_call, if_then, if_else, while, break, continue, return, Block, empty, next, BodyTree}
+use Rattle.fmp_tasklang.specs.Trees.{ExpressionTree, number, named, element, unary, binary, both, either, StatementTree}
+use Rattle.fmp_tasklang.specs.Trees.{assign, assign_element, service_call, if_then, if_else, while, break, continue}
+use Rattle.fmp_tasklang.specs.Trees.{return, Block, empty, next, BodyTree}
 use Rattle.fmp_tasklang.specs.Scopes.{Scope, scope_of}
 use Rattle.fmp_scopes.specs.Scheme.{expression_code, arguments_code, statement_code, block_code, body_code}
 use Rattle.fmp_scopes.specs.Sizes.{expression_size, arguments_size, statement_size, block_size, body_size}
@@ -15,11 +17,22 @@ module _ (scope : Scope) where
   length-expression_code (binary op a b) at =
       simp length-append (omega (arith, length-expression_code a at, length-expression_code b (at + expression_size a)))
   length-expression_code (both a b) at =
-      simp length-append (omega (arith, length-expression_code a at, length-expression_code b (at + expression_size a + 1)))
+      simp length-append (omega (
+        arith,
+        length-expression_code a at,
+        length-expression_code b
+            (at + expression_size a + 1),
+      ))
   length-expression_code (either a b) at =
-      simp length-append (omega (arith, length-expression_code a at, length-expression_code b (at + expression_size a + 3)))
+      simp length-append (omega (
+        arith,
+        length-expression_code a at,
+        length-expression_code b
+            (at + expression_size a + 3),
+      ))
 
-  pub length-arguments_code : (es : List ExpressionTree) (at : ℕ) → length (arguments_code scope es at) ≡ arguments_size es
+  pub length-arguments_code : (es : List ExpressionTree) (at : ℕ) → length (arguments_code scope es at)
+      ≡ arguments_size es
   length-arguments_code [] at = refl
   length-arguments_code (e ∷ es) at =
       simp length-append (omega (arith, length-expression_code e at, length-arguments_code es (at + expression_size e)))
@@ -31,14 +44,21 @@ module _ (scope : Scope) where
     length-statement_code (assign_element w i e) at again exit =
         simp length-append
         (omega (arith, length-expression_code i at, length-expression_code e (at + expression_size i)))
-    length-statement_code (service_call c) at again exit = simp length-append (omega (arith, length-arguments_code c.arguments at))
+    length-statement_code (service_call c) at again exit = simp length-append
+        (omega (arith, length-arguments_code c.arguments at))
     length-statement_code (if_then e s) at again exit =
         simp length-append
         (omega (arith, length-expression_code e at, length-block_code s (at + expression_size e + 1) again exit))
     length-statement_code (if_else e s r) at again exit =
         let first = at + expression_size e + 1 in
         simp length-append
-        (omega (arith, length-expression_code e at, length-block_code s first again exit, length-block_code r (first + block_size s + 1) again exit))
+        (omega (
+          arith,
+          length-expression_code e at,
+          length-block_code s first again exit,
+          length-block_code r
+              (first + block_size s + 1) again exit,
+        ))
     length-statement_code (while e s) at again exit =
         let first = at + expression_size e + 1 in
         simp length-append
@@ -51,7 +71,12 @@ module _ (scope : Scope) where
     length-block_code empty at again exit = refl
     length-block_code (next s rest) at again exit =
         simp length-append
-        (omega (arith, length-statement_code s at again exit, length-block_code rest (at + statement_size s) again exit))
+        (omega (
+          arith,
+          length-statement_code s at again exit,
+          length-block_code rest
+              (at + statement_size s) again exit,
+        ))
 
 pub length-body_code : (tables : SystemTables) (body : BodyTree) → length (body_code tables body) ≡ body_size body
 length-body_code tables body =

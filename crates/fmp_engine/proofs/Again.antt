@@ -20,21 +20,25 @@ a_step processors (Run p) is = is
 a_step processors Tick is = tt
 a_step processors (Int i) is = absurd is
 
-all_steps : (processors : ℕ) (es : List Event) → All (IsTurnOrTick processors) es → AllByRecursion (IsStep processors) es
+all_steps : (processors : ℕ) (es : List Event) → All (IsTurnOrTick processors) es
+    → AllByRecursion (IsStep processors) es
 all_steps processors [] all = tt
 all_steps processors (e ∷ es) all =
     (a_step processors e (all 0 e (omega arith)), all_steps processors es (All-tail (IsTurnOrTick processors) e es all))
 
 few_processors : (n : ℕ) → in_range 1 8 n ≡ true → n < 256
-few_processors n fits = let high : n ≤ 8 = leb-true n 8 (and_true (nat_le 1 n) (nat_le n 8) fits).1 in omega (arith, high)
+few_processors n fits = let high : n ≤ 8 = leb-true n 8 (and_true (nat_le 1 n) (nat_le n 8) fits).1 in omega
+    (arith, high)
 
-pub simulates_again : (image : List ℕ) (work : Workload) (file file_after out out_after steps : List ℕ) → PrintedStepsReadBack → Hosts image work file file_after out out_after
+pub simulates_again : (image : List ℕ) (work : Workload) (file file_after out out_after steps : List ℕ)
+    → PrintedStepsReadBack → Hosts image work file file_after out out_after
     → file_after ≡ file ++ steps → Simulates image steps work.bound out out_after
 simulates_again image work file file_after out out_after steps law h is =
     let same : steps_text h.journal ≡ steps = append_cancel_left file (steps_text h.journal) steps (sym h.steps ∙ is) in
     let processors : ℕ = h.loaded.system.processors in
     let read : steps_of processors (steps_text h.journal) ≡ Ok h.journal =
-    law processors h.journal (few_processors processors h.spelled.lawful.processors) (all_steps processors h.journal h.made.counted.each) (omega (arith, h.made.count, h.made.fits.most)) in
+    law processors h.journal (few_processors processors h.spelled.lawful.processors)
+    (all_steps processors h.journal h.made.counted.each) (omega (arith, h.made.count, h.made.fits.most)) in
     record {
       loaded = h.loaded;
       spelled = h.spelled;

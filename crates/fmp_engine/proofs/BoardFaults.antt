@@ -6,7 +6,8 @@ use Rattle.fmp_board.specs.declared.fault.BoardFault.{BoardFault}
 use Rattle.fmp_board.specs.declared.fault.BoardFault.TheVariants as board
 use Rattle.fmp_image_bytes.specs.Images.{ImageTables}
 
-pub why_no_board : (f : BoardFault) (i : ImageTables) (work : Workload) → f ≢ board.Memory → f ≢ board.Limit → f ≢ board.Stale → f ≢ board.Held → f ≢ board.Full → IsWhyNoBoard f i work
+pub why_no_board : (f : BoardFault) (i : ImageTables) (work : Workload) → f ≢ board.Memory → f ≢ board.Limit
+    → f ≢ board.Stale → f ≢ board.Held → f ≢ board.Full → IsWhyNoBoard f i work
 why_no_board board.Limit i work other limit stale held full = absurd (limit refl)
 why_no_board board.Memory i work other limit stale held full = absurd (other refl)
 why_no_board board.Stale i work other limit stale held full = absurd (stale refl)

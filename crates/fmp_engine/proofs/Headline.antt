@@ -13,7 +13,8 @@ use Rattle.fmp_engine.specs.Hosting.{Hosts, HostsTexts, IsHosted}
 use Rattle.fmp_engine.specs.Simulations.{Simulates, PrintsTexts}
 
 pub prints_texts : (i : ImageTables) (bodies : List BodyTree) (image steps : List ℕ) (n : ℕ) (before after : List ℕ)
-    → Simulates image steps n before after → Spells i image → ((es : List Event) → PrintsText i.system bodies i.code n es)
+    → Simulates image steps n before after → Spells i image → ((es : List Event)
+    → PrintsText i.system bodies i.code n es)
     → PrintsTexts i bodies steps n before after
 prints_texts i bodies image steps n before after s spelled law =
     let same : s.loaded ≡ i = one_image s.loaded i image s.spelled spelled in
@@ -27,12 +28,15 @@ prints_texts i bodies image steps n before after s spelled law =
       are_answers = like.are_answers;
       trace = like.trace;
       finishes = like.finishes;
-      text = subst (λ (j : ImageTables). after ≡ before ++ whole_text j.system (code_meaning j.code) n s.events) same s.text
+      text = subst (λ (j : ImageTables). after ≡ before ++ whole_text j.system (code_meaning j.code) n s.events) same
+          s.text
           ∙ ap (λ (text : List ℕ). before ++ text) like.text;
     }
 
-pub hosts_texts : (i : ImageTables) (bodies : List BodyTree) (image : List ℕ) (work : Workload) (file file_after out out_after : List ℕ)
-    → Hosts image work file file_after out out_after → Spells i image → ((es : List Event) → PrintsText i.system bodies i.code work.bound es)
+pub hosts_texts : (i : ImageTables) (bodies : List BodyTree) (image : List ℕ) (work : Workload)
+    (file file_after out out_after : List ℕ)
+    → Hosts image work file file_after out out_after → Spells i image
+    → ((es : List Event) → PrintsText i.system bodies i.code work.bound es)
     → HostsTexts i bodies work file file_after out out_after
 hosts_texts i bodies image work file file_after out out_after h spelled law =
     let same : h.loaded ≡ i = one_image h.loaded i image h.spelled spelled in
@@ -48,7 +52,8 @@ hosts_texts i bodies image work file file_after out out_after h spelled law =
       are_answers = like.are_answers;
       trace = like.trace;
       finishes = like.finishes;
-      text = subst (λ (j : ImageTables). out_after ≡ out ++ whole_text j.system (code_meaning j.code) work.bound h.journal) same h.text
+      text = subst (λ (j : ImageTables). out_after ≡ out ++ whole_text j.system
+          (code_meaning j.code) work.bound h.journal) same h.text
           ∙ ap (λ (text : List ℕ). out ++ text) like.text;
     }
 

@@ -6,5 +6,6 @@ use Rattle.std.proofs.lemmas.Option.{get_or_from_slice_get, slice_get_within}
 pub one_copied : {X : Type 0} (xs copied more : List X) (i : ℕ) (x : X) → copied ≡ take i xs → slice_get xs i ≡ Some x
     → more ≡ copied ++ x ∷ [] → more ≡ take (i + 1) xs
 one_copied {X} xs copied more i x so_far found pushed =
-    pushed ∙ ap (λ (ys : List X). ys ++ x ∷ []) so_far ∙ ap (λ (y : X). take i xs ++ y ∷ []) (sym (get_or_from_slice_get xs i x x found))
+    pushed ∙ ap (λ (ys : List X). ys ++ x ∷ []) so_far ∙ ap (λ (y : X). take i xs ++ y ∷ [])
+    (sym (get_or_from_slice_get xs i x x found))
     ∙ sym (take_more xs i x (slice_get_within xs i x found))

@@ -9,18 +9,26 @@ module _ {T : Type 0} (gave : T → T → List ℕ → Type 0) where
 
   -- all was given
   pub given_all : (a b : T) (piece whole : List ℕ) → piece ≡ whole → gave a b piece → Given gave a b [] whole
-  given_all a b piece whole same h = record { front = piece; is_given = h; whole_is = sym same ∙ sym (append-nil piece) }
+  given_all a b piece whole same h = record {
+    front = piece;
+    is_given = h;
+    whole_is = sym same ∙ sym (append-nil
+        piece);
+  }
 
   -- what is left, said otherwise
-  pub left_is : (a b : T) (left left_too whole : List ℕ) → left ≡ left_too → Given gave a b left whole → Given gave a b left_too whole
+  pub left_is : (a b : T) (left left_too whole : List ℕ) → left ≡ left_too → Given gave a b left whole
+      → Given gave a b left_too whole
   left_is a b left left_too whole same h = subst (λ (xs : List ℕ). Given gave a b xs whole) same h
 
   -- the whole, said otherwise
-  pub whole_is_too : (a b : T) (left whole whole_too : List ℕ) → whole ≡ whole_too → Given gave a b left whole → Given gave a b left whole_too
+  pub whole_is_too : (a b : T) (left whole whole_too : List ℕ) → whole ≡ whole_too → Given gave a b left whole
+      → Given gave a b left whole_too
   whole_is_too a b left whole whole_too same h = subst (λ (xs : List ℕ). Given gave a b left xs) same h
 
   -- of a text that begins with another, what behind that one is left too
-  pub given_before : (a b : T) (left whole more : List ℕ) → Given gave a b left whole → Given gave a b (left ++ more) (whole ++ more)
+  pub given_before : (a b : T) (left whole more : List ℕ) → Given gave a b left whole
+      → Given gave a b (left ++ more) (whole ++ more)
   given_before a b left whole more h =
       record {
         front = h.front;
@@ -29,14 +37,16 @@ module _ {T : Type 0} (gave : T → T → List ℕ → Type 0) where
       }
 
   -- a front of a text is a front of what begins with it
-  pub front_before : (a b : T) (text more whole : List ℕ) → text ++ more ≡ whole → GivenFront gave a b text → GivenFront gave a b whole
+  pub front_before : (a b : T) (text more whole : List ℕ) → text ++ more ≡ whole → GivenFront gave a b text
+      → GivenFront gave a b whole
   front_before a b text more whole same h =
       (h.0 ++ more, whole_is_too a b (h.0 ++ more) (text ++ more) whole same (given_before a b h.0 text more h.1))
 
 module _ {T : Type 0} (first second both : T → T → List ℕ → Type 0)
     (join : (a b c : T) (x y : List ℕ) → first a b x → second b c y → both a c (x ++ y)) where
   -- behind a front, the front of what was left is given too
-  pub given_through : (a b c : T) (left middle whole : List ℕ) → Given first a b middle whole → Given second b c left middle
+  pub given_through : (a b c : T) (left middle whole : List ℕ) → Given first a b middle whole
+      → Given second b c left middle
       → Given both a c left whole
   given_through a b c left middle whole g h =
       record {
@@ -47,10 +57,12 @@ module _ {T : Type 0} (first second both : T → T → List ℕ → Type 0)
       }
 
   -- the same, whatever is left
-  pub front_through : (a b c : T) (middle whole : List ℕ) → Given first a b middle whole → GivenFront second b c middle → GivenFront both a c whole
+  pub front_through : (a b c : T) (middle whole : List ℕ) → Given first a b middle whole
+      → GivenFront second b c middle → GivenFront both a c whole
   front_through a b c middle whole g h = (h.0, given_through a b c h.0 middle whole g h.1)
 
--- A run: what was put together after setup (`lines`, of which `one` is left), the events (of which `two` is left), and the
+-- A run: what was put together after setup (`lines`, of which `one` is left), the events (of which `two` is left), and
+-- the
 -- states at the end.
 module _ {T : Type 0} (gave stopped : T → T → List ℕ → Type 0)
     (more : (a b c : T) (x y : List ℕ) → gave a b x → gave b c y → gave a c (x ++ y))
@@ -58,7 +70,8 @@ module _ {T : Type 0} (gave stopped : T → T → List ℕ → Type 0)
   lines_given : (a b : T) (lines one events states whole : List ℕ) → lines ++ (events ++ states) ≡ whole
       → Given gave a b one lines → Given gave a b ((one ++ events) ++ states) whole
   lines_given a b lines one events states whole same h =
-      left_is gave a b (one ++ (events ++ states)) ((one ++ events) ++ states) whole (sym (append_assoc one events states))
+      left_is gave a b (one ++ (events ++ states)) ((one ++ events) ++ states) whole
+      (sym (append_assoc one events states))
       (whole_is_too gave a b (one ++ (events ++ states)) (lines ++ (events ++ states)) whole same
       (given_before gave a b one lines (events ++ states) h))
 
@@ -79,7 +92,8 @@ module _ {T : Type 0} (gave stopped : T → T → List ℕ → Type 0)
       (whole_is_too gave c d [] three (two ++ states) e last)
 
   -- the outlet stopped at the lines of setup
-  pub lines_stopped : (a b : T) (lines events states whole : List ℕ) → lines ++ (events ++ states) ≡ whole → GivenFront stopped a b lines
+  pub lines_stopped : (a b : T) (lines events states whole : List ℕ) → lines ++ (events ++ states) ≡ whole
+      → GivenFront stopped a b lines
       → GivenFront stopped a b whole
   lines_stopped a b lines events states whole same h = front_before stopped a b lines (events ++ states) whole same h
 
@@ -92,8 +106,10 @@ module _ {T : Type 0} (gave stopped : T → T → List ℕ → Type 0)
       (front_before stopped b c (one ++ events) states ((one ++ events) ++ states) refl k)
 
   -- at the end
-  pub end_stopped : (a b c d : T) (lines one two three events states whole : List ℕ) → lines ++ (events ++ states) ≡ whole
-      → Given gave a b one lines → Given gave b c two (one ++ events) → three ≡ two ++ states → GivenFront stopped c d three
+  pub end_stopped : (a b c d : T) (lines one two three events states whole : List ℕ) → lines ++ (events ++ states)
+      ≡ whole
+      → Given gave a b one lines → Given gave b c two (one ++ events) → three ≡ two ++ states
+      → GivenFront stopped c d three
       → GivenFront stopped a d whole
   end_stopped a b c d lines one two three events states whole same h k e last =
       front_through gave stopped stopped later a c d (two ++ states) whole

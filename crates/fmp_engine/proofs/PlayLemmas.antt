@@ -27,12 +27,16 @@ module _ {B C : Type 0} (meaning : B → Meaning C) where
   -- setup's lines, the text of the events and that of the states at the end are the whole text
   pub whole : (body : B) (n : ℕ) (sys : SystemTables) (k : KernelView B C) (es : List Event) (first : List ℕ)
       → k ≡ view_of_setup body n sys (setup sys (meaning body)) → first ≡ lines_text sys 0 k.lines
-      → first ++ (text_of_events meaning k es ++ states_text sys (state_after meaning k es)) ≡ whole_text sys (meaning body) n es
+      → first ++ (text_of_events meaning k es ++ states_text sys (state_after meaning k es))
+      ≡ whole_text sys (meaning body) n es
   whole body n sys k es first start printed =
-      ap (λ (text : List ℕ). text ++ (text_of_events meaning k es ++ states_text sys (state_after meaning k es))) printed
-      ∙ ap (λ (v : KernelView B C). lines_text sys 0 v.lines ++ (text_of_events meaning v es ++ states_text sys (state_after meaning v es))) start
+      ap (λ (text : List ℕ). text ++ (text_of_events meaning k es ++ states_text sys (state_after meaning k es)))
+      printed
+      ∙ ap (λ (v : KernelView B C). lines_text sys 0 v.lines ++ (text_of_events meaning v es
+      ++ states_text sys (state_after meaning v es))) start
 
 -- the listed states are those that a kernel has at the end
-pub listed : (sys : SystemTables) (now : KernelState) (xs : List TaskState) → xs ≡ map (task_state now) (places_from 0 (length sys.tasks))
+pub listed : (sys : SystemTables) (now : KernelState) (xs : List TaskState) → xs
+    ≡ map (task_state now) (places_from 0 (length sys.tasks))
     → listed_states_text sys 0 xs ≡ states_text sys now
 listed sys now xs q = ap (λ (ys : List TaskState). listed_states_text sys 0 ys) q ∙ listed_states_are_states sys now

@@ -11,9 +11,11 @@ use Rattle.fmp_engine.specs.Outlets.{Given}
 use Rattle.fmp_engine.specs.Simulations.{Simulates, SimulatesInto}
 
 -- what an outlet was given of the text of a run over the events of a steps text
-pub gives : {T : Type 0} (gave : T → T → List ℕ → Type 0) (i : ImageTables) (image steps : List ℕ) (n : ℕ) (from to : T) (left : List ℕ)
+pub gives : {T : Type 0} (gave : T → T → List ℕ → Type 0) (i : ImageTables) (image steps : List ℕ) (n : ℕ)
+    (from to : T) (left : List ℕ)
     (sys : SystemTables) (es : List Event) → sys ≡ i.system → Spells i image → steps_of sys.processors steps ≡ Ok es
-    → Given gave from to left (whole_text sys (code_meaning i.code) n es) → SimulatesInto gave image steps n from to left
+    → Given gave from to left (whole_text sys (code_meaning i.code) n es)
+    → SimulatesInto gave image steps n from to left
 gives gave i image steps n from to left sys es same spelled read given =
     record {
       text = whole_text sys (code_meaning i.code) n es;
@@ -29,7 +31,8 @@ gives gave i image steps n from to left sys es same spelled read given =
     }
 
 -- a list of bytes to which all of a text was given
-pub all_appended : (before after front whole : List ℕ) → after ≡ before ++ front → whole ≡ front ++ [] → after ≡ before ++ whole
+pub all_appended : (before after front whole : List ℕ) → after ≡ before ++ front → whole ≡ front ++ [] → after
+    ≡ before ++ whole
 all_appended before after front whole e h =
     e ∙ ap (λ (xs : List ℕ). before ++ xs) (sym (append-nil front) ∙ sym h)
 
@@ -41,7 +44,8 @@ none_appended before after e = e ∙ append-nil before
 pub cut_back : (before after front : List ℕ) → after ≡ before ++ front → take (length before) after ≡ before
 cut_back before after front e = ap (take (length before)) e ∙ take-append_seam before front
 
-pub simulates_appended : (image steps : List ℕ) (n : ℕ) (before after front text : List ℕ) → Simulates image steps n [] text
+pub simulates_appended : (image steps : List ℕ) (n : ℕ) (before after front text : List ℕ)
+    → Simulates image steps n [] text
     → text ≡ front ++ [] → after ≡ before ++ front → Simulates image steps n before after
 simulates_appended image steps n before after front text s h e =
     record {

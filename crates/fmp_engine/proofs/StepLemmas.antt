@@ -1,5 +1,6 @@
 -- A steps text has at most 2^20 events.
-use Rattle.std.proofs.Common.{◌≡◌, refl, ℕ, ◌+◌, ◌≤◌, List, [], ◌∷◌, Ok, Err, Result, length, arith, Bool, true, false, nat_le, ap}
+use Rattle.std.proofs.Common.{◌≡◌, refl, ℕ, ◌+◌, ◌≤◌, List, [], ◌∷◌, Ok, Err, Result, length, arith, Bool, true, false}
+use Rattle.std.proofs.Common.{nat_le, ap}
 use Rattle.std.specs.Prelude.{if◌then◌else◌}
 use Rattle.std.proofs.lemmas.Bool.Decides.{nat_tests}
 use Rattle.fmp_base.specs.declared.events.Event.{Event}
@@ -27,13 +28,16 @@ by_test : (b : Bool) (x : Result Event StepsFault) (f : StepsFault) (rest : Resu
 by_test true x f rest n e h k = count_of-in_front x rest n h (k (at_most n e))
 by_test false x f rest n e h k = omega (arith, h)
 
-count_of-events_of : (processors n : ℕ) (lines : List (List ℕ)) → n ≤ 1048577 → count_of (events_of processors n lines) + n ≤ 1048577
+count_of-events_of : (processors n : ℕ) (lines : List (List ℕ)) → n ≤ 1048577
+    → count_of (events_of processors n lines) + n ≤ 1048577
 count_of-events_of processors n [] h = omega (arith, h)
 count_of-events_of processors n (line ∷ lines) h =
-    by_test (nat_le n 1048576) (fault_at n (line_meaning processors line)) (fault.TooMany n) (events_of processors (n + 1) lines) n refl h
+    by_test (nat_le n 1048576) (fault_at n (line_meaning processors line)) (fault.TooMany n)
+    (events_of processors (n + 1) lines) n refl h
     (λ le. count_of-events_of processors (n + 1) lines (omega (arith, le)))
 
-pub few_events : (processors : ℕ) (text : List ℕ) (es : List Event) → steps_of processors text ≡ Ok es → length es ≤ 1048576
+pub few_events : (processors : ℕ) (text : List ℕ) (es : List Event) → steps_of processors text ≡ Ok es
+    → length es ≤ 1048576
 few_events processors text es e =
     let all : count_of (events_of processors 1 (lines_of text)) + 1 ≤ 1048577 =
     count_of-events_of processors 1 (lines_of text) (omega arith) in

@@ -28,7 +28,8 @@ pub record HasGiven {T B C : Type 0} (gave : T → T → List ℕ → Type 0) (m
   pub system : after.system ≡ before.system
 
 -- why an outlet was not given all of a text: it was given nothing, or a front and took no more
-abbrev pub IsWhyCut : {T : Type 0} → (gave stopped : T → T → List ℕ → Type 0) → (from to : T) → (whole : List ℕ) → TextCut
+abbrev pub IsWhyCut : {T : Type 0} → (gave stopped : T → T → List ℕ → Type 0) → (from to : T) → (whole : List ℕ)
+    → TextCut
     → Type 0
 IsWhyCut gave stopped from to whole Memory = gave from to []
 IsWhyCut gave stopped from to whole Stopped = GivenFront stopped from to whole

@@ -12,7 +12,8 @@ use Rattle.fmp_expect.specs.Meaning.{Told, with_lines}
 use Rattle.fmp_expect.specs.Runs.{events_told, rest_told, told_after, with_events}
 
 -- the one at a place
-pub told_step : {B C X : Type 0} (reaction : KernelView B C → X → Reaction C) (k k' : KernelView B C) (xs : List X) (i : ℕ) (x : X)
+pub told_step : {B C X : Type 0} (reaction : KernelView B C → X → Reaction C) (k k' : KernelView B C) (xs : List X)
+    (i : ℕ) (x : X)
     (told all : List Told) → i < length xs → x ≡ get_or xs i x → k' ≡ view_after k (reaction k x)
     → rest_told reaction k (drop i xs) told ≡ all
     → rest_told reaction k' (drop (i + 1) xs) (told_after k (reaction k x) told) ≡ all

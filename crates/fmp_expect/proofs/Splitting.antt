@@ -1,5 +1,7 @@
 -- The lines of a text, and the words of a line.
-use Rattle.std.proofs.Common.{◌≡◌, ◌∙◌, ℕ, suc, ◌+◌, ◌-◌, ◌≤◌, List, [], ◌∷◌, Option, Some, None, Bool, true, false, not, cond, nat_eq, nat_lt, length, take, drop, position, length-drop, refl, ap, sym, arith}
+use Rattle.std.proofs.Common.{◌≡◌, ◌∙◌, ℕ, suc, ◌+◌, ◌-◌, ◌≤◌, List, [], ◌∷◌, Option, Some, None, Bool, true, false}
+use Rattle.std.proofs.Common.{not, cond, nat_eq, nat_lt, length, take, drop, position, length-drop, refl, ap, sym}
+use Rattle.std.proofs.Common.{arith}
 use Rattle.std.specs.List.{before_first, filter, onto_first, position_or_len, slice_split}
 use Rattle.std.proofs.Math.Seq.{take-length}
 use Rattle.std.proofs.lemmas.Bool.{ltb-true, ltb-false}
@@ -28,7 +30,8 @@ split_at p xs i e =
 some_or_none : (p : ℕ → Bool) (xs : List ℕ) → position p xs ≡ None → length xs ≤ position_or_len p xs
 some_or_none p xs e = ltb-false _ _ (at_none (nat_lt (position_or_len p xs) (length xs)) (position_or_len p xs) e)
 
-split_step : (b : Bool) (p : ℕ → Bool) (x : ℕ) (xs : List ℕ) → suc (length xs) ≤ cond (not b) (1 + position_or_len p xs) 0
+split_step : (b : Bool) (p : ℕ → Bool) (x : ℕ) (xs : List ℕ) → suc (length xs) ≤ cond (not b)
+    (1 + position_or_len p xs) 0
     → (length xs ≤ position_or_len p xs → slice_split p xs ≡ xs ∷ [])
     → cond b ([] ∷ slice_split p xs) (onto_first x (slice_split p xs)) ≡ (x ∷ xs) ∷ []
 split_step true p x xs h more = absurd (omega (arith, h))

@@ -1,5 +1,6 @@
 -- The stage that is kept of an expectation is that of the lines so far.
-use Rattle.std.proofs.Common.{◌≡◌, ◌∙◌, ℕ, ◌+◌, ◌-◌, List, [], ◌∷◌, Option, Some, None, Bool, true, false, not, ◌&&◌, ◌||◌, nat_eq, map, refl, ap, sym, arith}
+use Rattle.std.proofs.Common.{◌≡◌, ◌∙◌, ℕ, ◌+◌, ◌-◌, List, [], ◌∷◌, Option, Some, None, Bool, true, false, not, ◌&&◌}
+use Rattle.std.proofs.Common.{◌||◌, nat_eq, map, refl, ap, sym, arith}
 use Rattle.std.specs.Prelude.{if◌then◌else◌, nat_le, option_map, unwrap_or}
 use Rattle.std.proofs.lemmas.Bool.Decides.{nat_tests}
 use Rattle.fmp_base.specs.declared.events.Line.{Line}
@@ -13,8 +14,11 @@ use Rattle.fmp_expect.specs.declared.expectation.Expected.{Expected}
 use Rattle.fmp_expect.specs.declared.stages.Stage.{Stage}
 use Rattle.fmp_expect.specs.declared.stages.Stage.TheVariants as stage
 use Rattle.fmp_expect.specs.Grammar.{or_else}
-use Rattle.fmp_expect.specs.Meaning.{Told, broken_at, failure, fails_at_end, first_broken, if_fails, is_interrupt, is_owed, is_tick, is_told, is_zero, outcome, runs, tells, with_lines}
-use Rattle.fmp_expect.specs.Stages.{AreTold, before_by, failed_by, first_failed, never_by, next_stage, next_watch, next_watches, open_stage, stage_by, stage_of, told_stage, waited, waiting_stage, watch_of, within_by}
+use Rattle.fmp_expect.specs.Meaning.{Told, broken_at, failure, fails_at_end, first_broken, if_fails, is_interrupt}
+use Rattle.fmp_expect.specs.Meaning.{is_owed, is_tick, is_told, is_zero, outcome, runs, tells, with_lines}
+use Rattle.fmp_expect.specs.Stages.{AreTold, before_by, failed_by, first_failed, never_by, next_stage, next_watch}
+use Rattle.fmp_expect.specs.Stages.{next_watches, open_stage, stage_by, stage_of, told_stage, waited, waiting_stage}
+use Rattle.fmp_expect.specs.Stages.{watch_of, within_by}
 
 -- this many ticks have been waited, or more
 abbrev reached : ℕ → Option ℕ → Bool
@@ -106,7 +110,8 @@ within_open ticks false false true None n h = refl
 within_open ticks false false true (Some m) n h = tick_step ticks m n (nat_le ticks m) (none_left ticks m)
 within_open ticks true i false None n h = refl
 within_open ticks true i false (Some m) n h = refl
-within_open ticks false true false None n h = ap (λ k. stage.Waiting k) (let same : ticks ≡ ticks - 0 = omega arith in same)
+within_open ticks false true false None n h = ap (λ k. stage.Waiting k)
+    (let same : ticks ≡ ticks - 0 = omega arith in same)
 within_open ticks false true false (Some m) n h = refl
 within_open ticks false false false None n h = refl
 within_open ticks false false false (Some m) n h = refl
@@ -155,7 +160,8 @@ open_fails (expectation.Never h) told b n = refl
 open_fails (expectation.Before x y) told b n =
     elim (is_told x told) as (λ v. failed_by (told_stage v) b n ≡ if_fails b n) [ true ↦ refl | false ↦ refl ]
 open_fails (expectation.Within a ticks i) told b n =
-    elim (waited a i told) as (λ v. failed_by (waiting_stage ticks v) b n ≡ if_fails b n) [ None ↦ refl | Some m ↦ refl ]
+    elim (waited a i told) as (λ v. failed_by (waiting_stage ticks v) b n ≡ if_fails b n)
+    [ None ↦ refl | Some m ↦ refl ]
 open_fails (expectation.End w t) told b n = refl
 
 outcome_step : (f : Option ℕ) (s : Stage) (b : Bool) (n : ℕ) → failed_by s b n ≡ if_fails b n
@@ -170,7 +176,8 @@ verdict_step states n [] told = refl
 verdict_step states n (x ∷ xs) told =
     let e = x.expectation in
     ap (λ o. broken_at x o (first_failed (map (watch_of told) xs) states n))
-    (outcome_step (failure e told) (open_stage e told) (fails_at_end e states) n (open_fails e told (fails_at_end e states) n))
+    (outcome_step (failure e told) (open_stage e told) (fails_at_end e states) n
+    (open_fails e told (fails_at_end e states) n))
     ∙ ap (λ others. broken_at x (outcome e told states n) others) (verdict_step states n xs told)
 
 pub verdict_is : (states : List TaskState) (n : ℕ) (xs : List Expected) (told : List Told) (ws : List Watch)

@@ -8,7 +8,8 @@
 --     deed      = code | fault | "put(" value ")"
 --
 -- An actor is the name of a task or of a cyclic handler. A line without words says nothing.
-use Rattle.std.specs.Prelude.{ℕ, ◌≡◌, ◌+◌, ◌-◌, List, [], ◌∷◌, length, Option, Some, None, ◌++◌, Result, Ok, Err, Bool, true, false, if◌then◌else◌, codes, find, position, bytes_eq, option_map, slice_get}
+use Rattle.std.specs.Prelude.{ℕ, ◌≡◌, ◌+◌, ◌-◌, List, [], ◌∷◌, length, Option, Some, None, ◌++◌, Result, Ok, Err, Bool}
+use Rattle.std.specs.Prelude.{true, false, if◌then◌else◌, codes, find, position, bytes_eq, option_map, slice_get}
 use Rattle.fmp_base.specs.declared.bodies.Fault.{Fault}
 use Rattle.fmp_base.specs.declared.codes.Er.{Er}
 use Rattle.fmp_base.specs.declared.events.StateWord.{StateWord}
@@ -41,7 +42,8 @@ abbrev pub read : {A : Type 0} → A → List (List ℕ) → Result (Read A) Exp
 read x ws = Ok (record { value = x; rest = ws })
 
 -- what is read after something else, or the first flaw
-abbrev pub and_then : {A B : Type 0} → Result A ExpectationFlaw → (A → Result B ExpectationFlaw) → Result B ExpectationFlaw
+abbrev pub and_then : {A B : Type 0} → Result A ExpectationFlaw → (A → Result B ExpectationFlaw)
+    → Result B ExpectationFlaw
 and_then (Ok x) f = f x
 and_then (Err e) f = Err e
 
@@ -55,7 +57,8 @@ faulty_word line f =
     let ws = words_of (before_comment line) in slice_get ws (length ws - f.left)
 
 -- a value that was found in the first of words, with those behind it; or a flaw
-abbrev pub found_or : {A : Type 0} → Expects → (words behind : List (List ℕ)) → Option A → Result (Read A) ExpectationFlaw
+abbrev pub found_or : {A : Type 0} → Expects → (words behind : List (List ℕ)) → Option A
+    → Result (Read A) ExpectationFlaw
 found_or e ws behind None = Err (flaw_at e ws)
 found_or e ws behind (Some x) = read x behind
 
@@ -132,7 +135,8 @@ by_of sys (w ∷ ws) = if bytes_eq w (codes "by") then and_then (actor_of sys ws
 -- a deed, and whose it is
 abbrev pub happening_of : SystemTables → List (List ℕ) → Result (Read Happening) ExpectationFlaw
 happening_of sys ws =
-    and_then (deed_of ws) (λ d. and_then (by_of sys d.rest) (λ a. read (record { deed = d.value; by = a.value }) a.rest))
+    and_then (deed_of ws) (λ d. and_then (by_of sys d.rest) (λ a. read (record { deed = d.value; by = a.value })
+    a.rest))
 
 -- the line ends behind a deed, or `by` says whose it is if nothing does yet
 abbrev pub end_behind : Option ExpectedActor → Expects

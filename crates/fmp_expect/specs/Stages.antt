@@ -1,5 +1,6 @@
 -- What is kept of an expectation while a run goes on.
-use Rattle.std.specs.Prelude.{ℕ, ◌≡◌, ◌+◌, ◌-◌, List, [], ◌∷◌, Option, Some, None, Bool, true, false, if◌then◌else◌, map, nat_eq, option_map, unwrap_or}
+use Rattle.std.specs.Prelude.{ℕ, ◌≡◌, ◌+◌, ◌-◌, List, [], ◌∷◌, Option, Some, None, Bool, true, false, if◌then◌else◌}
+use Rattle.std.specs.Prelude.{map, nat_eq, option_map, unwrap_or}
 use Rattle.fmp_expect.specs.declared.expectation.ExpectedActor.{ExpectedActor}
 use Rattle.fmp_expect.specs.declared.expectation.Expectation.{Expectation}
 use Rattle.fmp_expect.specs.declared.expectation.Expectation.TheVariants as expectation
@@ -10,7 +11,8 @@ use Rattle.fmp_expect.specs.declared.checker.Watch.{Watch}
 use Rattle.fmp_base.specs.declared.events.Line.{Line}
 use Rattle.fmp_base.specs.declared.events.TaskState.{TaskState}
 use Rattle.fmp_expect.specs.declared.checker.BrokenExpectation.{BrokenExpectation}
-use Rattle.fmp_expect.specs.Meaning.{Told, broken_at, failure, fails_at_end, if_fails, is_interrupt, is_tick, is_told, runs, tells}
+use Rattle.fmp_expect.specs.Meaning.{Told, broken_at, failure, fails_at_end, if_fails, is_interrupt, is_tick, is_told}
+use Rattle.fmp_expect.specs.Meaning.{runs, tells}
 
 -- how many ticks ago the first interrupt was requested after which the actor did not run, if there is one
 abbrev pub waited : ExpectedActor → (interrupt : ℕ) → List Told → Option ℕ

@@ -1,5 +1,6 @@
 -- The lines, words and numbers of a text of expectations.
-use Rattle.std.specs.Prelude.{ℕ, List, [], ◌∷◌, Option, Some, None, Bool, true, false, ◌||◌, ◌&&◌, if◌then◌else◌, nat_eq, nat_le, min, ℤ, pos, neg_ℤ, filter, length, take, get_or, ◌-◌, codes, option_map}
+use Rattle.std.specs.Prelude.{ℕ, List, [], ◌∷◌, Option, Some, None, Bool, true, false, ◌||◌, ◌&&◌, if◌then◌else◌}
+use Rattle.std.specs.Prelude.{nat_eq, nat_le, min, ℤ, pos, neg_ℤ, filter, length, take, get_or, ◌-◌, codes, option_map}
 use Rattle.std.specs.List.{slice_split, before_first}
 use Rattle.std.specs.Str.{all_ascii_digits}
 use Rattle.std.specs.Str.Parse.{digits_value}

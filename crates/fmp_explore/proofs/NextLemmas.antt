@@ -1,5 +1,7 @@
 -- The state to which one more event leads, and the first state.
-use Rattle.std.proofs.Common.{◌≡◌, ◌+◌, ◌-◌, ℕ, List, [], ◌∷◌, ◌++◌, Option, Some, None, Bool, true, false, refl, sym, ap, subst, ◌∙◌, append_assoc, arith, count_by, get_or, inl, inr, is_some, length, map, slice_get}
+use Rattle.std.proofs.Common.{◌≡◌, ◌+◌, ◌-◌, ℕ, List, [], ◌∷◌, ◌++◌, Option, Some, None, Bool, true, false, refl, sym}
+use Rattle.std.proofs.Common.{ap, subst, ◌∙◌, append_assoc, arith, count_by, get_or, inl, inr, is_some, length, map}
+use Rattle.std.proofs.Common.{slice_get}
 use Rattle.std.proofs.lemmas.Option.{slice_get-get_or}
 use Rattle.std.specs.Prelude.{IsSomeAnd}
 use Rattle.std.specs.List.{list_any}
@@ -16,7 +18,8 @@ use Rattle.fmp_question.specs.Places.{forbids_there, is_bad}
 use Rattle.fmp_question.specs.Rules.{rules_of}
 use Rattle.std.specs.declared.alloc.Global.{Global}
 use Rattle.std.specs.declared.vec.Vec.{Vec}
-use Rattle.fmp_explore.specs.Searching.{AreHeld, HasDealt, HasKept, IsAt, IsBegun, IsClean, IsFresh, IsNext, IsSearch, Stays}
+use Rattle.fmp_explore.specs.Searching.{AreHeld, HasDealt, HasKept, IsAt, IsBegun, IsClean, IsFresh, IsNext, IsSearch}
+use Rattle.fmp_explore.specs.Searching.{Stays}
 use Rattle.fmp_witness.specs.Followed.{HasDone, HasKeptPlace}
 use Rattle.fmp_explore.specs.States.{AreFew, MayCome, came_of, path_by, path_to, sections_of, watched_of}
 use Rattle.fmp_fields.specs.declared.field.What.{What}
@@ -28,7 +31,8 @@ use Rattle.fmp_instructions.specs.declared.instructions.MachineContext.{MachineC
 use Rattle.fmp_kernel.specs.KernelViews.{KernelView}
 use Rattle.fmp_replay.specs.Replays.{kernel_after, replay}
 use Rattle.fmp_schedules.specs.declared.section.Section.{Section}
-use Rattle.fmp_schedules.specs.Schedules.{Watched, came_after, is_any_met, is_request, lines_after, sections_after, watched_at_setup}
+use Rattle.fmp_schedules.specs.Schedules.{Watched, came_after, is_any_met, is_request, lines_after, sections_after}
+use Rattle.fmp_schedules.specs.Schedules.{watched_at_setup}
 use Rattle.fmp_schedules.specs.Sections.{section_along}
 use Rattle.fmp_explore.proofs.SectionLemmas.{sections_first}
 use Rattle.fmp_visited.specs.declared.link.StateLink.{StateLink}

@@ -1,5 +1,6 @@
 -- The paths of states, with the events behind which a search begins.
-use Rattle.std.proofs.Common.{◌≡◌, ◌+◌, ◌<◌, ℕ, List, [], ◌++◌, Some, ap, ◌∙◌, append-nil, length, length-append, slice_get}
+use Rattle.std.proofs.Common.{◌≡◌, ◌+◌, ◌<◌, ℕ, List, [], ◌++◌, Some, ap, ◌∙◌, append-nil, length, length-append}
+use Rattle.std.proofs.Common.{slice_get}
 use Rattle.fmp_base.specs.declared.events.Event.{Event}
 use Rattle.fmp_question.specs.declared.question.Question.{Question}
 use Rattle.fmp_explore.specs.States.{path_by, path_to}
@@ -13,7 +14,8 @@ module _ (q : Question) where
   path_to-stays links more k linked there =
       ap (λ (es : List Event). q.after.items ++ es) (path-stays links more k linked there)
 
-  pub path_to-depth : (links : List StateLink) (k : ℕ) (link : StateLink) → AreLinked links → slice_get links k ≡ Some link
+  pub path_to-depth : (links : List StateLink) (k : ℕ) (link : StateLink) → AreLinked links → slice_get links k
+      ≡ Some link
       → length (path_to q links k) ≡ length q.after.items + link.depth
   path_to-depth links k link linked found =
       length-append q.after.items (path_of links k)

@@ -1,5 +1,6 @@
 -- Searches that go on.
-use Rattle.std.proofs.Common.{◌≡◌, ◌+◌, ◌<◌, inl, inr, ℕ, List, [], ◌∷◌, ◌++◌, Some, true, false, sym, ap, subst, ◌∙◌, arith, append_assoc, append-nil, count_by, is_some, length, length-append, map, slice_get}
+use Rattle.std.proofs.Common.{◌≡◌, ◌+◌, ◌<◌, inl, inr, ℕ, List, [], ◌∷◌, ◌++◌, Some, true, false, sym, ap, subst, ◌∙◌}
+use Rattle.std.proofs.Common.{arith, append_assoc, append-nil, count_by, is_some, length, length-append, map, slice_get}
 use Rattle.std.proofs.lemmas.List.{length_push}
 use Rattle.std.proofs.lemmas.Option.{slice_get_within}
 use Rattle.fmp_base.specs.declared.events.Event.{Event}
@@ -9,7 +10,8 @@ use Rattle.fmp_explore.specs.declared.searches.Search.{Search}
 use Rattle.std.specs.declared.alloc.Global.{Global}
 use Rattle.std.specs.declared.vec.Vec.{Vec}
 use Rattle.fmp_explore.specs.Searching.{AreHeld, Grows, HasKept, IsAt, IsNext, IsSearch, Stays}
-use Rattle.fmp_explore.specs.States.{AreKept, HasRow, IsKnown, IsRowOf, holder_number, path_by, path_to, sections_of, zeroed_after}
+use Rattle.fmp_explore.specs.States.{AreKept, HasRow, IsKnown, IsRowOf, holder_number, path_by, path_to, sections_of}
+use Rattle.fmp_explore.specs.States.{zeroed_after}
 use Rattle.fmp_fields.specs.declared.field.What.{What}
 use Rattle.fmp_fields.specs.FieldNumbers.{number_of}
 use Rattle.fmp_fields.specs.Fields.{AreAllFields}
@@ -38,7 +40,8 @@ pub adds_new : (old new : SeenStates) (row : List ℕ) (link : StateLink) (x : R
     → Adds old new row link x → new ≡ with_state old row link
 adds_new old new row link x place e h = (adds_at old new row link x (entry.New place) e h).1
 
-pub adds_known : (old new : SeenStates) (row : List ℕ) (link : StateLink) (x : RowEntry) (place : ℕ) → x ≡ entry.Known place
+pub adds_known : (old new : SeenStates) (row : List ℕ) (link : StateLink) (x : RowEntry) (place : ℕ) → x
+    ≡ entry.Known place
     → Adds old new row link x → (new ≡ old) × (slice_get old.rows place ≡ Some row)
 adds_known old new row link x place e h = adds_at old new row link x (entry.Known place) e h
 
@@ -114,7 +117,8 @@ module _ (i : ImageTables) (n : ℕ) (q : Question) where
       }
 
   -- the sections of one more state
-  held_more : (held : List (Vec Section Global)) (links : List StateLink) (sections : Vec Section Global) (link : StateLink)
+  held_more : (held : List (Vec Section Global)) (links : List StateLink) (sections : Vec Section Global)
+      (link : StateLink)
       → AreLinked links → AreHeld i n q held links → sections.items ≡ sections_of i n q (path_by q links link)
       → AreHeld i n q (held ++ sections ∷ []) (links ++ link ∷ [])
   held_more held links sections link linked h is =
@@ -185,7 +189,8 @@ module _ (i : ImageTables) (n : ℕ) (q : Question) where
           held = held;
         }
 
-    module _ (image : IsImage i) (link : StateLink) (k : Kernels) (next : IsNext i n q a.seen.links link k) (row : List ℕ)
+    module _ (image : IsImage i) (link : StateLink) (k : Kernels) (next : IsNext i n q a.seen.links link k)
+        (row : List ℕ)
         (has : HasRow i n q a.rows.first.items a.rows.fields.items (path_by q a.seen.links link) row)
         (sure : b.sure ≡ true → a.sure ≡ true) where
       -- the state is new

@@ -1,5 +1,7 @@
 -- The states that a search keeps, and one more of them.
-use Rattle.std.proofs.Common.{◌≡◌, ◌+◌, ◌<◌, ◌⊎◌, inl, inr, ℕ, zero, suc, List, [], ◌∷◌, ◌++◌, Option, Some, None, Bool, true, false, refl, sym, ap, subst, ◌∙◌, arith, cond, count_by, is_some, length, length-append, map, slice_get}
+use Rattle.std.proofs.Common.{◌≡◌, ◌+◌, ◌<◌, ◌⊎◌, inl, inr, ℕ, zero, suc, List, [], ◌∷◌, ◌++◌, Option, Some, None, Bool}
+use Rattle.std.proofs.Common.{true, false, refl, sym, ap, subst, ◌∙◌, arith, cond, count_by, is_some, length}
+use Rattle.std.proofs.Common.{length-append, map, slice_get}
 use Rattle.std.proofs.lemmas.List.{length-map, length_push}
 use Rattle.std.proofs.lemmas.List.Sums.{sum_by_push}
 use Rattle.std.proofs.lemmas.Option.{slice_get_within}
@@ -13,7 +15,8 @@ use Rattle.fmp_question.specs.declared.question.Question.{Question}
 use Rattle.fmp_question.specs.Forbidden.{forbids}
 use Rattle.fmp_question.specs.Places.{forbids_there}
 use Rattle.fmp_question.specs.Rules.{rules_of}
-use Rattle.fmp_explore.specs.States.{AreKept, HasRow, IsExamined, IsKnown, IsReached, LeadsOn, came_of, holder_number, numbers_after, path_by, path_to, sections_of, watched_of, zeroed_after}
+use Rattle.fmp_explore.specs.States.{AreKept, HasRow, IsExamined, IsKnown, IsReached, LeadsOn, came_of, holder_number}
+use Rattle.fmp_explore.specs.States.{numbers_after, path_by, path_to, sections_of, watched_of, zeroed_after}
 use Rattle.fmp_fields.specs.declared.field.What.{What}
 use Rattle.fmp_fields.specs.FieldNumbers.{number_of}
 use Rattle.fmp_fields.specs.Fields.{AreAllFields}
@@ -88,7 +91,8 @@ module _ (i : ImageTables) (n : ℕ) (q : Question) where
   abbrev Silent : Reaction MachineContext → Type 0
   Silent r = IsSilent (forbids_there i.system q.nevers_at.items) r
 
-  leads_more : (links more : List StateLink) (a : Watched) (r : Reaction MachineContext) → AreLinked links → Leads links a r
+  leads_more : (links more : List StateLink) (a : Watched) (r : Reaction MachineContext) → AreLinked links
+      → Leads links a r
       → Leads (links ++ more) a r
   leads_more links more a Nothing h l = tt
   leads_more links more a (Did d) h l = covered_more links more d.world _ h l
@@ -113,7 +117,8 @@ module _ (i : ImageTables) (n : ℕ) (q : Question) where
     kept_none seen no_rows no_links linked =
         record {
           linked = linked;
-          rows = ap (λ (xs : List (List ℕ)). length xs) no_rows ∙ ap (λ (xs : List StateLink). length xs) (sym no_links);
+          rows = ap (λ (xs : List (List ℕ)). length xs) no_rows
+              ∙ ap (λ (xs : List StateLink). length xs) (sym no_links);
           each = λ k row e. absurd (cc (ap (λ (xs : List (List ℕ)). slice_get xs k) no_rows));
         }
 
@@ -172,7 +177,8 @@ module _ (i : ImageTables) (n : ℕ) (q : Question) where
           kept = record { state = k; there = lt; world = refl; watch = refl };
         }
 
-    pub new_known : (links : List StateLink) (link : StateLink) → IsKnown i n q (links ++ link ∷ []) (path_by q links link)
+    pub new_known : (links : List StateLink) (link : StateLink)
+        → IsKnown i n q (links ++ link ∷ []) (path_by q links link)
     new_known links link =
         let longer : length (links ++ link ∷ []) ≡ length links + 1 = length_push links link in
         state_known (links ++ link ∷ []) (length links) (omega arith)

@@ -1,12 +1,14 @@
 -- The events that were tried in a state, and one more of them.
-use Rattle.std.proofs.Common.{◌≡◌, ◌+◌, ◌<◌, ◌≤◌, ◌⊎◌, inl, inr, ℕ, List, [], Some, true, false, sym, ap, subst, ◌∙◌, arith, get_or, length, slice_get}
+use Rattle.std.proofs.Common.{◌≡◌, ◌+◌, ◌<◌, ◌≤◌, ◌⊎◌, inl, inr, ℕ, List, [], Some, true, false, sym, ap, subst, ◌∙◌}
+use Rattle.std.proofs.Common.{arith, get_or, length, slice_get}
 use Rattle.std.proofs.lemmas.Bool.{cases_lt}
 use Rattle.std.proofs.lemmas.Option.{slice_get-get_or}
 use Rattle.fmp_base.specs.declared.events.Event.{Event}
 use Rattle.fmp_question.specs.declared.question.Question.{Question}
 use Rattle.fmp_explore.specs.declared.searches.Search.{Search}
 use Rattle.fmp_explore.specs.declared.trying.StateMarks.{StateMarks}
-use Rattle.fmp_explore.specs.Searching.{AreMarks, Grows, HasExamined, HasLooked, HasTried, IsAt, IsSearch, IsTrying, Stays}
+use Rattle.fmp_explore.specs.Searching.{AreMarks, Grows, HasExamined, HasLooked, HasTried, IsAt, IsSearch, IsTrying}
+use Rattle.fmp_explore.specs.Searching.{Stays}
 use Rattle.fmp_explore.specs.States.{AreFew, HasRow, LeadsOn, MayCome, path_to}
 use Rattle.fmp_schedules.specs.Tries.{all_tries}
 use Rattle.fmp_image_bytes.specs.Images.{ImageTables, IsImage}

@@ -14,7 +14,8 @@ use Rattle.fmp_witness.specs.Followed.{IsFollowed}
 use Rattle.fmp_question.specs.Forbidden.{forbids}
 use Rattle.fmp_question.specs.Places.{forbids_there}
 use Rattle.fmp_question.specs.Rules.{rules_of}
-use Rattle.fmp_explore.specs.States.{AreFew, AreKept, IsExamined, IsKnown, IsStuckAfter, LeadsOn, MayCome, path_by, path_to, sections_of, watched_of}
+use Rattle.fmp_explore.specs.States.{AreFew, AreKept, IsExamined, IsKnown, IsStuckAfter, LeadsOn, MayCome, path_by}
+use Rattle.fmp_explore.specs.States.{path_to, sections_of, watched_of}
 use Rattle.fmp_schedules.specs.Tries.{all_tries}
 use Rattle.fmp_fields.specs.Fields.{AreAllFields}
 use Rattle.fmp_image_bytes.specs.Images.{ImageTables}
@@ -30,7 +31,8 @@ use Rattle.fmp_visited.specs.declared.link.StateLink.{StateLink}
 use Rattle.fmp_visited.specs.Links.{IsLink}
 
 -- the sections in each of the states are kept, too
-pub record AreHeld (i : ImageTables) (n : ℕ) (q : Question) (held : List (Vec Section Global)) (links : List StateLink) :
+pub record AreHeld (i : ImageTables) (n : ℕ) (q : Question) (held : List (Vec Section Global))
+    (links : List StateLink) :
     Type 0 where
   pub size : length held ≡ length links
   pub each :

@@ -1,11 +1,14 @@
 -- Lists of tokens, of instructions, of calls and of tasks, from a place on.
-use Rattle.std.proofs.Common.{◌≡◌, ℕ, suc, zero, min, ◌+◌, ◌<◌, ◌≤◌, List, [], ◌∷◌, ◌++◌, length, drop, get_or, slice_get, Bool, false, cond, Option, Some, None, option_map, unwrap_or, nat_eq, refl, ap, subst, ◌∙◌, add-one, arith}
+use Rattle.std.proofs.Common.{◌≡◌, ℕ, suc, zero, min, ◌+◌, ◌<◌, ◌≤◌, List, [], ◌∷◌, ◌++◌, length, drop, get_or}
+use Rattle.std.proofs.Common.{slice_get, Bool, false, cond, Option, Some, None, option_map, unwrap_or, nat_eq, refl, ap}
+use Rattle.std.proofs.Common.{subst, ◌∙◌, add-one, arith}
 use Rattle.fmp_base.specs.declared.systems.TaskConfig.{TaskConfig}
 use Rattle.fmp_instructions.specs.declared.instructions.Instruction.{Instruction}
 use Rattle.fmp_instructions.specs.Instructions.{BodyTables, found_instructions}
 use Rattle.fmp_lex.specs.declared.token.Token.{Token}
 use Rattle.fmp_explore_names.specs.Claims.{rest_text, rests_text}
-use Rattle.fmp_explore_names.specs.Sites.{TextBody, bodies_in, body_at, call_line_at, call_lines, calls_below, code_of, head_at, is_service, line_at, lines_of, site, sites_at, sites_by}
+use Rattle.fmp_explore_names.specs.Sites.{TextBody, bodies_in, body_at, call_line_at, call_lines, calls_below, code_of}
+use Rattle.fmp_explore_names.specs.Sites.{head_at, is_service, line_at, lines_of, site, sites_at, sites_by}
 
 next : (i : ℕ) → suc (i + 1) ≡ suc i + 1
 next i = omega arith

@@ -1,5 +1,7 @@
 -- What std's calls on texts give, in the words of the grammar.
-use Rattle.std.proofs.Common.{◌≡◌, ℕ, ℤ, pos, negsuc, ◌+◌, ◌-◌, ◌^◌, ◌<◌, ◌≤◌, List, length, take, drop, Bool, true, false, cond, true≢false, Option, Some, None, Result, Ok, Err, MatchOption, FitsSigned, nat_eq, nat_lt, option_map, suc, inl, inr, refl, sym, ap, ap₂, subst, ◌∙◌, arith}
+use Rattle.std.proofs.Common.{◌≡◌, ℕ, ℤ, pos, negsuc, ◌+◌, ◌-◌, ◌^◌, ◌<◌, ◌≤◌, List, length, take, drop, Bool, true}
+use Rattle.std.proofs.Common.{false, cond, true≢false, Option, Some, None, Result, Ok, Err, MatchOption, FitsSigned}
+use Rattle.std.proofs.Common.{nat_eq, nat_lt, option_map, suc, inl, inr, refl, sym, ap, ap₂, subst, ◌∙◌, arith}
 use Rattle.std.proofs.lemmas.Bool.Decides.{Decides-and, Decides-ltb, leb_tells}
 use Rattle.std.proofs.lemmas.Str.Parse.{numerals_by_value, tells_all_ascii_digits}
 use Rattle.std.proofs.lemmas.Str.Pattern.{IsSplitOnceResult, ends_text, split_once_first, starts_text}
@@ -8,7 +10,8 @@ use Rattle.std.specs.Int.{w32}
 use Rattle.std.specs.List.{position_or_len}
 use Rattle.std.specs.Result.{OkIff, result_ok}
 use Rattle.std.specs.Str.{IsCharBoundary, all_ascii_digits}
-use Rattle.std.specs.Str.Parse.{IsNumeral, ParsesSigned, ParsesUnsigned, digits_value, signed_digits_value, without_leading_plus, without_leading_sign}
+use Rattle.std.specs.Str.Parse.{IsNumeral, ParsesSigned, ParsesUnsigned, digits_value, signed_digits_value}
+use Rattle.std.specs.Str.Parse.{without_leading_plus, without_leading_sign}
 use Rattle.std.specs.Str.Pattern.{FindsTextPrefix, FindsTextSuffix, StripsPrefix, StripsSuffix}
 use denote.Ref.{Bor}
 use Rattle.fmp_explore_names.specs.Words.{are_digits, before, behind, is_value, line_named, parts_at, value_named}

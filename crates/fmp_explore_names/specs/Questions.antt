@@ -1,5 +1,6 @@
 -- The question of a command: of its words, its system, the code of its bodies and their text.
-use Rattle.std.specs.Prelude.{ℕ, ◌≡◌, List, [], ◌∷◌, ◌++◌, length, map, Bool, true, false, ◌&&◌, ◌||◌, Result, Ok, Err, is_some, bytes_eq, nat_le, nat_lt}
+use Rattle.std.specs.Prelude.{ℕ, ◌≡◌, List, [], ◌∷◌, ◌++◌, length, map, Bool, true, false, ◌&&◌, ◌||◌, Result, Ok, Err}
+use Rattle.std.specs.Prelude.{is_some, bytes_eq, nat_le, nat_lt}
 use Rattle.std.specs.List.{filter_map, flat_map, list_all, list_any}
 use denote.Ref.{Bor}
 use Rattle.fmp_base.specs.declared.bodies.Fault.TheVariants.{Overflow, Division, Index}
@@ -113,7 +114,8 @@ pub record IsQuestionOf (a : ExploreWords) (system : SystemTables) (code : List 
   pub after : q.after.items ≡ []
 
 -- what the words of a command ask, or which of them are mistaken: one names no task, or a line without a call
-abbrev pub IsAsked : ExploreWords → SystemTables → List BodyTables → List TextBody → Result Question CommandMistake → Type 0
+abbrev pub IsAsked : ExploreWords → SystemTables → List BodyTables → List TextBody → Result Question CommandMistake
+    → Type 0
 IsAsked a system code bodies (Ok q) =
     (are_tasks system.tasks a.rest.now ≡ true) × (are_called code bodies (codes_in a.nevers.now) ≡ true)
     × IsQuestionOf a system code bodies q

@@ -1,5 +1,7 @@
 -- Where the service calls of bodies stand in their text, and in their code.
-use Rattle.std.specs.Prelude.{ℕ, ◌≡◌, ◌+◌, ◌<◌, ◌≤◌, ◌⊎◌, List, [], ◌∷◌, ◌++◌, length, drop, take, count_by, slice_get, option_map, unwrap_or, zero, suc, Bool, true, false, Option, Some, None, nat_eq, if◌then◌else◌}
+use Rattle.std.specs.Prelude.{ℕ, ◌≡◌, ◌+◌, ◌<◌, ◌≤◌, ◌⊎◌, List, [], ◌∷◌, ◌++◌, length, drop, take, count_by, slice_get}
+use Rattle.std.specs.Prelude.{option_map, unwrap_or, zero, suc, Bool, true, false, Option, Some, None, nat_eq}
+use Rattle.std.specs.Prelude.{if◌then◌else◌}
 use Rattle.fmp_base.specs.declared.words.Keyword.{Keyword}
 use Rattle.fmp_base.specs.declared.words.Keyword.TheVariants as keyword
 use Rattle.fmp_instructions.specs.declared.instructions.Instruction.{Instruction}

@@ -12,7 +12,8 @@ use Rattle.fmp_schedules.specs.Sections.{is_met_along}
 use Rattle.fmp_tasklang.specs.Texts.{text_meaning}
 use Rattle.fmp_tasklang.specs.Trees.{BodyTree}
 
--- The image of bodies, run over events within n instructions a stretch, prints what the bodies mean over the events that
+-- The image of bodies, run over events within n instructions a stretch, prints what the bodies mean over the events
+-- that
 -- it did; and in what they mean no forbidden line is told, and no task enters one of these sections while another holds
 -- it.
 pub record NeverTold (i : ImageTables) (bodies : List BodyTree) (n : ℕ) (forbidden : Line → Bool)

@@ -1,5 +1,7 @@
 -- The words in which what must never happen is written.
-use Rattle.std.specs.Prelude.{ℕ, ℤ, pos, negsuc, ◌+◌, ◌-◌, ◌^◌, List, [], ◌∷◌, length, take, drop, Bool, Option, Some, None, option_and_then, option_map, position, ◌&&◌, nat_eq, nat_lt, bytes_eq, codes, if◌then◌else◌}
+use Rattle.std.specs.Prelude.{ℕ, ℤ, pos, negsuc, ◌+◌, ◌-◌, ◌^◌, List, [], ◌∷◌, length, take, drop, Bool, Option, Some}
+use Rattle.std.specs.Prelude.{None, option_and_then, option_map, position, ◌&&◌, nat_eq, nat_lt, bytes_eq, codes}
+use Rattle.std.specs.Prelude.{if◌then◌else◌}
 use Rattle.std.specs.List.{find, starts_with, ends_with}
 use Rattle.std.specs.Ordering.{int_eq}
 use Rattle.std.specs.Option.{option_or}

@@ -4,7 +4,8 @@ use Rattle.fmp_tasklang.specs.declared.trees.Operator.{Operator}
 use Rattle.fmp_tasklang.specs.declared.trees.Operator.TheVariants as operator
 use Rattle.fmp_tasklang.specs.Trees.{ExpressionTree, number, named, element, unary, binary, both, either}
 use Rattle.fmp_tasklang.specs.Views.{LinkTree}
-use Rattle.fmp_export.specs.Pieces.{PieceText, number_piece, name_piece, element_piece, unary_piece, binary_piece, both_piece, either_piece}
+use Rattle.fmp_export.specs.Pieces.{PieceText, number_piece, name_piece, element_piece, unary_piece, binary_piece}
+use Rattle.fmp_export.specs.Pieces.{both_piece, either_piece}
 use Rattle.fmp_export.specs.Sources.{SourceText}
 use Rattle.fmp_export.specs.Words.{c_name}
 

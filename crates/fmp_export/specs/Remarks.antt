@@ -1,5 +1,6 @@
 -- The comments of a text in C, which are lines that begin with `//`, and its lines for a debugger.
-use Rattle.std.specs.Prelude.{ℕ, ◌-◌, ◌==◌, nat_eq, nat_lt, List, [], ◌∷◌, ◌++◌, codes, decimal, length, drop, slice_get, take, Bool, true, false, ◌||◌, ◌&&◌, not, if◌then◌else◌, Option, Some, None}
+use Rattle.std.specs.Prelude.{ℕ, ◌-◌, ◌==◌, nat_eq, nat_lt, List, [], ◌∷◌, ◌++◌, codes, decimal, length, drop}
+use Rattle.std.specs.Prelude.{slice_get, take, Bool, true, false, ◌||◌, ◌&&◌, not, if◌then◌else◌, Option, Some, None}
 use Rattle.std.specs.Char.{is_ascii_whitespace}
 use Rattle.std.specs.List.{prefix_len, suffix_len, starts_with, ends_with}
 use Rattle.fmp_lex.specs.declared.token.Token.{Token}

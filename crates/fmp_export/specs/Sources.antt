@@ -1,5 +1,6 @@
 -- A text and its tokens, in which the writers of C look up how a number is written and where a statement ends.
-use Rattle.std.specs.Prelude.{ℕ, ◌+◌, nat_lt, List, [], ◌∷◌, ◌++◌, length, drop, take, slice_get, Bool, true, false, if◌then◌else◌, Option, Some, None}
+use Rattle.std.specs.Prelude.{ℕ, ◌+◌, nat_lt, List, [], ◌∷◌, ◌++◌, length, drop, take, slice_get, Bool, true, false}
+use Rattle.std.specs.Prelude.{if◌then◌else◌, Option, Some, None}
 use Rattle.fmp_base.specs.declared.words.Keyword.TheVariants as keyword
 use Rattle.fmp_lex.specs.declared.token.Symbol.TheVariants as symbol
 use Rattle.fmp_lex.specs.declared.token.Token.{Token}

@@ -1,10 +1,12 @@
 -- Statements of a text in C. Each line begins with its margin, and ends with the comments of its tokens. The place of a
 -- statement is where its line begins in the list of tokens.
-use Rattle.std.specs.Prelude.{ℕ, zero, suc, ◌+◌, List, [], ◌∷◌, ◌++◌, codes, decimal, take, drop, Bool, true, false, ◌||◌, ◌&&◌, not, Option, Some, None}
+use Rattle.std.specs.Prelude.{ℕ, zero, suc, ◌+◌, List, [], ◌∷◌, ◌++◌, codes, decimal, take, drop, Bool, true, false}
+use Rattle.std.specs.Prelude.{◌||◌, ◌&&◌, not, Option, Some, None}
 use Rattle.fmp_base.specs.Services.{service_name, out_place}
 use Rattle.fmp_base.specs.Systems.{found}
 use Rattle.fmp_tasklang.specs.declared.trees.Word.{Word}
-use Rattle.fmp_tasklang.specs.Trees.{ExpressionTree, CallTree, StatementTree, assign, assign_element, service_call, if_then, if_else, while, break, continue, return, Block, empty, next}
+use Rattle.fmp_tasklang.specs.Trees.{ExpressionTree, CallTree, StatementTree, assign, assign_element, service_call}
+use Rattle.fmp_tasklang.specs.Trees.{if_then, if_else, while, break, continue, return, Block, empty, next}
 use Rattle.fmp_export.specs.declared.pieces.Risk.{Risk}
 use Rattle.fmp_export.specs.declared.pieces.Risk.TheVariants as risk
 use Rattle.fmp_export.specs.declared.source.Landmark.TheVariants as landmark

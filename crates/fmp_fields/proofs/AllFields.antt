@@ -6,7 +6,8 @@ use Rattle.fmp_base.specs.Systems.{SystemTables}
 use Rattle.fmp_fields.specs.declared.field.What.{What}
 use Rattle.fmp_fields.specs.declared.field.What.TheVariants as what
 use Rattle.fmp_fields.specs.Fields.{AreAllFields, IsField}
-use Rattle.fmp_fields.specs.Listing.{AreAmong, HasCyclics, HasInterrupts, HasObjects, HasProcessors, HasTasks, processor_parts, task_parts}
+use Rattle.fmp_fields.specs.Listing.{AreAmong, HasCyclics, HasInterrupts, HasObjects, HasProcessors, HasTasks}
+use Rattle.fmp_fields.specs.Listing.{processor_parts, task_parts}
 use Rattle.fmp_fields.proofs.Lists.{at-place}
 use Rattle.fmp_instructions.specs.Instructions.{BodyTables}
 

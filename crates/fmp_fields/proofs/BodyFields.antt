@@ -1,5 +1,6 @@
 -- Worlds whose fields have the same numbers keep contexts of which the same is told.
-use Rattle.std.proofs.Common.{◌≡◌, ℕ, ◌<◌, List, Option, Some, None, Bool, true, false, length, refl, sym, ap, ◌∙◌, subst, ⊎_elim, pos}
+use Rattle.std.proofs.Common.{◌≡◌, ℕ, ◌<◌, List, Option, Some, None, Bool, true, false, length, refl, sym, ap, ◌∙◌}
+use Rattle.std.proofs.Common.{subst, ⊎_elim, pos}
 use Rattle.std.specs.Prelude.{get_or, slice_get}
 use Rattle.std.proofs.lemmas.Bool.{cases_lt}
 use Rattle.std.proofs.lemmas.Option.{slice_get_past}
@@ -53,17 +54,21 @@ is-processor s p i runs =
 told-of : (o q : Option MachineContext) (c d : MachineContext) (f : What) → o ≡ Some c → q ≡ Some d
     → body_number o f ≡ body_number q f → context_number c f ≡ context_number d f
 told-of o q c d f a b e =
-    sym (ap (λ (x : Option MachineContext). body_number x f) a) ∙ e ∙ ap (λ (x : Option MachineContext). body_number x f) b
+    sym (ap (λ (x : Option MachineContext). body_number x f) a) ∙ e
+    ∙ ap (λ (x : Option MachineContext). body_number x f) b
 
 kept-within : (bodies : List BodyTables) (body : ℕ) (k : Option (Held MachineContext)) (c : MachineContext)
     → IsKeptWithin bodies body k → kept_context k ≡ Some c → IsWithin bodies body c
 kept-within bodies body None c h e = absurd h
-kept-within bodies body (Some (Goes d)) c h e = let same : d ≡ c = cc e in subst (λ (x : MachineContext). IsWithin bodies body x) same h
-kept-within bodies body (Some (Awaits d)) c h e = let same : d ≡ c = cc e in subst (λ (x : MachineContext). IsWithin bodies body x) same h
+kept-within bodies body (Some (Goes d)) c h e = let same : d ≡ c = cc e in subst
+    (λ (x : MachineContext). IsWithin bodies body x) same h
+kept-within bodies body (Some (Awaits d)) c h e = let same : d
+    ≡ c = cc e in subst (λ (x : MachineContext). IsWithin bodies body x) same h
 
 going-within : (bodies : List BodyTables) (body : ℕ) (k : Held MachineContext) (c : MachineContext)
     → IsGoingWithin bodies body k → kept_context (Some k) ≡ Some c → IsWithin bodies body c
-going-within bodies body (Goes d) c h e = let same : d ≡ c = cc e in subst (λ (x : MachineContext). IsWithin bodies body x) same h
+going-within bodies body (Goes d) c h e = let same : d ≡ c = cc e in subst
+    (λ (x : MachineContext). IsWithin bodies body x) same h
 going-within bodies body (Awaits d) c h e = absurd h
 
 handler-within : (sys : SystemTables) (bodies : List BodyTables) (p : ℕ) (o : Option Handler)
@@ -99,7 +104,8 @@ module _ (sys : SystemTables) (bodies : List BodyTables) (v w : World MachineCon
       → SameTold bodies (task_body sys t) c d
   task-told t c d on kc kd =
       let lt : t < length sys.tasks = within _ _ t a.sizes.tasks (is-task v.state.tasks t on) in
-      let also : is_dormant (task_at w.state.tasks t).phase ≡ false = ap (λ (x : Phase). is_dormant x) (sym (phase-same t)) ∙ on in
+      let also : is_dormant (task_at w.state.tasks t).phase ≡ false = ap (λ (x : Phase). is_dormant x)
+      (sym (phase-same t)) ∙ on in
       let oc = owned v t c on kc in
       let od = owned w t d also kd in
       let room = kept-within bodies (task_body sys t) (context_at v.contexts.tasks t) c (a.rooms.tasks t lt) kc in

@@ -1,5 +1,6 @@
 -- Lists of fields that gain more.
-use Rattle.std.proofs.Common.{◌≡◌, ℕ, ◌+◌, ◌-◌, ◌<◌, List, [], ◌∷◌, ◌++◌, Option, Some, None, true, length, refl, sym, subst, arith, ⊎_elim}
+use Rattle.std.proofs.Common.{◌≡◌, ℕ, ◌+◌, ◌-◌, ◌<◌, List, [], ◌∷◌, ◌++◌, Option, Some, None, true, length, refl, sym}
+use Rattle.std.proofs.Common.{subst, arith, ⊎_elim}
 use Rattle.std.specs.Prelude.{IfOk, Result, Ok, Err, get_or, nat_lt}
 use Rattle.std.specs.List.{Contains}
 use Rattle.std.proofs.lemmas.Bool.{cases_lt}
@@ -14,7 +15,8 @@ use Rattle.fmp_base.specs.Systems.{SystemTables, body_of, data_queue_config, int
 use Rattle.fmp_fields.specs.declared.field.What.{What}
 use Rattle.fmp_fields.specs.declared.field.What.TheVariants as what
 use Rattle.fmp_fields.specs.declared.room.Room.{Room}
-use Rattle.fmp_fields.specs.Listing.{AreAmong, HasHandlerRoom, HasInterrupts, HasProcessor, HasQueue, HasRoom, HasTask, processor_parts, task_parts}
+use Rattle.fmp_fields.specs.Listing.{AreAmong, HasHandlerRoom, HasInterrupts, HasProcessor, HasQueue, HasRoom, HasTask}
+use Rattle.fmp_fields.specs.Listing.{processor_parts, task_parts}
 use Rattle.fmp_fields.proofs.Places.{EachBefore}
 use Rattle.fmp_fields.proofs.Rooms.{defined-at}
 use Rattle.fmp_instructions.specs.Instructions.{BodyTables}

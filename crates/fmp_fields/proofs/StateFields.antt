@@ -1,5 +1,6 @@
 -- States whose fields have the same numbers are told the same by a row.
-use Rattle.std.proofs.Common.{◌≡◌, ℕ, ◌<◌, ◌≤◌, List, Option, Some, None, Bool, true, false, ◌&&◌, length, refl, sym, ap, ◌∙◌, subst, arith}
+use Rattle.std.proofs.Common.{◌≡◌, ℕ, ◌<◌, ◌≤◌, List, Option, Some, None, Bool, true, false, ◌&&◌, length, refl, sym}
+use Rattle.std.proofs.Common.{ap, ◌∙◌, subst, arith}
 use Rattle.std.specs.Prelude.{get_or, map, nat_lt}
 use Rattle.std.specs.List.{Contains}
 use Rattle.std.proofs.lemmas.Bool.Decides.{nat_tests}
@@ -23,7 +24,8 @@ use Rattle.fmp_reachable.specs.Values.{SameSizes, SameValueNumbers}
 use Rattle.fmp_worlds.specs.Settled.{IsThere}
 
 -- what two maps give of an element is the same where the maps are
-pub same-at : (f g : What → ℕ) (fields : List What) (x : What) → map f fields ≡ map g fields → Contains fields x → f x ≡ g x
+pub same-at : (f g : What → ℕ) (fields : List What) (x : What) → map f fields ≡ map g fields → Contains fields x → f x
+    ≡ g x
 same-at f g fields x e there =
     let k = there.0 in
     let lt = there.1 in
@@ -54,7 +56,8 @@ pending-same xs ys i a b e = by_test (nat_lt i 32) refl e where
   by_test true q h = h
   by_test false q h =
       let le : 32 ≤ i = not_below i q in
-      ap (λ (t : Bool). bit t) (none-pending xs i (omega (arith, le, a)) ∙ sym (none-pending ys i (omega (arith, le, b))))
+      ap (λ (t : Bool). bit t) (none-pending xs i (omega (arith, le, a))
+      ∙ sym (none-pending ys i (omega (arith, le, b))))
 
 there-is : (o : Option InterruptConfig) (c : InterruptConfig) → o ≡ Some c → IsThere o
 there-is None c e = absurd (cc e)

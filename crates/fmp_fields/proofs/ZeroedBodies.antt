@@ -1,5 +1,6 @@
 -- Worlds with 0 for each dead local are read and kept within their rooms as the others are.
-use Rattle.std.proofs.Common.{◌≡◌, ℕ, zero, suc, ℤ, pos, List, [], ◌∷◌, Bool, true, false, Option, Some, None, map, refl, sym, ap, ◌∙◌, subst}
+use Rattle.std.proofs.Common.{◌≡◌, ℕ, zero, suc, ℤ, pos, List, [], ◌∷◌, Bool, true, false, Option, Some, None, map}
+use Rattle.std.proofs.Common.{refl, sym, ap, ◌∙◌, subst}
 use Rattle.std.specs.Prelude.{get_or}
 use Rattle.std.proofs.lemmas.List.{length-map}
 use Rattle.fmp_base.specs.declared.bodies.HandlerContext.{HandlerContext}
@@ -181,7 +182,8 @@ module _ (sys : SystemTables) (tables : List LiveTable) (w : World MachineContex
       ∙ ap (λ (x : Option (Held MachineContext)). kept_context x) (context_in-zeroed tables h))
 
   -- a world that may be read may be read with dead locals as 0
-  pub readable-zeroed : (bodies : List BodyTables) → IsReadable sys bodies w → IsReadable sys bodies (zeroed sys tables w)
+  pub readable-zeroed : (bodies : List BodyTables) → IsReadable sys bodies w
+      → IsReadable sys bodies (zeroed sys tables w)
   readable-zeroed bodies a =
       record {
         regular = record {

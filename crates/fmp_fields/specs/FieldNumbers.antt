@@ -13,7 +13,8 @@ use Rattle.fmp_fields.specs.declared.owner.Owner.{Owner}
 use Rattle.fmp_fields.specs.declared.owner.Owner.TheVariants as owner
 use Rattle.fmp_instructions.specs.declared.instructions.MachineContext.{MachineContext}
 use Rattle.fmp_reachable.specs.Behind.{mailbox_at, message_behind, task_behind}
-use Rattle.fmp_reachable.specs.Numbers.{bit, cyclic_of, interrupt_of, lock_number, phase_kind, place, ticks_to, unsigned, wait_object, wait_value}
+use Rattle.fmp_reachable.specs.Numbers.{bit, cyclic_of, interrupt_of, lock_number, phase_kind, place, ticks_to}
+use Rattle.fmp_reachable.specs.Numbers.{unsigned, wait_object, wait_value}
 use Rattle.fmp_reachable.specs.Rows.{due_at}
 
 -- whose body a field is of, if it is of one: a task's, or that of the handler of a processor

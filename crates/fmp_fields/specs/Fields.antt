@@ -76,6 +76,7 @@ IsField sys bodies (what.PendingCyclic c) = c < length sys.cyclics
 IsField sys bodies (what.PendingInterrupt i) = IsThere (interrupt_config sys i)
 
 -- each field of the states is among these, and the number of interrupts where it is limited
-pub record AreAllFields (sys : SystemTables) (bodies : List BodyTables) (limited : Bool) (fields : List What) : Type 0 where
+pub record AreAllFields (sys : SystemTables) (bodies : List BodyTables) (limited : Bool)
+    (fields : List What) : Type 0 where
   pub each : (f : What) → IsField sys bodies f → Contains fields f
   pub interrupts : limited ≡ true → Contains fields what.Interrupts

@@ -1,5 +1,6 @@
 -- What is read and written of what is known, and which calls have failed.
-use Rattle.std.specs.Prelude.{ℕ, suc, zero, ◌≡◌, ◌+◌, ◌≤◌, ◌<◌, Bool, true, false, List, ◌++◌, Option, None, Some, Result, Ok, Err, length, take, ⊤}
+use Rattle.std.specs.Prelude.{ℕ, suc, zero, ◌≡◌, ◌+◌, ◌≤◌, ◌<◌, Bool, true, false, List, ◌++◌, Option, None, Some}
+use Rattle.std.specs.Prelude.{Result, Ok, Err, length, take, ⊤}
 use Rattle.std.specs.Io.KnownBytes.{Appends, Consumes, IsAtEnd}
 use Rattle.fmp_files.specs.declared.reading.ReadFault.{ReadFault}
 use Rattle.fmp_files.specs.declared.reading.ReadFault.TheVariants.{Device, Memory}

@@ -1,5 +1,6 @@
 -- Pieces that are printed one after the other are a text that is printed.
-use Rattle.std.proofs.Common.{ℕ, ◌≡◌, refl, sym, ap, ◌∙◌, subst, ◌++◌, append_assoc, append-nil, Bool, IsTrue, inl, inr, List, [], ◌∷◌, Option, None, Some, drop, map, take}
+use Rattle.std.proofs.Common.{ℕ, ◌≡◌, refl, sym, ap, ◌∙◌, subst, ◌++◌, append_assoc, append-nil, Bool, IsTrue, inl, inr}
+use Rattle.std.proofs.Common.{List, [], ◌∷◌, Option, None, Some, drop, map, take}
 use Rattle.std.proofs.lemmas.List.{map-append, take-append-drop}
 use Rattle.std.proofs.lemmas.List.Folds.{concat-append}
 use Rattle.std.specs.List.{concat}

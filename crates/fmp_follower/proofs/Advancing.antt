@@ -1,5 +1,6 @@
 -- A seat that follows one event, and the kernel that takes it.
-use Rattle.std.proofs.Common.{◌≡◌, ◌≢◌, ℕ, ◌+◌, ◌<◌, ◌≤◌, ◌^◌, List, [], ◌++◌, Option, Some, None, length, take, min, ap, ◌∙◌, sym, arith, subst}
+use Rattle.std.proofs.Common.{◌≡◌, ◌≢◌, ℕ, ◌+◌, ◌<◌, ◌≤◌, ◌^◌, List, [], ◌++◌, Option, Some, None, length, take, min}
+use Rattle.std.proofs.Common.{ap, ◌∙◌, sym, arith, subst}
 use Rattle.std.proofs.lemmas.List.{length-take}
 use Rattle.fmp_base.specs.declared.events.Event.{Event}
 use Rattle.fmp_base.specs.Setups.{setup}
@@ -17,7 +18,8 @@ use Rattle.fmp_board.specs.Boards.{IsAt}
 use Rattle.fmp_replay.specs.Replays.{kernel_after}
 use Rattle.fmp_replay.proofs.Replaying.{setup_replays}
 use Rattle.fmp_follower.specs.Followers.{Continues, Follows, IsFollowing, followed_text, kernel_over, reaction_text}
-use Rattle.fmp_follower.proofs.Following.{SameRun, followed_last, followed_none, nothing_behind, same_run, taken_few, view_last}
+use Rattle.fmp_follower.proofs.Following.{SameRun, followed_last, followed_none, nothing_behind, same_run, taken_few}
+use Rattle.fmp_follower.proofs.Following.{view_last}
 
 abbrev Kernels : Type 0
 Kernels = KernelView (List BodyTables) MachineContext
@@ -29,7 +31,8 @@ abbrev start : ImageTables → ℕ → Kernels
 start i n = view_of_setup i.code n i.system (setup i.system (code_meaning i.code))
 
 -- the system of a kernel that took events
-pub system_of : (i : ImageTables) (n : ℕ) (row : RowId) (seat : SeatState) (k : Kernels) → IsFollowing i n row seat k → k.system ≡ i.system
+pub system_of : (i : ImageTables) (n : ℕ) (row : RowId) (seat : SeatState) (k : Kernels) → IsFollowing i n row seat k
+    → k.system ≡ i.system
 unfolding kernel_over
 system_of i n row seat k f =
     ap (λ (v : Kernels). v.system) f.kernel_is ∙ (same_run code_meaning (start i n) (given seat)).system
@@ -46,7 +49,8 @@ same_reaction i n es e =
     ∙ ap (λ (m : ℕ). step i.system (code_meaning i.code) m k.world e) s.bound
 
 few_given : (seat : SeatState) → length (given seat) ≤ seat.place
-few_given seat = let all : length (given seat) ≡ min seat.place (length (events seat.seen)) = length-take seat.place (events seat.seen) in omega (arith, all)
+few_given seat = let all : length (given seat) ≡ min seat.place (length (events seat.seen)) = length-take seat.place
+    (events seat.seen) in omega (arith, all)
 
 abbrev IsGiven : Option Event → Type 0
 IsGiven (Some e) = Unit {0}
@@ -56,7 +60,8 @@ some_is_not_none : (e : Event) → Some e ≡ None → ⊥
 some_is_not_none e h = subst IsGiven h tt
 
 -- there was a word to read where an event was given
-room_left : (row : RowId) (old new : SeatState) (e : Event) → old.place ≤ row.capacity → Follows row.capacity old new (Some e) → old.place < row.capacity
+room_left : (row : RowId) (old new : SeatState) (e : Event) → old.place ≤ row.capacity
+    → Follows row.capacity old new (Some e) → old.place < row.capacity
 room_left row old new e le f =
     let other : old.place ≢ row.capacity = λ h. some_is_not_none e (f.end h).1 in
     omega (arith, le, other)
@@ -66,16 +71,19 @@ pub early : (i : ImageTables) (n : ℕ) (row : RowId) (old new : SeatState) (k :
     → IsFollowing i n row old k → Follows row.capacity old new (Some e) → k.taken < 2 ^ 20
 unfolding kernel_over
 early i n row old new k e was f =
-    let few : (kernel_over i n (given old)).taken ≤ 0 + length (given old) = taken_few code_meaning (start i n) (given old) in
+    let few : (kernel_over i n (given old)).taken ≤ 0 + length (given old) = taken_few code_meaning (start i n)
+    (given old) in
     let same : k.taken ≡ (kernel_over i n (given old)).taken = ap (λ (v : Kernels). v.taken) was.kernel_is in
     omega (arith, few, same, few_given old, room_left row old new e was.place f, was.capacity)
 
-row_kept : (row : RowId) (capacity : ℕ) (old new : SeatState) (r : Option Event) → old.row ≡ row → Follows capacity old new r → new.row ≡ row
+row_kept : (row : RowId) (capacity : ℕ) (old new : SeatState) (r : Option Event) → old.row ≡ row
+    → Follows capacity old new r → new.row ≡ row
 row_kept row capacity old new r at f = ap (λ (s : SeatState). s.row) f.same ∙ at
 
 -- a kernel that takes the event that was given
 pub goes_on : (i : ImageTables) (n : ℕ) (row : RowId) (old new : SeatState) (k next : Kernels) (e : Event)
-    → IsFollowing i n row old k → Follows row.capacity old new (Some e) → next ≡ view_after k (reaction_of k e) → IsFollowing i n row new next
+    → IsFollowing i n row old k → Follows row.capacity old new (Some e) → next ≡ view_after k (reaction_of k e)
+    → IsFollowing i n row new next
 unfolding kernel_over
 goes_on i n row old new k next e was f is =
     let left : old.place < row.capacity = room_left row old new e was.place f in
@@ -104,12 +112,14 @@ stays i n row old new k was f =
       at = row_kept row row.capacity old new None was.at f;
       place = omega (arith, was.place, same);
       capacity = was.capacity;
-      kernel_is = was.kernel_is ∙ ap (λ (es : List Event). kernel_over i n es) (sym (same_given row.capacity old new f));
+      kernel_is = was.kernel_is ∙ ap (λ (es : List Event). kernel_over i n es)
+          (sym (same_given row.capacity old new f));
     }
 
 -- the text of what the event did is what the text over all events has more
 pub prints : (i : ImageTables) (n : ℕ) (row : RowId) (old new : SeatState) (k : Kernels) (e : Event) (out next : List ℕ)
-    → IsFollowing i n row old k → Follows row.capacity old new (Some e) → next ≡ out ++ reaction_text k.system (k.done + 1) (reaction_of k e)
+    → IsFollowing i n row old k → Follows row.capacity old new (Some e) → next ≡ out
+    ++ reaction_text k.system (k.done + 1) (reaction_of k e)
     → Continues i n (given old) (given new) out next
 unfolding kernel_over
 prints i n row old new k e out next was f written =
@@ -119,8 +129,10 @@ prints i n row old new k e out next was f written =
       more = text;
       appended =
           written ∙ ap (λ (w : Kernels). out ++ reaction_text w.system (w.done + 1) (reaction_of w e)) was.kernel_is
-          ∙ ap (λ (t : SystemTables). out ++ reaction_text t (v.done + 1) (reaction_of v e)) (same_run code_meaning (start i n) (given old)).system
-          ∙ ap (λ (r : Reaction MachineContext). out ++ reaction_text i.system (v.done + 1) r) (same_reaction i n (given old) e);
+          ∙ ap (λ (t : SystemTables). out ++ reaction_text t (v.done + 1) (reaction_of v e))
+          (same_run code_meaning (start i n) (given old)).system
+          ∙ ap (λ (r : Reaction MachineContext). out ++ reaction_text i.system (v.done + 1) r)
+          (same_reaction i n (given old) e);
       goes_on = ap (λ (es : List Event). followed_text i n es) f.some.1 ∙ followed_last i n (given old) e;
     }
 
@@ -131,23 +143,28 @@ prints_nothing i n capacity old new out next f same =
     record {
       more = [];
       appended = same ∙ sym (nothing_behind out);
-      goes_on = ap (λ (es : List Event). followed_text i n es) (same_given capacity old new f) ∙ sym (nothing_behind (followed_text i n (given old)));
+      goes_on = ap (λ (es : List Event). followed_text i n es) (same_given capacity old new f)
+          ∙ sym (nothing_behind (followed_text i n (given old)));
     }
 
 -- setup's lines are the text over no event
 pub begins : (i : ImageTables) (n : ℕ) (sys : SystemTables) (k : Kernels) (out next : List ℕ)
-    → sys ≡ i.system → k ≡ kernel_after i n [] → next ≡ out ++ lines_text sys 0 k.lines → next ≡ out ++ followed_text i n []
+    → sys ≡ i.system → k ≡ kernel_after i n [] → next ≡ out ++ lines_text sys 0 k.lines → next ≡ out
+    ++ followed_text i n []
 begins i n sys k out next system_is kernel_is written =
     written ∙ ap (λ (t : SystemTables). out ++ lines_text t 0 k.lines) system_is
     ∙ ap (λ (v : Kernels). out ++ lines_text i.system 0 v.lines) (kernel_is ∙ sym (setup_replays i n))
     ∙ ap (λ (xs : List ℕ). out ++ xs) (sym (followed_none i n))
 
 -- the same for the image and the bound of a board
-pub begins_at : (i j : ImageTables) (n m : ℕ) (out next : List ℕ) → j ≡ i → m ≡ n → next ≡ out ++ followed_text j m [] → next ≡ out ++ followed_text i n []
+pub begins_at : (i j : ImageTables) (n m : ℕ) (out next : List ℕ) → j ≡ i → m ≡ n → next ≡ out ++ followed_text j m []
+    → next ≡ out ++ followed_text i n []
 begins_at i j n m out next image_is bound_is written =
-    written ∙ ap (λ (x : ImageTables). out ++ followed_text x m []) image_is ∙ ap (λ (x : ℕ). out ++ followed_text i x []) bound_is
+    written ∙ ap (λ (x : ImageTables). out ++ followed_text x m []) image_is
+    ∙ ap (λ (x : ℕ). out ++ followed_text i x []) bound_is
 
-pub made_at : (i j : ImageTables) (n m : ℕ) (k : Kernels) → j ≡ i → m ≡ n → k ≡ kernel_after j m [] → k ≡ kernel_after i n []
+pub made_at : (i j : ImageTables) (n m : ℕ) (k : Kernels) → j ≡ i → m ≡ n → k ≡ kernel_after j m [] → k
+    ≡ kernel_after i n []
 made_at i j n m k image_is bound_is is =
     is ∙ ap (λ (x : ImageTables). kernel_after x m []) image_is ∙ ap (λ (x : ℕ). kernel_after i x []) bound_is
 

@@ -37,7 +37,8 @@ module _ {B C : Type 0} (meaning : B → Meaning C) where
 
   of_first : (k : KernelView B C) (es : List Event) (e : Event) (r : Reaction C)
       → ((v : KernelView B C) → text_of v (es ++ e ∷ []) ≡ text_of v es ++ next_of v es e)
-      → events_text k.system (k.done + 1) (run_on k.world r (λ w. run k.system (meaning k.body) k.bound w (es ++ e ∷ []))).events
+      → events_text k.system (k.done + 1) (run_on k.world r (λ w. run k.system (meaning k.body) k.bound w
+      (es ++ e ∷ []))).events
       ≡ events_text k.system (k.done + 1) (run_on k.world r (λ w. run k.system (meaning k.body) k.bound w es)).events
       ++ next_of (view_after k r) es e
   of_first k es e Nothing h = h k
@@ -55,7 +56,8 @@ module _ {B C : Type 0} (meaning : B → Meaning C) where
   same_next k (Did d) es e = refl
   same_next k (Kept p w) es e = refl
 
-  pub text_last : (k : KernelView B C) (es : List Event) (e : Event) → text_of k (es ++ e ∷ []) ≡ text_of k es ++ next_of k es e
+  pub text_last : (k : KernelView B C) (es : List Event) (e : Event) → text_of k (es ++ e ∷ []) ≡ text_of k es
+      ++ next_of k es e
   text_last k [] e =
       of_one k.system (k.done + 1) k.world (step k.system (meaning k.body) k.bound k.world e)
   text_last k (x ∷ es) e =
@@ -85,7 +87,8 @@ module _ {B C : Type 0} (meaning : B → Meaning C) where
       let r : Reaction C = step k.system (meaning k.body) k.bound k.world x in
       same_first k _ r (same_run (view_after k r) es)
 
-  taken_first : (k v : KernelView B C) (r : Reaction C) (n : ℕ) → v.taken ≤ (view_after k r).taken + n → v.taken ≤ k.taken + (n + 1)
+  taken_first : (k v : KernelView B C) (r : Reaction C) (n : ℕ) → v.taken ≤ (view_after k r).taken + n
+      → v.taken ≤ k.taken + (n + 1)
   taken_first k v Nothing n h = omega (arith, h)
   taken_first k v (Did d) n h = omega (arith, h)
   taken_first k v (Kept p w) n h = omega (arith, h)
@@ -101,8 +104,10 @@ module _ {B C : Type 0} (meaning : B → Meaning C) where
       omega (arith, all, more)
 
   world_first : (k : KernelView B C) (es : List Event) (r : Reaction C)
-      → ((v : KernelView B C) → (run v.system (meaning v.body) v.bound v.world es).world ≡ (view_after_all meaning v es).world)
-      → (run_on k.world r (λ w. run k.system (meaning k.body) k.bound w es)).world ≡ (view_after_all meaning (view_after k r) es).world
+      → ((v : KernelView B C) → (run v.system (meaning v.body) v.bound v.world es).world
+      ≡ (view_after_all meaning v es).world)
+      → (run_on k.world r (λ w. run k.system (meaning k.body) k.bound w es)).world
+      ≡ (view_after_all meaning (view_after k r) es).world
   world_first k es Nothing h = h k
   world_first k es (Did d) h = h (view_after k (Did d))
   world_first k es (Kept p w) h = h (view_after k (Kept p w))
@@ -118,7 +123,8 @@ module _ {B C : Type 0} (meaning : B → Meaning C) where
 pub followed_last : (i : ImageTables) (n : ℕ) (es : List Event) (e : Event)
     → followed_text i n (es ++ e ∷ [])
     ≡ followed_text i n es
-    ++ reaction_text i.system ((kernel_over i n es).done + 1) (step i.system (code_meaning i.code) n (kernel_over i n es).world e)
+    ++ reaction_text i.system ((kernel_over i n es).done + 1) (step i.system (code_meaning i.code) n
+    (kernel_over i n es).world e)
 unfolding followed_text kernel_over
 followed_last i n es e =
     let d : Done MachineContext = setup i.system (code_meaning i.code) in
@@ -128,13 +134,15 @@ followed_last i n es e =
     ∙ sym (append_assoc first (text_of code_meaning k es) (next_of code_meaning k es e))
 
 -- the text over no event is that of setup's lines
-pub followed_none : (i : ImageTables) (n : ℕ) → followed_text i n [] ≡ lines_text i.system 0 (setup i.system (code_meaning i.code)).lines
+pub followed_none : (i : ImageTables) (n : ℕ) → followed_text i n []
+    ≡ lines_text i.system 0 (setup i.system (code_meaning i.code)).lines
 unfolding followed_text
 followed_none i n = nothing_behind (lines_text i.system 0 (setup i.system (code_meaning i.code)).lines)
 
 -- what a system prints is the text over the events, and then the states
 pub front : (i : ImageTables) (n : ℕ) (es : List Event)
-    → whole_text i.system (code_meaning i.code) n es ≡ followed_text i n es ++ states_text i.system (kernel_over i n es).world.state
+    → whole_text i.system (code_meaning i.code) n es ≡ followed_text i n es
+    ++ states_text i.system (kernel_over i n es).world.state
 unfolding followed_text kernel_over
 front i n es =
     let d : Done MachineContext = setup i.system (code_meaning i.code) in

@@ -1,5 +1,6 @@
 -- What a follower of a board is given, what it prints of that, and what contracts see of it.
-use Rattle.std.specs.Prelude.{◌≡◌, ◌⊎◌, ℕ, ◌+◌, ◌<◌, ◌≤◌, ◌^◌, List, [], ◌∷◌, ◌++◌, length, Option, None, IfNone, IfSome}
+use Rattle.std.specs.Prelude.{◌≡◌, ◌⊎◌, ℕ, ◌+◌, ◌<◌, ◌≤◌, ◌^◌, List, [], ◌∷◌, ◌++◌, length, Option, None, IfNone}
+use Rattle.std.specs.Prelude.{IfSome}
 use Rattle.std.specs.Borrow.{MutBor}
 use mathlib.Core.List.{IsPrefix}
 use Rattle.fmp_base.specs.declared.events.Event.{Event}

@@ -1,5 +1,6 @@
 -- A kernel whose bodies run outside does the same in alike worlds.
-use Rattle.std.proofs.Common.{◌≡◌, ℕ, zero, suc, List, [], ◌∷◌, ◌++◌, Option, Some, None, refl, sym, subst, ap, ◌∙◌, map}
+use Rattle.std.proofs.Common.{◌≡◌, ℕ, zero, suc, List, [], ◌∷◌, ◌++◌, Option, Some, None, refl, sym, subst, ap, ◌∙◌}
+use Rattle.std.proofs.Common.{map}
 use Rattle.fmp_bisimulation.specs.Alike.{Alike}
 use Rattle.fmp_bisimulation.specs.Closed.{BothAlike, all_timeless}
 use Rattle.fmp_bisimulation.proofs.StepLaws.{step-same}
@@ -17,11 +18,14 @@ use Rattle.fmp_base.specs.declared.events.Line.TheVariants as line
 use Rattle.fmp_base.specs.declared.states.Caller.{Caller}
 use Rattle.fmp_base.specs.declared.states.Caller.TheVariants as caller
 use Rattle.fmp_base.specs.Calls.{called}
-use Rattle.fmp_base.specs.Meanings.{Contexts, Meaning, World, called_back, caller_body, context_of, contexts_after, contexts_after_all, delivered_to, fresh_context, handler_start, told, with_context, with_handler_context}
+use Rattle.fmp_base.specs.Meanings.{Contexts, Meaning, World, called_back, caller_body, context_of, contexts_after}
+use Rattle.fmp_base.specs.Meanings.{contexts_after_all, delivered_to, fresh_context, handler_start, told, with_context}
+use Rattle.fmp_base.specs.Meanings.{with_handler_context}
 use Rattle.fmp_base.specs.Runs.{run_on}
 use Rattle.fmp_base.specs.Settles.{settled}
 use Rattle.fmp_base.specs.States.{Progress, processor_at}
-use Rattle.fmp_base.specs.Steps.{Done, Reaction, Nothing, Did, Kept, actor_ended, actor_of, answered, contexts_ended, ended_with, finished, run_by, run_in, step, stretched}
+use Rattle.fmp_base.specs.Steps.{Done, Reaction, Nothing, Did, Kept, actor_ended, actor_of, answered, contexts_ended}
+use Rattle.fmp_base.specs.Steps.{ended_with, finished, run_by, run_in, step, stretched}
 use Rattle.fmp_base.specs.Stretches.{Ending}
 use Rattle.fmp_base.specs.Stretches as ends
 use Rattle.fmp_base.specs.Systems.{SystemTables}
@@ -165,4 +169,5 @@ module _ {C : Type 0} (sys : SystemTables) (F : Meaning C) (n : ℕ) (d : C) whe
       → RunAlike sys (outside_run sys F n d v gs) (outside_run sys F n d w gs)
   run_alike [] v w h = record { lines = refl; worlds = h }
   run_alike (g ∷ gs) v w h =
-      after_both gs v w (outside_step sys F n d v g) (outside_step sys F n d w g) (outside_same v w g h) h (run_alike gs)
+      after_both gs v w (outside_step sys F n d v g) (outside_step sys F n d w g) (outside_same v w g h) h
+      (run_alike gs)

@@ -14,6 +14,7 @@ of_any (ends.Fault c fault) = tt
 of_any (ends.Over None) = tt
 of_any (ends.Over (Some c)) = tt
 
-pub any_stretch : (f : Unit {0}) (x : Ending LastTold) (o : Option (Going LastTold)) → IsFor (λ f entry told. Unit {0}) f x o
+pub any_stretch : (f : Unit {0}) (x : Ending LastTold) (o : Option (Going LastTold))
+    → IsFor (λ f entry told. Unit {0}) f x o
 any_stretch f x None = tt
 any_stretch f x (Some g) = of_any x

@@ -1,5 +1,6 @@
 -- What the text has followed, put together turn by turn.
-use Rattle.std.proofs.Common.{◌≡◌, ◌∙◌, ap, sym, subst, refl, ℕ, zero, suc, ◌+◌, List, [], ◌∷◌, ◌++◌, Option, Some, None}
+use Rattle.std.proofs.Common.{◌≡◌, ◌∙◌, ap, sym, subst, refl, ℕ, zero, suc, ◌+◌, List, [], ◌∷◌, ◌++◌, Option, Some}
+use Rattle.std.proofs.Common.{None}
 use Rattle.fmp_base.specs.declared.bodies.Held.{Held}
 use Rattle.fmp_base.specs.declared.bodies.Held.TheVariants.{Goes, Awaits}
 use Rattle.fmp_base.specs.declared.events.Event.{Event}
@@ -95,8 +96,10 @@ module _ {B C : Type 0} (meaning : B → Meaning C) where
   world_all k [] = refl
   world_all k (e ∷ es) = by_reaction (step k.system (meaning k.body) k.bound k.world e) (λ i. world_all i es) where
     by_reaction : (r : Reaction C)
-        → ((i : KernelView B C) → (view_after_all meaning i es).world ≡ worlds_after i.system (meaning i.body) i.bound i.world es)
-        → (view_after_all meaning (view_after k r) es).world ≡ worlds_after k.system (meaning k.body) k.bound (world_after k.world r) es
+        → ((i : KernelView B C) → (view_after_all meaning i es).world
+        ≡ worlds_after i.system (meaning i.body) i.bound i.world es)
+        → (view_after_all meaning (view_after k r) es).world ≡ worlds_after k.system (meaning k.body) k.bound
+        (world_after k.world r) es
     by_reaction Nothing rest = rest k
     by_reaction (Did d) rest = rest (view_after k (Did d))
     by_reaction (Kept p w) rest = rest (view_after k (Kept p w))
@@ -116,7 +119,8 @@ module _ {B C : Type 0} (meaning : B → Meaning C) where
   once k g new t e =
       record {
         events = event_of g ∷ [];
-        follows = does k.world g [] [] t (ends (world_after k.world (step k.system (meaning k.body) k.bound k.world (event_of g))));
+        follows = does k.world g [] [] t (ends (world_after k.world (step k.system (meaning k.body) k.bound k.world
+            (event_of g))));
         kernel = e;
       }
 
@@ -160,13 +164,17 @@ module _ {B C : Type 0} (meaning : B → Meaning C) where
       let bound : mid.bound ≡ old.bound = ap (λ (i : KernelView B C). i.bound) a.kernel ∙ sym parts.bound in
       let system : mid.system ≡ old.system = ap (λ (i : KernelView B C). i.system) a.kernel ∙ sym parts.system in
       let there = subst (λ (w : World C). Follows mid.system (meaning mid.body) mid.bound w hs b.events) at b.follows in
-      let same_body = subst (λ (i : B). Follows mid.system (meaning i) mid.bound (worlds_after old.system M old.bound old.world a.events) hs b.events) body there in
-      let same_bound = subst (λ (n : ℕ). Follows mid.system M n (worlds_after old.system M old.bound old.world a.events) hs b.events) bound same_body in
-      let same = subst (λ (s : SystemTables). Follows s M old.bound (worlds_after old.system M old.bound old.world a.events) hs b.events) system same_bound in
+      let same_body = subst (λ (i : B). Follows mid.system (meaning i) mid.bound
+      (worlds_after old.system M old.bound old.world a.events) hs b.events) body there in
+      let same_bound = subst (λ (n : ℕ). Follows mid.system M n (worlds_after old.system M old.bound old.world
+      a.events) hs b.events) bound same_body in
+      let same = subst (λ (s : SystemTables). Follows s M old.bound (worlds_after old.system M old.bound old.world
+      a.events) hs b.events) system same_bound in
       record {
         events = a.events ++ b.events;
         follows = joined old.system M old.bound old.world gs hs a.events b.events a.follows same;
-        kernel = b.kernel ∙ ap (λ (i : KernelView B C). view_after_all meaning i b.events) a.kernel ∙ all_joined old a.events b.events;
+        kernel = b.kernel ∙ ap (λ (i : KernelView B C). view_after_all meaning i b.events) a.kernel
+            ∙ all_joined old a.events b.events;
       }
 
   run-world : (k : KernelView B C) (es : List Event)
@@ -174,8 +182,10 @@ module _ {B C : Type 0} (meaning : B → Meaning C) where
   run-world k [] = refl
   run-world k (e ∷ es) = by_reaction (step k.system (meaning k.body) k.bound k.world e) (λ i. run-world i es) where
     by_reaction : (r : Reaction C)
-        → ((i : KernelView B C) → (view_after_all meaning i es).world ≡ (run i.system (meaning i.body) i.bound i.world es).world)
-        → (view_after_all meaning (view_after k r) es).world ≡ (run_on k.world r (λ v. run k.system (meaning k.body) k.bound v es)).world
+        → ((i : KernelView B C) → (view_after_all meaning i es).world
+        ≡ (run i.system (meaning i.body) i.bound i.world es).world)
+        → (view_after_all meaning (view_after k r) es).world ≡ (run_on k.world r
+        (λ v. run k.system (meaning k.body) k.bound v es)).world
     by_reaction Nothing rest = rest k
     by_reaction (Did d) rest = rest (view_after k (Did d))
     by_reaction (Kept p w) rest = rest (view_after k (Kept p w))
@@ -190,6 +200,7 @@ module _ {B C : Type 0} (meaning : B → Meaning C) where
         follows = h.follows;
         same = same;
         state = same.state
-            ∙ ap (λ (w : World C). w.state) (sym (run-world (view_of_setup body n sys (setup sys (meaning body))) h.events))
+            ∙ ap (λ (w : World C). w.state) (sym (run-world (view_of_setup body n sys (setup sys (meaning body)))
+            h.events))
             ∙ ap (λ (i : KernelView B C). i.world.state) (sym h.kernel);
       }

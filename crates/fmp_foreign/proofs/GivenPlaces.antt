@@ -27,11 +27,13 @@ ran_place o (Did d) h = tt
 ran_place o (Kept p w) h = h
 
 -- the actor of a processor, if it goes on, is the one whose stretch ends
-place_in : {C : Type 0} (sys : SystemTables) (M : Meaning C) (w : World C) (p : ℕ) (who : Caller) (o : Option (Held C)) (x : Ending C)
+place_in : {C : Type 0} (sys : SystemTables) (M : Meaning C) (w : World C) (p : ℕ) (who : Caller)
+    (o : Option (Held C)) (x : Ending C)
     → IsPlaceOf (Some p) (applied_in sys M w p who o x)
 place_in sys M w p who None x = tt
 place_in sys M w p who (Some (Awaits c)) x = tt
-place_in sys M w p who (Some (Goes c)) x = ran_place (Some p) (stretched sys M w p who x) (ran-stretched sys M w p who x)
+place_in sys M w p who (Some (Goes c)) x = ran_place (Some p) (stretched sys M w p who x)
+    (ran-stretched sys M w p who x)
 
 place_by : {C : Type 0} (sys : SystemTables) (M : Meaning C) (w : World C) (p : ℕ) (o : Option Caller) (x : Ending C)
     → IsPlaceOf (Some p) (applied_by sys M w p o x)

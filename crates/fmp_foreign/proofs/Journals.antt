@@ -1,5 +1,6 @@
 -- A journal that the text has followed up to a place.
-use Rattle.std.proofs.Common.{◌≡◌, ◌≢◌, ◌≤◌, ◌+◌, ◌^◌, ℕ, zero, suc, List, [], ◌∷◌, ◌++◌, Some, length, take, add-one, refl, ap, subst, sym, ◌∙◌}
+use Rattle.std.proofs.Common.{◌≡◌, ◌≢◌, ◌≤◌, ◌+◌, ◌^◌, ℕ, zero, suc, List, [], ◌∷◌, ◌++◌, Some, length, take, add-one}
+use Rattle.std.proofs.Common.{refl, ap, subst, sym, ◌∙◌}
 use Rattle.std.specs.Prelude.{slice_get}
 use Rattle.std.proofs.Math.Seq.{take-length}
 use Rattle.fmp_base.specs.Meanings.{Meaning}
@@ -32,7 +33,8 @@ module _ {B C : Type 0} (meaning : B → Meaning C) (old mid new : KernelView B 
   pub all_followed : HasFollowed meaning old (take (length gs) gs) mid → HasFollowed meaning old gs mid
   all_followed h = subst (λ (xs : List Given). HasFollowed meaning old xs mid) (take-length gs) h
 
-  pub departs : (at : ℕ) (why : BodyVerdict) (g : Given) → slice_get gs at ≡ Some g → HasFollowed meaning old (take at gs) mid
+  pub departs : (at : ℕ) (why : BodyVerdict) (g : Given) → slice_get gs at ≡ Some g
+      → HasFollowed meaning old (take at gs) mid
       → HasFollowed meaning mid [] new → why ≢ verdict.Follows → (why ≡ verdict.Differs → DoesOtherwise meaning new g)
       → (turns : ℕ) → (why ≡ verdict.Long → new.taken ≡ mid.taken + turns) → (why ≡ verdict.Full → 2 ^ 31 ≤ new.taken)
       → Departs meaning old gs new turns (record { at = at; why = why })

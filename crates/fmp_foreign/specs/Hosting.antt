@@ -1,5 +1,6 @@
 -- What comes to a hosted system, whether it is taken, and what it does.
-use Rattle.std.specs.Prelude.{◌≡◌, ℕ, ℤ, pos, ◌-◌, ◌^◌, List, [], ◌∷◌, length, Option, Some, None, Result, Ok, Err, Bool, ◌&&◌, if◌then◌else◌, nat_le, nat_lt, get_or}
+use Rattle.std.specs.Prelude.{◌≡◌, ℕ, ℤ, pos, ◌-◌, ◌^◌, List, [], ◌∷◌, length, Option, Some, None, Result, Ok, Err}
+use Rattle.std.specs.Prelude.{Bool, ◌&&◌, if◌then◌else◌, nat_le, nat_lt, get_or}
 use Rattle.fmp_base.specs.declared.calls.Call.{Call}
 use Rattle.fmp_base.specs.declared.events.Effect.{Effect}
 use Rattle.fmp_base.specs.declared.services.Service.{Service}

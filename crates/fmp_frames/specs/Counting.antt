@@ -1,5 +1,6 @@
 -- What is counted of the tasks of a run, frame by frame.
-use Rattle.std.specs.Prelude.{ℕ, ◌+◌, ◌-◌, ◌^◌, List, [], ◌∷◌, Option, None, Some, Bool, true, false, ◌&&◌, nat_eq, length, min, get_or, slice_get}
+use Rattle.std.specs.Prelude.{ℕ, ◌+◌, ◌-◌, ◌^◌, List, [], ◌∷◌, Option, None, Some, Bool, true, false, ◌&&◌, nat_eq}
+use Rattle.std.specs.Prelude.{length, min, get_or, slice_get}
 use Rattle.std.specs.List.{filter}
 use Rattle.fmp_base.specs.declared.codes.Er.{Er}
 use Rattle.fmp_base.specs.declared.codes.Er.TheVariants as er

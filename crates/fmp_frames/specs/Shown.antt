@@ -12,7 +12,8 @@ frame_now meaning k = frame_of k.system (meaning k.body) k.bound k.world k.lines
 
 -- a viewer that began with the last frame of a kernel was shown all those of what comes to it from there on
 pub record WasShown {V B C X : Type 0} (Begins : V → FrameTable → Type 0) (shown : V → FrameTable → V → Type 0)
-    (meaning : B → Meaning C) (reaction : KernelView B C → X → Reaction C) (k : KernelView B C) (xs : List X) (last : V) :
+    (meaning : B → Meaning C) (reaction : KernelView B C → X → Reaction C) (k : KernelView B C) (xs : List X)
+    (last : V) :
     Type 0 where
   pub first : V
   pub begins : Begins first (frame_now meaning k)

@@ -27,6 +27,7 @@ abbrev pub next_call : {C : Type 0} → SystemTables → Meaning C → (bound : 
 next_call sys M bound w p = call_by M bound (actor_at sys w p)
 
 -- what the actor of the processor at place p spins for, given all processors
-abbrev pub spin_at : {C : Type 0} → SystemTables → Meaning C → (bound : ℕ) → World C → List Processor → ℕ → Option SpinWait
+abbrev pub spin_at : {C : Type 0} → SystemTables → Meaning C → (bound : ℕ) → World C → List Processor → ℕ
+    → Option SpinWait
 spin_at sys M bound w cpus p =
     spin_on cpus (length sys.spin_locks) (processor_at w.state p) (next_call sys M bound w p)

@@ -1,5 +1,6 @@
 -- What the variables of a dump show of a frame.
-use Rattle.std.specs.Prelude.{ℕ, ◌+◌, ◌*◌, List, Option, None, Some, Bool, true, false, not, ◌&&◌, nat_eq, nat_lt, length, get_or, slice_get, pos, map}
+use Rattle.std.specs.Prelude.{ℕ, ◌+◌, ◌*◌, List, Option, None, Some, Bool, true, false, not, ◌&&◌, nat_eq, nat_lt}
+use Rattle.std.specs.Prelude.{length, get_or, slice_get, pos, map}
 use Rattle.std.specs.List.{filter}
 use Rattle.std.specs.Int.{cast_unsigned, w32}
 use Rattle.fmp_base.specs.declared.codes.Er.{Er}

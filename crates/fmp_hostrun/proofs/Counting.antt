@@ -1,5 +1,7 @@
 -- What stands in the journal of a closed board whose threads started with new seats.
-use Rattle.std.proofs.Common.{◌≡◌, ◌≢◌, ◌⊎◌, inl, inr, ℕ, zero, suc, ◌+◌, ◌*◌, ◌<◌, ◌≤◌, ◌==◌, nat_lt, Bool, true, false, true≢false, cond, List, [], ◌∷◌, ◌++◌, Some, Ok, Err, slice_get, length, filter, replicate, refl, sym, ap, ◌∙◌, subst, arith}
+use Rattle.std.proofs.Common.{◌≡◌, ◌≢◌, ◌⊎◌, inl, inr, ℕ, zero, suc, ◌+◌, ◌*◌, ◌<◌, ◌≤◌, ◌==◌, nat_lt, Bool, true}
+use Rattle.std.proofs.Common.{false, true≢false, cond, List, [], ◌∷◌, ◌++◌, Some, Ok, Err, slice_get, length, filter}
+use Rattle.std.proofs.Common.{replicate, refl, sym, ap, ◌∙◌, subst, arith}
 use Rattle.std.proofs.lemmas.List.{length-replicate}
 use Rattle.std.proofs.lemmas.List.Elements.{All-cons, All-nil, All-tail}
 use Rattle.std.proofs.lemmas.Option.{get_or_from_slice_get, slice_get_within}
@@ -39,11 +41,13 @@ all_replicated P (suc n) x p = (p, all_replicated P n x p)
 
 -- elements that pass a test, by whether the first one does
 
-kept_rest : {X : Type 0} (P : X → Type 0) (b : Bool) (x : X) (ys : List X) → AllByRecursion P (cond b (x ∷ ys) ys) → AllByRecursion P ys
+kept_rest : {X : Type 0} (P : X → Type 0) (b : Bool) (x : X) (ys : List X) → AllByRecursion P (cond b (x ∷ ys) ys)
+    → AllByRecursion P ys
 kept_rest P true x ys all = all.1
 kept_rest P false x ys all = all
 
-kept_first : {X : Type 0} (P : X → Type 0) (b : Bool) (x : X) (ys : List X) → b ≡ true → AllByRecursion P (cond b (x ∷ ys) ys) → P x
+kept_first : {X : Type 0} (P : X → Type 0) (b : Bool) (x : X) (ys : List X) → b ≡ true
+    → AllByRecursion P (cond b (x ∷ ys) ys) → P x
 kept_first P true x ys is all = all.0
 kept_first P false x ys is all = absurd (true≢false (sym is))
 
@@ -67,40 +71,51 @@ record IsOwn (load : Load) (s : ℕ) (journal : List JournalEntry) : Type 0 wher
   are : AllByRecursion (λ x. x.event ≡ (part_at load s).event) (own s journal)
 
 is_own : (i : ImageTables) (n : ℕ) (row : RowId) (load : Load) (s : ℕ) (b : SeatState) (journal : List JournalEntry)
-    → Added i n row (part_at load s).event (part_at load s).times (new_seat row s) b → HasCounted journal b → IsOwn load s journal
+    → Added i n row (part_at load s).event (part_at load s).times (new_seat row s) b → HasCounted journal b
+    → IsOwn load s journal
 is_own i n row load s b journal a h =
     let e : Event = (part_at load s).event in
     let number : b.number ≡ s = ap (λ (x : SeatState). x.number) a.kept.same in
     let seen : own b.number b.seen ≡ replicate a.count (entry s e) = a.added refl in
-    let count : length (own b.number journal) ≡ length (own b.number b.seen) = omega (arith, h.1, a.mine_is, ap length seen, length-replicate a.count (entry s e)) in
+    let count : length (own b.number journal) ≡ length (own b.number b.seen) = omega
+    (arith, h.1, a.mine_is, ap length seen, length-replicate a.count (entry s e)) in
     let all : own s journal ≡ replicate a.count (entry s e) =
     ap (λ (m : ℕ). own m journal) (sym number) ∙ own_same b.number b.seen journal h.0 count ∙ seen in
     record {
       few = omega (arith, ap length all, length-replicate a.count (entry s e), a.few);
-      are = subst (AllByRecursion (λ x. x.event ≡ e)) (sym all) (all_replicated (λ x. x.event ≡ e) a.count (entry s e) refl);
+      are = subst (AllByRecursion (λ x. x.event ≡ e)) (sym all) (all_replicated (λ x. x.event ≡ e) a.count
+          (entry s e) refl);
     }
 
-added_at : (i : ImageTables) (n : ℕ) (row : RowId) (load : Load) (place s : ℕ) (seats back : List SeatState) (a : SeatState) → AllAdded i n row load place seats back
+added_at : (i : ImageTables) (n : ℕ) (row : RowId) (load : Load) (place s : ℕ) (seats back : List SeatState)
+    (a : SeatState) → AllAdded i n row load place seats back
     → slice_get seats s ≡ Some a
-    → (b : SeatState) × (slice_get back s ≡ Some b) × Added i n row (part_at load (place + s)).event (part_at load (place + s)).times a b
+    → (b : SeatState) × (slice_get back s ≡ Some b) × Added i n row (part_at load (place + s)).event
+    (part_at load (place + s)).times a b
 added_at i n row load place s [] back a all found = absurd (cc)
 added_at i n row load place s (x ∷ seats) [] a all found = absurd all
 added_at i n row load place zero (x ∷ seats) (y ∷ back) a all found =
     let part : part_at load place ≡ part_at load (place + 0) = ap (part_at load) (omega arith) in
-    let is : x ≡ a = cc in
-    (y, refl, subst (λ (p : ThreadPart). Added i n row p.event p.times a y) part (subst (λ (z : SeatState). Added i n row (part_at load place).event (part_at load place).times z y) is all.0))
+    let is : x ≡ a = cc in (
+      y,
+      refl,
+      subst (λ (p : ThreadPart). Added i n row p.event p.times a y) part
+          (subst (λ (z : SeatState). Added i n row (part_at load place).event (part_at load place).times z y) is all.0),
+    )
 added_at i n row load place (suc s) (x ∷ seats) (y ∷ back) a all found =
     let next = added_at i n row load (place + 1) s seats back a all.1 found in
     let part : part_at load (place + 1 + s) ≡ part_at load (place + suc s) = ap (part_at load) (omega arith) in
     (next.0, next.1, subst (λ (p : ThreadPart). Added i n row p.event p.times a next.0) part next.2)
 
 -- the seats of a board that was closed have counted their entries
-own_at : (i : ImageTables) (n : ℕ) (row : RowId) (load : Load) (seats back : List SeatState) (journal : List JournalEntry) → AreNew row seats → AllAdded i n row load 0 seats back
+own_at : (i : ImageTables) (n : ℕ) (row : RowId) (load : Load) (seats back : List SeatState)
+    (journal : List JournalEntry) → AreNew row seats → AllAdded i n row load 0 seats back
     → All (HasCounted journal) back → (s : ℕ) → s < row.seats → IsOwn load s journal
 own_at i n row load seats back journal new all counted s lt =
     let found = added_at i n row load 0 s seats back (new_seat row s) all (new.1 s lt) in
     let part : part_at load (0 + s) ≡ part_at load s = ap (part_at load) (omega arith) in
-    is_own i n row load s found.0 journal (subst (λ (p : ThreadPart). Added i n row p.event p.times (new_seat row s) found.0) part found.2)
+    is_own i n row load s found.0 journal (subst (λ (p : ThreadPart). Added i n row p.event p.times
+    (new_seat row s) found.0) part found.2)
     (by_place (HasCounted journal) back s found.0 counted found.1)
 
 -- the event of each entry is that of its seat's thread
@@ -109,20 +124,34 @@ abbrev IsOf : Load → (m : ℕ) → JournalEntry → Type 0
 IsOf load m x = (x.seat < m) × (x.event ≡ (part_at load x.seat).event)
 
 all_of : (load : Load) (m : ℕ) (journal : List JournalEntry) → AllByRecursion (λ x. x.seat < m) journal
-    → ((s : ℕ) → s < m → AllByRecursion (λ x. x.event ≡ (part_at load s).event) (own s journal)) → AllByRecursion (IsOf load m) journal
+    → ((s : ℕ) → s < m → AllByRecursion (λ x. x.event ≡ (part_at load s).event) (own s journal))
+    → AllByRecursion (IsOf load m) journal
 all_of load m [] seats are = tt
 all_of load m (x ∷ journal) seats are = (
-  (seats.0, kept_first (λ y. y.event ≡ (part_at load x.seat).event) (x.seat == x.seat) x (own x.seat journal) (same_number x.seat) (are x.seat seats.0)),
-  all_of load m journal seats.1 (λ s lt. kept_rest (λ y. y.event ≡ (part_at load s).event) (x.seat == s) x (own s journal) (are s lt)),
+  (
+    seats.0,
+    kept_first (λ y. y.event ≡ (part_at load x.seat).event) (x.seat == x.seat) x (own x.seat journal)
+        (same_number x.seat) (are x.seat seats.0),
+  ),
+  all_of load m journal seats.1 (λ s lt. kept_rest (λ y. y.event ≡ (part_at load s).event) (x.seat == s) x
+      (own s journal) (are s lt)),
 )
 
 -- entries of an event, counted
 
-count_most : (P : JournalEntry → Type 0) (p : Event → Bool) (q : JournalEntry → Bool) → ((x : JournalEntry) → P x → p x.event ≡ true → q x ≡ true) → (journal : List JournalEntry)
+count_most : (P : JournalEntry → Type 0) (p : Event → Bool) (q : JournalEntry → Bool)
+    → ((x : JournalEntry) → P x → p x.event ≡ true → q x ≡ true) → (journal : List JournalEntry)
     → AllByRecursion P journal → length (filter p (events journal)) ≤ length (filter q journal)
 count_most P p q then [] all = omega arith
 count_most P p q then (x ∷ journal) all =
-    omega (arith, count_cons (p x.event) x.event (filter p (events journal)), count_cons (q x) x (filter q journal), more_of (p x.event) (q x) (then x all.0), count_most P p q then journal all.1)
+    omega (
+      arith,
+      count_cons (p x.event) x.event (filter p (events journal)),
+      count_cons (q x) x
+          (filter q journal),
+      more_of (p x.event) (q x) (then x all.0),
+      count_most P p q then journal all.1,
+    )
 
 count_none : (journal : List JournalEntry) → length (filter (λ (x : JournalEntry). false) journal) ≡ 0
 count_none [] = refl
@@ -136,7 +165,8 @@ part_by load false s = record { event = Tick; times = load.ticks }
 part_is : (load : Load) (s : ℕ) → part_at load s ≡ part_by load (nat_lt s load.processors) s
 part_is load s = by_test (nat_lt s load.processors)
   where
-    by_test : (b : Bool) → cond b (record { event = Run (s + 1); times = load.turns }) (record { event = Tick; times = load.ticks }) ≡ part_by load b s
+    by_test : (b : Bool) → cond b (record { event = Run (s + 1); times = load.turns })
+        (record { event = Tick; times = load.ticks }) ≡ part_by load b s
     by_test true = refl
     by_test false = refl
 
@@ -145,80 +175,101 @@ run_seat load true s q is = grind (arith, nat_tests, is)
 run_seat load false s q is = absurd (true≢false (sym is))
 
 -- only the seats of processors have runs, of processors that there are
-no_run : (load : Load) (b : Bool) (s p : ℕ) → nat_lt s load.processors ≡ b → (p ≡ 0) ⊎ (load.processors < p) → is_run p (part_by load b s).event ≡ true → false ≡ true
+no_run : (load : Load) (b : Bool) (s p : ℕ) → nat_lt s load.processors ≡ b → (p ≡ 0) ⊎ (load.processors < p)
+    → is_run p (part_by load b s).event ≡ true → false ≡ true
 no_run load true s p lt (inl none) is = absurd (grind (arith, nat_tests, is, none))
 no_run load true s p lt (inr past) is = absurd (grind (arith, nat_tests, is, past, lt))
 no_run load false s p lt other is = is
 
-tick_seat : (load : Load) (b : Bool) (s m : ℕ) → nat_lt s load.processors ≡ b → s < m → m ≡ load.processors + 1 → is_tick (part_by load b s).event ≡ true → (s == load.processors) ≡ true
+tick_seat : (load : Load) (b : Bool) (s m : ℕ) → nat_lt s load.processors ≡ b → s < m → m ≡ load.processors + 1
+    → is_tick (part_by load b s).event ≡ true → (s == load.processors) ≡ true
 tick_seat load true s m lt in_row size is = absurd (true≢false (sym is))
 tick_seat load false s m lt in_row size is = grind (arith, nat_tests, lt, in_row, size)
 
-turn_or_tick : (load : Load) (b : Bool) (s : ℕ) → nat_lt s load.processors ≡ b → IsTurnOrTick load.processors (part_by load b s).event
+turn_or_tick : (load : Load) (b : Bool) (s : ℕ) → nat_lt s load.processors ≡ b
+    → IsTurnOrTick load.processors (part_by load b s).event
 turn_or_tick load true s lt = (omega arith, grind (arith, nat_tests, lt))
 turn_or_tick load false s lt = tt
 
-times_of : (load : Load) (b : Bool) (s : ℕ) → nat_lt s load.processors ≡ b → s < load.processors → (part_by load b s).times ≡ load.turns
+times_of : (load : Load) (b : Bool) (s : ℕ) → nat_lt s load.processors ≡ b → s < load.processors
+    → (part_by load b s).times ≡ load.turns
 times_of load true s lt less = refl
 times_of load false s lt less = absurd (grind (arith, nat_tests, lt, less))
 
-ticks_of : (load : Load) (b : Bool) (s : ℕ) → nat_lt s load.processors ≡ b → s ≡ load.processors → (part_by load b s).times ≡ load.ticks
+ticks_of : (load : Load) (b : Bool) (s : ℕ) → nat_lt s load.processors ≡ b → s ≡ load.processors
+    → (part_by load b s).times ≡ load.ticks
 ticks_of load true s lt is = absurd (grind (arith, nat_tests, lt, is))
 ticks_of load false s lt is = refl
 
 turns_at : (load : Load) (s : ℕ) → s < load.processors → (part_at load s).times ≡ load.turns
-turns_at load s less = ap (λ (p : ThreadPart). p.times) (part_is load s) ∙ times_of load (nat_lt s load.processors) s refl less
+turns_at load s less = ap (λ (p : ThreadPart). p.times) (part_is load s)
+    ∙ times_of load (nat_lt s load.processors) s refl less
 
 ticks_at : (load : Load) → (part_at load load.processors).times ≡ load.ticks
-ticks_at load = ap (λ (p : ThreadPart). p.times) (part_is load load.processors) ∙ ticks_of load (nat_lt load.processors load.processors) load.processors refl refl
+ticks_at load = ap (λ (p : ThreadPart). p.times) (part_is load load.processors)
+    ∙ ticks_of load (nat_lt load.processors load.processors) load.processors refl refl
 
 -- the event of an entry, by whether its seat is that of a processor
-event_by : (load : Load) (m : ℕ) (x : JournalEntry) → IsOf load m x → x.event ≡ (part_by load (nat_lt x.seat load.processors) x.seat).event
+event_by : (load : Load) (m : ℕ) (x : JournalEntry) → IsOf load m x → x.event
+    ≡ (part_by load (nat_lt x.seat load.processors) x.seat).event
 event_by load m x of = of.1 ∙ ap (λ (p : ThreadPart). p.event) (part_is load x.seat)
 
-all_turns_or_ticks : (load : Load) (m : ℕ) (journal : List JournalEntry) → AllByRecursion (IsOf load m) journal → All (IsTurnOrTick load.processors) (events journal)
+all_turns_or_ticks : (load : Load) (m : ℕ) (journal : List JournalEntry) → AllByRecursion (IsOf load m) journal
+    → All (IsTurnOrTick load.processors) (events journal)
 all_turns_or_ticks load m [] all = All-nil (IsTurnOrTick load.processors)
 all_turns_or_ticks load m (x ∷ journal) all =
     All-cons (IsTurnOrTick load.processors) x.event (events journal)
-    (subst (IsTurnOrTick load.processors) (sym (event_by load m x all.0)) (turn_or_tick load (nat_lt x.seat load.processors) x.seat refl))
+    (subst (IsTurnOrTick load.processors) (sym (event_by load m x all.0))
+    (turn_or_tick load (nat_lt x.seat load.processors) x.seat refl))
     (all_turns_or_ticks load m journal all.1)
 
-few_runs : (load : Load) (m : ℕ) (journal : List JournalEntry) → m ≡ load.processors + 1 → AllByRecursion (IsOf load m) journal → ((s : ℕ) → s < m → IsOwn load s journal) → (p : ℕ)
+few_runs : (load : Load) (m : ℕ) (journal : List JournalEntry) → m ≡ load.processors + 1
+    → AllByRecursion (IsOf load m) journal → ((s : ℕ) → s < m → IsOwn load s journal) → (p : ℕ)
     → length (filter (is_run p) (events journal)) ≤ load.turns
 few_runs load m journal size all owns p = by_number p (grind arith)
   where
     never : (p ≡ 0) ⊎ (load.processors < p) → length (filter (is_run p) (events journal)) ≤ load.turns
     never other =
         let most = count_most (IsOf load m) (is_run p) (λ (x : JournalEntry). false)
-        (λ x of is. no_run load (nat_lt x.seat load.processors) x.seat p refl other (sym (ap (is_run p) (event_by load m x of)) ∙ is)) journal all in
+        (λ x of is. no_run load (nat_lt x.seat load.processors) x.seat p refl other
+        (sym (ap (is_run p) (event_by load m x of)) ∙ is)) journal all in
         omega (arith, most, count_none journal)
 
-    by_side : (q : ℕ) → p ≡ suc q → (load.processors < p) ⊎ (p ≤ load.processors) → length (filter (is_run p) (events journal)) ≤ load.turns
+    by_side : (q : ℕ) → p ≡ suc q → (load.processors < p) ⊎ (p ≤ load.processors)
+        → length (filter (is_run p) (events journal)) ≤ load.turns
     by_side q is (inl past) = never (inr past)
     by_side q is (inr within) =
         let most = count_most (IsOf load m) (is_run (suc q)) (λ (x : JournalEntry). x.seat == q)
-        (λ x of one. run_seat load (nat_lt x.seat load.processors) x.seat q (sym (ap (is_run (suc q)) (event_by load m x of)) ∙ one)) journal all in
+        (λ x of one. run_seat load (nat_lt x.seat load.processors) x.seat q
+        (sym (ap (is_run (suc q)) (event_by load m x of)) ∙ one)) journal all in
         let few = (owns q (omega (arith, is, within, size))).few in
-        let same : length (filter (is_run p) (events journal)) ≡ length (filter (is_run (suc q)) (events journal)) = ap (λ (k : ℕ). length (filter (is_run k) (events journal))) is in
+        let same : length (filter (is_run p) (events journal))
+        ≡ length (filter (is_run (suc q)) (events journal)) = ap (λ (k : ℕ). length
+        (filter (is_run k) (events journal))) is in
         omega (arith, same, most, few, turns_at load q (omega (arith, is, within)))
 
     by_number : (k : ℕ) → p ≡ k → length (filter (is_run p) (events journal)) ≤ load.turns
     by_number zero is = never (inl is)
     by_number (suc q) is = by_side q is (grind arith)
 
-few_ticks : (load : Load) (m : ℕ) (journal : List JournalEntry) → m ≡ load.processors + 1 → AllByRecursion (IsOf load m) journal → ((s : ℕ) → s < m → IsOwn load s journal)
+few_ticks : (load : Load) (m : ℕ) (journal : List JournalEntry) → m ≡ load.processors + 1
+    → AllByRecursion (IsOf load m) journal → ((s : ℕ) → s < m → IsOwn load s journal)
     → length (filter is_tick (events journal)) ≤ load.ticks
 few_ticks load m journal size all owns =
     let most = count_most (IsOf load m) is_tick (λ (x : JournalEntry). x.seat == load.processors)
-    (λ x of one. tick_seat load (nat_lt x.seat load.processors) x.seat m refl of.0 size (sym (ap is_tick (event_by load m x of)) ∙ one)) journal all in
+    (λ x of one. tick_seat load (nat_lt x.seat load.processors) x.seat m refl of.0 size
+    (sym (ap is_tick (event_by load m x of)) ∙ one)) journal all in
     let few = (owns load.processors (omega (arith, size))).few in
     omega (arith, most, few, ticks_at load)
 
-pub are_counted : (i : ImageTables) (n : ℕ) (row : RowId) (load : Load) (seats back : List SeatState) (closed : ClosedState) → AreNew row seats → row.seats ≡ load.processors + 1
-    → AllAdded i n row load 0 seats back → IsCountedBy i n row.capacity row.seats back closed → AreCounted load.processors load.turns load.ticks closed.events
+pub are_counted : (i : ImageTables) (n : ℕ) (row : RowId) (load : Load) (seats back : List SeatState)
+    (closed : ClosedState) → AreNew row seats → row.seats ≡ load.processors + 1
+    → AllAdded i n row load 0 seats back → IsCountedBy i n row.capacity row.seats back closed
+    → AreCounted load.processors load.turns load.ticks closed.events
 are_counted i n row load seats back closed new size all c =
     let owns = own_at i n row load seats back c.journal new all c.counted in
-    let of = all_of load row.seats c.journal (by_recursion (λ x. x.seat < row.seats) c.journal c.journal_is.seats) (λ s lt. (owns s lt).are) in
+    let of = all_of load row.seats c.journal (by_recursion (λ x. x.seat < row.seats) c.journal c.journal_is.seats)
+    (λ s lt. (owns s lt).are) in
     subst (AreCounted load.processors load.turns load.ticks) (sym c.events_are)
     (record {
       each = all_turns_or_ticks load row.seats c.journal of;
@@ -237,15 +288,18 @@ owned_none : (m : ℕ) → owned m [] ≡ 0
 owned_none zero = refl
 owned_none (suc m) = let o = owned_none m in omega (arith, o)
 
-owned_one : (m : ℕ) (x : JournalEntry) (journal : List JournalEntry) → owned m (x ∷ journal) ≡ owned m journal + cond (nat_lt x.seat m) 1 0
+owned_one : (m : ℕ) (x : JournalEntry) (journal : List JournalEntry) → owned m (x ∷ journal) ≡ owned m journal
+    + cond (nat_lt x.seat m) 1 0
 owned_one zero x journal = grind (arith, nat_tests)
 owned_one (suc m) x journal =
     let o = owned_one m x journal in
     let one = count_cons (x.seat == m) x (own m journal) in
-    let split : cond (nat_lt x.seat (suc m)) 1 0 ≡ cond (nat_lt x.seat m) 1 0 + cond (x.seat == m) 1 0 = grind (arith, nat_tests) in
+    let split : cond (nat_lt x.seat (suc m)) 1 0 ≡ cond (nat_lt x.seat m) 1 0
+    + cond (x.seat == m) 1 0 = grind (arith, nat_tests) in
     omega (arith, o, one, split)
 
-owned_all : (m : ℕ) (journal : List JournalEntry) → AllByRecursion (λ x. x.seat < m) journal → owned m journal ≡ length journal
+owned_all : (m : ℕ) (journal : List JournalEntry) → AllByRecursion (λ x. x.seat < m) journal → owned m journal
+    ≡ length journal
 owned_all m [] all = owned_none m
 owned_all m (x ∷ journal) all =
     let o = owned_all m journal all.1 in
@@ -254,24 +308,29 @@ owned_all m (x ∷ journal) all =
     let one : cond {A = ℕ} (nat_lt x.seat m) 1 0 ≡ 1 = ap (λ (b : Bool). cond {A = ℕ} b 1 0) here in
     omega (arith, o, one, owned_one m x journal)
 
-owned_most : (turns m : ℕ) (journal : List JournalEntry) → ((s : ℕ) → s < m → length (own s journal) ≤ turns) → owned m journal ≤ m * turns
+owned_most : (turns m : ℕ) (journal : List JournalEntry) → ((s : ℕ) → s < m → length (own s journal) ≤ turns)
+    → owned m journal ≤ m * turns
 owned_most turns zero journal few = omega arith
 owned_most turns (suc m) journal few =
     omega (arith, owned_most turns m journal (λ s lt. few s (omega (arith, lt))), few m (omega arith), suc-mul m turns)
 
-owned_fewer : (turns m s : ℕ) (journal : List JournalEntry) → ((t : ℕ) → t < m → length (own t journal) ≤ turns) → s < m → length (own s journal) < turns → owned m journal < m * turns
+owned_fewer : (turns m s : ℕ) (journal : List JournalEntry) → ((t : ℕ) → t < m → length (own t journal) ≤ turns)
+    → s < m → length (own s journal) < turns → owned m journal < m * turns
 owned_fewer turns zero s journal few lt less = absurd (omega (arith, lt))
 owned_fewer turns (suc m) s journal few lt less =
-    by_place (λ before. owned_fewer turns m s journal (λ t le. few t (omega (arith, le))) before less) (grind (arith, lt))
+    by_place (λ before. owned_fewer turns m s journal (λ t le. few t (omega (arith, le))) before less)
+    (grind (arith, lt))
   where
     by_place : (s < m → owned m journal < m * turns) → (s < m) ⊎ (s ≡ m) → owned (suc m) journal < suc m * turns
     by_place next (inl before) = omega (arith, next before, few m (omega arith), suc-mul m turns)
     by_place next (inr last) =
-        let here : length (own m journal) ≡ length (own s journal) = ap (λ (k : ℕ). length (own k journal)) (sym last) in
+        let here : length (own m journal) ≡ length (own s journal) = ap (λ (k : ℕ). length (own k journal))
+        (sym last) in
         omega (arith, owned_most turns m journal (λ t le. few t (omega (arith, le))), here, less, suc-mul m turns)
 
 -- a journal is shorter than the sum of all parts where one seat has fewer entries than its part allows
-fewer : (load : Load) (m s : ℕ) (journal : List JournalEntry) → m ≡ load.processors + 1 → AllByRecursion (λ x. x.seat < m) journal → ((t : ℕ) → t < m → IsOwn load t journal) → s < m
+fewer : (load : Load) (m s : ℕ) (journal : List JournalEntry) → m ≡ load.processors + 1
+    → AllByRecursion (λ x. x.seat < m) journal → ((t : ℕ) → t < m → IsOwn load t journal) → s < m
     → length (own s journal) < (part_at load s).times → length journal < load.processors * load.turns + load.ticks
 fewer load m s journal size seats owns lt less = by_place (grind (arith, lt, size))
   where
@@ -290,13 +349,21 @@ fewer load m s journal size seats owns lt less = by_place (grind (arith, lt, siz
     ticks = omega (arith, (owns P (omega (arith, size))).few, ticks_at load)
 
     by_place : (s < P) ⊎ (s ≡ P) → length journal < P * load.turns + load.ticks
-    by_place (inl before) = omega (arith, all, ticks, owned_fewer load.turns P s journal turns before (omega (arith, less, turns_at load s before)))
+    by_place (inl before) = omega (
+      arith,
+      all,
+      ticks,
+      owned_fewer load.turns P s journal turns before
+          (omega (arith, less, turns_at load s before)),
+    )
     by_place (inr last) =
-        let here : length (own P journal) ≡ length (own s journal) = ap (λ (k : ℕ). length (own k journal)) (sym last) in
+        let here : length (own P journal) ≡ length (own s journal) = ap (λ (k : ℕ). length (own k journal))
+        (sym last) in
         let part : (part_at load s).times ≡ load.ticks = ap (λ (k : ℕ). (part_at load k).times) last ∙ ticks_at load in
         omega (arith, all, owned_most load.turns P journal turns, here, part, less)
 
-job_at : (load : Load) (place s : ℕ) (seats : List SeatState) (j : Job) → slice_get (jobs_of load place seats) s ≡ Some j → (j.part ≡ part_at load (place + s)) × (slice_get seats s ≡ Some j.seat)
+job_at : (load : Load) (place s : ℕ) (seats : List SeatState) (j : Job) → slice_get (jobs_of load place seats) s
+    ≡ Some j → (j.part ≡ part_at load (place + s)) × (slice_get seats s ≡ Some j.seat)
 job_at load place s [] j found = absurd (cc)
 job_at load place zero (x ∷ seats) j found =
     let part : part_at load place ≡ part_at load (place + 0) = ap (part_at load) (omega arith) in
@@ -314,45 +381,69 @@ prefix_length xs ys p = omega (arith, ap length (sym p.1), length_both xs p.0)
     length_both (u ∷ us) vs = let i = length_both us vs in omega (arith, i)
 
 -- threads of new seats never find a journal full that has room for all their turns and ticks
-pub never_full : (i : ImageTables) (n : ℕ) (row : RowId) (always : Type 0) (load : Load) (seats back : List SeatState) (closed : ClosedState) → AreNew row seats
-    → row.seats ≡ load.processors + 1 → row.capacity ≡ load.processors * load.turns + load.ticks → AllAdded i n row load 0 seats back → IsCountedBy i n row.capacity row.seats back closed
+pub never_full : (i : ImageTables) (n : ℕ) (row : RowId) (always : Type 0) (load : Load) (seats back : List SeatState)
+    (closed : ClosedState) → AreNew row seats
+    → row.seats ≡ load.processors + 1 → row.capacity ≡ load.processors * load.turns + load.ticks
+    → AllAdded i n row load 0 seats back → IsCountedBy i n row.capacity row.seats back closed
     → IsAnswer i n row always load seats back (Err fault.Full) → ⊥
 never_full i n row always load seats back closed new size room all c joined =
     let owns = own_at i n row load seats back c.journal new all c.counted in
     let s = stopped i n row always (jobs_of load 0 seats) back fault.Full joined in
     let job = job_at load 0 s.place seats s.job s.job_is in
     let lt : s.place < row.seats = omega (arith, slice_get_within seats s.place s.job.seat job.1, new.0) in
-    let counted : HasCounted c.journal s.seat = by_place (HasCounted c.journal) back s.place s.seat c.counted s.seat_is in
-    let was : s.job.seat ≡ new_seat row s.place = same_found seats s.place s.job.seat (new_seat row s.place) job.1 (new.1 s.place lt) in
-    let number : s.seat.number ≡ s.place = ap (λ (x : SeatState). x.number) (s.added.kept.same) ∙ ap (λ (x : SeatState). x.number) was in
+    let counted : HasCounted c.journal s.seat = by_place (HasCounted c.journal) back s.place s.seat c.counted
+    s.seat_is in
+    let was : s.job.seat ≡ new_seat row s.place = same_found seats s.place s.job.seat (new_seat row s.place) job.1
+    (new.1 s.place lt) in
+    let number : s.seat.number ≡ s.place = ap (λ (x : SeatState). x.number) (s.added.kept.same)
+    ∙ ap (λ (x : SeatState). x.number) was in
     let none : s.job.seat.mine ≡ 0 = ap (λ (x : SeatState). x.mine) was in
     let part : s.job.part ≡ part_at load s.place = job.0 ∙ ap (part_at load) (omega arith) in
     let times : s.job.part.times ≡ (part_at load s.place).times = ap (λ (p : ThreadPart). p.times) part in
-    let mine : length (own s.place c.journal) ≡ s.seat.mine = ap (λ (k : ℕ). length (own k c.journal)) (sym number) ∙ counted.1 in
+    let mine : length (own s.place c.journal) ≡ s.seat.mine = ap (λ (k : ℕ). length (own k c.journal)) (sym number)
+    ∙ counted.1 in
     let short : length c.journal < load.processors * load.turns + load.ticks =
-    fewer load row.seats s.place c.journal size (by_recursion (λ x. x.seat < row.seats) c.journal c.journal_is.seats) owns lt (omega (arith, mine, s.mine, none, times)) in
-    absurd (omega (arith, short, room, prefix_length s.seat.seen c.journal counted.0, why_seen row always s.job.part.event s.seat s.why))
+    fewer load row.seats s.place c.journal size (by_recursion (λ x. x.seat < row.seats) c.journal c.journal_is.seats)
+    owns lt (omega (arith, mine, s.mine, none, times)) in
+    absurd (omega (
+      arith,
+      short,
+      room,
+      prefix_length s.seat.seen c.journal counted.0,
+      why_seen row always
+          s.job.part.event s.seat s.why,
+    ))
   where
-    same_found : (seats : List SeatState) (place : ℕ) (a b : SeatState) → slice_get seats place ≡ Some a → slice_get seats place ≡ Some b → a ≡ b
+    same_found : (seats : List SeatState) (place : ℕ) (a b : SeatState) → slice_get seats place ≡ Some a
+        → slice_get seats place ≡ Some b → a ≡ b
     same_found seats place a b x y = cc (x, y)
 
 -- what is answered for seats that came back
 
-pub counted_ok : (i : ImageTables) (n : ℕ) (row : RowId) (load : Load) (seats back : List SeatState) (closed : ClosedState) (count : ℕ) → AreNew row seats
-    → row.seats ≡ load.processors + 1 → CameBackAs (AllAdded i n row load 0) seats back (Ok count) → IsCountedBy i n row.capacity row.seats back closed
+pub counted_ok : (i : ImageTables) (n : ℕ) (row : RowId) (load : Load) (seats back : List SeatState)
+    (closed : ClosedState) (count : ℕ) → AreNew row seats
+    → row.seats ≡ load.processors + 1 → CameBackAs (AllAdded i n row load 0) seats back (Ok count)
+    → IsCountedBy i n row.capacity row.seats back closed
     → AreCounted load.processors load.turns load.ticks closed.events
-counted_ok i n row load seats back closed count new size came c = are_counted i n row load seats back closed new size (came.all (λ e. absurd (cc e))) c
+counted_ok i n row load seats back closed count new size came c = are_counted i n row load seats back closed new size
+    (came.all (λ e. absurd (cc e))) c
 
-pub not_full : (i : ImageTables) (n : ℕ) (row : RowId) (always : Type 0) (load : Load) (seats back : List SeatState) (closed : ClosedState) (f : BoardFault) → AreNew row seats
-    → row.seats ≡ load.processors + 1 → row.capacity ≡ load.processors * load.turns + load.ticks → CameBackAs (AllAdded i n row load 0) seats back (Err f)
-    → IsCountedBy i n row.capacity row.seats back closed → IsAnswer i n row always load seats back (Err f) → f ≢ fault.Full
+pub not_full : (i : ImageTables) (n : ℕ) (row : RowId) (always : Type 0) (load : Load) (seats back : List SeatState)
+    (closed : ClosedState) (f : BoardFault) → AreNew row seats
+    → row.seats ≡ load.processors + 1 → row.capacity ≡ load.processors * load.turns + load.ticks
+    → CameBackAs (AllAdded i n row load 0) seats back (Err f)
+    → IsCountedBy i n row.capacity row.seats back closed → IsAnswer i n row always load seats back (Err f)
+    → f ≢ fault.Full
 not_full i n row always load seats back closed f new size room came c answer is =
     never_full i n row always load seats back closed new size room (came.all (λ e. absurd (cc (e, is)))) c
     (subst (λ (g : BoardFault). IsAnswer i n row always load seats back (Err g)) is answer)
 
 -- what the threads of a board journaled that has room for all their turns and ticks
-pub is_run_of : (i : ImageTables) (n : ℕ) (row : RowId) (always : Type 0) (turns ticks : ℕ) (seats back : List SeatState) (closed : ClosedState) (count : ℕ) → AreNew row seats
-    → row.seats ≡ i.system.processors + 1 → row.capacity ≡ i.system.processors * turns + ticks → IsAnswer i n row always (load_of i turns ticks) seats back (Ok count) → IsCountedBy i n row.capacity row.seats back closed
+pub is_run_of : (i : ImageTables) (n : ℕ) (row : RowId) (always : Type 0) (turns ticks : ℕ)
+    (seats back : List SeatState) (closed : ClosedState) (count : ℕ) → AreNew row seats
+    → row.seats ≡ i.system.processors + 1 → row.capacity ≡ i.system.processors * turns + ticks
+    → IsAnswer i n row always (load_of i turns ticks) seats back (Ok count)
+    → IsCountedBy i n row.capacity row.seats back closed
     → IsRun i n always turns ticks closed.events
 is_run_of i n row always turns ticks seats back closed count new size room answer c = record {
   row = row;

@@ -1,5 +1,7 @@
 -- The effect of a board's threads on their seats.
-use Rattle.std.specs.Prelude.{◌≡◌, ◌≢◌, ◌⊎◌, ℕ, ◌+◌, ◌*◌, zero, suc, ◌<◌, ◌≤◌, nat_lt, if◌then◌else◌, List, [], ◌∷◌, ◌++◌, length, map, replicate, slice_get, Option, Some, Result, Ok, Err, IfErr, IfOk, MatchOption}
+use Rattle.std.specs.Prelude.{◌≡◌, ◌≢◌, ◌⊎◌, ℕ, ◌+◌, ◌*◌, zero, suc, ◌<◌, ◌≤◌, nat_lt, if◌then◌else◌, List, [], ◌∷◌}
+use Rattle.std.specs.Prelude.{◌++◌, length, map, replicate, slice_get, Option, Some, Result, Ok, Err, IfErr, IfOk}
+use Rattle.std.specs.Prelude.{MatchOption}
 use Rattle.std.specs.List.{All, AllZip}
 use Rattle.fmp_base.specs.declared.events.Event.{Event}
 use Rattle.fmp_base.specs.declared.events.Event.TheVariants.{Int, Run, Tick}

@@ -38,18 +38,31 @@ all_known : (code : List Instruction) → AllByRecursion (λ i. has newest i ≡
 all_known [] = tt
 all_known (i ∷ code) = (newest_has i, all_known code)
 
-module _ (needed : (body : BodyTree) → codegen.greatest (body_depths body) ≡ body_depth body) (tables : SystemTables) where
-  one_body : (b : BodyTree) → VerifiedBody (compiled_body tables b) → AllByRecursion HasWord (compiled_body tables b).instructions → IsBody newest (built_head b) (compiled_body tables b)
+module _ (needed : (body : BodyTree) → codegen.greatest (body_depths body) ≡ body_depth body)
+    (tables : SystemTables) where
+  one_body : (b : BodyTree) → VerifiedBody (compiled_body tables b)
+      → AllByRecursion HasWord (compiled_body tables b).instructions
+      → IsBody newest (built_head b) (compiled_body tables b)
   one_body b verified words =
-      record { verified = verified; locals = omega arith; depth = sym (same_greatest (body_depths b) ∙ needed b); words = words; known = all_known (compiled_body tables b).instructions }
+      record {
+        verified = verified;
+        locals = omega arith;
+        depth = sym (same_greatest (body_depths b) ∙ needed b);
+        words = words;
+        known = all_known (compiled_body tables b).instructions;
+      }
 
   each_body :
-      (bodies : List BodyTree) → ((k : ℕ) (b : BodyTables) → slice_get (compiled tables bodies) k ≡ Some b → VerifiedBody b) →
+      (bodies : List BodyTree) → ((k : ℕ) (b : BodyTables) → slice_get (compiled tables bodies) k ≡ Some b
+      → VerifiedBody b) →
       AllByRecursion (λ (b : BodyTables). AllByRecursion HasWord b.instructions) (compiled tables bodies) →
       AllPairs (IsBody newest) (built_heads bodies) (compiled tables bodies)
   each_body [] verified words = tt
-  each_body (b ∷ bs) verified words =
-      (one_body b (verified 0 (compiled_body tables b) refl) words.0, each_body bs (λ k x h. verified (suc k) x h) words.1)
+  each_body (b ∷ bs) verified words = (
+    one_body b (verified 0 (compiled_body tables b) refl) words.0,
+    each_body bs
+        (λ k x h. verified (suc k) x h) words.1,
+  )
 
   pub are_bodies :
       (bodies : List BodyTree) (code : List BodyTables) → code ≡ compiled tables bodies → Verified code →
@@ -58,4 +71,5 @@ module _ (needed : (body : BodyTree) → codegen.greatest (body_depths body) ≡
   are_bodies bodies code is verified words =
       subst (λ (c : List BodyTables). AllPairs (IsBody newest) (built_heads bodies) c) (sym is)
       (each_body bodies (subst Verified is verified).each
-      (subst (λ (c : List BodyTables). AllByRecursion (λ (b : BodyTables). AllByRecursion HasWord b.instructions) c) is words))
+      (subst (λ (c : List BodyTables). AllByRecursion (λ (b : BodyTables). AllByRecursion HasWord b.instructions) c)
+      is words))

@@ -26,7 +26,8 @@ text_calls src t =
 
 pub built_is_image :
     ((body : BodyTree) → codegen.greatest (body_depths body) ≡ body_depth body) →
-    ((tables : SystemTables) (bodies : List BodyTree) → IsAccepted tables bodies → CallsFit bodies → Verified (compiled tables bodies)) →
+    ((tables : SystemTables) (bodies : List BodyTree) → IsAccepted tables bodies → CallsFit bodies
+    → Verified (compiled tables bodies)) →
     (cfg src : List ℕ) (i : ImageTables) → Builds cfg src i → IsImage i
 built_is_image needed verified cfg src i b =
     let c = b.configuration in

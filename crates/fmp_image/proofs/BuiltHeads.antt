@@ -16,7 +16,8 @@ heads_of :
     map head_of (map heading_of bodies) ≡ built_heads bodies
 heads_of [] low = refl
 heads_of (b ∷ bs) low =
-    ap₂ (λ (d : ℕ) (hs : List BodyHead). record { kind = built_kind b.kind; depth = d } ∷ hs) (low_exact (body_depth b) low.0) (heads_of bs low.1)
+    ap₂ (λ (d : ℕ) (hs : List BodyHead). record { kind = built_kind b.kind; depth = d } ∷ hs)
+    (low_exact (body_depth b) low.0) (heads_of bs low.1)
 
 pub heads_made :
     (headings : List Heading) (bodies : List BodyTree) → AllByRecursion (λ (h : Heading). h.depth ≤ 64) headings →

@@ -1,5 +1,6 @@
 -- Code pushes numbers of 32 bits: those of the text, and the numbers of objects.
-use Rattle.std.proofs.Common.{◌≡◌, ℕ, pos, ◌+◌, ◌<◌, ◌≤◌, Bool, true, false, List, [], ◌∷◌, ◌++◌, length, map, Option, Some, None, FitsSigned, refl, arith}
+use Rattle.std.proofs.Common.{◌≡◌, ℕ, pos, ◌+◌, ◌<◌, ◌≤◌, Bool, true, false, List, [], ◌∷◌, ◌++◌, length, map, Option}
+use Rattle.std.proofs.Common.{Some, None, FitsSigned, refl, arith}
 use Rattle.std.specs.Prelude.{slice_get, if◌then◌else◌}
 use Rattle.std.proofs.lemmas.List.{length-map}
 use Rattle.std.specs.Int.{w32}
@@ -10,9 +11,12 @@ use Rattle.fmp_base.specs.declared.names.Name.{Name}
 use Rattle.fmp_base.specs.Names.{name_text}
 use Rattle.fmp_base.specs.Ranges.{IsInRange}
 use Rattle.fmp_base.specs.Systems.{SystemTables, no_name}
-use Rattle.fmp_tasklang.specs.Scopes.{Scope, NameMeaning, Variable, Array, Object, Unknown, place_of, number_or, object_number, object_names, is_array_or_none, local_or, meaning_of, scope_of}
+use Rattle.fmp_tasklang.specs.Scopes.{Scope, NameMeaning, Variable, Array, Object, Unknown, place_of, number_or}
+use Rattle.fmp_tasklang.specs.Scopes.{object_number, object_names, is_array_or_none, local_or, meaning_of, scope_of}
 use Rattle.fmp_tasklang.specs.Layout.{Local}
-use Rattle.fmp_tasklang.specs.Trees.{ExpressionTree, number, named, element, unary, binary, both, either, StatementTree, assign, assign_element, service_call, if_then, if_else, while, break, continue, return, Block, empty, next, BodyTree}
+use Rattle.fmp_tasklang.specs.Trees.{ExpressionTree, number, named, element, unary, binary, both, either, StatementTree}
+use Rattle.fmp_tasklang.specs.Trees.{assign, assign_element, service_call, if_then, if_else, while, break, continue}
+use Rattle.fmp_tasklang.specs.Trees.{return, Block, empty, next, BodyTree}
 use Rattle.fmp_instructions.specs.declared.instructions.Instruction.{Instruction}
 use Rattle.fmp_instructions.specs.Instructions.{BodyTables}
 use Rattle.fmp_codegen.specs.Compiling.{compiled}
@@ -32,22 +36,26 @@ IsSmall Unknown = Unit {0}
 abbrev AreFew : List Name → Type 0
 AreFew names = length names ≤ 255
 
-or_small : (o : Option ℕ) (others : NameMeaning) → ((p : ℕ) → o ≡ Some p → p < 255) → IsSmall others → IsSmall (number_or o others)
+or_small : (o : Option ℕ) (others : NameMeaning) → ((p : ℕ) → o ≡ Some p → p < 255) → IsSmall others
+    → IsSmall (number_or o others)
 or_small None others h small = small
 or_small (Some p) others h small = let below = h p refl in omega (arith, below)
 
-object_small : (text : List ℕ) (objects : List (List Name)) → AllByRecursion AreFew objects → IsSmall (object_number text objects)
+object_small : (text : List ℕ) (objects : List (List Name)) → AllByRecursion AreFew objects
+    → IsSmall (object_number text objects)
 object_small text [] few = tt
 object_small text (names ∷ rest) few =
     or_small (place_of text names) (object_number text rest)
-    (λ p h. let within = position-Some (λ (n : Name). bytes_eq text (name_text n)) names p no_name h in omega (arith, within.0, few.0))
+    (λ p h. let within = position-Some (λ (n : Name). bytes_eq text (name_text n)) names p no_name h in omega
+    (arith, within.0, few.0))
     (object_small text rest few.1)
 
 chosen_small : (is_array : Bool) (v : ℕ) → IsSmall (if is_array then Array v else Variable v)
 chosen_small true v = tt
 chosen_small false v = tt
 
-local_small : (o : Option ℕ) (scope : Scope) (text : List ℕ) → AllByRecursion AreFew scope.objects → IsSmall (local_or o scope text)
+local_small : (o : Option ℕ) (scope : Scope) (text : List ℕ) → AllByRecursion AreFew scope.objects
+    → IsSmall (local_or o scope text)
 local_small (Some v) scope text few = chosen_small (is_array_or_none (slice_get scope.locals v)) v
 local_small None scope text few = object_small text scope.objects few
 
@@ -89,7 +97,8 @@ few_names t h = (
 
 -- ---- code
 
-append_all : {A : Type 0} (P : A → Type 0) (xs ys : List A) → AllByRecursion P xs → AllByRecursion P ys → AllByRecursion P (xs ++ ys)
+append_all : {A : Type 0} (P : A → Type 0) (xs ys : List A) → AllByRecursion P xs → AllByRecursion P ys
+    → AllByRecursion P (xs ++ ys)
 append_all P [] ys p q = q
 append_all P (x ∷ xs) ys p q = (p.0, append_all P xs ys p.1 q)
 
@@ -123,26 +132,35 @@ module _ (scope : Scope) (few : AllByRecursion AreFew scope.objects) where
       append (expression_code scope a at) _ (expression_words a at h.0)
       (tt, (one_fits, (tt, append (expression_code scope b second) _ (expression_words b second h.1) (tt, tt))))
 
-  arguments_words : (es : List ExpressionTree) (at : ℕ) → AllByRecursion ExpressionHasWords es → Words (arguments_code scope es at)
+  arguments_words : (es : List ExpressionTree) (at : ℕ) → AllByRecursion ExpressionHasWords es
+      → Words (arguments_code scope es at)
   arguments_words [] at h = tt
   arguments_words (e ∷ es) at h =
-      append (expression_code scope e at) _ (expression_words e at h.0) (arguments_words es (at + expression_size e) h.1)
+      append (expression_code scope e at) _ (expression_words e at h.0)
+      (arguments_words es (at + expression_size e) h.1)
 
   mutual
-    statement_words : (s : StatementTree) (at again exit : ℕ) → StatementHasWords s → Words (statement_code scope s at again exit)
-    statement_words (assign w e) at again exit h = append (expression_code scope e at) _ (expression_words e at h) (tt, tt)
+    statement_words : (s : StatementTree) (at again exit : ℕ) → StatementHasWords s
+        → Words (statement_code scope s at again exit)
+    statement_words (assign w e) at again exit h = append (expression_code scope e at) _ (expression_words e at h)
+        (tt, tt)
     statement_words (assign_element w i e) at again exit h =
         let second = at + expression_size i in
         append (expression_code scope i at) _ (expression_words i at h.0)
         (append (expression_code scope e second) _ (expression_words e second h.1) (tt, tt))
-    statement_words (service_call c) at again exit h = append (arguments_code scope c.arguments at) _ (arguments_words c.arguments at h) (tt, tt)
+    statement_words (service_call c) at again exit h = append (arguments_code scope c.arguments at) _
+        (arguments_words c.arguments at h) (tt, tt)
     statement_words (if_then e s) at again exit h =
-        append (expression_code scope e at) _ (expression_words e at h.0) (tt, block_words s (at + expression_size e + 1) again exit h.1)
+        append (expression_code scope e at) _ (expression_words e at h.0)
+        (tt, block_words s (at + expression_size e + 1) again exit h.1)
     statement_words (if_else e s r) at again exit h =
         let then_ = at + expression_size e + 1 in
         let else_ = then_ + block_size s + 1 in
-        append (expression_code scope e at) _ (expression_words e at h.0)
-        (tt, append (block_code scope s then_ again exit) _ (block_words s then_ again exit h.1.0) (tt, block_words r else_ again exit h.1.1))
+        append (expression_code scope e at) _ (expression_words e at h.0) (
+          tt,
+          append (block_code scope s then_ again exit) _ (block_words s then_ again exit h.1.0)
+              (tt, block_words r else_ again exit h.1.1),
+        )
     statement_words (while e s) at again exit h =
         let first = at + expression_size e + 1 in
         let after = first + block_size s + 1 in
@@ -166,6 +184,7 @@ compiled_words t few [] h = tt
 compiled_words t few (b ∷ bs) h =
     let scope = scope_of t b in
     let n = block_size b.statements in (
-      append_all HasWord (block_code scope b.statements 0 n n) _ (block_words scope (few_names t few) b.statements 0 n n h.0) (tt, tt),
+      append_all HasWord (block_code scope b.statements 0 n n) _ (block_words scope
+          (few_names t few) b.statements 0 n n h.0) (tt, tt),
       compiled_words t few bs h.1,
     )

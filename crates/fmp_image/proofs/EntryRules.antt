@@ -1,5 +1,6 @@
 -- The number that stands in place of a body's name is that of a body that fits.
-use Rattle.std.proofs.Common.{◌≡◌, ℕ, zero, suc, ◌*◌, ◌<◌, nat_le, List, [], ◌∷◌, length, map, Bool, true, false, ◌&&◌, not, Option, Some, None, refl, ap, ◌∙◌, arith}
+use Rattle.std.proofs.Common.{◌≡◌, ℕ, zero, suc, ◌*◌, ◌<◌, nat_le, List, [], ◌∷◌, length, map, Bool, true, false, ◌&&◌}
+use Rattle.std.proofs.Common.{not, Option, Some, None, refl, ap, ◌∙◌, arith}
 use Rattle.std.specs.Prelude.{if◌then◌else◌, slice_get}
 use Rattle.std.specs.Str.{bytes_eq}
 use Rattle.std.proofs.lemmas.List.{length-map}
@@ -20,7 +21,8 @@ use Rattle.fmp_image_bytes.specs.Rows.{is_task, is_handler, is_task_body, is_han
 use Rattle.fmp_image.specs.Building.{built_kind, built_head, built_heads}
 use Rattle.fmp_image.proofs.Entering.{wanted}
 
-no_offence : (t : Bool) (why : FaultKind) (rest : Option FaultKind) → (if t then Some why else rest) ≡ None → (t ≡ false) × (rest ≡ None)
+no_offence : (t : Bool) (why : FaultKind) (rest : Option FaultKind) → (if t then Some why else rest) ≡ None
+    → (t ≡ false) × (rest ≡ None)
 no_offence true why rest h = absurd (cc h)
 no_offence false why rest h = (refl, h)
 
@@ -29,14 +31,20 @@ not_false true h = refl
 not_false false h = absurd (cc h)
 
 -- a body without a fault is of the kind that is wanted, and its operands fit the stack
-fits : (u : EntryUse) (b : BodyTree) → body_fault u b ≡ None → (is_kind b.kind u.kind ≡ true) × (holds u.stack (body_depth b) ≡ true)
+fits : (u : EntryUse) (b : BodyTree) → body_fault u b ≡ None → (is_kind b.kind u.kind ≡ true)
+    × (holds u.stack (body_depth b) ≡ true)
 fits u b h =
     let small = not (holds u.stack (body_depth b)) in
-    let one = no_offence (not (is_kind b.kind u.kind)) fault.WrongEntryKind (if small then Some fault.StackTooSmall else None) h in
-    (not_false (is_kind b.kind u.kind) one.0, not_false (holds u.stack (body_depth b)) (no_offence small fault.StackTooSmall None one.1).0)
+    let one = no_offence (not (is_kind b.kind u.kind)) fault.WrongEntryKind
+    (if small then Some fault.StackTooSmall else None) h in (
+      not_false (is_kind b.kind u.kind) one.0,
+      not_false (holds u.stack (body_depth b))
+          (no_offence small fault.StackTooSmall None one.1).0,
+    )
 
 -- what is said of the body at a place
-head_at : (bodies : List BodyTree) (k : ℕ) → k < length bodies → slice_get (built_heads bodies) k ≡ Some (built_head (body_at bodies k))
+head_at : (bodies : List BodyTree) (k : ℕ) → k < length bodies → slice_get (built_heads bodies) k
+    ≡ Some (built_head (body_at bodies k))
 head_at [] k h = absurd (omega (arith, h))
 head_at (b ∷ bs) zero h = refl
 head_at (b ∷ bs) (suc k) h = head_at bs k (omega (arith, h))
@@ -46,7 +54,8 @@ record Fitting (bodies : List BodyTree) (u : EntryUse) (o : Option ℕ) : Type 0
   below : found 0 o < length bodies
   fit : body_fault u (body_at bodies (found 0 o)) ≡ None
 
-fitting : (bodies : List BodyTree) (u : EntryUse) (o : Option ℕ) → ((k : ℕ) → o ≡ Some k → k < length bodies) → entry_fault bodies u o ≡ None → Fitting bodies u o
+fitting : (bodies : List BodyTree) (u : EntryUse) (o : Option ℕ) → ((k : ℕ) → o ≡ Some k → k < length bodies)
+    → entry_fault bodies u o ≡ None → Fitting bodies u o
 fitting bodies u None within h = absurd (cc h)
 fitting bodies u (Some k) within h = record { below = within k refl; fit = h }
 
@@ -72,9 +81,11 @@ module _ (bodies : List BodyTree) (n : Name) where
   number = found 0 (body_place bodies n)
 
   pub number_below :
-      (kind : language.BodyKind) (stack : Option ℕ) → entry_fault bodies (wanted n kind stack) (body_place bodies n) ≡ None →
+      (kind : language.BodyKind) (stack : Option ℕ) → entry_fault bodies (wanted n kind stack) (body_place bodies n)
+      ≡ None →
       number < length bodies
-  number_below kind stack h = (fitting bodies (wanted n kind stack) (body_place bodies n) (place_within bodies n) h).below
+  number_below kind stack h = (fitting bodies (wanted n kind stack) (body_place bodies n)
+      (place_within bodies n) h).below
 
   pub enters_task :
       (stack : ℕ) → entry_fault bodies (wanted n written.Task (Some stack)) (body_place bodies n) ≡ None →

@@ -1,5 +1,6 @@
 -- Rows in range keep the rules of an image.
-use Rattle.std.proofs.Common.{◌≡◌, ℕ, ◌+◌, ◌%◌, ◌/◌, ◌<◌, ◌≤◌, nat_le, ◌==◌, Bool, true, false, ◌||◌, is_some, List, [], ◌∷◌, length, Option, Some, None, option_map, refl, ap, ap₂, arith}
+use Rattle.std.proofs.Common.{◌≡◌, ℕ, ◌+◌, ◌%◌, ◌/◌, ◌<◌, ◌≤◌, nat_le, ◌==◌, Bool, true, false, ◌||◌, is_some, List, []}
+use Rattle.std.proofs.Common.{◌∷◌, length, Option, Some, None, option_map, refl, ap, ap₂, arith}
 use Rattle.std.proofs.lemmas.Bool.{le-leb}
 use Rattle.std.specs.List.{AllByRecursion}
 use Rattle.std.specs.Option.{option_or}
@@ -25,7 +26,8 @@ use Rattle.fmp_cfgparse.specs.Tables.{is_identifier, IsObjectName, SharedWordCon
 use Rattle.fmp_image_bytes.specs.Images.{KeepRules}
 use Rattle.fmp_image_parts.specs.Keys.{begins_and_goes_on, is_service_of, is_reserved, is_name}
 use Rattle.fmp_image_parts.specs.Fields.{in_range}
-use Rattle.fmp_image_bytes.specs.Rows.{RowContext, RowForm, row, bit, order_bit, order_of, semaphore_form, flag_form, data_queue_form, mailbox_form, message_form, shared_word_form, spin_lock_form}
+use Rattle.fmp_image_bytes.specs.Rows.{RowContext, RowForm, row, bit, order_bit, order_of, semaphore_form, flag_form}
+use Rattle.fmp_image_bytes.specs.Rows.{data_queue_form, mailbox_form, message_form, shared_word_form, spin_lock_form}
 use Rattle.fmp_image_parts.proofs.Verification.{both_true}
 
 -- ---- names
@@ -35,7 +37,8 @@ goes_on [] e = e
 goes_on (b ∷ bs) e = e
 
 no_word : (version : ℕ) (a : Option Constant) (b : Option Api) (c : Option Service) (d : Option Keyword) →
-    option_or (option_map kind.Constant a) (option_or (option_map kind.Api b) (option_or (option_map kind.Service c) (option_map kind.Keyword d))) ≡ None →
+    option_or (option_map kind.Constant a) (option_or (option_map kind.Api b)
+    (option_or (option_map kind.Service c) (option_map kind.Keyword d))) ≡ None →
     (is_some a || is_some b || is_service_of version c || is_some d) ≡ false
 no_word version (Some x) b c d e = cc
 no_word version None (Some x) c d e = cc
@@ -48,7 +51,8 @@ pub object_is_name : (version : ℕ) (n : Name) → IsObjectName n → is_name v
 unfolding is_name
 object_is_name version n h =
     let goes = goes_on (name_text n) h.identifier in
-    let free : is_reserved version (name_text n) ≡ false = no_word version (constant_named (name_text n)) (api_named (name_text n)) (service_named (name_text n)) (keyword_named (name_text n)) h.unreserved in
+    let free : is_reserved version (name_text n) ≡ false = no_word version (constant_named (name_text n))
+    (api_named (name_text n)) (service_named (name_text n)) (keyword_named (name_text n)) h.unreserved in
     rw (le-leb (length (name_text n)) 31 h.short, goes, free) refl
 
 pub name_room : (n : Name) → IsObjectName n → length (name_text n) < 256
@@ -67,15 +71,18 @@ order_small Priority = omega arith
 
 -- ---- rows
 
-pub semaphore_fits : (context : RowContext) (s : SemaphoreConfig) → SemaphoreInRange s → IsObjectName s.name → (row semaphore_form context).fits s
+pub semaphore_fits : (context : RowContext) (s : SemaphoreConfig) → SemaphoreInRange s → IsObjectName s.name
+    → (row semaphore_form context).fits s
 semaphore_fits context s h name =
     let small = order_small s.order in
     let most : s.most ≤ 65535 = h.most.most in
     let initial : s.initial ≤ s.most = h.initial in (
       (name_room s.name name, (omega arith, (omega arith, omega arith))),
       both_true _ _ (object_is_name context.version s.name name)
-          (both_true _ _ (both_true _ _ (le-leb (order_bit s.order 1) 1 small) (le-leb 1 s.most h.most.least)) (le-leb s.initial s.most initial)),
-      ap₂ (λ n o. record { name = n; order = o; initial = s.initial; most = s.most }) name.canonical (order_again s.order),
+          (both_true _ _ (both_true _ _ (le-leb (order_bit s.order 1) 1 small) (le-leb 1 s.most h.most.least))
+          (le-leb s.initial s.most initial)),
+      ap₂ (λ n o. record { name = n; order = o; initial = s.initial; most = s.most }) name.canonical
+          (order_again s.order),
     )
 
 flag_attributes : QueueOrder → Bool → Bool → ℕ
@@ -98,19 +105,28 @@ flag_back Priority false true = record { small = omega arith; order = refl; mult
 flag_back Priority true false = record { small = omega arith; order = refl; multiple = refl; clears = refl }
 flag_back Priority true true = record { small = omega arith; order = refl; multiple = refl; clears = refl }
 
-pub flag_fits : (context : RowContext) (f : FlagConfig) → FlagInRange f → IsObjectName f.name → (row flag_form context).fits f
+pub flag_fits : (context : RowContext) (f : FlagConfig) → FlagInRange f → IsObjectName f.name
+    → (row flag_form context).fits f
 unfolding flag_attributes
 flag_fits context f h name =
     let back = flag_back f.order f.multiple f.clears in
     let small : flag_attributes f.order f.multiple f.clears ≤ 7 = back.small in
     let initial : f.initial ≤ 65535 = h.initial in (
       (name_room f.name name, (omega arith, omega arith)),
-      both_true _ _ (object_is_name context.version f.name name) (le-leb (flag_attributes f.order f.multiple f.clears) 7 small),
-      ap₂ (λ n (x : QueueOrder × (Bool × Bool)). record { name = n; order = x.0; multiple = x.1.0; clears = x.1.1; initial = f.initial }) name.canonical
+      both_true _ _ (object_is_name context.version f.name name) (le-leb
+          (flag_attributes f.order f.multiple f.clears) 7 small),
+      ap₂ (λ n (x : QueueOrder × (Bool × Bool)). record {
+        name = n;
+        order = x.0;
+        multiple = x.1.0;
+        clears = x.1.1;
+        initial = f.initial;
+      }) name.canonical
           (ap₂ (λ a b. (a, b)) back.order (ap₂ (λ a b. (a, b)) back.multiple back.clears)),
     )
 
-pub data_queue_fits : (context : RowContext) (d : DataQueueConfig) → DataQueueInRange d → IsObjectName d.name → (row data_queue_form context).fits d
+pub data_queue_fits : (context : RowContext) (d : DataQueueConfig) → DataQueueInRange d → IsObjectName d.name
+    → (row data_queue_form context).fits d
 data_queue_fits context d h name =
     let small = order_small d.order in
     let capacity : d.capacity ≤ 255 = h.capacity in (
@@ -134,7 +150,8 @@ mailbox_back Fifo Priority = record { small = omega arith; order = refl; message
 mailbox_back Priority Fifo = record { small = omega arith; order = refl; message_order = refl }
 mailbox_back Priority Priority = record { small = omega arith; order = refl; message_order = refl }
 
-pub mailbox_fits : (context : RowContext) (m : MailboxConfig) → MailboxInRange m → IsObjectName m.name → (row mailbox_form context).fits m
+pub mailbox_fits : (context : RowContext) (m : MailboxConfig) → MailboxInRange m → IsObjectName m.name
+    → (row mailbox_form context).fits m
 unfolding mailbox_attributes
 mailbox_fits context m h name =
     let back = mailbox_back m.order m.message_order in
@@ -142,12 +159,15 @@ mailbox_fits context m h name =
     let most : m.most ≤ 16 = h.most.most in (
       (name_room m.name name, (omega arith, omega arith)),
       both_true _ _ (object_is_name context.version m.name name)
-          (both_true _ _ (le-leb (mailbox_attributes m.order m.message_order) 3 small) (lies_in_range 1 16 m.most h.most)),
-      ap₂ (λ n (x : QueueOrder × QueueOrder). record { name = n; order = x.0; message_order = x.1; most = m.most }) name.canonical
+          (both_true _ _ (le-leb (mailbox_attributes m.order m.message_order) 3 small)
+          (lies_in_range 1 16 m.most h.most)),
+      ap₂ (λ n (x : QueueOrder × QueueOrder). record { name = n; order = x.0; message_order = x.1; most = m.most })
+          name.canonical
           (ap₂ (λ a b. (a, b)) back.order back.message_order),
     )
 
-pub message_fits : (context : RowContext) (m : MessageConfig) → MessageInRange m → IsObjectName m.name → (row message_form context).fits m
+pub message_fits : (context : RowContext) (m : MessageConfig) → MessageInRange m → IsObjectName m.name
+    → (row message_form context).fits m
 message_fits context m h name =
     let most : m.priority ≤ 16 = h.priority.most in (
       (name_room m.name name, omega arith),
@@ -155,23 +175,37 @@ message_fits context m h name =
       ap (λ n. record { name = n; priority = m.priority }) name.canonical,
     )
 
-pub shared_word_fits : (context : RowContext) (w : SharedWordConfig) → SharedWordConfigured w → IsObjectName w.name → (row shared_word_form context).fits w
-shared_word_fits context w h name =
-    ((name_room w.name name, h.initial), object_is_name context.version w.name name, ap (λ n. record { name = n; initial = w.initial }) name.canonical)
+pub shared_word_fits : (context : RowContext) (w : SharedWordConfig) → SharedWordConfigured w → IsObjectName w.name
+    → (row shared_word_form context).fits w
+shared_word_fits context w h name = (
+  (name_room w.name name, h.initial),
+  object_is_name context.version w.name name,
+  ap
+      (λ n. record { name = n; initial = w.initial }) name.canonical,
+)
 
-pub spin_lock_fits : (context : RowContext) (l : SpinLockConfig) → IsObjectName l.name → (row spin_lock_form context).fits l
-spin_lock_fits context l name = (name_room l.name name, object_is_name context.version l.name name, ap (λ n. record { name = n }) name.canonical)
+pub spin_lock_fits : (context : RowContext) (l : SpinLockConfig) → IsObjectName l.name
+    → (row spin_lock_form context).fits l
+spin_lock_fits context l name = (
+  name_room l.name name,
+  object_is_name context.version l.name name,
+  ap
+      (λ n. record { name = n }) name.canonical,
+)
 
 -- ---- tables
 
-pub both_all : {A : Type 0} (P Q : A → Type 0) (rows : List A) → AllByRecursion P rows → AllByRecursion Q rows → AllByRecursion (λ a. P a × Q a) rows
+pub both_all : {A : Type 0} (P Q : A → Type 0) (rows : List A) → AllByRecursion P rows → AllByRecursion Q rows
+    → AllByRecursion (λ a. P a × Q a) rows
 both_all P Q [] p q = tt
 both_all P Q (a ∷ rows) p q = ((p.0, q.0), both_all P Q rows p.1 q.1)
 
-each_fits : {A : Type 0} {P Q R : A → Type 0} → ((a : A) → P a → Q a → R a) → (rows : List A) → AllByRecursion P rows → AllByRecursion Q rows → AllByRecursion R rows
+each_fits : {A : Type 0} {P Q R : A → Type 0} → ((a : A) → P a → Q a → R a) → (rows : List A) → AllByRecursion P rows
+    → AllByRecursion Q rows → AllByRecursion R rows
 each_fits f [] p q = tt
 each_fits f (a ∷ rows) p q = (f a p.0 q.0, each_fits f rows p.1 q.1)
 
-pub table_keeps : {F A : Type 0} (form : RowForm F A) (context : RowContext) {P Q : A → Type 0} → ((a : A) → P a → Q a → (row form context).fits a) →
+pub table_keeps : {F A : Type 0} (form : RowForm F A) (context : RowContext) {P Q : A → Type 0}
+    → ((a : A) → P a → Q a → (row form context).fits a) →
     (rows : List A) → length rows ≤ 255 → AllByRecursion P rows → AllByRecursion Q rows → KeepRules form context rows
 table_keeps form context fits rows count p q = record { count = omega arith; each = each_fits fits rows p q }

@@ -21,7 +21,8 @@ use Rattle.fmp_scopes.specs.Naming.{fault_in}
 use Rattle.fmp_codegen.specs.Texts.{IsTextCompiled}
 use Rattle.fmp_image_bytes.specs.Images.{ImageTables}
 use Rattle.fmp_cfgparse.specs.declared.reading.Configured.{Configured}
-use Rattle.fmp_image.specs.Building.{ReadTasks, built_image, Builds, IsBuildFault, of_memory, of_configuration, of_tasks, of_bodies, of_entries}
+use Rattle.fmp_image.specs.Building.{ReadTasks, built_image, Builds, IsBuildFault, of_memory, of_configuration}
+use Rattle.fmp_image.specs.Building.{of_tasks, of_bodies, of_entries}
 use Rattle.fmp_image.specs.Entries.{entry_uses}
 
 -- what `?` hands on is the fault itself
@@ -32,7 +33,8 @@ err_is P (Err y) x h p = subst P (sym h) p
 pub read_keeps : (cfg : List ℕ) (c : ReadConfiguration cfg) → IsConfiguration c.making.tables
 read_keeps cfg c = made_keeps cfg c.tokens c.tree c.making c.spelled c.makes
 
-pub configuration_refused : (cfg src : List ℕ) (f : BuildFault) → configuration.IsRead cfg (Err f) → IsBuildFault cfg src f
+pub configuration_refused : (cfg src : List ℕ) (f : BuildFault) → configuration.IsRead cfg (Err f)
+    → IsBuildFault cfg src f
 configuration_refused cfg src build.Memory h = of_memory refl
 configuration_refused cfg src (build.At f place why) h = of_configuration h
 
@@ -67,14 +69,16 @@ module _ (cfg src : List ℕ) (configured : Configured) (reads : Reads cfg confi
         same ∙ are ∙ ap entry_uses (sym reads.tree)
 
     module _ (entries : List EntryUse) (are : entries ≡ entry_uses reads.configuration.tree) where
-      pub entries_refused : (f : BuildFault) → IsChecked {R = Unit {0}} configured.parsed.list.tokens bodies entries (Err f) → IsBuildFault cfg src f
+      pub entries_refused : (f : BuildFault) → IsChecked {R = Unit {0}} configured.parsed.list.tokens bodies entries
+          (Err f) → IsBuildFault cfg src f
       entries_refused build.Memory h = of_memory refl
       entries_refused (build.At f place why) h =
           of_entries reads.configuration written h.0 accepts
           (ap (entries_offence bodies) (sym are) ∙ h.1)
           (h.2 ∙ ap (λ (ts : List Token). fault_in file.Configuration ts h.0) (sym reads.tokens))
 
-      pub builds : (i : ImageTables) → entries_offence bodies entries ≡ None → i ≡ built_image tables bodies → Builds cfg src i
+      pub builds : (i : ImageTables) → entries_offence bodies entries ≡ None → i ≡ built_image tables bodies
+          → Builds cfg src i
       builds i none is = record {
         configuration = reads.configuration;
         tasks = written;

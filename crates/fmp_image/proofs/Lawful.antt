@@ -23,13 +23,17 @@ use Rattle.fmp_image_bytes.specs.Images.{image_tables, keys_of, KeepRules, IsIma
 use Rattle.fmp_image_parts.specs.Instructions.{HasWord}
 use Rattle.fmp_image_parts.specs.Versions.{newest}
 use Rattle.fmp_image_parts.specs.Keys.{are_new}
-use Rattle.fmp_image_bytes.specs.Rows.{RowContext, context_of, row, task_form, cyclic_form, interrupt_form, semaphore_form, flag_form, data_queue_form, mailbox_form, message_form, shared_word_form, spin_lock_form}
-use Rattle.fmp_image.specs.Building.{built_entry, built_task, built_cyclic, built_interrupt, built_tables, built_heads, built_image}
+use Rattle.fmp_image_bytes.specs.Rows.{RowContext, context_of, row, task_form, cyclic_form, interrupt_form}
+use Rattle.fmp_image_bytes.specs.Rows.{semaphore_form, flag_form, data_queue_form, mailbox_form, message_form}
+use Rattle.fmp_image_bytes.specs.Rows.{shared_word_form, spin_lock_form}
+use Rattle.fmp_image.specs.Building.{built_entry, built_task, built_cyclic, built_interrupt, built_tables, built_heads}
+use Rattle.fmp_image.specs.Building.{built_image}
 use Rattle.fmp_image.proofs.Entering.{Enters, TaskEnters, CyclicEnters, InterruptEnters, EachEnters}
 use Rattle.fmp_image.proofs.BodyRules.{are_bodies}
 use Rattle.fmp_image.proofs.EntryRules.{number, number_below, enters_task, enters_handler}
 use Rattle.fmp_image.proofs.FittingBodies.{IsTask, IsCyclic, task_fits, cyclic_fits, interrupt_fits}
-use Rattle.fmp_image.proofs.FittingRows.{lies_in_range, both_all, semaphore_fits, flag_fits, data_queue_fits, mailbox_fits, message_fits, shared_word_fits, spin_lock_fits, table_keeps}
+use Rattle.fmp_image.proofs.FittingRows.{lies_in_range, both_all, semaphore_fits, flag_fits, data_queue_fits}
+use Rattle.fmp_image.proofs.FittingRows.{mailbox_fits, message_fits, shared_word_fits, spin_lock_fits, table_keeps}
 use Rattle.fmp_image.proofs.NamedRows.{AreNamed, has_names}
 use Rattle.fmp_image.proofs.NewKeys.{keys_new}
 use Rattle.fmp_image.proofs.SameNames.{kept}
@@ -71,29 +75,35 @@ module _ (bodies : List BodyTree) (processors : ℕ) (few : length bodies ≤ 25
   fewer : {A : Type 0} (change : A → A) (rows : List A) → length rows ≤ 255 → length (map change rows) < 256
   fewer change rows h = omega (arith, h, length-map rows change)
 
-  tasks_keep : (rows : List TaskConfig) → IsTable (TaskInRange processors) rows → AreNamed task_name rows → AllByRecursion TaskConfigured rows → AllByRecursion (TaskEnters bodies) rows →
+  tasks_keep : (rows : List TaskConfig) → IsTable (TaskInRange processors) rows → AreNamed task_name rows
+      → AllByRecursion TaskConfigured rows → AllByRecursion (TaskEnters bodies) rows →
       KeepRules task_form context (map (built_task bodies) rows)
   tasks_keep rows h named given enters =
       let ok = both_all (TaskInRange processors) _ rows h.each (both_all _ TaskConfigured rows named given) in
       record {
         count = fewer (built_task bodies) rows h.count;
-        each = each_row (IsTask processors) (TaskEnters bodies) (row task_form context).fits (built_task bodies) (λ a p q. task_row a a.entry p q) rows ok enters;
+        each = each_row (IsTask processors) (TaskEnters bodies) (row task_form context).fits (built_task bodies)
+            (λ a p q. task_row a a.entry p q) rows ok enters;
       }
 
-  cyclics_keep : (rows : List CyclicConfig) → IsTable (CyclicInRange processors) rows → AreNamed cyclic_name rows → AllByRecursion CyclicConfigured rows → AllByRecursion (CyclicEnters bodies) rows →
+  cyclics_keep : (rows : List CyclicConfig) → IsTable (CyclicInRange processors) rows → AreNamed cyclic_name rows
+      → AllByRecursion CyclicConfigured rows → AllByRecursion (CyclicEnters bodies) rows →
       KeepRules cyclic_form context (map (built_cyclic bodies) rows)
   cyclics_keep rows h named given enters =
       let ok = both_all (CyclicInRange processors) _ rows h.each (both_all _ CyclicConfigured rows named given) in
       record {
         count = fewer (built_cyclic bodies) rows h.count;
-        each = each_row (IsCyclic processors) (CyclicEnters bodies) (row cyclic_form context).fits (built_cyclic bodies) (λ a p q. cyclic_row a a.entry p q) rows ok enters;
+        each = each_row (IsCyclic processors) (CyclicEnters bodies) (row cyclic_form context).fits
+            (built_cyclic bodies) (λ a p q. cyclic_row a a.entry p q) rows ok enters;
       }
 
-  interrupts_keep : (rows : List InterruptConfig) → IsTable (InterruptInRange processors) rows → AllByRecursion (InterruptEnters bodies) rows →
+  interrupts_keep : (rows : List InterruptConfig) → IsTable (InterruptInRange processors) rows
+      → AllByRecursion (InterruptEnters bodies) rows →
       KeepRules interrupt_form context (map (built_interrupt bodies) rows)
   interrupts_keep rows h enters = record {
     count = fewer (built_interrupt bodies) rows h.count;
-    each = each_row (InterruptInRange processors) (InterruptEnters bodies) (row interrupt_form context).fits (built_interrupt bodies) (λ a p q. interrupt_row a a.entry p q) rows h.each enters;
+    each = each_row (InterruptInRange processors) (InterruptEnters bodies) (row interrupt_form context).fits
+        (built_interrupt bodies) (λ a p q. interrupt_row a a.entry p q) rows h.each enters;
   }
 
 keys_kept : (bodies : List BodyTree) (t : SystemTables) → keys_of (built_tables bodies t) ≡ keys_of t
@@ -105,8 +115,10 @@ keys_kept bodies t =
 
 pub lawful :
     ((body : BodyTree) → codegen.greatest (body_depths body) ≡ body_depth body) →
-    (t : SystemTables) (bodies : List BodyTree) (code : List BodyTables) → IsConfiguration t → EachEnters bodies t → length bodies ≤ 255 →
-    code ≡ compiled t bodies → Verified code → AllByRecursion (λ (b : BodyTables). AllByRecursion HasWord b.instructions) code →
+    (t : SystemTables) (bodies : List BodyTree) (code : List BodyTables) → IsConfiguration t → EachEnters bodies t
+    → length bodies ≤ 255 →
+    code ≡ compiled t bodies → Verified code → AllByRecursion (λ (b : BodyTables). AllByRecursion HasWord
+    b.instructions) code →
     IsImage (image_tables newest (built_tables bodies t) (built_heads bodies) code)
 lawful needed t bodies code h enters few is verified words =
     let p = t.processors in
@@ -122,13 +134,19 @@ lawful needed t bodies code h enters few is verified words =
       count = omega (arith, few, many, length-map bodies (compiled_body t));
       bodies = are_bodies needed t bodies code is verified words;
       tasks = tasks_keep bodies p few small t.tasks r.tasks n.tasks h.tasks enters.tasks;
-      semaphores = table_keeps semaphore_form context (semaphore_fits context) t.semaphores r.semaphores.count r.semaphores.each n.semaphores;
+      semaphores = table_keeps semaphore_form context (semaphore_fits context) t.semaphores r.semaphores.count
+          r.semaphores.each n.semaphores;
       flags = table_keeps flag_form context (flag_fits context) t.flags r.flags.count r.flags.each n.flags;
-      data_queues = table_keeps data_queue_form context (data_queue_fits context) t.data_queues r.data_queues.count r.data_queues.each n.data_queues;
-      mailboxes = table_keeps mailbox_form context (mailbox_fits context) t.mailboxes r.mailboxes.count r.mailboxes.each n.mailboxes;
-      messages = table_keeps message_form context (message_fits context) t.messages r.messages.count r.messages.each n.messages;
-      shared_words = table_keeps shared_word_form context (shared_word_fits context) t.shared_words r.shared_words h.shared_words n.shared_words;
-      spin_locks = table_keeps spin_lock_form context (λ l name same. spin_lock_fits context l name) t.spin_locks r.spin_locks n.spin_locks n.spin_locks;
+      data_queues = table_keeps data_queue_form context (data_queue_fits context) t.data_queues r.data_queues.count
+          r.data_queues.each n.data_queues;
+      mailboxes = table_keeps mailbox_form context (mailbox_fits context) t.mailboxes r.mailboxes.count
+          r.mailboxes.each n.mailboxes;
+      messages = table_keeps message_form context (message_fits context) t.messages r.messages.count r.messages.each
+          n.messages;
+      shared_words = table_keeps shared_word_form context (shared_word_fits context) t.shared_words r.shared_words
+          h.shared_words n.shared_words;
+      spin_locks = table_keeps spin_lock_form context (λ l name same. spin_lock_fits context l name) t.spin_locks
+          r.spin_locks n.spin_locks n.spin_locks;
       cyclics = cyclics_keep bodies p few small t.cyclics r.cyclics n.cyclics h.cyclics enters.cyclics;
       interrupts = interrupts_keep bodies p few small t.interrupts r.interrupts enters.interrupts;
       once = ap (are_new []) (keys_kept bodies t) ∙ keys_new t h;

@@ -3,7 +3,8 @@ use Rattle.std.proofs.Common.{List, [], ◌∷◌, ◌++◌, map}
 use Rattle.std.specs.List.{AllByRecursion}
 use Rattle.fmp_base.specs.declared.names.Name.{Name}
 use Rattle.fmp_base.specs.Systems.{SystemTables}
-use Rattle.fmp_cfgparse.specs.Tables.{IsObjectName, object_names, task_name, semaphore_name, flag_name, data_queue_name, mailbox_name, message_name, shared_word_name, spin_lock_name, cyclic_name}
+use Rattle.fmp_cfgparse.specs.Tables.{IsObjectName, object_names, task_name, semaphore_name, flag_name, data_queue_name}
+use Rattle.fmp_cfgparse.specs.Tables.{mailbox_name, message_name, shared_word_name, spin_lock_name, cyclic_name}
 
 abbrev pub AreNamed : {A : Type 0} → (A → Name) → List A → Type 0
 AreNamed name rows = AllByRecursion (λ a. IsObjectName (name a)) rows
@@ -20,11 +21,13 @@ pub record HasNames (t : SystemTables) : Type 0 where
   pub cyclics : AreNamed cyclic_name t.cyclics
 
 -- the names of a table, and those of the tables behind it
-first_table : {A : Type 0} (name : A → Name) (rows : List A) (rest : List Name) → AllByRecursion IsObjectName (map name rows ++ rest) → AreNamed name rows × AllByRecursion IsObjectName rest
+first_table : {A : Type 0} (name : A → Name) (rows : List A) (rest : List Name)
+    → AllByRecursion IsObjectName (map name rows ++ rest) → AreNamed name rows × AllByRecursion IsObjectName rest
 first_table name [] rest h = (tt, h)
 first_table name (a ∷ rows) rest h = let behind = first_table name rows rest h.1 in ((h.0, behind.0), behind.1)
 
-last_table : {A : Type 0} (name : A → Name) (rows : List A) → AllByRecursion IsObjectName (map name rows) → AreNamed name rows
+last_table : {A : Type 0} (name : A → Name) (rows : List A) → AllByRecursion IsObjectName (map name rows)
+    → AreNamed name rows
 last_table name [] h = tt
 last_table name (a ∷ rows) h = (h.0, last_table name rows h.1)
 

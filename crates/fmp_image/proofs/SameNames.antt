@@ -1,5 +1,6 @@
 -- Only the names of objects matter to the bodies of a text.
-use Rattle.std.proofs.Common.{◌≡◌, ℕ, ◌+◌, ◌||◌, nat_le, nat_lt, List, [], ◌∷◌, ◌++◌, Bool, length, Option, Some, map, refl, sym, ap, ap₂, ◌∙◌, subst}
+use Rattle.std.proofs.Common.{◌≡◌, ℕ, ◌+◌, ◌||◌, nat_le, nat_lt, List, [], ◌∷◌, ◌++◌, Bool, length, Option, Some, map}
+use Rattle.std.proofs.Common.{refl, sym, ap, ap₂, ◌∙◌, subst}
 use Rattle.std.specs.Prelude.{if◌then◌else◌}
 use Rattle.fmp_base.specs.declared.events.Event.{Event}
 use Rattle.fmp_base.specs.declared.names.Name.{Name}
@@ -13,7 +14,8 @@ use Rattle.fmp_tasklang.specs.Scopes.{Scope, object_names, object_number, scope_
 use Rattle.fmp_instructions.specs.declared.instructions.Instruction.TheVariants.{End}
 use Rattle.fmp_instructions.specs.Instructions.{BodyTables}
 use Rattle.fmp_scopes.specs.declared.offences.Offence.{Offence}
-use Rattle.fmp_codegen.specs.Compiling.{is_among, length_offence, variables_offence, size_offence, body_offence, bodies_offence, compiled_body, compiled, IsAccepted}
+use Rattle.fmp_codegen.specs.Compiling.{is_among, length_offence, variables_offence, size_offence, body_offence}
+use Rattle.fmp_codegen.specs.Compiling.{bodies_offence, compiled_body, compiled, IsAccepted}
 use Rattle.fmp_scopes.specs.Scopes.{is_object}
 use Rattle.fmp_scopes.specs.DepthTables.{body_depths}
 use Rattle.fmp_scopes.specs.Naming.{is_known, first_offence, uses_offence, block_uses}
@@ -25,11 +27,13 @@ use Rattle.fmp_image_bytes.specs.Images.{ImageTables}
 use Rattle.fmp_image.specs.Building.{built_task, built_cyclic, built_tables, built_image}
 
 -- a change of rows that keeps what f sees of them
-pub kept : {A B : Type 0} (f : A → B) (change : A → A) (same : (a : A) → f (change a) ≡ f a) (rows : List A) → map f (map change rows) ≡ map f rows
+pub kept : {A B : Type 0} (f : A → B) (change : A → A) (same : (a : A) → f (change a) ≡ f a) (rows : List A)
+    → map f (map change rows) ≡ map f rows
 kept f change same [] = refl
 kept f change same (r ∷ rs) = ap₂ (λ b bs. b ∷ bs) (same r) (kept f change same rs)
 
-pub names_kept : (bodies : List BodyTree) (tables : SystemTables) → object_names (built_tables bodies tables) ≡ object_names tables
+pub names_kept : (bodies : List BodyTree) (tables : SystemTables) → object_names (built_tables bodies tables)
+    ≡ object_names tables
 names_kept bodies tables =
     let tasks = kept (λ t. t.name) (built_task bodies) (λ t. refl) tables.tasks in
     let cyclics = kept (λ c. c.name) (built_cyclic bodies) (λ c. refl) tables.cyclics in
@@ -62,10 +66,12 @@ module _ (a b : SystemTables) (same : object_names a ≡ object_names b) where
       ap₂ (λ (variables : Option Offence) (scope : Scope).
       if nat_le 255 (length names) then Some limit
       else (if is_among body.name.name names then Some twice
-      else first_offence variables (first_offence (uses_offence scope (block_uses body.statements)) (size_offence body))))
+      else first_offence variables (first_offence (uses_offence scope (block_uses body.statements))
+      (size_offence body))))
       (variables_same (exinf_local ∷ []) body.variables) (scope_same body)
 
-  pub bodies_same : (names : List Name) (bodies : List BodyTree) → bodies_offence a names bodies ≡ bodies_offence b names bodies
+  pub bodies_same : (names : List Name) (bodies : List BodyTree) → bodies_offence a names bodies
+      ≡ bodies_offence b names bodies
   bodies_same names [] = refl
   bodies_same names (x ∷ xs) = ap₂ first_offence (body_same names x) (bodies_same (names ++ x.name.name ∷ []) xs)
 
@@ -73,7 +79,8 @@ module _ (a b : SystemTables) (same : object_names a ≡ object_names b) where
   compiled_body_same body =
       let with_scope : Scope → BodyTables = λ scope. record {
         locals = total_places (locals_of body);
-        instructions = block_code scope body.statements 0 (block_size body.statements) (block_size body.statements) ++ End ∷ [];
+        instructions = block_code scope body.statements 0 (block_size body.statements) (block_size body.statements)
+            ++ End ∷ [];
         depths = body_depths body;
       } in
       ap with_scope (scope_same body)
@@ -93,7 +100,8 @@ built_prints tables bodies i n es run accepted is =
     let same = names_kept bodies tables in
     let prints = run (bodies_same built tables same [] bodies ∙ accepted) in
     subst (λ (j : ImageTables). PrintsText j.system bodies j.code n es) (sym is)
-    (subst (λ (code : List BodyTables). PrintsText built bodies code n es) (compiled_same built tables same bodies) prints)
+    (subst (λ (code : List BodyTables). PrintsText built bodies code n es)
+    (compiled_same built tables same bodies) prints)
 
 -- and so it does what the text does
 pub built_does :

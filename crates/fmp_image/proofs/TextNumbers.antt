@@ -1,5 +1,6 @@
 -- The numbers of the bodies of a text have 32 bits.
-use Rattle.std.proofs.Common.{ℕ, ℤ, Bool, true, false, List, [], ◌∷◌, length, slice_get, Option, Some, None, option_and_then, FitsSigned, sym, subst}
+use Rattle.std.proofs.Common.{ℕ, ℤ, Bool, true, false, List, [], ◌∷◌, length, slice_get, Option, Some, None}
+use Rattle.std.proofs.Common.{option_and_then, FitsSigned, sym, subst}
 use Rattle.std.specs.Int.{w32}
 use Rattle.std.specs.List.{AllByRecursion}
 use Rattle.fmp_lex.specs.declared.token.TokenKind.{TokenKind}
@@ -15,11 +16,18 @@ use Rattle.fmp_tasklang.specs.declared.trees.Operator.{Operator}
 use Rattle.fmp_tasklang.specs.declared.trees.Operator.TheVariants as operator
 use Rattle.fmp_tasklang.specs.declared.trees.Word.{Word}
 use Rattle.fmp_tasklang.specs.Blocks.{block_of, choice}
-use Rattle.fmp_tasklang.specs.Calls.{call_parts, ArgumentTree, value, out, values_of, Called, call_tree, OnePart, Parts, OneCall}
-use Rattle.fmp_tasklang.specs.Expressions.{token_number, reference, IsOperand, a_number, a_name, a_group, a_unary, IsIndex, no_index, an_index, IsExpression, an_operand, a_chain, AreLinks, no_link, a_link}
+use Rattle.fmp_tasklang.specs.Calls.{call_parts, ArgumentTree, value, out, values_of, Called, call_tree, OnePart, Parts}
+use Rattle.fmp_tasklang.specs.Calls.{OneCall}
+use Rattle.fmp_tasklang.specs.Expressions.{token_number, reference, IsOperand, a_number, a_name, a_group, a_unary}
+use Rattle.fmp_tasklang.specs.Expressions.{IsIndex, no_index, an_index, IsExpression, an_operand, a_chain, AreLinks}
+use Rattle.fmp_tasklang.specs.Expressions.{no_link, a_link}
 use Rattle.fmp_tasklang.specs.Grammar.{Bodies}
-use Rattle.fmp_tasklang.specs.Statements.{jump_of, IsStatement, an_assignment, an_element_assignment, a_call, a_jump, an_if, a_while, IsIf, if_chosen, IsElse, no_else, an_else, IsOther, a_block, another_if, IsBlock, braces, AreStatements, no_statement, a_statement}
-use Rattle.fmp_tasklang.specs.Trees.{ExpressionTree, number, named, element, unary, binary, both, either, StatementTree, assign, assign_element, service_call, if_then, if_else, while, break, continue, return, Block, empty, next, BodyTree}
+use Rattle.fmp_tasklang.specs.Statements.{jump_of, IsStatement, an_assignment, an_element_assignment, a_call, a_jump}
+use Rattle.fmp_tasklang.specs.Statements.{an_if, a_while, IsIf, if_chosen, IsElse, no_else, an_else, IsOther, a_block}
+use Rattle.fmp_tasklang.specs.Statements.{another_if, IsBlock, braces, AreStatements, no_statement, a_statement}
+use Rattle.fmp_tasklang.specs.Trees.{ExpressionTree, number, named, element, unary, binary, both, either, StatementTree}
+use Rattle.fmp_tasklang.specs.Trees.{assign, assign_element, service_call, if_then, if_else, while, break, continue}
+use Rattle.fmp_tasklang.specs.Trees.{return, Block, empty, next, BodyTree}
 use Rattle.fmp_tasklang.specs.Views.{LinkTree, join, chain_tree}
 use Rattle.fmp_image.specs.Building.{ReadTasks}
 
@@ -58,14 +66,17 @@ BodyHasWords b = BlockHasWords b.statements
 abbrev LinkHasWords : LinkTree → Type 0
 LinkHasWords l = ExpressionHasWords l.operand
 
-join_words : (op : Operator) (a b : ExpressionTree) → ExpressionHasWords a → ExpressionHasWords b → ExpressionHasWords (join op a b)
+join_words : (op : Operator) (a b : ExpressionTree) → ExpressionHasWords a → ExpressionHasWords b
+    → ExpressionHasWords (join op a b)
 join_words (operator.Binary op) a b x y = (x, y)
 join_words operator.Both a b x y = (x, y)
 join_words operator.Either a b x y = (x, y)
 
-chain_words : (a : ExpressionTree) (ls : List LinkTree) → ExpressionHasWords a → AllByRecursion LinkHasWords ls → ExpressionHasWords (chain_tree a ls)
+chain_words : (a : ExpressionTree) (ls : List LinkTree) → ExpressionHasWords a → AllByRecursion LinkHasWords ls
+    → ExpressionHasWords (chain_tree a ls)
 chain_words a [] x h = x
-chain_words a (l ∷ more) x h = chain_words (join l.operator a l.operand) more (join_words l.operator a l.operand x h.0) h.1
+chain_words a (l ∷ more) x h = chain_words (join l.operator a l.operand) more
+    (join_words l.operator a l.operand x h.0) h.1
 
 abbrev NumberFits : Option ℤ → Type 0
 NumberFits None = Unit {0}
@@ -84,7 +95,8 @@ abbrev IndexHasWords : Option ExpressionTree → Type 0
 IndexHasWords None = Unit {0}
 IndexHasWords (Some e) = ExpressionHasWords e
 
-reference_words : (w : Word) (index : Option ExpressionTree) → IndexHasWords index → ExpressionHasWords (reference w index)
+reference_words : (w : Word) (index : Option ExpressionTree) → IndexHasWords index
+    → ExpressionHasWords (reference w index)
 reference_words w None h = tt
 reference_words w (Some e) h = h
 
@@ -108,7 +120,8 @@ ElseHasWords None = Unit {0}
 ElseHasWords (Some b) = BlockHasWords b
 
 choice_words :
-    (e : ExpressionTree) (body : Block) (other : Option Block) → ExpressionHasWords e → BlockHasWords body → ElseHasWords other →
+    (e : ExpressionTree) (body : Block) (other : Option Block) → ExpressionHasWords e → BlockHasWords body
+    → ElseHasWords other →
     StatementHasWords (choice e body other)
 choice_words e body None test first second = (test, first)
 choice_words e body (Some b) test first second = (test, (first, second))
@@ -131,14 +144,16 @@ module _ (ts : List TokenKind) (limit : ℕ) (known : AllByRecursion IsKnown ts)
     expression_words (a_chain {first = first} {links = links} level x rest is) =
         subst ExpressionHasWords (sym is) (chain_words first links (expression_words x) (links_words rest))
 
-    links_words : {d m i : ℕ} {ls : List LinkTree} {j : ℕ} → AreLinks ts limit d m i ls j → AllByRecursion LinkHasWords ls
+    links_words : {d m i : ℕ} {ls : List LinkTree} {j : ℕ} → AreLinks ts limit d m i ls j
+        → AllByRecursion LinkHasWords ls
     links_words no_link = tt
     links_words (a_link op x rest) = (expression_words x, links_words rest)
 
   -- ---- calls
 
   part_words :
-      (d : ℕ) (p : CallPart) (a : Option ArgumentTree) (more : List ArgumentTree) (i k : ℕ) → OnePart d p ts limit i a k →
+      (d : ℕ) (p : CallPart) (a : Option ArgumentTree) (more : List ArgumentTree) (i k : ℕ)
+      → OnePart d p ts limit i a k →
       AllByRecursion ExpressionHasWords (values_of more) → AllByRecursion ExpressionHasWords (values_of (put a more))
   part_words d (part.Mark m) None more i k x h = h
   part_words d (part.Mark m) (Some (value e)) more i k x h = absurd x
@@ -153,7 +168,8 @@ module _ (ts : List TokenKind) (limit : ℕ) (known : AllByRecursion IsKnown ts)
   parts_words :
       (d : ℕ) (ps : List CallPart) (i : ℕ) (args : List ArgumentTree) (j : ℕ) → Parts d ps ts limit i args j →
       AllByRecursion ExpressionHasWords (values_of args)
-  parts_words d [] i args j x = subst (λ (a : List ArgumentTree). AllByRecursion ExpressionHasWords (values_of a)) (sym x.0) tt
+  parts_words d [] i args j x = subst (λ (a : List ArgumentTree). AllByRecursion ExpressionHasWords (values_of a))
+      (sym x.0) tt
   parts_words d (p ∷ ps) i args j x =
       subst (λ (a : List ArgumentTree). AllByRecursion ExpressionHasWords (values_of a)) (sym x.2)
       (part_words d p x.0 x.1 i x.3 x.4 (parts_words d ps x.3 x.1 j x.5))
@@ -162,24 +178,31 @@ module _ (ts : List TokenKind) (limit : ℕ) (known : AllByRecursion IsKnown ts)
       (d : ℕ) (result : Option Word) (c : Called) (i j : ℕ) → OneCall d ts limit i c j →
       StatementHasWords (service_call (call_tree result c))
   call_words d result c i j x =
-      subst (λ (z : Called). AllByRecursion ExpressionHasWords z.arguments) (sym x.1) (parts_words d (call_parts c.service) x.2 x.0 j x.4)
+      subst (λ (z : Called). AllByRecursion ExpressionHasWords z.arguments) (sym x.1)
+      (parts_words d (call_parts c.service) x.2 x.0 j x.4)
 
   -- ---- statements
 
   mutual
-    statement_words : {d : ℕ} {loop : Bool} {i : ℕ} {s : StatementTree} {j : ℕ} → IsStatement ts limit d loop i s j → StatementHasWords s
+    statement_words : {d : ℕ} {loop : Bool} {i : ℕ} {s : StatementTree} {j : ℕ} → IsStatement ts limit d loop i s j
+        → StatementHasWords s
     statement_words (an_assignment a r e semi) = expression_words e
-    statement_words (an_element_assignment a w bracketed equals x semi) = (expression_words bracketed.1.2.1, expression_words x)
-    statement_words {d = d} (a_call r a c b res call semi is) = subst StatementHasWords (sym is) (call_words d r c a b call)
+    statement_words (an_element_assignment a w bracketed equals x semi) =
+        (expression_words bracketed.1.2.1, expression_words x)
+    statement_words {d = d} (a_call r a c b res call semi is) = subst StatementHasWords (sym is)
+        (call_words d r c a b call)
     statement_words {loop = loop} {i = i} (a_jump x semi) = subst JumpHasWords x.0 (token_jump loop (slice_get ts i))
     statement_words (an_if s) = if_words s
     statement_words (a_while x test body) = (expression_words test.2.1, block_words body)
 
-    if_words : {d : ℕ} {loop : Bool} {i : ℕ} {s : StatementTree} {j : ℕ} → IsIf ts limit d loop i s j → StatementHasWords s
+    if_words : {d : ℕ} {loop : Bool} {i : ℕ} {s : StatementTree} {j : ℕ} → IsIf ts limit d loop i s j
+        → StatementHasWords s
     if_words (if_chosen {e = e} {body = body} {other = other} x test block els is) =
-        subst StatementHasWords (sym is) (choice_words e body other (expression_words test.2.1) (block_words block) (else_words els))
+        subst StatementHasWords (sym is) (choice_words e body other (expression_words test.2.1) (block_words block)
+        (else_words els))
 
-    else_words : {d : ℕ} {loop : Bool} {i : ℕ} {o : Option Block} {j : ℕ} → IsElse ts limit d loop i o j → ElseHasWords o
+    else_words : {d : ℕ} {loop : Bool} {i : ℕ} {o : Option Block} {j : ℕ} → IsElse ts limit d loop i o j
+        → ElseHasWords o
     else_words no_else = tt
     else_words (an_else x other) = other_words other
 
@@ -203,4 +226,5 @@ module _ (ts : List TokenKind) (limit : ℕ) (known : AllByRecursion IsKnown ts)
 -- each number of a text that is read
 pub text_words : (src : List ℕ) (t : ReadTasks src) → AllByRecursion BodyHasWords t.bodies
 text_words src t =
-    bodies_words (kinds_of t.tokens) (length (kinds_of t.tokens)) (cuts_known src 0 t.tokens t.spelled.1) t.bodies 0 (length (kinds_of t.tokens)) t.spelled.2
+    bodies_words (kinds_of t.tokens) (length (kinds_of t.tokens)) (cuts_known src 0 t.tokens t.spelled.1) t.bodies 0
+    (length (kinds_of t.tokens)) t.spelled.2

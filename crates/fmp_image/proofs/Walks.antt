@@ -1,5 +1,6 @@
 -- Where no entry of a configuration has a fault, each row that the configuration makes names a body that fits.
-use Rattle.std.proofs.Common.{◌≡◌, ℕ, List, [], ◌∷◌, ◌++◌, Bool, true, false, Option, Some, None, Result, Ok, Err, refl, sym, ap, ◌∙◌, subst}
+use Rattle.std.proofs.Common.{◌≡◌, ℕ, List, [], ◌∷◌, ◌++◌, Bool, true, false, Option, Some, None, Result, Ok, Err, refl}
+use Rattle.std.proofs.Common.{sym, ap, ◌∙◌, subst}
 use Rattle.std.specs.Prelude.{if◌then◌else◌}
 use Rattle.std.specs.List.{AllByRecursion, flat_map}
 use Rattle.fmp_base.specs.declared.names.Name.{Name}
@@ -11,7 +12,8 @@ use Rattle.fmp_base.specs.declared.words.Api.TheVariants as api
 use Rattle.fmp_cfgparse.specs.declared.places.ClassProcessors.{ClassProcessors}
 use Rattle.fmp_cfgparse.specs.Apis.{Making, class_of, api_fault, with_object, made}
 use Rattle.fmp_cfgparse.specs.Configuring as walk
-use Rattle.fmp_cfgparse.specs.Configuring.{unless, walk_apis, walk_class, and_then, walk_classes, nothing_made, configured}
+use Rattle.fmp_cfgparse.specs.Configuring.{unless, walk_apis, walk_class, and_then, walk_classes, nothing_made}
+use Rattle.fmp_cfgparse.specs.Configuring.{configured}
 use Rattle.fmp_cfgparse.specs.Trees.{FieldTree, ApiTree, ClassTree, ConfigurationTree}
 use Rattle.fmp_cfgparse.specs.Values.{between, held, number_at, name_at}
 use Rattle.fmp_tasklang.specs.declared.trees.BodyKind.{BodyKind}
@@ -26,7 +28,8 @@ use Rattle.fmp_image.specs.Entries.{entry_of, alone, api_uses, class_uses, entry
 
 -- ---- answers that are Ok
 
-unless_ok : {A : Type 0} (at : ℕ) (o : Option FaultKind) (r : Result A walk.Offence) (x : A) → unless at o r ≡ Ok x → r ≡ Ok x
+unless_ok : {A : Type 0} (at : ℕ) (o : Option FaultKind) (r : Result A walk.Offence) (x : A) → unless at o r ≡ Ok x
+    → r ≡ Ok x
 unless_ok at None r x h = h
 unless_ok at (Some why) r x h = absurd (cc h)
 
@@ -36,7 +39,8 @@ and_then_ok :
 and_then_ok (Ok x) f y h = (x, refl, h)
 and_then_ok (Err e) f y h = absurd (cc h)
 
-if_ok : {A : Type 0} (t : Bool) (r : Result A walk.Offence) (e : walk.Offence) (x : A) → (if t then r else Err e) ≡ Ok x → r ≡ Ok x
+if_ok : {A : Type 0} (t : Bool) (r : Result A walk.Offence) (e : walk.Offence) (x : A) → (if t then r else Err e)
+    ≡ Ok x → r ≡ Ok x
 if_ok true r e x h = h
 if_ok false r e x h = absurd (cc h)
 
@@ -77,7 +81,8 @@ module _ (bodies : List BodyTree) where
   -- the token of an entry does not matter
   at_any_token :
       (at : ℕ) (n : Name) (kind : BodyKind) (stack : Option ℕ) (place : Option ℕ) →
-      entry_fault bodies (record { at = at; name = n; kind = kind; stack = stack }) place ≡ entry_fault bodies (wanted n kind stack) place
+      entry_fault bodies (record { at = at; name = n; kind = kind; stack = stack }) place
+      ≡ entry_fault bodies (wanted n kind stack) place
   at_any_token at n kind stack None = refl
   at_any_token at n kind stack (Some k) = refl
 
@@ -92,16 +97,23 @@ module _ (bodies : List BodyTree) where
 
 -- ---- the walk
 
-one_more : {A : Type 0} (P : A → Type 0) (xs : List A) (x : A) → AllByRecursion P xs → P x → AllByRecursion P (xs ++ x ∷ [])
+one_more : {A : Type 0} (P : A → Type 0) (xs : List A) (x : A) → AllByRecursion P xs → P x
+    → AllByRecursion P (xs ++ x ∷ [])
 one_more P [] x all here = (here, tt)
 one_more P (y ∷ ys) x all here = (all.0, one_more P ys x all.1 here)
 
 module _ (bodies : List BodyTree) (c : ClassProcessors) where
   object_enters :
-      (kind : Api) (at : ℕ) (f : List FieldTree) (t : SystemTables) → entries_offence bodies (alone (entry_of kind at f)) ≡ None →
+      (kind : Api) (at : ℕ) (f : List FieldTree) (t : SystemTables)
+      → entries_offence bodies (alone (entry_of kind at f)) ≡ None →
       EachEnters bodies t → EachEnters bodies (with_object c kind f t)
   object_enters api.CreTsk at f t none h =
-      record { tasks = one_more _ t.tasks _ h.tasks (enters bodies at (name_at f 3) Task (Some (held 4294967295 (number_at f 5))) none); cyclics = h.cyclics; interrupts = h.interrupts }
+      record {
+        tasks = one_more _ t.tasks _ h.tasks (enters bodies at (name_at f 3) Task
+            (Some (held 4294967295 (number_at f 5))) none);
+        cyclics = h.cyclics;
+        interrupts = h.interrupts;
+      }
   object_enters api.CreSem at f t none h = record { tasks = h.tasks; cyclics = h.cyclics; interrupts = h.interrupts }
   object_enters api.CreFlg at f t none h = record { tasks = h.tasks; cyclics = h.cyclics; interrupts = h.interrupts }
   object_enters api.CreDtq at f t none h = record { tasks = h.tasks; cyclics = h.cyclics; interrupts = h.interrupts }
@@ -110,15 +122,26 @@ module _ (bodies : List BodyTree) (c : ClassProcessors) where
   object_enters api.CreShr at f t none h = record { tasks = h.tasks; cyclics = h.cyclics; interrupts = h.interrupts }
   object_enters api.CreSpn at f t none h = record { tasks = h.tasks; cyclics = h.cyclics; interrupts = h.interrupts }
   object_enters api.CreCyc at f t none h =
-      record { tasks = h.tasks; cyclics = one_more _ t.cyclics _ h.cyclics (enters bodies at (name_at f 3) Handler None none); interrupts = h.interrupts }
+      record {
+        tasks = h.tasks;
+        cyclics = one_more _ t.cyclics _ h.cyclics (enters bodies at
+            (name_at f 3) Handler None none);
+        interrupts = h.interrupts;
+      }
   object_enters api.DefInh at f t none h =
-      record { tasks = h.tasks; cyclics = h.cyclics; interrupts = one_more _ t.interrupts _ h.interrupts (enters bodies at (name_at f 2) Handler None none) }
+      record {
+        tasks = h.tasks;
+        cyclics = h.cyclics;
+        interrupts = one_more _ t.interrupts _ h.interrupts (enters
+            bodies at (name_at f 2) Handler None none);
+      }
 
 module _ (bodies : List BodyTree) where
   apis_enter :
       (c : ClassProcessors) (apis : List ApiTree) (g m : Making) → walk_apis c apis g ≡ Ok m →
       entries_offence bodies (flat_map api_uses apis) ≡ None → EachEnters bodies g.tables → EachEnters bodies m.tables
-  apis_enter c [] g m walked none h = let same : g ≡ m = cc walked in subst (λ (x : Making). EachEnters bodies x.tables) same h
+  apis_enter c [] g m walked none h = let same : g ≡ m = cc walked in subst
+      (λ (x : Making). EachEnters bodies x.tables) same h
   apis_enter c (a ∷ more) g m walked none h =
       let uses = api_uses a in
       let rest = flat_map api_uses more in
@@ -134,8 +157,10 @@ module _ (bodies : List BodyTree) where
 
   classes_enter :
       (processors : ℕ) (classes : List ClassTree) (g m : Making) → walk_classes processors classes g ≡ Ok m →
-      entries_offence bodies (flat_map class_uses classes) ≡ None → EachEnters bodies g.tables → EachEnters bodies m.tables
-  classes_enter processors [] g m walked none h = let same : g ≡ m = cc walked in subst (λ (x : Making). EachEnters bodies x.tables) same h
+      entries_offence bodies (flat_map class_uses classes) ≡ None → EachEnters bodies g.tables
+      → EachEnters bodies m.tables
+  classes_enter processors [] g m walked none h = let same : g
+      ≡ m = cc walked in subst (λ (x : Making). EachEnters bodies x.tables) same h
   classes_enter processors (c ∷ more) g m walked none h =
       let place = class_of processors (name_text c.name) in
       let parts = and_then_ok (walk_class c.at place c.apis g) (walk_classes processors more) m walked in

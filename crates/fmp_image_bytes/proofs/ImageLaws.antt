@@ -1,5 +1,6 @@
 -- What is read is an image that the bytes spell, and what spells an image is read.
-use Rattle.std.proofs.Common.{◌≡◌, ℕ, ◌+◌, ◌^◌, ◌<◌, ◌≤◌, true, List, [], ◌∷◌, ◌++◌, map, Result, Ok, refl, sym, ap, subst, ◌∙◌, arith}
+use Rattle.std.proofs.Common.{◌≡◌, ℕ, ◌+◌, ◌^◌, ◌<◌, ◌≤◌, true, List, [], ◌∷◌, ◌++◌, map, Result, Ok, refl, sym, ap}
+use Rattle.std.proofs.Common.{subst, ◌∙◌, arith}
 use Rattle.std.proofs.lemmas.Bool.{leb-true}
 use Rattle.std.proofs.lemmas.List.{append-nil}
 use Rattle.std.proofs.lemmas.Slice.Eq.{bytes_eq-Decides}
@@ -8,41 +9,60 @@ use Rattle.fmp_image_parts.specs.declared.keys.Key.{Key}
 use Rattle.fmp_image_parts.specs.Fields.{Field, chained}
 use Rattle.fmp_image_parts.specs.Keys.{are_new}
 use Rattle.fmp_image_parts.specs.Fields.{in_range}
-use Rattle.fmp_image_bytes.specs.Rows.{RowContext, context_of, RowForm, row, task_form, semaphore_form, flag_form, data_queue_form, mailbox_form, message_form, shared_word_form, spin_lock_form, cyclic_form, interrupt_form}
+use Rattle.fmp_image_bytes.specs.Rows.{RowContext, context_of, RowForm, row, task_form, semaphore_form, flag_form}
+use Rattle.fmp_image_bytes.specs.Rows.{data_queue_form, mailbox_form, message_form, shared_word_form, spin_lock_form}
+use Rattle.fmp_image_bytes.specs.Rows.{cyclic_form, interrupt_form}
 use Rattle.fmp_image_bytes.specs.Tables.{AreRows}
 use Rattle.fmp_image_parts.specs.Bodies.{bodies}
 use Rattle.fmp_image_parts.specs.Versions.{is_version}
 use Rattle.fmp_image_parts.specs.Header.{plain, magic, is_magic, header}
-use Rattle.fmp_image_bytes.specs.Images.{◌▹◌, ImageTables, table_of, also, tables, Parts, layout, parts_of, image_of, spelling, all_read, image_at, KeepRules, IsImage, Spells}
-use Rattle.fmp_image_parts.proofs.FieldLaws.{IsBytes, Exact, bind_ok, pair_is, byte_exact, short_exact, bytes_take, bytes_again, tested_exact, both_exact, chained_exact}
-use Rattle.fmp_image_bytes.proofs.RowLaws.{GoesBack, row_exact, task_back, semaphore_back, flag_back_row, data_queue_back, mailbox_back_row, message_back, shared_word_back, spin_lock_back, cyclic_back, interrupt_back}
+use Rattle.fmp_image_bytes.specs.Images.{◌▹◌, ImageTables, table_of, also, tables, Parts, layout, parts_of, image_of}
+use Rattle.fmp_image_bytes.specs.Images.{spelling, all_read, image_at, KeepRules, IsImage, Spells}
+use Rattle.fmp_image_parts.proofs.FieldLaws.{IsBytes, Exact, bind_ok, pair_is, byte_exact, short_exact, bytes_take}
+use Rattle.fmp_image_parts.proofs.FieldLaws.{bytes_again, tested_exact, both_exact, chained_exact}
+use Rattle.fmp_image_bytes.proofs.RowLaws.{GoesBack, row_exact, task_back, semaphore_back, flag_back_row}
+use Rattle.fmp_image_bytes.proofs.RowLaws.{data_queue_back, mailbox_back_row, message_back, shared_word_back}
+use Rattle.fmp_image_bytes.proofs.RowLaws.{spin_lock_back, cyclic_back, interrupt_back}
 use Rattle.fmp_image_bytes.proofs.TableLaws.{table_exact, new_append}
 use Rattle.fmp_image_parts.proofs.BodyLaws.{bodies_exact}
 use Rattle.fmp_image_parts.proofs.Names.{and_true}
 use Rattle.fmp_image_parts.proofs.Verification.{both_true}
 
 plain_exact : (size : ℕ) → Exact (plain size)
-plain_exact size = record { takes = λ bytes a rest h e. bytes_take size bytes a rest e; again = λ a rest fits. bytes_again size a rest fits }
+plain_exact size = record {
+  takes = λ bytes a rest h e. bytes_take size bytes a rest e;
+  again = λ a rest fits. bytes_again size a rest fits;
+}
 
 header_exact : Exact header
-header_exact = both_exact _ _ (tested_exact _ _ _ (plain_exact 4)) (both_exact _ _ (tested_exact _ _ _ short_exact) (tested_exact _ _ _ byte_exact))
+header_exact = both_exact _ _ (tested_exact _ _ _ (plain_exact 4)) (both_exact _ _ (tested_exact _ _ _ short_exact)
+    (tested_exact _ _ _ byte_exact))
 
-one_table : {F A : Type 0} (form : RowForm F A) → ((context : RowContext) → GoesBack form context) → (context : RowContext) (taken : List Key) → Exact (table_of form context taken)
-one_table form back context taken = table_exact (row form context) form.key_of (row_exact form context (back context)) taken
+one_table : {F A : Type 0} (form : RowForm F A) → ((context : RowContext) → GoesBack form context)
+    → (context : RowContext) (taken : List Key) → Exact (table_of form context taken)
+one_table form back context taken = table_exact (row form context) form.key_of
+    (row_exact form context (back context)) taken
 
-also_exact : {F A B : Type 0} (form : RowForm F A) (behind : RowContext → List Key → Field B) → ((context : RowContext) → GoesBack form context) → ((context : RowContext) (taken : List Key) → Exact (behind context taken))
+also_exact : {F A B : Type 0} (form : RowForm F A) (behind : RowContext → List Key → Field B)
+    → ((context : RowContext) → GoesBack form context) → ((context : RowContext) (taken : List Key)
+    → Exact (behind context taken))
     → (context : RowContext) (taken : List Key) → Exact (also form behind context taken)
 also_exact form behind back rest context taken =
-    chained_exact (table_of form context taken) (λ rows. behind context (taken ++ map form.key_of rows)) (one_table form back context taken) (λ rows. rest context (taken ++ map form.key_of rows))
+    chained_exact (table_of form context taken) (λ rows. behind context (taken ++ map form.key_of rows))
+    (one_table form back context taken) (λ rows. rest context (taken ++ map form.key_of rows))
 
 tables_exact : (context : RowContext) (taken : List Key) → Exact (tables context taken)
-tables_exact = also_exact _ _ task_back (also_exact _ _ semaphore_back (also_exact _ _ flag_back_row (also_exact _ _ data_queue_back (also_exact _ _ mailbox_back_row
-    (also_exact _ _ message_back (also_exact _ _ shared_word_back (also_exact _ _ spin_lock_back (also_exact _ _ cyclic_back (one_table _ interrupt_back)))))))))
+tables_exact = also_exact _ _ task_back (also_exact _ _ semaphore_back (also_exact _ _ flag_back_row
+    (also_exact _ _ data_queue_back (also_exact _ _ mailbox_back_row
+    (also_exact _ _ message_back (also_exact _ _ shared_word_back (also_exact _ _ spin_lock_back
+    (also_exact _ _ cyclic_back (one_table _ interrupt_back)))))))))
 
 layout_exact : Exact layout
 layout_exact =
-    chained_exact header (λ h. chained (bodies h.1.0) (λ b. tables (context_of h.1.0 h.1.1 b.0) [])) header_exact (λ h. chained_exact
-    (bodies h.1.0) (λ b. tables (context_of h.1.0 h.1.1 b.0) []) (bodies_exact h.1.0) (λ b. tables_exact (context_of h.1.0 h.1.1 b.0) []))
+    chained_exact header (λ h. chained (bodies h.1.0) (λ b. tables (context_of h.1.0 h.1.1 b.0) [])) header_exact
+    (λ h. chained_exact
+    (bodies h.1.0) (λ b. tables (context_of h.1.0 h.1.1 b.0) []) (bodies_exact h.1.0)
+    (λ b. tables_exact (context_of h.1.0 h.1.1 b.0) []))
 
 magic_is : (m : List ℕ) → is_magic m ≡ true → m ≡ magic
 magic_is m e = (bytes_eq-Decides m magic).0 e
@@ -63,7 +83,8 @@ module _ {F A : Type 0} (form : RowForm F A) (context : RowContext) (taken : Lis
       let parts = and_true _ _ (sym (new_append taken (map form.key_of rows) behind) ∙ new) in
       (record { count = rules.count; each = rules.each; once = parts.0 }, parts.1)
 
-  gather : (behind : List Key) → AreRows (row form context) form.key_of taken rows → are_new (taken ++ map form.key_of rows) behind ≡ true
+  gather : (behind : List Key) → AreRows (row form context) form.key_of taken rows
+      → are_new (taken ++ map form.key_of rows) behind ≡ true
       → are_new taken (map form.key_of rows ++ behind) ≡ true
   gather behind rules new = new_append taken (map form.key_of rows) behind ∙ both_true _ _ rules.once new
 
@@ -92,8 +113,18 @@ parts_fit i h =
     let t7 = peel shared_word_form context k6 s.shared_words _ h.shared_words t6.1 in
     let t8 = peel spin_lock_form context k7 s.spin_locks _ h.spin_locks t7.1 in
     let t9 = peel cyclic_form context k8 s.cyclics _ h.cyclics t8.1 in
-    let t10 : AreRows (row interrupt_form context) interrupt_form.key_of k9 s.interrupts = record { count = h.interrupts.count; each = h.interrupts.each; once = t9.1 } in (
-      ((refl, refl), ((version_fits i.version h.version, h.version), (processors_fit s.processors h.processors, h.processors))),
+    let t10 : AreRows (row interrupt_form context) interrupt_form.key_of k9 s.interrupts =
+    record { count = h.interrupts.count; each = h.interrupts.each; once = t9.1 } in (
+      (
+        (refl, refl),
+        (
+          (version_fits i.version h.version, h.version),
+          (
+            processors_fit s.processors h.processors,
+            h.processors,
+          ),
+        ),
+      ),
       ((h.count, h.bodies), (t1.0, (t2.0, (t3.0, (t4.0, (t5.0, (t6.0, (t7.0, (t8.0, (t9.0, t10)))))))))),
     )
 
@@ -122,7 +153,8 @@ image_back i h =
     ap with_limit (sym h.queue_limit)
 
 image_fits : (p : Parts) → layout.fits p → IsImage (image_of p) × (parts_of (image_of p) ≡ p)
-image_fits ((m ▹ version ▹ processors) ▹ (heads ▹ code) ▹ tasks ▹ semaphores ▹ flags ▹ data_queues ▹ mailboxes ▹ messages ▹ shared_words ▹ spin_locks ▹ cyclics ▹ interrupts) f =
+image_fits ((m ▹ version ▹ processors) ▹ (heads ▹ code) ▹ tasks ▹ semaphores ▹ flags ▹ data_queues ▹ mailboxes ▹
+    messages ▹ shared_words ▹ spin_locks ▹ cyclics ▹ interrupts) f =
     let context = context_of version processors heads in
     let k1 = [] ++ map task_form.key_of tasks in
     let k2 = k1 ++ map semaphore_form.key_of semaphores in
@@ -187,7 +219,11 @@ image_takes bytes i h e =
     let all = read_all (image_of p) i a.0.1 a.2 in
     let f = image_fits p t.0 in
     let whole : bytes ≡ layout.spell p = t.1 ∙ ap (λ r. layout.spell p ++ r) all.0 ∙ append-nil (layout.spell p) in
-    subst (λ (j : ImageTables). Spells j bytes) all.1 (record { lawful = f.0; spelled = whole ∙ ap layout.spell (sym f.1) })
+    subst (λ (j : ImageTables). Spells j bytes) all.1 (record {
+      lawful = f.0;
+      spelled = whole ∙ ap layout.spell (sym
+          f.1);
+    })
 
 parts_again : (i : ImageTables) (rest : List ℕ) → IsImage i → layout.read (spelling i ++ rest) ≡ Ok (parts_of i, rest)
 unfolding spelling
@@ -196,7 +232,8 @@ parts_again i rest h = layout_exact.again (parts_of i) rest (parts_fit i h)
 pub image_again : (bytes : List ℕ) (i : ImageTables) → Spells i bytes → image_at bytes ≡ Ok i
 unfolding image_at
 image_again bytes i h =
-    let read : layout.read bytes ≡ Ok (parts_of i, []) = ap layout.read (h.spelled ∙ sym (append-nil (spelling i))) ∙ parts_again i [] h.lawful in
+    let read : layout.read bytes ≡ Ok (parts_of i, []) = ap layout.read (h.spelled ∙ sym (append-nil (spelling i)))
+    ∙ parts_again i [] h.lawful in
     rw read (ap Ok (image_back i h.lawful))
 
 -- ---- one spelling
@@ -211,6 +248,8 @@ one_image i j a p q = same i j (sym (image_again a i p) ∙ image_again a j q) w
 
 pub no_front : (i j : ImageTables) (a b more : List ℕ) → Spells i a → Spells j b → b ≡ a ++ more → more ≡ []
 no_front i j a b more p q e =
-    let one : layout.read b ≡ Ok (parts_of i, more) = ap layout.read (e ∙ ap (λ x. x ++ more) p.spelled) ∙ parts_again i more p.lawful in
-    let two : layout.read b ≡ Ok (parts_of j, []) = ap layout.read (q.spelled ∙ sym (append-nil (spelling j))) ∙ parts_again j [] q.lawful in
+    let one : layout.read b ≡ Ok (parts_of i, more) = ap layout.read (e ∙ ap (λ x. x ++ more) p.spelled)
+    ∙ parts_again i more p.lawful in
+    let two : layout.read b ≡ Ok (parts_of j, []) = ap layout.read (q.spelled ∙ sym (append-nil (spelling j)))
+    ∙ parts_again j [] q.lawful in
     (pair_is (parts_of i) (parts_of j) more [] (sym one ∙ two)).1

@@ -1,5 +1,6 @@
 -- An image of version 1 or 2 queues one activation and one wakeup, and its code calls none but the first 58 services.
-use Rattle.std.proofs.Common.{◌≡◌, ℕ, zero, suc, ◌≤◌, ◌<◌, ℤ, nat_le, Bool, true, false, if◌then◌else◌, List, [], ◌∷◌, Option, Some, None, Result, Ok, Err, refl, sym, ap, subst, ◌∙◌, arith}
+use Rattle.std.proofs.Common.{◌≡◌, ℕ, zero, suc, ◌≤◌, ◌<◌, ℤ, nat_le, Bool, true, false, if◌then◌else◌, List, [], ◌∷◌}
+use Rattle.std.proofs.Common.{Option, Some, None, Result, Ok, Err, refl, sym, ap, subst, ◌∙◌, arith}
 use Rattle.std.proofs.Math.Path.{fun_ext}
 use Rattle.std.specs.Prelude.{slice_get, IfSome}
 use Rattle.std.specs.List.{AllByRecursion}
@@ -13,17 +14,21 @@ use Rattle.fmp_base.specs.Services.{service_number}
 use Rattle.fmp_base.specs.Stretches.{Ending}
 use Rattle.fmp_base.specs.Systems.{SystemTables}
 use Rattle.fmp_instructions.specs.declared.instructions.Instruction.{Instruction}
-use Rattle.fmp_instructions.specs.declared.instructions.Instruction.TheVariants.{Push, Load, Store, LoadIndexed, StoreIndexed, Unary, Truth, Binary, Jump, JumpIfZero, Call, End}
+use Rattle.fmp_instructions.specs.declared.instructions.Instruction.TheVariants.{Push, Load, Store, LoadIndexed}
+use Rattle.fmp_instructions.specs.declared.instructions.Instruction.TheVariants.{StoreIndexed, Unary, Truth, Binary}
+use Rattle.fmp_instructions.specs.declared.instructions.Instruction.TheVariants.{Jump, JumpIfZero, Call, End}
 use Rattle.fmp_instructions.specs.declared.instructions.MachineContext.{MachineContext}
 use Rattle.fmp_instructions.specs.Instructions.{BodyTables, instructions_at, found_instructions}
-use Rattle.fmp_instructions.specs.Machine.{Next, act, exec, gives, on_place, stack_of, unstacked, code_stretch, code_meaning}
+use Rattle.fmp_instructions.specs.Machine.{Next, act, exec, gives, on_place, stack_of, unstacked, code_stretch}
+use Rattle.fmp_instructions.specs.Machine.{code_meaning}
 use Rattle.fmp_instructions.proofs.Requests.{service_of-request}
 use Rattle.fmp_image_parts.specs.declared.heads.BodyHead.{BodyHead}
 use Rattle.fmp_image_parts.specs.Bodies.{IsBody}
 use Rattle.fmp_image_parts.specs.Pairs.{AllPairs}
 use Rattle.fmp_image_parts.specs.Versions.{has, has_service, queue_limit_of}
 use Rattle.fmp_image_bytes.specs.Images.{ImageTables, IsImage}
-use Rattle.fmp_image_bytes.specs.OlderImages.{first_calls, with_first_services, with_queue_limit, AreTheSame, MeansTheSame}
+use Rattle.fmp_image_bytes.specs.OlderImages.{first_calls, with_first_services, with_queue_limit, AreTheSame}
+use Rattle.fmp_image_bytes.specs.OlderImages.{MeansTheSame}
 
 -- ---- services
 
@@ -54,7 +59,8 @@ module _ (next : Next) (same : (pc : ℕ) (stack locals : List ℤ) → Same (ne
   chosen true x y h k = h
   chosen false x y h k = k
 
-  acted : (version : ℕ) → version ≤ 2 → (o : Option Instruction) → IfSome o (λ i. has version i ≡ true) → (pc : ℕ) (stack locals : List ℤ)
+  acted : (version : ℕ) → version ≤ 2 → (o : Option Instruction) → IfSome o (λ i. has version i ≡ true)
+      → (pc : ℕ) (stack locals : List ℤ)
       → Same (act o next pc stack locals)
   acted version old None h pc stack locals = refl
   acted version old (Some (Push k)) h pc stack locals = same _ _ _
@@ -62,10 +68,12 @@ module _ (next : Next) (same : (pc : ℕ) (stack locals : List ℤ) → Same (ne
   acted version old (Some (Store v)) h pc [] locals = refl
   acted version old (Some (Store v)) h pc (x ∷ rest) locals = same _ _ _
   acted version old (Some (LoadIndexed base places)) h pc [] locals = refl
-  acted version old (Some (LoadIndexed base places)) h pc (i ∷ rest) locals = placed (place_in places i) pc locals _ (λ k. same _ _ _)
+  acted version old (Some (LoadIndexed base places)) h pc (i ∷ rest) locals = placed (place_in places i) pc locals _
+      (λ k. same _ _ _)
   acted version old (Some (StoreIndexed base places)) h pc [] locals = refl
   acted version old (Some (StoreIndexed base places)) h pc (i ∷ []) locals = refl
-  acted version old (Some (StoreIndexed base places)) h pc (x ∷ (i ∷ rest)) locals = placed (place_in places i) pc locals _ (λ k. same _ _ _)
+  acted version old (Some (StoreIndexed base places)) h pc (x ∷ (i ∷ rest)) locals = placed
+      (place_in places i) pc locals _ (λ k. same _ _ _)
   acted version old (Some (Unary op)) h pc [] locals = refl
   acted version old (Some (Unary op)) h pc (x ∷ rest) locals = given (unary_value op x) pc rest locals
   acted version old (Some Truth) h pc [] locals = refl
@@ -91,23 +99,27 @@ executed : (version : ℕ) → version ≤ 2 → (code : List Instruction) → A
     → (n pc : ℕ) (stack locals : List ℤ) → Same (exec code n pc stack locals)
 executed version old code h zero pc stack locals = refl
 executed version old code h (suc n) pc stack locals =
-    acted (exec code n) (executed version old code h n) version old (slice_get code pc) (known_at version code h pc) pc stack locals
+    acted (exec code n) (executed version old code h n) version old (slice_get code pc)
+    (known_at version code h pc) pc stack locals
 
 -- ---- bodies
 
-known_body : (version : ℕ) (heads : List BodyHead) (code : List BodyTables) → AllPairs (IsBody version) heads code → (body : ℕ)
+known_body : (version : ℕ) (heads : List BodyHead) (code : List BodyTables) → AllPairs (IsBody version) heads code
+    → (body : ℕ)
     → AllByRecursion (λ i. has version i ≡ true) (instructions_at code body)
 known_body version heads [] h body = (refl, tt)
 known_body version [] (b ∷ code) h body = absurd h
 known_body version (x ∷ heads) (b ∷ code) h zero = h.0.known
 known_body version (x ∷ heads) (b ∷ code) h (suc body) = known_body version heads code h.1 body
 
-same_meaning : (i : ImageTables) → IsImage i → i.version ≤ 2 → with_first_services 58 (code_meaning i.code) ≡ code_meaning i.code
+same_meaning : (i : ImageTables) → IsImage i → i.version ≤ 2 → with_first_services 58 (code_meaning i.code)
+    ≡ code_meaning i.code
 same_meaning i h old =
     let M = code_meaning i.code in
     ap (λ (s : ℕ → ℕ → MachineContext → Ending MachineContext). record M { stretch = s })
     (fun_ext (λ body. fun_ext (λ bound. fun_ext (λ context.
-    executed i.version old (instructions_at i.code body) (known_body i.version i.heads i.code h.bodies body) bound context.pc (stack_of context) context.locals))))
+    executed i.version old (instructions_at i.code body) (known_body i.version i.heads i.code h.bodies body) bound
+    context.pc (stack_of context) context.locals))))
 
 -- ---- the queue limit
 

@@ -25,5 +25,6 @@ first_word version old (Some s) = first_service version old s
 pub same_names : (version : ℕ) (text : List ℕ) → version ≤ 2 → is_name version text ≡ is_name_among_first 58 text
 unfolding is_name
 same_names version text old =
-    ap (λ (b : Bool). nat_le (length text) 31 && begins_and_goes_on text && not (is_some (constant_named text) || is_some (api_named text) || b || is_some (keyword_named text)))
+    ap (λ (b : Bool). nat_le (length text) 31 && begins_and_goes_on text
+    && not (is_some (constant_named text) || is_some (api_named text) || b || is_some (keyword_named text)))
     (first_word version old (service_named text))

@@ -1,5 +1,6 @@
 -- A row that is read is made of the fields that it spells.
-use Rattle.std.proofs.Common.{◌≡◌, ℕ, zero, suc, ◌+◌, ◌-◌, ◌≤◌, ◌⊎◌, inl, inr, Bool, true, false, ◌&&◌, ◌||◌, nat_le, cond, List, ◌++◌, length, Ok, Err, refl, sym, ap, subst, arith}
+use Rattle.std.proofs.Common.{◌≡◌, ℕ, zero, suc, ◌+◌, ◌-◌, ◌≤◌, ◌⊎◌, inl, inr, Bool, true, false, ◌&&◌, ◌||◌, nat_le}
+use Rattle.std.proofs.Common.{cond, List, ◌++◌, length, Ok, Err, refl, sym, ap, subst, arith}
 use Rattle.std.specs.Prelude.{◌==◌, ◌%◌, ◌/◌, slice_get}
 use Rattle.std.proofs.lemmas.Bool.{leb-true, eqb-true}
 use Rattle.std.proofs.lemmas.List.{take_at}
@@ -8,8 +9,11 @@ use Rattle.fmp_image_parts.specs.declared.fault.ImageFault.TheVariants as fault
 use Rattle.fmp_image_parts.specs.Keys.{is_name}
 use Rattle.fmp_image_parts.specs.Fields.{in_range}
 use Rattle.fmp_image_parts.specs.Ranges.{is_start_bit}
-use Rattle.fmp_image_bytes.specs.Rows.{RowContext, RowForm, row, is_handler_body, bit, order_bit, order_of, task_form, semaphore_form, flag_form, data_queue_form, mailbox_form, message_form, shared_word_form, spin_lock_form, cyclic_form, interrupt_form}
-use Rattle.fmp_image_parts.proofs.FieldLaws.{Exact, bind_ok, passed, byte_exact, short_exact, long_exact, word_exact, text_exact, both_exact}
+use Rattle.fmp_image_bytes.specs.Rows.{RowContext, RowForm, row, is_handler_body, bit, order_bit, order_of, task_form}
+use Rattle.fmp_image_bytes.specs.Rows.{semaphore_form, flag_form, data_queue_form, mailbox_form, message_form}
+use Rattle.fmp_image_bytes.specs.Rows.{shared_word_form, spin_lock_form, cyclic_form, interrupt_form}
+use Rattle.fmp_image_parts.proofs.FieldLaws.{Exact, bind_ok, passed, byte_exact, short_exact, long_exact, word_exact}
+use Rattle.fmp_image_parts.proofs.FieldLaws.{text_exact, both_exact}
 use Rattle.fmp_image_parts.proofs.Names.{and_true}
 
 -- fields that keep the rules are those of the row that they make
@@ -17,16 +21,24 @@ pub record GoesBack {F A : Type 0} (form : RowForm F A) (context : RowContext) :
   pub exact : Exact form.layout
   pub back : (f : F) → form.keeps context f ≡ true → form.fields (form.make f) ≡ f
 
-pub row_exact : {F A : Type 0} (form : RowForm F A) (context : RowContext) → GoesBack form context → Exact (row form context)
+pub row_exact : {F A : Type 0} (form : RowForm F A) (context : RowContext) → GoesBack form context
+    → Exact (row form context)
 row_exact {F = F} {A = A} form context goes = record {
   takes = λ bytes a rest h e.
-      let b = bind_ok (form.layout.read bytes) (λ f. cond (form.keeps context f.0) (Ok (form.make f.0, f.1)) (Err fault.Table)) (a, rest) e in
+      let b = bind_ok (form.layout.read bytes) (λ f. cond (form.keeps context f.0) (Ok (form.make f.0, f.1))
+      (Err fault.Table)) (a, rest) e in
       let g = passed (form.keeps context b.0.0) fault.Table (form.make b.0.0, b.0.1) (a, rest) b.2 in
       let t = goes.exact.takes bytes b.0.0 b.0.1 h b.1 in
       let same = goes.back b.0.0 g.0 in
-      let fits : (row form context).fits (form.make b.0.0) = (subst form.layout.fits (sym same) t.0, rw same g.0, ap form.make same) in
+      let fits : (row form context).fits (form.make b.0.0) = (
+        subst form.layout.fits
+            (sym same) t.0,
+        rw same g.0,
+        ap form.make same,
+      ) in
       let whole : bytes ≡ form.layout.spell (form.fields (form.make b.0.0)) ++ b.0.1 = rw same t.1 in
-      subst (λ (x : A × List ℕ). (row form context).fits x.0 × (bytes ≡ form.layout.spell (form.fields x.0) ++ x.1)) g.1 (fits, whole);
+      subst (λ (x : A × List ℕ). (row form context).fits x.0 × (bytes ≡ form.layout.spell (form.fields x.0) ++ x.1))
+      g.1 (fits, whole);
   again = λ a rest fits. rw (goes.exact.again (form.fields a) rest fits.0, fits.1, fits.2) refl;
 }
 
@@ -81,10 +93,13 @@ below_8 P (suc (suc (suc (suc (suc (suc zero)))))) h a b c d e f g i = g
 below_8 P (suc (suc (suc (suc (suc (suc (suc zero))))))) h a b c d e f g i = i
 below_8 P (suc (suc (suc (suc (suc (suc (suc (suc n)))))))) h a b c d e f g i = absurd (omega arith)
 
-flag_back : (n : ℕ) → nat_le n 7 ≡ true → order_bit (order_of (n % 2 == 1)) 1 + bit (n / 2 % 2 == 1) 2 + bit (nat_le 4 n) 4 ≡ n
-flag_back n h = below_8 (λ m. order_bit (order_of (m % 2 == 1)) 1 + bit (m / 2 % 2 == 1) 2 + bit (nat_le 4 m) 4 ≡ m) n (leb-true _ _ h) refl refl refl refl refl refl refl refl
+flag_back : (n : ℕ) → nat_le n 7 ≡ true → order_bit (order_of (n % 2 == 1)) 1 + bit (n / 2 % 2 == 1) 2
+    + bit (nat_le 4 n) 4 ≡ n
+flag_back n h = below_8 (λ m. order_bit (order_of (m % 2 == 1)) 1 + bit (m / 2 % 2 == 1) 2 + bit (nat_le 4 m) 4 ≡ m) n
+    (leb-true _ _ h) refl refl refl refl refl refl refl refl
 
-mailbox_back : (n : ℕ) → nat_le n 3 ≡ true → order_bit (order_of (n % 2 == 1)) 1 + order_bit (order_of (nat_le 2 n)) 2 ≡ n
+mailbox_back : (n : ℕ) → nat_le n 3 ≡ true → order_bit (order_of (n % 2 == 1)) 1 + order_bit (order_of (nat_le 2 n)) 2
+    ≡ n
 mailbox_back n h = four n (leb-true _ _ h) where
   four : (m : ℕ) → m ≤ 3 → order_bit (order_of (m % 2 == 1)) 1 + order_bit (order_of (nat_le 2 m)) 2 ≡ m
   four zero h = refl
@@ -100,7 +115,8 @@ module _ (context : RowContext) where
   task_back = record {
     exact = both_exact _ _ text_exact (both_exact _ _ byte_exact
         (both_exact _ _ word_exact
-        (both_exact _ _ byte_exact (both_exact _ _ byte_exact (both_exact _ _ long_exact (both_exact _ _ byte_exact byte_exact))))));
+        (both_exact _ _ byte_exact (both_exact _ _ byte_exact (both_exact _ _ long_exact
+        (both_exact _ _ byte_exact byte_exact))))));
     back = λ (name, (attributes, (exinf, (body, (priority, (stack, (processor, only))))))) h.
         let one = and_true _ _ h in
         let two = and_true _ _ one.1 in
@@ -108,7 +124,13 @@ module _ (context : RowContext) where
         let four = and_true _ _ three.0 in
         let five = and_true _ _ four.0 in
         let six = and_true _ _ five.0 in
-        rw (name_back context.version name one.0, start_back attributes six.0, place_back context.processors processor two.1, only_back only four.1) refl;
+        rw (
+          name_back context.version name one.0,
+          start_back attributes six.0,
+          place_back context.processors processor
+              two.1,
+          only_back only four.1,
+        ) refl;
   }
 
   pub semaphore_back : GoesBack semaphore_form context
@@ -161,20 +183,27 @@ module _ (context : RowContext) where
 
   pub cyclic_back : GoesBack cyclic_form context
   cyclic_back = record {
-    exact = both_exact _ _ text_exact (both_exact _ _ byte_exact (both_exact _ _ word_exact (both_exact _ _ byte_exact (both_exact _ _ long_exact (both_exact _ _ long_exact byte_exact)))));
+    exact = both_exact _ _ text_exact (both_exact _ _ byte_exact (both_exact _ _ word_exact
+        (both_exact _ _ byte_exact (both_exact _ _ long_exact (both_exact _ _ long_exact byte_exact)))));
     back = λ (name, (attributes, (exinf, (body, (period, (phase, processor)))))) h.
         let one = and_true _ _ h in
         let two = and_true _ _ one.1 in
         let three = and_true _ _ two.0 in
         let four = and_true _ _ three.0 in
         let five = and_true _ _ four.0 in
-        rw (name_back context.version name one.0, start_back attributes five.0, place_back context.processors processor two.1) refl;
+        rw (
+          name_back context.version name one.0,
+          start_back attributes five.0,
+          place_back context.processors
+              processor two.1,
+        ) refl;
   }
 
   pub interrupt_back : GoesBack interrupt_form context
   interrupt_back = record {
     exact = both_exact _ _ byte_exact (both_exact _ _ byte_exact byte_exact);
     back = λ (number, (body, processor)) h.
-        let two = and_true (in_range 1 32 number && is_handler_body (slice_get context.heads body)) (in_range 1 context.processors processor) h in
+        let two = and_true (in_range 1 32 number && is_handler_body (slice_get context.heads body))
+        (in_range 1 context.processors processor) h in
         rw (place_back context.processors processor two.1) refl;
   }

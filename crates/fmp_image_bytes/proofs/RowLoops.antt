@@ -1,5 +1,6 @@
 -- Reading rows one after the other, as a loop does.
-use Rattle.std.proofs.Common.{◌≡◌, ℕ, suc, ◌-◌, ◌+◌, ◌≤◌, ◌<◌, true, false, List, [], ◌∷◌, ◌++◌, Result, Ok, Err, refl, sym, ap, ◌∙◌, append_assoc, arith}
+use Rattle.std.proofs.Common.{◌≡◌, ℕ, suc, ◌-◌, ◌+◌, ◌≤◌, ◌<◌, true, false, List, [], ◌∷◌, ◌++◌, Result, Ok, Err, refl}
+use Rattle.std.proofs.Common.{sym, ap, ◌∙◌, append_assoc, arith}
 use Rattle.std.proofs.lemmas.List.{append-nil}
 use Rattle.fmp_image_parts.specs.declared.fault.ImageFault.{ImageFault}
 use Rattle.fmp_image_parts.specs.declared.fault.ImageFault.TheVariants as fault
@@ -11,15 +12,19 @@ use Rattle.fmp_image_parts.specs.Keys.{is_taken}
 use Rattle.fmp_image_bytes.specs.Tables.{rows_at}
 
 -- what was read before, and what is still read
-abbrev pub with_front : {A : Type 0} → List A → Result (List A × List ℕ) ImageFault → Result (List A × List ℕ) ImageFault
+abbrev pub with_front : {A : Type 0} → List A → Result (List A × List ℕ) ImageFault
+    → Result (List A × List ℕ) ImageFault
 with_front front reading = reading >>= λ x. Ok (front ++ x.0, x.1)
 
-regroup : {A : Type 0} (front : List A) (a : A) (reading : Result (List A × List ℕ) ImageFault) → with_front front (reading >>= λ x. Ok (a ∷ x.0, x.1)) ≡ with_front (front ++ a ∷ []) reading
+regroup : {A : Type 0} (front : List A) (a : A) (reading : Result (List A × List ℕ) ImageFault)
+    → with_front front (reading >>= λ x. Ok (a ∷ x.0, x.1)) ≡ with_front (front ++ a ∷ []) reading
 regroup front a (Ok x) = ap (λ ns. Ok (ns, x.1)) (simp append_assoc)
 regroup front a (Err f) = refl
 
-module _ {A : Type 0} (row : Field A) (key_of : A → Key) (front : List A) (count i : ℕ) (taken : List Key) (bytes : List ℕ) (total : Result (List A × List ℕ) ImageFault) where
-  pub goes_on : (a : A) (after : List ℕ) → i < count → row.read bytes ≡ Ok (a, after) → is_taken (key_of a) taken ≡ false
+module _ {A : Type 0} (row : Field A) (key_of : A → Key) (front : List A) (count i : ℕ) (taken : List Key)
+    (bytes : List ℕ) (total : Result (List A × List ℕ) ImageFault) where
+  pub goes_on : (a : A) (after : List ℕ) → i < count → row.read bytes ≡ Ok (a, after) → is_taken (key_of a) taken
+      ≡ false
       → with_front front (rows_at row key_of (count - i) taken bytes) ≡ total
       → with_front (front ++ a ∷ []) (rows_at row key_of (count - (i + 1)) (taken ++ key_of a ∷ []) after) ≡ total
   unfolding rows_at
@@ -44,12 +49,15 @@ module _ {A : Type 0} (row : Field A) (key_of : A → Key) (front : List A) (cou
   unfolding rows_at
   stands a after lt h there so_far =
       let k : count - i ≡ suc (count - (i + 1)) = omega arith in
-      let one : with_front front (rows_at row key_of (count - i) taken bytes) ≡ Err fault.Table = rw (k, h, there) refl in
+      let one : with_front front (rows_at row key_of (count - i) taken bytes)
+      ≡ Err fault.Table = rw (k, h, there) refl in
       sym so_far ∙ one
 
-  pub is_done : count ≤ i → with_front front (rows_at row key_of (count - i) taken bytes) ≡ total → total ≡ Ok (front, bytes)
+  pub is_done : count ≤ i → with_front front (rows_at row key_of (count - i) taken bytes) ≡ total → total
+      ≡ Ok (front, bytes)
   unfolding rows_at
   is_done le so_far =
       let k : count - i ≡ 0 = omega arith in
-      let one : with_front front (rows_at row key_of (count - i) taken bytes) ≡ Ok (front, bytes) = rw k (ap (λ ns. Ok (ns, bytes)) (append-nil front)) in
+      let one : with_front front (rows_at row key_of (count - i) taken bytes)
+      ≡ Ok (front, bytes) = rw k (ap (λ ns. Ok (ns, bytes)) (append-nil front)) in
       sym so_far ∙ one

@@ -21,7 +21,9 @@ use Rattle.fmp_image_parts.specs.Fields.{Field, ◌>>=◌, chained}
 use Rattle.fmp_image_parts.specs.Keys.{are_new}
 use Rattle.fmp_image_parts.specs.Fields.{in_range}
 use Rattle.fmp_image_parts.specs.Header.{magic, header}
-use Rattle.fmp_image_bytes.specs.Rows.{RowContext, context_of, RowForm, row, task_form, semaphore_form, flag_form, data_queue_form, mailbox_form, message_form, shared_word_form, spin_lock_form, cyclic_form, interrupt_form}
+use Rattle.fmp_image_bytes.specs.Rows.{RowContext, context_of, RowForm, row, task_form, semaphore_form, flag_form}
+use Rattle.fmp_image_bytes.specs.Rows.{data_queue_form, mailbox_form, message_form, shared_word_form, spin_lock_form}
+use Rattle.fmp_image_bytes.specs.Rows.{cyclic_form, interrupt_form}
 use Rattle.fmp_image_bytes.specs.Tables.{table}
 use Rattle.fmp_image_parts.specs.Bodies.{bodies, IsBody}
 use Rattle.fmp_image_parts.specs.Pairs.{AllPairs}

@@ -1,6 +1,7 @@
 -- What images of versions 1 and 2 mean: what they meant on the kernel that queued one activation and one wakeup and
 -- had the first 58 services, apart from long stretches, which keep their place in images of every version.
-use Rattle.std.specs.Prelude.{◌≡◌, ℕ, List, length, Option, Some, None, Bool, false, not, is_some, ◌&&◌, ◌||◌, nat_le, if◌then◌else◌}
+use Rattle.std.specs.Prelude.{◌≡◌, ℕ, List, length, Option, Some, None, Bool, false, not, is_some, ◌&&◌, ◌||◌, nat_le}
+use Rattle.std.specs.Prelude.{if◌then◌else◌}
 use Rattle.fmp_base.specs.declared.events.Event.{Event}
 use Rattle.fmp_base.specs.declared.services.Service.{Service}
 use Rattle.fmp_base.specs.Meanings.{Meaning, World}

@@ -1,5 +1,6 @@
 -- The rows of the tables of an image: their fields in order, and the rules that they keep.
-use Rattle.std.specs.Prelude.{◌≡◌, ℕ, ℤ, ◌+◌, ◌-◌, ◌*◌, ◌/◌, ◌%◌, List, Option, Some, None, Ok, Err, Bool, true, false, ◌&&◌, ◌||◌, ◌==◌, nat_le, if◌then◌else◌, slice_get}
+use Rattle.std.specs.Prelude.{◌≡◌, ℕ, ℤ, ◌+◌, ◌-◌, ◌*◌, ◌/◌, ◌%◌, List, Option, Some, None, Ok, Err, Bool, true, false}
+use Rattle.std.specs.Prelude.{◌&&◌, ◌||◌, ◌==◌, nat_le, if◌then◌else◌, slice_get}
 use Rattle.fmp_base.specs.Names.{name_text, name_from}
 use Rattle.fmp_base.specs.Systems.{body_of}
 use Rattle.fmp_base.specs.declared.systems.QueueOrder.{QueueOrder}

@@ -1,11 +1,13 @@
 -- Arguments of instructions, as their bits.
-use Rattle.std.proofs.Common.{◌≡◌, ℕ, ℤ, pos, negsuc, ◌<◌, ◌≤◌, Bool, true, false, ◌&&◌, Option, None, FitsSigned, eqb, refl, sym, arith}
+use Rattle.std.proofs.Common.{◌≡◌, ℕ, ℤ, pos, negsuc, ◌<◌, ◌≤◌, Bool, true, false, ◌&&◌, Option, None, FitsSigned, eqb}
+use Rattle.std.proofs.Common.{refl, sym, arith}
 use Rattle.std.specs.Prelude.{◌==◌, if◌then◌else◌}
 use Rattle.std.specs.Int.{w32, cast_unsigned}
 use Rattle.std.proofs.lemmas.Bool.{le-ltb, ne_eqb}
 use Rattle.fmp_instructions.specs.declared.instructions.Instruction.{Instruction}
 use Rattle.fmp_instructions.specs.declared.instructions.Instruction.TheVariants.{LoadIndexed, StoreIndexed}
-use Rattle.fmp_image_parts.specs.Instructions.{array_of, below, unary_of, binary_operator_of, call_of, instruction_of, numbered, signed_numbered}
+use Rattle.fmp_image_parts.specs.Instructions.{array_of, below, unary_of, binary_operator_of, call_of, instruction_of}
+use Rattle.fmp_image_parts.specs.Instructions.{numbered, signed_numbered}
 
 unlike : (k m : ℕ) → k < m → eqb k m ≡ false
 unlike k m lt = ne_eqb k m (λ e. omega (arith, lt, e))
@@ -72,12 +74,14 @@ not_numbered opcode m le =
     (either_way (opcode == 10) _ (either_way (opcode == 11) _ refl)))))))))
 
 -- the bits of an argument tell the instruction as its value does
-numbered_of_bits : (opcode : ℕ) (argument : ℤ) → FitsSigned w32 argument → numbered opcode (cast_unsigned w32 argument) ≡ signed_numbered opcode argument
+numbered_of_bits : (opcode : ℕ) (argument : ℤ) → FitsSigned w32 argument
+    → numbered opcode (cast_unsigned w32 argument) ≡ signed_numbered opcode argument
 numbered_of_bits opcode (pos n) fits = refl
 numbered_of_bits opcode (negsuc n) fits = not_numbered opcode (cast_unsigned w32 (negsuc n)) (omega (arith, fits.sfits))
 
 -- the instruction of an opcode, but for `Push`, by the bits of its argument
-pub instruction_of_bits : (opcode : ℕ) (argument : ℤ) → FitsSigned w32 argument → (opcode ≡ 1 → ⊥) → instruction_of opcode argument ≡ numbered opcode (cast_unsigned w32 argument)
+pub instruction_of_bits : (opcode : ℕ) (argument : ℤ) → FitsSigned w32 argument → (opcode ≡ 1 → ⊥)
+    → instruction_of opcode argument ≡ numbered opcode (cast_unsigned w32 argument)
 instruction_of_bits opcode argument fits other =
     let no : eqb opcode 1 ≡ false = ne_eqb opcode 1 other in
     rw no (sym (numbered_of_bits opcode argument fits))

@@ -1,5 +1,7 @@
 -- An instruction is the one that its opcode and argument name, and no other pair names it.
-use Rattle.std.proofs.Common.{◌≡◌, ℕ, ℤ, pos, negsuc, ◌+◌, ◌*◌, ◌/◌, ◌%◌, ◌<◌, ◌⊎◌, inl, inr, Bool, true, false, ◌&&◌, cond, ltb, eqb, nat_eq, List, [], ◌∷◌, Option, Some, None, FitsSigned, refl, sym, ap, subst, arith, lit<, ◌^◌}
+use Rattle.std.proofs.Common.{◌≡◌, ℕ, ℤ, pos, negsuc, ◌+◌, ◌*◌, ◌/◌, ◌%◌, ◌<◌, ◌⊎◌, inl, inr, Bool, true, false, ◌&&◌}
+use Rattle.std.proofs.Common.{cond, ltb, eqb, nat_eq, List, [], ◌∷◌, Option, Some, None, FitsSigned, refl, sym, ap}
+use Rattle.std.proofs.Common.{subst, arith, lit<, ◌^◌}
 use Rattle.std.specs.Prelude.{IfSome, find}
 use Rattle.std.specs.Int.{w32}
 use Rattle.std.specs.Option.{option_map}
@@ -12,10 +14,15 @@ use Rattle.fmp_base.specs.declared.operators.BinaryOperator.{BinaryOperator}
 use Rattle.fmp_base.specs.declared.operators.BinaryOperator.TheVariants as binary
 use Rattle.fmp_base.specs.Services.{service_number}
 use Rattle.fmp_instructions.specs.declared.instructions.Instruction.{Instruction}
-use Rattle.fmp_instructions.specs.declared.instructions.Instruction.TheVariants.{Push, Load, Store, LoadIndexed, StoreIndexed, Unary, Truth, Binary, Jump, JumpIfZero, Call, End}
+use Rattle.fmp_instructions.specs.declared.instructions.Instruction.TheVariants.{Push, Load, Store, LoadIndexed}
+use Rattle.fmp_instructions.specs.declared.instructions.Instruction.TheVariants.{StoreIndexed, Unary, Truth, Binary}
+use Rattle.fmp_instructions.specs.declared.instructions.Instruction.TheVariants.{Jump, JumpIfZero, Call, End}
 use Rattle.fmp_base.specs.declared.services.TheConstants.{SERVICES}
 use Rattle.fmp_image_parts.specs.declared.instructions.TheConstants.{UNARY_OPERATORS, BINARY_OPERATORS}
-use Rattle.fmp_image_parts.specs.Instructions.{unary_number, binary_number, local_number, call_number, opcode_of, argument_of, local_of, service_of_number, unary_of, binary_operator_of, call_of, array_number, array_of, below, numbered, instruction_of, HasRoom}
+use Rattle.fmp_image_parts.specs.Instructions.{unary_number, binary_number, local_number, call_number, opcode_of}
+use Rattle.fmp_image_parts.specs.Instructions.{argument_of, local_of, service_of_number, unary_of, binary_operator_of}
+use Rattle.fmp_image_parts.specs.Instructions.{call_of, array_number, array_of, below, numbered, instruction_of}
+use Rattle.fmp_image_parts.specs.Instructions.{HasRoom}
 use Rattle.fmp_image_parts.proofs.Names.{and_true}
 
 -- which way a test went
@@ -34,7 +41,8 @@ found_passes p (y ∷ ys) x e =
       | inr q ↦ found_passes p ys x q.1
     ]
 
-map_is : {A B : Type 0} (f : A → B) (o : Option A) (y : B) → option_map f o ≡ Some y → (x : A) × (o ≡ Some x) × (f x ≡ y)
+map_is : {A B : Type 0} (f : A → B) (o : Option A) (y : B) → option_map f o ≡ Some y → (x : A) × (o ≡ Some x)
+    × (f x ≡ y)
 map_is f None y e = absurd cc
 map_is f (Some x) y e = (x, refl, cc)
 
@@ -63,11 +71,14 @@ pub record Names (opcode argument : ℕ) (i : Instruction) : Type 0 where
 unary_named : (n : ℕ) (i : Instruction) → unary_of n ≡ Some i → Names 4 n i
 unfolding unary_of
 unary_named n i e =
-    elim (chosen (eqb n 3) (Some Truth) (option_map Unary (find (λ op. nat_eq (unary_number op) n) UNARY_OPERATORS)) (Some i) e) [
-      | inl p ↦ let n-is : n ≡ 3 = eqb-true _ _ p.0 in let i-is : Truth ≡ i = cc in rw n-is (subst (Names 4 3) i-is (record { opcode_is = refl; argument_is = refl; room = tt }))
+    elim (chosen (eqb n 3) (Some Truth) (option_map Unary (find (λ op. nat_eq (unary_number op) n) UNARY_OPERATORS))
+    (Some i) e) [
+      | inl p ↦ let n-is : n ≡ 3 = eqb-true _ _ p.0 in let i-is : Truth
+          ≡ i = cc in rw n-is (subst (Names 4 3) i-is (record { opcode_is = refl; argument_is = refl; room = tt }))
       | inr p ↦
           let m = map_is Unary (find (λ op. nat_eq (unary_number op) n) UNARY_OPERATORS) i p.1 in
-          let n-is : unary_number m.0 ≡ n = eqb-true _ _ (found_passes (λ op. nat_eq (unary_number op) n) UNARY_OPERATORS m.0 m.1) in
+          let n-is : unary_number m.0 ≡ n = eqb-true _ _ (found_passes (λ op. nat_eq (unary_number op) n)
+          UNARY_OPERATORS m.0 m.1) in
           subst (Names 4 n) m.2 (record { opcode_is = refl; argument_is = ap pos (sym n-is); room = tt })
     ]
 
@@ -75,12 +86,14 @@ binary_named : (n : ℕ) (i : Instruction) → option_map Binary (binary_operato
 unfolding binary_operator_of
 binary_named n i e =
     let m = map_is Binary (find (λ op. nat_eq (binary_number op) n) BINARY_OPERATORS) i e in
-    let n-is : binary_number m.0 ≡ n = eqb-true _ _ (found_passes (λ op. nat_eq (binary_number op) n) BINARY_OPERATORS m.0 m.1) in
+    let n-is : binary_number m.0 ≡ n = eqb-true _ _ (found_passes (λ op. nat_eq (binary_number op) n) BINARY_OPERATORS
+    m.0 m.1) in
     subst (Names 5 n) m.2 (record { opcode_is = refl; argument_is = ap pos (sym n-is); room = tt })
 
 local_is : (n : ℕ) → n < 256 → (local_number (local_of n) ≡ n) × IfSome (local_of n) (λ v. v < 255)
 local_is n lt = at_test (eqb n 255) refl where
-  at_test : (b : Bool) → eqb n 255 ≡ b → (local_number (cond b None (Some n)) ≡ n) × IfSome (cond b None (Some n)) (λ v. v < 255)
+  at_test : (b : Bool) → eqb n 255 ≡ b → (local_number (cond b None (Some n)) ≡ n)
+      × IfSome (cond b None (Some n)) (λ v. v < 255)
   at_test true e = (sym (eqb-true _ _ e), tt)
   at_test false e = (refl, grind (arith, eq-eqb))
 
@@ -91,10 +104,12 @@ call_named n i e =
     let g = limited (ltb n 16777216) (option_map made (find (λ s. nat_eq (service_number s) (n % 256)) SERVICES)) i e in
     let lt : n < 16777216 = ltb-true _ _ g.0 in
     let m = map_is made (find (λ s. nat_eq (service_number s) (n % 256)) SERVICES) i g.1 in
-    let s-is : service_number m.0 ≡ n % 256 = eqb-true _ _ (found_passes (λ s. nat_eq (service_number s) (n % 256)) SERVICES m.0 m.1) in
+    let s-is : service_number m.0 ≡ n % 256 = eqb-true _ _ (found_passes
+    (λ s. nat_eq (service_number s) (n % 256)) SERVICES m.0 m.1) in
     let out = local_is (n / 256 % 256) (omega arith) in
     let receiver = local_is (n / 65536) (omega arith) in
-    let whole : call_number m.0 (local_of (n / 256 % 256)) (local_of (n / 65536)) ≡ n = rw (s-is, out.0, receiver.0) (omega arith) in
+    let whole : call_number m.0 (local_of (n / 256 % 256)) (local_of (n / 65536))
+    ≡ n = rw (s-is, out.0, receiver.0) (omega arith) in
     subst (Names 8 n) m.2 (record { opcode_is = refl; argument_is = ap pos (sym whole); room = (out.1, receiver.1) })
 
 -- an array of a number
@@ -106,7 +121,8 @@ array_named opcode n make i names e =
     let lt : n < 65536 = ltb-true _ _ g.0 in
     let whole : array_number (n % 256) (n / 256) ≡ n = omega arith in
     subst (λ k. Names opcode k i) whole
-    (subst (Names opcode (array_number (n % 256) (n / 256))) g.1 (names (n % 256) (n / 256) (omega arith) (omega arith)))
+    (subst (Names opcode (array_number (n % 256) (n / 256))) g.1 (names (n % 256) (n / 256) (omega arith)
+    (omega arith)))
 
 array_again : (make : ℕ → ℕ → Instruction) (base places : ℕ) → base < 256 → places < 256
     → array_of make (array_number base places) ≡ Some (make base places)
@@ -117,7 +133,8 @@ array_again make base places lb lp =
     rw (fits, first, second) refl
 
 -- which way a test of an opcode went
-by_opcode : {P : Type 0} (k opcode : ℕ) (x y : Option Instruction) (i : Instruction) → cond (eqb opcode k) x y ≡ Some i → (opcode ≡ k → x ≡ Some i → P) → (y ≡ Some i → P) → P
+by_opcode : {P : Type 0} (k opcode : ℕ) (x y : Option Instruction) (i : Instruction) → cond (eqb opcode k) x y
+    ≡ Some i → (opcode ≡ k → x ≡ Some i → P) → (y ≡ Some i → P) → P
 by_opcode k opcode x y i e here there =
     elim (chosen (eqb opcode k) x y (Some i) e) [
       | inl p ↦ here (eqb-true _ _ p.0) p.1
@@ -128,32 +145,54 @@ numbered_named : (opcode n : ℕ) (i : Instruction) → numbered opcode n ≡ So
 unfolding numbered
 numbered_named opcode n i e =
     by_opcode 2 opcode _ _ i e (λ o h. let m = map_is Load (below 256 n) i h in let b = below_is 256 n m.0 m.1 in
-    rw o (subst (Names 2 n) m.2 (record { opcode_is = refl; argument_is = ap pos b.1; room = subst (λ k. k < 256) b.1 b.0 }))) (λ e3.
+    rw o (subst (Names 2 n) m.2 (record {
+      opcode_is = refl;
+      argument_is = ap pos b.1;
+      room = subst (λ k. k < 256) b.1 b.0;
+    }))) (λ e3.
     by_opcode 3 opcode _ _ i e3 (λ o h. let m = map_is Store (below 256 n) i h in let b = below_is 256 n m.0 m.1 in
-    rw o (subst (Names 3 n) m.2 (record { opcode_is = refl; argument_is = ap pos b.1; room = subst (λ k. k < 256) b.1 b.0 }))) (λ e4.
+    rw o (subst (Names 3 n) m.2 (record {
+      opcode_is = refl;
+      argument_is = ap pos b.1;
+      room = subst (λ k. k < 256) b.1 b.0;
+    }))) (λ e4.
     by_opcode 4 opcode _ _ i e4 (λ o h. rw o (unary_named n i h)) (λ e5.
     by_opcode 5 opcode _ _ i e5 (λ o h. rw o (binary_named n i h)) (λ e6.
     by_opcode 6 opcode _ _ i e6 (λ o h. let m = map_is Jump (below 65536 n) i h in let b = below_is 65536 n m.0 m.1 in
-    rw o (subst (Names 6 n) m.2 (record { opcode_is = refl; argument_is = ap pos b.1; room = subst (λ k. k < 65536) b.1 b.0 }))) (λ e7.
-    by_opcode 7 opcode _ _ i e7 (λ o h. let m = map_is JumpIfZero (below 65536 n) i h in let b = below_is 65536 n m.0 m.1 in
-    rw o (subst (Names 7 n) m.2 (record { opcode_is = refl; argument_is = ap pos b.1; room = subst (λ k. k < 65536) b.1 b.0 }))) (λ e8.
+    rw o (subst (Names 6 n) m.2 (record {
+      opcode_is = refl;
+      argument_is = ap pos b.1;
+      room = subst (λ k. k < 65536) b.1 b.0;
+    }))) (λ e7.
+    by_opcode 7 opcode _ _ i e7 (λ o h. let m = map_is JumpIfZero (below 65536 n) i h in let b = below_is 65536 n m.0
+    m.1 in
+    rw o (subst (Names 7 n) m.2 (record {
+      opcode_is = refl;
+      argument_is = ap pos b.1;
+      room = subst (λ k. k < 65536) b.1 b.0;
+    }))) (λ e8.
     by_opcode 8 opcode _ _ i e8 (λ o h. rw o (call_named n i h)) (λ e10.
-    by_opcode 10 opcode _ _ i e10 (λ o h. rw o (array_named 10 n LoadIndexed i (λ b p lb lp. record { opcode_is = refl; argument_is = refl; room = (lb, lp) }) h)) (λ e11.
-    by_opcode 11 opcode _ _ i e11 (λ o h. rw o (array_named 11 n StoreIndexed i (λ b p lb lp. record { opcode_is = refl; argument_is = refl; room = (lb, lp) }) h)) (λ e9.
+    by_opcode 10 opcode _ _ i e10 (λ o h. rw o (array_named 10 n LoadIndexed i
+    (λ b p lb lp. record { opcode_is = refl; argument_is = refl; room = (lb, lp) }) h)) (λ e11.
+    by_opcode 11 opcode _ _ i e11 (λ o h. rw o (array_named 11 n StoreIndexed i
+    (λ b p lb lp. record { opcode_is = refl; argument_is = refl; room = (lb, lp) }) h)) (λ e9.
     let g = guarded (eqb opcode 9 && eqb n 0) End i e9 in
     let t = and_true _ _ g.0 in
     let o : opcode ≡ 9 = eqb-true _ _ t.0 in
     let z : n ≡ 0 = eqb-true _ _ t.1 in
     rw (o, z) (subst (Names 9 0) g.1 (record { opcode_is = refl; argument_is = refl; room = tt })))))))))))
 
-pub instruction_named : (opcode : ℕ) (z : ℤ) (i : Instruction) → FitsSigned w32 z → instruction_of opcode z ≡ Some i → (opcode ≡ opcode_of i) × (z ≡ argument_of i) × HasRoom i
+pub instruction_named : (opcode : ℕ) (z : ℤ) (i : Instruction) → FitsSigned w32 z → instruction_of opcode z ≡ Some i
+    → (opcode ≡ opcode_of i) × (z ≡ argument_of i) × HasRoom i
 instruction_named opcode (pos n) i fits e =
     by_opcode 1 opcode (Some (Push (pos n))) (numbered opcode n) i e
-    (λ o h. let same : Push (pos n) ≡ i = cc in rw o (subst (λ j. (1 ≡ opcode_of j) × (pos n ≡ argument_of j) × HasRoom j) same (refl, refl, fits)))
+    (λ o h. let same : Push (pos n) ≡ i = cc in rw o (subst (λ j. (1 ≡ opcode_of j) × (pos n ≡ argument_of j)
+    × HasRoom j) same (refl, refl, fits)))
     (λ h. let m = numbered_named opcode n i h in (m.opcode_is, m.argument_is, m.room))
 instruction_named opcode (negsuc n) i fits e =
     by_opcode 1 opcode (Some (Push (negsuc n))) None i e
-    (λ o h. let same : Push (negsuc n) ≡ i = cc in rw o (subst (λ j. (1 ≡ opcode_of j) × (negsuc n ≡ argument_of j) × HasRoom j) same (refl, refl, fits)))
+    (λ o h. let same : Push (negsuc n) ≡ i = cc in rw o (subst (λ j. (1 ≡ opcode_of j) × (negsuc n ≡ argument_of j)
+    × HasRoom j) same (refl, refl, fits)))
     (λ h. absurd cc)
 
 -- ---- and back
@@ -195,7 +234,8 @@ unfolding unary_of
 truth_again = refl
 
 digits : (s o r : ℕ) → s < 256 → o < 256 → r < 256
-    → ((s + 256 * o + 65536 * r) % 256 ≡ s) × ((s + 256 * o + 65536 * r) / 256 % 256 ≡ o) × ((s + 256 * o + 65536 * r) / 65536 ≡ r)
+    → ((s + 256 * o + 65536 * r) % 256 ≡ s) × ((s + 256 * o + 65536 * r) / 256 % 256 ≡ o)
+    × ((s + 256 * o + 65536 * r) / 65536 ≡ r)
 digits s o r ls lo lr = (omega arith, omega arith, omega arith)
 
 local_again : (o : Option ℕ) → IfSome o (λ v. v < 255) → local_of (local_number o) ≡ o
@@ -211,7 +251,8 @@ local_small : (o : Option ℕ) → IfSome o (λ v. v < 255) → local_number o <
 local_small None h = lit< tt
 local_small (Some v) h = omega arith
 
-call_again : (s : Service) (out receiver : Option ℕ) → IfSome out (λ v. v < 255) → IfSome receiver (λ v. v < 255) → call_of (call_number s out receiver) ≡ Some (Call s out receiver)
+call_again : (s : Service) (out receiver : Option ℕ) → IfSome out (λ v. v < 255) → IfSome receiver (λ v. v < 255)
+    → call_of (call_number s out receiver) ≡ Some (Call s out receiver)
 unfolding call_of
 call_again s out receiver ho hr =
     let small = service_small s in
@@ -252,7 +293,8 @@ binary_small binary.LessOrEqual = lit< tt
 binary_small binary.Greater = lit< tt
 binary_small binary.GreaterOrEqual = lit< tt
 
-pub call_small : (s : Service) (out receiver : Option ℕ) → IfSome out (λ v. v < 255) → IfSome receiver (λ v. v < 255) → call_number s out receiver < 2 ^ 31
+pub call_small : (s : Service) (out receiver : Option ℕ) → IfSome out (λ v. v < 255) → IfSome receiver (λ v. v < 255)
+    → call_number s out receiver < 2 ^ 31
 call_small s out receiver ho hr =
     let small = service_small s in
     let lo = local_small out ho in

@@ -1,9 +1,12 @@
 -- Code that is judged as it is read.
-use Rattle.std.proofs.Common.{◌≡◌, ℕ, zero, suc, ◌+◌, ◌-◌, ◌*◌, ◌<◌, ◌≤◌, Bool, true, false, ◌&&◌, nat_eq, nat_le, List, [], ◌∷◌, ◌++◌, length, drop, take, get_or, Option, Some, None, Result, Ok, Err, refl, sym, ap, subst, ◌∙◌, append_assoc, arith}
+use Rattle.std.proofs.Common.{◌≡◌, ℕ, zero, suc, ◌+◌, ◌-◌, ◌*◌, ◌<◌, ◌≤◌, Bool, true, false, ◌&&◌, nat_eq, nat_le, List}
+use Rattle.std.proofs.Common.{[], ◌∷◌, ◌++◌, length, drop, take, get_or, Option, Some, None, Result, Ok, Err, refl, sym}
+use Rattle.std.proofs.Common.{ap, subst, ◌∙◌, append_assoc, arith}
 use Rattle.std.specs.Prelude.{IfOk, IfErr, slice_get}
 use Rattle.std.specs.Int.{w32, cast_signed}
 use Rattle.std.proofs.lemmas.Bool.{leb-true, le-leb, eqb-true, eq-eqb}
-use Rattle.std.proofs.lemmas.List.{ext_get_or, get_or-drop, drop-drop, length-append, length-drop, length-take-le, take_all, take_more}
+use Rattle.std.proofs.lemmas.List.{ext_get_or, get_or-drop, drop-drop, length-append, length-drop, length-take-le}
+use Rattle.std.proofs.lemmas.List.{take_all, take_more}
 use Rattle.byteorder.specs.Endian.{little_number}
 use Rattle.fmp_instructions.specs.declared.instructions.Instruction.{Instruction}
 use Rattle.fmp_instructions.specs.Verify.{AreLow, depth_is, fits, wants}
@@ -35,7 +38,8 @@ and_assoc false b c = refl
 
 module _ {A B : Type 0} (test : ℕ → A → B → Bool) where
   pass_append : (place : ℕ) (xs xs' : List A) (ys ys' : List B) → length xs ≡ length ys
-      → pairs_pass test place (xs ++ xs') (ys ++ ys') ≡ (pairs_pass test place xs ys && pairs_pass test (place + length xs) xs' ys')
+      → pairs_pass test place (xs ++ xs') (ys ++ ys') ≡ (pairs_pass test place xs ys
+      && pairs_pass test (place + length xs) xs' ys')
   pass_append place [] xs' [] ys' e =
       let same : place ≡ place + 0 = omega arith in
       ap (λ k. pairs_pass test k xs' ys') same
@@ -45,7 +49,8 @@ module _ {A B : Type 0} (test : ℕ → A → B → Bool) where
       let same : (place + 1) + length xs ≡ place + suc (length xs) = omega arith in
       let more = pass_append (place + 1) xs xs' ys ys' (omega (arith, e)) in
       ap (λ b. test place x y && b) more
-      ∙ and_assoc (test place x y) (pairs_pass test (place + 1) xs ys) (pairs_pass test ((place + 1) + length xs) xs' ys')
+      ∙ and_assoc (test place x y) (pairs_pass test (place + 1) xs ys) (pairs_pass test
+      ((place + 1) + length xs) xs' ys')
       ∙ ap (λ k. (test place x y && pairs_pass test (place + 1) xs ys) && pairs_pass test k xs' ys') same
 
   -- one more pair passes
@@ -84,12 +89,14 @@ one_more i d n bytes (Ok x) e h = (ap suc h.0, at) where
 module _ (version : ℕ) where
   module _ (n : ℕ) (bytes : List ℕ) where
     abbrev after_first : Result ((Instruction × ℕ) × List ℕ) ImageFault → Reading
-    after_first r = r >>= λ first. pairs_at (step_at version) n first.1 >>= λ others. Ok ((first.0.0 ∷ others.0.0, first.0.1 ∷ others.0.1), others.1)
+    after_first r = r >>= λ first. pairs_at (step_at version) n first.1 >>= λ others. Ok
+        ((first.0.0 ∷ others.0.0, first.0.1 ∷ others.0.1), others.1)
 
     abbrev first_of : Option Instruction → Result ((Instruction × ℕ) × List ℕ) ImageFault
     first_of o = named o >>= λ i. Ok ((i, get_or bytes 5 0), drop 6 bytes)
 
-    steps_after : (o : Option Instruction) → Steps n (drop 6 bytes) (pairs_at (step_at version) n (drop 6 bytes)) → Steps (suc n) bytes (after_first (first_of o))
+    steps_after : (o : Option Instruction) → Steps n (drop 6 bytes) (pairs_at (step_at version) n (drop 6 bytes))
+        → Steps (suc n) bytes (after_first (first_of o))
     steps_after None h = refl
     steps_after (Some i) h = one_more i (get_or bytes 5 0) n bytes (pairs_at (step_at version) n (drop 6 bytes)) refl h
 
@@ -112,19 +119,22 @@ module _ (version : ℕ) where
 
   -- the fault, where no code with these depths that is read keeps to them
   pub refused : (locals n : ℕ) (bytes depths : List ℕ) → 6 * n ≤ length bytes → AreDepths n bytes depths
-      → ((code : List Instruction) (rest : List ℕ) → pairs_at (step_at version) n bytes ≡ Ok ((code, depths), rest) → keeps_table (tables_of_code locals (code, depths)) ≡ false)
+      → ((code : List Instruction) (rest : List ℕ) → pairs_at (step_at version) n bytes ≡ Ok ((code, depths), rest)
+      → keeps_table (tables_of_code locals (code, depths)) ≡ false)
       → kept_code locals (pairs_at (step_at version) n bytes) ≡ Err fault.Code
-  refused locals n bytes depths le are never = at_reading (pairs_at (step_at version) n bytes) (steps_are n bytes le) never where
-    at_reading : (r : Reading) → Steps n bytes r
-        → ((code : List Instruction) (rest : List ℕ) → r ≡ Ok ((code, depths), rest) → keeps_table (tables_of_code locals (code, depths)) ≡ false)
-        → kept_code locals r ≡ Err fault.Code
-    at_reading (Err f) h never = ap Err h
-    at_reading (Ok x) h never =
-        let same : x.0.1 ≡ depths = same_depths n bytes x.0.1 depths h are in
-        let read : Ok x ≡ Ok ((x.0.0, depths), x.1) = ap (λ ds. Ok ((x.0.0, ds), x.1)) same in
-        let kept : keeps_table (tables_of_code locals x.0) ≡ false =
-        ap (λ ds. keeps_table (tables_of_code locals (x.0.0, ds))) same ∙ never x.0.0 x.1 read in
-        rw kept refl
+  refused locals n bytes depths le are never = at_reading (pairs_at (step_at version) n bytes)
+      (steps_are n bytes le) never where
+        at_reading : (r : Reading) → Steps n bytes r
+            → ((code : List Instruction) (rest : List ℕ) → r ≡ Ok ((code, depths), rest)
+            → keeps_table (tables_of_code locals (code, depths)) ≡ false)
+            → kept_code locals r ≡ Err fault.Code
+        at_reading (Err f) h never = ap Err h
+        at_reading (Ok x) h never =
+            let same : x.0.1 ≡ depths = same_depths n bytes x.0.1 depths h are in
+            let read : Ok x ≡ Ok ((x.0.0, depths), x.1) = ap (λ ds. Ok ((x.0.0, ds), x.1)) same in
+            let kept : keeps_table (tables_of_code locals x.0) ≡ false =
+            ap (λ ds. keeps_table (tables_of_code locals (x.0.0, ds))) same ∙ never x.0.0 x.1 read in
+            rw kept refl
 
 -- ---- depths that no code keeps to
 
@@ -135,7 +145,8 @@ low_depths (x ∷ depths) h zero d here =
     omega (arith, h, same)
 low_depths (x ∷ depths) h (suc place) d here = low_depths depths (omega (arith, h)) place d here
 
-passes_low : (test : ℕ → Instruction → ℕ → Bool) (place : ℕ) (code : List Instruction) (depths : List ℕ) → length depths ≡ length code
+passes_low : (test : ℕ → Instruction → ℕ → Bool) (place : ℕ) (code : List Instruction) (depths : List ℕ)
+    → length depths ≡ length code
     → pairs_pass (λ k i d. nat_le d 64 && test k i d) place code depths ≡ true → greatest depths ≤ 64
 passes_low test place [] [] long e = omega arith
 passes_low test place [] (d ∷ depths) long e = absurd (omega (arith, long))
@@ -146,7 +157,8 @@ passes_low test place (i ∷ code) (d ∷ depths) long e =
     let more = passes_low test (place + 1) code depths (omega (arith, long)) parts.1 in
     omega (arith, low, more)
 
-pub too_deep : (locals : ℕ) (code : List Instruction) (depths : List ℕ) → nat_le (greatest depths) 64 ≡ false → keeps_table (tables_of_code locals (code, depths)) ≡ false
+pub too_deep : (locals : ℕ) (code : List Instruction) (depths : List ℕ) → nat_le (greatest depths) 64 ≡ false
+    → keeps_table (tables_of_code locals (code, depths)) ≡ false
 unfolding keeps_table
 too_deep locals code depths deep = at_test (keeps_table (tables_of_code locals (code, depths))) refl where
   at_test : (b : Bool) → keeps_table (tables_of_code locals (code, depths)) ≡ b → b ≡ false
@@ -157,7 +169,8 @@ too_deep locals code depths deep = at_test (keeps_table (tables_of_code locals (
       let low = passes_low (λ place i d. wants locals depths place d i) 0 code depths long parts.1 in
       sym (le-leb _ _ low) ∙ deep
 
-pub begins_otherwise : (locals : ℕ) (code : List Instruction) (depths : List ℕ) → depth_is (slice_get depths 0) 0 ≡ false → keeps_table (tables_of_code locals (code, depths)) ≡ false
+pub begins_otherwise : (locals : ℕ) (code : List Instruction) (depths : List ℕ) → depth_is (slice_get depths 0) 0
+    ≡ false → keeps_table (tables_of_code locals (code, depths)) ≡ false
 unfolding keeps_table
 begins_otherwise locals code depths other = rw other refl
 
@@ -167,7 +180,8 @@ module _ (version : ℕ) where
   -- this code and these depths stand before the rest
   abbrev Reads : (bytes depths : List ℕ) (place : ℕ) (rest : List ℕ) → List Instruction → List ℕ → Type 0
   Reads bytes depths place rest code ds =
-      with_fronts code ds (pairs_at (step_at version) (length depths - place) rest) ≡ pairs_at (step_at version) (length depths) bytes
+      with_fronts code ds (pairs_at (step_at version) (length depths - place) rest)
+      ≡ pairs_at (step_at version) (length depths) bytes
 
   abbrev Passes : ℕ → List ℕ → List Instruction → List ℕ → Type 0
   Passes locals depths code ds = pairs_pass (λ place i d. fits locals depths place d i) 0 code ds ≡ true
@@ -183,7 +197,8 @@ module _ (version : ℕ) where
     begins = record {
       reading =
           let same : length depths - 0 ≡ length depths = omega arith in
-          ap (λ n. with_fronts [] [] (pairs_at (step_at version) n bytes)) same ∙ all (pairs_at (step_at version) (length depths) bytes);
+          ap (λ n. with_fronts [] [] (pairs_at (step_at version) n bytes)) same
+          ∙ all (pairs_at (step_at version) (length depths) bytes);
       kept = refl;
       count = refl;
     } where
@@ -196,14 +211,18 @@ module _ (version : ℕ) where
       taken = length-take-le place depths (omega (arith, lt))
 
       -- the step is read
-      read_on : (i : Instruction) (d : ℕ) (after : List ℕ) → step_at version (drop (6 * place) bytes) ≡ Ok ((i, d), after)
+      read_on : (i : Instruction) (d : ℕ) (after : List ℕ) → step_at version (drop (6 * place) bytes)
+          ≡ Ok ((i, d), after)
           → SoFar locals bytes depths place code
           → Reads bytes depths (place + 1) after (code ++ i ∷ []) (take place depths ++ d ∷ [])
       read_on i d after read so_far =
-          goes_on (step_at version) code (take place depths) (length depths) place (drop (6 * place) bytes) (pairs_at (step_at version) (length depths) bytes) i d after lt read so_far.reading
+          goes_on (step_at version) code (take place depths) (length depths) place (drop (6 * place) bytes)
+          (pairs_at (step_at version) (length depths) bytes) i d after lt read so_far.reading
 
-      pub goes : (r : Result ((Instruction × ℕ) × List ℕ) ImageFault) → step_at version (drop (6 * place) bytes) ≡ r → t ≡ true
-          → IfOk r (λ x. (t ≡ fits locals depths place x.0.1 x.0.0) × (x.0.1 ≡ get_or depths place 0) × (x.1 ≡ drop 6 (drop (6 * place) bytes)) × (code' ≡ code ++ x.0.0 ∷ []))
+      pub goes : (r : Result ((Instruction × ℕ) × List ℕ) ImageFault) → step_at version (drop (6 * place) bytes) ≡ r
+          → t ≡ true
+          → IfOk r (λ x. (t ≡ fits locals depths place x.0.1 x.0.0) × (x.0.1 ≡ get_or depths place 0)
+          × (x.1 ≡ drop 6 (drop (6 * place) bytes)) × (code' ≡ code ++ x.0.0 ∷ []))
           → IfErr r (λ f. (t ≡ false) × (f ≡ fault.Code))
           → SoFar locals bytes depths place code → SoFar locals bytes depths (place + 1) code'
       goes (Err f) read accepted pushed declined so_far = absurd cc
@@ -218,12 +237,16 @@ module _ (version : ℕ) where
           let lengths : length code ≡ length (take place depths) = so_far.count ∙ sym taken in
           let fit : fits locals depths (length code) d i ≡ true =
           ap (λ k. fits locals depths k d i) so_far.count ∙ sym pushed.0 ∙ accepted in
-          let passes = pass_more (λ place i d. fits locals depths place d i) code (take place depths) i d lengths so_far.kept fit in
+          let passes = pass_more (λ place i d. fits locals depths place d i) code
+          (take place depths) i d lengths so_far.kept fit in
           record {
             reading =
-                subst (λ (c : List Instruction). Reads bytes depths (place + 1) (drop (6 * (place + 1)) bytes) c (take (place + 1) depths)) (sym pushed.3)
-                (subst (λ (ds : List ℕ). Reads bytes depths (place + 1) (drop (6 * (place + 1)) bytes) (code ++ i ∷ []) ds) depth
-                (subst (λ (rest : List ℕ). Reads bytes depths (place + 1) rest (code ++ i ∷ []) (take place depths ++ d ∷ [])) after
+                subst (λ (c : List Instruction). Reads bytes depths (place + 1) (drop (6 * (place + 1)) bytes) c
+                (take (place + 1) depths)) (sym pushed.3)
+                (subst (λ (ds : List ℕ). Reads bytes depths (place + 1) (drop (6 * (place + 1)) bytes)
+                (code ++ i ∷ []) ds) depth
+                (subst (λ (rest : List ℕ). Reads bytes depths (place + 1) rest (code ++ i ∷ [])
+                (take place depths ++ d ∷ [])) after
                 (read_on i d x.1 read so_far)));
             kept =
                 subst (λ (c : List Instruction). Passes locals depths c (take (place + 1) depths)) (sym pushed.3)
@@ -232,45 +255,59 @@ module _ (version : ℕ) where
           }
 
       -- an instruction that is not fit stands in all code that is read
-      unfit : (i : Instruction) (d : ℕ) (more : Reading) (all : List Instruction) (rest : List ℕ) → fits locals depths place d i ≡ false → length code ≡ place
+      unfit : (i : Instruction) (d : ℕ) (more : Reading) (all : List Instruction) (rest : List ℕ)
+          → fits locals depths place d i ≡ false → length code ≡ place
           → with_fronts (code ++ i ∷ []) (take place depths ++ d ∷ []) more ≡ Ok ((all, depths), rest)
           → keeps_table (tables_of_code locals (all, depths)) ≡ false
       unfolding keeps_table
       unfit i d (Err f) all rest fails count e = absurd cc
       unfit i d (Ok y) all rest fails count e =
-          let same = ok_is (((code ++ i ∷ []) ++ y.0.0, (take place depths ++ d ∷ []) ++ y.0.1), y.1) ((all, depths), rest) e in
+          let same = ok_is (((code ++ i ∷ []) ++ y.0.0, (take place depths ++ d ∷ []) ++ y.0.1), y.1)
+          ((all, depths), rest) e in
           let code_is : (code ++ i ∷ []) ++ y.0.0 ≡ all = ap (λ x. x.0.0) same in
           let depths_are : (take place depths ++ d ∷ []) ++ y.0.1 ≡ depths = ap (λ x. x.0.1) same in
           let code_parts : code ++ (i ∷ y.0.0) ≡ all = sym (append_assoc code (i ∷ []) y.0.0) ∙ code_is in
-          let depth_parts : take place depths ++ (d ∷ y.0.1) ≡ depths = sym (append_assoc (take place depths) (d ∷ []) y.0.1) ∙ depths_are in
+          let depth_parts : take place depths ++ (d ∷ y.0.1) ≡ depths = sym
+          (append_assoc (take place depths) (d ∷ []) y.0.1) ∙ depths_are in
           let here : fits locals depths (length code) d i ≡ false = ap (λ k. fits locals depths k d i) count ∙ fails in
           let passes : pairs_pass (λ place i d. fits locals depths place d i) 0 all depths ≡ false =
           sym (ap (λ c. pairs_pass (λ place i d. fits locals depths place d i) 0 c depths) code_parts)
-          ∙ sym (ap (λ ds. pairs_pass (λ place i d. fits locals depths place d i) 0 (code ++ (i ∷ y.0.0)) ds) depth_parts)
-          ∙ pass_not (λ place i d. fits locals depths place d i) code y.0.0 (take place depths) y.0.1 i d (count ∙ sym taken) here in
+          ∙ sym (ap (λ ds. pairs_pass (λ place i d. fits locals depths place d i) 0 (code ++ (i ∷ y.0.0)) ds)
+          depth_parts)
+          ∙ pass_not (λ place i d. fits locals depths place d i) code y.0.0 (take place depths) y.0.1 i d
+          (count ∙ sym taken) here in
           rw passes (and_no _)
 
-      pub stops : (r : Result ((Instruction × ℕ) × List ℕ) ImageFault) → step_at version (drop (6 * place) bytes) ≡ r → t ≡ false
-          → IfOk r (λ x. (t ≡ fits locals depths place x.0.1 x.0.0) × (x.0.1 ≡ get_or depths place 0) × (x.1 ≡ drop 6 (drop (6 * place) bytes)) × (code' ≡ code ++ x.0.0 ∷ []))
+      pub stops : (r : Result ((Instruction × ℕ) × List ℕ) ImageFault) → step_at version (drop (6 * place) bytes) ≡ r
+          → t ≡ false
+          → IfOk r (λ x. (t ≡ fits locals depths place x.0.1 x.0.0) × (x.0.1 ≡ get_or depths place 0)
+          × (x.1 ≡ drop 6 (drop (6 * place) bytes)) × (code' ≡ code ++ x.0.0 ∷ []))
           → IfErr r (λ f. (t ≡ false) × (f ≡ fault.Code))
-          → 6 * length depths ≤ length bytes → AreDepths (length depths) bytes depths → SoFar locals bytes depths place code
+          → 6 * length depths ≤ length bytes → AreDepths (length depths) bytes depths
+          → SoFar locals bytes depths place code
           → kept_code locals (pairs_at (step_at version) (length depths) bytes) ≡ Err fault.Code
       stops (Err f) read declined pushed nothing le are so_far =
-          let end = ends (step_at version) code (take place depths) (length depths) place (drop (6 * place) bytes) (pairs_at (step_at version) (length depths) bytes) (load_fault.Image f) lt read so_far.reading in
+          let end = ends (step_at version) code (take place depths) (length depths) place (drop (6 * place) bytes)
+          (pairs_at (step_at version) (length depths) bytes) (load_fault.Image f) lt read so_far.reading in
           rw end (ap Err nothing.1)
       stops (Ok x) read declined pushed nothing le are so_far =
           refused version locals (length depths) bytes depths le are (λ all rest whole.
-          unfit x.0.0 x.0.1 (pairs_at (step_at version) (length depths - (place + 1)) x.1) all rest (sym pushed.0 ∙ declined) so_far.count
+          unfit x.0.0 x.0.1 (pairs_at (step_at version) (length depths - (place + 1)) x.1) all rest
+          (sym pushed.0 ∙ declined) so_far.count
           (read_on x.0.0 x.0.1 x.1 read so_far ∙ whole))
 
-    pub done : (place : ℕ) (code : List Instruction) → place ≡ length depths → length depths < 65536 → slice_get depths 0 ≡ Some 0
+    pub done : (place : ℕ) (code : List Instruction) → place ≡ length depths → length depths < 65536
+        → slice_get depths 0 ≡ Some 0
         → SoFar locals bytes depths place code
-        → kept_code locals (pairs_at (step_at version) (length depths) bytes) ≡ Ok ((code, depths), drop (6 * length depths) bytes)
+        → kept_code locals (pairs_at (step_at version) (length depths) bytes)
+        ≡ Ok ((code, depths), drop (6 * length depths) bytes)
     unfolding keeps_table
     done place code end size first so_far =
         let whole : take place depths ≡ depths = take_all place depths (omega (arith, end)) in
-        let read : pairs_at (step_at version) (length depths) bytes ≡ Ok ((code, take place depths), drop (6 * place) bytes) =
-        is_done (step_at version) code (take place depths) (length depths) place (drop (6 * place) bytes) (pairs_at (step_at version) (length depths) bytes) (omega (arith, end)) so_far.reading in
+        let read : pairs_at (step_at version) (length depths) bytes
+        ≡ Ok ((code, take place depths), drop (6 * place) bytes) =
+        is_done (step_at version) code (take place depths) (length depths) place (drop (6 * place) bytes)
+        (pairs_at (step_at version) (length depths) bytes) (omega (arith, end)) so_far.reading in
         let passes : Passes locals depths code depths =
         subst (λ (ds : List ℕ). Passes locals depths code ds) whole so_far.kept in
         let starts : depth_is (slice_get depths 0) 0 ≡ true = rw first refl in
@@ -278,6 +315,8 @@ module _ (version : ℕ) where
         let long : nat_eq (length depths) (length code) ≡ true = eq-eqb _ _ (sym end ∙ sym so_far.count) in
         let keeps : keeps_table (tables_of_code locals (code, depths)) ≡ true =
         both_true _ _ (both_true _ _ (both_true _ _ starts small) long) passes in
-        let here : pairs_at (step_at version) (length depths) bytes ≡ Ok ((code, depths), drop (6 * length depths) bytes) =
-        read ∙ ap (λ ds. Ok ((code, ds), drop (6 * place) bytes)) whole ∙ ap (λ k. Ok ((code, depths), drop (6 * k) bytes)) end in
+        let here : pairs_at (step_at version) (length depths) bytes
+        ≡ Ok ((code, depths), drop (6 * length depths) bytes) =
+        read ∙ ap (λ ds. Ok ((code, ds), drop (6 * place) bytes)) whole
+        ∙ ap (λ k. Ok ((code, depths), drop (6 * k) bytes)) end in
         rw (here, keeps) refl

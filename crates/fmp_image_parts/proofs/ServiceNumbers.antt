@@ -1,5 +1,6 @@
 -- The service of a number stands at the place before it in the list of services.
-use Rattle.std.proofs.Common.{◌≡◌, ℕ, ◌<◌, ◌-◌, ◌∙◌, Bool, true, false, cond, ◌&&◌, nat_eq, nat_le, length, get_or, Option, Some, None, refl, sym, ap}
+use Rattle.std.proofs.Common.{◌≡◌, ℕ, ◌<◌, ◌-◌, ◌∙◌, Bool, true, false, cond, ◌&&◌, nat_eq, nat_le, length, get_or}
+use Rattle.std.proofs.Common.{Option, Some, None, refl, sym, ap}
 use Rattle.std.proofs.lemmas.Bool.{agree_below_at, eqb-true}
 use Rattle.fmp_base.specs.declared.services.Service.{Service}
 use Rattle.fmp_base.specs.declared.services.Service.TheVariants.{Put}

@@ -1,5 +1,6 @@
 -- Names that an object can have, and what may stand only once in an image.
-use Rattle.std.specs.Prelude.{ℕ, List, [], ◌∷◌, ◌++◌, length, Option, Some, None, Bool, true, false, not, is_some, ◌&&◌, ◌||◌, nat_eq, nat_le}
+use Rattle.std.specs.Prelude.{ℕ, List, [], ◌∷◌, ◌++◌, length, Option, Some, None, Bool, true, false, not, is_some, ◌&&◌}
+use Rattle.std.specs.Prelude.{◌||◌, nat_eq, nat_le}
 use Rattle.std.specs.List.{list_all, list_any}
 use Rattle.std.specs.Str.{bytes_eq}
 use Rattle.std.specs.Hash as fed

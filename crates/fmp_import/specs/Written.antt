@@ -1,5 +1,6 @@
 -- What is written: the configuration, and the list of what was left out or changed.
-use Rattle.std.specs.Prelude.{ℕ, List, [], ◌∷◌, ◌++◌, ◌==◌, ◌||◌, nat_lt, if◌then◌else◌, Bool, true, false, codes, decimal, length, map, min, slice_range, Option, Some, None}
+use Rattle.std.specs.Prelude.{ℕ, List, [], ◌∷◌, ◌++◌, ◌==◌, ◌||◌, nat_lt, if◌then◌else◌, Bool, true, false, codes}
+use Rattle.std.specs.Prelude.{decimal, length, map, min, slice_range, Option, Some, None}
 use Rattle.std.specs.Fmt.{signed_decimal}
 use Rattle.fmp_base.specs.declared.words.Api.{Api}
 use Rattle.fmp_base.specs.declared.words.Constant.{Constant}

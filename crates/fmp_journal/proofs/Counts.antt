@@ -4,11 +4,13 @@ use Rattle.std.proofs.lemmas.Bool.Decides.{nat_tests}
 use Rattle.fmp_journal.specs.declared.entry.JournalEntry.{JournalEntry}
 use Rattle.fmp_journal.specs.Views.{own, times, without}
 
-pub length-own : (n : ℕ) (xs : List JournalEntry) (x : JournalEntry) → length (own n (xs ++ x ∷ [])) ≡ length (own n xs) + cond (x.seat == n) 1 0
+pub length-own : (n : ℕ) (xs : List JournalEntry) (x : JournalEntry) → length (own n (xs ++ x ∷ []))
+    ≡ length (own n xs) + cond (x.seat == n) 1 0
 length-own n [] x = grind (arith, nat_tests)
 length-own n (y ∷ xs) x = let i = length-own n xs x in grind (arith, nat_tests)
 
-pub times-snoc : (n : ℕ) (marks : List ℕ) (mark : ℕ) → times n (marks ++ mark ∷ []) ≡ times n marks + cond (mark == n) 1 0
+pub times-snoc : (n : ℕ) (marks : List ℕ) (mark : ℕ) → times n (marks ++ mark ∷ []) ≡ times n marks
+    + cond (mark == n) 1 0
 times-snoc n [] mark = grind (arith, nat_tests)
 times-snoc n (y ∷ marks) mark = let i = times-snoc n marks mark in grind (arith, nat_tests)
 

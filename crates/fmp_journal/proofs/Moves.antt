@@ -1,5 +1,7 @@
 -- Each step keeps the rule.
-use Rattle.std.proofs.Common.{◌≡◌, ◌≢◌, ℕ, zero, suc, ◌+◌, ◌<◌, ◌≤◌, ◌==◌, true, false, true≢false, cond, Option, Some, None, List, [], ◌∷◌, ◌++◌, length, set, refl, sym, ap, ◌∙◌, subst, arith, ⊎_elim, replicate, length-append}
+use Rattle.std.proofs.Common.{◌≡◌, ◌≢◌, ℕ, zero, suc, ◌+◌, ◌<◌, ◌≤◌, ◌==◌, true, false, true≢false, cond, Option, Some}
+use Rattle.std.proofs.Common.{None, List, [], ◌∷◌, ◌++◌, length, set, refl, sym, ap, ◌∙◌, subst, arith, ⊎_elim}
+use Rattle.std.proofs.Common.{replicate, length-append}
 use Rattle.std.specs.Prelude.{slice_index, slice_get, All, MatchOption}
 use Rattle.std.proofs.Math.ListN.{length-set, length-replicate}
 use Rattle.std.proofs.lemmas.List.{set-get_or}
@@ -15,10 +17,12 @@ use Rattle.fmp_journal.specs.declared.knowledge.Pen.{Pen}
 use Rattle.fmp_journal.specs.declared.knowledge.SeenJournal.{SeenJournal}
 use Rattle.fmp_journal.specs.declared.knowledge.View.{View}
 use Rattle.fmp_journal.specs.Words.{word_of, entry_of, words_of}
-use Rattle.fmp_journal.specs.Views.{own, times, without, nobody, first_view, scribe_part, seat_part, lent, after_deal, dealt, written, looked, shown, Wrote, Read, Looked, CaughtUp}
+use Rattle.fmp_journal.specs.Views.{own, times, without, nobody, first_view, scribe_part, seat_part, lent, after_deal}
+use Rattle.fmp_journal.specs.Views.{dealt, written, looked, shown, Wrote, Read, Looked, CaughtUp}
 use Rattle.fmp_journal.specs.Rule.{Whole, IsEntryOf, IsRow, PenFits, SightFits, Fits, IsKept}
 use Rattle.fmp_journal.proofs.Counts.{length-own, times-snoc, times-without, times-without_else}
-use Rattle.fmp_journal.proofs.Rows.{entry_of-word, entry_of-words, word_past, past_of-none, words_more, prefix_more, prefix_self, prefix_length, snoc_at}
+use Rattle.fmp_journal.proofs.Rows.{entry_of-word, entry_of-words, word_past, past_of-none, words_more, prefix_more}
+use Rattle.fmp_journal.proofs.Rows.{prefix_self, prefix_length, snoc_at}
 
 -- a view that has not got a half says nothing of it
 off : false ≡ true → ⊥
@@ -48,7 +52,8 @@ one_pen : (k : ℕ) (h : Whole) (id j : ℕ) (p q : Pen) → PenFits k h id p �
 one_pen k h id j p q f ne g = ne (g.here ∙ sym f.here)
 
 -- two seats have two numbers
-two_numbers : (k : ℕ) (h : Whole) (id j : ℕ) (s t : SeenJournal) → SightFits k h id s → SightFits k h j t → j ≢ id → t.number ≢ s.number
+two_numbers : (k : ℕ) (h : Whole) (id j : ℕ) (s t : SeenJournal) → SightFits k h id s → SightFits k h j t → j ≢ id
+    → t.number ≢ s.number
 two_numbers k h id j s t f g ne e = ne (g.here ∙ ap h.seat e ∙ sym f.here)
 
 -- the same, where the scribe's view stands elsewhere
@@ -56,13 +61,27 @@ abbrev with_scribe : Whole → ℕ → Whole
 with_scribe h id = record { journal = h.journal; marks = h.marks; made = h.made; scribe = id; seat = h.seat }
 
 pen_moved : (k : ℕ) (h : Whole) (id now : ℕ) (p : Pen) → PenFits k h id p → PenFits k (with_scribe h now) now p
-pen_moved k h id now p f = record { here = refl; capacity_is = f.capacity_is; made_is = f.made_is; journal_is = f.journal_is; marks_are = f.marks_are }
+pen_moved k h id now p f = record {
+  here = refl;
+  capacity_is = f.capacity_is;
+  made_is = f.made_is;
+  journal_is = f.journal_is;
+  marks_are = f.marks_are;
+}
 
-sight_stays : (k : ℕ) (h : Whole) (now j : ℕ) (s : SeenJournal) → SightFits k h j s → SightFits k (with_scribe h now) j s
-sight_stays k h now j s f = record { here = f.here; capacity_is = f.capacity_is; was_made = f.was_made; begins = f.begins; counted = f.counted }
+sight_stays : (k : ℕ) (h : Whole) (now j : ℕ) (s : SeenJournal) → SightFits k h j s
+    → SightFits k (with_scribe h now) j s
+sight_stays k h now j s f = record {
+  here = f.here;
+  capacity_is = f.capacity_is;
+  was_made = f.was_made;
+  begins = f.begins;
+  counted = f.counted;
+}
 
 -- a word that is loaded stays
-loaded : (k m : ℕ) (journal : List JournalEntry) (words : List ℕ) (i : ℕ) → IsRow k m journal words → IsRow k m journal (set words i (slice_index words i))
+loaded : (k m : ℕ) (journal : List JournalEntry) (words : List ℕ) (i : ℕ) → IsRow k m journal words
+    → IsRow k m journal (set words i (slice_index words i))
 loaded k m journal words i r = subst (IsRow k m journal) (sym (set-get_or words i 0)) r
 
 -- a store
@@ -81,14 +100,21 @@ row_more k m journal x words r lt may = record {
 }
 
 abbrev more : Whole → JournalEntry → Whole
-more h x = record { journal = h.journal ++ x ∷ []; marks = h.marks ++ x.seat ∷ []; made = h.made; scribe = h.scribe; seat = h.seat }
+more h x = record {
+  journal = h.journal ++ x ∷ [];
+  marks = h.marks ++ x.seat ∷ [];
+  made = h.made;
+  scribe = h.scribe;
+  seat = h.seat;
+}
 
 counted_more : (n mine : ℕ) (journal : List JournalEntry) (marks : List ℕ) (x : JournalEntry)
     → length (own n journal) ≡ mine + times n marks
     → length (own n (journal ++ x ∷ [])) ≡ mine + times n (marks ++ x.seat ∷ [])
 counted_more n mine journal marks x e = omega (arith, length-own n journal x, times-snoc n marks x.seat)
 
-sight_more : (k : ℕ) (h : Whole) (x : JournalEntry) (j : ℕ) (s : SeenJournal) → SightFits k h j s → SightFits k (more h x) j s
+sight_more : (k : ℕ) (h : Whole) (x : JournalEntry) (j : ℕ) (s : SeenJournal) → SightFits k h j s
+    → SightFits k (more h x) j s
 sight_more k h x j s f = record {
   here = f.here;
   capacity_is = f.capacity_is;
@@ -97,7 +123,8 @@ sight_more k h x j s f = record {
   counted = counted_more s.number s.mine h.journal h.marks x f.counted;
 }
 
-pub writes : (k m slots id : ℕ) (me : Me (Unit {0}) View) (x : JournalEntry) (at : ℕ) → me.0.has_pen ≡ true → length me.0.pen.journal ≡ at → at < k → IsEntryOf m x
+pub writes : (k m slots id : ℕ) (me : Me (Unit {0}) View) (x : JournalEntry) (at : ℕ) → me.0.has_pen ≡ true
+    → length me.0.pen.journal ≡ at → at < k → IsEntryOf m x
     → Allows (IsKept k m) slots id me at (λ _. word_of x) (λ _. Wrote (step slots at (word_of x) 0 none) me (word_of x))
 writes k m slots id me x at has is lt may s kept homes there room =
     let h = kept.0 in
@@ -111,8 +138,18 @@ writes k m slots id me x at has is lt may s kept homes there room =
         more h x,
         subst (λ a. IsRow k m (h.journal ++ x ∷ []) (set s.words a (word_of x))) n row,
         fits_set k (more h x) s.views id (written me.0 x)
-            (λ j v ne e. let g = kept.2 j v e in ((λ t. absurd (one_pen k h id j me.0.pen v.pen f ne (g.0 t))), (λ t. sight_more k h x j v.sight (g.1 t)))) (
-              (λ _. record { here = f.here; capacity_is = f.capacity_is; made_is = f.made_is; journal_is = ap (λ l. l ++ x ∷ []) f.journal_is; marks_are = ap (λ l. l ++ x.seat ∷ []) f.marks_are }),
+            (λ j v ne e. let g = kept.2 j v e in (
+              (λ t. absurd (one_pen k h id j me.0.pen v.pen f ne (g.0 t))),
+              (λ t. sight_more k h x j v.sight (g.1 t)),
+            )) (
+              (λ _. record {
+                here = f.here;
+                capacity_is = f.capacity_is;
+                made_is = f.made_is;
+                journal_is = ap (λ l. l ++ x ∷ []) f.journal_is;
+                marks_are = ap
+                    (λ l. l ++ x.seat ∷ []) f.marks_are;
+              }),
               (λ t. sight_more k h x id me.0.sight ((kept.2 id me.0 there).1 t)),
             ),
       ),
@@ -136,47 +173,79 @@ seen_more journal seen k i p room None e =
     (seen, p, prefix_self seen, omega arith, (word_past journal i past, refl, omega arith))
 seen_more journal seen k i p room (Some x) e = (journal, prefix_self journal, p, room, e)
 
-looked_fits : (k : ℕ) (h : Whole) (id : ℕ) (v : View) (now : List JournalEntry) (i n : ℕ) → Fits k h id v → IsPrefix now h.journal → Fits k h id (looked v now i n)
-looked_fits k h id v now i n f p = (f.0, λ t. let g = f.1 t in record { here = g.here; capacity_is = g.capacity_is; was_made = g.was_made; begins = p; counted = g.counted })
+looked_fits : (k : ℕ) (h : Whole) (id : ℕ) (v : View) (now : List JournalEntry) (i n : ℕ) → Fits k h id v
+    → IsPrefix now h.journal → Fits k h id (looked v now i n)
+looked_fits k h id v now i n f p = (
+  f.0,
+  λ t. let g = f.1 t in record {
+    here = g.here;
+    capacity_is = g.capacity_is;
+    was_made = g.was_made;
+    begins = p;
+    counted = g.counted;
+  },
+)
 
-pub looks : (k m slots id : ℕ) (me : Me (Unit {0}) View) (i : ℕ) → me.0.has_sight ≡ true → Allows (IsKept k m) slots id me i (λ n. n) (Looked (step slots i 0 0 none) me)
+pub looks : (k m slots id : ℕ) (me : Me (Unit {0}) View) (i : ℕ) → me.0.has_sight ≡ true
+    → Allows (IsKept k m) slots id me i (λ n. n) (Looked (step slots i 0 0 none) me)
 looks k m slots id me i has s kept homes there room =
     let h = kept.0 in
     let r = kept.1 in
     let f = kept.2 id me.0 there in
     let word = slice_index s.words i in
     let same : slice_index (words_of h.journal) i ≡ word = sym (r.words_are i) in
-    let found : slice_get h.journal i ≡ entry_of word = sym (entry_of-words m h.journal i r.entries) ∙ ap entry_of same in
-    let a = subst (λ n. Adds h.journal me.0.sight.seen k i n (entry_of word)) same (seen_more h.journal me.0.sight.seen k i (f.1 has).begins r.room (entry_of word) found) in
+    let found : slice_get h.journal i ≡ entry_of word = sym (entry_of-words m h.journal i r.entries)
+    ∙ ap entry_of same in
+    let a = subst (λ n. Adds h.journal me.0.sight.seen k i n (entry_of word)) same
+    (seen_more h.journal me.0.sight.seen k i (f.1 has).begins r.room (entry_of word) found) in
     let w = looked me.0 a.0 i word in (
       w,
       keeps,
       tt,
-      (h, loaded k m h.journal s.words i r, fits_set k h s.views id w (λ j u ne e. kept.2 j u e) (looked_fits k h id me.0 a.0 i word f a.1)),
+      (
+        h,
+        loaded k m h.journal s.words i r,
+        fits_set k h s.views id w (λ j u ne e. kept.2 j u e)
+            (looked_fits k h id me.0 a.0 i word f a.1),
+      ),
       (a.0, refl, a.2, subst (λ c. length a.0 ≤ c) (sym (f.1 has).capacity_is) a.3, a.4),
     )
 
-pub reads : (k m slots id : ℕ) (me : Me (Unit {0}) View) (i : ℕ) → me.0.has_pen ≡ true → Allows (IsKept k m) slots id me i (λ n. n) (Read (step slots i 0 0 none) me)
+pub reads : (k m slots id : ℕ) (me : Me (Unit {0}) View) (i : ℕ) → me.0.has_pen ≡ true
+    → Allows (IsKept k m) slots id me i (λ n. n) (Read (step slots i 0 0 none) me)
 reads k m slots id me i has s kept homes there room =
     let h = kept.0 in
     let p = (kept.2 id me.0 there).0 has in
-    let found : entry_of (slice_index s.words i) ≡ slice_get h.journal i = ap entry_of (kept.1.words_are i) ∙ entry_of-words m h.journal i kept.1.entries in (
+    let found : entry_of (slice_index s.words i) ≡ slice_get h.journal i = ap entry_of (kept.1.words_are i)
+    ∙ entry_of-words m h.journal i kept.1.entries in (
       me.0,
       keeps,
       tt,
-      (h, loaded k m h.journal s.words i kept.1, fits_set k h s.views id me.0 (λ j u ne e. kept.2 j u e) (kept.2 id me.0 there)),
+      (
+        h,
+        loaded k m h.journal s.words i kept.1,
+        fits_set k h s.views id me.0 (λ j u ne e. kept.2 j u e)
+            (kept.2 id me.0 there),
+      ),
       (refl, subst (λ l. entry_of (slice_index s.words i) ≡ slice_get l i) (sym p.journal_is) found),
     )
 
 -- a seat is shown the journal
 
 abbrev unmarked : Whole → ℕ → Whole
-unmarked h n = record { journal = h.journal; marks = without n h.marks; made = h.made; scribe = h.scribe; seat = h.seat }
+unmarked h n = record {
+  journal = h.journal;
+  marks = without n h.marks;
+  made = h.made;
+  scribe = h.scribe;
+  seat = h.seat;
+}
 
 add_none : (a b : ℕ) → b ≡ 0 → a ≡ a + b
 add_none a b z = omega arith
 
-pub catches_up : (k m slots id : ℕ) (me : Me (Unit {0}) View) (i : ℕ) → me.0.has_sight ≡ true → me.0.has_pen ≡ true → Allows (IsKept k m) slots id me i (λ n. n) (CaughtUp (step slots i 0 0 none) me)
+pub catches_up : (k m slots id : ℕ) (me : Me (Unit {0}) View) (i : ℕ) → me.0.has_sight ≡ true → me.0.has_pen ≡ true
+    → Allows (IsKept k m) slots id me i (λ n. n) (CaughtUp (step slots i 0 0 none) me)
 catches_up k m slots id me i sees has s kept homes there room =
     let h = kept.0 in
     let f = kept.2 id me.0 there in
@@ -185,7 +254,8 @@ catches_up k m slots id me i sees has s kept homes there room =
     let n = me.0.sight.number in
     let now = unmarked h n in
     let journal = p.journal_is in
-    let counted : length (own n h.journal) ≡ me.0.sight.mine + times n me.0.pen.marks = g.counted ∙ ap (λ l. me.0.sight.mine + times n l) (sym p.marks_are) in (
+    let counted : length (own n h.journal) ≡ me.0.sight.mine + times n me.0.pen.marks = g.counted
+    ∙ ap (λ l. me.0.sight.mine + times n l) (sym p.marks_are) in (
       shown me.0,
       keeps,
       tt,
@@ -200,16 +270,24 @@ catches_up k m slots id me i sees has s kept homes there room =
                 capacity_is = r.capacity_is;
                 was_made = r.was_made;
                 begins = r.begins;
-                counted = r.counted ∙ ap (λ x. u.sight.mine + x) (sym (times-without_else n u.sight.number h.marks (two_numbers k h id j me.0.sight u.sight g r ne)));
+                counted = r.counted ∙ ap (λ x. u.sight.mine + x) (sym (times-without_else n u.sight.number h.marks
+                    (two_numbers k h id j me.0.sight u.sight g r ne)));
               }),
             )) (
-              (λ _. record { here = p.here; capacity_is = p.capacity_is; made_is = p.made_is; journal_is = journal; marks_are = ap (without n) p.marks_are }),
+              (λ _. record {
+                here = p.here;
+                capacity_is = p.capacity_is;
+                made_is = p.made_is;
+                journal_is = journal;
+                marks_are = ap (without n) p.marks_are;
+              }),
               (λ _. record {
                 here = g.here;
                 capacity_is = g.capacity_is;
                 was_made = g.was_made;
                 begins = subst (λ l. IsPrefix l h.journal) (sym journal) (prefix_self h.journal);
-                counted = counted ∙ add_none (me.0.sight.mine + times n me.0.pen.marks) (times n (without n h.marks)) (times-without n h.marks);
+                counted = counted ∙ add_none (me.0.sight.mine + times n me.0.pen.marks) (times n (without n h.marks))
+                    (times-without n h.marks);
               }),
             ),
       ),
@@ -221,7 +299,8 @@ catches_up k m slots id me i sees has s kept homes there room =
       ),
     )
 
-pub lends : (k m id : ℕ) (v : View) (other : ℕ) (w : View) → w.has_pen ≡ true → w.has_sight ≡ false → Joins (IsKept k m) id v other w (lent v w) nobody
+pub lends : (k m id : ℕ) (v : View) (other : ℕ) (w : View) → w.has_pen ≡ true → w.has_sight ≡ false
+    → Joins (IsKept k m) id v other w (lent v w) nobody
 lends k m id v other w has idle s kept at ne there =
     let h = kept.0 in
     let f = kept.2 id v at in
@@ -231,13 +310,22 @@ lends k m id v other w has idle s kept at ne there =
     (at_set s.views id other (lent v w) w there) in
     let p = was.0 has in
     let now = with_scribe h id in
-    let mine : Fits k now id (lent v w) = ((λ _. pen_moved k h other id w.pen p), (λ t. sight_stays k h id id v.sight (f.1 t))) in
-    let all : (j : ℕ) (u : View) → j ≢ other → get_elem? (set s.views id (lent v w)) j ≡ some u → Fits k now j u = λ j u apart e.
+    let mine : Fits k now id (lent v w) = (
+      (λ _. pen_moved k h other id w.pen p),
+      (λ t. sight_stays k h id id v.sight (f.1 t)),
+    ) in
+    let all : (j : ℕ) (u : View) → j ≢ other → get_elem? (set s.views id (lent v w)) j ≡ some u
+    → Fits k now j u = λ j u apart e.
     ⊎_elim
     (λ (t : (j ≡ id) × (lent v w ≡ u)). subst (λ (y : ℕ × View). Fits k now y.0 y.1) (λ i. (sym t.0 i, t.1 i)) mine)
-    (λ (t : (j ≢ id) × (get_elem? s.views j ≡ some u)). let q = kept.2 j u t.1 in ((λ y. absurd (one_pen k h other j w.pen u.pen p apart (q.0 y))), (λ y. sight_stays k h id j u.sight (q.1 y))))
-    (at_set s.views id j (lent v w) u e) in
-    (now, kept.1, fits_set k now (set s.views id (lent v w)) other nobody all ((λ t. absurd (off t)), (λ t. absurd (off t))))
+    (λ (t : (j ≢ id) × (get_elem? s.views j ≡ some u)). let q = kept.2 j u t.1 in
+    ((λ y. absurd (one_pen k h other j w.pen u.pen p apart (q.0 y))), (λ y. sight_stays k h id j u.sight (q.1 y))))
+    (at_set s.views id j (lent v w) u e) in (
+      now,
+      kept.1,
+      fits_set k now (set s.views id (lent v w)) other nobody all
+          ((λ t. absurd (off t)), (λ t. absurd (off t))),
+    )
 
 pub parts : (k m id : ℕ) (v : View) → v.has_pen ≡ true → Splits (IsKept k m) id v (seat_part v) (scribe_part v)
 parts k m id v has s kept there =
@@ -248,7 +336,10 @@ parts k m id v has s kept there =
     let now = with_scribe h n in
     let all : (j : ℕ) (u : View) → get_elem? (set s.views id (seat_part v)) j ≡ some u → Fits k now j u =
     fits_set k now s.views id (seat_part v)
-    (λ j u ne e. let q = kept.2 j u e in ((λ y. absurd (one_pen k h id j v.pen u.pen p ne (q.0 y))), (λ y. sight_stays k h n j u.sight (q.1 y))))
+    (λ j u ne e. let q = kept.2 j u e in (
+      (λ y. absurd (one_pen k h id j v.pen u.pen p ne (q.0 y))),
+      (λ y. sight_stays k h n j u.sight (q.1 y)),
+    ))
     ((λ t. absurd (off t)), (λ y. sight_stays k h n id v.sight (f.1 y))) in (
       now,
       kept.1,
@@ -270,14 +361,16 @@ one_later a b lt = omega arith
 last_one : (a b : ℕ) → a ≡ b → a < b + 1
 last_one a b e = omega arith
 
-pub deals : (k m id : ℕ) (v : View) → v.has_pen ≡ true → v.pen.journal ≡ [] → v.pen.marks ≡ [] → Splits (IsKept k m) id v (after_deal v) (dealt v)
+pub deals : (k m id : ℕ) (v : View) → v.has_pen ≡ true → v.pen.journal ≡ [] → v.pen.marks ≡ []
+    → Splits (IsKept k m) id v (after_deal v) (dealt v)
 deals k m id v has no_journal no_marks s kept there =
     let h = kept.0 in
     let f = kept.2 id v there in
     let p = f.0 has in
     let n = length s.views in
     let at : ℕ → ℕ = λ x. cond (x == h.made) n (h.seat x) in
-    let now : Whole = record { journal = h.journal; marks = h.marks; made = h.made + 1; scribe = h.scribe; seat = at } in
+    let now : Whole = record { journal = h.journal; marks = h.marks; made = h.made + 1; scribe = h.scribe; seat = at }
+    in
     let old : (j : ℕ) (t : SeenJournal) → SightFits k h j t → SightFits k now j t = λ j t r. record {
       here = r.here ∙ sym (ap (λ b. cond b n (h.seat t.number)) (test_false t.number h.made r.was_made));
       capacity_is = r.capacity_is;
@@ -287,8 +380,19 @@ deals k m id v has no_journal no_marks s kept there =
     } in
     let all : (j : ℕ) (u : View) → get_elem? (set s.views id (after_deal v)) j ≡ some u → Fits k now j u =
     fits_set k now s.views id (after_deal v)
-    (λ j u ne e. let q = kept.2 j u e in ((λ y. absurd (one_pen k h id j v.pen u.pen p ne (q.0 y))), (λ y. old j u.sight (q.1 y))))
-    ((λ _. record { here = p.here; capacity_is = p.capacity_is; made_is = ap (λ x. x + 1) p.made_is; journal_is = p.journal_is; marks_are = p.marks_are }), (λ y. old id v.sight (f.1 y))) in
+    (λ j u ne e. let q = kept.2 j u e in (
+      (λ y. absurd (one_pen k h id j v.pen u.pen p ne (q.0 y))),
+      (λ y. old j u.sight (q.1 y)),
+    )) (
+      (λ _. record {
+        here = p.here;
+        capacity_is = p.capacity_is;
+        made_is = ap (λ x. x + 1) p.made_is;
+        journal_is = p.journal_is;
+        marks_are = p.marks_are;
+      }),
+      (λ y. old id v.sight (f.1 y)),
+    ) in
     let journal : h.journal ≡ [] = sym p.journal_is ∙ no_journal in
     let marks : h.marks ≡ [] = sym p.marks_are ∙ no_marks in (
       now,

@@ -4,7 +4,8 @@ use Rattle.fmp_base.specs.declared.calls.Reply.{Reply}
 use Rattle.fmp_base.specs.declared.events.Effect.{Effect}
 use Rattle.fmp_base.specs.declared.events.Effect.TheVariants as effect
 use Rattle.fmp_base.specs.declared.events.Line.{Line}
-use Rattle.fmp_base.specs.declared.events.Line.TheVariants.{Tick, Int, Call, End, Fault, Gets, Starts, Pends, Begins, Runs}
+use Rattle.fmp_base.specs.declared.events.Line.TheVariants.{Tick, Int, Call, End, Fault, Gets, Starts, Pends, Begins}
+use Rattle.fmp_base.specs.declared.events.Line.TheVariants.{Runs}
 use Rattle.fmp_base.specs.Steps.{Reaction, Nothing, Did, Kept}
 use Rattle.fmp_journal.specs.declared.entry.JournalEntry.{JournalEntry}
 use Rattle.fmp_journal.specs.declared.receipt.Receipt.{Receipt}

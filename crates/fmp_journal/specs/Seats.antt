@@ -1,5 +1,6 @@
 -- What contracts see of a row, of its scribe and of its seats.
-use Rattle.std.specs.Prelude.{◌≡◌, ℕ, ◌+◌, ◌^◌, ◌<◌, ◌≤◌, true, false, List, [], ◌∷◌, ◌++◌, length, take, map, slice_get, Some}
+use Rattle.std.specs.Prelude.{◌≡◌, ℕ, ◌+◌, ◌^◌, ◌<◌, ◌≤◌, true, false, List, [], ◌∷◌, ◌++◌, length, take, map}
+use Rattle.std.specs.Prelude.{slice_get, Some}
 use Rattle.atomic_table.specs.Seated.{TableId}
 use Rattle.fmp_base.specs.declared.events.Event.{Event}
 use Rattle.fmp_journal.specs.declared.entry.JournalEntry.{JournalEntry}

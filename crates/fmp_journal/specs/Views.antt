@@ -1,5 +1,6 @@
 -- What the scribe and the seats know, and what each step makes of it.
-use Rattle.std.specs.Prelude.{◌≡◌, ℕ, ◌+◌, ◌≤◌, ◌==◌, not, true, false, List, [], ◌∷◌, ◌++◌, length, filter, slice_get, MatchOption, IfSome, Some}
+use Rattle.std.specs.Prelude.{◌≡◌, ℕ, ◌+◌, ◌≤◌, ◌==◌, not, true, false, List, [], ◌∷◌, ◌++◌, length, filter, slice_get}
+use Rattle.std.specs.Prelude.{MatchOption, IfSome, Some}
 use mathlib.Core.List.{IsPrefix}
 use Rattle.atomic_table.specs.Table.{Me, Step}
 use Rattle.fmp_journal.specs.declared.entry.JournalEntry.{JournalEntry}

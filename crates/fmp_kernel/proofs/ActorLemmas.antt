@@ -1,5 +1,6 @@
 -- The lines of settling tell which processors have another actor.
-use Rattle.std.proofs.Common.{◌≡◌, ℕ, zero, suc, ◌+◌, ◌<◌, ◌≤◌, List, [], ◌∷◌, ◌++◌, Option, Some, None, Bool, true, false, ◌||◌, not, nat_eq, nat_lt, length, refl, sym, subst, ap, ◌∙◌, arith, if◌then◌else◌}
+use Rattle.std.proofs.Common.{◌≡◌, ℕ, zero, suc, ◌+◌, ◌<◌, ◌≤◌, List, [], ◌∷◌, ◌++◌, Option, Some, None, Bool, true}
+use Rattle.std.proofs.Common.{false, ◌||◌, not, nat_eq, nat_lt, length, refl, sym, subst, ap, ◌∙◌, arith, if◌then◌else◌}
 use Rattle.std.specs.List.{AllByRecursion}
 use Rattle.std.proofs.Math.ListN.{length-set}
 use Rattle.std.proofs.lemmas.Bool.{eqb-true}
@@ -24,9 +25,12 @@ use Rattle.fmp_base.specs.Calls.{called}
 use Rattle.fmp_base.specs.Meanings.{Meaning, Contexts, World, caller_body, context_of, with_context}
 use Rattle.fmp_base.specs.Queues.{top}
 use Rattle.fmp_base.specs.ProcessorCalls.{is_cpu_locked}
-use Rattle.fmp_base.specs.Settles.{all_settled, begun, dispatched, dispatch_lines, handler_to_begin, is_dispatch_held, is_same_task, pending_handler, runs_handler, settled, settled_on, settled_with}
+use Rattle.fmp_base.specs.Settles.{all_settled, begun, dispatched, dispatch_lines, handler_to_begin, is_dispatch_held}
+use Rattle.fmp_base.specs.Settles.{is_same_task, pending_handler, runs_handler, settled, settled_on, settled_with}
 use Rattle.fmp_base.specs.States.{KernelState, Progress, idle, places_from, processor_at, task_at, unchanged}
-use Rattle.fmp_base.specs.Steps.{Reaction, Done, Nothing, Did, Kept, actor_by, actor_ended, actor_of, call_made, contexts_ended, effect_of, ended_with, answered, finished, interrupted, interrupted_by, run_by, run_in, step, stretched}
+use Rattle.fmp_base.specs.Steps.{Reaction, Done, Nothing, Did, Kept, actor_by, actor_ended, actor_of, call_made}
+use Rattle.fmp_base.specs.Steps.{contexts_ended, effect_of, ended_with, answered, finished, interrupted, interrupted_by}
+use Rattle.fmp_base.specs.Steps.{run_by, run_in, step, stretched}
 use Rattle.fmp_base.specs.Stretches.{Ending}
 use Rattle.fmp_base.specs.Stretches as ends
 use Rattle.fmp_base.specs.Systems.{SystemTables, interrupt_config}
@@ -50,7 +54,8 @@ same_acting : (q : ℕ) (s u : KernelState) → acting (processor_at u q) ≡ ac
     → actor_of (processor_at u q) ≡ actor_of (processor_at s q)
 same_acting q s u h = ap (λ (x : Option Handler × Option ℕ). actor_by x.0 x.1) h
 
-pub changes-none : (q : ℕ) (s u : KernelState) → acting (processor_at u q) ≡ acting (processor_at s q) → changes q s u ≡ zero
+pub changes-none : (q : ℕ) (s u : KernelState) → acting (processor_at u q) ≡ acting (processor_at s q) → changes q s u
+    ≡ zero
 changes-none q s u h =
     ap (λ (o : Option Caller). one_if (not (is_same_actor (actor_of (processor_at s q)) o))) (same_acting q s u h)
     ∙ ap (λ (b : Bool). one_if (not b)) (own_actor (actor_of (processor_at s q)))
@@ -71,7 +76,8 @@ none-append (x ∷ xs) ys h = h
 behind-none : (q : ℕ) (ls : List Line) → GivesNone ls → times_given q (behind_own ls) ≡ times_given q ls
 behind-none q [] h = absurd h
 behind-none q (l ∷ ls) h =
-    let none : one_if (is_same_task (given_by l) (Some q)) ≡ zero = ap (λ (o : Option ℕ). one_if (is_same_task o (Some q))) h in
+    let none : one_if (is_same_task (given_by l) (Some q)) ≡ zero = ap (λ (o : Option ℕ). one_if
+    (is_same_task o (Some q))) h in
     omega (arith, none)
 
 -- h is g after another processor than q has settled
@@ -108,7 +114,8 @@ tells-same q g h a =
 passes-then : (q : ℕ) (g h i : Progress) → Passes q g h → Tells q h i → Tells q g i
 passes-then q g h i a b =
     let was : changes q h.state i.state ≡ changes q g.state i.state =
-    ap (λ (o : Option Caller). one_if (not (is_same_actor o (actor_of (processor_at i.state q))))) (same_acting q g.state h.state a.same) in
+    ap (λ (o : Option Caller). one_if (not (is_same_actor o (actor_of (processor_at i.state q)))))
+    (same_acting q g.state h.state a.same) in
     let first = a.times in
     let rest = b.times in
     record { first = λ x. b.first (a.first x); times = omega (arith, first, rest, was); many = b.many ∙ a.many }
@@ -116,7 +123,8 @@ passes-then q g h i a b =
 then-passes : (q : ℕ) (g h i : Progress) → Tells q g h → Passes q h i → Tells q g i
 then-passes q g h i a b =
     let now : changes q g.state i.state ≡ changes q g.state h.state =
-    ap (λ (o : Option Caller). one_if (not (is_same_actor (actor_of (processor_at g.state q)) o))) (same_acting q h.state i.state b.same) in
+    ap (λ (o : Option Caller). one_if (not (is_same_actor (actor_of (processor_at g.state q)) o)))
+    (same_acting q h.state i.state b.same) in
     let first = a.times in
     let rest = b.times in
     record { first = λ x. b.first (a.first x); times = omega (arith, first, rest, now); many = b.many ∙ a.many }
@@ -128,14 +136,16 @@ apart-false p q n = by_test (nat_eq p q) refl where
   by_test false e = e
 
 -- a line on p is none on q
-times-apart : (p q : ℕ) (ls : List Line) (l : Line) → given_by l ≡ Some p → (p ≡ q → ⊥) → times_given q (ls ++ l ∷ []) ≡ times_given q ls
+times-apart : (p q : ℕ) (ls : List Line) (l : Line) → given_by l ≡ Some p → (p ≡ q → ⊥) → times_given q (ls ++ l ∷ [])
+    ≡ times_given q ls
 times-apart p q ls l e n =
     let all = times-append q ls (l ∷ []) in
     let off : one_if (is_same_task (given_by l) (Some q)) ≡ zero =
     ap (λ (o : Option ℕ). one_if (is_same_task o (Some q))) e ∙ ap one_if (apart-false p q n) in
     omega (arith, all, off)
 
-times-here : (q : ℕ) (ls : List Line) (l : Line) → given_by l ≡ Some q → times_given q (ls ++ l ∷ []) ≡ times_given q ls + 1
+times-here : (q : ℕ) (ls : List Line) (l : Line) → given_by l ≡ Some q → times_given q (ls ++ l ∷ [])
+    ≡ times_given q ls + 1
 times-here q ls l e =
     let all = times-append q ls (l ∷ []) in
     let own : nat_eq q q ≡ true = grind (arith, nat_tests) in
@@ -143,7 +153,8 @@ times-here q ls l e =
     ap (λ (o : Option ℕ). one_if (is_same_task o (Some q))) e ∙ ap one_if own in
     omega (arith, all, on)
 
-passes-begun : (q : ℕ) (g : Progress) (p : ℕ) (h : Handler) → (p ≡ q → ⊥) → Passes q g (begun g p (processor_at g.state p) h)
+passes-begun : (q : ℕ) (g : Progress) (p : ℕ) (h : Handler) → (p ≡ q → ⊥)
+    → Passes q g (begun g p (processor_at g.state p) h)
 passes-begun q g p (handler.Interrupt i) n =
     record {
       first = none-append g.lines _;
@@ -159,7 +170,8 @@ passes-begun q g p (handler.Cyclic c) n =
       many = length-set _ _ _;
     }
 
-passes-dispatched : (q : ℕ) (g : Progress) (p : ℕ) (t : Option ℕ) → (p ≡ q → ⊥) → Passes q g (dispatched g p (processor_at g.state p) t)
+passes-dispatched : (q : ℕ) (g : Progress) (p : ℕ) (t : Option ℕ) → (p ≡ q → ⊥)
+    → Passes q g (dispatched g p (processor_at g.state p) t)
 passes-dispatched q g p t n =
     record {
       first = none-append g.lines _;
@@ -176,7 +188,8 @@ passes-held : (held : Bool) (q : ℕ) (g : Progress) (p : ℕ) → (p ≡ q → 
 passes-held true q g p n = passes-same q g
 passes-held false q g p n = passes-dispatched q g p (top g.state p) n
 
-passes-with : (o : Option Handler) (q : ℕ) (g : Progress) (p : ℕ) → (p ≡ q → ⊥) → Passes q g (settled_with o g p (processor_at g.state p))
+passes-with : (o : Option Handler) (q : ℕ) (g : Progress) (p : ℕ) → (p ≡ q → ⊥)
+    → Passes q g (settled_with o g p (processor_at g.state p))
 passes-with None q g p n = passes-held (is_dispatch_held (processor_at g.state p)) q g p n
 passes-with (Some h) q g p n = passes-begun q g p h n
 
@@ -194,7 +207,8 @@ begins_other : (run : Option ℕ) (h : Handler) → is_same_actor (actor_by None
 begins_other None h = refl
 begins_other (Some t) h = refl
 
-runs_other : (old new : Option ℕ) → is_same_task old new ≡ false → is_same_actor (actor_by None old) (actor_by None new) ≡ false
+runs_other : (old new : Option ℕ) → is_same_task old new ≡ false
+    → is_same_actor (actor_by None old) (actor_by None new) ≡ false
 runs_other None None e = absurd (cc e)
 runs_other None (Some b) e = refl
 runs_other (Some a) None e = refl
@@ -211,14 +225,16 @@ unhandled : (o : Option Handler) → runs_handler o ≡ false → o ≡ None
 unhandled None e = refl
 unhandled (Some h) e = absurd (cc e)
 
-begun-tells : (q : ℕ) (g : Progress) (h : Handler) → q < length g.state.processors → (processor_at g.state q).handler ≡ None
+begun-tells : (q : ℕ) (g : Progress) (h : Handler) → q < length g.state.processors → (processor_at g.state q).handler
+    ≡ None
     → Tells q g (begun g q (processor_at g.state q) h)
 begun-tells q g h l e = by_kind h where
   cpu : Processor
   cpu = processor_at g.state q
 
   other : (h : Handler) → is_same_actor (actor_of cpu) (Some (caller.Handler h)) ≡ false
-  other h = ap (λ (o : Option Handler). is_same_actor (actor_by o cpu.run) (Some (caller.Handler h))) e ∙ begins_other cpu.run h
+  other h = ap (λ (o : Option Handler). is_same_actor (actor_by o cpu.run) (Some (caller.Handler h))) e
+      ∙ begins_other cpu.run h
 
   by_kind : (h : Handler) → Tells q g (begun g q cpu h)
   by_kind (handler.Interrupt i) =
@@ -234,33 +250,36 @@ begun-tells q g h l e = by_kind h where
       changes-once q g.state u _ (set_same idle g.state.processors q _ l) (other (handler.Cyclic c)) in
       record { first = none-append g.lines _; times = omega (arith, times, once); many = length-set _ _ _ }
 
-dispatched-tells : (q : ℕ) (g : Progress) (t : Option ℕ) → q < length g.state.processors → (processor_at g.state q).handler ≡ None
+dispatched-tells : (q : ℕ) (g : Progress) (t : Option ℕ) → q < length g.state.processors
+    → (processor_at g.state q).handler ≡ None
     → Tells q g (dispatched g q (processor_at g.state q) t)
 dispatched-tells q g t l e =
-    record { first = none-append g.lines _; times = by_test (is_same_task cpu.run t) refl; many = length-set _ _ _ } where
-      cpu : Processor
-      cpu = processor_at g.state q
+    record { first = none-append g.lines _; times = by_test (is_same_task cpu.run t) refl; many = length-set _ _ _ }
+  where
+    cpu : Processor
+    cpu = processor_at g.state q
 
-      u : KernelState
-      u = (dispatched g q cpu t).state
+    u : KernelState
+    u = (dispatched g q cpu t).state
 
-      by_test : (b : Bool) → is_same_task cpu.run t ≡ b
-          → times_given q (g.lines ++ dispatch_lines b q t) ≡ times_given q g.lines + changes q g.state u
-      by_test true h =
-          let now : acting (record cpu { run = t }) ≡ acting cpu =
-          ap (λ (o : Option ℕ). acting (record cpu { run = o })) (sym (same_task cpu.run t h)) in
-          let none = changes-none q g.state u (actors-processor g.state q (record cpu { run = t }) now q) in
-          let all = times-append q g.lines [] in
-          omega (arith, none, all)
-      by_test false h =
-          let other : is_same_actor (actor_of cpu) (actor_of (record cpu { run = t })) ≡ false =
-          ap (λ (o : Option Handler). is_same_actor (actor_by o cpu.run) (actor_by o t)) e ∙ runs_other cpu.run t h in
-          let once : changes q g.state u ≡ 1 =
-          changes-once q g.state u (record cpu { run = t }) (set_same idle g.state.processors q _ l) other in
-          let times = times-here q g.lines (line.Runs q t) refl in
-          omega (arith, once, times)
+    by_test : (b : Bool) → is_same_task cpu.run t ≡ b
+        → times_given q (g.lines ++ dispatch_lines b q t) ≡ times_given q g.lines + changes q g.state u
+    by_test true h =
+        let now : acting (record cpu { run = t }) ≡ acting cpu =
+        ap (λ (o : Option ℕ). acting (record cpu { run = o })) (sym (same_task cpu.run t h)) in
+        let none = changes-none q g.state u (actors-processor g.state q (record cpu { run = t }) now q) in
+        let all = times-append q g.lines [] in
+        omega (arith, none, all)
+    by_test false h =
+        let other : is_same_actor (actor_of cpu) (actor_of (record cpu { run = t })) ≡ false =
+        ap (λ (o : Option Handler). is_same_actor (actor_by o cpu.run) (actor_by o t)) e ∙ runs_other cpu.run t h in
+        let once : changes q g.state u ≡ 1 =
+        changes-once q g.state u (record cpu { run = t }) (set_same idle g.state.processors q _ l) other in
+        let times = times-here q g.lines (line.Runs q t) refl in
+        omega (arith, once, times)
 
-held-tells : (held : Bool) (q : ℕ) (g : Progress) → is_dispatch_held (processor_at g.state q) ≡ held → q < length g.state.processors
+held-tells : (held : Bool) (q : ℕ) (g : Progress) → is_dispatch_held (processor_at g.state q) ≡ held
+    → q < length g.state.processors
     → Tells q g (if held then g else dispatched g q (processor_at g.state q) (top g.state q))
 held-tells true q g e l = tells-same q g g (passes-same q g)
 held-tells false q g e l =
@@ -274,7 +293,8 @@ free_to_begin : (b : Bool) (o : Option Handler) (h : Handler) → (if b then Non
 free_to_begin true o h e = absurd (cc e)
 free_to_begin false o h e = refl
 
-with-tells : (sys : SystemTables) (q : ℕ) (g : Progress) (o : Option Handler) → handler_to_begin sys g.state q (processor_at g.state q) ≡ o
+with-tells : (sys : SystemTables) (q : ℕ) (g : Progress) (o : Option Handler)
+    → handler_to_begin sys g.state q (processor_at g.state q) ≡ o
     → q < length g.state.processors → Tells q g (settled_with o g q (processor_at g.state q))
 with-tells sys q g None e l = held-tells (is_dispatch_held (processor_at g.state q)) q g refl l
 with-tells sys q g (Some h) e l =
@@ -287,7 +307,8 @@ all-tells : (sys : SystemTables) (q : ℕ) (g : Progress) (k n : ℕ) → k ≤ 
     → Tells q g (all_settled sys g (places_from k n))
 all-tells sys q g k zero a b l = absurd (omega (arith, a, b))
 all-tells sys q g k (suc n) a b l =
-    by_test (nat_eq k q) refl (λ x y. all-tells sys q (settled_on sys g k (processor_at g.state k)) (k + 1) n x (omega (arith, b)) y) where
+    by_test (nat_eq k q) refl (λ x y. all-tells sys q (settled_on sys g k (processor_at g.state k)) (k + 1) n x
+    (omega (arith, b)) y) where
       next : Progress
       next = settled_on sys g k (processor_at g.state k)
 
@@ -303,7 +324,8 @@ all-tells sys q g k (suc n) a b l =
           (passes-all sys q next (k + 1) n (λ i x y z. absurd (omega (arith, same, x, z))))
       by_test false e rest =
           let n_apart : k ≡ q → ⊥ = λ (z : k ≡ q). absurd (grind (arith, nat_tests, z, e)) in
-          let first : Passes q g next = passes-with (handler_to_begin sys g.state k (processor_at g.state k)) q g k n_apart in
+          let first : Passes q g next = passes-with (handler_to_begin sys g.state k (processor_at g.state k)) q g k
+          n_apart in
           let more : k + 1 ≤ q = grind (arith, nat_tests, a, e) in
           let many = first.many in
           let inside : q < length next.state.processors = omega (arith, l, many) in
@@ -317,10 +339,12 @@ settled-tells sys q g = by_test (nat_lt q (length g.state.processors)) refl wher
       all-tells sys q g 0 (length g.state.processors) (omega arith) (omega (arith, l)) l
   by_test false e =
       let l : length g.state.processors ≤ q = grind (arith, nat_tests, e) in
-      tells-same q g (settled sys g) (passes-all sys q g 0 (length g.state.processors) (λ i x y z. absurd (omega (arith, l, y, z))))
+      tells-same q g (settled sys g) (passes-all sys q g 0 (length g.state.processors)
+      (λ i x y z. absurd (omega (arith, l, y, z))))
 
 -- a call, an end and the clock give no processor another actor by a line of theirs
-own-gives : (s : KernelState) (own q : ℕ) (l : Line) → IsOwn s own l → one_if (is_same_task (given_by l) (Some q)) ≡ zero
+own-gives : (s : KernelState) (own q : ℕ) (l : Line) → IsOwn s own l → one_if (is_same_task (given_by l) (Some q))
+    ≡ zero
 own-gives s own q (line.Starts p t) h = refl
 own-gives s own q (line.Begins p i) h = absurd h
 own-gives s own q (line.Runs p t) h = absurd h
@@ -344,7 +368,8 @@ Counts q s (Did d) = times_given q (behind_own d.lines) ≡ changes q s d.world.
 Counts q s (Kept p w) = Unit {0}
 
 module _ {C : Type 0} (sys : SystemTables) (M : Meaning C) (q : ℕ) where
-  counts-finished : (cs : Contexts (Held C)) (own : Line) (s : KernelState) (g : Progress) → given_by own ≡ None → times_given q g.lines ≡ zero
+  counts-finished : (cs : Contexts (Held C)) (own : Line) (s : KernelState) (g : Progress) → given_by own ≡ None
+      → times_given q g.lines ≡ zero
       → acting (processor_at g.state q) ≡ acting (processor_at s q) → Counts q s (Did (finished sys M cs (own ∷ []) g))
   counts-finished cs own s g e none h =
       let start : Progress = record g { lines = own ∷ g.lines } in
@@ -352,41 +377,52 @@ module _ {C : Type 0} (sys : SystemTables) (M : Meaning C) (q : ℕ) where
       let ls = (settled sys start).lines in
       let now = behind-none q ls (all.first e) in
       let times = all.times in
-      let first : one_if (is_same_task (given_by own) (Some q)) ≡ zero = ap (λ (o : Option ℕ). one_if (is_same_task o (Some q))) e in
+      let first : one_if (is_same_task (given_by own) (Some q))
+      ≡ zero = ap (λ (o : Option ℕ). one_if (is_same_task o (Some q))) e in
       let was : changes q g.state (settled sys start).state ≡ changes q s (settled sys start).state =
-      ap (λ (o : Option Caller). one_if (not (is_same_actor o (actor_of (processor_at (settled sys start).state q))))) (same_acting q s g.state h) in
+      ap (λ (o : Option Caller). one_if (not (is_same_actor o (actor_of (processor_at (settled sys start).state q)))))
+      (same_acting q s g.state h) in
       omega (arith, now, times, first, none, was)
 
-  counts-answered : (a : Answer) (cs : Contexts (Held C)) (p : ℕ) (who : Caller) (c : Call) (s : KernelState) (g : Progress)
-      → times_given q g.lines ≡ zero → acting (processor_at g.state q) ≡ acting (processor_at s q) → Counts q s (answered a sys M cs p who c g)
+  counts-answered : (a : Answer) (cs : Contexts (Held C)) (p : ℕ) (who : Caller) (c : Call) (s : KernelState)
+      (g : Progress)
+      → times_given q g.lines ≡ zero → acting (processor_at g.state q) ≡ acting (processor_at s q)
+      → Counts q s (answered a sys M cs p who c g)
   counts-answered (Replies reply) cs p who c s g e h = counts-finished cs (line.Call p who c (Some reply)) s g refl e h
   counts-answered Waits cs p who c s g e h = counts-finished cs (line.Call p who c None) s g refl e h
   counts-answered Ends cs p who c s g e h = counts-finished cs (line.End p who) s g refl e h
   counts-answered Spins cs p who c s g e h = tt
 
-  called-counts : (cs : Contexts (Held C)) (s : KernelState) (p : ℕ) (who : Caller) (c : Call) → (p ≡ q → ⊥) → IsActor sys s p who → Holds s
+  called-counts : (cs : Contexts (Held C)) (s : KernelState) (p : ℕ) (who : Caller) (c : Call) → (p ≡ q → ⊥)
+      → IsActor sys s p who → Holds s
       → Counts q s (call_made sys M cs p who c (called sys s p who c))
   called-counts cs s p (caller.Task t) c n i a =
       let o = called sys s p (caller.Task t) c in
       let k = keeps-task_call sys s p t c in
-      counts-answered o.answer cs p (caller.Task t) c s o.progress (gives-none s p q o.progress.lines (k.lines i a)) (k.actors q n)
+      counts-answered o.answer cs p (caller.Task t) c s o.progress (gives-none s p q o.progress.lines (k.lines i a))
+      (k.actors q n)
   called-counts cs s p (caller.Handler h) c n i a =
       let o = called sys s p (caller.Handler h) c in
       let k = keeps-handler_call sys s p h c in
-      counts-answered o.answer cs p (caller.Handler h) c s o.progress (gives-none s p q o.progress.lines (k.lines tt a)) (k.actors q n)
+      counts-answered o.answer cs p (caller.Handler h) c s o.progress (gives-none s p q o.progress.lines
+      (k.lines tt a)) (k.actors q n)
 
-  ended-counts : (w : World C) (p : ℕ) (who : Caller) (own : Line) → given_by own ≡ None → (p ≡ q → ⊥) → IsActor sys w.state p who
+  ended-counts : (w : World C) (p : ℕ) (who : Caller) (own : Line) → given_by own ≡ None → (p ≡ q → ⊥)
+      → IsActor sys w.state p who
       → Holds w.state → Counts q w.state (Did (ended_with sys M w p who own))
   ended-counts w p (caller.Task t) own e n i a =
       let g = actor_ended sys w.state p (caller.Task t) in
       let x = task_at w.state.tasks t in
       counts-finished (contexts_ended sys M w.contexts p (caller.Task t)) own w.state g e
-      (gives-none w.state p q g.lines (lines-ended_itself sys w.state p t x i.runs a)) (actors-ended_itself sys w.state p t x q n)
+      (gives-none w.state p q g.lines (lines-ended_itself sys w.state p t x i.runs a))
+      (actors-ended_itself sys w.state p t x q n)
   ended-counts w p (caller.Handler h) own e n i a =
-      counts-finished (contexts_ended sys M w.contexts p (caller.Handler h)) own w.state (actor_ended sys w.state p (caller.Handler h)) e refl
+      counts-finished (contexts_ended sys M w.contexts p (caller.Handler h)) own w.state
+      (actor_ended sys w.state p (caller.Handler h)) e refl
       (ap acting (set_other idle w.state.processors p _ q n))
 
-  stretched-counts : (w : World C) (p : ℕ) (who : Caller) (x : Ending C) → (p ≡ q → ⊥) → IsActor sys w.state p who → Holds w.state
+  stretched-counts : (w : World C) (p : ℕ) (who : Caller) (x : Ending C) → (p ≡ q → ⊥) → IsActor sys w.state p who
+      → Holds w.state
       → Counts q w.state (stretched sys M w p who x)
   stretched-counts w p who (ends.Call c made) n i a =
       called-counts (with_context w.contexts p who (Some (Awaits c))) w.state p who made n i a
@@ -395,32 +431,41 @@ module _ {C : Type 0} (sys : SystemTables) (M : Meaning C) (q : ℕ) where
   stretched-counts w p who (ends.Over None) n i a = tt
   stretched-counts w p who (ends.Over (Some c)) n i a = tt
 
-  run_in-counts : (bound : ℕ) (w : World C) (p : ℕ) (who : Caller) (o : Option (Held C)) → (p ≡ q → ⊥) → IsActor sys w.state p who
+  run_in-counts : (bound : ℕ) (w : World C) (p : ℕ) (who : Caller) (o : Option (Held C)) → (p ≡ q → ⊥)
+      → IsActor sys w.state p who
       → Holds w.state → Counts q w.state (run_in sys M bound w p who o)
   run_in-counts bound w p who None n i a = tt
   run_in-counts bound w p who (Some (Awaits c)) n i a = tt
-  run_in-counts bound w p who (Some (Goes c)) n i a = stretched-counts w p who (M.stretch (caller_body sys w.contexts p who) bound c) n i a
+  run_in-counts bound w p who (Some (Goes c)) n i a = stretched-counts w p who
+      (M.stretch (caller_body sys w.contexts p who) bound c) n i a
 
-  run_by-counts : (bound : ℕ) (w : World C) (p : ℕ) (i : Option Handler) (t : Option ℕ) → (p ≡ q → ⊥) → IsSettled sys w.state
-      → (processor_at w.state p).handler ≡ i → (processor_at w.state p).run ≡ t → Counts q w.state (run_by sys M bound w p (actor_by i t))
+  run_by-counts : (bound : ℕ) (w : World C) (p : ℕ) (i : Option Handler) (t : Option ℕ) → (p ≡ q → ⊥)
+      → IsSettled sys w.state
+      → (processor_at w.state p).handler ≡ i → (processor_at w.state p).run ≡ t
+      → Counts q w.state (run_by sys M bound w p (actor_by i t))
   run_by-counts bound w p (Some h) t n s e r =
       run_in-counts bound w p (caller.Handler h) (context_of w.contexts p (caller.Handler h)) n tt (holds sys w.state s)
   run_by-counts bound w p None (Some t) n s e r =
-      run_in-counts bound w p (caller.Task t) (context_of w.contexts p (caller.Task t)) n (acts sys w.state p t s e r) (holds sys w.state s)
+      run_in-counts bound w p (caller.Task t) (context_of w.contexts p (caller.Task t)) n (acts sys w.state p t s e r)
+      (holds sys w.state s)
   run_by-counts bound w p None None n s e r = tt
 
-  applied_in-counts : (w : World C) (p : ℕ) (who : Caller) (o : Option (Held C)) (x : Ending C) → (p ≡ q → ⊥) → IsActor sys w.state p who
+  applied_in-counts : (w : World C) (p : ℕ) (who : Caller) (o : Option (Held C)) (x : Ending C) → (p ≡ q → ⊥)
+      → IsActor sys w.state p who
       → Holds w.state → Counts q w.state (applied_in sys M w p who o x)
   applied_in-counts w p who None x n i a = tt
   applied_in-counts w p who (Some (Awaits c)) x n i a = tt
   applied_in-counts w p who (Some (Goes c)) x n i a = stretched-counts w p who x n i a
 
-  applied_by-counts : (w : World C) (p : ℕ) (i : Option Handler) (t : Option ℕ) (x : Ending C) → (p ≡ q → ⊥) → IsSettled sys w.state
-      → (processor_at w.state p).handler ≡ i → (processor_at w.state p).run ≡ t → Counts q w.state (applied_by sys M w p (actor_by i t) x)
+  applied_by-counts : (w : World C) (p : ℕ) (i : Option Handler) (t : Option ℕ) (x : Ending C) → (p ≡ q → ⊥)
+      → IsSettled sys w.state
+      → (processor_at w.state p).handler ≡ i → (processor_at w.state p).run ≡ t
+      → Counts q w.state (applied_by sys M w p (actor_by i t) x)
   applied_by-counts w p (Some h) t x n s e r =
       applied_in-counts w p (caller.Handler h) (context_of w.contexts p (caller.Handler h)) x n tt (holds sys w.state s)
   applied_by-counts w p None (Some t) x n s e r =
-      applied_in-counts w p (caller.Task t) (context_of w.contexts p (caller.Task t)) x n (acts sys w.state p t s e r) (holds sys w.state s)
+      applied_in-counts w p (caller.Task t) (context_of w.contexts p (caller.Task t)) x n (acts sys w.state p t s e r)
+      (holds sys w.state s)
   applied_by-counts w p None None x n s e r = tt
 
   interrupted_by-counts : (b : Bool) (w : World C) (i : ℕ) → Counts q w.state (interrupted_by b sys M w i)
@@ -436,7 +481,8 @@ module _ {C : Type 0} (sys : SystemTables) (M : Meaning C) (q : ℕ) where
   ran-apart p e h = let t : nat_eq p q ≡ false = e in grind (arith, nat_tests, t, h)
 
   -- an event that does not run q
-  step-counts : (bound : ℕ) (w : World C) (e : Event) → IsSettled sys w.state → is_same_task (run_place e) (Some q) ≡ false
+  step-counts : (bound : ℕ) (w : World C) (e : Event) → IsSettled sys w.state → is_same_task (run_place e) (Some q)
+      ≡ false
       → Counts q w.state (step sys M bound w e)
   step-counts bound w (Run zero) s h = tt
   step-counts bound w (Run (suc p)) s h =
@@ -447,20 +493,23 @@ module _ {C : Type 0} (sys : SystemTables) (M : Meaning C) (q : ℕ) where
   step-counts bound w (Int zero) s h = tt
   step-counts bound w (Int (suc i)) s h = interrupted-counts (interrupt_config sys i) w i
 
-ran-applied_in : {C : Type 0} (sys : SystemTables) (M : Meaning C) (w : World C) (p : ℕ) (who : Caller) (o : Option (Held C)) (x : Ending C)
+ran-applied_in : {C : Type 0} (sys : SystemTables) (M : Meaning C) (w : World C) (p : ℕ) (who : Caller)
+    (o : Option (Held C)) (x : Ending C)
     → RanOn (Some p) (applied_in sys M w p who o x)
 ran-applied_in sys M w p who None x = tt
 ran-applied_in sys M w p who (Some (Awaits c)) x = tt
 ran-applied_in sys M w p who (Some (Goes c)) x = ran-stretched sys M w p who x
 
-pub ran-applied_by : {C : Type 0} (sys : SystemTables) (M : Meaning C) (w : World C) (p : ℕ) (o : Option Caller) (x : Ending C)
+pub ran-applied_by : {C : Type 0} (sys : SystemTables) (M : Meaning C) (w : World C) (p : ℕ) (o : Option Caller)
+    (x : Ending C)
     → RanOn (Some p) (applied_by sys M w p o x)
 ran-applied_by sys M w p None x = tt
 ran-applied_by sys M w p (Some who) x = ran-applied_in sys M w p who (context_of w.contexts p who) x
 
 -- the stamps that were counted by the lines of an event that is done are those after it
 done-stamps : {C : Type 0} (old new : Done C) (r : Reaction C) (ran : Option ℕ) (was now : List ℕ) → RanOn ran r
-    → ((q : ℕ) → is_same_task ran (Some q) ≡ false → Counts q old.world.state r) → effect.Done ≡ effect_of r → new ≡ done_or old r
+    → ((q : ℕ) → is_same_task ran (Some q) ≡ false → Counts q old.world.state r) → effect.Done ≡ effect_of r → new
+    ≡ done_or old r
     → AreCounted was now ran (behind_own new.lines) → now ≡ stamped new.lines old.world.state new.world.state was
 done-stamps old new Nothing ran was now o l e h c = absurd (cc e)
 done-stamps old new (Kept p w) ran was now o l e h c = absurd (cc e)
@@ -470,19 +519,25 @@ done-stamps {C} old new (Did d) ran was now o l e h c =
     ∙ ap (λ (v : Option ℕ). stamped_by v old.world.state d.world.state was) (sym (front-names ran d.lines o))
     ∙ sym (ap (λ (x : Done C). stamped x.lines old.world.state x.world.state was) h)
 
-pub step-stamps : {C : Type 0} (sys : SystemTables) (M : Meaning C) (n : ℕ) (old new : Done C) (e : Event) (was now : List ℕ)
-    → IsSettledWorld sys old.world → effect.Done ≡ effect_of (step sys M n old.world e) → new ≡ done_or old (step sys M n old.world e)
-    → AreCounted was now (run_place e) (behind_own new.lines) → now ≡ stamped new.lines old.world.state new.world.state was
+pub step-stamps : {C : Type 0} (sys : SystemTables) (M : Meaning C) (n : ℕ) (old new : Done C) (e : Event)
+    (was now : List ℕ)
+    → IsSettledWorld sys old.world → effect.Done ≡ effect_of (step sys M n old.world e) → new
+    ≡ done_or old (step sys M n old.world e)
+    → AreCounted was now (run_place e) (behind_own new.lines) → now
+    ≡ stamped new.lines old.world.state new.world.state was
 step-stamps sys M n old new e was now s d h c =
     done-stamps old new (step sys M n old.world e) (run_place e) was now (ran-step sys M n old.world e)
     (λ q f. step-counts sys M q n old.world e s.state f) d h c
 
-pub applied-stamps : {C : Type 0} (sys : SystemTables) (M : Meaning C) (old new : Done C) (p : ℕ) (x : Ending C) (was now : List ℕ)
-    → IsSettledWorld sys old.world → effect.Done ≡ effect_of (applied_by sys M old.world p (actor_of (processor_at old.world.state p)) x)
+pub applied-stamps : {C : Type 0} (sys : SystemTables) (M : Meaning C) (old new : Done C) (p : ℕ) (x : Ending C)
+    (was now : List ℕ)
+    → IsSettledWorld sys old.world → effect.Done ≡ effect_of (applied_by sys M old.world p
+    (actor_of (processor_at old.world.state p)) x)
     → new ≡ done_or old (applied_by sys M old.world p (actor_of (processor_at old.world.state p)) x)
     → AreCounted was now (Some p) (behind_own new.lines) → now ≡ stamped new.lines old.world.state new.world.state was
 applied-stamps sys M old new p x was now s d h c =
     let who = actor_of (processor_at old.world.state p) in
     done-stamps old new (applied_by sys M old.world p who x) (Some p) was now (ran-applied_by sys M old.world p who x)
-    (λ q f. applied_by-counts sys M q old.world p (processor_at old.world.state p).handler (processor_at old.world.state p).run x
+    (λ q f. applied_by-counts sys M q old.world p (processor_at old.world.state p).handler
+    (processor_at old.world.state p).run x
     (ran-apart sys M q p f) s.state refl refl) d h c

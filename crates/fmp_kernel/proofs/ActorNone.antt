@@ -8,7 +8,8 @@ use Rattle.fmp_worlds.specs.Settled.{IsSettledWorld}
 use Rattle.fmp_worlds.specs.Stamps.{Going, actor_at, going_from}
 use Rattle.fmp_worlds.proofs.ActorLaws.{none-acts}
 
-none_stamped : {C : Type 0} (stamp : ℕ) (o : Option (Going C)) (P : Type 0) → (o ≡ None → P) → IfNone (with_stamp stamp o) P
+none_stamped : {C : Type 0} (stamp : ℕ) (o : Option (Going C)) (P : Type 0) → (o ≡ None → P)
+    → IfNone (with_stamp stamp o) P
 none_stamped stamp None P h = h refl
 none_stamped stamp (Some a) P h = tt
 

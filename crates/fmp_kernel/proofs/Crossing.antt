@@ -17,7 +17,13 @@ module _ (B C : RattleType) (g : Ghosts B.Denot C.Denot) where
   runner_send b c =
       view_send (runner.the_row B C g) _ _ _ _
       (recorded_send (runner.the_field B C g).row _ _ (runner.the_type B C g).to_one
-      (struct_send (shape (runner.the_type B C g)) (search (tables_send, contexts.the_send, line.the_send, crosses, sendable) depth 40)))
+      (struct_send (shape (runner.the_type B C g)) (search (
+        tables_send,
+        contexts.the_send,
+        line.the_send,
+        crosses,
+        sendable,
+      ) depth 40)))
 
   pub kernel_send : IsSend B → IsSend C → IsSend (Kernel.the_row B C g)
   kernel_send b c =

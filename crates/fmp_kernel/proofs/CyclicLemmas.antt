@@ -1,6 +1,7 @@
 -- Where no cyclic handler is due, none becomes pending; and where the due ones have become pending, none is due.
 use borrow.Author.Count.{below_more}
-use Rattle.std.proofs.Common.{◌≡◌, ℕ, zero, suc, ◌+◌, ◌<◌, ◌≤◌, List, [], ◌∷◌, Option, Some, None, Bool, true, false, length, nat_eq, refl, ap, ◌∙◌, arith, set, if◌then◌else◌}
+use Rattle.std.proofs.Common.{◌≡◌, ℕ, zero, suc, ◌+◌, ◌<◌, ◌≤◌, List, [], ◌∷◌, Option, Some, None, Bool, true, false}
+use Rattle.std.proofs.Common.{length, nat_eq, refl, ap, ◌∙◌, arith, set, if◌then◌else◌}
 use Rattle.std.specs.Prelude.{slice_get, is_some}
 use Rattle.std.specs.List.{AllByRecursion}
 use Rattle.std.proofs.Math.ListN.{length-set}
@@ -23,7 +24,8 @@ none-due_from now i (time ∷ times) h c = by_test (is_due now time) refl h c (n
   by_test false e k zero rest = e
   by_test false e k (suc c) rest = rest k c
 
-stays : (sys : SystemTables) (g : Progress) (c : ℕ) → first_due g.state.clock g.state.due_times ≡ None → cycled sys g c ≡ g
+stays : (sys : SystemTables) (g : Progress) (c : ℕ) → first_due g.state.clock g.state.due_times ≡ None
+    → cycled sys g c ≡ g
 stays sys g c h = rw (none-due_from g.state.clock 0 g.state.due_times h c) refl
 
 pub none_cycled : (sys : SystemTables) (g : Progress) (k n : ℕ) → first_due g.state.clock g.state.due_times ≡ None

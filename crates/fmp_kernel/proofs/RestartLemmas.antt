@@ -1,10 +1,12 @@
 -- A world whose clock begins again is alike to what it was, and settled.
-use Rattle.std.proofs.Common.{◌≡◌, ℕ, suc, ◌+◌, ◌-◌, ◌≤◌, List, [], ◌∷◌, Option, Some, None, Bool, refl, ap, ◌∙◌, sym, arith, get_or, map}
+use Rattle.std.proofs.Common.{◌≡◌, ℕ, suc, ◌+◌, ◌-◌, ◌≤◌, List, [], ◌∷◌, Option, Some, None, Bool, refl, ap, ◌∙◌, sym}
+use Rattle.std.proofs.Common.{arith, get_or, map}
 use Rattle.std.specs.Prelude.{IfSome}
 use Rattle.std.specs.List.{filter}
 use Rattle.std.proofs.Math.Path.{fun_ext}
 use Rattle.std.proofs.lemmas.List.{length-map}
-use Rattle.fmp_bisimulation.specs.Alike.{Alike, Place, ReadyAt, WaitsAt, SameBlocks, SameTime, SameTimes, standing, stands_at}
+use Rattle.fmp_bisimulation.specs.Alike.{Alike, Place, ReadyAt, WaitsAt, SameBlocks, SameTime, SameTimes, standing}
+use Rattle.fmp_bisimulation.specs.Alike.{stands_at}
 use Rattle.fmp_base.specs.declared.states.TaskBlock.{TaskBlock}
 use Rattle.fmp_base.specs.Meanings.{World}
 use Rattle.fmp_base.specs.States.{KernelState, task_at}

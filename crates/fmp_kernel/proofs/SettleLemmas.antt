@@ -1,5 +1,6 @@
 -- A processor that already runs its most urgent ready task is not changed by dispatching.
-use Rattle.std.proofs.Common.{◌≡◌, ℕ, zero, suc, List, [], ◌∷◌, ◌++◌, Option, Some, None, Bool, true, false, ◌||◌, refl, sym, ap, ◌∙◌, append-nil, length}
+use Rattle.std.proofs.Common.{◌≡◌, ℕ, zero, suc, List, [], ◌∷◌, ◌++◌, Option, Some, None, Bool, true, false, ◌||◌, refl}
+use Rattle.std.proofs.Common.{sym, ap, ◌∙◌, append-nil, length}
 use Rattle.std.specs.Prelude.{slice_get, slice_set, if◌then◌else◌}
 use Rattle.std.proofs.lemmas.Bool.{eqb-true}
 use Rattle.fmp_base.specs.declared.events.Line.{Line}
@@ -7,7 +8,8 @@ use Rattle.fmp_base.specs.declared.states.Processor.{Processor}
 use Rattle.fmp_base.specs.declared.states.Handler.{Handler}
 use Rattle.fmp_base.specs.ProcessorCalls.{is_cpu_locked}
 use Rattle.fmp_base.specs.Queues.{top}
-use Rattle.fmp_base.specs.Settles.{dispatched, dispatch_lines, is_dispatch_held, is_same_task, pending_handler, runs_handler, all_settled, settled, settled_on, settled_with}
+use Rattle.fmp_base.specs.Settles.{dispatched, dispatch_lines, is_dispatch_held, is_same_task, pending_handler}
+use Rattle.fmp_base.specs.Settles.{runs_handler, all_settled, settled, settled_on, settled_with}
 use Rattle.fmp_base.specs.States.{KernelState, Progress, idle, places_from, processor_at, with_processor}
 use Rattle.fmp_base.specs.Systems.{SystemTables, found}
 
@@ -25,12 +27,14 @@ set-found d (x ∷ xs) (suc i) = ap (λ ys. x ∷ ys) (set-found d xs i)
 pub dispatched-same : (g : Progress) (p : ℕ) (cpu : Processor) (t : Option ℕ) → cpu ≡ processor_at g.state p
     → is_same_task cpu.run t ≡ true → g ≡ dispatched g p cpu t
 dispatched-same g p cpu t h e =
-    let now : record cpu { run = t } ≡ processor_at g.state p = ap (λ (o : Option ℕ). record cpu { run = o }) (sym (same_task cpu.run t e)) ∙ h in
+    let now : record cpu { run = t } ≡ processor_at g.state p = ap (λ (o : Option ℕ). record cpu { run = o })
+    (sym (same_task cpu.run t e)) ∙ h in
     let state : with_processor g.state p (record cpu { run = t }) ≡ g.state =
     ap (λ (c : Processor). with_processor g.state p c) now
     ∙ ap (λ (cs : List Processor). record g.state { processors = cs }) (set-found idle g.state.processors p) in
     let lines : g.lines ++ dispatch_lines (is_same_task cpu.run t) p t ≡ g.lines = rw e (append-nil g.lines) in
-    sym (ap (λ (s : KernelState). after s (g.lines ++ dispatch_lines (is_same_task cpu.run t) p t)) state ∙ ap (λ (ls : List Line). after g.state ls) lines) where
+    sym (ap (λ (s : KernelState). after s (g.lines ++ dispatch_lines (is_same_task cpu.run t) p t)) state
+    ∙ ap (λ (ls : List Line). after g.state ls) lines) where
       after : KernelState → List Line → Progress
       after s ls = record { state = s; lines = ls }
 
@@ -42,9 +46,11 @@ held_by false g p cpu t h e = dispatched-same g p cpu t h e
 -- where no handler begins, whether dispatch is held or not
 pub held_same : (g : Progress) (p : ℕ) → is_same_task (processor_at g.state p).run (top g.state p) ≡ true
     → g ≡ settled_with None g p (processor_at g.state p)
-held_same g p e = held_by (is_dispatch_held (processor_at g.state p)) g p (processor_at g.state p) (top g.state p) refl e
+held_same g p e = held_by (is_dispatch_held (processor_at g.state p)) g p (processor_at g.state p)
+    (top g.state p) refl e
 
-no_handler : (b : Bool) (g : Progress) (p : ℕ) (cpu : Processor) → settled_with (if b then None else None) g p cpu ≡ settled_with None g p cpu
+no_handler : (b : Bool) (g : Progress) (p : ℕ) (cpu : Processor) → settled_with (if b then None else None) g p cpu
+    ≡ settled_with None g p cpu
 no_handler true g p cpu = refl
 no_handler false g p cpu = refl
 
@@ -52,14 +58,18 @@ no_handler false g p cpu = refl
 pub settled_none : (sys : SystemTables) (g : Progress) (p : ℕ) (cpu : Processor) → None ≡ pending_handler sys g.state p
     → settled_on sys g p cpu ≡ settled_with None g p cpu
 settled_none sys g p cpu e =
-    ap (λ (o : Option Handler). settled_with (if runs_handler cpu.handler || is_cpu_locked cpu then None else o) g p cpu) (sym e)
+    ap (λ (o : Option Handler). settled_with (if runs_handler cpu.handler || is_cpu_locked cpu then None else o) g p
+    cpu) (sym e)
     ∙ no_handler (runs_handler cpu.handler || is_cpu_locked cpu) g p cpu
 
 -- a processor with a pending handler
-pub settled_some : (sys : SystemTables) (g : Progress) (p : ℕ) (cpu : Processor) (h : Handler) → Some h ≡ pending_handler sys g.state p
-    → settled_on sys g p cpu ≡ settled_with (if runs_handler cpu.handler || is_cpu_locked cpu then None else Some h) g p cpu
+pub settled_some : (sys : SystemTables) (g : Progress) (p : ℕ) (cpu : Processor) (h : Handler) → Some h
+    ≡ pending_handler sys g.state p
+    → settled_on sys g p cpu ≡ settled_with (if runs_handler cpu.handler || is_cpu_locked cpu then None else Some h) g
+    p cpu
 settled_some sys g p cpu h e =
-    ap (λ (o : Option Handler). settled_with (if runs_handler cpu.handler || is_cpu_locked cpu then None else o) g p cpu) (sym e)
+    ap (λ (o : Option Handler). settled_with (if runs_handler cpu.handler || is_cpu_locked cpu then None else o) g p
+    cpu) (sym e)
 
 -- a processor that runs its most urgent ready task, and on which no handler is pending, is settled
 pub settled_rest : (sys : SystemTables) (g : Progress) (p : ℕ) → pending_handler sys g.state p ≡ None

@@ -1,5 +1,6 @@
 -- The stamps of a run in a list, one a processor.
-use Rattle.std.proofs.Common.{◌≡◌, ℕ, zero, suc, ◌+◌, ◌<◌, List, [], ◌∷◌, ◌++◌, Option, Some, length, map, replicate, get_or, refl, sym, subst, ap, ◌∙◌, arith}
+use Rattle.std.proofs.Common.{◌≡◌, ℕ, zero, suc, ◌+◌, ◌<◌, List, [], ◌∷◌, ◌++◌, Option, Some, length, map, replicate}
+use Rattle.std.proofs.Common.{get_or, refl, sym, subst, ap, ◌∙◌, arith}
 use Rattle.std.proofs.lemmas.List.{ext_get_or}
 use Rattle.fmp_base.specs.declared.events.Event.{Event}
 use Rattle.fmp_base.specs.Meanings.{Meaning, World}
@@ -13,9 +14,11 @@ use Rattle.fmp_kernel.specs.Stamps.{stamped, stamped_by}
 use Rattle.fmp_kernel.proofs.FrontLemmas.{Names, step_names}
 use Rattle.fmp_kernel.proofs.StampLemmas.{get-places, length-places}
 
--- the stamps of the processors after a run, counted once more for an event that ran this one, if any, and left the state
+-- the stamps of the processors after a run, counted once more for an event that ran this one, if any, and left the
+-- state
 -- u, are those after one more event
-counted-stamps : {C : Type 0} (sys : SystemTables) (M : Meaning C) (n : ℕ) (w : World C) (es : List Event) (e : Event) (ran : Option ℕ) (u : KernelState) (processors : ℕ)
+counted-stamps : {C : Type 0} (sys : SystemTables) (M : Meaning C) (n : ℕ) (w : World C) (es : List Event) (e : Event)
+    (ran : Option ℕ) (u : KernelState) (processors : ℕ)
     → ran ≡ run_place e
     → ((p : ℕ) → one_if (counts_for (run_place e) (run sys M n w es).world.state u p)
     ≡ counted e (run sys M n w es).world (step sys M n (run sys M n w es).world e) p)
@@ -41,7 +44,8 @@ counted-stamps {C} sys M n w es e ran u processors place counts =
       same : (p : ℕ) → p < processors → more p ≡ now p
       same p l =
           let z : 0 + p ≡ p = omega arith in
-          let first : get_or was p 0 ≡ stamp sys M n w es p = get-places (stamp sys M n w es) 0 processors p l ∙ ap (stamp sys M n w es) z in
+          let first : get_or was p 0 ≡ stamp sys M n w es p = get-places (stamp sys M n w es) 0 processors p l
+          ∙ ap (stamp sys M n w es) z in
           let here : one_if (counts_for ran before.state u p) ≡ counted e before (step sys M n before e) p =
           ap (λ (o : Option ℕ). one_if (counts_for o before.state u p)) place ∙ counts p in
           let all = stamp-append sys M n w es (e ∷ []) p in
@@ -57,7 +61,8 @@ counted-stamps {C} sys M n w es e ran u processors place counts =
           ∙ sym (get-places now 0 processors p inside ∙ ap now z)
 
 -- the same for an event that is done
-pub stamped-stamps : {C : Type 0} (sys : SystemTables) (M : Meaning C) (n : ℕ) (w : World C) (es : List Event) (e : Event) (d : Done C) (processors : ℕ)
+pub stamped-stamps : {C : Type 0} (sys : SystemTables) (M : Meaning C) (n : ℕ) (w : World C) (es : List Event)
+    (e : Event) (d : Done C) (processors : ℕ)
     → step sys M n (run sys M n w es).world e ≡ Did d
     → stamped d.lines (run sys M n w es).world.state d.world.state (map (stamp sys M n w es) (places_from 0 processors))
     ≡ map (stamp sys M n w (es ++ e ∷ [])) (places_from 0 processors)
@@ -68,7 +73,8 @@ stamped-stamps {C} sys M n w es e d processors did =
     (λ p. sym (ap (λ (r : Reaction C). counted e before r p) did))
 
 -- and for one that keeps a place
-pub kept-stamps : {C : Type 0} (sys : SystemTables) (M : Meaning C) (n : ℕ) (w : World C) (es : List Event) (e : Event) (q : ℕ) (v : World C) (processors : ℕ)
+pub kept-stamps : {C : Type 0} (sys : SystemTables) (M : Meaning C) (n : ℕ) (w : World C) (es : List Event)
+    (e : Event) (q : ℕ) (v : World C) (processors : ℕ)
     → step sys M n (run sys M n w es).world e ≡ Kept q v
     → stamped_by (Some q) (run sys M n w es).world.state v.state (map (stamp sys M n w es) (places_from 0 processors))
     ≡ map (stamp sys M n w (es ++ e ∷ [])) (places_from 0 processors)
@@ -87,7 +93,8 @@ stamps-none sys M n w processors = from 0 processors where
   from k (suc processors) = ap (λ (xs : List ℕ). 0 ∷ xs) (from (k + 1) processors)
 
 -- the stamp at the place of a processor
-pub stamp-at : {C : Type 0} (sys : SystemTables) (M : Meaning C) (n : ℕ) (w : World C) (es : List Event) (processors p : ℕ) → p < processors
+pub stamp-at : {C : Type 0} (sys : SystemTables) (M : Meaning C) (n : ℕ) (w : World C) (es : List Event)
+    (processors p : ℕ) → p < processors
     → get_or (map (stamp sys M n w es) (places_from 0 processors)) p 0 ≡ stamp sys M n w es p
 stamp-at sys M n w es processors p l =
     let z : 0 + p ≡ p = omega arith in get-places (stamp sys M n w es) 0 processors p l ∙ ap (stamp sys M n w es) z

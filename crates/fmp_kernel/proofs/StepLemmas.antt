@@ -9,14 +9,16 @@ use Rattle.fmp_base.specs.Stretches.{Ending}
 use Rattle.fmp_base.specs.Systems.{SystemTables}
 use Rattle.fmp_worlds.specs.Settled.{IsSettledWorld, IsWorldOf}
 use Rattle.fmp_worlds.specs.Stamps.{applied_by, applied}
-use Rattle.fmp_worlds.proofs.Awaiting.{applied-kept_world, applied-settled_world, kept-settled_world, step-settled_world}
+use Rattle.fmp_worlds.proofs.Awaiting.{applied-kept_world, applied-settled_world, kept-settled_world}
+use Rattle.fmp_worlds.proofs.Awaiting.{step-settled_world}
 use Rattle.fmp_worlds.proofs.Places.{KeptIn, applied_by-in, step-in}
 use Rattle.fmp_kernel.specs.KernelViews.{done_or}
 
 by_reaction : {C : Type 0} (sys : SystemTables) (old : Done C) (x : Reaction C) → IsSettledWorld sys old.world
     → IsWorldOf sys (done_or old x).world
     → ((d : Done C) → IsWorldOf sys d.world → x ≡ Did d → IsSettledWorld sys d.world)
-    → ((p : ℕ) (w : World C) → IsWorldOf sys w → x ≡ Kept p w → IsSettledWorld sys w) → IsSettledWorld sys (done_or old x).world
+    → ((p : ℕ) (w : World C) → IsWorldOf sys w → x ≡ Kept p w → IsSettledWorld sys w)
+    → IsSettledWorld sys (done_or old x).world
 by_reaction sys old Nothing h whole k l = h
 by_reaction sys old (Did d) h whole k l = k d whole refl
 by_reaction sys old (Kept p w) h whole k l = l p w whole refl

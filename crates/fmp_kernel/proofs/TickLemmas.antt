@@ -1,5 +1,6 @@
 -- To release the first task that is due, again and again, is to release in order of number all that are due.
-use Rattle.std.proofs.Common.{◌≡◌, ℕ, zero, suc, ◌+◌, ◌<◌, ◌≤◌, List, [], ◌∷◌, Some, None, Bool, true, false, nat_eq, nat_lt, length, map, slice_set, refl, sym, subst, ap, ◌∙◌, arith, add-zero, if◌then◌else◌}
+use Rattle.std.proofs.Common.{◌≡◌, ℕ, zero, suc, ◌+◌, ◌<◌, ◌≤◌, List, [], ◌∷◌, Some, None, Bool, true, false, nat_eq}
+use Rattle.std.proofs.Common.{nat_lt, length, map, slice_set, refl, sym, subst, ap, ◌∙◌, arith, add-zero, if◌then◌else◌}
 use Rattle.std.proofs.lemmas.Bool.{eqb-true}
 use Rattle.std.proofs.lemmas.Bool.Decides.{nat_tests}
 use Rattle.fmp_base.specs.declared.states.Phase.TheVariants.{Ready}
@@ -93,7 +94,8 @@ stay_all g k (suc m) h =
 walk_over : (g h : Progress) (t k m : ℕ) → k ≤ t → t < k + m
     → ((u : ℕ) → u < t → due_at g.state.clock g.state.tasks u ≡ false)
     → ((u : ℕ) → u < suc t → due_at h.state.clock h.state.tasks u ≡ false)
-    → timed_out g t (task_at g.state.tasks t) ≡ h → all_timed_out g (places_from k m) ≡ all_timed_out h (places_from k m)
+    → timed_out g t (task_at g.state.tasks t) ≡ h → all_timed_out g (places_from k m)
+    ≡ all_timed_out h (places_from k m)
 walk_over g h t k zero low high before after step = absurd (omega (arith, low, high))
 walk_over g h t k (suc m) low high before after step =
     by_test (nat_eq k t) refl (λ l. walk_over g h t (k + 1) m l (omega (arith, high)) before after step) where
@@ -110,7 +112,8 @@ walk_over g h t k (suc m) low high before after step =
           let less : k < t = grind (arith, nat_tests, low, e) in
           let one : timed_out g k (task_at g.state.tasks k) ≡ g = stay g k (before k less) in
           let two : timed_out h k (task_at h.state.tasks k) ≡ h = stay h k (after k (omega (arith, less))) in
-          ap (λ (x : Progress). all_timed_out x (places_from (k + 1) m)) one ∙ rest (omega (arith, less)) ∙ sym (ap (λ (x : Progress). all_timed_out x (places_from (k + 1) m)) two)
+          ap (λ (x : Progress). all_timed_out x (places_from (k + 1) m)) one ∙ rest (omega (arith, less))
+          ∙ sym (ap (λ (x : Progress). all_timed_out x (places_from (k + 1) m)) two)
 
 task_at-set_same : (tasks : List TaskBlock) (t : ℕ) (y : TaskBlock) → t < length tasks
     → task_at (slice_set tasks t y) t ≡ y
@@ -151,26 +154,34 @@ passed_at g t u f l = by_test (nat_eq u t) refl where
       → due_at g.state.clock (slice_set g.state.tasks t (released_block (task_at g.state.tasks t))) u ≡ false
   by_test true e =
       let same : u ≡ t = eqb-true u t e in
-      let now : task_at (slice_set g.state.tasks t (released_block (task_at g.state.tasks t))) u ≡ released_block (task_at g.state.tasks t) =
+      let now : task_at (slice_set g.state.tasks t (released_block (task_at g.state.tasks t))) u
+      ≡ released_block (task_at g.state.tasks t) =
       rw same (task_at-set_same g.state.tasks t (released_block (task_at g.state.tasks t)) f.there) in
       ap (λ (x : TaskBlock). is_due g.state.clock x.deadline) now
   by_test false e =
       let less : u < t = grind (arith, nat_tests, l, e) in
-      ap (λ (x : TaskBlock). is_due g.state.clock x.deadline) (task_at-set_other g.state.tasks t u (released_block (task_at g.state.tasks t)) less) ∙ f.before u less
+      ap (λ (x : TaskBlock). is_due g.state.clock x.deadline) (task_at-set_other g.state.tasks t u
+      (released_block (task_at g.state.tasks t)) less) ∙ f.before u less
 
 -- after the release of the first task that is due, none up to that one is
 passed-release : (g : Progress) (t : ℕ) → IsFirstDue g.state.clock g.state.tasks t → Passed (release_first g t) (suc t)
 passed-release g t f =
     let x = task_at g.state.tasks t in
-    let tasks : (release_first g t).state.tasks ≡ slice_set g.state.tasks t (released_block x) = tasks-released_state x.suspended g.state t (released_block x) in
-    let clock : (release_first g t).state.clock ≡ g.state.clock = clock-released_state x.suspended g.state t (released_block x) in
-    record { each = λ u l. ap (λ (now : ℕ). due_at now (release_first g t).state.tasks u) clock ∙ ap (λ (xs : List TaskBlock). due_at g.state.clock xs u) tasks ∙ passed_at g t u f l }
+    let tasks : (release_first g t).state.tasks ≡ slice_set g.state.tasks t
+    (released_block x) = tasks-released_state x.suspended g.state t (released_block x) in
+    let clock : (release_first g t).state.clock ≡ g.state.clock = clock-released_state x.suspended g.state t
+    (released_block x) in
+    record {
+      each = λ u l. ap (λ (now : ℕ). due_at now (release_first g t).state.tasks u) clock ∙ ap (λ
+          (xs : List TaskBlock). due_at g.state.clock xs u) tasks ∙ passed_at g t u f l;
+    }
 
 -- the release of the first task that is due changes nothing of what all releases come to
 pub timed-release : (g : Progress) (t n : ℕ) → IsFirstDue g.state.clock g.state.tasks t → t < n
     → all_timed_out (release_first g t) (places_from 0 n) ≡ all_timed_out g (places_from 0 n)
 timed-release g t n f l =
-    sym (walk_over g (release_first g t) t 0 n (omega arith) (omega (arith, l)) f.before (passed-release g t f).each (rw f.due refl))
+    sym (walk_over g (release_first g t) t 0 n (omega arith) (omega (arith, l)) f.before (passed-release g t f).each
+    (rw f.due refl))
 
 pub late : (g : Progress) (k t : ℕ) → Passed g k → IsFirstDue g.state.clock g.state.tasks t → k ≤ t
 late g k t passed f = by_test (nat_lt t k) refl where
@@ -189,11 +200,14 @@ passed-next g h t k passed f e =
     let after : Passed (release_first g t) (suc t) = passed-release g t f in
     subst (λ (p : Progress). Passed p (k + 1)) (sym e) (record { each = λ u l. after.each u (omega (arith, l, low)) })
 
-tick-state : (b : Bool) (s : KernelState) (t : ℕ) (y : TaskBlock) → with_clock_advanced (released_state b s t y) ≡ released_state b (with_clock_advanced s) t y
+tick-state : (b : Bool) (s : KernelState) (t : ℕ) (y : TaskBlock) → with_clock_advanced (released_state b s t y)
+    ≡ released_state b (with_clock_advanced s) t y
 tick-state true s t y = refl
 tick-state false s t y = refl
 
 -- a release before the tick is one after it
-pub tick-released : (g : Progress) (t : ℕ) (x : TaskBlock) (r : Reply) → at_tick (released g t x r) ≡ released (at_tick g) t x r
+pub tick-released : (g : Progress) (t : ℕ) (x : TaskBlock) (r : Reply) → at_tick (released g t x r)
+    ≡ released (at_tick g) t x r
 tick-released g t x r =
-    ap (λ (s : KernelState). record { state = s; lines = (released g t x r).lines }) (tick-state x.suspended g.state t (record x { phase = Ready; deadline = None }))
+    ap (λ (s : KernelState). record { state = s; lines = (released g t x r).lines })
+    (tick-state x.suspended g.state t (record x { phase = Ready; deadline = None }))

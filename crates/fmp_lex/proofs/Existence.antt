@@ -1,5 +1,7 @@
 -- Every text has a cut.
-use Rattle.std.proofs.Common.{◌≡◌, ℕ, zero, suc, pos, ◌+◌, ◌-◌, nat_le, ◌<◌, ◌≤◌, ◌⊎◌, inl, inr, ◌==◌, ◌&&◌, if◌then◌else◌, Bool, true, false, List, [], ◌∷◌, Option, Some, None, length, slice_index, slice_range, refl, sym, subst, arith}
+use Rattle.std.proofs.Common.{◌≡◌, ℕ, zero, suc, pos, ◌+◌, ◌-◌, nat_le, ◌<◌, ◌≤◌, ◌⊎◌, inl, inr, ◌==◌, ◌&&◌}
+use Rattle.std.proofs.Common.{if◌then◌else◌, Bool, true, false, List, [], ◌∷◌, Option, Some, None, length, slice_index}
+use Rattle.std.proofs.Common.{slice_range, refl, sym, subst, arith}
 use Rattle.std.proofs.lemmas.Bool.{cases_order, cases_lt}
 use Rattle.std.proofs.lemmas.List.{get_or_past}
 use Rattle.std.proofs.lemmas.Bool.Decides.{Decides-eqb}
@@ -16,7 +18,9 @@ use Rattle.fmp_lex.specs.Cutting.{Piece}
 use Rattle.fmp_lex.specs.Cutting.{Skip, Whole, Fault}
 use Rattle.fmp_base.specs.Words.{is_letter, is_digit}
 use Rattle.fmp_lex.specs.Scanning.{is_space, in_class, value_from, IsRun, Closes, IsFirstClose, NeverCloses, greatest}
-use Rattle.fmp_lex.specs.Cutting.{long_symbol, short_symbol, is_followed, number_piece, hex_piece, word_kind, word_or_name, word_piece, long_piece, symbol_piece, start_of, IsPieceOf, IsPiece, Cuts, ended, skipped, token, faulty, line_at}
+use Rattle.fmp_lex.specs.Cutting.{long_symbol, short_symbol, is_followed, number_piece, hex_piece, word_kind}
+use Rattle.fmp_lex.specs.Cutting.{word_or_name, word_piece, long_piece, symbol_piece, start_of, IsPieceOf, IsPiece}
+use Rattle.fmp_lex.specs.Cutting.{Cuts, ended, skipped, token, faulty, line_at}
 use Rattle.fmp_lex.specs.Laws.{HasOneCut}
 use Rattle.fmp_lex.proofs.Unique.{cuts_unique, piece_unique}
 
@@ -30,12 +34,26 @@ run_step test text i true e lt (j, run) =
       | inr o ↦ elim o [ inl above ↦ run.each k (omega arith) high | inr below ↦ absurd (omega arith) ]
     ] in
     (j, record { from = omega arith; within = run.within; each = first; longest = run.longest })
-run_step test text i false e lt rest =
-    (i, record { from = omega arith; within = omega arith; each = λ k low high. absurd (omega arith); longest = λ _. e })
+run_step test text i false e lt rest = (
+  i,
+  record {
+    from = omega arith;
+    within = omega arith;
+    each = λ k low high. absurd (omega arith);
+    longest = λ _. e;
+  },
+)
 
 run_of : (test : ℕ → Bool) (text : List ℕ) (fuel i : ℕ) → i + fuel ≡ length text → (j : ℕ) × IsRun test text i j
-run_of test text zero i e =
-    (i, record { from = omega arith; within = omega arith; each = λ k low high. absurd (omega arith); longest = λ lt. absurd (omega arith) })
+run_of test text zero i e = (
+  i,
+  record {
+    from = omega arith;
+    within = omega arith;
+    each = λ k low high. absurd (omega arith);
+    longest = λ lt. absurd (omega arith);
+  },
+)
 run_of test text (suc fuel) i e =
     run_step test text i (test (slice_index text i)) refl (omega arith) (run_of test text fuel (i + 1) (omega arith))
 
@@ -49,12 +67,18 @@ closes_or_not text i = elim (cases_lt (i + 1) (length text)) [
   | inr past ↦ inr (λ c. let within = c.0 in absurd (omega arith))
 ]
   where
-    both : (a b : Bool) → (slice_index text i == 42) ≡ a → (slice_index text (i + 1) == 47) ≡ b → i + 1 < length text → Closes text i ⊎ (Closes text i → ⊥)
-    both true true e f lt = inl (lt, (Decides-eqb (slice_index text i) 42).0 e, (Decides-eqb (slice_index text (i + 1)) 47).0 f)
+    both : (a b : Bool) → (slice_index text i == 42) ≡ a → (slice_index text (i + 1) == 47) ≡ b → i + 1 < length text
+        → Closes text i ⊎ (Closes text i → ⊥)
+    both true true e f lt = inl (
+      lt,
+      (Decides-eqb (slice_index text i) 42).0 e,
+      (Decides-eqb (slice_index text (i + 1)) 47).0 f,
+    )
     both true false e f lt = inr (λ c. let is = (Decides-eqb (slice_index text (i + 1)) 47).1 c.2 in cc)
     both false b e f lt = inr (λ c. let is = (Decides-eqb (slice_index text i) 42).1 c.1 in cc)
 
-close_of : (text : List ℕ) (fuel i : ℕ) → length text ≤ i + fuel → ((j : ℕ) × IsFirstClose text i j) ⊎ NeverCloses text i
+close_of : (text : List ℕ) (fuel i : ℕ) → length text ≤ i + fuel → ((j : ℕ) × IsFirstClose text i j)
+    ⊎ NeverCloses text i
 close_of text zero i e = inr (λ k low c. let within = c.0 in absurd (omega arith))
 close_of text (suc fuel) i e = elim (closes_or_not text i) [
   | inl here ↦ inl (i, record { from = omega arith; closes = here; first = λ k low high c. absurd (omega arith) })
@@ -81,8 +105,10 @@ close_of text (suc fuel) i e = elim (closes_or_not text i) [
 
 -- `0x` begins two bytes
 fifth : (a b c d e f g : Bool) →
-    (if a then start.Space else (if b then start.LineComment else (if c then start.BlockComment else (if d then start.Word
-    else (if e then start.Hex else (if f then start.Zero else (if g then start.Decimal else start.Other))))))) ≡ start.Hex → e ≡ true
+    (if a then start.Space else (if b then start.LineComment else (if c then start.BlockComment else
+    (if d then start.Word
+    else (if e then start.Hex else (if f then start.Zero else (if g then start.Decimal else start.Other)))))))
+    ≡ start.Hex → e ≡ true
 fifth true b c d e f g h = cc
 fifth false true c d e f g h = cc
 fifth false false true d e f g h = cc
@@ -96,12 +122,14 @@ second : (a b : Bool) → (a && b) ≡ true → b ≡ true
 second true b e = e
 second false b e = cc
 
-hex_inside : (text : List ℕ) (i : ℕ) → start_of (slice_index text i) (slice_index text (i + 1)) ≡ start.Hex → i + 2 ≤ length text
+hex_inside : (text : List ℕ) (i : ℕ) → start_of (slice_index text i) (slice_index text (i + 1)) ≡ start.Hex → i
+    + 2 ≤ length text
 hex_inside text i e =
     let b = slice_index text i in
     let c = slice_index text (i + 1) in
     let x : (c == 120) ≡ true = second (b == 48) (c == 120)
-    (fifth (is_space b) ((b == 47) && (c == 47)) ((b == 47) && (c == 42)) (is_letter b) ((b == 48) && (c == 120)) (b == 48) (is_digit b) e) in
+    (fifth (is_space b) ((b == 47) && (c == 47)) ((b == 47) && (c == 42)) (is_letter b) ((b == 48) && (c == 120))
+    (b == 48) (is_digit b) e) in
     elim (cases_lt (i + 1) (length text)) [
       | inl lt ↦ omega arith
       | inr past ↦
@@ -119,7 +147,8 @@ GoesOn i (Fault f) = Unit {0}
 number_on : (text : List ℕ) (i j : ℕ) (fits : Bool) (n : ℕ) → i < j → GoesOn i (number_piece text j fits n)
 number_on text i j fits n lt = by_tests (is_followed text j) (fits && nat_le n greatest)
   where
-    by_tests : (a b : Bool) → GoesOn i (if a then Fault Syntax else (if b then Whole (kind.Number (pos n)) j else Fault Limit))
+    by_tests : (a b : Bool) → GoesOn i (if a then Fault Syntax else (if b then Whole
+        (kind.Number (pos n)) j else Fault Limit))
     by_tests true b = tt
     by_tests false true = lt
     by_tests false false = tt
@@ -127,7 +156,8 @@ number_on text i j fits n lt = by_tests (is_followed text j) (fits && nat_le n g
 hex_on : (text : List ℕ) (i k j : ℕ) → i < j → GoesOn i (hex_piece text k j)
 hex_on text i k j lt = by_test (j == k)
   where
-    by_test : (a : Bool) → GoesOn i (if a then Fault Syntax else number_piece text j (nat_le (j - k) 8) (value_from 16 0 (slice_range text k j)))
+    by_test : (a : Bool) → GoesOn i (if a then Fault Syntax else number_piece text j (nat_le (j - k) 8)
+        (value_from 16 0 (slice_range text k j)))
     by_test true = tt
     by_test false = number_on text i j (nat_le (j - k) 8) (value_from 16 0 (slice_range text k j)) lt
 
@@ -166,7 +196,12 @@ piece_of text i start.Word lt inside =
     let from : i + 1 ≤ j = run.from in
     let bytes = slice_range text i j in
     (word_piece bytes j, (j, run, refl), word_on bytes i j (word_kind bytes) (omega arith))
-piece_of text i start.Zero lt inside = (number_piece text (i + 1) true 0, refl, number_on text i (i + 1) true 0 (omega arith))
+piece_of text i start.Zero lt inside = (
+  number_piece text (i + 1) true 0,
+  refl,
+  number_on text i (i + 1) true 0
+      (omega arith),
+)
 piece_of text i start.Hex lt inside =
     let (j, run) = run_at (in_class class.Hex) text (i + 2) (inside refl) in
     let from : i + 2 ≤ j = run.from in
@@ -210,4 +245,5 @@ cut_from text (suc fuel) i e = elim (cases_lt i (length text)) [
 ]
 
 pub one_cut : (text : List ℕ) → HasOneCut text
-one_cut text = let (ts, cut) = cut_from text (length text) 0 (omega arith) in (ts, cut, λ us other. cuts_unique text 0 us ts other cut)
+one_cut text = let (ts, cut) = cut_from text (length text) 0 (omega arith) in
+    (ts, cut, λ us other. cuts_unique text 0 us ts other cut)

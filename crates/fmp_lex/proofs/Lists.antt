@@ -1,5 +1,6 @@
 -- Lists that have a front in common.
-use Rattle.std.proofs.Common.{◌≡◌, ℕ, zero, suc, ◌+◌, ◌<◌, ◌≤◌, List, [], ◌∷◌, ◌++◌, length, slice_get, take, Some, refl, sym, ◌∙◌, arith, length-append, length-take}
+use Rattle.std.proofs.Common.{◌≡◌, ℕ, zero, suc, ◌+◌, ◌<◌, ◌≤◌, List, [], ◌∷◌, ◌++◌, length, slice_get, take, Some}
+use Rattle.std.proofs.Common.{refl, sym, ◌∙◌, arith, length-append, length-take}
 use Rattle.fmp_lex.specs.declared.token.TokenKind.{TokenKind}
 use Rattle.fmp_lex.specs.Reading.{Same}
 
@@ -14,13 +15,15 @@ get_front [] ys k lt = absurd (omega arith)
 get_front (x ∷ xs) ys zero lt = refl
 get_front (x ∷ xs) ys (suc k) lt = get_front xs ys k (omega arith)
 
-pub get_seam : (xs : List TokenKind) (y : TokenKind) (ys : List TokenKind) → slice_get (xs ++ y ∷ ys) (length xs) ≡ Some y
+pub get_seam : (xs : List TokenKind) (y : TokenKind) (ys : List TokenKind) → slice_get (xs ++ y ∷ ys) (length xs)
+    ≡ Some y
 get_seam [] y ys = refl
 get_seam (x ∷ xs) y ys = get_seam xs y ys
 
 -- the first n tokens, and then others
 pub same_take : (ts more : List TokenKind) (n : ℕ) → n ≤ length ts → Same n ts (take n ts ++ more)
-same_take ts more n le = λ k lt. let short : k < length (take n ts) = simp length-take (omega arith) in sym (get_front (take n ts) more k short ∙ get_take ts n k lt)
+same_take ts more n le = λ k lt. let short : k < length (take n ts) = simp length-take (omega arith) in sym
+    (get_front (take n ts) more k short ∙ get_take ts n k lt)
 
 pub take_long : (ts : List TokenKind) (n : ℕ) → n ≤ length ts → length (take n ts) ≡ n
 take_long ts n le = simp length-take (omega arith)

@@ -1,5 +1,6 @@
 -- The words are read by their names.
-use Rattle.std.proofs.Common.{◌≡◌, ℕ, List, [], ◌∷◌, Bool, true, false, Option, Some, None, option_map, find, cond, refl, sym, subst}
+use Rattle.std.proofs.Common.{◌≡◌, ℕ, List, [], ◌∷◌, Bool, true, false, Option, Some, None, option_map, find, cond}
+use Rattle.std.proofs.Common.{refl, sym, subst}
 use Rattle.std.specs.Option.{option_or}
 use Rattle.std.specs.Str.{bytes_eq}
 use Rattle.std.proofs.lemmas.Slice.Eq.{bytes_eq-Decides}
@@ -17,7 +18,8 @@ use Rattle.fmp_base.specs.declared.words.TheConstants.{CONSTANTS, APIS, KEYWORDS
 use Rattle.fmp_base.specs.declared.services.TheConstants.{SERVICES}
 use Rattle.fmp_lex.specs.declared.token.TokenKind.{TokenKind}
 use Rattle.fmp_lex.specs.declared.token.TokenKind.TheVariants as kind
-use Rattle.fmp_base.specs.Words.{constant_name, api_name, keyword_name, constant_named, api_named, service_named, keyword_named}
+use Rattle.fmp_base.specs.Words.{constant_name, api_name, keyword_name, constant_named, api_named, service_named}
+use Rattle.fmp_base.specs.Words.{keyword_named}
 use Rattle.fmp_lex.specs.Cutting.{word_kind}
 use Rattle.fmp_lex.specs.Laws.{IsWord, ReadsWords}
 
@@ -88,7 +90,8 @@ keyword_read keyword.Continue = refl
 keyword_read keyword.Return = refl
 
 -- what a look-up by name finds has that name
-found_step : {X : Type 0} (name : X → List ℕ) (word : List ℕ) (x y : X) (b : Bool) (rest : Option X) → bytes_eq (name y) word ≡ b →
+found_step : {X : Type 0} (name : X → List ℕ) (word : List ℕ) (x y : X) (b : Bool) (rest : Option X)
+    → bytes_eq (name y) word ≡ b →
     (rest ≡ Some x → word ≡ name x) → cond b (Some y) rest ≡ Some x → word ≡ name x
 found_step name word x y true rest same later e =
     let it : y ≡ x = cc in
@@ -96,20 +99,26 @@ found_step name word x y true rest same later e =
     subst (λ z. word ≡ name z) it (sym equal)
 found_step name word x y false rest same later e = later e
 
-pub found_named : {X : Type 0} (name : X → List ℕ) (word : List ℕ) (x : X) (xs : List X) → find (λ y. bytes_eq (name y) word) xs ≡ Some x → word ≡ name x
+pub found_named : {X : Type 0} (name : X → List ℕ) (word : List ℕ) (x : X) (xs : List X)
+    → find (λ y. bytes_eq (name y) word) xs ≡ Some x → word ≡ name x
 found_named name word x [] e = cc
 found_named name word x (y ∷ ys) e =
-    found_step name word x y (bytes_eq (name y) word) (find (λ z. bytes_eq (name z) word) ys) refl (found_named name word x ys) e
+    found_step name word x y (bytes_eq (name y) word) (find (λ z. bytes_eq (name z) word) ys) refl
+    (found_named name word x ys) e
 
-chosen : (word : List ℕ) (k : TokenKind) (a : Option Constant) (b : Option Api) (c : Option Service) (d : Option Keyword) →
+chosen : (word : List ℕ) (k : TokenKind) (a : Option Constant) (b : Option Api) (c : Option Service)
+    (d : Option Keyword) →
     ((x : Constant) → a ≡ Some x → word ≡ constant_name x) → ((x : Api) → b ≡ Some x → word ≡ api_name x) →
     ((x : Service) → c ≡ Some x → word ≡ service_name x) → ((x : Keyword) → d ≡ Some x → word ≡ keyword_name x) →
-    option_or (option_map kind.Constant a) (option_or (option_map kind.Api b) (option_or (option_map kind.Service c) (option_map kind.Keyword d))) ≡ Some k →
+    option_or (option_map kind.Constant a) (option_or (option_map kind.Api b)
+    (option_or (option_map kind.Service c) (option_map kind.Keyword d))) ≡ Some k →
     IsWord word k
 chosen word k (Some x) b c d f g h i e = let it : kind.Constant x ≡ k = cc in subst (λ z. IsWord word z) it (f x refl)
 chosen word k None (Some x) c d f g h i e = let it : kind.Api x ≡ k = cc in subst (λ z. IsWord word z) it (g x refl)
-chosen word k None None (Some x) d f g h i e = let it : kind.Service x ≡ k = cc in subst (λ z. IsWord word z) it (h x refl)
-chosen word k None None None (Some x) f g h i e = let it : kind.Keyword x ≡ k = cc in subst (λ z. IsWord word z) it (i x refl)
+chosen word k None None (Some x) d f g h i e = let it : kind.Service x
+    ≡ k = cc in subst (λ z. IsWord word z) it (h x refl)
+chosen word k None None None (Some x) f g h i e = let it : kind.Keyword x
+    ≡ k = cc in subst (λ z. IsWord word z) it (i x refl)
 chosen word k None None None None f g h i e = cc
 
 read_is_word : (word : List ℕ) (k : TokenKind) → word_kind word ≡ Some k → IsWord word k

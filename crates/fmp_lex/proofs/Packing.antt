@@ -1,5 +1,6 @@
 -- Packed tokens.
-use Rattle.std.proofs.Common.{◌≡◌, ℕ, zero, suc, ◌+◌, ◌<◌, ◌≤◌, List, [], ◌∷◌, ◌++◌, length, length-append, map, replicate, slice_get, get_or, Some, None, option_map, inl, inr, refl, sym, ap, ◌∙◌, arith}
+use Rattle.std.proofs.Common.{◌≡◌, ℕ, zero, suc, ◌+◌, ◌<◌, ◌≤◌, List, [], ◌∷◌, ◌++◌, length, length-append, map}
+use Rattle.std.proofs.Common.{replicate, slice_get, get_or, Some, None, option_map, inl, inr, refl, sym, ap, ◌∙◌, arith}
 use Rattle.std.specs.List.{All}
 use Rattle.std.proofs.lemmas.List.{map-append, length-map, length-replicate}
 use Rattle.std.proofs.lemmas.List.Elements.{All-append}
@@ -20,7 +21,13 @@ use Rattle.fmp_lex.specs.Reading.{kind_of, kinds_of}
 pub packed_kind : (text : List ℕ) (ps : List Packed) (k : ℕ) (d p : Packed) → k < length ps → p ≡ get_or ps k d →
     Some (kind_in text p.shape) ≡ slice_get (kinds_of (map (whole_in text) ps)) k
 packed_kind text ps k d p lt is =
-    rw (slice_get-map kind_of (map (whole_in text) ps) k, slice_get-map (whole_in text) ps k, slice_get-get_or ps k d lt, ← is) refl
+    rw (
+      slice_get-map kind_of (map (whole_in text) ps) k,
+      slice_get-map
+          (whole_in text) ps k,
+      slice_get-get_or ps k d lt,
+      ← is,
+    ) refl
 
 -- a token more
 pub one_packed : (text : List ℕ) (before after : List Packed) (p : Packed) (t : Token) → after ≡ before ++ p ∷ [] →
@@ -35,9 +42,11 @@ all_one : {X : Type 0} (P : X → Type 0) (x : X) → P x → All P (x ∷ [])
 all_one P x one zero d lt = one
 all_one P x one (suc k) d lt = absurd (omega arith)
 
-pub all_packed : (text : List ℕ) (before after : List Packed) (p : Packed) → after ≡ before ++ p ∷ [] → All (IsPacked text) before →
+pub all_packed : (text : List ℕ) (before after : List Packed) (p : Packed) → after ≡ before ++ p ∷ []
+    → All (IsPacked text) before →
     IsPacked text p → All (IsPacked text) after
-all_packed text before after p pushed all one = rw pushed (All-append (IsPacked text) before (p ∷ []) all (all_one (IsPacked text) p one))
+all_packed text before after p pushed all one = rw pushed (All-append (IsPacked text) before (p ∷ []) all
+    (all_one (IsPacked text) p one))
 
 -- the token of a shape and two places
 pub packed_whole : (text : List ℕ) (p : Packed) (s : TokenShape) (i j : ℕ) → p.shape ≡ s → p.start ≡ i →
@@ -45,13 +54,15 @@ pub packed_whole : (text : List ℕ) (p : Packed) (s : TokenShape) (i j : ℕ) �
 packed_whole text p s i j a b c = rw (a, b, c) refl
 
 -- it is packed where it is a piece of the text
-pub is_packed : (text : List ℕ) (p : Packed) (s : TokenShape) (i : ℕ) (q : Piece) → p.shape ≡ s → p.start ≡ i → p.end.value ≡ end_after i q →
+pub is_packed : (text : List ℕ) (p : Packed) (s : TokenShape) (i : ℕ) (q : Piece) → p.shape ≡ s → p.start ≡ i
+    → p.end.value ≡ end_after i q →
     Stands text s → i < length text → IsPiece text i q → IsPacked text p
 is_packed text p s i q a b c stands lt is =
     (rw a stands, rw b lt, (q, rw b is, rw b c))
 
 -- a token of a list
-pub one_of_all : (text : List ℕ) (ps : List Packed) (k : ℕ) (d p : Packed) → All (IsPacked text) ps → k < length ps → p ≡ get_or ps k d →
+pub one_of_all : (text : List ℕ) (ps : List Packed) (k : ℕ) (d p : Packed) → All (IsPacked text) ps → k < length ps
+    → p ≡ get_or ps k d →
     IsPacked text p
 one_of_all text ps k d p all lt is = rw is (all k d lt)
 
@@ -60,9 +71,11 @@ place_is : (place : Place) (line start end : ℕ) → place.line ≡ line → pl
 place_is place line start end a b c = rw (← a, ← b, ← c) refl
 
 -- where it stands
-pub packed_place : (text : List ℕ) (ps : List Packed) (k : ℕ) (d p : Packed) (place : Place) → k < length ps → p ≡ get_or ps k d →
+pub packed_place : (text : List ℕ) (ps : List Packed) (k : ℕ) (d p : Packed) (place : Place) → k < length ps → p
+    ≡ get_or ps k d →
     IsPacked text p → place.line ≡ line_at text p.start → place.start ≡ p.start →
-    ((q : Piece) → IsPiece text p.start q → place.end ≡ end_after p.start q) → Some place ≡ option_map place_of (slice_get (map (whole_in text) ps) k)
+    ((q : Piece) → IsPiece text p.start q → place.end ≡ end_after p.start q) → Some place
+    ≡ option_map place_of (slice_get (map (whole_in text) ps) k)
 packed_place text ps k d p place lt is packed line start end =
     let q = packed.2 in
     let same = place_is place (line_at text p.start) p.start p.end.value line start (end q.0 q.1 ∙ sym q.2) in

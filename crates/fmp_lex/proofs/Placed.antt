@@ -1,5 +1,6 @@
 -- Every constant, static API and service stands at its place of a table.
-use Rattle.std.proofs.Common.{◌≡◌, ℕ, ◌+◌, ◌-◌, ◌*◌, ◌%◌, List, Option, Some, None, length, slice_index_or, refl, sym, subst}
+use Rattle.std.proofs.Common.{◌≡◌, ℕ, ◌+◌, ◌-◌, ◌*◌, ◌%◌, List, Option, Some, None, length, slice_index_or, refl, sym}
+use Rattle.std.proofs.Common.{subst}
 use Rattle.std.specs.Prelude.{slice_get}
 use Rattle.fmp_base.specs.declared.codes.Er.TheVariants as er
 use Rattle.fmp_base.specs.declared.services.Service.{Service}
@@ -83,16 +84,20 @@ other_found may (Some x) name word y stands is e not =
     let same : x ≡ y = cc in
     absurd (not (subst (λ z. word ≡ name z) same (is x refl)))
 
-pub no_constant : (word : List ℕ) (may : Option Constant) → ((x : Constant) → word ≡ constant_name x → may ≡ Some x) → may ≡ None →
+pub no_constant : (word : List ℕ) (may : Option Constant) → ((x : Constant) → word ≡ constant_name x → may ≡ Some x)
+    → may ≡ None →
     None ≡ constant_named word
 unfolding constant_named
-no_constant word may stands e = none_found may (constant_named word) constant_name word stands (λ x. found_named constant_name word x CONSTANTS) e
+no_constant word may stands e = none_found may (constant_named word) constant_name word stands
+    (λ x. found_named constant_name word x CONSTANTS) e
 
-pub other_constant : (word : List ℕ) (may : Option Constant) (y : Constant) → ((x : Constant) → word ≡ constant_name x → may ≡ Some x) →
+pub other_constant : (word : List ℕ) (may : Option Constant) (y : Constant)
+    → ((x : Constant) → word ≡ constant_name x → may ≡ Some x) →
     may ≡ Some y → (word ≡ constant_name y → ⊥) → None ≡ constant_named word
 unfolding constant_named
 other_constant word may y stands e not =
-    other_found may (constant_named word) constant_name word y stands (λ x. found_named constant_name word x CONSTANTS) e not
+    other_found may (constant_named word) constant_name word y stands (λ x. found_named constant_name word x
+    CONSTANTS) e not
 
 pub this_constant : (word : List ℕ) (y : Constant) → word ≡ constant_name y → Some y ≡ constant_named word
 this_constant word y e = rw e (sym (constant_found y))
@@ -100,7 +105,8 @@ this_constant word y e = rw e (sym (constant_found y))
 pub no_api : (word : List ℕ) (may : Option Api) → ((x : Api) → word ≡ api_name x → may ≡ Some x) → may ≡ None →
     None ≡ api_named word
 unfolding api_named
-no_api word may stands e = none_found may (api_named word) api_name word stands (λ x. found_named api_name word x APIS) e
+no_api word may stands e = none_found may (api_named word) api_name word stands
+    (λ x. found_named api_name word x APIS) e
 
 pub other_api : (word : List ℕ) (may : Option Api) (y : Api) → ((x : Api) → word ≡ api_name x → may ≡ Some x) →
     may ≡ Some y → (word ≡ api_name y → ⊥) → None ≡ api_named word
@@ -111,16 +117,20 @@ other_api word may y stands e not =
 pub this_api : (word : List ℕ) (y : Api) → word ≡ api_name y → Some y ≡ api_named word
 this_api word y e = rw e (sym (api_found y))
 
-pub no_service : (word : List ℕ) (may : Option Service) → ((x : Service) → word ≡ service_name x → may ≡ Some x) → may ≡ None →
+pub no_service : (word : List ℕ) (may : Option Service) → ((x : Service) → word ≡ service_name x → may ≡ Some x) → may
+    ≡ None →
     None ≡ service_named word
 unfolding service_named
-no_service word may stands e = none_found may (service_named word) service_name word stands (λ x. found_named service_name word x SERVICES) e
+no_service word may stands e = none_found may (service_named word) service_name word stands
+    (λ x. found_named service_name word x SERVICES) e
 
-pub other_service : (word : List ℕ) (may : Option Service) (y : Service) → ((x : Service) → word ≡ service_name x → may ≡ Some x) →
+pub other_service : (word : List ℕ) (may : Option Service) (y : Service)
+    → ((x : Service) → word ≡ service_name x → may ≡ Some x) →
     may ≡ Some y → (word ≡ service_name y → ⊥) → None ≡ service_named word
 unfolding service_named
 other_service word may y stands e not =
-    other_found may (service_named word) service_name word y stands (λ x. found_named service_name word x SERVICES) e not
+    other_found may (service_named word) service_name word y stands (λ x. found_named service_name word x SERVICES) e
+    not
 
 pub this_service : (word : List ℕ) (y : Service) → word ≡ service_name y → Some y ≡ service_named word
 this_service word y e = rw e (sym (service_found y))

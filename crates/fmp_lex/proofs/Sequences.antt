@@ -1,10 +1,12 @@
 -- Readings one after another, and readings of one token.
-use Rattle.std.proofs.Common.{◌≡◌, ℕ, ◌+◌, ◌<◌, ◌≤◌, List, [], ◌∷◌, ◌++◌, length, slice_get, take, Option, Some, option_and_then, refl, sym, ap, ap₂, subst, ◌∙◌, arith, length-append}
+use Rattle.std.proofs.Common.{◌≡◌, ℕ, ◌+◌, ◌<◌, ◌≤◌, List, [], ◌∷◌, ◌++◌, length, slice_get, take, Option, Some}
+use Rattle.std.proofs.Common.{option_and_then, refl, sym, ap, ap₂, subst, ◌∙◌, arith, length-append}
 use Rattle.std.proofs.lemmas.Option.{slice_get_within}
 use Rattle.fmp_lex.specs.declared.token.TokenKind.{TokenKind}
 use Rattle.fmp_lex.specs.declared.reading.GrammarFault.{GrammarFault}
 use Rattle.fmp_lex.specs.declared.reading.GrammarFault.TheVariants.{Syntax, Depth}
-use Rattle.fmp_lex.specs.Reading.{Rel, At, Seq, OneToken, Item, Opening, IsItem, Same, ParseResult, found, stopped, place, map_result, covered, Right, Anywhere}
+use Rattle.fmp_lex.specs.Reading.{Rel, At, Seq, OneToken, Item, Opening, IsItem, Same, ParseResult, found, stopped}
+use Rattle.fmp_lex.specs.Reading.{place, map_result, covered, Right, Anywhere}
 use Rattle.fmp_lex.proofs.Lists.{get_take, same_take, take_long, same_self, one_longer, get_seam}
 
 -- fewer tokens are the same too
@@ -34,7 +36,8 @@ at_least_covered j Depth = omega arith
 -- a reading depends on the tokens that it takes alone
 pub record Framed {A : Type 0} (X : Rel A) : Type 0 where
   pub up : (us : List TokenKind) (limit i : ℕ) (a : A) (j : ℕ) → X us limit i a j → i ≤ j
-  pub same : (ts us : List TokenKind) (limit lower i : ℕ) (a : A) (j : ℕ) → lower ≤ limit → X ts limit i a j → Between i j ts us → X us lower i a j
+  pub same : (ts us : List TokenKind) (limit lower i : ℕ) (a : A) (j : ℕ) → lower ≤ limit → X ts limit i a j
+      → Between i j ts us → X us lower i a j
 
 -- something can be read at the end of any list, by more tokens
 pub record Filled {A : Type 0} (X : Rel A) (us : List TokenKind) (limit : ℕ) : Type 0 where
@@ -63,7 +66,12 @@ token_framed t = record {
 pub opening_framed : (t : TokenKind) (d : ℕ) → Framed (Opening t d)
 opening_framed t d = record {
   up = λ us limit i a j x. omega (arith, x.2);
-  same = λ ts us limit lower i a j low x same. (sym (same i (omega arith) (omega (arith, x.2))) ∙ x.0, (λ lt. x.1 (omega arith)), x.2);
+  same = λ ts us limit lower i a j low x same. (
+    sym (same i (omega arith) (omega (arith, x.2)))
+        ∙ x.0,
+    (λ lt. x.1 (omega arith)),
+    x.2,
+  );
 }
 
 pub token_fills : (t : TokenKind) → Fills (OneToken t)
@@ -87,7 +95,8 @@ opening_fills t d us limit low = record {
 module _ {A B : Type 0} (X : Rel A) (Y : Rel B) where
   pub seq_framed : Framed X → Framed Y → Framed (Seq X Y)
   seq_framed fx fy = record {
-    up = λ us limit i a j s. let le = fx.up us limit i a.0 s.0 s.1 in let more = fy.up us limit s.0 a.1 j s.2 in omega arith;
+    up = λ us limit i a j s. let le = fx.up us limit i a.0 s.0 s.1 in let more = fy.up us limit s.0 a.1 j s.2 in omega
+        arith;
     same = λ ts us limit lower i a j low s same.
         let le = fx.up ts limit i a.0 s.0 s.1 in
         let more = fy.up ts limit s.0 a.1 j s.2 in (
@@ -117,42 +126,49 @@ module _ {A B : Type 0} (X : Rel A) (Y : Rel B) where
       }
 
   -- an X, and then the outcome of a Y
-  pub seq_then : {EndX EndY : List TokenKind → ℕ → Type 0} {ts : List TokenKind} {i k : ℕ} {a : A} → Framed X → Follows EndX Y EndY → Right (At X i) EndX ts i (found a k) →
-      (o : ParseResult B) → Right (At Y k) EndY ts k o → Right (At (Seq X Y) i) EndY ts i (map_result (λ (b : B). (a, b)) o)
-  seq_then {ts = ts} {i = i} {k = k} {a = a} fx follow x (found b j) y = let le = x.from in let more = y.from in record {
-    from = omega arith;
-    within = y.within;
-    reads = λ limit. (k, x.reads limit, y.reads limit);
-    decides = λ us limit p j' same low r ends.
-        let one = x.decides us limit p.0 r.0 (fewer (k + 1) (j + 1) ts us (omega arith) same) (omega arith) r.1 (follow us limit r.0 p.1 j' r.2 ends) in
-        let two = y.decides us limit p.1 j' same low (subst (λ n. Y us limit n p.1 j') one.1 r.2) ends in
-        (pair_is p a b one.0 two.0, two.1);
-  }
-  seq_then {ts = ts} {i = i} {k = k} {a = a} fx follow x (stopped j why) y = let le = x.from in let more = y.from in record {
-    from = omega arith;
-    within = y.within;
-    reads =
-        let c = y.reads in
-        let at_least = at_least_covered j why in
-        record {
-          other = c.other;
-          same = c.same;
-          long = c.long;
-          tree = (a, c.tree);
-          reads = (
-            k,
-            fx.same ts c.other j j i a k (omega arith) (x.reads j)
-                (same_between i k ts c.other (fewer k (covered j why) ts c.other (omega arith) c.same)),
-            c.reads,
-          );
-        };
-    decides = λ us limit p j' same low r ends.
-        let one = x.decides us limit p.0 r.0 (fewer (k + 1) (j + 1) ts us (omega arith) same) (omega arith) r.1 (follow us limit r.0 p.1 j' r.2 ends) in
-        y.decides us limit p.1 j' same low (subst (λ n. Y us limit n p.1 j') one.1 r.2) ends;
-  }
+  pub seq_then : {EndX EndY : List TokenKind → ℕ → Type 0} {ts : List TokenKind} {i k : ℕ} {a : A} → Framed X
+      → Follows EndX Y EndY → Right (At X i) EndX ts i (found a k) →
+      (o : ParseResult B) → Right (At Y k) EndY ts k o → Right (At (Seq X Y) i) EndY ts i
+      (map_result (λ (b : B). (a, b)) o)
+  seq_then {ts = ts} {i = i} {k = k} {a = a} fx follow x (found b j) y = let le = x.from in let more = y.from in
+      record {
+        from = omega arith;
+        within = y.within;
+        reads = λ limit. (k, x.reads limit, y.reads limit);
+        decides = λ us limit p j' same low r ends.
+            let one = x.decides us limit p.0 r.0 (fewer (k + 1) (j + 1) ts us (omega arith) same) (omega arith) r.1
+            (follow us limit r.0 p.1 j' r.2 ends) in
+            let two = y.decides us limit p.1 j' same low (subst (λ n. Y us limit n p.1 j') one.1 r.2) ends in
+            (pair_is p a b one.0 two.0, two.1);
+      }
+  seq_then {ts = ts} {i = i} {k = k} {a = a} fx follow x (stopped j why) y = let le = x.from in let more = y.from in
+      record {
+        from = omega arith;
+        within = y.within;
+        reads =
+            let c = y.reads in
+            let at_least = at_least_covered j why in
+            record {
+              other = c.other;
+              same = c.same;
+              long = c.long;
+              tree = (a, c.tree);
+              reads = (
+                k,
+                fx.same ts c.other j j i a k (omega arith) (x.reads j)
+                    (same_between i k ts c.other (fewer k (covered j why) ts c.other (omega arith) c.same)),
+                c.reads,
+              );
+            };
+        decides = λ us limit p j' same low r ends.
+            let one = x.decides us limit p.0 r.0 (fewer (k + 1) (j + 1) ts us (omega arith) same) (omega arith) r.1
+            (follow us limit r.0 p.1 j' r.2 ends) in
+            y.decides us limit p.1 j' same low (subst (λ n. Y us limit n p.1 j') one.1 r.2) ends;
+      }
 
   -- a fault in the X
-  pub seq_stop : {EndX EndY : List TokenKind → ℕ → Type 0} {ts : List TokenKind} {i j : ℕ} {why : GrammarFault} → Framed X → Fills Y → Follows EndX Y EndY →
+  pub seq_stop : {EndX EndY : List TokenKind → ℕ → Type 0} {ts : List TokenKind} {i j : ℕ} {why : GrammarFault}
+      → Framed X → Fills Y → Follows EndX Y EndY →
       Right (At X i) EndX ts i (stopped j why) → Right (At (Seq X Y) i) EndY ts i (stopped j why)
   seq_stop {ts = ts} {i = i} {j = j} {why = why} fx gy follow x = record {
     from = x.from;
@@ -175,14 +191,16 @@ module _ {A B : Type 0} (X : Rel A) (Y : Rel B) where
             y.reads,
           );
         };
-    decides = λ us limit p j' same low r ends. x.decides us limit p.0 r.0 same low r.1 (follow us limit r.0 p.1 j' r.2 ends);
+    decides = λ us limit p j' same low r ends. x.decides us limit p.0 r.0 same low r.1
+        (follow us limit r.0 p.1 j' r.2 ends);
   }
 
 -- one relation by way of another, which the first token chooses
 module _ {A B : Type 0} (X : Rel A) (Z : Rel B) (f : A → B) where
   pub right_by : {EndX EndZ : List TokenKind → ℕ → Type 0} {ts : List TokenKind} {i : ℕ} (o : ParseResult A) →
       ((us : List TokenKind) (limit : ℕ) (a : A) (j : ℕ) → X us limit i a j → Z us limit i (f a) j) →
-      ((us : List TokenKind) (limit : ℕ) (e : B) (j : ℕ) → Same (place o + 1) ts us → Z us limit i e j → EndZ us j → (a : A) × (e ≡ f a) × X us limit i a j × EndX us j) →
+      ((us : List TokenKind) (limit : ℕ) (e : B) (j : ℕ) → Same (place o + 1) ts us → Z us limit i e j → EndZ us j
+      → (a : A) × (e ≡ f a) × X us limit i a j × EndX us j) →
       Right (At X i) EndX ts i o → Right (At Z i) EndZ ts i (map_result f o)
   right_by {ts = ts} {i = i} (found a j) to back x = record {
     from = x.from;
@@ -196,7 +214,13 @@ module _ {A B : Type 0} (X : Rel A) (Z : Rel B) (f : A → B) where
   right_by {ts = ts} {i = i} (stopped j why) to back x = record {
     from = x.from;
     within = x.within;
-    reads = let c = x.reads in record { other = c.other; same = c.same; long = c.long; tree = f c.tree; reads = to c.other j c.tree (length c.other) c.reads };
+    reads = let c = x.reads in record {
+      other = c.other;
+      same = c.same;
+      long = c.long;
+      tree = f c.tree;
+      reads = to c.other j c.tree (length c.other) c.reads;
+    };
     decides = λ us limit e j' same low r ends.
         let b = back us limit e j' same r ends in
         x.decides us limit b.0 j' same low b.2 b.3;
@@ -204,7 +228,8 @@ module _ {A B : Type 0} (X : Rel A) (Z : Rel B) (f : A → B) where
 
   pub right_as : {EndX EndZ : List TokenKind → ℕ → Type 0} {ts : List TokenKind} {i : ℕ} →
       ((us : List TokenKind) (limit : ℕ) (a : A) (j : ℕ) → X us limit i a j → Z us limit i (f a) j) →
-      ((us : List TokenKind) (limit : ℕ) (e : B) (j : ℕ) → slice_get us i ≡ slice_get ts i → Z us limit i e j → EndZ us j → (a : A) × (e ≡ f a) × X us limit i a j × EndX us j) →
+      ((us : List TokenKind) (limit : ℕ) (e : B) (j : ℕ) → slice_get us i ≡ slice_get ts i → Z us limit i e j
+      → EndZ us j → (a : A) × (e ≡ f a) × X us limit i a j × EndX us j) →
       (o : ParseResult A) → Right (At X i) EndX ts i o → Right (At Z i) EndZ ts i (map_result f o)
   right_as {ts = ts} {i = i} to back (found a j) x = let le = x.from in record {
     from = x.from;
@@ -218,7 +243,13 @@ module _ {A B : Type 0} (X : Rel A) (Z : Rel B) (f : A → B) where
   right_as {ts = ts} {i = i} to back (stopped j why) x = let le = x.from in record {
     from = x.from;
     within = x.within;
-    reads = let c = x.reads in record { other = c.other; same = c.same; long = c.long; tree = f c.tree; reads = to c.other j c.tree (length c.other) c.reads };
+    reads = let c = x.reads in record {
+      other = c.other;
+      same = c.same;
+      long = c.long;
+      tree = f c.tree;
+      reads = to c.other j c.tree (length c.other) c.reads;
+    };
     decides = λ us limit e j' same low r ends.
         let b = back us limit e j' (sym (same i (omega arith))) r ends in
         x.decides us limit b.0 j' same low b.2 b.3;
@@ -233,7 +264,8 @@ module _ (t : TokenKind) (ts : List TokenKind) (i : ℕ) where
     decides = λ us limit e j same low r any. (refl, r.1);
   }
 
-  pub token_stopped : (slice_get ts i ≡ Some t → ⊥) → i ≤ length ts → Right (At (OneToken t) i) Anywhere ts i (stopped i Syntax)
+  pub token_stopped : (slice_get ts i ≡ Some t → ⊥) → i ≤ length ts
+      → Right (At (OneToken t) i) Anywhere ts i (stopped i Syntax)
   token_stopped is_not within = record {
     from = omega arith;
     within = within;
@@ -267,7 +299,8 @@ module _ (t : TokenKind) (ts : List TokenKind) (i : ℕ) where
       within = omega arith;
       reads =
           let long = take_long ts (i + 1) (omega arith) in
-          let size : length (take (i + 1) ts ++ []) ≡ i + 1 = let e = length-append (take (i + 1) ts) [] in omega arith in
+          let size : length (take (i + 1) ts ++ []) ≡ i + 1 = let e = length-append
+          (take (i + 1) ts) [] in omega arith in
           let same = same_take ts [] (i + 1) (omega arith) in
           record {
             other = take (i + 1) ts ++ [];
@@ -279,7 +312,8 @@ module _ (t : TokenKind) (ts : List TokenKind) (i : ℕ) where
       decides = λ us limit e j same low r any. let fits = r.1 (omega arith) in absurd (omega arith);
     }
 
-    pub opening_stopped : (slice_get ts i ≡ Some t → ⊥) → i ≤ length ts → Right (At (Opening t d) i) Anywhere ts i (stopped i Syntax)
+    pub opening_stopped : (slice_get ts i ≡ Some t → ⊥) → i ≤ length ts
+        → Right (At (Opening t d) i) Anywhere ts i (stopped i Syntax)
     opening_stopped is_not within = record {
       from = omega arith;
       within = within;
@@ -303,7 +337,11 @@ module _ {A : Type 0} (read : TokenKind → Option A) where
   pub item_framed : Framed (Item read)
   item_framed = record {
     up = λ us limit i a j x. omega (arith, x.1);
-    same = λ ts us limit lower i a j low x same. (ap (option_and_then read) (sym (same i (omega arith) (omega (arith, x.1)))) ∙ x.0, x.1);
+    same = λ ts us limit lower i a j low x same. (
+      ap (option_and_then read)
+          (sym (same i (omega arith) (omega (arith, x.1)))) ∙ x.0,
+      x.1,
+    );
   }
 
   -- by a token that stands for something
@@ -316,7 +354,8 @@ module _ {A : Type 0} (read : TokenKind → Option A) where
     reads = (ap (option_and_then read) (get_seam us t []) ∙ is, e);
   }
 
-  pub item_found : (ts : List TokenKind) (i : ℕ) (a : A) → i < length ts → option_and_then read (slice_get ts i) ≡ Some a →
+  pub item_found : (ts : List TokenKind) (i : ℕ) (a : A) → i < length ts → option_and_then read (slice_get ts i)
+      ≡ Some a →
       Right (At (Item read) i) Anywhere ts i (found a (i + 1))
   item_found ts i a lt is = record {
     from = omega arith;
@@ -328,7 +367,8 @@ module _ {A : Type 0} (read : TokenKind → Option A) where
         (one, r.1);
   }
 
-  pub item_missing : (ts : List TokenKind) (i : ℕ) → Fills (Item read) → ((a : A) → option_and_then read (slice_get ts i) ≡ Some a → ⊥) → i ≤ length ts →
+  pub item_missing : (ts : List TokenKind) (i : ℕ) → Fills (Item read)
+      → ((a : A) → option_and_then read (slice_get ts i) ≡ Some a → ⊥) → i ≤ length ts →
       Right (At (Item read) i) Anywhere ts i (stopped i Syntax)
   item_missing ts i fills none within = record {
     from = omega arith;

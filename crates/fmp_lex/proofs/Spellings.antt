@@ -1,5 +1,6 @@
 -- Pieces that are names.
-use Rattle.std.proofs.Common.{◌≡◌, ℕ, ◌-◌, ◌<◌, ◌≤◌, nat_le, if◌then◌else◌, Bool, true, false, List, None, length, length-take, length-drop, slice_range, drop, refl, sym, arith}
+use Rattle.std.proofs.Common.{◌≡◌, ℕ, ◌-◌, ◌<◌, ◌≤◌, nat_le, if◌then◌else◌, Bool, true, false, List, None, length}
+use Rattle.std.proofs.Common.{length-take, length-drop, slice_range, drop, refl, sym, arith}
 use Rattle.fmp_base.specs.Names.{name_from}
 use Rattle.fmp_lex.specs.declared.token.LexFault.TheVariants.{Limit}
 use Rattle.fmp_lex.specs.declared.token.TokenKind.TheVariants as kind

@@ -1,7 +1,8 @@
 -- A text is cut in one way.
 use Rattle.std.proofs.Common.{◌≡◌, ℕ, ◌+◌, inl, inr, Bool, List, slice_index, refl, arith}
 use Rattle.fmp_lex.specs.declared.cutting.PieceStart.{PieceStart}
-use Rattle.fmp_lex.specs.declared.cutting.PieceStart.TheVariants.{Space, LineComment, BlockComment, Word, Zero, Hex, Decimal, Other}
+use Rattle.fmp_lex.specs.declared.cutting.PieceStart.TheVariants.{Space, LineComment, BlockComment, Word, Zero, Hex}
+use Rattle.fmp_lex.specs.declared.cutting.PieceStart.TheVariants.{Decimal, Other}
 use Rattle.fmp_lex.specs.Cutting.{Piece}
 use Rattle.fmp_lex.specs.Cutting.{Skip, Whole, Fault}
 use Rattle.fmp_lex.specs.declared.token.Token.{Token}
@@ -27,7 +28,8 @@ close_unique text i j k a b = elim (cases_order j k) [
   ]
 ]
 
-pub piece_of_unique : (text : List ℕ) (i : ℕ) (s : PieceStart) (p q : Piece) → IsPieceOf text i s p → IsPieceOf text i s q → p ≡ q
+pub piece_of_unique : (text : List ℕ) (i : ℕ) (s : PieceStart) (p q : Piece) → IsPieceOf text i s p
+    → IsPieceOf text i s q → p ≡ q
 piece_of_unique text i Space p q a b = let e = run_unique _ text (i + 1) a.0 b.0 a.1 b.1 in cc
 piece_of_unique text i LineComment p q a b = let e = run_unique _ text (i + 1) a.0 b.0 a.1 b.1 in cc
 piece_of_unique text i BlockComment p q (inl a) (inl b) = let e = close_unique text (i + 2) a.0 b.0 a.1 b.1 in cc
@@ -53,18 +55,25 @@ cuts_unique text i ts us (skipped _ j ts' h p r) (skipped _ j' us' h' p' r') =
     let e = piece_unique text i (Skip j) (Skip j') p p' in
     let e2 : j' ≡ j = cc in
     cuts_unique text j ts' us' r (rw e2 at r')
-cuts_unique text i ts us (skipped _ j ts' h p r) (token _ j' k us' h' p' r') = let e = piece_unique text i (Skip j) (Whole k j') p p' in cc
-cuts_unique text i ts us (skipped _ j ts' h p r) (faulty _ f h' p') = let e = piece_unique text i (Skip j) (Fault f) p p' in cc
+cuts_unique text i ts us (skipped _ j ts' h p r) (token _ j' k us' h' p' r') = let e = piece_unique text i (Skip j)
+    (Whole k j') p p' in cc
+cuts_unique text i ts us (skipped _ j ts' h p r) (faulty _ f h' p') = let e = piece_unique text i (Skip j)
+    (Fault f) p p' in cc
 cuts_unique text i ts us (token _ j k ts' h p r) (ended _ h') = absurd (omega arith)
-cuts_unique text i ts us (token _ j k ts' h p r) (skipped _ j' us' h' p' r') = let e = piece_unique text i (Whole k j) (Skip j') p p' in cc
+cuts_unique text i ts us (token _ j k ts' h p r) (skipped _ j' us' h' p' r') = let e = piece_unique text i (Whole k j)
+    (Skip j') p p' in cc
 cuts_unique text i ts us (token _ j k ts' h p r) (token _ j' k' us' h' p' r') =
     let e = piece_unique text i (Whole k j) (Whole k' j') p p' in
     let e2 : j' ≡ j = cc in
     let e3 : k ≡ k' = cc in
     let e4 = cuts_unique text j ts' us' r (rw e2 at r') in
     cc
-cuts_unique text i ts us (token _ j k ts' h p r) (faulty _ f h' p') = let e = piece_unique text i (Whole k j) (Fault f) p p' in cc
+cuts_unique text i ts us (token _ j k ts' h p r) (faulty _ f h' p') = let e = piece_unique text i (Whole k j)
+    (Fault f) p p' in cc
 cuts_unique text i ts us (faulty _ f h p) (ended _ h') = absurd (omega arith)
-cuts_unique text i ts us (faulty _ f h p) (skipped _ j us' h' p' r') = let e = piece_unique text i (Fault f) (Skip j) p p' in cc
-cuts_unique text i ts us (faulty _ f h p) (token _ j k us' h' p' r') = let e = piece_unique text i (Fault f) (Whole k j) p p' in cc
-cuts_unique text i ts us (faulty _ f h p) (faulty _ f' h' p') = let e = piece_unique text i (Fault f) (Fault f') p p' in cc
+cuts_unique text i ts us (faulty _ f h p) (skipped _ j us' h' p' r') = let e = piece_unique text i (Fault f)
+    (Skip j) p p' in cc
+cuts_unique text i ts us (faulty _ f h p) (token _ j k us' h' p' r') = let e = piece_unique text i (Fault f)
+    (Whole k j) p p' in cc
+cuts_unique text i ts us (faulty _ f h p) (faulty _ f' h' p') = let e = piece_unique text i (Fault f)
+    (Fault f') p p' in cc

@@ -1,12 +1,14 @@
 -- What a text is cut into up to a place, and what a window on it has passed.
-use Rattle.std.proofs.Common.{◌≡◌, ℕ, zero, suc, ◌+◌, ◌<◌, ◌≤◌, ◌⊎◌, inl, inr, List, [], ◌∷◌, ◌++◌, length, append-nil, drop, replicate, slice_get, Option, Some, None, option_map, sym, subst, refl, arith}
+use Rattle.std.proofs.Common.{◌≡◌, ℕ, zero, suc, ◌+◌, ◌<◌, ◌≤◌, ◌⊎◌, inl, inr, List, [], ◌∷◌, ◌++◌, length, append-nil}
+use Rattle.std.proofs.Common.{drop, replicate, slice_get, Option, Some, None, option_map, sym, subst, refl, arith}
 use Rattle.std.proofs.lemmas.List.{drop_at, length-drop, length-replicate}
 use Rattle.std.proofs.lemmas.Option.{none-some, same_Some}
 use Rattle.fmp_lex.specs.declared.token.LexFault.{LexFault}
 use Rattle.fmp_lex.specs.declared.token.Token.{Token}
 use Rattle.fmp_lex.specs.declared.token.TokenKind.TheVariants.{Bad}
 use Rattle.fmp_lex.specs.declared.window.Window.{Window}
-use Rattle.fmp_lex.specs.Cutting.{Skip, Whole, Fault, IsPiece, Cuts, ended, faulty, line_at, skipped as whole_skipped, token as whole_token}
+use Rattle.fmp_lex.specs.Cutting.{Skip, Whole, Fault, IsPiece, Cuts, ended, faulty, line_at, skipped as whole_skipped}
+use Rattle.fmp_lex.specs.Cutting.{token as whole_token}
 use Rattle.fmp_lex.specs.Packing.{absent}
 use Rattle.fmp_lex.specs.Windows.{CutsUpTo, here, skipped, token, IsFaultAt, IsPartEnd, IsWindow, Passed}
 use Rattle.fmp_lex.proofs.Existence.{goes_on}

@@ -1,6 +1,7 @@
 -- The table of lengths knows every word: what it does not know is none. Constants, static
 -- APIs and services are known by their first bytes too.
-use Rattle.std.proofs.Common.{◌≡◌, ℕ, List, [], ◌∷◌, Bool, true, false, Option, Some, None, ◌&&◌, ◌/◌, ◌^◌, length, nat_eq, nat_lt, bit_and, slice_index_or, refl, ap}
+use Rattle.std.proofs.Common.{◌≡◌, ℕ, List, [], ◌∷◌, Bool, true, false, Option, Some, None, ◌&&◌, ◌/◌, ◌^◌, length}
+use Rattle.std.proofs.Common.{nat_eq, nat_lt, bit_and, slice_index_or, refl, ap}
 use Rattle.std.specs.Prelude.{slice_get}
 use Rattle.fmp_base.specs.declared.codes.Er.TheVariants as er
 use Rattle.fmp_base.specs.declared.services.Service.{Service}
@@ -116,13 +117,16 @@ none_named (Some x) name word low high is each otherwise =
 pub no_constant : (word : List ℕ) → begins word 69 84 ≡ false → None ≡ constant_named word
 unfolding constant_named
 no_constant word otherwise =
-    none_named (constant_named word) constant_name word 69 84 (λ x. found_named constant_name word x CONSTANTS) constant_begins otherwise
+    none_named (constant_named word) constant_name word 69 84 (λ x. found_named constant_name word x CONSTANTS)
+    constant_begins otherwise
 
 pub no_api : (word : List ℕ) → begins word 67 68 ≡ false → None ≡ api_named word
 unfolding api_named
-no_api word otherwise = none_named (api_named word) api_name word 67 68 (λ x. found_named api_name word x APIS) api_begins otherwise
+no_api word otherwise = none_named (api_named word) api_name word 67 68
+    (λ x. found_named api_name word x APIS) api_begins otherwise
 
 pub no_service : (word : List ℕ) → begins word 97 122 ≡ false → None ≡ service_named word
 unfolding service_named
 no_service word otherwise =
-    none_named (service_named word) service_name word 97 122 (λ x. found_named service_name word x SERVICES) service_begins otherwise
+    none_named (service_named word) service_name word 97 122 (λ x. found_named service_name word x SERVICES)
+    service_begins otherwise

@@ -1,5 +1,7 @@
 -- How a text is cut into pieces: spaces, comments and tokens.
-use Rattle.std.specs.Prelude.{◌≡◌, ℕ, pos, ◌+◌, ◌-◌, ◌<◌, ◌≤◌, ◌⊎◌, ◌==◌, ◌&&◌, nat_lt, nat_le, Bool, true, if◌then◌else◌, List, [], ◌∷◌, length, slice_index, slice_range, count_by, take, Option, Some, None, option_map}
+use Rattle.std.specs.Prelude.{◌≡◌, ℕ, pos, ◌+◌, ◌-◌, ◌<◌, ◌≤◌, ◌⊎◌, ◌==◌, ◌&&◌, nat_lt, nat_le, Bool, true}
+use Rattle.std.specs.Prelude.{if◌then◌else◌, List, [], ◌∷◌, length, slice_index, slice_range, count_by, take, Option}
+use Rattle.std.specs.Prelude.{Some, None, option_map}
 use Rattle.std.specs.Option.{option_or}
 use Rattle.fmp_base.specs.Names.{name_from}
 use Rattle.fmp_lex.specs.declared.token.LexFault.{LexFault}

@@ -1,6 +1,7 @@
 -- What it is to read a list of tokens by a grammar: readings from one place up to another, what a reader
 -- answers, when that is right, and the first fault of a list.
-use Rattle.std.specs.Prelude.{◌≡◌, ℕ, ◌+◌, ◌<◌, ◌≤◌, List, [], ◌∷◌, ◌++◌, length, map, slice_get, take, Option, Some, option_and_then, Result, Ok, Err}
+use Rattle.std.specs.Prelude.{◌≡◌, ℕ, ◌+◌, ◌<◌, ◌≤◌, List, [], ◌∷◌, ◌++◌, length, map, slice_get, take, Option, Some}
+use Rattle.std.specs.Prelude.{option_and_then, Result, Ok, Err}
 use Rattle.fmp_lex.specs.declared.token.Token.{Token}
 use Rattle.fmp_lex.specs.declared.token.TokenKind.{TokenKind}
 use Rattle.fmp_lex.specs.declared.reading.GrammarFault.{GrammarFault}

@@ -1,5 +1,6 @@
 -- Classes of bytes, runs of bytes of a class, ends of comments, and values of digits.
-use Rattle.std.specs.Prelude.{◌≡◌, ℕ, ◌+◌, ◌-◌, ◌*◌, ◌<◌, ◌≤◌, ◌⊎◌, ◌==◌, ◌&&◌, ◌||◌, nat_le, Bool, true, false, not, if◌then◌else◌, List, [], ◌∷◌, length, slice_index}
+use Rattle.std.specs.Prelude.{◌≡◌, ℕ, ◌+◌, ◌-◌, ◌*◌, ◌<◌, ◌≤◌, ◌⊎◌, ◌==◌, ◌&&◌, ◌||◌, nat_le, Bool, true, false, not}
+use Rattle.std.specs.Prelude.{if◌then◌else◌, List, [], ◌∷◌, length, slice_index}
 use Rattle.fmp_base.specs.Words.{is_digit, is_word}
 use Rattle.fmp_lex.specs.declared.scanning.ByteClass.{ByteClass}
 use Rattle.fmp_lex.specs.declared.scanning.ByteClass.TheVariants as class

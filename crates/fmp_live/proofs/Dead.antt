@@ -1,5 +1,6 @@
 -- Dead locals in the rows of a table.
-use Rattle.std.proofs.Common.{◌≡◌, ◌<◌, ℕ, zero, suc, Bool, true, false, List, [], ◌∷◌, length, get_or, slice_get, Some, ◌∙◌, ap, arith}
+use Rattle.std.proofs.Common.{◌≡◌, ◌<◌, ℕ, zero, suc, Bool, true, false, List, [], ◌∷◌, length, get_or, slice_get, Some}
+use Rattle.std.proofs.Common.{◌∙◌, ap, arith}
 use Rattle.fmp_live.specs.LiveLocals.{is_live}
 
 in-row : (row : List Bool) (v : ℕ) → get_or row v true ≡ false → v < length row

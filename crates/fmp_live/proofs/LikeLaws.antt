@@ -1,5 +1,6 @@
 -- Worlds that are alike but for dead locals.
-use Rattle.std.proofs.Common.{◌≡◌, ℕ, zero, suc, ℤ, Bool, List, [], ◌∷◌, length, map, get_or, Option, Some, None, refl, sym, ◌∙◌, ap, subst}
+use Rattle.std.proofs.Common.{◌≡◌, ℕ, zero, suc, ℤ, Bool, List, [], ◌∷◌, length, map, get_or, Option, Some, None, refl}
+use Rattle.std.proofs.Common.{sym, ◌∙◌, ap, subst}
 use Rattle.fmp_base.specs.declared.bodies.HandlerContext.{HandlerContext}
 use Rattle.fmp_base.specs.declared.bodies.Held.{Held}
 use Rattle.fmp_base.specs.declared.bodies.Held.TheVariants.{Goes, Awaits}
@@ -19,7 +20,8 @@ use Rattle.fmp_bisimulation.proofs.StateLaws.{alike-chained}
 use Rattle.fmp_bisimulation.proofs.StepLaws.{step-same}
 use Rattle.fmp_bisimulation.proofs.WorldLaws.{worlds-refl, worlds-sym}
 use Rattle.fmp_live.specs.LiveLocals.{AreLiveTables, LiveTable, table_at}
-use Rattle.fmp_live.specs.Zeroed.{IsLike, IsLikeBy, ByTables, Through, each_at, zeroed, zeroed_by, zeroed_context, zeroed_contexts, zeroed_handler, zeroed_held, zeroed_task}
+use Rattle.fmp_live.specs.Zeroed.{IsLike, IsLikeBy, ByTables, Through, each_at, zeroed, zeroed_by, zeroed_context}
+use Rattle.fmp_live.specs.Zeroed.{zeroed_contexts, zeroed_handler, zeroed_held, zeroed_task}
 use Rattle.fmp_live.proofs.MachineLaws.{SameLive}
 use Rattle.fmp_live.proofs.RowLaws.{agree-zeroed, zeroed-agree}
 use Rattle.fmp_live.proofs.Tables.{all-live}

@@ -1,6 +1,9 @@
 -- The machine does the same with locals that agree where they are live.
-use Rattle.std.proofs.Common.{◌≡◌, ℕ, zero, suc, ◌+◌, ◌<◌, ℤ, pos, negsuc, Bool, true, false, not, ◌&&◌, if◌then◌else◌, nat_eq, nat_le, nat_lt, List, [], ◌∷◌, slice_get, slice_set, Option, Some, None, Result, Ok, Err, refl, ◌∙◌, ap, subst, arith}
-use Rattle.std.proofs.lemmas.Bool.{and_from, eq-eqb, le-leb, lt-ltb, ltb-true, ne_eqb, not_from_false, or_left, or_right}
+use Rattle.std.proofs.Common.{◌≡◌, ℕ, zero, suc, ◌+◌, ◌<◌, ℤ, pos, negsuc, Bool, true, false, not, ◌&&◌, if◌then◌else◌}
+use Rattle.std.proofs.Common.{nat_eq, nat_le, nat_lt, List, [], ◌∷◌, slice_get, slice_set, Option, Some, None, Result}
+use Rattle.std.proofs.Common.{Ok, Err, refl, ◌∙◌, ap, subst, arith}
+use Rattle.std.proofs.lemmas.Bool.{and_from, eq-eqb, le-leb, lt-ltb, ltb-true, ne_eqb, not_from_false, or_left}
+use Rattle.std.proofs.lemmas.Bool.{or_right}
 use Rattle.fmp_base.specs.declared.bodies.Fault.{Fault}
 use Rattle.fmp_base.specs.declared.calls.Reply.{Reply}
 use Rattle.fmp_base.specs.declared.codes.Er.{Er}
@@ -11,10 +14,14 @@ use Rattle.fmp_base.specs.Services.{gives_count}
 use Rattle.fmp_base.specs.Stretches.{Ending}
 use Rattle.fmp_base.specs.Stretches as ends
 use Rattle.fmp_instructions.specs.declared.instructions.Instruction.{Instruction}
-use Rattle.fmp_instructions.specs.declared.instructions.Instruction.TheVariants.{Push, Load, Store, LoadIndexed, StoreIndexed, Unary, Truth, Binary, Jump, JumpIfZero, Call, End}
+use Rattle.fmp_instructions.specs.declared.instructions.Instruction.TheVariants.{Push, Load, Store, LoadIndexed}
+use Rattle.fmp_instructions.specs.declared.instructions.Instruction.TheVariants.{StoreIndexed, Unary, Truth, Binary}
+use Rattle.fmp_instructions.specs.declared.instructions.Instruction.TheVariants.{Jump, JumpIfZero, Call, End}
 use Rattle.fmp_instructions.specs.declared.instructions.MachineContext.{MachineContext}
-use Rattle.fmp_instructions.specs.Machine.{Next, act, call_before, code_deliver, code_stretch, exec, gives, on_place, replied, stack_of, tops}
-use Rattle.fmp_live.specs.LiveLocals.{IsLiveTable, LiveTable, is_awaited, is_live, is_named, is_needed, is_replied, is_within}
+use Rattle.fmp_instructions.specs.Machine.{Next, act, call_before, code_deliver, code_stretch, exec, gives, on_place}
+use Rattle.fmp_instructions.specs.Machine.{replied, stack_of, tops}
+use Rattle.fmp_live.specs.LiveLocals.{IsLiveTable, LiveTable, is_awaited, is_live, is_named, is_needed, is_replied}
+use Rattle.fmp_live.specs.LiveLocals.{is_within}
 use Rattle.fmp_live.proofs.RowLaws.{Agree, agree-less, agree-set}
 
 -- contexts of one place with the same operands, whose live locals are the same

@@ -14,7 +14,8 @@ use Rattle.fmp_base.specs.Stretches.{Ending}
 use Rattle.fmp_base.specs.Stretches as ends
 use Rattle.fmp_base.specs.Systems.{SystemTables}
 use Rattle.fmp_base.specs.TieLaws.{step-tied}
-use Rattle.fmp_base.specs.Ties.{AllTied, StretchTied, over, kept, call, end_, fault, Any, KeepsTie, HandlerTied, HeldTied, WorldTied, KeptOn, DoneTied}
+use Rattle.fmp_base.specs.Ties.{AllTied, StretchTied, over, kept, call, end_, fault, Any, KeepsTie, HandlerTied}
+use Rattle.fmp_base.specs.Ties.{HeldTied, WorldTied, KeptOn, DoneTied}
 use Rattle.fmp_instructions.specs.declared.instructions.MachineContext.{MachineContext}
 use Rattle.fmp_instructions.specs.Instructions.{BodyTables, instructions_at}
 use Rattle.fmp_instructions.specs.Machine.{code_meaning, code_start}

@@ -1,7 +1,9 @@
 -- Live locals: those that a body may read before it writes them again. The others are dead.
-use Rattle.std.specs.Prelude.{◌≡◌, ℕ, ◌+◌, Bool, true, false, not, ◌&&◌, ◌||◌, nat_eq, nat_le, nat_lt, Option, Some, None, List, [], get_or, slice_get, map}
+use Rattle.std.specs.Prelude.{◌≡◌, ℕ, ◌+◌, Bool, true, false, not, ◌&&◌, ◌||◌, nat_eq, nat_le, nat_lt, Option, Some}
+use Rattle.std.specs.Prelude.{None, List, [], get_or, slice_get, map}
 use Rattle.fmp_instructions.specs.declared.instructions.Instruction.{Instruction}
-use Rattle.fmp_instructions.specs.declared.instructions.Instruction.TheVariants.{Load, Store, LoadIndexed, Jump, JumpIfZero, Call, End}
+use Rattle.fmp_instructions.specs.declared.instructions.Instruction.TheVariants.{Load, Store, LoadIndexed, Jump}
+use Rattle.fmp_instructions.specs.declared.instructions.Instruction.TheVariants.{JumpIfZero, Call, End}
 use Rattle.fmp_instructions.specs.Instructions.{BodyTables, instructions_at}
 use Rattle.fmp_instructions.specs.Machine.{call_before}
 use Rattle.fmp_live.specs.declared.live_rows.LiveRows.{LiveRows}

@@ -18,4 +18,5 @@ byte_safe byte false e = All-from_recursion (λ b. b ≢ 60) (byte ∷ []) (othe
 pub escaped_safe : (json : List ℕ) → All (λ b. b ≢ 60) (escaped json)
 escaped_safe [] = All-nil (λ b. b ≢ 60)
 escaped_safe (byte ∷ json) =
-    All-append (λ b. b ≢ 60) (escaped_byte byte) (escaped json) (byte_safe byte (nat_eq byte 60) refl) (escaped_safe json)
+    All-append (λ b. b ≢ 60) (escaped_byte byte) (escaped json) (byte_safe byte (nat_eq byte 60) refl)
+    (escaped_safe json)

@@ -1,5 +1,6 @@
 -- Lines that tell what must never be answered to a call.
-use Rattle.std.proofs.Common.{◌≡◌, ℕ, zero, suc, List, [], ◌∷◌, Option, Some, None, Bool, true, false, ◌&&◌, ◌||◌, map, nat_eq, not, slice_get, refl, sym, ◌∙◌, ap, ap₂}
+use Rattle.std.proofs.Common.{◌≡◌, ℕ, zero, suc, List, [], ◌∷◌, Option, Some, None, Bool, true, false, ◌&&◌, ◌||◌, map}
+use Rattle.std.proofs.Common.{nat_eq, not, slice_get, refl, sym, ◌∙◌, ap, ap₂}
 use Rattle.std.specs.List.{list_any}
 use Rattle.fmp_base.specs.declared.bodies.HandlerContext.{HandlerContext}
 use Rattle.fmp_base.specs.declared.bodies.Held.{Held}
@@ -20,7 +21,8 @@ use Rattle.fmp_question.specs.declared.site.CallSite.{CallSite}
 use Rattle.fmp_question.specs.declared.question.NeverAt.{NeverAt}
 use Rattle.fmp_question.specs.declared.question.Question.{Question}
 use Rattle.fmp_question.specs.Forbidden.{forbids, has_code, is_same_code}
-use Rattle.fmp_question.specs.Places.{forbids_there, has_body, is_bad, is_behind, is_caller_behind, is_handler_behind, is_task_behind, tells_there}
+use Rattle.fmp_question.specs.Places.{forbids_there, has_body, is_bad, is_behind, is_caller_behind, is_handler_behind}
+use Rattle.fmp_question.specs.Places.{is_task_behind, tells_there}
 use Rattle.fmp_instructions.specs.declared.instructions.MachineContext.{MachineContext}
 use Rattle.fmp_instructions.specs.Instructions.{BodyTables}
 use Rattle.fmp_live.specs.LiveLocals.{LiveTable, table_at}

@@ -33,12 +33,14 @@ held-told Ready (Some (Awaits c)) (Some (Goes d)) on a b e = absurd a
 held-told (Waiting w) (Some (Awaits c)) (Some (Goes d)) on a b e = absurd b
 
 -- who is not off is not dormant, where no time runs for those that are
-started : (x : TaskBlock) → (is_dormant x.phase ≡ true → x.deadline ≡ None) → is_off x ≡ false → is_dormant x.phase ≡ false
+started : (x : TaskBlock) → (is_dormant x.phase ≡ true → x.deadline ≡ None) → is_off x ≡ false → is_dormant x.phase
+    ≡ false
 started x h off = by_test (is_dormant x.phase) refl where
   by_test : (b : Bool) → is_dormant x.phase ≡ b → is_dormant x.phase ≡ false
   by_test false e = e
   by_test true e =
-      let yes : is_off x ≡ true = ap (λ (b : Bool). b && is_none x.deadline) e ∙ ap (λ (d : Option ℕ). is_none d) (h e) in
+      let yes : is_off x ≡ true = ap (λ (b : Bool). b && is_none x.deadline) e
+      ∙ ap (λ (d : Option ℕ). is_none d) (h e) in
       let clash : true ≡ false = sym yes ∙ off in cc
 
 pub worlds-told : {C : Type 0} (sys : SystemTables) (v w : World C) → IsRegularWorld sys v → IsRegularWorld sys w
@@ -53,7 +55,8 @@ worlds-told {C} sys v w a b row bodies =
             let block = blocks-at (v.state).clock (w.state).clock (v.state).tasks (w.state).tasks states.tasks t in
             let phase : (task_at (w.state).tasks t).phase ≡ (task_at (v.state).tasks t).phase =
             ap (λ (z : TaskBlock). z.phase) (sym block.rest) in
-            held-told (task_at (v.state).tasks t).phase (context_at (v.contexts).tasks t) (context_at (w.contexts).tasks t) on (a.held t)
+            held-told (task_at (v.state).tasks t).phase (context_at (v.contexts).tasks t)
+            (context_at (w.contexts).tasks t) on (a.held t)
             (subst (λ (p : Phase). IsHeldBy p (context_at (w.contexts).tasks t)) phase (b.held t)) (bodies.tasks t on);
         handlers = bodies.handlers;
         long = bodies.long;

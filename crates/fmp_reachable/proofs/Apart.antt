@@ -1,5 +1,6 @@
 -- No message is queued twice: how this comes through a change of a mailbox.
-use Rattle.std.proofs.Common.{◌≡◌, ℕ, zero, suc, ◌<◌, List, [], ◌∷◌, ◌++◌, Bool, true, false, ◌||◌, ◌⊎◌, inl, inr, refl, sym, ◌∙◌, ap, subst, nat_eq, nat_lt, get_or, slice_set, replicate, if◌then◌else◌}
+use Rattle.std.proofs.Common.{◌≡◌, ℕ, zero, suc, ◌<◌, List, [], ◌∷◌, ◌++◌, Bool, true, false, ◌||◌, ◌⊎◌, inl, inr, refl}
+use Rattle.std.proofs.Common.{sym, ◌∙◌, ap, subst, nat_eq, nat_lt, get_or, slice_set, replicate, if◌then◌else◌}
 use Rattle.std.proofs.lemmas.Bool.{or_parts}
 use Rattle.fmp_base.specs.declared.systems.QueueOrder.{QueueOrder}
 use Rattle.fmp_base.specs.declared.systems.QueueOrder.TheVariants.{Fifo, Priority}
@@ -54,7 +55,11 @@ apart-set n (l ∷ ls) zero ms h o k = (o, (λ g e. by_kind g (k g e)), h.2) whe
   by_kind : (g : ℕ) → (is_in g l ≡ true) ⊎ (is_linked g (l ∷ ls) ≡ false) → is_linked g ls ≡ false
   by_kind g (inl e) = h.1 g e
   by_kind g (inr e) = let parts = or_parts (is_in g l) (is_linked g ls) e in parts.1
-apart-set n (l ∷ ls) (suc x) ms h o k = (h.0, (λ g e. linked-set g ls x ms (h.1 g e) (outside g e (is_in g ms) refl)), apart-set n ls x ms h.2 o (λ g e. behind g (k g e))) where
+apart-set n (l ∷ ls) (suc x) ms h o k = (
+  h.0,
+  (λ g e. linked-set g ls x ms (h.1 g e) (outside g e (is_in g ms) refl)),
+  apart-set n ls x ms h.2 o (λ g e. behind g (k g e)),
+) where
   behind : (g : ℕ) → (is_in g (get_or ls x []) ≡ true) ⊎ (is_linked g (l ∷ ls) ≡ false)
       → (is_in g (get_or ls x []) ≡ true) ⊎ (is_linked g ls ≡ false)
   behind g (inl e) = inl e

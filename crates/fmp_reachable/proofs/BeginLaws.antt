@@ -1,11 +1,13 @@
 -- The handler that begins on a processor is one of the system, of that processor.
-use Rattle.std.proofs.Common.{◌≡◌, ℕ, zero, suc, ◌+◌, ◌<◌, ◌≤◌, List, [], ◌∷◌, Option, Some, None, Bool, true, false, ◌&&◌, ◌⊎◌, inl, inr, length, slice_get, refl, subst, arith, if◌then◌else◌}
+use Rattle.std.proofs.Common.{◌≡◌, ℕ, zero, suc, ◌+◌, ◌<◌, ◌≤◌, List, [], ◌∷◌, Option, Some, None, Bool, true, false}
+use Rattle.std.proofs.Common.{◌&&◌, ◌⊎◌, inl, inr, length, slice_get, refl, subst, arith, if◌then◌else◌}
 use Rattle.fmp_base.specs.declared.states.Handler.{Handler}
 use Rattle.fmp_base.specs.declared.states.Handler.TheVariants as handler
 use Rattle.fmp_base.specs.declared.systems.CyclicConfig.{CyclicConfig}
 use Rattle.fmp_base.specs.declared.systems.InterruptConfig.{InterruptConfig}
 use Rattle.fmp_base.specs.Meanings.{cyclic_start, handler_start, interrupt_start}
-use Rattle.fmp_base.specs.Settles.{is_defined_on, interrupts_on, cycles_on, first_or, first_pending, cyclic_handler, interrupt_or, pending_handler}
+use Rattle.fmp_base.specs.Settles.{is_defined_on, interrupts_on, cycles_on, first_or, first_pending, cyclic_handler}
+use Rattle.fmp_base.specs.Settles.{interrupt_or, pending_handler}
 use Rattle.fmp_base.specs.States.{KernelState}
 use Rattle.fmp_base.specs.Systems.{SystemTables, interrupt_config}
 use Rattle.fmp_worlds.specs.Settled.{IsThere}
@@ -32,7 +34,8 @@ first-of on i n c rest go (inr h) =
     let below = first.within in
     record { holds = first.holds; within = omega (arith, below) }
 
-first-is : (on : ℕ → Bool) (i : ℕ) (bs : List Bool) (c : ℕ) → first_pending on i bs ≡ Some c → IsFirst on i (length bs) c
+first-is : (on : ℕ → Bool) (i : ℕ) (bs : List Bool) (c : ℕ) → first_pending on i bs ≡ Some c
+    → IsFirst on i (length bs) c
 first-is on i [] c h = cc
 first-is on i (b ∷ bs) c h =
     let rest = first_pending on (i + 1) bs in
@@ -79,6 +82,7 @@ pending-of sys s p h few e = by_interrupt (first_pending (interrupts_on sys p) 0
       record { own = on; there = interrupt-there p (interrupt_config sys j) on }
 
 pub begins-of : (b : Bool) (sys : SystemTables) (s : KernelState) (p : ℕ) (h : Handler)
-    → length s.pending_cyclics ≤ length sys.cyclics → (if b then None else pending_handler sys s p) ≡ Some h → IsOf sys p h
+    → length s.pending_cyclics ≤ length sys.cyclics → (if b then None else pending_handler sys s p) ≡ Some h
+    → IsOf sys p h
 begins-of true sys s p h few e = cc
 begins-of false sys s p h few e = pending-of sys s p h few e

@@ -1,5 +1,7 @@
 -- Every service call is made of changes, and a call that waits makes its caller wait.
-use Rattle.std.proofs.Common.{◌≡◌, ◌+◌, ◌^◌, ◌<◌, ℕ, zero, suc, ℤ, pos, List, [], ◌∷◌, ◌++◌, Option, Some, None, Bool, true, false, ◌&&◌, ◌||◌, not, refl, sym, ◌∙◌, ap, arith, nat_eq, nat_lt, length, get_or, bit_and, bit_or, if◌then◌else◌}
+use Rattle.std.proofs.Common.{◌≡◌, ◌+◌, ◌^◌, ◌<◌, ℕ, zero, suc, ℤ, pos, List, [], ◌∷◌, ◌++◌, Option, Some, None, Bool}
+use Rattle.std.proofs.Common.{true, false, ◌&&◌, ◌||◌, not, refl, sym, ◌∙◌, ap, arith, nat_eq, nat_lt, length, get_or}
+use Rattle.std.proofs.Common.{bit_and, bit_or, if◌then◌else◌}
 use Rattle.fmp_base.specs.declared.calls.Answer.{Answer}
 use Rattle.fmp_base.specs.declared.calls.Answer.TheVariants.{Replies, Waits, Ends, Spins}
 use Rattle.fmp_base.specs.declared.calls.Call.{Call}
@@ -22,26 +24,39 @@ use Rattle.fmp_base.specs.declared.states.WaitCause.TheVariants as cause
 use Rattle.fmp_base.specs.declared.states.WaitQueue.TheVariants as queue
 use Rattle.fmp_base.specs.Calls.{case_of, called}
 use Rattle.fmp_base.specs.Changes.{ended_itself, released, suspended_by, with_nothing_run}
-use Rattle.fmp_base.specs.DataQueueCalls.{words_at, with_words, without_oldest, has_room, queued_by, word_sent_to, word_sent, forced_in, forced_to, offered_word, oldest_taken, sender_taken_from, word_received_from}
-use Rattle.fmp_base.specs.FlagCalls.{pattern_at, satisfies, obtained, awaited_by, is_empty, mode_of, flag_tested, awaited}
-use Rattle.fmp_base.specs.MailboxCalls.{enqueued, messages_at, message_priority, is_queued, message_sent_to, message_taken_from}
-use Rattle.fmp_base.specs.Outcomes.{CallOutcome, code, given, refused, waits_within, limit_of, numbered, ranged, tested, refused_if, on_task}
+use Rattle.fmp_base.specs.DataQueueCalls.{words_at, with_words, without_oldest, has_room, queued_by, word_sent_to}
+use Rattle.fmp_base.specs.DataQueueCalls.{word_sent, forced_in, forced_to, offered_word, oldest_taken}
+use Rattle.fmp_base.specs.DataQueueCalls.{sender_taken_from, word_received_from}
+use Rattle.fmp_base.specs.FlagCalls.{pattern_at, satisfies, obtained, awaited_by, is_empty, mode_of, flag_tested}
+use Rattle.fmp_base.specs.FlagCalls.{awaited}
+use Rattle.fmp_base.specs.MailboxCalls.{enqueued, messages_at, message_priority, is_queued, message_sent_to}
+use Rattle.fmp_base.specs.MailboxCalls.{message_taken_from}
+use Rattle.fmp_base.specs.Outcomes.{CallOutcome, code, given, refused, waits_within, limit_of, numbered, ranged, tested}
+use Rattle.fmp_base.specs.Outcomes.{refused_if, on_task}
 use Rattle.fmp_base.specs.Permissions.{permission, is_barred}
 use Rattle.fmp_base.specs.ProcessorCalls.{cpu_locked_from, cpu_unlocked_from, is_held, is_spin, spin_lock_taken}
 use Rattle.fmp_base.specs.Queues.{first_ready, first_waiting, is_by_priority, is_ready, wait_queue}
 use Rattle.fmp_base.specs.SemaphoreCalls.{signalled_to, acquired_by}
 use Rattle.fmp_base.specs.Services.{service_of}
-use Rattle.fmp_base.specs.States.{KernelState, Progress, unchanged, clock_after, processor_at, task_at, with_last, with_task}
-use Rattle.fmp_base.specs.Systems.{SystemTables, cyclic_config, data_queue_config, flag_config, mailbox_config, semaphore_config}
-use Rattle.fmp_base.specs.TaskCalls.{is_dormant, self_or, by_number, activated_by, goes_last, moved_by, or_if_zero, allowed_processor, activated_on_by, assigned_by, slept_by, wakeup_queued, woken_from, woken_by, released_by, resumed_by, rotated}
+use Rattle.fmp_base.specs.States.{KernelState, Progress, unchanged, clock_after, processor_at, task_at, with_last}
+use Rattle.fmp_base.specs.States.{with_task}
+use Rattle.fmp_base.specs.Systems.{SystemTables, cyclic_config, data_queue_config, flag_config, mailbox_config}
+use Rattle.fmp_base.specs.Systems.{semaphore_config}
+use Rattle.fmp_base.specs.TaskCalls.{is_dormant, self_or, by_number, activated_by, goes_last, moved_by, or_if_zero}
+use Rattle.fmp_base.specs.TaskCalls.{allowed_processor, activated_on_by, assigned_by, slept_by, wakeup_queued}
+use Rattle.fmp_base.specs.TaskCalls.{woken_from, woken_by, released_by, resumed_by, rotated}
 use Rattle.fmp_ring.specs.LinkedLaws.{is_linked-queued}
 use Rattle.fmp_tasks.specs.Homes.{is_in_order, is_waiting}
 use Rattle.fmp_reachable.specs.Numbers.{IsAhead}
 use Rattle.fmp_reachable.specs.Sizes.{AreWithinCapacity}
-use Rattle.fmp_reachable.proofs.Apart.{AreApart, apart-at, new-enqueued, new-rest, order-enqueued, order-rest, unlinked-at}
+use Rattle.fmp_reachable.proofs.Apart.{AreApart, apart-at, new-enqueued, new-rest, order-enqueued, order-rest}
+use Rattle.fmp_reachable.proofs.Apart.{unlinked-at}
 use Rattle.fmp_reachable.proofs.Capacities.{room-for, room-forced, room-refilled, room-taken}
-use Rattle.fmp_reachable.proofs.Changes.{AreFine, Change, Count, Cpu, Due, InPlace, IsFair, IsFine, IsFineBlock, Messages, Moves, Out, Pattern, ToEnd, Word, Words, changed}
-use Rattle.fmp_reachable.proofs.Stands.{first-ready, first-true, first-waits, goes_last-stands, named-there, numbered-there, off, ready-joins, ready-leaves, ready-on, there, waits-on, waits-stands}
+use Rattle.fmp_reachable.proofs.Changes.{AreFine, Change, Count, Cpu, Due, InPlace, IsFair, IsFine, IsFineBlock}
+use Rattle.fmp_reachable.proofs.Changes.{Messages, Moves, Out, Pattern, ToEnd, Word, Words, changed}
+use Rattle.fmp_reachable.proofs.Stands.{first-ready, first-true, first-waits, goes_last-stands, named-there}
+use Rattle.fmp_reachable.proofs.Stands.{numbered-there, off, ready-joins, ready-leaves, ready-on, there, waits-on}
+use Rattle.fmp_reachable.proofs.Stands.{waits-stands}
 use Rattle.fmp_reachable.proofs.TaskChanges.{ended-comes, released-comes, started-comes, walk-comes}
 
 -- a call that waits leaves what W says, and P holds where any other leads
@@ -83,7 +98,8 @@ module _ (sys : SystemTables) (P : Progress → Type 0)
     frees : (t : ℕ) (reply : Reply) → is_waiting (task_at s.tasks t).phase ≡ true
         → P (released (unchanged s) t (task_at s.tasks t) reply)
     frees t reply w =
-        released-comes sys P go (unchanged s) t (task_at s.tasks t) reply h (there s.tasks t (waits-on (task_at s.tasks t).phase w))
+        released-comes sys P go (unchanged s) t (task_at s.tasks t) reply h
+        (there s.tasks t (waits-on (task_at s.tasks t).phase w))
 
     -- a task changes and stands where it stood
     keeps : (t : ℕ) (y : TaskBlock) → t < length s.tasks → IsFineBlock (s.clock + 1) y
@@ -103,9 +119,11 @@ module _ (sys : SystemTables) (P : Progress → Type 0)
     activated_by-comes : (p : Phase) (t : ℕ) → t < length s.tasks → Comes (activated_by p sys s t (task_at s.tasks t))
     activated_by-comes Dormant t l = started-comes sys P go (unchanged s) t (task_at s.tasks t) h l
     activated_by-comes Ready t l =
-        either-comes (nat_lt (task_at s.tasks t).activations sys.queue_limit) _ (refused s er.Qovr) (keeps t _ l (alike t) refl (λ e. e)) h
+        either-comes (nat_lt (task_at s.tasks t).activations sys.queue_limit) _ (refused s er.Qovr)
+        (keeps t _ l (alike t) refl (λ e. e)) h
     activated_by-comes (Waiting c) t l =
-        either-comes (nat_lt (task_at s.tasks t).activations sys.queue_limit) _ (refused s er.Qovr) (keeps t _ l (alike t) refl (λ e. e)) h
+        either-comes (nat_lt (task_at s.tasks t).activations sys.queue_limit) _ (refused s er.Qovr)
+        (keeps t _ l (alike t) refl (λ e. e)) h
 
     moved_by-comes : (c : Bool) (t : ℕ) (y : TaskBlock) → t < length s.tasks → IsFineBlock (s.clock + 1) y
         → is_in_order y ≡ is_in_order (task_at s.tasks t)
@@ -119,20 +137,24 @@ module _ (sys : SystemTables) (P : Progress → Type 0)
     activated_on_by-comes Dormant t c l =
         started-comes sys P go (unchanged s) t (record (task_at s.tasks t) { processor = c }) h l
     activated_on_by-comes Ready t c l =
-        either-comes (nat_lt (task_at s.tasks t).activations sys.queue_limit) _ (refused s er.Qovr) (keeps t _ l (alike t) refl (λ e. e)) h
+        either-comes (nat_lt (task_at s.tasks t).activations sys.queue_limit) _ (refused s er.Qovr)
+        (keeps t _ l (alike t) refl (λ e. e)) h
     activated_on_by-comes (Waiting w) t c l =
-        either-comes (nat_lt (task_at s.tasks t).activations sys.queue_limit) _ (refused s er.Qovr) (keeps t _ l (alike t) refl (λ e. e)) h
+        either-comes (nat_lt (task_at s.tasks t).activations sys.queue_limit) _ (refused s er.Qovr)
+        (keeps t _ l (alike t) refl (λ e. e)) h
 
     assigned_by-comes : (c : Bool) (t q : ℕ) → t < length s.tasks
         → P (unchanged (assigned_by c s t (task_at s.tasks t) q))
     assigned_by-comes true t q l = h
     assigned_by-comes false t q l =
-        moved_by-comes (is_ready (task_at s.tasks t)) t (record (task_at s.tasks t) { processor = q }) l (alike t) refl (λ e. e)
+        moved_by-comes (is_ready (task_at s.tasks t)) t (record (task_at s.tasks t) { processor = q }) l
+        (alike t) refl (λ e. e)
         (λ e. first-true (is_ready (task_at s.tasks t)) (is_waiting (task_at s.tasks t).phase) e)
 
     wakeup_queued-comes : (t : ℕ) → t < length s.tasks → Comes (wakeup_queued sys s t (task_at s.tasks t))
     wakeup_queued-comes t l =
-        either-comes (nat_lt (task_at s.tasks t).wakeups sys.queue_limit) _ (refused s er.Qovr) (keeps t _ l (alike t) refl (λ e. e)) h
+        either-comes (nat_lt (task_at s.tasks t).wakeups sys.queue_limit) _ (refused s er.Qovr)
+        (keeps t _ l (alike t) refl (λ e. e)) h
 
     woken_from-comes : (c : WaitCause) (t : ℕ) → t < length s.tasks → is_waiting (task_at s.tasks t).phase ≡ true
         → Comes (woken_from c sys s t (task_at s.tasks t))
@@ -164,7 +186,12 @@ module _ (sys : SystemTables) (P : Progress → Type 0)
       by_phase : (p : Phase) → x.phase ≡ p → P (unchanged (suspended_by p s t (record x { suspended = true })))
       by_phase Dormant e = off (sym on ∙ ap is_dormant e)
       by_phase Ready e =
-          step (Moves Out t (record x { suspended = true })) (record { there = l; fine = fine; placed = ready-leaves x.phase e; waits = λ w. w })
+          step (Moves Out t (record x { suspended = true })) (record {
+            there = l;
+            fine = fine;
+            placed = ready-leaves x.phase e;
+            waits = λ w. w;
+          })
       by_phase (Waiting c) e =
           keeps t (record x { suspended = true }) l fine (waits-stands x.phase false (not x.suspended) c e) (λ w. w)
 
@@ -210,7 +237,8 @@ module _ (sys : SystemTables) (P : Progress → Type 0)
     sets : (f bits : ℤ) → Comes (case_of sys s 0 0 (task_at [] 0) (call.SetFlg f bits))
     sets f bits =
         tested-comes er.Id (numbered (length s.flags) f) _ (λ i e. tested-comes er.Par (ranged 0 65535 bits) _
-        (λ n k. walk-comes sys P go (flag_config sys i).clears i _ (wait_queue sys s (queue.Flag i)) _ (step (Pattern i (bit_or (pattern_at s i) n)) tt)))
+        (λ n k. walk-comes sys P go (flag_config sys i).clears i _ (wait_queue sys s (queue.Flag i)) _
+        (step (Pattern i (bit_or (pattern_at s i) n)) tt)))
 
     word_sent_to-comes : (o : Option ℕ) (me : ℕ) (x : TaskBlock) (m : TimeLimit) (d : ℕ) (w : ℤ)
         → ((t : ℕ) → o ≡ Some t → is_waiting (task_at s.tasks t).phase ≡ true)
@@ -226,7 +254,8 @@ module _ (sys : SystemTables) (P : Progress → Type 0)
         → Comes (waits_within m s me x (cause.Sending d w))
         → Comes (word_sent sys s me x w m d)
     word_sent-comes me x m d w k =
-        word_sent_to-comes (first_waiting sys s (queue.Receivers d)) me x m d w (λ t e. first-waits sys s (queue.Receivers d) t e) k
+        word_sent_to-comes (first_waiting sys s (queue.Receivers d)) me x m d w
+        (λ t e. first-waits sys s (queue.Receivers d) t e) k
 
     forced_to-comes : (o : Option ℕ) (d : ℕ) (w : ℤ) → nat_eq (data_queue_config sys d).capacity 0 ≡ false
         → ((t : ℕ) → o ≡ Some t → is_waiting (task_at s.tasks t).phase ≡ true)
@@ -243,7 +272,8 @@ module _ (sys : SystemTables) (P : Progress → Type 0)
     forces d w =
         tested-comes er.Id (numbered (length s.data_queues) d) _
         (λ i e. refused_if-comes (nat_eq (data_queue_config sys i).capacity 0) er.Iluse _
-        (λ k. forced_to-comes (first_waiting sys s (queue.Receivers i)) i w k (λ t f. first-waits sys s (queue.Receivers i) t f)))
+        (λ k. forced_to-comes (first_waiting sys s (queue.Receivers i)) i w k
+        (λ t f. first-waits sys s (queue.Receivers i) t f)))
 
     oldest_taken-comes : (o : Option ℕ) (d : ℕ) (w : ℤ) (ws : List ℤ) → words_at s d ≡ w ∷ ws
         → ((t : ℕ) → o ≡ Some t → is_waiting (task_at s.tasks t).phase ≡ true)
@@ -334,7 +364,8 @@ module _ (sys : SystemTables) (P : Progress → Type 0)
 
       awaited-comes : (f pattern : ℕ) (mode : FlagMode) (m : TimeLimit) → Comes (awaited sys s me x f pattern mode m)
       awaited-comes f pattern mode m =
-          refused_if-comes (not (flag_config sys f).multiple && not (is_empty (wait_queue sys s (queue.Flag f)))) er.Iluse _
+          refused_if-comes (not (flag_config sys f).multiple && not (is_empty (wait_queue sys s (queue.Flag f))))
+          er.Iluse _
           (λ k. awaited_by-comes (satisfies mode pattern (pattern_at s f)) m f pattern mode)
 
       flag_tested-comes : (f bits o : ℤ) (next : ℕ → ℕ → FlagMode → CallOutcome)
@@ -353,10 +384,12 @@ module _ (sys : SystemTables) (P : Progress → Type 0)
             by_sender None k = waits_within-comes m (cause.Receiving d)
             by_sender (Some t) k = frees t (code er.Ok) (k t refl)
       received_from-comes (w ∷ ws) m d e =
-          oldest_taken-comes (first_waiting sys s (queue.Senders d)) d w ws e (λ t f. first-waits sys s (queue.Senders d) t f)
+          oldest_taken-comes (first_waiting sys s (queue.Senders d)) d w ws e
+          (λ t f. first-waits sys s (queue.Senders d) t f)
 
       receives : (d : ℤ) (m : TimeLimit)
-          → Comes (tested s er.Id (numbered (length s.data_queues) d) (λ i. word_received_from (words_at s i) sys s me x m i))
+          → Comes (tested s er.Id (numbered (length s.data_queues) d) (λ i. word_received_from
+          (words_at s i) sys s me x m i))
       receives d m =
           tested-comes er.Id (numbered (length s.data_queues) d) _ (λ i e. received_from-comes (words_at s i) m i refl)
 
@@ -365,7 +398,8 @@ module _ (sys : SystemTables) (P : Progress → Type 0)
       taken_from-comes [] m mailbox e = waits_within-comes m (cause.Mailbox mailbox)
       taken_from-comes (message ∷ rest) m mailbox e =
           step (Messages mailbox rest) (
-            order-rest (length sys.messages) message (messages_at s mailbox) rest e (apart-at (length sys.messages) s.mailboxes mailbox a),
+            order-rest (length sys.messages) message (messages_at s mailbox) rest e
+                (apart-at (length sys.messages) s.mailboxes mailbox a),
             new-rest s.mailboxes mailbox message rest e,
           )
 
@@ -386,7 +420,8 @@ module _ (sys : SystemTables) (P : Progress → Type 0)
       case_of-comes p call.ExtTsk = ended_itself-comes p
       case_of-comes p (call.TerTsk task) =
           on_task-comes (by_number s task) _ (λ t e. refused_if-comes (nat_eq t me) er.Iluse _
-          (λ f. refused_if-comes (is_dormant (task_at s.tasks t).phase || not (nat_eq (task_at s.tasks t).processor p)) er.Obj _
+          (λ f. refused_if-comes (is_dormant (task_at s.tasks t).phase
+          || not (nat_eq (task_at s.tasks t).processor p)) er.Obj _
           (λ g. ended-comes sys P go (unchanged s) t (task_at s.tasks t) h (number task t e))))
       case_of-comes p (call.ChgPri task priority) =
           on_task-comes (self_or s me task) _ (λ t e. tested-comes er.Par (ranged 0 16 priority) _
@@ -394,13 +429,15 @@ module _ (sys : SystemTables) (P : Progress → Type 0)
           (λ g. moved_by-comes (goes_last sys (task_at s.tasks t)) t _ (name task t e) (alike t) refl (λ w. w)
           (λ k. goes_last-stands sys (task_at s.tasks t) k))))
       case_of-comes p (call.GetPri task) =
-          on_task-comes (self_or s me task) _ (λ t e. refused_if-comes (is_dormant (task_at s.tasks t).phase) er.Obj _ (λ f. h))
+          on_task-comes (self_or s me task) _ (λ t e. refused_if-comes (is_dormant (task_at s.tasks t).phase) er.Obj _
+          (λ f. h))
       case_of-comes p (call.MactTsk task processor) =
           on_task-comes (self_or s me task) _ (λ t e. tested-comes er.Par (allowed_processor sys t processor) _
           (λ n f. activated_on_by-comes (task_at s.tasks t).phase t n (name task t e)))
       case_of-comes p (call.MigTsk task processor) =
           on_task-comes (self_or s me task) _ (λ t e. tested-comes er.Par (allowed_processor sys t processor) _
-          (λ n f. refused_if-comes (is_dormant (task_at s.tasks t).phase || not (nat_eq (task_at s.tasks t).processor p)) er.Obj _
+          (λ n f. refused_if-comes (is_dormant (task_at s.tasks t).phase
+          || not (nat_eq (task_at s.tasks t).processor p)) er.Obj _
           (λ g. assigned_by-comes (nat_eq (task_at s.tasks t).processor n) t n (name task t e))))
       case_of-comes p call.SlpTsk = slept_by-comes x.wakeups limit.Forever
       case_of-comes p (call.TslpTsk tmout) = tested-comes er.Par (limit_of tmout) _ (λ m e. slept_by-comes x.wakeups m)
@@ -425,7 +462,8 @@ module _ (sys : SystemTables) (P : Progress → Type 0)
       case_of-comes p (call.PolSem semaphore) =
           tested-comes er.Id (numbered (length s.semaphores) semaphore) _ (λ n e. acquires n limit.Poll)
       case_of-comes p (call.TwaiSem semaphore tmout) =
-          tested-comes er.Id (numbered (length s.semaphores) semaphore) _ (λ n e. tested-comes er.Par (limit_of tmout) _ (λ m f. acquires n m))
+          tested-comes er.Id (numbered (length s.semaphores) semaphore) _
+          (λ n e. tested-comes er.Par (limit_of tmout) _ (λ m f. acquires n m))
       case_of-comes p (call.SetFlg flag pattern) = sets flag pattern
       case_of-comes p (call.ClrFlg flag pattern) =
           tested-comes er.Id (numbered (length s.flags) flag) _ (λ i e. tested-comes er.Par (ranged 0 65535 pattern) _
@@ -435,7 +473,8 @@ module _ (sys : SystemTables) (P : Progress → Type 0)
       case_of-comes p (call.PolFlg flag pattern mode) =
           flag_tested-comes flag pattern mode _ (λ i bits o. awaited-comes i bits o limit.Poll)
       case_of-comes p (call.TwaiFlg flag pattern mode tmout) =
-          flag_tested-comes flag pattern mode _ (λ i bits o. tested-comes er.Par (limit_of tmout) _ (λ m e. awaited-comes i bits o m))
+          flag_tested-comes flag pattern mode _ (λ i bits o. tested-comes er.Par (limit_of tmout) _
+          (λ m e. awaited-comes i bits o m))
       case_of-comes p (call.SndDtq queue word) =
           tested-comes er.Id (numbered (length s.data_queues) queue) _
           (λ i e. word_sent-comes me x limit.Forever i word (waits_within-comes limit.Forever (cause.Sending i word)))
@@ -451,17 +490,21 @@ module _ (sys : SystemTables) (P : Progress → Type 0)
           tested-comes er.Id (numbered (length s.data_queues) queue) _ (λ i e. tested-comes er.Par (limit_of tmout) _
           (λ m f. received_from-comes (words_at s i) m i refl))
       case_of-comes p (call.SndMbx mailbox message) =
-          tested-comes er.Id (numbered (length s.mailboxes) mailbox) _ (λ i e. tested-comes er.Id (numbered (length sys.messages) message) _
-          (λ g f. refused_if-comes (is_by_priority (mailbox_config sys i).message_order && nat_lt (mailbox_config sys i).most
+          tested-comes er.Id (numbered (length s.mailboxes) mailbox) _ (λ i e. tested-comes er.Id
+          (numbered (length sys.messages) message) _
+          (λ g f. refused_if-comes (is_by_priority (mailbox_config sys i).message_order
+          && nat_lt (mailbox_config sys i).most
           (message_priority sys g)) er.Par _ (λ j. refused_if-comes (is_queued g s.mailboxes) er.Obj _
-          (λ n. message_sent_to-comes (first_waiting sys s (queue.Mailbox i)) i g (λ t k. first-waits sys s (queue.Mailbox i) t k)
+          (λ n. message_sent_to-comes (first_waiting sys s (queue.Mailbox i)) i g
+          (λ t k. first-waits sys s (queue.Mailbox i) t k)
           (numbered-there (length sys.messages) message g f) n))))
       case_of-comes p (call.RcvMbx mailbox) =
           tested-comes er.Id (numbered (length s.mailboxes) mailbox) _ (λ i e. takes i limit.Forever)
       case_of-comes p (call.PrcvMbx mailbox) =
           tested-comes er.Id (numbered (length s.mailboxes) mailbox) _ (λ i e. takes i limit.Poll)
       case_of-comes p (call.TrcvMbx mailbox tmout) =
-          tested-comes er.Id (numbered (length s.mailboxes) mailbox) _ (λ i e. tested-comes er.Par (limit_of tmout) _ (λ m f. takes i m))
+          tested-comes er.Id (numbered (length s.mailboxes) mailbox) _ (λ i e. tested-comes er.Par (limit_of tmout) _
+          (λ m f. takes i m))
       case_of-comes p (call.StaCyc cyclic) =
           tested-comes er.Id (numbered (length s.due_times) cyclic) _
           (λ i e. step (Due i (Some (clock_after s (cyclic_config sys i).period))) (after (cyclic_config sys i).period))
@@ -477,7 +520,8 @@ module _ (sys : SystemTables) (P : Progress → Type 0)
       case_of-comes p (call.LocSpn lock) =
           tested-comes er.Id (numbered (length sys.spin_locks) lock) _ (λ i e. spins (is_held i s.processors) p i)
       case_of-comes p (call.TrySpn lock) =
-          tested-comes er.Id (numbered (length sys.spin_locks) lock) _ (λ i e. refused_if-comes (is_held i s.processors) er.Obj _
+          tested-comes er.Id (numbered (length sys.spin_locks) lock) _ (λ i e. refused_if-comes
+          (is_held i s.processors) er.Obj _
           (λ f. step (Cpu p _) tt))
       case_of-comes p (call.UnlSpn lock) =
           tested-comes er.Id (numbered (length sys.spin_locks) lock) _
@@ -498,7 +542,8 @@ module _ (sys : SystemTables) (P : Progress → Type 0)
 
       pub task-comes : (p : ℕ) (c : Call) → Comes (called sys s p (caller.Task me) c)
       task-comes p c =
-          refused_if-comes (is_barred (permission (service_of c)) (processor_at s p) (caller.Task me) c) er.Ctx _ (λ e. case_of-comes p c)
+          refused_if-comes (is_barred (permission (service_of c)) (processor_at s p) (caller.Task me) c) er.Ctx _
+          (λ e. case_of-comes p c)
 
     handled : (p : ℕ) (i : Handler) (c : Call) → Comes (case_of sys s p 0 (task_at [] 0) c)
         → Comes (called sys s p (caller.Handler i) c)

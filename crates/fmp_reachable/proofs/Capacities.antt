@@ -1,5 +1,6 @@
 -- No data queue holds more words than its capacity: how this comes through sending, forcing and receiving.
-use Rattle.std.proofs.Common.{◌≡◌, ◌≤◌, ◌+◌, ℕ, zero, suc, ℤ, List, [], ◌∷◌, ◌++◌, true, false, refl, subst, arith, length, get_or, nat_eq, slice_set, replicate}
+use Rattle.std.proofs.Common.{◌≡◌, ◌≤◌, ◌+◌, ℕ, zero, suc, ℤ, List, [], ◌∷◌, ◌++◌, true, false, refl, subst, arith}
+use Rattle.std.proofs.Common.{length, get_or, nat_eq, slice_set, replicate}
 use Rattle.std.proofs.lemmas.Bool.Decides.{nat_tests}
 use Rattle.std.proofs.lemmas.List.{length-append}
 use Rattle.fmp_base.specs.DataQueueCalls.{has_room, without_oldest, words_at}

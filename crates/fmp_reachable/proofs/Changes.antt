@@ -1,5 +1,6 @@
 -- The changes of which calls, the clock and settling are made, and what each of them keeps.
-use Rattle.std.proofs.Common.{◌≡◌, ℕ, ◌+◌, ◌≤◌, ◌<◌, ℤ, List, [], ◌∷◌, ◌++◌, Option, Some, None, Bool, true, false, ◌||◌, refl, sym, ◌∙◌, ap, subst, arith, length, nat_eq, slice_get, slice_set}
+use Rattle.std.proofs.Common.{◌≡◌, ℕ, ◌+◌, ◌≤◌, ◌<◌, ℤ, List, [], ◌∷◌, ◌++◌, Option, Some, None, Bool, true, false}
+use Rattle.std.proofs.Common.{◌||◌, refl, sym, ◌∙◌, ap, subst, arith, length, nat_eq, slice_get, slice_set}
 use Rattle.std.proofs.Math.ListN.{length-set}
 use Rattle.fmp_base.specs.declared.events.Line.{Line}
 use Rattle.fmp_base.specs.declared.events.Line.TheVariants as line
@@ -12,7 +13,8 @@ use Rattle.fmp_base.specs.FlagCalls.{with_pattern}
 use Rattle.fmp_base.specs.MailboxCalls.{with_messages}
 use Rattle.fmp_base.specs.ProcessorCalls.{with_due}
 use Rattle.fmp_base.specs.SemaphoreCalls.{with_count}
-use Rattle.fmp_base.specs.States.{KernelState, Progress, unchanged, task_at, to_end, with_last, with_processor, with_removed, with_task, without}
+use Rattle.fmp_base.specs.States.{KernelState, Progress, unchanged, task_at, to_end, with_last, with_processor}
+use Rattle.fmp_base.specs.States.{with_removed, with_task, without}
 use Rattle.fmp_base.specs.Systems.{SystemTables, data_queue_config, found, interrupt_config}
 use Rattle.fmp_base.specs.TaskCalls.{is_dormant}
 use Rattle.fmp_base.specs.Ticks.{is_pending}
@@ -48,10 +50,11 @@ is_told t (l ∷ ls) = tells t l || is_told t ls
 
 pub told-append : (t : ℕ) (xs ys : List Line) → is_told t (xs ++ ys) ≡ (is_told t xs || is_told t ys)
 told-append t [] ys = refl
-told-append t (l ∷ ls) ys = ap (λ (b : Bool). tells t l || b) (told-append t ls ys) ∙ grouped (tells t l) (is_told t ls) (is_told t ys) where
-  grouped : (a b c : Bool) → (a || (b || c)) ≡ ((a || b) || c)
-  grouped true b c = refl
-  grouped false b c = refl
+told-append t (l ∷ ls) ys = ap (λ (b : Bool). tells t l || b) (told-append t ls ys)
+    ∙ grouped (tells t l) (is_told t ls) (is_told t ys) where
+      grouped : (a b c : Bool) → (a || (b || c)) ≡ ((a || b) || c)
+      grouped true b c = refl
+      grouped false b c = refl
 
 -- where a task stands after it has changed: in its place, at the end of the order, or no longer in it
 pub data Move : Type 0 where
@@ -211,13 +214,15 @@ fine-moved low s InPlace t y h l f p =
 fine-moved low s ToEnd t y h l f p =
     record {
       each = λ u. set_tasks (IsFineBlock low) s.tasks t y u (λ e. f) (h.each u);
-      distinct = subst (λ (n : ℕ). IsOrder n (to_end s.order t)) (sym (length-set s.tasks t y)) (IsOrder-to_end (length s.tasks) t s.order h.distinct l);
+      distinct = subst (λ (n : ℕ). IsOrder n (to_end s.order t)) (sym (length-set s.tasks t y))
+          (IsOrder-to_end (length s.tasks) t s.order h.distinct l);
       standing = Standing-last s.tasks s.order t y h.standing l p;
     }
 fine-moved low s Out t y h l f p =
     record {
       each = λ u. set_tasks (IsFineBlock low) s.tasks t y u (λ e. f) (h.each u);
-      distinct = subst (λ (n : ℕ). IsOrder n (without s.order t)) (sym (length-set s.tasks t y)) (IsOrder-without (length s.tasks) t s.order h.distinct);
+      distinct = subst (λ (n : ℕ). IsOrder n (without s.order t)) (sym (length-set s.tasks t y))
+          (IsOrder-without (length s.tasks) t s.order h.distinct);
       standing = Standing-left s.tasks s.order t y h.standing l p;
     }
 
@@ -252,7 +257,8 @@ module _ (sys : SystemTables) (low now : ℕ) (before : List TaskBlock) where
       → AreAllAhead low (changed c g).state.due_times
   cyclics-changed g (Due c d) l h k =
       record {
-        each = λ e. set_at None (IsAhead low) g.state.due_times c d e (λ same. ahead-lower low (g.state.clock + 1) d l k) (h.each e);
+        each = λ e. set_at None (IsAhead low) g.state.due_times c d e (λ same. ahead-lower low
+            (g.state.clock + 1) d l k) (h.each e);
       }
   cyclics-changed g (Moves InPlace t y) l h k = h
   cyclics-changed g (Moves ToEnd t y) l h k = h
@@ -293,8 +299,10 @@ module _ (sys : SystemTables) (low now : ℕ) (before : List TaskBlock) where
       → Lasts before (slice_set tasks t y) lines
   lasts-set tasks lines t y k h =
       record {
-        each = λ u. set_tasks (λ z. is_waiting z.phase ≡ true → (is_waiting (task_at before u).phase ≡ true) × (is_told u lines ≡ false))
-            tasks t y u (λ same w. subst (λ (v : ℕ). (is_waiting (task_at before v).phase ≡ true) × (is_told v lines ≡ false)) same (h.each t (k w)))
+        each = λ u. set_tasks (λ z. is_waiting z.phase ≡ true → (is_waiting (task_at before u).phase ≡ true)
+            × (is_told u lines ≡ false))
+            tasks t y u (λ same w. subst (λ (v : ℕ). (is_waiting (task_at before v).phase ≡ true)
+            × (is_told v lines ≡ false)) same (h.each t (k w)))
             (h.each u);
       }
 
@@ -302,7 +310,13 @@ module _ (sys : SystemTables) (low now : ℕ) (before : List TaskBlock) where
       → ((t : ℕ) → is_told t ls ≡ true → is_waiting (task_at tasks t).phase ≡ false) → Lasts before tasks lines
       → Lasts before tasks (lines ++ ls)
   lasts-said tasks lines ls k h =
-      record { each = λ t w. let before_it = h.each t w in (before_it.0, told-append t lines ls ∙ by_test t (is_told t lines) (is_told t ls) w before_it.1 (k t)) } where
+      record {
+        each = λ t w. let before_it = h.each t w in (
+          before_it.0,
+          told-append t lines ls
+              ∙ by_test t (is_told t lines) (is_told t ls) w before_it.1 (k t),
+        );
+      } where
         by_test : (t : ℕ) (a b : Bool) → is_waiting (task_at tasks t).phase ≡ true → a ≡ false
             → (b ≡ true → is_waiting (task_at tasks t).phase ≡ false) → (a || b) ≡ false
         by_test t true b w e n = e

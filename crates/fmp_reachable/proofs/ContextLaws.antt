@@ -1,5 +1,6 @@
 -- What lines do to the contexts of handlers: where none begins, the bodies stay.
-use Rattle.std.proofs.Common.{◌≡◌, ℕ, zero, suc, List, [], ◌∷◌, ◌++◌, Option, Some, None, Bool, true, false, length, slice_get, slice_set, refl, ap, ◌∙◌}
+use Rattle.std.proofs.Common.{◌≡◌, ℕ, zero, suc, List, [], ◌∷◌, ◌++◌, Option, Some, None, Bool, true, false, length}
+use Rattle.std.proofs.Common.{slice_get, slice_set, refl, ap, ◌∙◌}
 use Rattle.std.proofs.lemmas.List.{length-set}
 use Rattle.std.specs.List.{AllByRecursion}
 use Rattle.fmp_base.specs.declared.bodies.HandlerContext.{HandlerContext}
@@ -10,7 +11,8 @@ use Rattle.fmp_base.specs.declared.events.Line.{Line}
 use Rattle.fmp_base.specs.declared.events.Line.TheVariants as line
 use Rattle.fmp_base.specs.declared.states.Caller.{Caller}
 use Rattle.fmp_base.specs.declared.states.Caller.TheVariants as caller
-use Rattle.fmp_base.specs.Meanings.{Meaning, Contexts, body_in, context_at, context_for, context_in, contexts_after, contexts_after_all, delivered_to, told}
+use Rattle.fmp_base.specs.Meanings.{Meaning, Contexts, body_in, context_at, context_for, context_in, contexts_after}
+use Rattle.fmp_base.specs.Meanings.{contexts_after_all, delivered_to, told}
 use Rattle.fmp_base.specs.Settles.{dispatch_lines}
 use Rattle.fmp_base.specs.States.{KernelState}
 use Rattle.fmp_base.specs.Systems.{SystemTables, found}
@@ -72,7 +74,8 @@ module _ {C : Type 0} (sys : SystemTables) (M : Meaning C) where
 
   -- the same bodies where what has this body is written
   pub body-set : (hs : List (Option (HandlerContext (Held C)))) (p : ℕ) (y : Option (HandlerContext (Held C)))
-      → kept_body y ≡ kept_body (context_at hs p) → (q : ℕ) → kept_body (context_at (slice_set hs p y) q) ≡ kept_body (context_at hs q)
+      → kept_body y ≡ kept_body (context_at hs p) → (q : ℕ) → kept_body (context_at (slice_set hs p y) q)
+      ≡ kept_body (context_at hs q)
   body-set hs p y same q =
       set_at None (λ (o : Option (HandlerContext (Held C))). kept_body o ≡ kept_body (context_at hs q)) hs p y q
       (λ e. same ∙ ap (λ (v : ℕ). kept_body (context_at hs v)) e) refl
@@ -83,7 +86,8 @@ module _ {C : Type 0} (sys : SystemTables) (M : Meaning C) where
   same-delivered cs p (caller.Handler i) reply q =
       body-set cs.handlers p _ (told-body (body_in (context_at cs.handlers p)) reply (context_at cs.handlers p)) q
 
-  same-after : (cs : Contexts (Held C)) (l : Line) → BeginsNone l → (q : ℕ) → on_at (contexts_after sys M cs l) q ≡ on_at cs q
+  same-after : (cs : Contexts (Held C)) (l : Line) → BeginsNone l → (q : ℕ) → on_at (contexts_after sys M cs l) q
+      ≡ on_at cs q
   same-after cs (line.Begins p i) n q = absurd n
   same-after cs (line.Starts p t) n q = refl
   same-after cs (line.Gets p t reply) n q = refl
@@ -121,7 +125,8 @@ module _ {C : Type 0} (sys : SystemTables) (M : Meaning C) where
   places-after cs (line.Pends q i) = refl
   places-after cs (line.Runs q u) = refl
 
-  pub places-all : (cs : Contexts (Held C)) (ls : List Line) → length (contexts_after_all sys M cs ls).handlers ≡ length cs.handlers
+  pub places-all : (cs : Contexts (Held C)) (ls : List Line) → length (contexts_after_all sys M cs ls).handlers
+      ≡ length cs.handlers
   places-all cs [] = refl
   places-all cs (l ∷ ls) = places-all (contexts_after sys M cs l) ls ∙ places-after cs l
 
@@ -143,7 +148,8 @@ module _ {C : Type 0} (sys : SystemTables) (M : Meaning C) where
   tasks-after cs (line.Pends q i) = refl
   tasks-after cs (line.Runs q u) = refl
 
-  pub tasks-all : (cs : Contexts (Held C)) (ls : List Line) → length (contexts_after_all sys M cs ls).tasks ≡ length cs.tasks
+  pub tasks-all : (cs : Contexts (Held C)) (ls : List Line) → length (contexts_after_all sys M cs ls).tasks
+      ≡ length cs.tasks
   tasks-all cs [] = refl
   tasks-all cs (l ∷ ls) = tasks-all (contexts_after sys M cs l) ls ∙ tasks-after cs l
 

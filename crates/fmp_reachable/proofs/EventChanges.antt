@@ -1,5 +1,7 @@
 -- Settling, the clock and setup are made of changes.
-use Rattle.std.proofs.Common.{◌≡◌, ◌+◌, ◌<◌, ◌≤◌, ℕ, zero, suc, ℤ, List, [], ◌∷◌, Option, Some, None, Bool, true, false, ◌||◌, ◌⊎◌, inl, inr, refl, sym, ◌∙◌, ap, subst, arith, nat_eq, length, slice_get, map, replicate, cond, if◌then◌else◌}
+use Rattle.std.proofs.Common.{◌≡◌, ◌+◌, ◌<◌, ◌≤◌, ℕ, zero, suc, ℤ, List, [], ◌∷◌, Option, Some, None, Bool, true, false}
+use Rattle.std.proofs.Common.{◌||◌, ◌⊎◌, inl, inr, refl, sym, ◌∙◌, ap, subst, arith, nat_eq, length, slice_get, map}
+use Rattle.std.proofs.Common.{replicate, cond, if◌then◌else◌}
 use Rattle.std.proofs.lemmas.Bool.Decides.{nat_tests}
 use Rattle.std.proofs.lemmas.List.{length-map, length-replicate}
 use Rattle.fmp_base.specs.declared.events.Line.TheVariants as line
@@ -12,11 +14,13 @@ use Rattle.fmp_base.specs.declared.systems.TaskConfig.{TaskConfig}
 use Rattle.fmp_base.specs.Changes.{released_state}
 use Rattle.fmp_base.specs.Outcomes.{code}
 use Rattle.fmp_base.specs.Queues.{top}
-use Rattle.fmp_base.specs.Settles.{all_settled, begun, dispatch_lines, dispatched, handler_to_begin, is_dispatch_held, is_same_task, settled, settled_on, settled_with}
+use Rattle.fmp_base.specs.Settles.{all_settled, begun, dispatch_lines, dispatched, handler_to_begin, is_dispatch_held}
+use Rattle.fmp_base.specs.Settles.{is_same_task, settled, settled_on, settled_with}
 use Rattle.fmp_base.specs.Setups.{all_started, created, created_state, first_due, started_if}
 use Rattle.fmp_base.specs.States.{KernelState, Progress, unchanged, idle, places_from, processor_at, task_at}
 use Rattle.fmp_base.specs.Systems.{SystemTables, cyclic_config, found, task_config}
-use Rattle.fmp_base.specs.Ticks.{all_cycled, all_timed_out, cycled, cycled_by, is_due, is_pending, pended, pended_by, ticked, timed_out, timed_out_by, timeout_code, with_clock_advanced}
+use Rattle.fmp_base.specs.Ticks.{all_cycled, all_timed_out, cycled, cycled_by, is_due, is_pending, pended, pended_by}
+use Rattle.fmp_base.specs.Ticks.{ticked, timed_out, timed_out_by, timeout_code, with_clock_advanced}
 use Rattle.fmp_ring.specs.OrderLaws.{nat_apart, nat_eq-same, nat_same}
 use Rattle.fmp_ring.specs.RingLists.{is_in}
 use Rattle.fmp_tasks.specs.Homes.{is_in_order}
@@ -24,7 +28,8 @@ use Rattle.fmp_worlds.proofs.Assigned.{set_over}
 use Rattle.fmp_reachable.proofs.Apart.{apart-empty}
 use Rattle.fmp_reachable.proofs.Capacities.{within-empty}
 use Rattle.fmp_reachable.specs.Numbers.{IsAhead}
-use Rattle.fmp_reachable.proofs.Changes.{Change, Cpu, Due, Interrupts, IsFair, IsFineBlock, IsSteady, Keeps, Pends, Says, changed, is_told, Sizes, keeps-changed, keeps-start, sizes, sizes_of}
+use Rattle.fmp_reachable.proofs.Changes.{Change, Cpu, Due, Interrupts, IsFair, IsFineBlock, IsSteady, Keeps, Pends}
+use Rattle.fmp_reachable.proofs.Changes.{Says, changed, is_told, Sizes, keeps-changed, keeps-start, sizes, sizes_of}
 use Rattle.fmp_reachable.proofs.Stands.{off}
 use Rattle.fmp_reachable.proofs.TaskChanges.{released-comes, started-comes}
 
@@ -102,7 +107,8 @@ module _ (sys : SystemTables) (P : Progress → Type 0)
   pended_by-comes : (b : Bool) (g : Progress) (c : ℕ) → P g → P (pended_by b sys g c)
   pended_by-comes true g c h = h
   pended_by-comes false g c h =
-      go (changed (Pends c true) g) (Says (line.Pends (cyclic_config sys c).processor c ∷ [])) (go g (Pends c true) h tt) (λ t e. off e)
+      go (changed (Pends c true) g) (Says (line.Pends (cyclic_config sys c).processor c ∷ []))
+      (go g (Pends c true) h tt) (λ t e. off e)
 
   module _ (periods : (c : ℕ) → 1 ≤ (cyclic_config sys c).period) where
     next : (now c : ℕ) → IsAhead (now + 1) (Some (now + (cyclic_config sys c).period))
@@ -117,7 +123,8 @@ module _ (sys : SystemTables) (P : Progress → Type 0)
     all_cycled-comes : (g : Progress) (cs : List ℕ) → P g → P (all_cycled sys g cs)
     all_cycled-comes g [] h = h
     all_cycled-comes g (c ∷ cs) h =
-        all_cycled-comes (cycled sys g c) cs (cycled_by-comes (is_due g.state.clock (found None (slice_get g.state.due_times c))) g c h)
+        all_cycled-comes (cycled sys g c) cs (cycled_by-comes (is_due g.state.clock
+        (found None (slice_get g.state.due_times c))) g c h)
 
     ticked-comes : (s : KernelState) → P (unchanged (with_clock_advanced s)) → P (ticked sys s)
     ticked-comes s h =
@@ -154,9 +161,11 @@ released-undue : (b : Bool) (s : KernelState) (t : ℕ) (y : TaskBlock) (u : ℕ
     → ((t ≡ u → ⊥) → is_due s.clock (task_at s.tasks u).deadline ≡ false)
     → is_due (released_state b s t y).clock (task_at (released_state b s t y).tasks u).deadline ≡ false
 released-undue true s t y u e h =
-    set_over (task_at [] 0) (λ z. is_due s.clock z.deadline ≡ false) s.tasks t y u refl (λ same. ap (is_due s.clock) e) h
+    set_over (task_at [] 0) (λ z. is_due s.clock z.deadline ≡ false) s.tasks t y u refl
+    (λ same. ap (is_due s.clock) e) h
 released-undue false s t y u e h =
-    set_over (task_at [] 0) (λ z. is_due s.clock z.deadline ≡ false) s.tasks t y u refl (λ same. ap (is_due s.clock) e) h
+    set_over (task_at [] 0) (λ z. is_due s.clock z.deadline ≡ false) s.tasks t y u refl
+    (λ same. ap (is_due s.clock) e) h
 
 timed_out_by-undue : (b : Bool) (g : Progress) (t u : ℕ) → is_due g.state.clock (task_at g.state.tasks t).deadline ≡ b
     → ((t ≡ u → ⊥) → IsUndue g u) → IsUndue (timed_out_by b g t (task_at g.state.tasks t)) u
@@ -185,8 +194,10 @@ all_timed_out-undue g (t ∷ ts) u (inr e) =
 in-places : (n k u : ℕ) → k ≤ u → u < k + n → is_in u (places_from k n) ≡ true
 in-places zero k u a b = absurd (omega (arith, a, b))
 in-places (suc n) k u a b =
-    apart_or_same u k (λ same. here (nat_eq u k) (is_in u (places_from (k + 1) n)) (subst (λ (v : ℕ). nat_eq u v ≡ true) same (nat_eq-same u)))
-    (λ other. behind (nat_eq u k) (is_in u (places_from (k + 1) n)) (in-places n (k + 1) u (omega (arith, a, other)) (omega (arith, b)))) where
+    apart_or_same u k (λ same. here (nat_eq u k) (is_in u (places_from (k + 1) n))
+    (subst (λ (v : ℕ). nat_eq u v ≡ true) same (nat_eq-same u)))
+    (λ other. behind (nat_eq u k) (is_in u (places_from (k + 1) n)) (in-places n (k + 1) u (omega (arith, a, other))
+    (omega (arith, b)))) where
       here : (a b : Bool) → a ≡ true → (a || b) ≡ true
       here true b e = refl
       here false b e = cc
@@ -203,7 +214,8 @@ tasks-undue : (g : Progress) (u : ℕ) → IsUndue (all_timed_out g (places_from
 tasks-undue g u =
     all_timed_out-undue g (places_from 0 (length g.state.tasks)) u
     (due_or_not (is_due g.state.clock (task_at g.state.tasks u).deadline)
-    (λ e. let l = task-there g.state.clock g.state.tasks u e in in-places (length g.state.tasks) 0 u (omega arith) (omega (arith, l))))
+    (λ e. let l = task-there g.state.clock g.state.tasks u e in in-places (length g.state.tasks) 0 u (omega arith)
+    (omega (arith, l))))
 
 -- cyclic handlers
 abbrev IsCalm : Progress → ℕ → Type 0
@@ -244,7 +256,8 @@ module _ (sys : SystemTables) where
         → ((c ≡ e → ⊥) → IsCalm g e) → IsCalm (cycled_by b sys g c) e
     cycled_by-calm true g c e k h =
         let i = pended sys g c in
-        set_over None (λ d. is_due i.state.clock d ≡ false) i.state.due_times c (Some (i.state.clock + (cyclic_config sys c).period)) e refl
+        set_over None (λ d. is_due i.state.clock d ≡ false) i.state.due_times c
+        (Some (i.state.clock + (cyclic_config sys c).period)) e refl
         (λ same. later i.state.clock c) (λ n. pended_by-calm (is_pending g.state.pending_cyclics c) g c e (h n))
     cycled_by-calm false g c e k h = apart_or_same c e (λ same. subst (λ (v : ℕ). IsCalm g v) same k) h
 
@@ -270,7 +283,8 @@ module _ (sys : SystemTables) where
     cyclics-calm g n e same =
         all_cycled-calm g (places_from 0 n) e
         (due_or_not (is_due g.state.clock (found None (slice_get g.state.due_times e)))
-        (λ k. let l = time-there g.state.clock g.state.due_times e k in in-places n 0 e (omega arith) (omega (arith, l, same))))
+        (λ k. let l = time-there g.state.clock g.state.due_times e k in in-places n 0 e (omega arith)
+        (omega (arith, l, same))))
 
     strict : (now : ℕ) (d : Option ℕ) → IsAhead now d → is_due now d ≡ false → IsAhead (now + 1) d
     strict now None h e = tt
@@ -296,11 +310,14 @@ module _ (sys : SystemTables) where
         let P : Progress → Type 0 = Keeps sys now now s.tasks in
         let freed = all_timed_out (unchanged (with_clock_advanced s)) (places_from 0 (length s.tasks)) in
         let first : Keeps sys now now s.tasks freed =
-        all_timed_out-comes sys P (keeps-changed sys now now s.tasks) (unchanged (with_clock_advanced s)) (places_from 0 (length s.tasks)) start in
+        all_timed_out-comes sys P (keeps-changed sys now now s.tasks) (unchanged (with_clock_advanced s))
+        (places_from 0 (length s.tasks)) start in
         let last : Keeps sys now now s.tasks (ticked sys s) =
-        all_cycled-comes sys P (keeps-changed sys now now s.tasks) periods freed (places_from 0 (length s.due_times)) first in
+        all_cycled-comes sys P (keeps-changed sys now now s.tasks) periods freed
+        (places_from 0 (length s.due_times)) first in
         let beside = all_cycled-beside freed (places_from 0 (length s.due_times)) in
-        let many : length freed.state.due_times ≡ length s.due_times = ap (λ (z : Sizes). z.cyclics) (first.sizes ∙ sym h.sizes) in
+        let many : length freed.state.due_times ≡ length s.due_times = ap (λ (z : Sizes). z.cyclics)
+        (first.sizes ∙ sym h.sizes) in
         let b = last.blocks in
         record {
           blocks = record {
@@ -316,8 +333,10 @@ module _ (sys : SystemTables) where
             standing = b.standing;
           };
           cyclics = record {
-            each = λ c. let l = last.cyclics in strict now (found None (slice_get (ticked sys s).state.due_times c)) (l.each c)
-                (subst (λ (n : ℕ). is_due n (found None (slice_get (ticked sys s).state.due_times c)) ≡ false) last.clock
+            each = λ c. let l = last.cyclics in strict now (found None (slice_get (ticked sys s).state.due_times c))
+                (l.each c)
+                (subst (λ (n : ℕ). is_due n (found None (slice_get (ticked sys s).state.due_times c)) ≡ false)
+                last.clock
                 (cyclics-calm freed (length s.due_times) c many));
           };
           messages = last.messages;

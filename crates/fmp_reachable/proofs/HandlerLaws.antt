@@ -1,5 +1,6 @@
 -- A context is kept of the handler of a processor exactly where one runs: a context of its body.
-use Rattle.std.proofs.Common.{◌≡◌, ℕ, zero, suc, ◌+◌, ◌≤◌, List, [], ◌∷◌, ◌++◌, Option, Some, None, Bool, true, false, ◌||◌, length, map, replicate, slice_get, refl, sym, subst, ap, ◌∙◌, arith, if◌then◌else◌}
+use Rattle.std.proofs.Common.{◌≡◌, ℕ, zero, suc, ◌+◌, ◌≤◌, List, [], ◌∷◌, ◌++◌, Option, Some, None, Bool, true, false}
+use Rattle.std.proofs.Common.{◌||◌, length, map, replicate, slice_get, refl, sym, subst, ap, ◌∙◌, arith, if◌then◌else◌}
 use Rattle.std.proofs.lemmas.List.{length-replicate, length-set}
 use Rattle.std.specs.List.{AllByRecursion}
 use Rattle.fmp_base.specs.declared.bodies.HandlerContext.{HandlerContext}
@@ -22,14 +23,19 @@ use Rattle.fmp_base.specs.declared.systems.InterruptConfig.{InterruptConfig}
 use Rattle.fmp_base.specs.declared.systems.TaskConfig.{TaskConfig}
 use Rattle.fmp_base.specs.Calls.{called}
 use Rattle.fmp_base.specs.Changes.{started_block}
-use Rattle.fmp_base.specs.Meanings.{Meaning, Contexts, World, body_in, context_at, context_for, context_in, context_of, contexts_after_all, fresh_context, handler_start, with_context}
+use Rattle.fmp_base.specs.Meanings.{Meaning, Contexts, World, body_in, context_at, context_for, context_in, context_of}
+use Rattle.fmp_base.specs.Meanings.{contexts_after_all, fresh_context, handler_start, with_context}
 use Rattle.fmp_base.specs.ProcessorCalls.{is_cpu_locked}
 use Rattle.fmp_base.specs.Queues.{top}
 use Rattle.fmp_base.specs.Runs.{run, run_on}
-use Rattle.fmp_base.specs.Settles.{all_settled, dispatch_lines, dispatched, handler_to_begin, is_dispatch_held, is_same_task, runs_handler, settled_on, settled_with, without_pending}
+use Rattle.fmp_base.specs.Settles.{all_settled, dispatch_lines, dispatched, handler_to_begin, is_dispatch_held}
+use Rattle.fmp_base.specs.Settles.{is_same_task, runs_handler, settled_on, settled_with, without_pending}
 use Rattle.fmp_base.specs.Setups.{all_started, created_state, first_contexts, setup, started_if}
-use Rattle.fmp_base.specs.States.{KernelState, Progress, idle, places_from, processor_at, task_at, unchanged, with_processor}
-use Rattle.fmp_base.specs.Steps.{Reaction, Nothing, Did, Kept, actor_by, actor_ended, answered, call_made, contexts_ended, ended_with, finished, handler_ended, interrupted, interrupted_by, run_by, run_in, step, stretched}
+use Rattle.fmp_base.specs.States.{KernelState, Progress, idle, places_from, processor_at, task_at, unchanged}
+use Rattle.fmp_base.specs.States.{with_processor}
+use Rattle.fmp_base.specs.Steps.{Reaction, Nothing, Did, Kept, actor_by, actor_ended, answered, call_made}
+use Rattle.fmp_base.specs.Steps.{contexts_ended, ended_with, finished, handler_ended, interrupted, interrupted_by}
+use Rattle.fmp_base.specs.Steps.{run_by, run_in, step, stretched}
 use Rattle.fmp_base.specs.Stretches.{Ending}
 use Rattle.fmp_base.specs.Stretches as ends
 use Rattle.fmp_base.specs.Systems.{SystemTables, body_of, found, interrupt_config, task_config}
@@ -45,7 +51,8 @@ use Rattle.fmp_worlds.proofs.StepLemmas.{IsActor, LeavesSettled, acts, holds, st
 use Rattle.fmp_worlds.proofs.TickLemmas.{actors-ticked, lines-ticked}
 use Rattle.fmp_reachable.specs.Rooms.{HasSizes, is_handler_of}
 use Rattle.fmp_reachable.proofs.BeginLaws.{IsOf, begins-of}
-use Rattle.fmp_reachable.proofs.ContextLaws.{BeginsNone, after-append, body-set, both-set, dispatch-begins_none, kept_body, on_at, own-begins_none, places-all, same-all, tasks-all}
+use Rattle.fmp_reachable.proofs.ContextLaws.{BeginsNone, after-append, body-set, both-set, dispatch-begins_none}
+use Rattle.fmp_reachable.proofs.ContextLaws.{kept_body, on_at, own-begins_none, places-all, same-all, tasks-all}
 
 -- a handler of p begins with this body
 pub record Begins (sys : SystemTables) (p : ℕ) (h : Handler) (body : ℕ) : Type 0 where
@@ -69,7 +76,8 @@ cyclics-with (Some (handler.Interrupt i)) g p cpu = refl
 cyclics-with (Some (handler.Cyclic c)) g p cpu = length-set g.state.pending_cyclics c false
 cyclics-with None g p cpu = by_held (is_dispatch_held cpu) where
   by_held : (b : Bool)
-      → length (if b then g else dispatched g p cpu (top g.state p)).state.pending_cyclics ≡ length g.state.pending_cyclics
+      → length (if b then g else dispatched g p cpu (top g.state p)).state.pending_cyclics
+      ≡ length g.state.pending_cyclics
   by_held true = refl
   by_held false = refl
 
@@ -120,9 +128,11 @@ module _ {C : Type 0} (sys : SystemTables) (M : Meaning C) where
   abbrev MatchedBy : Contexts (Held C) → Progress → Type 0
   MatchedBy cs g = AreMatched g.state (contexts_after_all sys M cs g.lines)
 
-  fresh-matches : (p : ℕ) (h : Handler) → IsOf sys p h → Matches sys p (Some h) (kept_body (fresh_context M (handler_start sys h)))
+  fresh-matches : (p : ℕ) (h : Handler) → IsOf sys p h → Matches sys p (Some h)
+      (kept_body (fresh_context M (handler_start sys h)))
   fresh-matches p h is = by_start (handler_start sys h) refl is.there where
-    by_start : (o : Option HandlerStart) → handler_start sys h ≡ o → IsThere o → Matches sys p (Some h) (kept_body (fresh_context M o))
+    by_start : (o : Option HandlerStart) → handler_start sys h ≡ o → IsThere o
+        → Matches sys p (Some h) (kept_body (fresh_context M o))
     by_start None e there = absurd there
     by_start (Some start) e there = record { own = is.own; start = start; starts = e; same = refl }
 
@@ -142,11 +152,15 @@ module _ {C : Type 0} (sys : SystemTables) (M : Meaning C) where
       (record {
         tasks = m.tasks;
         handlers = length-set (handlers_by cs g) p _ ∙ m.handlers;
-        each = λ q. both-set idle None (λ (c : Processor) (o : Option (HandlerContext (Held C))). Matches sys q c.handler (kept_body o))
-            u.processors (handlers_by cs g) (ap (λ (cpus : List Processor). length cpus) same ∙ long ∙ sym m.handlers) p (running g p h)
+        each = λ q. both-set idle None (λ (c : Processor) (o : Option (HandlerContext (Held C))). Matches sys q
+            c.handler (kept_body o))
+            u.processors (handlers_by cs g) (ap (λ (cpus : List Processor). length cpus) same ∙ long ∙ sym m.handlers)
+            p (running g p h)
             (fresh_context M (handler_start sys h)) q
-            (λ e. subst (λ (v : ℕ). Matches sys v (Some h) (kept_body (fresh_context M (handler_start sys h)))) e (fresh-matches p h is))
-            (subst (λ (cpus : List Processor). Matches sys q (found idle (slice_get cpus q)).handler (kept_body (context_at (handlers_by cs g) q))) (sym same)
+            (λ e. subst (λ (v : ℕ). Matches sys v (Some h) (kept_body (fresh_context M (handler_start sys h)))) e
+            (fresh-matches p h is))
+            (subst (λ (cpus : List Processor). Matches sys q (found idle (slice_get cpus q)).handler
+            (kept_body (context_at (handlers_by cs g) q))) (sym same)
             (m.each q));
       })
 
@@ -155,7 +169,8 @@ module _ {C : Type 0} (sys : SystemTables) (M : Meaning C) where
   matched-dispatched cs g p t m =
       let more = dispatch_lines (is_same_task (processor_at g.state p).run t) p t in
       let ds = contexts_after_all sys M cs g.lines in
-      subst (λ (es : Contexts (Held C)). AreMatched (dispatched g p (processor_at g.state p) t).state es) (sym (after-append sys M cs g.lines more))
+      subst (λ (es : Contexts (Held C)). AreMatched (dispatched g p (processor_at g.state p) t).state es)
+      (sym (after-append sys M cs g.lines more))
       (same-matched g.state (dispatched g p (processor_at g.state p) t).state ds (contexts_after_all sys M ds more)
       (tasks-all sys M ds more) (places-all sys M ds more)
       (λ q. set_at idle (λ (c : Processor). c.handler ≡ (processor_at g.state q).handler) g.state.processors p _ q
@@ -168,18 +183,22 @@ module _ {C : Type 0} (sys : SystemTables) (M : Meaning C) where
   matched-none false cs g p m = matched-dispatched cs g p (top g.state p) m
 
   matched-with : (o : Option Handler) (cs : Contexts (Held C)) (g : Progress) (p : ℕ)
-      → handler_to_begin sys g.state p (processor_at g.state p) ≡ o → length g.state.pending_cyclics ≤ length sys.cyclics
+      → handler_to_begin sys g.state p (processor_at g.state p) ≡ o
+      → length g.state.pending_cyclics ≤ length sys.cyclics
       → length g.state.processors ≡ sys.processors → MatchedBy cs g
       → MatchedBy cs (settled_with o g p (processor_at g.state p))
   matched-with None cs g p e few long m = matched-none (is_dispatch_held (processor_at g.state p)) cs g p m
   matched-with (Some (handler.Interrupt i)) cs g p e few long m =
       matched-begun cs g (without_pending g.state (handler.Interrupt i)) p (handler.Interrupt i) refl long
-      (begins-of (runs_handler (processor_at g.state p).handler || is_cpu_locked (processor_at g.state p)) sys g.state p _ few e) m
+      (begins-of (runs_handler (processor_at g.state p).handler || is_cpu_locked (processor_at g.state p)) sys g.state
+      p _ few e) m
   matched-with (Some (handler.Cyclic c)) cs g p e few long m =
       matched-begun cs g (without_pending g.state (handler.Cyclic c)) p (handler.Cyclic c) refl long
-      (begins-of (runs_handler (processor_at g.state p).handler || is_cpu_locked (processor_at g.state p)) sys g.state p _ few e) m
+      (begins-of (runs_handler (processor_at g.state p).handler || is_cpu_locked (processor_at g.state p)) sys g.state
+      p _ few e) m
 
-  matched-all : (cs : Contexts (Held C)) (g : Progress) (ps : List ℕ) → length g.state.pending_cyclics ≤ length sys.cyclics
+  matched-all : (cs : Contexts (Held C)) (g : Progress) (ps : List ℕ)
+      → length g.state.pending_cyclics ≤ length sys.cyclics
       → length g.state.processors ≡ sys.processors → MatchedBy cs g → MatchedBy cs (all_settled sys g ps)
   matched-all cs g [] few long m = m
   matched-all cs g (p ∷ ps) few long m =
@@ -216,12 +235,14 @@ module _ {C : Type 0} (sys : SystemTables) (M : Meaning C) where
       (same-matched s g.state cs (contexts_after_all sys M cs (own ∷ g.lines)) (tasks-all sys M cs (own ∷ g.lines))
       (places-all sys M cs (own ∷ g.lines)) same (same-all sys M cs (own ∷ g.lines) (first, rest)) m)
 
-  answered-matched : (answer : Answer) (s : KernelState) (cs : Contexts (Held C)) (p : ℕ) (who : Caller) (made : Call) (g : Progress)
+  answered-matched : (answer : Answer) (s : KernelState) (cs : Contexts (Held C)) (p : ℕ) (who : Caller) (made : Call)
+      (g : Progress)
       → AreMatched s cs → AllByRecursion BeginsNone g.lines → SameHandlers s g.state
       → LeavesMatched (answered answer sys M cs p who made g)
   answered-matched (Replies reply) s cs p who made g m rest same =
       caused-matched s cs (line.Call p who made (Some reply)) g m tt rest same
-  answered-matched Waits s cs p who made g m rest same = caused-matched s cs (line.Call p who made None) g m tt rest same
+  answered-matched Waits s cs p who made g m rest same = caused-matched s cs
+      (line.Call p who made None) g m tt rest same
   answered-matched Ends s cs p who made g m rest same = caused-matched s cs (line.End p who) g m tt rest same
   answered-matched Spins s cs p who made g m rest same = tt
 
@@ -239,19 +260,23 @@ module _ {C : Type 0} (sys : SystemTables) (M : Meaning C) where
       same-matched s s cs (with_context cs p (caller.Handler i) (Some c)) refl (length-set cs.handlers p _) (λ q. refl)
       (body-set sys M cs.handlers p _ (for-body (context_at cs.handlers p) c there)) m
 
-  called-matched : (w : World C) (p : ℕ) (who : Caller) (c : Held C) (made : Call) → IsThere (context_of w.contexts p who)
+  called-matched : (w : World C) (p : ℕ) (who : Caller) (c : Held C) (made : Call)
+      → IsThere (context_of w.contexts p who)
       → IsActor sys w.state p who → Holds w.state → IsMatched w
-      → LeavesMatched (call_made sys M (with_context w.contexts p who (Some c)) p who made (called sys w.state p who made))
+      → LeavesMatched (call_made sys M (with_context w.contexts p who (Some c)) p who made
+      (called sys w.state p who made))
   called-matched w p (caller.Task me) c made there i a m =
       let o = called sys w.state p (caller.Task me) made in
       let f = keeps-task_call sys w.state p me made in
-      answered-matched o.answer w.state (with_context w.contexts p (caller.Task me) (Some c)) p (caller.Task me) made o.progress
+      answered-matched o.answer w.state (with_context w.contexts p (caller.Task me) (Some c)) p
+      (caller.Task me) made o.progress
       (with-matched w.state w.contexts p (caller.Task me) c there m)
       (all-map (IsOwn w.state p) BeginsNone o.progress.lines (own-begins_none w.state p) (f.lines i a)) f.handlers
   called-matched w p (caller.Handler j) c made there i a m =
       let o = called sys w.state p (caller.Handler j) made in
       let f = keeps-handler_call sys w.state p j made in
-      answered-matched o.answer w.state (with_context w.contexts p (caller.Handler j) (Some c)) p (caller.Handler j) made o.progress
+      answered-matched o.answer w.state (with_context w.contexts p (caller.Handler j) (Some c)) p
+      (caller.Handler j) made o.progress
       (with-matched w.state w.contexts p (caller.Handler j) c there m)
       (all-map (IsOwn w.state p) BeginsNone o.progress.lines (own-begins_none w.state p) (f.lines tt a)) f.handlers
 
@@ -262,7 +287,8 @@ module _ {C : Type 0} (sys : SystemTables) (M : Meaning C) where
       let g = actor_ended sys w.state p (caller.Task t) in
       caused-matched w.state (contexts_ended sys M w.contexts p (caller.Task t)) own g
       (record { tasks = length-set w.contexts.tasks t _ ∙ m.tasks; handlers = m.handlers; each = m.each }) n
-      (all-map (IsOwn w.state p) BeginsNone g.lines (own-begins_none w.state p) (lines-ended_itself sys w.state p t x i.runs a))
+      (all-map (IsOwn w.state p) BeginsNone g.lines (own-begins_none w.state p)
+      (lines-ended_itself sys w.state p t x i.runs a))
       (handlers-ended_itself sys w.state p t x)
   ended-matched w p (caller.Handler j) own n sizes i a m =
       caused-matched (handler_ended w.state p) (contexts_ended sys M w.contexts p (caller.Handler j)) own
@@ -270,7 +296,8 @@ module _ {C : Type 0} (sys : SystemTables) (M : Meaning C) where
       (record {
         tasks = m.tasks;
         handlers = length-set w.contexts.handlers p None ∙ m.handlers;
-        each = λ q. both-set idle None (λ (c : Processor) (o : Option (HandlerContext (Held C))). Matches sys q c.handler (kept_body o))
+        each = λ q. both-set idle None (λ (c : Processor) (o : Option (HandlerContext (Held C))). Matches sys q
+            c.handler (kept_body o))
             w.state.processors w.contexts.handlers (sizes.processors ∙ sym m.handlers) p
             (record (processor_at w.state p) { handler = None }) None q (λ e. tt) (m.each q);
       }) n tt (λ q. refl)
@@ -280,9 +307,11 @@ module _ {C : Type 0} (sys : SystemTables) (M : Meaning C) where
       → LeavesMatched (stretched sys M w p who x)
   stretched-matched w p who (ends.Call c made) there sizes i a m = called-matched w p who (Awaits c) made there i a m
   stretched-matched w p who (ends.End c) there sizes i a m = ended-matched w p who (line.End p who) tt sizes i a m
-  stretched-matched w p who (ends.Fault c fault) there sizes i a m = ended-matched w p who (line.Fault p who fault) tt sizes i a m
+  stretched-matched w p who (ends.Fault c fault) there sizes i a m = ended-matched w p who
+      (line.Fault p who fault) tt sizes i a m
   stretched-matched w p who (ends.Over None) there sizes i a m = tt
-  stretched-matched w p who (ends.Over (Some c)) there sizes i a m = with-matched w.state w.contexts p who (Goes c) there m
+  stretched-matched w p who (ends.Over (Some c)) there sizes i a m = with-matched w.state w.contexts p who
+      (Goes c) there m
 
   run_in-matched : (n : ℕ) (w : World C) (p : ℕ) (who : Caller) (o : Option (Held C)) → context_of w.contexts p who ≡ o
       → HasSizes sys w.state → IsActor sys w.state p who → Holds w.state → IsMatched w
@@ -296,9 +325,11 @@ module _ {C : Type 0} (sys : SystemTables) (M : Meaning C) where
       → (processor_at w.state p).handler ≡ i → (processor_at w.state p).run ≡ t → HasSizes sys w.state → IsMatched w
       → LeavesMatched (run_by sys M n w p (actor_by i t))
   run_by-matched n w p (Some i) t h e r sizes m =
-      run_in-matched n w p (caller.Handler i) (context_of w.contexts p (caller.Handler i)) refl sizes tt (holds sys w.state h) m
+      run_in-matched n w p (caller.Handler i) (context_of w.contexts p (caller.Handler i)) refl sizes tt
+      (holds sys w.state h) m
   run_by-matched n w p None (Some t) h e r sizes m =
-      run_in-matched n w p (caller.Task t) (context_of w.contexts p (caller.Task t)) refl sizes (acts sys w.state p t h e r)
+      run_in-matched n w p (caller.Task t) (context_of w.contexts p (caller.Task t)) refl sizes
+      (acts sys w.state p t h e r)
       (holds sys w.state h) m
   run_by-matched n w p None None h e r sizes m = tt
 
@@ -309,7 +340,8 @@ module _ {C : Type 0} (sys : SystemTables) (M : Meaning C) where
     by_pending : (pending : Bool) → LeavesMatched (interrupted_by pending sys M w i)
     by_pending true = tt
     by_pending false =
-        caused-matched w.state w.contexts (line.Int i) (unchanged (with_interrupt_pending w.state i)) m tt tt (λ q. refl)
+        caused-matched w.state w.contexts (line.Int i) (unchanged (with_interrupt_pending w.state i)) m tt tt
+        (λ q. refl)
 
   step-matched : (n : ℕ) (w : World C) (e : Event) → IsSettled sys w.state → HasSizes sys w.state → IsMatched w
       → LeavesMatched (step sys M n w e)
@@ -332,7 +364,8 @@ module _ {C : Type 0} (sys : SystemTables) (M : Meaning C) where
   runs_none (suc n) zero q = tt
   runs_none (suc n) (suc p) q = runs_none n p q
 
-  begun-none : (b : Bool) (g : Progress) (t : ℕ) → AllByRecursion BeginsNone g.lines → AllByRecursion BeginsNone (started_if b sys g t).lines
+  begun-none : (b : Bool) (g : Progress) (t : ℕ) → AllByRecursion BeginsNone g.lines
+      → AllByRecursion BeginsNone (started_if b sys g t).lines
   begun-none true g t h =
       all-snoc BeginsNone g.lines (line.Starts (started_block sys t (task_at g.state.tasks t)).processor t) h tt
   begun-none false g t h = h
@@ -367,7 +400,8 @@ module _ {C : Type 0} (sys : SystemTables) (M : Meaning C) where
       let g = all_started sys (unchanged s) ts in
       let same = all_started-processors (unchanged s) ts in
       finished-matched cs [] g
-      (same-matched s g.state cs (contexts_after_all sys M cs g.lines) (tasks-all sys M cs g.lines) (places-all sys M cs g.lines)
+      (same-matched s g.state cs (contexts_after_all sys M cs g.lines) (tasks-all sys M cs g.lines)
+      (places-all sys M cs g.lines)
       (λ q. ap (λ (cpus : List Processor). (found idle (slice_get cpus q)).handler) same)
       (same-all sys M cs g.lines (all_begun-none (unchanged s) ts tt))
       (record {
@@ -387,7 +421,8 @@ module _ {C : Type 0} (sys : SystemTables) (M : Meaning C) where
   few : (s : KernelState) → HasSizes sys s → length s.pending_cyclics ≤ length sys.cyclics
   few s sizes = let same = sizes.cyclics in omega (arith, same)
 
-  reaction-holding : (n : ℕ) (w : World C) (x : Reaction C) (es : List Event) → Holding w → LeavesSettled sys x → LeavesKept sys M x
+  reaction-holding : (n : ℕ) (w : World C) (x : Reaction C) (es : List Event) → Holding w → LeavesSettled sys x
+      → LeavesKept sys M x
       → LeavesMatched x
       → ((v : World C) → Holding v → ((fs : List Event) → HasSizes sys (run sys M n v fs).world.state)
       → Holding (run sys M n v es).world)

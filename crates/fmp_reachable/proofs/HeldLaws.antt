@@ -1,5 +1,6 @@
 -- A waiting task awaits a reply: how this comes through the lines of an event.
-use Rattle.std.proofs.Common.{◌≡◌, ℕ, zero, suc, List, [], ◌∷◌, Option, Some, None, Bool, true, false, refl, sym, ◌∙◌, ap, subst, nat_eq, length, slice_set, map}
+use Rattle.std.proofs.Common.{◌≡◌, ℕ, zero, suc, List, [], ◌∷◌, Option, Some, None, Bool, true, false, refl, sym, ◌∙◌}
+use Rattle.std.proofs.Common.{ap, subst, nat_eq, length, slice_set, map}
 use Rattle.std.proofs.Math.ListN.{length-set}
 use Rattle.std.proofs.lemmas.Bool.{or_parts}
 use Rattle.fmp_base.specs.declared.bodies.Held.{Held}
@@ -74,7 +75,8 @@ module _ {C : Type 0} (sys : SystemTables) (M : Meaning C) where
       → Lasts before tasks ls → AreHeld tasks (contexts_after_all sys M cs ls).tasks
   lines-held before tasks cs ls h k =
       record {
-        each = λ t w. let l = k.each t w in subst (λ (o : Option (Held C)). GoesNot o) (sym (all-untold cs t ls l.1)) (h.each t l.0);
+        each = λ t w. let l = k.each t w in subst (λ (o : Option (Held C)). GoesNot o) (sym (all-untold cs t ls l.1))
+            (h.each t l.0);
       }
 
   lengths-line : (cs : Contexts (Held C)) (l : Line) → SameLengths cs (contexts_after sys M cs l)
@@ -117,7 +119,8 @@ held-waits {C} tasks cs me y c h = record { each = λ t w. by_test t w (nat_eq t
   by_test : (t : ℕ) → is_waiting (task_at (slice_set tasks me y) t).phase ≡ true → (b : Bool) → nat_eq t me ≡ b
       → GoesNot (context_at (slice_set cs me (Some (Awaits c))) t)
   by_test t w true e =
-      set_over None (λ (o : Option (Held C)). GoesNot o) cs me (Some (Awaits c)) t tt (λ same. tt) (λ n. absurd (n (sym (nat_same t me e))))
+      set_over None (λ (o : Option (Held C)). GoesNot o) cs me (Some (Awaits c)) t tt (λ same. tt)
+      (λ n. absurd (n (sym (nat_same t me e))))
   by_test t w false e =
       let other : me ≡ t → ⊥ = λ same. nat_apart t me e (sym same) in
       subst (λ (o : Option (Held C)). GoesNot o) (sym (set_other None cs me (Some (Awaits c)) t other))

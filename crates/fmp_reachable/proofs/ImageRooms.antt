@@ -1,5 +1,6 @@
 -- The code of an image has rooms, and the bodies of its tasks and handlers.
-use Rattle.std.proofs.Common.{◌≡◌, ℕ, zero, suc, ◌+◌, ◌<◌, ◌≤◌, List, [], ◌∷◌, Option, Some, None, Bool, true, false, length, subst, arith, nat_eq, if◌then◌else◌}
+use Rattle.std.proofs.Common.{◌≡◌, ℕ, zero, suc, ◌+◌, ◌<◌, ◌≤◌, List, [], ◌∷◌, Option, Some, None, Bool, true, false}
+use Rattle.std.proofs.Common.{length, subst, arith, nat_eq, if◌then◌else◌}
 use Rattle.std.specs.Prelude.{slice_get}
 use Rattle.std.specs.List.{AllByRecursion}
 use Rattle.fmp_base.specs.declared.bodies.HandlerStart.{HandlerStart}
@@ -20,7 +21,8 @@ use Rattle.fmp_image_bytes.specs.Images.{ImageTables, IsImage}
 use Rattle.fmp_image_bytes.proofs.Entries.{task_bodies, cyclic_bodies, interrupt_bodies}
 use Rattle.fmp_reachable.specs.Rooms.{HasBodies, HasRooms}
 
-some-locals : (version : ℕ) (hs : List BodyHead) (bs : List BodyTables) → AllPairs (IsBody version) hs bs → (k : ℕ) (b : BodyTables)
+some-locals : (version : ℕ) (hs : List BodyHead) (bs : List BodyTables) → AllPairs (IsBody version) hs bs
+    → (k : ℕ) (b : BodyTables)
     → slice_get bs k ≡ Some b → 1 ≤ b.locals
 some-locals version [] [] h k b e = cc
 some-locals version [] (c ∷ bs) h k b e = absurd h
@@ -42,7 +44,8 @@ module _ (code : List BodyTables) where
     go (b ∷ bs) zero lt = tt
     go (b ∷ bs) (suc k) lt = go bs k (omega (arith, lt))
 
-  task-there : (other : TaskConfig) (ts : List TaskConfig) (t : ℕ) → AllByRecursion (λ x. body_of x.entry < length code) ts
+  task-there : (other : TaskConfig) (ts : List TaskConfig) (t : ℕ)
+      → AllByRecursion (λ x. body_of x.entry < length code) ts
       → t < length ts → IsThere (slice_get code (body_of (found other (slice_get ts t)).entry))
   task-there other [] t h lt = absurd (omega (arith, lt))
   task-there other (x ∷ ts) zero h lt = there (body_of x.entry) h.0
@@ -68,7 +71,8 @@ module _ (code : List BodyTables) where
       → Enters (interrupt_start (defined_for number is))
   interrupt-enters number [] h = tt
   interrupt-enters number (x ∷ is) h =
-      by_number (nat_eq x.number number) x (defined_for number is) (there (body_of x.entry) h.0) (interrupt-enters number is h.1)
+      by_number (nat_eq x.number number) x (defined_for number is) (there (body_of x.entry) h.0)
+      (interrupt-enters number is h.1)
 
 pub image-bodies : (i : ImageTables) → IsImage i → HasBodies i.system i.code
 image-bodies i lawful =

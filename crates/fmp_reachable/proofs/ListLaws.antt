@@ -1,5 +1,6 @@
 -- A list in which nobody stands twice is told by who stands in it, and who behind whom.
-use Rattle.std.proofs.Common.{◌≡◌, ℕ, List, [], ◌∷◌, Some, Bool, true, false, ◌||◌, refl, sym, ◌∙◌, ap, subst, nat_eq, cond}
+use Rattle.std.proofs.Common.{◌≡◌, ℕ, List, [], ◌∷◌, Some, Bool, true, false, ◌||◌, refl, sym, ◌∙◌, ap, subst, nat_eq}
+use Rattle.std.proofs.Common.{cond}
 use Rattle.std.specs.List.{list_any}
 use Rattle.std.proofs.lemmas.Bool.{eqb-true, eq-eqb, ne_eqb}
 use Rattle.fmp_base.specs.declared.systems.QueueOrder.{QueueOrder}
@@ -46,7 +47,8 @@ follower-in p x a [] h = by_test (nat_eq p a) (sym (follower-cons p a []) ∙ h)
   by_test true k = cc
   by_test false k = cc
 follower-in p x a (b ∷ l) h = by_test (nat_eq p a) (sym (follower-cons p a (b ∷ l)) ∙ h) (follower-in p x b l) where
-  by_test : (c : Bool) → cond c (first_of (b ∷ l)) (follower p (b ∷ l)) ≡ Some x → (follower p (b ∷ l) ≡ Some x → is_in x l ≡ true)
+  by_test : (c : Bool) → cond c (first_of (b ∷ l)) (follower p (b ∷ l)) ≡ Some x
+      → (follower p (b ∷ l) ≡ Some x → is_in x l ≡ true)
       → is_in x (b ∷ l) ≡ true
   by_test true k rest = let same : b ≡ x = cc in subst (λ (v : ℕ). is_in x (v ∷ l) ≡ true) (sym same) (in-first x l)
   by_test false k rest = in-later x b l (rest k)
@@ -63,7 +65,12 @@ follows n x a (b ∷ l) h k = by_test (nat_eq x b) refl (follows n x b l h.2) wh
   by_test : (c : Bool) → nat_eq x b ≡ c → (is_in x l ≡ true → Follows x (b ∷ l)) → Follows x (a ∷ b ∷ l)
   by_test true e rest =
       let same : x ≡ b = eqb-true x b e in
-      record { before = a; there = in-first a (b ∷ l); follows = follower-first a (b ∷ l) ∙ ap (λ (v : ℕ). Some v) (sym same) }
+      record {
+        before = a;
+        there = in-first a (b ∷ l);
+        follows = follower-first a (b
+            ∷ l) ∙ ap (λ (v : ℕ). Some v) (sym same);
+      }
   by_test false e rest =
       let f = rest (sym (in-rest x b l e) ∙ k) in
       record {
@@ -73,7 +80,8 @@ follows n x a (b ∷ l) h k = by_test (nat_eq x b) refl (follows n x b l h.2) wh
       }
 
 -- the first of both is the same
-same-first : (n x y : ℕ) (xs ys : List ℕ) → IsOrder n (x ∷ xs) → IsOrder n (y ∷ ys) → ((t : ℕ) → is_in t (x ∷ xs) ≡ is_in t (y ∷ ys))
+same-first : (n x y : ℕ) (xs ys : List ℕ) → IsOrder n (x ∷ xs) → IsOrder n (y ∷ ys)
+    → ((t : ℕ) → is_in t (x ∷ xs) ≡ is_in t (y ∷ ys))
     → ((t : ℕ) → is_in t (x ∷ xs) ≡ true → follower t (x ∷ xs) ≡ follower t (y ∷ ys)) → x ≡ y
 same-first n x y xs ys a b same told = by_test (nat_eq x y) refl where
   by_test : (c : Bool) → nat_eq x y ≡ c → x ≡ y
@@ -84,7 +92,8 @@ same-first n x y xs ys a b same told = by_test (nat_eq x y) refl where
       let twice : is_in x xs ≡ true = follower-in f.before x x xs (told f.before here ∙ f.follows) in
       let clash : true ≡ false = sym twice ∙ a.1 in cc
 
-rest-same : (n x : ℕ) (xs ys : List ℕ) → IsOrder n (x ∷ xs) → IsOrder n (x ∷ ys) → ((t : ℕ) → is_in t (x ∷ xs) ≡ is_in t (x ∷ ys))
+rest-same : (n x : ℕ) (xs ys : List ℕ) → IsOrder n (x ∷ xs) → IsOrder n (x ∷ ys)
+    → ((t : ℕ) → is_in t (x ∷ xs) ≡ is_in t (x ∷ ys))
     → (t : ℕ) → is_in t xs ≡ is_in t ys
 rest-same n x xs ys a b same t = by_test (nat_eq t x) refl where
   by_test : (c : Bool) → nat_eq t x ≡ c → is_in t xs ≡ is_in t ys
@@ -107,7 +116,8 @@ lists-told n (x ∷ xs) (y ∷ ys) a b same told =
     subst (λ (v : ℕ). (t : ℕ) → is_in t (x ∷ xs) ≡ true → follower t (x ∷ xs) ≡ follower t (v ∷ ys)) (sym first) told in
     let rest : xs ≡ ys =
     lists-told n xs ys a.2 b2.2 (rest-same n x xs ys a b2 same2)
-    (λ t h. sym (follower-later t x xs (apart t x xs h a.1)) ∙ (told2 t (in-later t x xs h) ∙ follower-later t x ys (apart t x ys (sym (rest-same n x xs ys a b2 same2 t) ∙ h) b2.1))) in
+    (λ t h. sym (follower-later t x xs (apart t x xs h a.1)) ∙ (told2 t (in-later t x xs h)
+    ∙ follower-later t x ys (apart t x ys (sym (rest-same n x xs ys a b2 same2 t) ∙ h) b2.1))) in
     subst (λ (v : ℕ). x ∷ xs ≡ v ∷ ys) first (ap (λ (l : List ℕ). x ∷ l) rest)
 
 pub any-arranged : (o : QueueOrder) (p : ℕ → Bool) (f : ℕ → ℕ) (l : List ℕ) → list_any p (arranged o f l) ≡ list_any p l

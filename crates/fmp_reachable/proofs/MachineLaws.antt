@@ -1,6 +1,8 @@
 -- A stretch that begins within the room of its body stays within it, and so does a reply.
-use Rattle.std.proofs.Common.{◌≡◌, ℕ, zero, suc, ◌+◌, ◌-◌, ◌<◌, ◌≤◌, Bool, true, false, ◌&&◌, cond, List, [], ◌∷◌, Option, Some, None, Result, Ok, Err, refl, ap, sym, subst, ◌∙◌, arith, ℤ, pos, negsuc}
-use Rattle.std.specs.Prelude.{length, slice_get, get_or, slice_set, replicate, nat_eq, nat_le, nat_lt, if◌then◌else◌, is_some}
+use Rattle.std.proofs.Common.{◌≡◌, ℕ, zero, suc, ◌+◌, ◌-◌, ◌<◌, ◌≤◌, Bool, true, false, ◌&&◌, cond, List, [], ◌∷◌}
+use Rattle.std.proofs.Common.{Option, Some, None, Result, Ok, Err, refl, ap, sym, subst, ◌∙◌, arith, ℤ, pos, negsuc}
+use Rattle.std.specs.Prelude.{length, slice_get, get_or, slice_set, replicate, nat_eq, nat_le, nat_lt, if◌then◌else◌}
+use Rattle.std.specs.Prelude.{is_some}
 use Rattle.std.proofs.lemmas.Bool.Decides.{nat_tests}
 use Rattle.std.proofs.lemmas.List.{get_or-set_other, length-set}
 use Rattle.std.proofs.lemmas.Option.{get_or_from_slice_get, slice_get_within}
@@ -15,12 +17,16 @@ use Rattle.fmp_base.specs.Operators.{Value, is_zero, place_in, truth_of, unary_v
 use Rattle.fmp_base.specs.Services.{arity, out_place}
 use Rattle.fmp_base.specs.Stretches.{Ending}
 use Rattle.fmp_instructions.specs.declared.instructions.Instruction.{Instruction}
-use Rattle.fmp_instructions.specs.declared.instructions.Instruction.TheVariants.{Push, Load, Store, LoadIndexed, StoreIndexed, Unary, Truth, Binary, Jump, JumpIfZero, Call, End}
+use Rattle.fmp_instructions.specs.declared.instructions.Instruction.TheVariants.{Push, Load, Store, LoadIndexed}
+use Rattle.fmp_instructions.specs.declared.instructions.Instruction.TheVariants.{StoreIndexed, Unary, Truth, Binary}
+use Rattle.fmp_instructions.specs.declared.instructions.Instruction.TheVariants.{Jump, JumpIfZero, Call, End}
 use Rattle.fmp_instructions.specs.declared.instructions.MachineContext.{MachineContext}
 use Rattle.fmp_instructions.specs.Instructions.{BodyTables}
-use Rattle.fmp_instructions.specs.Machine.{Next, act, call_before, code_deliver, code_start, code_stretch, exec, gives, on_place, places_of, replied, stack_of, standing}
+use Rattle.fmp_instructions.specs.Machine.{Next, act, call_before, code_deliver, code_start, code_stretch, exec, gives}
+use Rattle.fmp_instructions.specs.Machine.{on_place, places_of, replied, stack_of, standing}
 use Rattle.fmp_instructions.specs.Standing.{length-tops, stack_of-standing}
-use Rattle.fmp_instructions.specs.Verify.{IsPlaced, VerifiedBody, array_fits, entry_is, fits, is_same, local_fits, places_fit, wants}
+use Rattle.fmp_instructions.specs.Verify.{IsPlaced, VerifiedBody, array_fits, entry_is, fits, is_same, local_fits}
+use Rattle.fmp_instructions.specs.Verify.{places_fit, wants}
 use Rattle.fmp_instructions.proofs.Conjunctions.{and-left, and-right}
 use Rattle.fmp_instructions.proofs.Operations.{entry_here}
 use Rattle.fmp_instructions.proofs.Steps.{depth_is-some}
@@ -38,7 +44,8 @@ pub record AreLocals (size : ℕ) (l : List ℤ) : Type 0 where
   pub rest : (v : ℕ) → size ≤ v → get_or l v (pos 0) ≡ pos 0
 
 -- a local in front of that place is written
-pub locals-set : (size : ℕ) (l : List ℤ) (v : ℕ) (x : ℤ) → v < size → AreLocals size l → AreLocals size (slice_set l v x)
+pub locals-set : (size : ℕ) (l : List ℤ) (v : ℕ) (x : ℤ) → v < size → AreLocals size l
+    → AreLocals size (slice_set l v x)
 locals-set size l v x below h =
     record {
       long = length-set l v x ∙ h.long;
@@ -92,7 +99,8 @@ module _ (size : ℕ) (depths : List ℕ) where
   -- one instruction, which fits the operands before it
   act-leads : (f : Next) → Leads f → (i : Instruction) (pc : ℕ) (s l : List ℤ)
       → wants size depths pc (length s) i ≡ true → AreLocals size l → Ends (act (Some i) f pc s l)
-  act-leads f go (Push n) pc s l w h = go (pc + 1) (n ∷ s) l (moved depths (pc + 1) (length s + 1) (suc (length s)) (omega arith) w) h
+  act-leads f go (Push n) pc s l w h = go (pc + 1) (n ∷ s) l (moved depths (pc + 1) (length s + 1) (suc (length s))
+      (omega arith) w) h
   act-leads f go (Load v) pc s l w h =
       go (pc + 1) (get_or l v (pos 0) ∷ s) l
       (moved depths (pc + 1) (length s + 1) (suc (length s)) (omega arith) (and-right (nat_lt v size) _ w)) h
@@ -102,7 +110,8 @@ module _ (size : ℕ) (depths : List ℕ) where
       let fit : nat_lt v size ≡ true = and-left (nat_lt v size) _ (and-left (nat_lt v size && nat_le 1 n) _ w) in
       let below : v < size = grind (arith, nat_tests) in
       let next = and-right (nat_lt v size && nat_le 1 n) (entry_is depths (pc + 1) (n - 1)) w in
-      go (pc + 1) s (slice_set l v x) (moved depths (pc + 1) (n - 1) (length s) (omega arith) next) (locals-set size l v x below h)
+      go (pc + 1) s (slice_set l v x) (moved depths (pc + 1) (n - 1) (length s) (omega arith) next)
+      (locals-set size l v x below h)
   act-leads f go (LoadIndexed base places) pc [] l w h = tt
   act-leads f go (LoadIndexed base places) pc (i ∷ s) l w h =
       let n = suc (length s) in
@@ -133,7 +142,8 @@ module _ (size : ℕ) (depths : List ℕ) where
   act-leads f go (Binary op) pc (y ∷ x ∷ s) l w h =
       let n = suc (suc (length s)) in
       let next = and-right (nat_le 2 n) (entry_is depths (pc + 1) (n - 1)) w in
-      gives-leads f go (binary_value op x y) pc s l (moved depths (pc + 1) (n - 1) (suc (length s)) (omega arith) next) h
+      gives-leads f go (binary_value op x y) pc s l (moved depths (pc + 1) (n - 1) (suc (length s))
+      (omega arith) next) h
   act-leads f go (Jump a) pc s l w h = go a s l w h
   act-leads f go (JumpIfZero a) pc [] l w h = tt
   act-leads f go (JumpIfZero a) pc (x ∷ s) l w h =
@@ -151,7 +161,8 @@ module _ (size : ℕ) (depths : List ℕ) where
   act-leads f go End pc s l w h = tt
 
   found-leads : (f : Next) → Leads f → (i : Option Instruction) (pc : ℕ) (s l : List ℤ)
-      → ((j : Instruction) → i ≡ Some j → fits size depths pc (length s) j ≡ true) → AreLocals size l → Ends (act i f pc s l)
+      → ((j : Instruction) → i ≡ Some j → fits size depths pc (length s) j ≡ true) → AreLocals size l
+      → Ends (act i f pc s l)
   found-leads f go None pc s l fit h = tt
   found-leads f go (Some i) pc s l fit h = act-leads f go i pc s l (and-right (nat_le (length s) 64) _ (fit i refl)) h
 
@@ -160,7 +171,8 @@ module _ (body : BodyTables) (v : VerifiedBody body) where
   exec-leads : (n : ℕ) → Leads body.locals body.depths (exec body.instructions n)
   exec-leads zero pc s l entry h = standing-in body.locals body.depths pc s l entry h
   exec-leads (suc n) pc s l entry h =
-      found-leads body.locals body.depths (exec body.instructions n) (exec-leads n) (slice_get body.instructions pc) pc s l
+      found-leads body.locals body.depths (exec body.instructions n) (exec-leads n)
+      (slice_get body.instructions pc) pc s l
       (λ j e. v.table.each pc j (length s) e (depth_is-some (slice_get body.depths pc) (length s) entry)) h
 
   entry_at : (pc n : ℕ) → slice_get body.depths pc ≡ Some n → entry_is body.depths pc n ≡ true
@@ -193,7 +205,8 @@ module _ (body : BodyTables) (v : VerifiedBody body) where
   written-in : (l : List ℤ) (o : Option ℕ) (x : ℤ) → local_fits body.locals o ≡ true → AreLocals body.locals l
       → AreLocals body.locals (written l o x)
   written-in l None x f h = h
-  written-in l (Some w) x f h = let below : w < body.locals = grind (arith, nat_tests) in locals-set body.locals l w x below h
+  written-in l (Some w) x f h = let below : w < body.locals = grind (arith, nat_tests) in locals-set body.locals l w x
+      below h
 
   out-in : (e : Er) (l : List ℤ) (o : Option ℕ) (x : ℤ) → local_fits body.locals o ≡ true → AreLocals body.locals l
       → AreLocals body.locals (out_written e l o x)
@@ -221,7 +234,8 @@ module _ (body : BodyTables) (v : VerifiedBody body) where
       (λ j e. v.table.each k j (get_or body.depths k 0) e
       (let within = slice_get_within body.instructions k j e in
       let same = v.table.long in
-      depth_is-some (slice_get body.depths k) (get_or body.depths k 0) (entry_here body k v (omega (arith, within, same))))) h
+      depth_is-some (slice_get body.depths k) (get_or body.depths k 0) (entry_here body k v
+      (omega (arith, within, same))))) h
 
   -- a reply
   pub deliver-in : (c : MachineContext) (reply : Reply) → IsIn body.locals body.depths c

@@ -10,7 +10,8 @@ use Rattle.fmp_reachable.proofs.HoldingLaws.{alike-told, beyond-behind, le_of, l
 use Rattle.fmp_reachable.proofs.NumberLaws.{blocks-told, place-told, processors-told, times-told}
 use Rattle.fmp_reachable.proofs.ValueLaws.{SameValues, values-told}
 
-numbers-told : (sys : SystemTables) (s u : KernelState) → IsOrderly s → IsOrderly u → AreAhead s → AreAhead u → SameSizes s u
+numbers-told : (sys : SystemTables) (s u : KernelState) → IsOrderly s → IsOrderly u → AreAhead s → AreAhead u
+    → SameSizes s u
     → SameValues s u → SameNumbers sys s u → AlikeStates sys s u
 numbers-told sys s u a b h k sizes values n = alike-told sys s u a b blocks behind times rest where
   blocks : SameBlocks s.clock u.clock s.tasks u.tasks
@@ -47,7 +48,8 @@ numbers-told sys s u a b h k sizes values n = alike-told sys s u a b blocks behi
         let m : length u.tasks ≤ t = subst (λ (x : ℕ). x ≤ t) sizes.tasks l in
         beyond-behind sys s t l ∙ sym (beyond-behind sys u t m)
 
-pub rows-told : (sys : SystemTables) (s u : KernelState) → IsRegular sys s → IsRegular sys u → SameRow sys s u → AlikeStates sys s u
+pub rows-told : (sys : SystemTables) (s u : KernelState) → IsRegular sys s → IsRegular sys u → SameRow sys s u
+    → AlikeStates sys s u
 rows-told sys s u a b r =
     numbers-told sys s u a.orderly b.orderly a.ahead b.ahead r.sizes
     (values-told sys s u a.messages b.messages a.quiet b.quiet r.sizes r.values) r.numbers

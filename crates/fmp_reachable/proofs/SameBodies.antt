@@ -1,5 +1,6 @@
 -- Worlds within their rooms keep the same of each body of which the same is told.
-use Rattle.std.proofs.Common.{◌≡◌, ℕ, zero, suc, ◌≤◌, true, false, List, [], ◌∷◌, Option, Some, None, length, refl, sym, subst, ap, ◌∙◌, arith, ⊎_elim}
+use Rattle.std.proofs.Common.{◌≡◌, ℕ, zero, suc, ◌≤◌, true, false, List, [], ◌∷◌, Option, Some, None, length, refl, sym}
+use Rattle.std.proofs.Common.{subst, ap, ◌∙◌, arith, ⊎_elim}
 use Rattle.std.proofs.lemmas.Bool.{cases_lt}
 use Rattle.fmp_base.specs.declared.bodies.HandlerContext.{HandlerContext}
 use Rattle.fmp_base.specs.declared.bodies.HandlerStart.{HandlerStart}
@@ -13,11 +14,13 @@ use Rattle.fmp_base.specs.TaskCalls.{is_dormant}
 use Rattle.fmp_instructions.specs.declared.instructions.MachineContext.{MachineContext}
 use Rattle.fmp_instructions.specs.Instructions.{BodyTables}
 use Rattle.fmp_reachable.specs.Worlds.{SameBodies}
-use Rattle.fmp_reachable.specs.Rooms.{IsGoingWithin, IsHandlerWithin, IsHeldWithin, IsKeptWithin, IsWithin, IsWithinRooms, RunsWithin, is_handler_of}
+use Rattle.fmp_reachable.specs.Rooms.{IsGoingWithin, IsHandlerWithin, IsHeldWithin, IsKeptWithin, IsWithin}
+use Rattle.fmp_reachable.specs.Rooms.{IsWithinRooms, RunsWithin, is_handler_of}
 use Rattle.fmp_reachable.specs.Told.{AreTold, SameTold}
 use Rattle.fmp_reachable.proofs.ToldLaws.{contexts-told}
 
-lists-same : {A : Type 0} (xs ys : List (Option A)) → length xs ≡ length ys → ((i : ℕ) → context_at xs i ≡ context_at ys i)
+lists-same : {A : Type 0} (xs ys : List (Option A)) → length xs ≡ length ys
+    → ((i : ℕ) → context_at xs i ≡ context_at ys i)
     → xs ≡ ys
 lists-same [] [] l h = refl
 lists-same [] (y ∷ ys) l h = cc
@@ -38,7 +41,8 @@ module _ (bodies : List BodyTables) where
 
   -- contexts of one body, of which the same is told
   held-same : (k : ℕ) (x y : Held MachineContext) → IsHeldWithin bodies k x → IsHeldWithin bodies k y
-      → ((c d : MachineContext) → kept_context (Some x) ≡ Some c → kept_context (Some y) ≡ Some d → SameTold bodies k c d)
+      → ((c d : MachineContext) → kept_context (Some x) ≡ Some c → kept_context (Some y) ≡ Some d
+      → SameTold bodies k c d)
       → kept_context (Some x) ≡ kept_context (Some y)
   held-same k (Goes c) (Goes d) a b h = ap (λ z. Some z) (told-same k c d a b (h c d refl refl))
   held-same k (Goes c) (Awaits d) a b h = ap (λ z. Some z) (told-same k c d a b (h c d refl refl))
@@ -54,7 +58,8 @@ module _ (bodies : List BodyTables) where
 
   -- contexts that go on
   going-same : (k : ℕ) (x y : Held MachineContext) → IsGoingWithin bodies k x → IsGoingWithin bodies k y
-      → ((c d : MachineContext) → kept_context (Some x) ≡ Some c → kept_context (Some y) ≡ Some d → SameTold bodies k c d)
+      → ((c d : MachineContext) → kept_context (Some x) ≡ Some c → kept_context (Some y) ≡ Some d
+      → SameTold bodies k c d)
       → x ≡ y
   going-same k (Goes c) (Goes d) a b h = ap (λ z. Goes z) (told-same k c d a b (h c d refl refl))
   going-same k (Goes c) (Awaits d) a b h = absurd b
@@ -67,7 +72,8 @@ module _ (sys : SystemTables) (bodies : List BodyTables) where
   runs-same : (p : ℕ) (h : Handler) (k l : HandlerContext (Held MachineContext)) → RunsWithin sys bodies p h k
       → RunsWithin sys bodies p h l
       → ((start : HandlerStart) (c d : MachineContext) → handler_start sys h ≡ Some start
-      → kept_context (Some k.context) ≡ Some c → kept_context (Some l.context) ≡ Some d → SameTold bodies start.body c d)
+      → kept_context (Some k.context) ≡ Some c → kept_context (Some l.context) ≡ Some d
+      → SameTold bodies start.body c d)
       → k ≡ l
   runs-same p h k l a b told =
       let again : Some a.start ≡ Some b.start = sym a.starts ∙ b.starts in
@@ -100,7 +106,8 @@ module _ (sys : SystemTables) (bodies : List BodyTables) where
         → kept_context (context_at v.contexts.tasks t) ≡ kept_context (context_at w.contexts.tasks t)
     tasks-same t starts =
         ⊎_elim
-        (λ lt. kept-same bodies (task_body sys t) (context_at v.contexts.tasks t) (context_at w.contexts.tasks t) (a.tasks t lt)
+        (λ lt. kept-same bodies (task_body sys t) (context_at v.contexts.tasks t) (context_at w.contexts.tasks t)
+        (a.tasks t lt)
         (b.tasks t lt) (λ c d. told.tasks t c d starts))
         (λ le.
         let here = a.task_places in

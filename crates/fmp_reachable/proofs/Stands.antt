@@ -1,5 +1,7 @@
 -- Where tasks stand: who is in a queue, and who leaves the order or joins it.
-use Rattle.std.proofs.Common.{◌≡◌, ◌<◌, ℕ, zero, suc, ℤ, pos, negsuc, List, [], ◌∷◌, Some, None, Bool, true, false, ◌&&◌, ◌||◌, refl, sym, ◌∙◌, ap, subst, arith, nat_eq, nat_le, nat_lt, length, slice_set, filter, cond, if◌then◌else◌}
+use Rattle.std.proofs.Common.{◌≡◌, ◌<◌, ℕ, zero, suc, ℤ, pos, negsuc, List, [], ◌∷◌, Some, None, Bool, true, false}
+use Rattle.std.proofs.Common.{◌&&◌, ◌||◌, refl, sym, ◌∙◌, ap, subst, arith, nat_eq, nat_le, nat_lt, length, slice_set}
+use Rattle.std.proofs.Common.{filter, cond, if◌then◌else◌}
 use Rattle.std.specs.List.{AllByRecursion}
 use Rattle.std.proofs.lemmas.Bool.{ltb-true}
 use Rattle.fmp_base.specs.declared.states.Phase.{Phase}
@@ -11,7 +13,9 @@ use Rattle.fmp_base.specs.declared.systems.QueueOrder.{QueueOrder}
 use Rattle.fmp_base.specs.declared.systems.QueueOrder.TheVariants.{Fifo, Priority}
 use Rattle.fmp_base.specs.FlagCalls.{is_satisfied}
 use Rattle.fmp_base.specs.Outcomes.{named, numbered}
-use Rattle.fmp_base.specs.Queues.{arranged, first_of, first_ready, first_waiting, is_queue, is_ready, is_ready_on, is_ready_phase, order_of, placed, priority_in, queue_of, ready_queue, sorted, stands_by_priority, wait_queue, waits_in}
+use Rattle.fmp_base.specs.Queues.{arranged, first_of, first_ready, first_waiting, is_queue, is_ready, is_ready_on}
+use Rattle.fmp_base.specs.Queues.{is_ready_phase, order_of, placed, priority_in, queue_of, ready_queue, sorted}
+use Rattle.fmp_base.specs.Queues.{stands_by_priority, wait_queue, waits_in}
 use Rattle.fmp_base.specs.States.{KernelState, task_at}
 use Rattle.fmp_base.specs.Systems.{SystemTables}
 use Rattle.fmp_base.specs.TaskCalls.{is_dormant, goes_last}
@@ -65,7 +69,8 @@ first-waits sys s q t e =
     let waits : waits_in q (task_at s.tasks t) ≡ true =
     every-first (λ u. waits_in q (task_at s.tasks u) ≡ true) (wait_queue sys s q) t
     (every-arranged (λ u. waits_in q (task_at s.tasks u) ≡ true) (order_of sys q) (priority_in s.tasks)
-    (filter (λ u. waits_in q (task_at s.tasks u)) s.order) (every-filter (λ u. waits_in q (task_at s.tasks u)) s.order)) e in
+    (filter (λ u. waits_in q (task_at s.tasks u)) s.order) (every-filter
+    (λ u. waits_in q (task_at s.tasks u)) s.order)) e in
     queued-waits q (task_at s.tasks t).phase waits
 
 both-first : (a b : Bool) → (a && b) ≡ true → a ≡ true
@@ -78,7 +83,8 @@ first-ready s p priority t e =
     let on : is_ready_on p (task_at s.tasks t) ≡ true =
     every-first (λ u. is_ready_on p (task_at s.tasks u) ≡ true)
     (filter (λ u. nat_eq (priority_in s.tasks u) priority) (ready_queue s p)) t
-    (every-less (λ u. is_ready_on p (task_at s.tasks u) ≡ true) (λ u. nat_eq (priority_in s.tasks u) priority) (ready_queue s p)
+    (every-less (λ u. is_ready_on p (task_at s.tasks u) ≡ true) (λ u. nat_eq (priority_in s.tasks u) priority)
+    (ready_queue s p)
     (every-filter (λ u. is_ready_on p (task_at s.tasks u)) s.order)) e in
     both-first (is_ready (task_at s.tasks t)) (nat_eq (task_at s.tasks t).processor p) on
 

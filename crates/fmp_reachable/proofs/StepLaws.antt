@@ -1,5 +1,6 @@
 -- Every event keeps what holds between events.
-use Rattle.std.proofs.Common.{◌≡◌, ◌+◌, ◌<◌, ◌≤◌, ℕ, zero, suc, List, [], ◌∷◌, ◌++◌, Option, Some, None, Bool, true, false, ◌||◌, refl, sym, ◌∙◌, ap, subst, arith, nat_eq, length, slice_get}
+use Rattle.std.proofs.Common.{◌≡◌, ◌+◌, ◌<◌, ◌≤◌, ℕ, zero, suc, List, [], ◌∷◌, ◌++◌, Option, Some, None, Bool, true}
+use Rattle.std.proofs.Common.{false, ◌||◌, refl, sym, ◌∙◌, ap, subst, arith, nat_eq, length, slice_get}
 use Rattle.std.specs.List.{AllByRecursion}
 use Rattle.std.proofs.Math.ListN.{length-set}
 use Rattle.fmp_base.specs.declared.bodies.Held.{Held}
@@ -28,7 +29,9 @@ use Rattle.fmp_base.specs.Ranges.{CyclicInRange, IsInRange}
 use Rattle.fmp_base.specs.Queues.{is_ready}
 use Rattle.fmp_base.specs.Settles.{settled}
 use Rattle.fmp_base.specs.States.{KernelState, Progress, unchanged, processor_at, task_at, with_last}
-use Rattle.fmp_base.specs.Steps.{Reaction, Nothing, Did, Kept, actor_by, actor_ended, actor_of, answered, contexts_ended, ended_with, finished, interrupted, interrupted_by, run_by, run_in, step, stretched}
+use Rattle.fmp_base.specs.Steps.{Reaction, Nothing, Did, Kept, actor_by, actor_ended, actor_of, answered}
+use Rattle.fmp_base.specs.Steps.{contexts_ended, ended_with, finished, interrupted, interrupted_by, run_by, run_in}
+use Rattle.fmp_base.specs.Steps.{step, stretched}
 use Rattle.fmp_base.specs.Stretches.{Ending}
 use Rattle.fmp_base.specs.Stretches as ends
 use Rattle.fmp_base.specs.Systems.{SystemTables, cyclic_config, found, interrupt_config}
@@ -39,9 +42,11 @@ use Rattle.fmp_tasks.specs.Homes.{is_waiting}
 use Rattle.fmp_worlds.specs.Settled.{IsSettled}
 use Rattle.fmp_reachable.proofs.CallChanges.{ComesBy, handler-comes, task-comes}
 use Rattle.fmp_reachable.specs.Numbers.{IsAhead}
-use Rattle.fmp_reachable.proofs.Changes.{Change, Cpu, Interrupts, IsFair, IsSteady, Keeps, changed, is_told, keeps-changed, keeps-end, keeps-own, keeps-start, steady-waits}
+use Rattle.fmp_reachable.proofs.Changes.{Change, Cpu, Interrupts, IsFair, IsSteady, Keeps, changed, is_told}
+use Rattle.fmp_reachable.proofs.Changes.{keeps-changed, keeps-end, keeps-own, keeps-start, steady-waits}
 use Rattle.fmp_reachable.proofs.EventChanges.{settled-comes, ticked-keeps}
-use Rattle.fmp_reachable.proofs.HeldLaws.{AreHeld, SameLengths, held-but, held-waits, lengths-lines, lengths-task, lines-held, same-lengths}
+use Rattle.fmp_reachable.proofs.HeldLaws.{AreHeld, SameLengths, held-but, held-waits, lengths-lines, lengths-task}
+use Rattle.fmp_reachable.proofs.HeldLaws.{lines-held, same-lengths}
 use Rattle.fmp_reachable.proofs.Stands.{off, there}
 use Rattle.fmp_reachable.proofs.TaskChanges.{ended-comes}
 
@@ -108,7 +113,8 @@ module _ {C : Type 0} (sys : SystemTables) (M : Meaning C) where
   finished-steady now before cs own g k h told many handlers =
       let last = settled sys (record g { lines = own ++ g.lines }) in
       let after : Keeps sys (now + 1) now before last =
-      settled-comes sys (Keeps sys (now + 1) now before) (keeps-changed sys (now + 1) now before) (record g { lines = own ++ g.lines })
+      settled-comes sys (Keeps sys (now + 1) now before) (keeps-changed sys (now + 1) now before)
+      (record g { lines = own ++ g.lines })
       (keeps-own sys (now + 1) now before own g k told) in
       let lengths = lengths-lines sys M cs last.lines in
       record {
@@ -155,7 +161,8 @@ module _ {C : Type 0} (sys : SystemTables) (M : Meaning C) where
     actor_ended-keeps : (p : ℕ) (who : Caller) → IsActing s who → P (actor_ended sys s p who)
     actor_ended-keeps p (caller.Task t) a =
         ended-comes sys P go (unchanged (with_nothing_run s p)) t (task_at s.tasks t)
-        (go (unchanged s) (Cpu p (record (processor_at s p) { run = None; lock = Free; dispatch_disabled = false })) start tt) a.0
+        (go (unchanged s) (Cpu p (record (processor_at s p) { run = None; lock = Free; dispatch_disabled = false }))
+        start tt) a.0
     actor_ended-keeps p (caller.Handler i) a =
         go (unchanged s) (Cpu p (record (processor_at s p) { handler = None })) start tt
 
@@ -170,7 +177,8 @@ module _ {C : Type 0} (sys : SystemTables) (M : Meaning C) where
     ends-steady : (p : ℕ) (who : Caller) (own : Line) → IsActing s who → ((t : ℕ) → is_told t (own ∷ []) ≡ false)
         → IsSteadyWorld sys (ended_with sys M w p who own).world
     ends-steady p who own a told =
-        finishes (contexts_ended sys M cs p who) (own ∷ []) (actor_ended sys s p who) (actor_ended-keeps p who a) (ended-held p who a)
+        finishes (contexts_ended sys M cs p who) (own ∷ []) (actor_ended sys s p who) (actor_ended-keeps p who a)
+        (ended-held p who a)
         (ended-lengths p who) (λ t k. told t)
 
     -- a call
@@ -189,36 +197,46 @@ module _ {C : Type 0} (sys : SystemTables) (M : Meaning C) where
     reply-told p (caller.Handler i) c r t a w = refl
 
     gone-steady : (p me : ℕ) (c : C) (made : Call) (g : Progress) → me < length s.tasks → IsGone s me g
-        → IsSteadyWorld sys (finished sys M (with_context cs p (caller.Task me) (Some (Awaits c))) (line.Call p (caller.Task me) made None ∷ []) g).world
+        → IsSteadyWorld sys (finished sys M (with_context cs p (caller.Task me) (Some (Awaits c)))
+        (line.Call p (caller.Task me) made None ∷ []) g).world
     gone-steady p me c made g l k =
         let y = record (task_at s.tasks me) { phase = Waiting k.cause; deadline = k.deadline } in
         let s' = with_last s me y in
         let ds = with_context cs p (caller.Task me) (Some (Awaits c)) in
         let lengths = lengths-task cs me (Some (Awaits c)) in
         let steady : IsSteady sys s' =
-        steady-waits sys s me y h.state l (record { rest = λ e. off e; calm = λ e. off e; ahead = k.ahead }) (or-true (is_ready y)) in
-        subst (λ (z : Progress). IsSteadyWorld sys (finished sys M ds (line.Call p (caller.Task me) made None ∷ []) z).world) (sym k.is)
-        (finished-steady s.clock s'.tasks ds (line.Call p (caller.Task me) made None ∷ []) (unchanged s') (keeps-start sys s' steady)
-        (held-waits s.tasks cs.tasks me y c held) (λ t w. refl) (lengths.tasks ∙ h.tasks) (lengths.handlers ∙ h.handlers))
+        steady-waits sys s me y h.state l (record { rest = λ e. off e; calm = λ e. off e; ahead = k.ahead })
+        (or-true (is_ready y)) in
+        subst (λ (z : Progress). IsSteadyWorld sys (finished sys M ds (line.Call p (caller.Task me) made None ∷ [])
+        z).world) (sym k.is)
+        (finished-steady s.clock s'.tasks ds (line.Call p (caller.Task me) made None ∷ []) (unchanged s')
+        (keeps-start sys s' steady)
+        (held-waits s.tasks cs.tasks me y c held) (λ t w. refl) (lengths.tasks ∙ h.tasks)
+        (lengths.handlers ∙ h.handlers))
 
     answered-task : (answer : Answer) (p me : ℕ) (c : C) (made : Call) (g : Progress) → IsActing s (caller.Task me)
         → ComesBy P (IsGone s me) answer g
-        → Leaves (answered answer sys M (with_context cs p (caller.Task me) (Some (Awaits c))) p (caller.Task me) made g)
+        → Leaves (answered answer sys M (with_context cs p (caller.Task me) (Some (Awaits c))) p
+        (caller.Task me) made g)
     answered-task (Replies r) p me c made g a k =
-        finishes (with_context cs p (caller.Task me) (Some (Awaits c))) (line.Call p (caller.Task me) made (Some r) ∷ []) g k
+        finishes (with_context cs p (caller.Task me) (Some (Awaits c)))
+        (line.Call p (caller.Task me) made (Some r) ∷ []) g k
         (context-held p (caller.Task me) (Some (Awaits c)) a) (context-lengths p (caller.Task me) (Some (Awaits c)))
         (λ t w. reply-told p (caller.Task me) made r t a w)
     answered-task Waits p me c made g a k = gone-steady p me c made g a.0 k
     answered-task Ends p me c made g a k =
         finishes (with_context cs p (caller.Task me) (Some (Awaits c))) (line.End p (caller.Task me) ∷ []) g k
-        (context-held p (caller.Task me) (Some (Awaits c)) a) (context-lengths p (caller.Task me) (Some (Awaits c))) (λ t w. refl)
+        (context-held p (caller.Task me) (Some (Awaits c)) a) (context-lengths p (caller.Task me) (Some (Awaits c)))
+        (λ t w. refl)
     answered-task Spins p me c made g a k = tt
 
     answered-handler : (answer : Answer) (p : ℕ) (i : Handler) (c : C) (made : Call) (g : Progress)
         → ComesBy P (λ z. ⊥) answer g
-        → Leaves (answered answer sys M (with_context cs p (caller.Handler i) (Some (Awaits c))) p (caller.Handler i) made g)
+        → Leaves (answered answer sys M (with_context cs p (caller.Handler i) (Some (Awaits c))) p
+        (caller.Handler i) made g)
     answered-handler (Replies r) p i c made g k =
-        finishes (with_context cs p (caller.Handler i) (Some (Awaits c))) (line.Call p (caller.Handler i) made (Some r) ∷ []) g k held
+        finishes (with_context cs p (caller.Handler i) (Some (Awaits c)))
+        (line.Call p (caller.Handler i) made (Some r) ∷ []) g k held
         (context-lengths p (caller.Handler i) (Some (Awaits c))) (λ t w. refl)
     answered-handler Waits p i c made g k = absurd k
     answered-handler Ends p i c made g k =
@@ -272,15 +290,18 @@ module _ {C : Type 0} (sys : SystemTables) (M : Meaning C) where
       by_pending true = tt
       by_pending false =
           finishes cs (line.Int i ∷ []) (unchanged (with_interrupt_pending s i))
-          (go (unchanged s) (Interrupts i true) start (λ n. let no : None ≡ Some config = sym n ∙ e in cc)) held (same-lengths cs)
+          (go (unchanged s) (Interrupts i true) start (λ n. let no : None ≡ Some config = sym n ∙ e in cc)) held
+          (same-lengths cs)
           (λ t w. refl)
 
     step-leaves : (range : IsInRange sys) → IsSettled sys s → (n : ℕ) (e : Event) → Leaves (step sys M n w e)
     step-leaves range k n (Run zero) = tt
     step-leaves range k n (Run (suc p)) =
-        run_by-steady n p (actor_of (processor_at s p)) (acts s (processor_at s p).handler (processor_at s p).run (k.ready p))
+        run_by-steady n p (actor_of (processor_at s p)) (acts s (processor_at s p).handler (processor_at s p).run
+        (k.ready p))
     step-leaves range k n Tick =
-        finished-steady (s.clock + 1) s.tasks cs (line.Tick (s.clock + 1) ∷ []) (ticked sys s) (ticked-keeps sys (periods sys range) s h.state)
+        finished-steady (s.clock + 1) s.tasks cs (line.Tick (s.clock + 1) ∷ []) (ticked sys s)
+        (ticked-keeps sys (periods sys range) s h.state)
         held (λ t w. refl) h.tasks h.handlers
     step-leaves range k n (Int zero) = tt
     step-leaves range k n (Int (suc i)) = interrupted-steady (interrupt_config sys i) i refl

@@ -1,5 +1,6 @@
 -- Starts, ends and releases of tasks are made of changes.
-use Rattle.std.proofs.Common.{◌≡◌, ◌+◌, ◌<◌, ℕ, zero, suc, pos, List, [], ◌∷◌, ◌++◌, Option, None, Bool, true, false, ◌&&◌, ◌||◌, not, refl, sym, ◌∙◌, ap, subst, length}
+use Rattle.std.proofs.Common.{◌≡◌, ◌+◌, ◌<◌, ℕ, zero, suc, pos, List, [], ◌∷◌, ◌++◌, Option, None, Bool, true, false}
+use Rattle.std.proofs.Common.{◌&&◌, ◌||◌, not, refl, sym, ◌∙◌, ap, subst, length}
 use Rattle.fmp_base.specs.declared.calls.Reply.{Reply}
 use Rattle.fmp_base.specs.declared.events.Line.TheVariants as line
 use Rattle.fmp_base.specs.declared.states.Phase.{Phase}
@@ -36,7 +37,12 @@ module _ (sys : SystemTables) (P : Progress → Type 0)
   ended_by-comes zero g t y h l p d b =
       go g (Moves Out t y) h (record {
         there = l;
-        fine = record { rest = λ e. d; calm = λ e. b; ahead = subst (λ (o : Option ℕ). IsAhead (g.state.clock + 1) o) (sym d) tt };
+        fine = record {
+          rest = λ e. d;
+          calm = λ e. b;
+          ahead = subst (λ (o : Option ℕ). IsAhead
+              (g.state.clock + 1) o) (sym d) tt;
+        };
         placed = ap (λ (q : Phase). (is_ready_phase q && not y.suspended) || is_waiting q) p;
         waits = λ e. off (sym (ap is_waiting p) ∙ e);
       })
@@ -58,11 +64,21 @@ module _ (sys : SystemTables) (P : Progress → Type 0)
         → P (record { state = released_state b g.state t y; lines = g.lines ++ line.Gets x.processor t reply ∷ [] })
     by_order true e =
         go (changed (Moves Out t y) g) (Says (line.Gets x.processor t reply ∷ []))
-        (go g (Moves Out t y) h (record { there = l; fine = fine; placed = ap (λ (b : Bool). not b || false) e; waits = λ e. off e }))
+        (go g (Moves Out t y) h (record {
+          there = l;
+          fine = fine;
+          placed = ap (λ (b : Bool). not b || false) e;
+          waits = λ e. off e;
+        }))
         (said g.state.tasks t y refl l)
     by_order false e =
         go (changed (Moves ToEnd t y) g) (Says (line.Gets x.processor t reply ∷ []))
-        (go g (Moves ToEnd t y) h (record { there = l; fine = fine; placed = ap (λ (b : Bool). not b || false) e; waits = λ e. off e }))
+        (go g (Moves ToEnd t y) h (record {
+          there = l;
+          fine = fine;
+          placed = ap (λ (b : Bool). not b || false) e;
+          waits = λ e. off e;
+        }))
         (said g.state.tasks t y refl l)
 
   pub walk-comes : (clears : Bool) (f bits : ℕ) (ts : List ℕ) (g : Progress) → P g → P (walk clears f bits ts g)
@@ -74,11 +90,13 @@ module _ (sys : SystemTables) (P : Progress → Type 0)
             → P (released g t (task_at g.state.tasks t) (given (pos bits)))
         freed e =
             released-comes g t (task_at g.state.tasks t) (given (pos bits)) h
-            (there g.state.tasks t (waits-on (task_at g.state.tasks t).phase (satisfied-waits (task_at g.state.tasks t).phase bits e)))
+            (there g.state.tasks t (waits-on (task_at g.state.tasks t).phase
+            (satisfied-waits (task_at g.state.tasks t).phase bits e)))
 
         by_test : (b : Bool) → is_satisfied (task_at g.state.tasks t).phase bits ≡ b → (c : Bool)
             → ((i : Progress) → P i → P (walk clears f bits ts i))
-            → P (walked b c f g (released g t (task_at g.state.tasks t) (given (pos bits))) (λ z. walk clears f bits ts z))
+            → P (walked b c f g (released g t (task_at g.state.tasks t) (given (pos bits)))
+            (λ z. walk clears f bits ts z))
         by_test false e c rest = rest g h
         by_test true e false rest = rest _ (freed e)
         by_test true e true rest = go _ (Pattern f 0) (freed e) tt

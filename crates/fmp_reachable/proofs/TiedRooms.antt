@@ -15,7 +15,8 @@ use Rattle.fmp_base.specs.Stretches.{Ending}
 use Rattle.fmp_base.specs.Stretches as ends
 use Rattle.fmp_base.specs.Systems.{SystemTables}
 use Rattle.fmp_base.specs.TieLaws.{AllTied-context_at, setup-tied, step-tied}
-use Rattle.fmp_base.specs.Ties.{AllTied, Any, ContextsTied, DoneTied, HandlerTied, HeldTied, KeepsTie, KeptOn, OptionTied, StretchTied, over, kept, call, end_, fault}
+use Rattle.fmp_base.specs.Ties.{AllTied, Any, ContextsTied, DoneTied, HandlerTied, HeldTied, KeepsTie, KeptOn}
+use Rattle.fmp_base.specs.Ties.{OptionTied, StretchTied, over, kept, call, end_, fault}
 use Rattle.fmp_instructions.specs.declared.instructions.MachineContext.{MachineContext}
 use Rattle.fmp_instructions.specs.Instructions.{BodyTables}
 use Rattle.fmp_instructions.specs.Machine.{code_meaning}
@@ -70,7 +71,8 @@ module _ (sys : SystemTables) (bodies : List BodyTables) (rooms : HasRooms bodie
           λ body e. deliver-within bodies rooms k c reply (h.1 body e),
         );
         stretches = λ k c d h.
-            subst (λ (x : MachineContext). StretchTied (Same k) Any (λ z. (y : MachineContext) × Once k d y × Same k z y)
+            subst (λ (x : MachineContext). StretchTied (Same k) Any (λ z. (y : MachineContext) × Once k d y
+            × Same k z y)
             ((code_meaning bodies).stretch k n c) ((code_meaning bodies).stretch k n x)) h.0
             (ending k ((code_meaning bodies).stretch k n c) (λ body e. stretch-within bodies rooms k n c (h.1 body e)));
       }
@@ -119,7 +121,8 @@ module _ (sys : SystemTables) (bodies : List BodyTables) (rooms : HasRooms bodie
       (step-tied sys Same (code_meaning bodies) n (code_meaning bodies) n keeps w w e
       (record { states = refl; contexts = h }))
 
-  run_on-fits : (w : World MachineContext) (x : Reaction MachineContext) (rest : World MachineContext → Trace MachineContext)
+  run_on-fits : (w : World MachineContext) (x : Reaction MachineContext)
+      (rest : World MachineContext → Trace MachineContext)
       → AllFit w.contexts → LeavesFit x
       → ((v : World MachineContext) → AllFit v.contexts → AllFit (rest v).world.contexts)
       → AllFit (run_on w x rest).world.contexts
@@ -155,10 +158,12 @@ module _ (sys : SystemTables) (bodies : List BodyTables) (rooms : HasRooms bodie
       (subst (λ (o : Option (Held MachineContext)). OptionTied (Tied (task_body sys t)) o o) there tied)
 
   -- what is kept of a handler
-  pub handler-fits : (cs : Contexts (Held MachineContext)) → AllFit cs → (p : ℕ) (h : HandlerContext (Held MachineContext))
+  pub handler-fits : (cs : Contexts (Held MachineContext)) → AllFit cs
+      → (p : ℕ) (h : HandlerContext (Held MachineContext))
       → context_at cs.handlers p ≡ Some h → (body : BodyTables) → slice_get bodies h.body ≡ Some body
       → IsHeldWithin bodies h.body h.context
   handler-fits cs f p h there body e =
       let tied = AllTied-context_at (λ q. HandlerTied Tied) cs.handlers cs.handlers p f.handlers in
-      let same = subst (λ (o : Option (HandlerContext (Held MachineContext))). OptionTied (HandlerTied Tied) o o) there tied in
+      let same = subst (λ (o : Option (HandlerContext (Held MachineContext))). OptionTied (HandlerTied Tied) o o)
+      there tied in
       held-fits h.body body e h.context same.contexts

@@ -24,14 +24,16 @@ made-same p q m n l k s t a b c d =
     ap (λ (x : ℕ). made x m l s) a ∙ ap (λ (x : ℕ). made q x l s) b ∙ ap (λ (x : List ℤ). made q n x s) c
     ∙ ap (λ (x : List ℤ). made q n k x) d
 
-pub contexts-told : (bodies : List BodyTables) (k : ℕ) (c d : MachineContext) → IsWithin bodies k c → IsWithin bodies k d
+pub contexts-told : (bodies : List BodyTables) (k : ℕ) (c d : MachineContext) → IsWithin bodies k c
+    → IsWithin bodies k d
     → c.pc ≡ d.pc → c.count ≡ d.count
     → ((l : ℕ) → l < locals_at bodies k → get_or c.locals l (pos 0) ≡ get_or d.locals l (pos 0))
     → ((i : ℕ) → i < c.count → get_or c.operands i (pos 0) ≡ get_or d.operands i (pos 0)) → c ≡ d
 contexts-told bodies k c d a b pc count locals operands =
     let same_locals : c.locals ≡ d.locals =
     ext_get_or (pos 0) c.locals d.locals (a.long ∙ sym b.long)
-    (λ l within. ⊎_elim (λ lt. locals l lt) (λ from. a.locals l from ∙ sym (b.locals l from)) (cases_lt l (locals_at bodies k))) in
+    (λ l within. ⊎_elim (λ lt. locals l lt) (λ from. a.locals l from ∙ sym (b.locals l from))
+    (cases_lt l (locals_at bodies k))) in
     let same_operands : c.operands ≡ d.operands =
     a.placed.rest ∙ ap places_of (tops-same c.operands d.operands c.count operands)
     ∙ ap (λ (n : ℕ). places_of (tops d.operands n)) count ∙ sym b.placed.rest in

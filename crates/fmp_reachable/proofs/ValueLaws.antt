@@ -1,5 +1,6 @@
 -- Lists of values are told by how many there are and the number of each.
-use Rattle.std.proofs.Common.{◌≡◌, ◌<◌, ℕ, zero, suc, ℤ, pos, List, [], ◌∷◌, Option, Some, None, Bool, true, false, ◌||◌, refl, sym, ◌∙◌, ap, subst, length, get_or, nat_eq, arith}
+use Rattle.std.proofs.Common.{◌≡◌, ◌<◌, ℕ, zero, suc, ℤ, pos, List, [], ◌∷◌, Option, Some, None, Bool, true, false}
+use Rattle.std.proofs.Common.{◌||◌, refl, sym, ◌∙◌, ap, subst, length, get_or, nat_eq, arith}
 use Rattle.std.proofs.lemmas.Bool.{eqb-true}
 use Rattle.std.proofs.lemmas.List.{ext_get_or}
 use Rattle.fmp_base.specs.declared.systems.InterruptConfig.{InterruptConfig}
@@ -38,7 +39,8 @@ chain-told n (x ∷ xs) (y ∷ ys) a b e h =
     let first : y ≡ x = cc in
     let b2 : IsOrder n (x ∷ ys) = subst (λ (v : ℕ). IsOrder n (v ∷ ys)) first b in
     let h2 : (t : ℕ) → is_in t (x ∷ xs) ≡ true → is_in t (x ∷ ys) ≡ true → follower t (x ∷ xs) ≡ follower t (x ∷ ys) =
-    subst (λ (v : ℕ). (t : ℕ) → is_in t (x ∷ xs) ≡ true → is_in t (v ∷ ys) ≡ true → follower t (x ∷ xs) ≡ follower t (v ∷ ys)) first h in
+    subst (λ (v : ℕ). (t : ℕ) → is_in t (x ∷ xs) ≡ true → is_in t (v ∷ ys) ≡ true → follower t (x ∷ xs)
+    ≡ follower t (v ∷ ys)) first h in
     let next : first_of xs ≡ first_of ys =
     sym (follower-first x xs) ∙ (h2 x (in-first x xs) (in-first x ys) ∙ follower-first x ys) in
     let rest : xs ≡ ys =
@@ -64,7 +66,8 @@ pub record SameValues (s u : KernelState) : Type 0 where
   pub pending_cyclics : s.pending_cyclics ≡ u.pending_cyclics
   pub pending_interrupts : s.pending_interrupts ≡ u.pending_interrupts
 
-pub values-told : (sys : SystemTables) (s u : KernelState) → AreMessagesApart (length sys.messages) s → AreMessagesApart (length sys.messages) u → IsUndefinedQuiet sys s
+pub values-told : (sys : SystemTables) (s u : KernelState) → AreMessagesApart (length sys.messages) s
+    → AreMessagesApart (length sys.messages) u → IsUndefinedQuiet sys s
     → IsUndefinedQuiet sys u → SameSizes s u → SameValueNumbers sys s u → SameValues s u
 values-told sys s u a b q r z n =
     record {
@@ -80,9 +83,11 @@ values-told sys s u a b q r z n =
     } where
       mailbox : (x : ℕ) → x < length s.mailboxes → mailbox_at s x ≡ mailbox_at u x
       mailbox x l =
-          chain-told (length sys.messages) (mailbox_at s x) (mailbox_at u x) (a.once x) (b.once x) (place-told _ _ (n.first_messages x l))
+          chain-told (length sys.messages) (mailbox_at s x) (mailbox_at u x) (a.once x) (b.once x)
+          (place-told _ _ (n.first_messages x l))
           (λ g i j. ap (λ (m : List ℕ). follower g m) (sym (a.own x g i))
-          ∙ (place-told (message_behind s g) (message_behind u g) (n.behind g (in_order-below (length sys.messages) g (mailbox_at s x) (a.once x) i))
+          ∙ (place-told (message_behind s g) (message_behind u g) (n.behind g
+          (in_order-below (length sys.messages) g (mailbox_at s x) (a.once x) i))
           ∙ ap (λ (m : List ℕ). follower g m) (b.own x g j)))
 
       interrupt : (i : ℕ) (c : Option InterruptConfig) → interrupt_config sys i ≡ c → i < length s.pending_interrupts

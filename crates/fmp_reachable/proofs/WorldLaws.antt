@@ -1,5 +1,6 @@
 -- Every world that setup and events reach is regular.
-use Rattle.std.proofs.Common.{◌≡◌, ◌+◌, ℕ, zero, suc, List, [], ◌∷◌, Option, Some, None, Bool, true, false, refl, sym, ◌∙◌, ap, arith, length, get_or, slice_get}
+use Rattle.std.proofs.Common.{◌≡◌, ◌+◌, ℕ, zero, suc, List, [], ◌∷◌, Option, Some, None, Bool, true, false, refl, sym}
+use Rattle.std.proofs.Common.{◌∙◌, ap, arith, length, get_or, slice_get}
 use Rattle.std.proofs.lemmas.List.{length-map, length-replicate}
 use Rattle.fmp_base.specs.declared.bodies.Held.{Held}
 use Rattle.fmp_base.specs.declared.bodies.Held.TheVariants.{Goes, Awaits}
@@ -122,7 +123,8 @@ reached-regular sys w h =
     record {
       state = steady-regular sys w.state a.state;
       settled = settled.state;
-      held = λ t. held-by (task_at (w.state).tasks t).phase (context_at (w.contexts).tasks t) (held.each t) (free.tasks t);
+      held = λ t. held-by (task_at (w.state).tasks t).phase (context_at (w.contexts).tasks t) (held.each t)
+          (free.tasks t);
       at_rest = λ t e. let f = blocks.each t in f.rest e;
     }
 
@@ -144,11 +146,16 @@ module _ {C : Type 0} (sys : SystemTables) (M : Meaning C) where
       finished-steady sys M 0 (created_state sys).tasks (first_contexts sys M) []
       (all_started sys (unchanged (created_state sys)) (places_from 0 (length sys.tasks))) (setup-keeps sys)
       (created-held sys.tasks (first_contexts sys M).tasks) (λ t w. refl)
-      (length-map sys.tasks (λ c. Some (Goes (M.start (body_of c.entry) c.exinf)))) (length-replicate sys.processors None)
+      (length-map sys.tasks (λ c. Some (Goes (M.start (body_of c.entry) c.exinf))))
+      (length-replicate sys.processors None)
 
   pub setup-reached : IsReached sys (setup sys M).world
   setup-reached =
-      record { steady = setup-steady; settled = setup-settled_world sys M (steady-whole sys (setup sys M).world setup-steady) }
+      record {
+        steady = setup-steady;
+        settled = setup-settled_world sys M (steady-whole sys
+            (setup sys M).world setup-steady);
+      }
 
   abbrev pub LeavesReached : Reaction C → Type 0
   LeavesReached Nothing = Unit {0}
@@ -157,16 +164,17 @@ module _ {C : Type 0} (sys : SystemTables) (M : Meaning C) where
 
   pub step-reached : IsInRange sys → (n : ℕ) (w : World C) (e : Event) → IsReached sys w
       → LeavesReached (step sys M n w e)
-  step-reached range n w e h = by_reaction (step sys M n w e) refl (step-steady sys M range n w e h.steady (before h.settled)) where
-    before : IsSettledWorld sys w → IsSettled sys w.state
-    before k = k.state
+  step-reached range n w e h = by_reaction (step sys M n w e) refl (step-steady sys M range n w e h.steady
+      (before h.settled)) where
+        before : IsSettledWorld sys w → IsSettled sys w.state
+        before k = k.state
 
-    by_reaction : (x : Reaction C) → step sys M n w e ≡ x → Leaves sys M x → LeavesReached x
-    by_reaction Nothing k a = tt
-    by_reaction (Did d) k a =
-        record { steady = a; settled = step-settled_world sys M n w e d h.settled (steady-whole sys d.world a) k }
-    by_reaction (Kept p v) k a =
-        record { steady = a; settled = kept-settled_world sys M n w e p v h.settled (steady-whole sys v a) k }
+        by_reaction : (x : Reaction C) → step sys M n w e ≡ x → Leaves sys M x → LeavesReached x
+        by_reaction Nothing k a = tt
+        by_reaction (Did d) k a =
+            record { steady = a; settled = step-settled_world sys M n w e d h.settled (steady-whole sys d.world a) k }
+        by_reaction (Kept p v) k a =
+            record { steady = a; settled = kept-settled_world sys M n w e p v h.settled (steady-whole sys v a) k }
 
   run_on-reached : (w : World C) (x : Reaction C) (rest : World C → Trace C) → IsReached sys w → LeavesReached x
       → ((v : World C) → IsReached sys v → IsReached sys (rest v).world) → IsReached sys (run_on w x rest).world

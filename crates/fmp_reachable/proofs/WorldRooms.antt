@@ -18,12 +18,14 @@ use Rattle.fmp_worlds.proofs.Awaiting.{actors-free}
 use Rattle.fmp_instructions.specs.declared.instructions.MachineContext.{MachineContext}
 use Rattle.fmp_instructions.specs.Instructions.{BodyTables}
 use Rattle.fmp_instructions.specs.Machine.{code_meaning}
-use Rattle.fmp_reachable.specs.Rooms.{HasBodies, HasSizes, HasRooms, IsGoingWithin, IsHandlerWithin, IsHeldWithin, IsKeptWithin, IsWithinRooms, RunsWithin}
+use Rattle.fmp_reachable.specs.Rooms.{HasBodies, HasSizes, HasRooms, IsGoingWithin, IsHandlerWithin, IsHeldWithin}
+use Rattle.fmp_reachable.specs.Rooms.{IsKeptWithin, IsWithinRooms, RunsWithin}
 use Rattle.fmp_reachable.proofs.ContextLaws.{kept_body}
 use Rattle.fmp_reachable.proofs.HandlerLaws.{Begins, Matches, all-holding}
 use Rattle.fmp_reachable.proofs.TiedRooms.{all-fit, handler-fits, task-fits}
 
-module _ (sys : SystemTables) (bodies : List BodyTables) (rooms : HasRooms bodies) (there : HasBodies sys bodies) (n : ℕ)
+module _ (sys : SystemTables) (bodies : List BodyTables) (rooms : HasRooms bodies) (there : HasBodies sys bodies)
+    (n : ℕ)
     (es : List Event)
     (sizes : (fs : List Event)
     → HasSizes sys (run sys (code_meaning bodies) n (setup sys (code_meaning bodies)).world fs).world.state) where
@@ -34,7 +36,8 @@ module _ (sys : SystemTables) (bodies : List BodyTables) (rooms : HasRooms bodie
   body-there None h f = absurd h
   body-there (Some body) h f = f body refl
 
-  task-within : (t : ℕ) → t < length sys.tasks → (o : Option (Held MachineContext)) → context_at world.contexts.tasks t ≡ o
+  task-within : (t : ℕ) → t < length sys.tasks → (o : Option (Held MachineContext))
+      → context_at world.contexts.tasks t ≡ o
       → IsThere o → IsKeptWithin bodies (task_body sys t) o
   task-within t lt None e h = absurd h
   task-within t lt (Some held) e h =
@@ -42,16 +45,19 @@ module _ (sys : SystemTables) (bodies : List BodyTables) (rooms : HasRooms bodie
       (λ body is. task-fits sys bodies rooms n world.contexts (all-fit sys bodies rooms n es) t body is held e)
 
   -- no handler awaits a reply
-  going : (p : ℕ) (h : Handler) (k : HandlerContext (Held MachineContext)) → (processor_at world.state p).handler ≡ Some h
+  going : (p : ℕ) (h : Handler) (k : HandlerContext (Held MachineContext)) → (processor_at world.state p).handler
+      ≡ Some h
       → context_at world.contexts.handlers p ≡ Some k → (held : Held MachineContext) → k.context ≡ held
       → IsHeldWithin bodies k.body held → IsGoingWithin bodies k.body held
   going p h k runs e (Goes c) same fits = fits
   going p h k runs e (Awaits c) same fits =
       actors-free sys (code_meaning bodies) n es p (caller.Handler h) c
       (ap (λ (o : Option Handler). actor_by o (processor_at world.state p).run) runs)
-      (ap (λ (o : Option (HandlerContext (Held MachineContext))). context_in o) e ∙ ap (λ (x : Held MachineContext). Some x) same)
+      (ap (λ (o : Option (HandlerContext (Held MachineContext))). context_in o) e
+      ∙ ap (λ (x : Held MachineContext). Some x) same)
 
-  runs-within : (p : ℕ) (h : Handler) (k : HandlerContext (Held MachineContext)) → (processor_at world.state p).handler ≡ Some h
+  runs-within : (p : ℕ) (h : Handler) (k : HandlerContext (Held MachineContext))
+      → (processor_at world.state p).handler ≡ Some h
       → context_at world.contexts.handlers p ≡ Some k → Begins sys p h k.body → RunsWithin sys bodies p h k
   runs-within p h k runs e b =
       record {
@@ -66,7 +72,8 @@ module _ (sys : SystemTables) (bodies : List BodyTables) (rooms : HasRooms bodie
       }
 
   handler-within : (p : ℕ) (i : Option Handler) (o : Option (HandlerContext (Held MachineContext)))
-      → (processor_at world.state p).handler ≡ i → context_at world.contexts.handlers p ≡ o → Matches sys p i (kept_body o)
+      → (processor_at world.state p).handler ≡ i → context_at world.contexts.handlers p ≡ o
+      → Matches sys p i (kept_body o)
       → IsHandlerWithin sys bodies p i o
   handler-within p None None r e m = tt
   handler-within p None (Some k) r e m = m
@@ -78,7 +85,8 @@ module _ (sys : SystemTables) (bodies : List BodyTables) (rooms : HasRooms bodie
       let h = all-holding sys (code_meaning bodies) n es sizes in
       record {
         tasks = λ t lt. task-within t lt (context_at world.contexts.tasks t) refl (h.kept.tasks t lt);
-        handlers = λ p. handler-within p (processor_at world.state p).handler (context_at world.contexts.handlers p) refl refl
+        handlers = λ p. handler-within p (processor_at world.state p).handler
+            (context_at world.contexts.handlers p) refl refl
             (h.matched.each p);
         task_places = h.matched.tasks;
         handler_places = h.matched.handlers;

@@ -49,7 +49,8 @@ pub record SameValueNumbers (sys : SystemTables) (s u : KernelState) : Type 0 wh
       (i : ℕ) → i < length s.shared_words →
       unsigned (get_or s.shared_words i (pos 0)) ≡ unsigned (get_or u.shared_words i (pos 0))
   pub pending_cyclics :
-      (c : ℕ) → c < length s.pending_cyclics → bit (is_pending s.pending_cyclics c) ≡ bit (is_pending u.pending_cyclics c)
+      (c : ℕ) → c < length s.pending_cyclics → bit (is_pending s.pending_cyclics c)
+      ≡ bit (is_pending u.pending_cyclics c)
   pub pending_interrupts :
       (i : ℕ) (c : InterruptConfig) → interrupt_config sys i ≡ Some c →
       bit (is_pending s.pending_interrupts i) ≡ bit (is_pending u.pending_interrupts i)

@@ -1,5 +1,6 @@
 -- The first queue that is not empty, by its bit.
-use Rattle.std.proofs.Common.{◌≡◌, ℕ, zero, suc, ◌+◌, ◌-◌, ◌*◌, ◌<◌, List, [], ◌∷◌, Option, None, length, refl, ap, ◌∙◌, sym, arith}
+use Rattle.std.proofs.Common.{◌≡◌, ℕ, zero, suc, ◌+◌, ◌-◌, ◌*◌, ◌<◌, List, [], ◌∷◌, Option, None, length, refl, ap, ◌∙◌}
+use Rattle.std.proofs.Common.{sym, arith}
 use Rattle.std.specs.Prelude.{slice_index_or}
 use Rattle.std.specs.Int.{bit_at}
 use Rattle.fmp_base.specs.Queues.{first_of}
@@ -14,7 +15,8 @@ or_some : (l : List ℕ) (o : Option ℕ) → bit_for l ≡ 1 → first_or l o �
 or_some [] o e = cc
 or_some (t ∷ ts) o e = refl
 
-first_from-none : (queue : ℕ → List ℕ) (from n : ℕ) → ((i : ℕ) → i < n → bit_for (queue (from + i)) ≡ 0) → first_from queue from n ≡ None
+first_from-none : (queue : ℕ → List ℕ) (from n : ℕ) → ((i : ℕ) → i < n → bit_for (queue (from + i)) ≡ 0)
+    → first_from queue from n ≡ None
 first_from-none queue from zero empty = refl
 first_from-none queue from (suc n) empty =
     let e : from + 0 ≡ from = omega arith in
@@ -23,7 +25,8 @@ first_from-none queue from (suc n) empty =
       shifted : (i : ℕ) → bit_for (queue (from + suc i)) ≡ 0 → bit_for (queue (from + 1 + i)) ≡ 0
       shifted i h = let e : from + suc i ≡ from + 1 + i = omega arith in rw e at h
 
-first_from-at : (queue : ℕ → List ℕ) (from n k : ℕ) → k < n → ((i : ℕ) → i < k → bit_for (queue (from + i)) ≡ 0) → bit_for (queue (from + k)) ≡ 1
+first_from-at : (queue : ℕ → List ℕ) (from n k : ℕ) → k < n → ((i : ℕ) → i < k → bit_for (queue (from + i)) ≡ 0)
+    → bit_for (queue (from + k)) ≡ 1
     → first_from queue from n ≡ first_of (queue (from + k))
 first_from-at queue from zero k l empty full = absurd (omega arith)
 first_from-at queue from (suc n) zero l empty full =
@@ -52,7 +55,8 @@ unfolding most_urgent
 top-some bitmaps r p k exact there low set clear =
     let e : p * 16 + (1 + k - 1) ≡ p * 16 + k = omega arith in
     ap (λ (i : ℕ). first_of (list_at r.lists i)) (sym e)
-    ∙ sym (first_from-at (queue_at r p) 1 16 k low (λ i l. bit_of bitmaps r p i exact there (omega arith) ∙ clear i l) (bit_of bitmaps r p k exact there low ∙ set))
+    ∙ sym (first_from-at (queue_at r p) 1 16 k low (λ i l. bit_of bitmaps r p i exact there (omega arith) ∙ clear i l)
+    (bit_of bitmaps r p k exact there low ∙ set))
 
 pub top-none : (bitmaps : List ℕ) (r : RingLists) (p : ℕ) → AreExact bitmaps r → p < length bitmaps
     → ((i : ℕ) → bit_at (slice_index_or bitmaps p 0) i ≡ 0) → None ≡ most_urgent r p

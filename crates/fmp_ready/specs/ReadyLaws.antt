@@ -1,5 +1,6 @@
 -- How bitmaps are exact in the beginning, and stay so when a list changes that no call here wrote.
-use Rattle.std.proofs.Common.{◌≡◌, ◌≢◌, ℕ, ◌+◌, ◌*◌, ◌<◌, ◌≤◌, ◌^◌, List, [], length, Bool, true, false, nat_eq, refl, ap, ◌∙◌, sym, arith, replicate}
+use Rattle.std.proofs.Common.{◌≡◌, ◌≢◌, ℕ, ◌+◌, ◌*◌, ◌<◌, ◌≤◌, ◌^◌, List, [], length, Bool, true, false, nat_eq, refl}
+use Rattle.std.proofs.Common.{ap, ◌∙◌, sym, arith, replicate}
 use Rattle.std.specs.Prelude.{slice_set, slice_index_or}
 use Rattle.std.specs.Int.{bit_at}
 use Rattle.std.proofs.Math.ListN.{length-set}

@@ -1,5 +1,6 @@
 -- The ready queues among lent lists: sixteen for each processor, from head 0 on.
-use Rattle.std.specs.Prelude.{◌≡◌, ℕ, zero, suc, ◌+◌, ◌-◌, ◌*◌, ◌<◌, ◌≤◌, ◌^◌, List, [], ◌∷◌, Option, Some, None, length, slice_set, slice_index_or}
+use Rattle.std.specs.Prelude.{◌≡◌, ℕ, zero, suc, ◌+◌, ◌-◌, ◌*◌, ◌<◌, ◌≤◌, ◌^◌, List, [], ◌∷◌, Option, Some, None}
+use Rattle.std.specs.Prelude.{length, slice_set, slice_index_or}
 use Rattle.std.specs.Int.{bit_at}
 use Rattle.fmp_ring.specs.RingLists.{RingLists, list_at}
 

@@ -78,7 +78,8 @@ plain_name service.IrotRdq = refl
 plain_name service.MrotRdq = refl
 
 -- no service has the name of another word
-pub read_name : (s : Service) (rest : List ℕ) → act_by (record { word = service_name s; rest = rest }) ≡ call_in (Some s) rest
+pub read_name : (s : Service) (rest : List ℕ) → act_by (record { word = service_name s; rest = rest })
+    ≡ call_in (Some s) rest
 unfolding service_named
 read_name service.Put rest = refl
 read_name service.LdShr rest = refl

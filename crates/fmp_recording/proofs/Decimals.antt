@@ -13,7 +13,8 @@ capped_more v n b e h = let d = digit_value_digit b (digit_from_value b h) in om
 -- a capped value, and one more digit
 pub value_more : (text : List ℕ) (i v : ℕ) → i < length text → v ≡ min (digits_value 10 (take i text)) 9007199254740993
     → digit_value (get_or text i 0) < 10
-    → min (v * 10 + (get_or text i 0 - 48)) 9007199254740993 ≡ min (digits_value 10 (take (i + 1) text)) 9007199254740993
+    → min (v * 10 + (get_or text i 0 - 48)) 9007199254740993 ≡ min (digits_value 10 (take (i + 1) text))
+    9007199254740993
 value_more text i v h e d =
     capped_more v (digits_value 10 (take i text)) (get_or text i 0) e d
     ∙ ap (λ n. min n 9007199254740993) (sym (digits_value_more 10 text i h))

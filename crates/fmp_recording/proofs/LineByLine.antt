@@ -1,5 +1,7 @@
 -- What is read line by line, and argument by argument.
-use Rattle.std.proofs.Common.{ℕ, suc, ◌+◌, ◌-◌, ◌<◌, ◌≤◌, ◌≡◌, ◌≢◌, length, take, drop, set, arith, ◌∙◌, ℤ, List, [], ◌∷◌, ◌++◌, Bool, true, false, cond, codes, Option, Some, None, Result, Ok, Err, refl, ap, append-nil, append_assoc, sym}
+use Rattle.std.proofs.Common.{ℕ, suc, ◌+◌, ◌-◌, ◌<◌, ◌≤◌, ◌≡◌, ◌≢◌, length, take, drop, set, arith, ◌∙◌, ℤ, List, []}
+use Rattle.std.proofs.Common.{◌∷◌, ◌++◌, Bool, true, false, cond, codes, Option, Some, None, Result, Ok, Err, refl, ap}
+use Rattle.std.proofs.Common.{append-nil, append_assoc, sym}
 use Rattle.std.specs.Str.{bytes_eq}
 use Rattle.fmp_base.specs.Words.{service_named}
 use Rattle.fmp_outside.specs.declared.given.Act.{Act}
@@ -8,7 +10,8 @@ use Rattle.fmp_recording.specs.declared.faults.RecordingFault.{RecordingFault}
 use Rattle.fmp_recording.specs.declared.recorded.RecordedLine.{RecordedLine}
 use Rattle.fmp_recording.specs.declared.recorded.RecordedLine.TheVariants as recorded
 use Rattle.std.proofs.Math.Seq.{take-suc-set}
-use Rattle.fmp_recording.specs.Recordings.{act_by, act_in, all_came, arguments_in, call_in, came, cut, end_in, fault_in, in_front, in_front_of, is_restart, line_time, line_times, number_of}
+use Rattle.fmp_recording.specs.Recordings.{act_by, act_in, all_came, arguments_in, call_in, came, cut, end_in, fault_in}
+use Rattle.fmp_recording.specs.Recordings.{in_front, in_front_of, is_restart, line_time, line_times, number_of}
 use Rattle.fmp_steps.proofs.LinesOf.{rest_whole}
 
 -- what is behind others, or the fault
@@ -52,14 +55,16 @@ one_more_number xs x None = refl
 pub no_argument : (rest : List ℕ) → rest ≡ [] → (n : ℕ) → arguments_in (suc n) rest ≡ None
 no_argument rest e n = ap (λ (bs : List ℕ). arguments_in (suc n) bs) e
 
-pub bad_argument : (rest : List ℕ) (b : ℕ) (bs word : List ℕ) → rest ≡ b ∷ bs → (cut bs).word ≡ word → number_of word ≡ None
+pub bad_argument : (rest : List ℕ) (b : ℕ) (bs word : List ℕ) → rest ≡ b ∷ bs → (cut bs).word ≡ word → number_of word
+    ≡ None
     → (n : ℕ) → arguments_in (suc n) rest ≡ None
 bad_argument rest b bs word e w h n =
     ap (λ (xs : List ℕ). arguments_in (suc n) xs) e
     ∙ ap (λ (x : Option ℤ). in_front_of x (arguments_in n (cut bs).rest)) (ap (λ (t : List ℕ). number_of t) w ∙ h)
 
 pub an_argument : (rest word after : List ℕ) (x : ℤ) (n : ℕ) → 1 ≤ length rest
-    → (cut (take (length rest - 1) (drop 1 rest))).word ≡ word → (cut (take (length rest - 1) (drop 1 rest))).rest ≡ after
+    → (cut (take (length rest - 1) (drop 1 rest))).word ≡ word → (cut (take (length rest - 1) (drop 1 rest))).rest
+    ≡ after
     → number_of word ≡ Some x → arguments_in (suc n) rest ≡ in_front_of (Some x) (arguments_in n after)
 an_argument [] word after x n low w r h = absurd (omega (arith, low))
 an_argument (b ∷ bs) word after x n low w r h =
@@ -70,7 +75,8 @@ an_argument (b ∷ bs) word after x n low w r h =
     ∙ ap (λ (t : List ℕ). in_front_of (Some x) (arguments_in n t)) rest_is
 
 pub a_call : (rest word after : List ℕ) (o : Option Act) → 1 ≤ length rest
-    → (cut (take (length rest - 1) (drop 1 rest))).word ≡ word → (cut (take (length rest - 1) (drop 1 rest))).rest ≡ after
+    → (cut (take (length rest - 1) (drop 1 rest))).word ≡ word → (cut (take (length rest - 1) (drop 1 rest))).rest
+    ≡ after
     → bytes_eq word (codes "end") ≡ false → bytes_eq word (codes "fault") ≡ false
     → o ≡ call_in (service_named word) after → o ≡ act_in rest
 a_call [] word after o low w r e f h = absurd (omega (arith, low))
@@ -80,12 +86,14 @@ a_call (b ∷ bs) word after o low w r e f h =
     let rest_is : (cut bs).rest ≡ after = ap (λ (t : List ℕ). (cut t).rest) (sym whole) ∙ r in
     h
     ∙ ap (λ (t : Bool). cond t (fault_in after) (call_in (service_named word) after)) (sym f)
-    ∙ ap (λ (t : Bool). cond t (end_in after) (cond (bytes_eq word (codes "fault")) (fault_in after) (call_in (service_named word) after))) (sym e)
+    ∙ ap (λ (t : Bool). cond t (end_in after) (cond (bytes_eq word (codes "fault")) (fault_in after)
+    (call_in (service_named word) after))) (sym e)
     ∙ ap (λ (t : List ℕ). act_by (record { word = word; rest = t })) (sym rest_is)
     ∙ ap (λ (t : List ℕ). act_by (record { word = t; rest = (cut bs).rest })) (sym word_is)
 
 pub no_number : (count i : ℕ) (xs : List ℤ) (rest : List ℕ) (whole : Option (List ℤ)) → i < count
-    → behind_numbers xs (arguments_in (count - i) rest) ≡ whole → ((n : ℕ) → arguments_in (suc n) rest ≡ None) → whole ≡ None
+    → behind_numbers xs (arguments_in (count - i) rest) ≡ whole → ((n : ℕ) → arguments_in (suc n) rest ≡ None) → whole
+    ≡ None
 no_number count i xs rest whole lt e h =
     let k : count - i ≡ suc (count - (i + 1)) = omega (arith, lt) in
     sym e ∙ ap (λ (m : ℕ). behind_numbers xs (arguments_in m rest)) k
@@ -111,7 +119,8 @@ and_none [] = refl
 and_none (x ∷ xs) = ap (λ (ys : List ℤ). x ∷ ys) (and_none xs)
 
 pub all_numbers : (count : ℕ) (numbers : List ℤ) (rest : List ℕ) (whole : Option (List ℤ)) → rest ≡ []
-    → behind_numbers (take count numbers) (arguments_in (count - count) rest) ≡ whole → whole ≡ Some (take count numbers)
+    → behind_numbers (take count numbers) (arguments_in (count - count) rest) ≡ whole → whole
+    ≡ Some (take count numbers)
 all_numbers count numbers rest whole r e =
     let k : count - count ≡ 0 = omega arith in
     sym e ∙ ap (λ (m : ℕ). behind_numbers (take count numbers) (arguments_in m rest)) k

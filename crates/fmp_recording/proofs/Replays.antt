@@ -1,5 +1,6 @@
 -- A replay goes as the recorded run.
-use Rattle.std.proofs.Common.{◌≡◌, ◌∙◌, ◌+◌, ℕ, pos, List, [], ◌∷◌, ◌++◌, Option, Some, None, Result, Ok, Err, OnOk, IfErr, ap, append_assoc, append-nil, arith, length, map, refl, sym}
+use Rattle.std.proofs.Common.{◌≡◌, ◌∙◌, ◌+◌, ℕ, pos, List, [], ◌∷◌, ◌++◌, Option, Some, None, Result, Ok, Err, OnOk}
+use Rattle.std.proofs.Common.{IfErr, ap, append_assoc, append-nil, arith, length, map, refl, sym}
 use Rattle.fmp_base.specs.declared.events.Effect.TheVariants as effect
 use Rattle.fmp_base.specs.declared.events.TaskState.{TaskState}
 use Rattle.fmp_base.specs.declared.systems.System.{System}
@@ -25,14 +26,19 @@ use Rattle.fmp_recording.specs.declared.replaying.ReplayFault.TheVariants as fau
 use Rattle.fmp_recording.specs.declared.recorded.RecordedLine.{RecordedLine}
 use Rattle.fmp_recording.specs.declared.recorded.RecordedLine.TheVariants as recorded
 use Rattle.fmp_recording.specs.Recordings.{came_lines, recorded_lines_text, recorded_of, recording_text}
-use Rattle.fmp_recording.specs.Replaying.{HasDone, HasDoneAll, HasReplayed, HasTaken, IsReplayFault, IsWhyNotAll, IsWhyNotDone, IsWhyNotRun, IsWhyNotTaken, IsWhyStopped, RecordedLinesAreReplayed, RecordedRunsAreReplayed, WholeRunsAreReplayed, added_by, first_refusal, kernel_after, new_kernel, or_else, recorded_trace, refusal_in, run_of, text_after, text_of}
+use Rattle.fmp_recording.specs.Replaying.{HasDone, HasDoneAll, HasReplayed, HasTaken, IsReplayFault, IsWhyNotAll}
+use Rattle.fmp_recording.specs.Replaying.{IsWhyNotDone, IsWhyNotRun, IsWhyNotTaken, IsWhyStopped}
+use Rattle.fmp_recording.specs.Replaying.{RecordedLinesAreReplayed, RecordedRunsAreReplayed, WholeRunsAreReplayed}
+use Rattle.fmp_recording.specs.Replaying.{added_by, first_refusal, kernel_after, new_kernel, or_else, recorded_trace}
+use Rattle.fmp_recording.specs.Replaying.{refusal_in, run_of, text_after, text_of}
 use Rattle.fmp_recording.proofs.RoundTrip.{lines_again, printed_lines_read_back}
 use Rattle.fmp_recording.proofs.Unrefused.{never_refused}
 use Rattle.fmp_trace.specs.ListedStates.{listed_states_text}
 use Rattle.fmp_trace.proofs.ListedStates.{listed_states_are_states}
 
 -- an event was done, and its lines are written
-module _ (old new : HostedSystem) (g : Given) (before after : List ℕ) (tied : old.kernel.system ≡ tables_of old.system) where
+module _ (old new : HostedSystem) (g : Given) (before after : List ℕ) (tied : old.kernel.system
+    ≡ tables_of old.system) where
   record IsTaken (o : Option Refusal) (r : Reaction LastTold) : Type 0 where
     taken : o ≡ None
     kernel : new.kernel ≡ view_after old.kernel r
@@ -101,7 +107,8 @@ refused_by : (o : Option Refusal) (r : Reaction LastTold) (why : Refusal) → an
 refused_by None r why e = cc
 refused_by (Some w) r why e = cc
 
-pub not_taken : (k : ForeignKernel) (g : Given) (why : Refusal) → hosting.answer k (Ok g) ≡ Err why → refused k g ≡ Some why
+pub not_taken : (k : ForeignKernel) (g : Given) (why : Refusal) → hosting.answer k (Ok g) ≡ Err why → refused k g
+    ≡ Some why
 not_taken k g why e = refused_by (refused k g) (reaction k g) why e
 
 -- a run, event by event
@@ -136,7 +143,8 @@ pub record Continues (old h : HostedSystem) (gs left : List Given) (before now :
 pub begins : (old : HostedSystem) (gs : List Given) (before : List ℕ) → Continues old old gs gs before before
 begins old gs before = record { refusal = refl; text = refl; world = refl; tables = refl; system = refl }
 
-module _ (old h : HostedSystem) (gs left : List Given) (before text : List ℕ) (c : Continues old h gs left before text) where
+module _ (old h : HostedSystem) (gs left : List Given) (before text : List ℕ)
+    (c : Continues old h gs left before text) where
   pub tied : old.kernel.system ≡ tables_of old.system → h.kernel.system ≡ tables_of h.system
   tied e = c.tables ∙ e ∙ ap (λ (s : System). tables_of s) (sym c.system)
 
@@ -198,7 +206,8 @@ pub record Leads (old h : HostedSystem) (rs left : List RecordedLine) (before no
 pub leads_first : (old : HostedSystem) (rs : List RecordedLine) (before : List ℕ) → Leads old old rs rs before before
 leads_first old rs before = record { refusal = refl; text = refl; kernel = refl; tables = refl; system = refl }
 
-module _ (old h : HostedSystem) (rs left : List RecordedLine) (before text : List ℕ) (c : Leads old h rs left before text) where
+module _ (old h : HostedSystem) (rs left : List RecordedLine) (before text : List ℕ)
+    (c : Leads old h rs left before text) where
   pub leads_tied : old.kernel.system ≡ tables_of old.system → h.kernel.system ≡ tables_of h.system
   leads_tied e = c.tables ∙ e ∙ ap (λ (s : System). tables_of s) (sym c.system)
 
@@ -279,7 +288,8 @@ whole system k rs now before first lines after is_new a b is_now c =
     ∙ append_assoc before (lines_text sys 0 k.lines) (text_after k rs ++ states_text sys now)
     ∙ ap (λ (s : KernelState). before ++ (lines_text sys 0 k.lines ++ (text_after k rs ++ states_text sys s))) is_now
     ∙ ap
-    (λ (j : ForeignKernel). before ++ (lines_text sys 0 j.lines ++ (text_after j rs ++ states_text sys (kernel_after j rs).world.state)))
+    (λ (j : ForeignKernel). before ++ (lines_text sys 0 j.lines
+    ++ (text_after j rs ++ states_text sys (kernel_after j rs).world.state)))
     is_new
 
 -- where the counts never begin again, the lines lead along the run over what came
@@ -305,7 +315,8 @@ whole_runs_are_replayed system recording gs before after e h =
     let same : h.lines ≡ came_lines gs = let read = h.recorded in cc in
     h.trace
     ∙ ap (λ (rs : List RecordedLine). before ++ recorded_trace sys rs) same
-    ∙ ap (λ (xs : List ℕ). before ++ (lines_text sys 0 k.lines ++ (xs ++ states_text sys (kernel_after k (came_lines gs)).world.state)))
+    ∙ ap (λ (xs : List ℕ). before ++ (lines_text sys 0 k.lines
+    ++ (xs ++ states_text sys (kernel_after k (came_lines gs)).world.state)))
     (came_text k gs)
     ∙ ap (λ (w : World LastTold). before ++ (lines_text sys 0 k.lines ++ (text_of k gs ++ states_text sys w.state)))
     (came_world k gs)

@@ -1,5 +1,8 @@
 -- What is written of a run is read as this run.
-use Rattle.std.proofs.Common.{ℕ, zero, suc, ℤ, pos, negsuc, ◌≡◌, ◌+◌, ◌-◌, ◌<◌, ◌≤◌, ◌^◌, List, [], ◌∷◌, ◌++◌, Bool, true, false, cond, ◌&&◌, not, Option, Some, None, Result, Ok, Err, length, nat_eq, nat_le, nat_lt, codes, decimal, drop, get_or, append_assoc, length-append, refl, ap, sym, ◌∙◌, arith}
+use Rattle.std.proofs.Common.{ℕ, zero, suc, ℤ, pos, negsuc, ◌≡◌, ◌+◌, ◌-◌, ◌<◌, ◌≤◌, ◌^◌, List, [], ◌∷◌, ◌++◌, Bool}
+use Rattle.std.proofs.Common.{true, false, cond, ◌&&◌, not, Option, Some, None, Result, Ok, Err, length, nat_eq, nat_le}
+use Rattle.std.proofs.Common.{nat_lt, codes, decimal, drop, get_or, append_assoc, length-append, refl, ap, sym, ◌∙◌}
+use Rattle.std.proofs.Common.{arith}
 use Rattle.std.proofs.Math.Seq.{take-append_seam, drop-append_seam, drop-append-add, get_or-append_seam}
 use Rattle.std.proofs.lemmas.Bool.{le-leb, lt-ltb}
 use Rattle.std.proofs.lemmas.Bool.Decides.{nat_tests}
@@ -21,8 +24,17 @@ use Rattle.fmp_recording.specs.declared.faults.RecordingFault.{RecordingFault}
 use Rattle.fmp_recording.specs.declared.faults.RecordingFault.TheVariants as recording_fault
 use Rattle.fmp_recording.specs.declared.recorded.RecordedLine.{RecordedLine}
 use Rattle.fmp_recording.specs.declared.recorded.RecordedLine.TheVariants as recorded
-use Rattle.fmp_recording.specs.Recordings.{Cut, act_by, act_in, act_text, all_came, arguments_in, arguments_text, call_in, call_with, came, came_by, came_lines, cut, cut_at, behind_blank, fault_at, given_act, given_by, given_in, given_int, given_text, in_front, in_front_of, is_restart, line_meaning, line_time, line_times, number_of, number_up_to, positive, negative, recorded_at, recorded_from, recorded_in, recorded_lines_text, recorded_of, recorded_text, recording_of, recording_text, restart_text, said_before, signed_number, some_time, time_behind, time_number, time_or_none, time_place, time_text, timed_text, times_of, with_time}
-use Rattle.fmp_recording.specs.RecordingLaws.{IsRecorded, IsRecordedLine, IsTime, IsWord, IsWritable, PrintedLinesReadBack, PrintedRecordingsReadBack, TimedRecordingsReadBack}
+use Rattle.fmp_recording.specs.Recordings.{Cut, act_by, act_in, act_text, all_came, arguments_in, arguments_text}
+use Rattle.fmp_recording.specs.Recordings.{call_in, call_with, came, came_by, came_lines, cut, cut_at, behind_blank}
+use Rattle.fmp_recording.specs.Recordings.{fault_at, given_act, given_by, given_in, given_int, given_text, in_front}
+use Rattle.fmp_recording.specs.Recordings.{in_front_of, is_restart, line_meaning, line_time, line_times, number_of}
+use Rattle.fmp_recording.specs.Recordings.{number_up_to, positive, negative, recorded_at, recorded_from, recorded_in}
+use Rattle.fmp_recording.specs.Recordings.{recorded_lines_text, recorded_of, recorded_text, recording_of}
+use Rattle.fmp_recording.specs.Recordings.{recording_text, restart_text, said_before, signed_number, some_time}
+use Rattle.fmp_recording.specs.Recordings.{time_behind, time_number, time_or_none, time_place, time_text, timed_text}
+use Rattle.fmp_recording.specs.Recordings.{times_of, with_time}
+use Rattle.fmp_recording.specs.RecordingLaws.{IsRecorded, IsRecordedLine, IsTime, IsWord, IsWritable}
+use Rattle.fmp_recording.specs.RecordingLaws.{PrintedLinesReadBack, PrintedRecordingsReadBack, TimedRecordingsReadBack}
 use Rattle.fmp_recording.proofs.CallTables.{all_arguments, all_plain, call_again, is_plain, plain_name, read_name}
 use Rattle.fmp_steps.specs.Steps.{lines_of, numeral_value}
 use Rattle.fmp_steps.proofs.LinesOf.{IsLine, lines_of-ended}
@@ -51,7 +63,8 @@ clear_line (b ∷ bs) h = let p = clear_parts b (all_clear bs) h in (p.1, clear_
 clear_append : (xs ys : List ℕ) → Clear xs → Clear ys → Clear (xs ++ ys)
 clear_append [] ys h k = k
 clear_append (x ∷ xs) ys h k =
-    let p = clear_parts x (all_clear xs) h in ap (λ (t : Bool). t && all_clear (xs ++ ys)) p.0 ∙ clear_append xs ys p.3 k
+    let p = clear_parts x (all_clear xs) h in ap (λ (t : Bool). t && all_clear (xs ++ ys)) p.0
+    ∙ clear_append xs ys p.3 k
 
 line_append : (xs ys : List ℕ) → IsLine xs → IsLine ys → IsLine (xs ++ ys)
 line_append [] ys h k = k
@@ -87,7 +100,8 @@ timed w rest h =
     let n : position_or_len (λ b. nat_eq b 64) text ≡ suc (length w) = sign_behind w (32 ∷ 64 ∷ rest) h ∙ omega arith in
     let all : length text ≡ length w + length (32 ∷ 64 ∷ rest) = length-append w (32 ∷ 64 ∷ rest) in
     let before : suc (length w) - 1 ≡ length w = omega arith in
-    let inside : nat_lt (suc (length w)) (length text) ≡ true = lt-ltb (suc (length w)) (length text) (omega (arith, all)) in
+    let inside : nat_lt (suc (length w)) (length text) ≡ true = lt-ltb (suc (length w)) (length text)
+    (omega (arith, all)) in
     ap (λ (k : ℕ). behind_blank text (cond (nat_lt k (length text)) (Some k) None)) n
     ∙ ap (λ (t : Bool). behind_blank text (cond t (Some (suc (length w))) None)) inside
     ∙ ap (λ (t : Bool). cond (t && nat_eq (get_or text (suc (length w) - 1) 0) 32) (Some (suc (length w) - 1)) None)
@@ -99,7 +113,8 @@ timed w rest h =
 abbrev Plain : List ℕ → Type 0
 Plain w = all_plain w ≡ true
 
-plain_parts : (b : ℕ) (rest : Bool) → (is_plain b && rest) ≡ true → (nat_eq b 32 ≡ false) × (is_clear b ≡ true) × (rest ≡ true)
+plain_parts : (b : ℕ) (rest : Bool) → (is_plain b && rest) ≡ true → (nat_eq b 32 ≡ false) × (is_clear b ≡ true)
+    × (rest ≡ true)
 plain_parts b rest h = (grind (arith, nat_tests), grind (arith, nat_tests), grind (arith, nat_tests))
 
 plain_clear : (w : List ℕ) → Plain w → Clear w
@@ -107,7 +122,8 @@ plain_clear [] h = refl
 plain_clear (b ∷ bs) h =
     let p = plain_parts b (all_plain bs) h in ap (λ (t : Bool). t && all_clear bs) p.1 ∙ plain_clear bs p.2
 
-digit_plain : (d : ℕ) (rest : Bool) → (is_ascii_digit d && rest) ≡ true → (is_plain d ≡ true) × (nat_eq d 45 ≡ false) × (rest ≡ true)
+digit_plain : (d : ℕ) (rest : Bool) → (is_ascii_digit d && rest) ≡ true → (is_plain d ≡ true) × (nat_eq d 45 ≡ false)
+    × (rest ≡ true)
 digit_plain d rest h = (grind (arith, nat_tests), grind (arith, nat_tests), grind (arith, nat_tests))
 
 digits_plain : (ds : List ℕ) → all_ascii_digits ds ≡ true → Plain ds
@@ -148,12 +164,14 @@ cut_end w h =
     ap (λ (k : ℕ). cut_at (cond (nat_lt k (length w)) (Some k) None) w) n
     ∙ ap (λ (t : Bool). cut_at (cond t (Some (length w)) None) w) out
 
-cut_before : (w : List ℕ) (xs : List ℤ) → Plain w → cut (w ++ arguments_text xs) ≡ record { word = w; rest = arguments_text xs }
+cut_before : (w : List ℕ) (xs : List ℤ) → Plain w → cut (w ++ arguments_text xs)
+    ≡ record { word = w; rest = arguments_text xs }
 cut_before w [] h = ap (λ (x : List ℕ). cut x) (and_none w) ∙ cut_end w h
 cut_before w (x ∷ xs) h = cut_word w (signed_decimal x ++ arguments_text xs) h
 
 -- a number is read as it is written
-number_digits : (ds : List ℕ) (n : ℕ) → all_ascii_digits ds ≡ true → numeral_value ds ≡ Some n → number_of ds ≡ positive (Some n)
+number_digits : (ds : List ℕ) (n : ℕ) → all_ascii_digits ds ≡ true → numeral_value ds ≡ Some n → number_of ds
+    ≡ positive (Some n)
 number_digits [] n h e = cc
 number_digits (d ∷ ds) n h e =
     let p = digit_plain d (all_ascii_digits ds) h in
@@ -169,7 +187,8 @@ number_again (pos n) h =
     ∙ ap (λ (t : Bool). cond t (Some (pos n)) None) (lt-ltb n (2 ^ 31) h)
 number_again (negsuc n) h =
     ap (λ (o : Option ℕ). negative o) (numeral_again (suc n) (omega (arith, h)))
-    ∙ ap (λ (t : Bool). cond (nat_le 1 (suc n) && t) (Some (negsuc (suc n - 1))) None) (le-leb (suc n) (2 ^ 31) (omega (arith, h)))
+    ∙ ap (λ (t : Bool). cond (nat_le 1 (suc n) && t) (Some (negsuc (suc n - 1))) None)
+    (le-leb (suc n) (2 ^ 31) (omega (arith, h)))
     ∙ ap (λ (t : Bool). cond (t && true) (Some (negsuc (suc n - 1))) None) (le-leb 1 (suc n) (omega arith))
     ∙ ap (λ (m : ℕ). Some (negsuc m)) (omega arith)
 
@@ -181,14 +200,16 @@ arguments_again : (xs : List ℤ) → AllByRecursion IsWord xs → arguments_in 
 arguments_again [] h = refl
 arguments_again (x ∷ xs) h =
     let t = signed_decimal x ++ arguments_text xs in
-    ap (λ (c : Cut). in_front_of (number_of c.word) (arguments_in (length xs) c.rest)) (cut_before (signed_decimal x) xs (plain_number x h.0))
+    ap (λ (c : Cut). in_front_of (number_of c.word) (arguments_in (length xs) c.rest))
+    (cut_before (signed_decimal x) xs (plain_number x h.0))
     ∙ ap (λ (o : Option ℤ). in_front_of o (arguments_in (length xs) (arguments_text xs))) (number_again x h.0)
     ∙ ap (λ (o : Option (List ℤ)). in_front_of (Some x) o) (arguments_again xs h.1)
 
 arguments_clear : (xs : List ℤ) → AllByRecursion IsWord xs → Clear (arguments_text xs)
 arguments_clear [] h = refl
 arguments_clear (x ∷ xs) h =
-    clear_append (signed_decimal x) (arguments_text xs) (plain_clear (signed_decimal x) (plain_number x h.0)) (arguments_clear xs h.1)
+    clear_append (signed_decimal x) (arguments_text xs) (plain_clear (signed_decimal x) (plain_number x h.0))
+    (arguments_clear xs h.1)
 
 call_read : (c : Call) → AllByRecursion IsWord (arguments_of c)
     → call_in (Some (service_of c)) (arguments_text (arguments_of c)) ≡ Some (act.Call c)
@@ -208,7 +229,8 @@ act_again (act.Fault fault.Index) h = refl
 
 act_clear : (a : Act) → IsWritable a → Clear (act_text a)
 act_clear (act.Call c) h =
-    clear_append (service_name (service_of c)) (arguments_text (arguments_of c)) (plain_clear (service_name (service_of c)) (plain_name (service_of c)))
+    clear_append (service_name (service_of c)) (arguments_text (arguments_of c))
+    (plain_clear (service_name (service_of c)) (plain_name (service_of c)))
     (arguments_clear (arguments_of c) h)
 act_clear act.End h = refl
 act_clear (act.Fault fault.Overflow) h = refl
@@ -221,12 +243,15 @@ ranged_again most n low high small =
     ∙ ap (λ (t : Bool). cond (t && nat_le n most) (Ok n) (Err flaw.Range)) (le-leb 1 n low)
     ∙ ap (λ (t : Bool). cond t (Ok n) (Err flaw.Range)) (le-leb n most high)
 
-given_again : (processors : ℕ) (g : Given) → processors < 256 → IsRecorded processors g → given_in processors (given_text g) ≡ Ok g
+given_again : (processors : ℕ) (g : Given) → processors < 256 → IsRecorded processors g
+    → given_in processors (given_text g) ≡ Ok g
 given_again processors (given.Act p a) small h =
     let plain = digits_plain (decimal p) (decimal_digits p (omega (arith, h.1))) in
     ap (λ (c : Cut). given_by processors c) (cut_word (codes "run") (decimal p ++ 32 ∷ act_text a) refl)
-    ∙ ap (λ (c : Cut). given_act (number_up_to processors (number_of c.word)) (act_in c.rest)) (cut_word (decimal p) (act_text a) plain)
-    ∙ ap (λ (r : Result ℕ RecordingFlaw). given_act r (act_by (cut (act_text a)))) (ranged_again processors p h.0 h.1 small)
+    ∙ ap (λ (c : Cut). given_act (number_up_to processors (number_of c.word)) (act_in c.rest))
+    (cut_word (decimal p) (act_text a) plain)
+    ∙ ap (λ (r : Result ℕ RecordingFlaw). given_act r (act_by (cut (act_text a))))
+    (ranged_again processors p h.0 h.1 small)
     ∙ ap (λ (o : Option Act). given_act (Ok p) o) (act_again a h.2)
 given_again processors given.Tick small h = refl
 given_again processors (given.Int i) small h =
@@ -262,29 +287,35 @@ not_restart_behind (given.Int i) rest = refl
 numbered : (processors n : ℕ) (line : List ℕ) (r : RecordedLine) → recorded_in processors line ≡ Ok r → n ≤ 2 ^ 31
     → recorded_at processors n line ≡ Ok r
 numbered processors n line r e few =
-    ap (λ (t : Bool). cond t (fault_at n (recorded_in processors line)) (Err (recording_fault.TooMany n))) (le-leb n (2 ^ 31) few)
+    ap (λ (t : Bool). cond t (fault_at n (recorded_in processors line)) (Err (recording_fault.TooMany n)))
+    (le-leb n (2 ^ 31) few)
     ∙ ap (λ x. fault_at n x) e
 
-came_numbered : (processors n : ℕ) (line : List ℕ) (g : Given) → is_restart line ≡ false → line_meaning processors line ≡ Ok g
+came_numbered : (processors n : ℕ) (line : List ℕ) (g : Given) → is_restart line ≡ false
+    → line_meaning processors line ≡ Ok g
     → n ≤ 2 ^ 31 → recorded_at processors n line ≡ Ok (recorded.Came g)
 came_numbered processors n line g other e few =
     numbered processors n line (recorded.Came g)
-    (ap (λ (t : Bool). came_line line (line_meaning processors line) t) other ∙ ap (λ (r : Result Given RecordingFlaw). came_by r) e) few
+    (ap (λ (t : Bool). came_line line (line_meaning processors line) t) other
+    ∙ ap (λ (r : Result Given RecordingFlaw). came_by r) e) few
 
 line_again : (processors n : ℕ) (g : Given) → processors < 256 → IsRecorded processors g → n ≤ 2 ^ 31
     → recorded_at processors n (given_text g) ≡ Ok (recorded.Came g)
 line_again processors n g small h few =
     let w = given_text g in
     came_numbered processors n w g (not_restart g)
-    (ap (λ (o : Option ℕ). with_time (given_in processors (said_before o w)) (time_behind o w)) (untimed w (given_clear processors g small h))
+    (ap (λ (o : Option ℕ). with_time (given_in processors (said_before o w)) (time_behind o w))
+    (untimed w (given_clear processors g small h))
     ∙ ap (λ (r : Result Given RecordingFlaw). with_time r (Ok None)) (given_again processors g small h)) few
 
 pub lines_again : (processors n : ℕ) (gs : List Given) → processors < 256 → AllByRecursion (IsRecorded processors) gs
     → n + length gs ≤ 2 ^ 31 + 1 → recorded_from processors n (lines_of (recording_text gs)) ≡ Ok (came_lines gs)
 lines_again processors n [] small h few = refl
 lines_again processors n (g ∷ gs) small h few =
-    ap (λ ls. recorded_from processors n ls) (lines_of-ended (given_text g) (recording_text gs) (given_line processors g small h.0))
-    ∙ ap (λ r. in_front r (recorded_from processors (n + 1) (lines_of (recording_text gs)))) (line_again processors n g small h.0 (omega (arith, few)))
+    ap (λ ls. recorded_from processors n ls) (lines_of-ended (given_text g) (recording_text gs)
+    (given_line processors g small h.0))
+    ∙ ap (λ r. in_front r (recorded_from processors (n + 1) (lines_of (recording_text gs))))
+    (line_again processors n g small h.0 (omega (arith, few)))
     ∙ ap (λ r. in_front (Ok (recorded.Came g)) r) (lines_again processors (n + 1) gs small h.1 (omega (arith, few)))
 
 came_all : (gs : List Given) → came (came_lines gs) ≡ gs
@@ -307,15 +338,18 @@ recorded_again : (processors n : ℕ) (r : RecordedLine) → processors < 256 �
 recorded_again processors n (recorded.Came g) small h few = line_again processors n g small h few
 recorded_again processors n recorded.Restart small h few = numbered processors n restart_text recorded.Restart refl few
 
-recorded_line : (processors : ℕ) (r : RecordedLine) → processors < 256 → IsRecordedLine processors r → IsLine (recorded_text r)
+recorded_line : (processors : ℕ) (r : RecordedLine) → processors < 256 → IsRecordedLine processors r
+    → IsLine (recorded_text r)
 recorded_line processors (recorded.Came g) small h = given_line processors g small h
 recorded_line processors recorded.Restart small h = clear_line restart_text refl
 
-all_again : (processors n : ℕ) (rs : List RecordedLine) → processors < 256 → AllByRecursion (IsRecordedLine processors) rs
+all_again : (processors n : ℕ) (rs : List RecordedLine) → processors < 256
+    → AllByRecursion (IsRecordedLine processors) rs
     → n + length rs ≤ 2 ^ 31 + 1 → recorded_from processors n (lines_of (recorded_lines_text rs)) ≡ Ok rs
 all_again processors n [] small h few = refl
 all_again processors n (r ∷ rs) small h few =
-    ap (λ ls. recorded_from processors n ls) (lines_of-ended (recorded_text r) (recorded_lines_text rs) (recorded_line processors r small h.0))
+    ap (λ ls. recorded_from processors n ls) (lines_of-ended (recorded_text r) (recorded_lines_text rs)
+    (recorded_line processors r small h.0))
     ∙ ap (λ x. in_front x (recorded_from processors (n + 1) (lines_of (recorded_lines_text rs))))
     (recorded_again processors n r small h.0 (omega (arith, few)))
     ∙ ap (λ x. in_front (Ok r) x) (all_again processors (n + 1) rs small h.1 (omega (arith, few)))
@@ -326,7 +360,8 @@ printed_lines_read_back processors rs small h few = all_again processors 1 rs sm
 -- a line and its time are read as they are written
 said_again : (w : List ℕ) (t : Option ℕ) → Clear w → said_before (time_place (w ++ time_text t)) (w ++ time_text t) ≡ w
 said_again w None h =
-    ap (λ (x : List ℕ). said_before (time_place x) x) (and_none w) ∙ ap (λ (o : Option ℕ). said_before o w) (untimed w h)
+    ap (λ (x : List ℕ). said_before (time_place x) x) (and_none w)
+    ∙ ap (λ (o : Option ℕ). said_before o w) (untimed w h)
 said_again w (Some n) h =
     let text = w ++ 32 ∷ 64 ∷ decimal n in
     ap (λ (o : Option ℕ). said_before o text) (timed w (decimal n) h) ∙ take-append_seam w (32 ∷ 64 ∷ decimal n)
@@ -338,7 +373,8 @@ digits_again (suc n) h = numeral_value-decimal (suc n) (omega arith) (omega (ari
 time_again : (w : List ℕ) (t : Option ℕ) → Clear w → IsTime t
     → time_behind (time_place (w ++ time_text t)) (w ++ time_text t) ≡ Ok t
 time_again w None h k =
-    ap (λ (x : List ℕ). time_behind (time_place x) x) (and_none w) ∙ ap (λ (o : Option ℕ). time_behind o w) (untimed w h)
+    ap (λ (x : List ℕ). time_behind (time_place x) x) (and_none w)
+    ∙ ap (λ (o : Option ℕ). time_behind o w) (untimed w h)
 time_again w (Some n) h k =
     let text = w ++ 32 ∷ 64 ∷ decimal n in
     ap (λ (o : Option ℕ). time_behind o text) (timed w (decimal n) h)
@@ -346,7 +382,8 @@ time_again w (Some n) h k =
     ∙ ap (λ (o : Option ℕ). some_time (time_number o)) (digits_again n k)
     ∙ ap (λ (b : Bool). some_time (cond b (Ok n) (Err flaw.Range))) (le-leb n (2 ^ 53) k)
 
-timed_line : (processors n : ℕ) (g : Given) (t : Option ℕ) → processors < 256 → IsRecorded processors g → IsTime t → n ≤ 2 ^ 31
+timed_line : (processors n : ℕ) (g : Given) (t : Option ℕ) → processors < 256 → IsRecorded processors g → IsTime t
+    → n ≤ 2 ^ 31
     → recorded_at processors n (given_text g ++ time_text t) ≡ Ok (recorded.Came g)
 timed_line processors n g t small h k few =
     let w = given_text g in
@@ -359,9 +396,17 @@ timed_line processors n g t small h k few =
 
 time_line : (t : Option ℕ) → IsTime t → IsLine (time_text t)
 time_line None k = tt
-time_line (Some n) k = (refl, (refl, clear_line (decimal n) (plain_clear (decimal n) (digits_plain (decimal n) (decimal_digits n (omega (arith, k)))))))
+time_line (Some n) k = (
+  refl,
+  (
+    refl,
+    clear_line (decimal n) (plain_clear (decimal n)
+        (digits_plain (decimal n) (decimal_digits n (omega (arith, k))))),
+  ),
+)
 
-first_timed : (processors : ℕ) (g : Given) (t : Option ℕ) (rest : List ℕ) → processors < 256 → IsRecorded processors g → IsTime t
+first_timed : (processors : ℕ) (g : Given) (t : Option ℕ) (rest : List ℕ) → processors < 256 → IsRecorded processors g
+    → IsTime t
     → lines_of (given_text g ++ (time_text t ++ 10 ∷ rest)) ≡ (given_text g ++ time_text t) ∷ lines_of rest
 first_timed processors g t rest small h k =
     ap (λ (x : List ℕ). lines_of x) (sym (append_assoc (given_text g) (time_text t) (10 ∷ rest)))
@@ -376,7 +421,8 @@ timed_givens processors n (g ∷ gs) [] small h k e few = absurd (omega (arith, 
 timed_givens processors n (g ∷ gs) (t ∷ ts) small h k e few =
     let rest = lines_of (timed_text gs ts) in
     ap (λ ls. recorded_from processors n ls) (first_timed processors g t (timed_text gs ts) small h.0 k.0)
-    ∙ ap (λ r. in_front r (recorded_from processors (n + 1) rest)) (timed_line processors n g t small h.0 k.0 (omega (arith, few)))
+    ∙ ap (λ r. in_front r (recorded_from processors (n + 1) rest)) (timed_line processors n g t small h.0 k.0
+    (omega (arith, few)))
     ∙ ap (λ r. in_front (Ok (recorded.Came g)) r)
     (timed_givens processors (n + 1) gs ts small h.1 k.1 (omega (arith, e)) (omega (arith, few)))
 

@@ -1,5 +1,6 @@
 -- What stands in a recording of a system is refused by no new kernel of it.
-use Rattle.std.proofs.Common.{◌≡◌, ◌∙◌, ◌+◌, ◌<◌, ◌≤◌, ◌^◌, ℕ, ℤ, pos, negsuc, List, [], ◌∷◌, Option, Some, None, Result, Ok, Err, Bool, true, false, cond, length, nat_le, ap, arith, refl, subst}
+use Rattle.std.proofs.Common.{◌≡◌, ◌∙◌, ◌+◌, ◌<◌, ◌≤◌, ◌^◌, ℕ, ℤ, pos, negsuc, List, [], ◌∷◌, Option, Some, None}
+use Rattle.std.proofs.Common.{Result, Ok, Err, Bool, true, false, cond, length, nat_le, ap, arith, refl, subst}
 use Rattle.std.proofs.lemmas.Bool.{leb-true, lt-ltb}
 use Rattle.std.specs.List.{AllByRecursion}
 use Rattle.std.specs.Str.{bytes_eq}
@@ -22,7 +23,10 @@ use Rattle.fmp_recording.specs.declared.faults.RecordingFault.{RecordingFault}
 use Rattle.fmp_recording.specs.declared.faults.RecordingFault.TheVariants as recording_fault
 use Rattle.fmp_recording.specs.declared.recorded.RecordedLine.{RecordedLine}
 use Rattle.fmp_recording.specs.declared.recorded.RecordedLine.TheVariants as recorded
-use Rattle.fmp_recording.specs.Recordings.{act_in, came_by, cut, fault_at, given_act, given_int, given_in, in_front, int_in, is_restart, line_meaning, said_before, time_behind, time_place, with_time, number_of, number_up_to, recorded_at, recorded_from, recorded_in, recorded_of, run_in, tick_in}
+use Rattle.fmp_recording.specs.Recordings.{act_in, came_by, cut, fault_at, given_act, given_int, given_in, in_front}
+use Rattle.fmp_recording.specs.Recordings.{int_in, is_restart, line_meaning, said_before, time_behind, time_place}
+use Rattle.fmp_recording.specs.Recordings.{with_time, number_of, number_up_to, recorded_at, recorded_from, recorded_in}
+use Rattle.fmp_recording.specs.Recordings.{recorded_of, run_in, tick_in}
 use Rattle.fmp_recording.specs.Replaying.{first_refusal, new_kernel, or_else}
 use Rattle.fmp_steps.specs.Steps.{lines_of}
 
@@ -32,7 +36,8 @@ Fits processors (given.Act p a) = is_number processors p ≡ true
 Fits processors given.Tick = Unit {0}
 Fits processors (given.Int i) = is_number 32 i ≡ true
 
-by_test : (most m n : ℕ) (t : Bool) → is_number most m ≡ t → ◌≡◌ {A = Result ℕ RecordingFlaw} (cond t (Ok m) (Err flaw.Range)) (Ok n)
+by_test : (most m n : ℕ) (t : Bool) → is_number most m ≡ t → ◌≡◌ {A = Result ℕ RecordingFlaw}
+    (cond t (Ok m) (Err flaw.Range)) (Ok n)
     → is_number most n ≡ true
 by_test most m n true h e = let same : m ≡ n = cc in subst (λ (x : ℕ). is_number most x ≡ true) same h
 by_test most m n false h e = cc
@@ -80,10 +85,12 @@ by_word processors rest g false false false e = absurd cc
 
 text_fits : (processors : ℕ) (line : List ℕ) (g : Given) → given_in processors line ≡ Ok g → Fits processors g
 text_fits processors line g e =
-    by_word processors (cut line).rest g (bytes_eq (cut line).word (codes "run")) (bytes_eq (cut line).word (codes "int"))
+    by_word processors (cut line).rest g (bytes_eq (cut line).word (codes "run"))
+    (bytes_eq (cut line).word (codes "int"))
     (bytes_eq (cut line).word (codes "tick")) e
 
-without_its_time : (r : Result Given RecordingFlaw) (t : Result (Option ℕ) RecordingFlaw) (g : Given) → with_time r t ≡ Ok g → r ≡ Ok g
+without_its_time : (r : Result Given RecordingFlaw) (t : Result (Option ℕ) RecordingFlaw) (g : Given) → with_time r t
+    ≡ Ok g → r ≡ Ok g
 without_its_time (Err f) t g e = absurd cc
 without_its_time (Ok h) (Err f) g e = absurd cc
 without_its_time (Ok h) (Ok t) g e = e
@@ -97,7 +104,8 @@ abbrev LineFits : (processors : ℕ) → RecordedLine → Type 0
 LineFits processors (recorded.Came g) = Fits processors g
 LineFits processors recorded.Restart = Unit {0}
 
-came_fits : (processors : ℕ) (m : Result Given RecordingFlaw) (r : RecordedLine) → ((g : Given) → m ≡ Ok g → Fits processors g)
+came_fits : (processors : ℕ) (m : Result Given RecordingFlaw) (r : RecordedLine)
+    → ((g : Given) → m ≡ Ok g → Fits processors g)
     → came_by m ≡ Ok r → LineFits processors r
 came_fits processors (Err f) r h e = absurd cc
 came_fits processors (Ok g) r h e =

@@ -8,7 +8,8 @@ use Rattle.fmp_outside.specs.declared.given.Given.{Given}
 use Rattle.fmp_outside.specs.declared.given.Given.TheVariants as given
 use Rattle.fmp_recording.specs.declared.recorded.RecordedLine.{RecordedLine}
 use Rattle.fmp_recording.specs.declared.recorded.RecordedLine.TheVariants as recorded
-use Rattle.fmp_recording.specs.Recordings.{recorded_lines_text, recorded_of, recording_of, recording_text, timed_text, times_of}
+use Rattle.fmp_recording.specs.Recordings.{recorded_lines_text, recorded_of, recording_of, recording_text, timed_text}
+use Rattle.fmp_recording.specs.Recordings.{times_of}
 
 -- a number of 32 bits
 abbrev pub IsWord : ℤ → Type 0

@@ -1,5 +1,7 @@
 -- Recordings: how they are written, and what they mean.
-use Rattle.std.specs.Prelude.{◌≡◌, ℕ, suc, ◌+◌, ◌-◌, ◌^◌, true, false, min, ℤ, pos, negsuc, List, [], ◌∷◌, ◌++◌, Option, Some, None, Result, Ok, Err, Bool, ◌&&◌, if◌then◌else◌, nat_eq, nat_le, nat_lt, bytes_eq, codes, decimal, drop, get_or, map, position, take, zero}
+use Rattle.std.specs.Prelude.{◌≡◌, ℕ, suc, ◌+◌, ◌-◌, ◌^◌, true, false, min, ℤ, pos, negsuc, List, [], ◌∷◌, ◌++◌, Option}
+use Rattle.std.specs.Prelude.{Some, None, Result, Ok, Err, Bool, ◌&&◌, if◌then◌else◌, nat_eq, nat_le, nat_lt, bytes_eq}
+use Rattle.std.specs.Prelude.{codes, decimal, drop, get_or, map, position, take, zero}
 use Rattle.std.specs.Fmt.{signed_decimal}
 use Rattle.fmp_base.specs.declared.bodies.Fault.{Fault}
 use Rattle.fmp_base.specs.declared.bodies.Fault.TheVariants.{Overflow, Division, Index}

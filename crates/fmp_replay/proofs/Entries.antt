@@ -15,7 +15,8 @@ use Rattle.fmp_image_bytes.proofs.Entries.{task_bodies, cyclic_bodies, interrupt
 use Rattle.fmp_contexts.specs.Contexts.{BeginsIn, Entered}
 
 module _ (n : ℕ) where
-  task_at : (other : TaskConfig) (ts : List TaskConfig) (t : ℕ) → AllByRecursion (λ x. body_of x.entry < n) ts → t < length ts
+  task_at : (other : TaskConfig) (ts : List TaskConfig) (t : ℕ) → AllByRecursion (λ x. body_of x.entry < n) ts
+      → t < length ts
       → body_of (found other (slice_get ts t)).entry < n
   task_at other [] t h lt = absurd (omega (arith, lt))
   task_at other (x ∷ ts) zero h lt = h.0
@@ -28,7 +29,8 @@ module _ (n : ℕ) where
   cyclic_at (x ∷ cs) (suc c) h = cyclic_at cs c h.1
 
   by_number : (same : Bool) (x : InterruptConfig) (rest : Option InterruptConfig) → body_of x.entry < n
-      → BeginsIn (λ b. b < n) (interrupt_start rest) → BeginsIn (λ b. b < n) (interrupt_start (if same then Some x else rest))
+      → BeginsIn (λ b. b < n) (interrupt_start rest) → BeginsIn (λ b. b < n)
+      (interrupt_start (if same then Some x else rest))
   by_number true x rest h k = h
   by_number false x rest h k = k
 
@@ -38,11 +40,14 @@ module _ (n : ℕ) where
   interrupt_at number (x ∷ is) h =
       by_number (nat_eq x.number number) x (defined_for number is) h.0 (interrupt_at number is h.1)
 
-handler_at : (i : ImageTables) → IsImage i → (h : Handler) → BeginsIn (λ b. b < length i.code) (handler_start i.system h)
-handler_at i lawful (handler.Interrupt k) = interrupt_at (length i.code) (k + 1) i.system.interrupts (interrupt_bodies i lawful)
+handler_at : (i : ImageTables) → IsImage i → (h : Handler) → BeginsIn (λ b. b < length i.code)
+    (handler_start i.system h)
+handler_at i lawful (handler.Interrupt k) = interrupt_at (length i.code) (k + 1) i.system.interrupts
+    (interrupt_bodies i lawful)
 handler_at i lawful (handler.Cyclic c) = cyclic_at (length i.code) i.system.cyclics c (cyclic_bodies i lawful)
 
-pub entered : (i : ImageTables) → IsImage i → Entered (λ (bodies : List BodyTables) (body : ℕ). body < length bodies) i.code i.system
+pub entered : (i : ImageTables) → IsImage i → Entered (λ (bodies : List BodyTables) (body : ℕ). body < length bodies)
+    i.code i.system
 entered i lawful =
     record {
       tasks = λ t lt. task_at (length i.code) _ i.system.tasks t (task_bodies i lawful) lt;

@@ -1,5 +1,6 @@
 -- A chain of links determines its list.
-use Rattle.std.proofs.Common.{◌≡◌, ◌≢◌, ℕ, zero, suc, ◌<◌, ◌≤◌, List, [], ◌∷◌, length, Bool, true, false, cond, nat_eq, ◌||◌, Some, None, refl, ap, ◌∙◌, sym, subst, arith}
+use Rattle.std.proofs.Common.{◌≡◌, ◌≢◌, ℕ, zero, suc, ◌<◌, ◌≤◌, List, [], ◌∷◌, length, Bool, true, false, cond, nat_eq}
+use Rattle.std.proofs.Common.{◌||◌, Some, None, refl, ap, ◌∙◌, sym, subst, arith}
 use Rattle.std.proofs.lemmas.Bool.{or_parts, lt-ltb, le-ltb}
 use Rattle.fmp_base.specs.Queues.{first_of}
 use Rattle.fmp_ring.specs.Chains.{Chain, walk}
@@ -24,21 +25,25 @@ Chain-ends n next previous a (t ∷ ts) (u ∷ us) y z f g c d =
 pub Chain-behind : (n : ℕ) (next previous : ℕ → ℕ) (x a : ℕ) (l : List ℕ) (z : ℕ) → is_in x l ≡ true
     → Chain n next previous a l z → Chain n next previous x (behind x l) z
 Chain-behind n next previous x a [] z h c = cc
-Chain-behind n next previous x a (t ∷ ts) z h c = rw (behind-cons x t ts) (by_test (nat_eq x t) refl h (λ k. Chain-behind n next previous x t ts z k c.3)) where
-  by_test : (b : Bool) → nat_eq x t ≡ b → (b || is_in x ts) ≡ true
-      → (is_in x ts ≡ true → Chain n next previous x (behind x ts) z) → Chain n next previous x (cond b ts (behind x ts)) z
-  by_test true e k rest = subst (λ (q : ℕ). Chain n next previous q ts z) (sym (nat_same x t e)) c.3
-  by_test false e k rest = rest k
+Chain-behind n next previous x a (t ∷ ts) z h c = rw (behind-cons x t ts)
+    (by_test (nat_eq x t) refl h (λ k. Chain-behind n next previous x t ts z k c.3)) where
+      by_test : (b : Bool) → nat_eq x t ≡ b → (b || is_in x ts) ≡ true
+          → (is_in x ts ≡ true → Chain n next previous x (behind x ts) z)
+          → Chain n next previous x (cond b ts (behind x ts)) z
+      by_test true e k rest = subst (λ (q : ℕ). Chain n next previous q ts z) (sym (nat_same x t e)) c.3
+      by_test false e k rest = rest k
 
 -- so no node stands in a list twice
-pub IsOrder-from_chain : (n : ℕ) (next previous : ℕ → ℕ) (a : ℕ) (l : List ℕ) (z : ℕ) → n ≤ z → Chain n next previous a l z → IsOrder n l
+pub IsOrder-from_chain : (n : ℕ) (next previous : ℕ → ℕ) (a : ℕ) (l : List ℕ) (z : ℕ) → n ≤ z
+    → Chain n next previous a l z → IsOrder n l
 IsOrder-from_chain n next previous a [] z f c = tt
 IsOrder-from_chain n next previous a (t ∷ ts) z f c =
     (c.0, once (is_in t ts) refl, IsOrder-from_chain n next previous t ts z f c.3) where
       once : (b : Bool) → is_in t ts ≡ b → is_in t ts ≡ false
       once false h = h
       once true h =
-          let same : ts ≡ behind t ts = (Chain-ends n next previous t ts (behind t ts) z z f f c.3 (Chain-behind n next previous t t ts z h c.3)).0 in
+          let same : ts ≡ behind t ts = (Chain-ends n next previous t ts (behind t ts) z z f f c.3
+          (Chain-behind n next previous t t ts z h c.3)).0 in
           let shorter : length (behind t ts) < length ts = length-behind t ts h in
           let as_long : length ts ≡ length (behind t ts) = ap length same in
           absurd (omega arith)
@@ -66,10 +71,12 @@ pub record Meets (m : ℕ) (next previous : ℕ → ℕ) (x : ℕ) : Type 0 wher
 Chain-first : (n : ℕ) (next previous : ℕ → ℕ) (m a : ℕ) (l : List ℕ) (z : ℕ) → n ≤ m → z < m
     → Chain n next previous a l z → (previous (next a) ≡ a) × (next a < m)
 Chain-first n next previous m a [] z f g c = let e : next a ≡ z = c.0 in (rw e c.1, rw e g)
-Chain-first n next previous m a (t ∷ ts) z f g c = let e : next a ≡ t = c.1 in let k : t < n = c.0 in (rw e c.2, rw e (omega arith))
+Chain-first n next previous m a (t ∷ ts) z f g c = let e : next a
+    ≡ t = c.1 in let k : t < n = c.0 in (rw e c.2, rw e (omega arith))
 
 -- a node of a list is linked both ways
-pub Chain-meets : (n : ℕ) (next previous : ℕ → ℕ) (m x a : ℕ) (l : List ℕ) (z : ℕ) → n ≤ m → z < m → a < m → is_in x l ≡ true
+pub Chain-meets : (n : ℕ) (next previous : ℕ → ℕ) (m x a : ℕ) (l : List ℕ) (z : ℕ) → n ≤ m → z < m → a < m → is_in x l
+    ≡ true
     → Chain n next previous a l z → Meets m next previous x
 Chain-meets n next previous m x a [] z f g k h c = cc
 Chain-meets n next previous m x a (t ∷ ts) z f g k h c =
@@ -88,17 +95,20 @@ Chain-meets n next previous m x a (t ∷ ts) z f g k h c =
 pub Chain-end : (n : ℕ) (next previous : ℕ → ℕ) (m a : ℕ) (l : List ℕ) (z : ℕ) → n ≤ m → a < m
     → Chain n next previous a l z → (next (previous z) ≡ z) × (previous z < m)
 Chain-end n next previous m a [] z f k c = let e : previous z ≡ a = c.1 in (rw e c.0, rw e k)
-Chain-end n next previous m a (t ∷ ts) z f k c = let low : t < n = c.0 in Chain-end n next previous m t ts z f (omega arith) c.3
+Chain-end n next previous m a (t ∷ ts) z f k c = let low : t < n = c.0 in Chain-end n next previous m t ts z f
+    (omega arith) c.3
 
 -- what comes before a node of a list, or before its end, is not a node that stands elsewhere
-pub Chain-before : (n : ℕ) (next previous : ℕ → ℕ) (x b a : ℕ) (l : List ℕ) (z : ℕ) → a ≢ x → is_in x l ≡ false → is_in b l ≡ true
+pub Chain-before : (n : ℕ) (next previous : ℕ → ℕ) (x b a : ℕ) (l : List ℕ) (z : ℕ) → a ≢ x → is_in x l ≡ false
+    → is_in b l ≡ true
     → Chain n next previous a l z → previous b ≢ x
 Chain-before n next previous x b a [] z ax hx h c = cc
 Chain-before n next previous x b a (t ∷ ts) z ax hx h c =
     let p = or_parts (nat_eq x t) (is_in x ts) hx in
     let tx : t ≢ x = nat_apart t x (nat_eq-flip t x ∙ p.0) in
     by_test (nat_eq b t) refl h (λ r. Chain-before n next previous x b t ts z tx p.1 r c.3) where
-      by_test : (d : Bool) → nat_eq b t ≡ d → (d || is_in b ts) ≡ true → (is_in b ts ≡ true → previous b ≢ x) → previous b ≢ x
+      by_test : (d : Bool) → nat_eq b t ≡ d → (d || is_in b ts) ≡ true → (is_in b ts ≡ true → previous b ≢ x)
+          → previous b ≢ x
       by_test true e r rest = λ g. let same : b ≡ t = nat_same b t e in let there : previous t ≡ a = c.2 in ax (cc)
       by_test false e r rest = rest r
 
@@ -121,7 +131,8 @@ Chain-none n next previous a [] z c low = refl
 Chain-none n next previous a (t ∷ ts) z c low = let e : next a ≡ t = c.1 in let k : t < n = c.0 in absurd (omega arith)
 
 -- no node of a ring links to itself
-pub Chain-moves : (n : ℕ) (next previous : ℕ → ℕ) (x : ℕ) (l : List ℕ) (z : ℕ) → x < n → n ≤ z → Chain n next previous x l z → next x ≢ x
+pub Chain-moves : (n : ℕ) (next previous : ℕ → ℕ) (x : ℕ) (l : List ℕ) (z : ℕ) → x < n → n ≤ z
+    → Chain n next previous x l z → next x ≢ x
 Chain-moves n next previous x [] z low f c = λ e. let k : z ≡ x = sym c.0 ∙ e in absurd (omega arith)
 Chain-moves n next previous x (t ∷ ts) z low f c = λ e.
     let same : t ≡ x = sym c.1 ∙ e in

@@ -1,5 +1,6 @@
 -- What becomes of a chain when a place is taken out of its ring, or put into one.
-use Rattle.std.proofs.Common.{◌≡◌, ◌≢◌, ℕ, ◌<◌, ◌≤◌, List, [], ◌∷◌, ◌++◌, Bool, true, false, cond, nat_eq, not, refl, ◌∙◌, sym, subst, arith}
+use Rattle.std.proofs.Common.{◌≡◌, ◌≢◌, ℕ, ◌<◌, ◌≤◌, List, [], ◌∷◌, ◌++◌, Bool, true, false, cond, nat_eq, not, refl}
+use Rattle.std.proofs.Common.{◌∙◌, sym, subst, arith}
 use Rattle.std.proofs.lemmas.Bool.{or_parts}
 use Rattle.fmp_base.specs.States.{without}
 use Rattle.fmp_ring.specs.Chains.{Chain}
@@ -15,7 +16,8 @@ pub record KeepsOthers (next previous next_new previous_new : ℕ → ℕ) (x b 
 
 -- a chain without x and b stays
 pub Chain-stays : (n : ℕ) (next previous next_new previous_new : ℕ → ℕ) (x b a : ℕ) (l : List ℕ) (z : ℕ)
-    → KeepsOthers next previous next_new previous_new x b → a ≢ x → z ≢ x → z ≢ b → is_in x l ≡ false → is_in b l ≡ false
+    → KeepsOthers next previous next_new previous_new x b → a ≢ x → z ≢ x → z ≢ b → is_in x l ≡ false → is_in b l
+    ≡ false
     → Chain n next previous a l z → Chain n next_new previous_new a l z
 Chain-stays n next previous next_new previous_new x b a [] z k ax zx zb hx hb c =
     (k.forth a z c.0 c.1 ax zx zb, k.back a z c.0 c.1 ax zx zb)
@@ -40,7 +42,8 @@ pub record IsUnlinked (next previous next_new previous_new : ℕ → ℕ) (x : �
   pub next_else : (q : ℕ) → q ≢ previous x → q ≢ x → next_new q ≡ next q
   pub previous_else : (q : ℕ) → q ≢ next x → previous_new q ≡ previous q
 
-pub KeepsOthers-unlinked : (next previous next_new previous_new : ℕ → ℕ) (x : ℕ) → IsUnlinked next previous next_new previous_new x
+pub KeepsOthers-unlinked : (next previous next_new previous_new : ℕ → ℕ) (x : ℕ)
+    → IsUnlinked next previous next_new previous_new x
     → KeepsOthers next previous next_new previous_new x x
 KeepsOthers-unlinked next previous next_new previous_new x u = record {
   forth = λ p q e f px qx _. u.next_else p (λ r. qx (same_next p q e r)) px ∙ e;
@@ -68,7 +71,8 @@ Chain-jump n next previous next_new previous_new x (t ∷ ts) z u zx h c =
       c.0,
       u.next_there ∙ e,
       rw e at d,
-      Chain-stays n next previous next_new previous_new x x t ts z (KeepsOthers-unlinked next previous next_new previous_new x u) tx zx zx p.1 p.1 c.3,
+      Chain-stays n next previous next_new previous_new x x t ts z (KeepsOthers-unlinked next previous next_new
+          previous_new x u) tx zx zx p.1 p.1 c.3,
     )
 
 -- each ring goes on without x, whether or not x was in it
@@ -76,7 +80,8 @@ pub Chain-without : (n : ℕ) (next previous next_new previous_new : ℕ → ℕ
     → IsUnlinked next previous next_new previous_new x → IsOrder n l → a ≢ x → z ≢ x
     → Chain n next previous a l z → Chain n next_new previous_new a (without l x) z
 Chain-without n next previous next_new previous_new x a [] z u o ax zx c =
-    Chain-stays n next previous next_new previous_new x x a [] z (KeepsOthers-unlinked next previous next_new previous_new x u) ax zx zx refl refl c
+    Chain-stays n next previous next_new previous_new x x a [] z (KeepsOthers-unlinked next previous next_new
+    previous_new x u) ax zx zx refl refl c
 Chain-without n next previous next_new previous_new x a (t ∷ ts) z u o ax zx c =
     by_test (nat_eq t x) refl (λ tx. Chain-without n next previous next_new previous_new x t ts z u o.2 tx zx c.3) where
       by_test : (b : Bool) → nat_eq t x ≡ b → (t ≢ x → Chain n next_new previous_new t (without ts x) z)
@@ -104,7 +109,8 @@ pub record IsLinkedIn (next previous next_new previous_new : ℕ → ℕ) (x b :
   pub next_else : (q : ℕ) → q ≢ previous b → q ≢ x → next_new q ≡ next q
   pub previous_else : (q : ℕ) → q ≢ b → q ≢ x → previous_new q ≡ previous q
 
-pub KeepsOthers-linked_in : (next previous next_new previous_new : ℕ → ℕ) (x b : ℕ) → IsLinkedIn next previous next_new previous_new x b
+pub KeepsOthers-linked_in : (next previous next_new previous_new : ℕ → ℕ) (x b : ℕ)
+    → IsLinkedIn next previous next_new previous_new x b
     → KeepsOthers next previous next_new previous_new x b
 KeepsOthers-linked_in next previous next_new previous_new x b u = record {
   forth = λ p q e f px qx qb. u.next_else p (λ r. qb (same_next p q e r)) px ∙ e;
@@ -135,15 +141,19 @@ Chain-pushed n next previous next_new previous_new x a (t ∷ ts) z u low f ax h
 
 -- each ring that ends elsewhere has x before b, if b was in it
 pub Chain-inserted : (n : ℕ) (next previous next_new previous_new : ℕ → ℕ) (x b a : ℕ) (l : List ℕ) (z : ℕ)
-    → IsLinkedIn next previous next_new previous_new x b → IsOrder n l → x < n → a ≢ x → z ≢ x → z ≢ b → is_in x l ≡ false
+    → IsLinkedIn next previous next_new previous_new x b → IsOrder n l → x < n → a ≢ x → z ≢ x → z ≢ b → is_in x l
+    ≡ false
     → Chain n next previous a l z → Chain n next_new previous_new a (inserted_before b x l) z
 Chain-inserted n next previous next_new previous_new x b a [] z u o low ax zx zb h c =
-    Chain-stays n next previous next_new previous_new x b a [] z (KeepsOthers-linked_in next previous next_new previous_new x b u) ax zx zb refl refl c
+    Chain-stays n next previous next_new previous_new x b a [] z (KeepsOthers-linked_in next previous next_new
+    previous_new x b u) ax zx zb refl refl c
 Chain-inserted n next previous next_new previous_new x b a (t ∷ ts) z u o low ax zx zb h c =
     let p = or_parts (nat_eq x t) (is_in x ts) h in
     let tx : t ≢ x = nat_apart t x (nat_eq-flip t x ∙ p.0) in
-    by_test tx p.1 (nat_eq t b) refl (Chain-inserted n next previous next_new previous_new x b t ts z u o.2 low tx zx zb p.1 c.3) where
-      by_test : t ≢ x → is_in x ts ≡ false → (d : Bool) → nat_eq t b ≡ d → Chain n next_new previous_new t (inserted_before b x ts) z
+    by_test tx p.1 (nat_eq t b) refl (Chain-inserted n next previous next_new previous_new x b t ts z u o.2 low tx zx
+    zb p.1 c.3) where
+      by_test : t ≢ x → is_in x ts ≡ false → (d : Bool) → nat_eq t b ≡ d
+          → Chain n next_new previous_new t (inserted_before b x ts) z
           → Chain n next_new previous_new a (cond d (x ∷ t ∷ ts) (t ∷ inserted_before b x ts)) z
       by_test tx hx true e rest =
           let same : t ≡ b = nat_same t b e in
@@ -157,7 +167,8 @@ Chain-inserted n next previous next_new previous_new x b a (t ∷ ts) z u o low 
               c.0,
               u.next_here ∙ sym same,
               subst (λ (q : ℕ). previous_new q ≡ x) (sym same) u.previous_behind,
-              Chain-stays n next previous next_new previous_new x b t ts z (KeepsOthers-linked_in next previous next_new previous_new x b u) tx zx zb hx absent c.3,
+              Chain-stays n next previous next_new previous_new x b t ts z
+                  (KeepsOthers-linked_in next previous next_new previous_new x b u) tx zx zb hx absent c.3,
             ),
           )
       by_test tx hx false e rest =

@@ -2,7 +2,8 @@
 use Rattle.fmp_base.specs.MailboxCalls.{is_among, is_queued}
 use Rattle.fmp_base.specs.States.{without}
 use Rattle.std.specs.Prelude.{slice_set}
-use Rattle.std.proofs.Common.{◌≡◌, ℕ, zero, suc, ◌<◌, List, [], ◌∷◌, length, Bool, true, false, ◌||◌, ◌&&◌, not, refl, arith, nat_eq, ◌++◌, cond, ap, sym, ◌∙◌}
+use Rattle.std.proofs.Common.{◌≡◌, ℕ, zero, suc, ◌<◌, List, [], ◌∷◌, length, Bool, true, false, ◌||◌, ◌&&◌, not, refl}
+use Rattle.std.proofs.Common.{arith, nat_eq, ◌++◌, cond, ap, sym, ◌∙◌}
 use Rattle.std.proofs.lemmas.Bool.{or_parts, or_right, or_from}
 use Rattle.fmp_ring.specs.RingLists.{is_in, is_linked, list_at, without_node, with_before, inserted_before}
 use Rattle.fmp_ring.specs.OrderLaws.{without-gone, nat_eq-flip, nat_same}

@@ -1,6 +1,7 @@
 -- Numbers told apart, and orders: one stays an order when a number leaves it, joins it or goes to its end, and it has
 -- at most as many numbers as its bound says.
-use Rattle.std.specs.Prelude.{◌≡◌, ◌≢◌, ℕ, ◌≤◌, ◌<◌, length, List, [], ◌∷◌, ◌++◌, nat_eq, not, Bool, true, false, cond, refl, ◌||◌}
+use Rattle.std.specs.Prelude.{◌≡◌, ◌≢◌, ℕ, ◌≤◌, ◌<◌, length, List, [], ◌∷◌, ◌++◌, nat_eq, not, Bool, true, false, cond}
+use Rattle.std.specs.Prelude.{refl, ◌||◌}
 use Rattle.std.specs.List.{IsDistinct, list_any, AllByRecursion}
 use Rattle.std.specs.Cmp.{nat_eq_equiv}
 use Rattle.std.proofs.Common.{arith, subst, sym, ◌∙◌}

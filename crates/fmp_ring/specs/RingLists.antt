@@ -1,5 +1,6 @@
 -- Lists of nodes, one for each head, as callers see them.
-use Rattle.std.specs.Prelude.{◌≡◌, ℕ, List, [], ◌∷◌, ◌++◌, Option, Some, None, Bool, true, map, cond, nat_eq, slice_index_or}
+use Rattle.std.specs.Prelude.{◌≡◌, ℕ, List, [], ◌∷◌, ◌++◌, Option, Some, None, Bool, true, map, cond, nat_eq}
+use Rattle.std.specs.Prelude.{slice_index_or}
 use Rattle.std.specs.List.{list_any, after_first}
 use Rattle.fmp_base.specs.Queues.{first_of}
 use Rattle.fmp_base.specs.States.{without}

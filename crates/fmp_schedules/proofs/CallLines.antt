@@ -1,5 +1,6 @@
 -- No service call makes a line of an interrupt.
-use Rattle.std.proofs.Common.{◌≡◌, ℕ, zero, suc, ℤ, pos, List, [], ◌∷◌, ◌++◌, Option, Some, None, Bool, true, false, ◌&&◌, ◌||◌, not, refl, ◌∙◌, ap, nat_eq, nat_lt, length, get_or, bit_or, if◌then◌else◌}
+use Rattle.std.proofs.Common.{◌≡◌, ℕ, zero, suc, ℤ, pos, List, [], ◌∷◌, ◌++◌, Option, Some, None, Bool, true, false}
+use Rattle.std.proofs.Common.{◌&&◌, ◌||◌, not, refl, ◌∙◌, ap, nat_eq, nat_lt, length, get_or, bit_or, if◌then◌else◌}
 use Rattle.std.specs.List.{list_any}
 use Rattle.std.proofs.lemmas.List.Folds.{list_any-append}
 use Rattle.fmp_base.specs.declared.calls.Call.{Call}
@@ -23,10 +24,14 @@ use Rattle.fmp_base.specs.declared.states.WaitCause.TheVariants as cause
 use Rattle.fmp_base.specs.declared.states.WaitQueue.TheVariants as queue
 use Rattle.fmp_base.specs.Calls.{case_by, case_of, called}
 use Rattle.fmp_base.specs.Changes.{ended, ended_block, ended_by, released, started}
-use Rattle.fmp_base.specs.DataQueueCalls.{words_at, has_room, queued_by, word_sent, word_sent_to, forced_in, forced_to, oldest_taken, sender_taken_from, word_received, word_received_from}
-use Rattle.fmp_base.specs.FlagCalls.{pattern_at, satisfies, is_satisfied, obtained, awaited, awaited_by, is_empty, flag_tested, mode_of, walk, walked}
-use Rattle.fmp_base.specs.MailboxCalls.{messages_at, message_priority, is_queued, message_received, message_sent, message_sent_to, message_taken_from}
-use Rattle.fmp_base.specs.Outcomes.{CallOutcome, given, waits_within, limit_of, numbered, ranged, tested, refused_if, on_task}
+use Rattle.fmp_base.specs.DataQueueCalls.{words_at, has_room, queued_by, word_sent, word_sent_to, forced_in, forced_to}
+use Rattle.fmp_base.specs.DataQueueCalls.{oldest_taken, sender_taken_from, word_received, word_received_from}
+use Rattle.fmp_base.specs.FlagCalls.{pattern_at, satisfies, is_satisfied, obtained, awaited, awaited_by, is_empty}
+use Rattle.fmp_base.specs.FlagCalls.{flag_tested, mode_of, walk, walked}
+use Rattle.fmp_base.specs.MailboxCalls.{messages_at, message_priority, is_queued, message_received, message_sent}
+use Rattle.fmp_base.specs.MailboxCalls.{message_sent_to, message_taken_from}
+use Rattle.fmp_base.specs.Outcomes.{CallOutcome, given, waits_within, limit_of, numbered, ranged, tested, refused_if}
+use Rattle.fmp_base.specs.Outcomes.{on_task}
 use Rattle.fmp_base.specs.Permissions.{permission, is_barred}
 use Rattle.fmp_base.specs.ProcessorCalls.{cpu_locked_from, cpu_unlocked_from, is_held, is_spin, spin_lock_taken}
 use Rattle.fmp_base.specs.Queues.{first_waiting, is_by_priority, wait_queue}
@@ -34,7 +39,8 @@ use Rattle.fmp_base.specs.SemaphoreCalls.{acquired_by, signalled_to}
 use Rattle.fmp_base.specs.Services.{service_of}
 use Rattle.fmp_base.specs.States.{KernelState, Progress, processor_at, task_at, unchanged}
 use Rattle.fmp_base.specs.Systems.{SystemTables, data_queue_config, flag_config, mailbox_config, semaphore_config}
-use Rattle.fmp_base.specs.TaskCalls.{activated_by, activated_on_by, allowed_processor, by_number, is_dormant, released_by, self_or, slept_by, wakeup_queued, woken_by, woken_from}
+use Rattle.fmp_base.specs.TaskCalls.{activated_by, activated_on_by, allowed_processor, by_number, is_dormant}
+use Rattle.fmp_base.specs.TaskCalls.{released_by, self_or, slept_by, wakeup_queued, woken_by, woken_from}
 use Rattle.fmp_schedules.specs.Schedules.{is_request}
 
 -- none of the lines is that of an interrupt

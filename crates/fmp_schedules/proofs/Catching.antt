@@ -1,5 +1,6 @@
 -- Bodies that keep their places come to where others that never do stand already.
-use Rattle.std.proofs.Common.{◌≡◌, ◌∙◌, ◌+◌, ◌*◌, ◌<◌, ◌≤◌, ℕ, zero, suc, List, [], ◌∷◌, ◌++◌, Option, Some, None, true, false, refl, sym, ap, subst, arith, ⊎_elim}
+use Rattle.std.proofs.Common.{◌≡◌, ◌∙◌, ◌+◌, ◌*◌, ◌<◌, ◌≤◌, ℕ, zero, suc, List, [], ◌∷◌, ◌++◌, Option, Some, None, true}
+use Rattle.std.proofs.Common.{false, refl, sym, ap, subst, arith, ⊎_elim}
 use Rattle.std.proofs.lemmas.Bool.{cases_lt}
 use Rattle.fmp_base.specs.declared.bodies.Held.{Held}
 use Rattle.fmp_base.specs.declared.bodies.Held.TheVariants.{Goes, Awaits}
@@ -10,7 +11,8 @@ use Rattle.fmp_base.specs.declared.events.Event.{Event}
 use Rattle.fmp_base.specs.declared.events.Event.TheVariants.{Run}
 use Rattle.fmp_base.specs.declared.states.Caller.{Caller}
 use Rattle.fmp_base.specs.Calls.{called}
-use Rattle.fmp_base.specs.KeptTies.{Follows, Handed, KeptTied, ended_too, kept_again, kept_ends_within, kept_few, not_kept}
+use Rattle.fmp_base.specs.KeptTies.{Follows, Handed, KeptTied, ended_too, kept_again, kept_ends_within, kept_few}
+use Rattle.fmp_base.specs.KeptTies.{not_kept}
 use Rattle.fmp_base.specs.Meanings.{Meaning, Contexts, World, context_of, caller_body, with_context}
 use Rattle.fmp_base.specs.States.{KernelState, Progress, processor_at}
 use Rattle.fmp_base.specs.Steps.{Reaction, Nothing, Did, Kept, actor_of, answered, run_by, run_in, step, stretched}
@@ -18,10 +20,12 @@ use Rattle.fmp_base.specs.Stretches.{Ending, is_over}
 use Rattle.fmp_base.specs.Stretches as ends
 use Rattle.fmp_base.specs.Systems.{SystemTables}
 use Rattle.fmp_base.specs.TieLaws.{caller_body-tied, context_of-tied, stretched-tied}
-use Rattle.fmp_base.specs.Ties.{OptionTied, StretchTied, over, kept, call, end_, fault, Any, BothDone, DoneTied, HeldTied, ContextsTied, KeepsTie}
+use Rattle.fmp_base.specs.Ties.{OptionTied, StretchTied, over, kept, call, end_, fault, Any, BothDone, DoneTied}
+use Rattle.fmp_base.specs.Ties.{HeldTied, ContextsTied, KeepsTie}
 use Rattle.fmp_schedules.specs.Beside.{AreBeside, IsBehind}
 use Rattle.fmp_schedules.specs.Completed.{Ends, EndsAs, EndsFrom}
-use Rattle.fmp_schedules.proofs.KeptPlaces.{Keeps, ends_, keeps, context-there, keeps-append, keeps-nothing, run-is, with_context_right}
+use Rattle.fmp_schedules.proofs.KeptPlaces.{Keeps, ends_, keeps, context-there, keeps-append, keeps-nothing, run-is}
+use Rattle.fmp_schedules.proofs.KeptPlaces.{with_context_right}
 
 -- both do nothing, or both are done, with the same lines, and leave worlds that are beside each other
 abbrev pub BothDo : {C D : Type 0} → (ℕ → C → D → Type 0) → Meaning C → SystemTables → Reaction D → Reaction C → Type 0

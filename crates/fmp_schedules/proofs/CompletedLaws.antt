@@ -1,5 +1,6 @@
 -- What holds along all schedules of bodies that keep places holds of all that others complete whom they follow.
-use Rattle.std.proofs.Common.{◌≡◌, ◌∙◌, ◌+◌, ◌<◌, ◌≤◌, ℕ, zero, suc, List, [], ◌∷◌, ◌++◌, Option, Some, None, Bool, true, false, not, ◌||◌, refl, sym, ap, subst, arith, append-nil, count_by, length}
+use Rattle.std.proofs.Common.{◌≡◌, ◌∙◌, ◌+◌, ◌<◌, ◌≤◌, ℕ, zero, suc, List, [], ◌∷◌, ◌++◌, Option, Some, None, Bool}
+use Rattle.std.proofs.Common.{true, false, not, ◌||◌, refl, sym, ap, subst, arith, append-nil, count_by, length}
 use Rattle.std.specs.List.{list_any}
 use Rattle.std.specs.Prelude.{slice_get}
 use Rattle.fmp_base.specs.declared.bodies.Held.{Held}
@@ -15,7 +16,8 @@ use Rattle.fmp_base.specs.Meanings.{Meaning, Contexts, World, context_of, caller
 use Rattle.fmp_base.specs.Runs.{run, run_on}
 use Rattle.fmp_base.specs.Setups.{setup}
 use Rattle.fmp_base.specs.States.{KernelState, processor_at, task_at}
-use Rattle.fmp_base.specs.Steps.{Done, Reaction, Nothing, Did, Kept, actor_of, interrupted, interrupted_by, run_by, run_in, step, stretched}
+use Rattle.fmp_base.specs.Steps.{Done, Reaction, Nothing, Did, Kept, actor_of, interrupted, interrupted_by, run_by}
+use Rattle.fmp_base.specs.Steps.{run_in, step, stretched}
 use Rattle.fmp_base.specs.Stretches.{Ending, is_over}
 use Rattle.fmp_base.specs.Stretches as ends
 use Rattle.fmp_base.specs.Systems.{SystemTables, found, interrupt_config}
@@ -23,16 +25,20 @@ use Rattle.fmp_base.specs.Ticks.{is_pending, ticked}
 use Rattle.fmp_base.specs.TieLaws.{finished-tied, interrupted-tied, setup-tied}
 use Rattle.fmp_base.specs.Ties.{ContextsTied, HeldTied}
 use Rattle.fmp_schedules.specs.Beside.{AreBeside, DoesBeside, HoldsThereAtAll, IsSilentBeside}
-use Rattle.fmp_schedules.specs.Completed.{AllStand, AreCompleted, DoneThen, Ends, EndsAs, EndsFrom, HoldsAtAll, IsCompleted, IsLastingDeadlock, MayBe}
+use Rattle.fmp_schedules.specs.Completed.{AllStand, AreCompleted, DoneThen, Ends, EndsAs, EndsFrom, HoldsAtAll}
+use Rattle.fmp_schedules.specs.Completed.{IsCompleted, IsLastingDeadlock, MayBe}
 use Rattle.fmp_schedules.specs.Deadlocks.{IsDeadlock, IsStuck}
-use Rattle.fmp_schedules.specs.Schedules.{Holds, HoldsThere, IsSilent, Rules, Watched, are_within, came_after, is_request, is_told, lines_after, may_come, may_still, may_try, none_runs, reached, requests, stays_within, watch, watched_at_setup, watched_on}
+use Rattle.fmp_schedules.specs.Schedules.{Holds, HoldsThere, IsSilent, Rules, Watched, are_within, came_after}
+use Rattle.fmp_schedules.specs.Schedules.{is_request, is_told, lines_after, may_come, may_still, may_try, none_runs}
+use Rattle.fmp_schedules.specs.Schedules.{reached, requests, stays_within, watch, watched_at_setup, watched_on}
 use Rattle.fmp_schedules.specs.Sections.{is_met_along}
 use Rattle.fmp_schedules.proofs.Catching.{At, Behind, BothDo, both-do, catch, keeps-tie, nothing-of, stand}
 use Rattle.fmp_schedules.proofs.EventLines.{setup-counts}
 use Rattle.fmp_schedules.proofs.IdleLaws.{each-none}
 use Rattle.fmp_schedules.proofs.KeptPlaces.{Keeps, ends_}
 use Rattle.fmp_schedules.proofs.RuleLaws.{both}
-use Rattle.fmp_schedules.proofs.LeadLaws.{Leads, kept-way, no-way, one-done, way-allowed, way-done, way-lines, way-on, way-world}
+use Rattle.fmp_schedules.proofs.LeadLaws.{Leads, kept-way, no-way, one-done, way-allowed, way-done, way-lines, way-on}
+use Rattle.fmp_schedules.proofs.LeadLaws.{way-world}
 
 module _ {D : Type 0} (sys : SystemTables) (M : Meaning D) (t : ℕ) where
   over-not-done : (w : World D) (p : ℕ) (who : Caller) (x : Ending D) (d : Done D)

@@ -1,5 +1,6 @@
 -- An event that is done has one line of an interrupt if it is one, and else none.
-use Rattle.std.proofs.Common.{◌≡◌, ◌+◌, ℕ, zero, suc, List, [], ◌∷◌, Option, Some, None, Bool, true, false, refl, ◌∙◌, ap, subst, arith, cond, count_by, length, slice_get, if◌then◌else◌}
+use Rattle.std.proofs.Common.{◌≡◌, ◌+◌, ℕ, zero, suc, List, [], ◌∷◌, Option, Some, None, Bool, true, false, refl, ◌∙◌}
+use Rattle.std.proofs.Common.{ap, subst, arith, cond, count_by, length, slice_get, if◌then◌else◌}
 use Rattle.std.specs.List.{list_any}
 use Rattle.std.proofs.lemmas.Bool.{or_parts}
 use Rattle.std.proofs.lemmas.List.Sums.{sum_by-cons}
@@ -21,18 +22,22 @@ use Rattle.fmp_base.specs.Calls.{called}
 use Rattle.fmp_base.specs.Meanings.{Meaning, Contexts, World, caller_body, context_of, with_context}
 use Rattle.fmp_base.specs.Outcomes.{code}
 use Rattle.fmp_base.specs.Queues.{top}
-use Rattle.fmp_base.specs.Settles.{all_settled, dispatch_lines, dispatched, handler_to_begin, is_dispatch_held, is_same_task, settled, settled_on, settled_with}
+use Rattle.fmp_base.specs.Settles.{all_settled, dispatch_lines, dispatched, handler_to_begin, is_dispatch_held}
+use Rattle.fmp_base.specs.Settles.{is_same_task, settled, settled_on, settled_with}
 use Rattle.fmp_base.specs.Setups.{all_started, created_state, setup, started_if}
 use Rattle.fmp_base.specs.States.{KernelState, Progress, places_from, processor_at, task_at, unchanged}
-use Rattle.fmp_base.specs.Steps.{Done, Reaction, Nothing, Did, Kept, actor_ended, actor_of, answered, contexts_ended, finished, interrupted, interrupted_by, run_by, run_in, step, stretched}
+use Rattle.fmp_base.specs.Steps.{Done, Reaction, Nothing, Did, Kept, actor_ended, actor_of, answered, contexts_ended}
+use Rattle.fmp_base.specs.Steps.{finished, interrupted, interrupted_by, run_by, run_in, step, stretched}
 use Rattle.fmp_base.specs.Stretches.{Ending}
 use Rattle.fmp_base.specs.Stretches as ends
 use Rattle.fmp_base.specs.Systems.{SystemTables, found, interrupt_config, task_config}
-use Rattle.fmp_base.specs.Ticks.{all_cycled, all_timed_out, cycled, cycled_by, is_due, is_pending, pended_by, ticked, timed_out, timed_out_by, timeout_code, with_clock_advanced, with_interrupt_pending}
+use Rattle.fmp_base.specs.Ticks.{all_cycled, all_timed_out, cycled, cycled_by, is_due, is_pending, pended_by, ticked}
+use Rattle.fmp_base.specs.Ticks.{timed_out, timed_out_by, timeout_code, with_clock_advanced, with_interrupt_pending}
 use Rattle.fmp_bisimulation.proofs.LineLaws.{settled-behind}
 use Rattle.fmp_schedules.specs.Deadlocks.{is_interrupt}
 use Rattle.fmp_schedules.specs.Schedules.{is_request}
-use Rattle.fmp_schedules.proofs.CallLines.{AreQuiet, IsQuiet, called-quiet, ended-quiet, quiet-append, released-quiet, started-quiet}
+use Rattle.fmp_schedules.proofs.CallLines.{AreQuiet, IsQuiet, called-quiet, ended-quiet, quiet-append, released-quiet}
+use Rattle.fmp_schedules.proofs.CallLines.{started-quiet}
 
 -- how many lines of interrupts there are behind one
 count-behind : (l : Line) (ls : List Line)

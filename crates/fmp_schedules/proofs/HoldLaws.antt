@@ -1,5 +1,6 @@
 -- A closed set shows what holds along all schedules.
-use Rattle.std.proofs.Common.{◌≡◌, ◌+◌, ℕ, List, [], ◌∷◌, Option, Some, None, Bool, true, false, ◌||◌, nat_lt, refl, sym, ◌∙◌, ap, subst, count_by, arith}
+use Rattle.std.proofs.Common.{◌≡◌, ◌+◌, ℕ, List, [], ◌∷◌, Option, Some, None, Bool, true, false, ◌||◌, nat_lt, refl}
+use Rattle.std.proofs.Common.{sym, ◌∙◌, ap, subst, count_by, arith}
 use Rattle.std.proofs.lemmas.List.Sums.{sum_by-cons}
 use Rattle.std.specs.List.{list_any}
 use Rattle.fmp_base.specs.declared.events.Event.{Event}
@@ -12,7 +13,9 @@ use Rattle.fmp_bisimulation.specs.Closed.{IsClosed, IsCovered, NoneIsBad, watche
 use Rattle.fmp_bisimulation.proofs.ClosedLaws.{run-covers}
 use Rattle.fmp_schedules.specs.Likeness.{IsLikeness}
 use Rattle.fmp_schedules.specs.Deadlocks.{IsDeadlock}
-use Rattle.fmp_schedules.specs.Schedules.{Holds, IsSchedule, Rules, Watched, at_first, watched_at_setup, is_any_met, is_request, is_told, lines_after, may_come, may_still, requests, sections_after, watch, watched_on, reached}
+use Rattle.fmp_schedules.specs.Schedules.{Holds, IsSchedule, Rules, Watched, at_first, watched_at_setup, is_any_met}
+use Rattle.fmp_schedules.specs.Schedules.{is_request, is_told, lines_after, may_come, may_still, requests}
+use Rattle.fmp_schedules.specs.Schedules.{sections_after, watch, watched_on, reached}
 use Rattle.fmp_schedules.specs.declared.section.Section.{Section}
 use Rattle.fmp_schedules.specs.Tried.{IsSearched, IsTimeless, NoneIsDeadlock}
 use Rattle.fmp_schedules.proofs.DeadlockLaws.{deadlock-alike}

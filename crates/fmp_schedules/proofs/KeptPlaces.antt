@@ -1,5 +1,6 @@
 -- Where an actor keeps its place, what does nothing goes on doing nothing.
-use Rattle.std.proofs.Common.{◌≡◌, ◌∙◌, ℕ, zero, suc, List, [], ◌∷◌, ◌++◌, Option, Some, None, true, false, refl, sym, ap, subst}
+use Rattle.std.proofs.Common.{◌≡◌, ◌∙◌, ℕ, zero, suc, List, [], ◌∷◌, ◌++◌, Option, Some, None, true, false, refl, sym}
+use Rattle.std.proofs.Common.{ap, subst}
 use Rattle.std.specs.Prelude.{slice_set}
 use Rattle.fmp_base.specs.declared.bodies.HandlerContext.{HandlerContext}
 use Rattle.fmp_base.specs.declared.bodies.Held.{Held}
@@ -8,7 +9,8 @@ use Rattle.fmp_base.specs.declared.events.Event.{Event}
 use Rattle.fmp_base.specs.declared.events.Event.TheVariants.{Run}
 use Rattle.fmp_base.specs.declared.states.Caller.{Caller}
 use Rattle.fmp_base.specs.declared.states.Caller.TheVariants as caller
-use Rattle.fmp_base.specs.Meanings.{Meaning, Contexts, World, task_body, context_at, body_in, context_in, context_of, caller_body, with_context}
+use Rattle.fmp_base.specs.Meanings.{Meaning, Contexts, World, task_body, context_at, body_in, context_in, context_of}
+use Rattle.fmp_base.specs.Meanings.{caller_body, with_context}
 use Rattle.fmp_base.specs.NothingLaws.{Never, hands_over, step-nothing}
 use Rattle.fmp_base.specs.States.{processor_at}
 use Rattle.fmp_base.specs.Steps.{Nothing, actor_of, run_by, run_in, step, stretched, with_place}
@@ -16,7 +18,8 @@ use Rattle.fmp_base.specs.Stretches.{Ending}
 use Rattle.fmp_base.specs.Stretches as ends
 use Rattle.fmp_base.specs.Systems.{SystemTables}
 use Rattle.fmp_base.specs.TieLaws.{AllTied-context_at, body_in-tied}
-use Rattle.fmp_base.specs.Ties.{OptionTied, AllTied, StretchTied, over, call, end_, fault, Any, HandlerTied, HeldTied, ContextsTied}
+use Rattle.fmp_base.specs.Ties.{OptionTied, AllTied, StretchTied, over, call, end_, fault, Any, HandlerTied, HeldTied}
+use Rattle.fmp_base.specs.Ties.{ContextsTied}
 
 AllTied-set_right : {C D : Type 0} (R : ℕ → C → D → Type 0) (cs : List (Option C)) (ds : List (Option D)) (i : ℕ)
     (d : Option D)

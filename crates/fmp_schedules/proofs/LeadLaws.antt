@@ -1,5 +1,6 @@
 -- Lists of events that may come, whatever comes behind them, and what they lead to.
-use Rattle.std.proofs.Common.{◌≡◌, ◌∙◌, ℕ, suc, List, [], ◌∷◌, ◌++◌, Some, Bool, true, refl, sym, ap, subst, append_assoc, append-nil}
+use Rattle.std.proofs.Common.{◌≡◌, ◌∙◌, ℕ, suc, List, [], ◌∷◌, ◌++◌, Some, Bool, true, refl, sym, ap, subst}
+use Rattle.std.proofs.Common.{append_assoc, append-nil}
 use Rattle.fmp_base.specs.declared.events.Event.{Event}
 use Rattle.fmp_base.specs.declared.events.Event.TheVariants as event
 use Rattle.fmp_base.specs.declared.events.Line.{Line}

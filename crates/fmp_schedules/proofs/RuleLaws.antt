@@ -1,5 +1,6 @@
 -- The rules let the same events come to alike worlds, and what is watched does not look at the number of the clock.
-use Rattle.std.proofs.Common.{◌≡◌, ◌+◌, ℕ, zero, suc, List, [], ◌∷◌, Option, Some, None, Bool, true, false, ◌&&◌, ◌||◌, not, refl, sym, ◌∙◌, ap, ap₂, cond, count_by}
+use Rattle.std.proofs.Common.{◌≡◌, ◌+◌, ℕ, zero, suc, List, [], ◌∷◌, Option, Some, None, Bool, true, false, ◌&&◌, ◌||◌}
+use Rattle.std.proofs.Common.{not, refl, sym, ◌∙◌, ap, ap₂, cond, count_by}
 use Rattle.std.proofs.lemmas.List.Sums.{sum_by-cons}
 use Rattle.std.specs.List.{list_all, list_any}
 use Rattle.fmp_base.specs.declared.events.Event.{Event}
@@ -12,9 +13,12 @@ use Rattle.fmp_base.specs.Setups.{setup}
 use Rattle.fmp_base.specs.Steps.{Reaction, Nothing, Did, Kept, step}
 use Rattle.fmp_base.specs.Systems.{SystemTables}
 use Rattle.fmp_bisimulation.specs.Alike.{AlikeStates, SameBlocks}
-use Rattle.fmp_bisimulation.specs.Closed.{AreAllowed, BothAlike, IsBlind, IsRule, Watch, all_timeless, allowed_after, timeless}
+use Rattle.fmp_bisimulation.specs.Closed.{AreAllowed, BothAlike, IsBlind, IsRule, Watch, all_timeless, allowed_after}
+use Rattle.fmp_bisimulation.specs.Closed.{timeless}
 use Rattle.fmp_schedules.specs.Likeness.{IsLikeness}
-use Rattle.fmp_schedules.specs.Schedules.{IsSchedule, Rules, Watched, watched_at_setup, came_after, are_within, is_any_met, is_nothing, is_request, is_within, may_come, may_still, may_try, none_runs, sections_after, stays_within, watch, watched_on}
+use Rattle.fmp_schedules.specs.Schedules.{IsSchedule, Rules, Watched, watched_at_setup, came_after, are_within}
+use Rattle.fmp_schedules.specs.Schedules.{is_any_met, is_nothing, is_request, is_within, may_come, may_still, may_try}
+use Rattle.fmp_schedules.specs.Schedules.{none_runs, sections_after, stays_within, watch, watched_on}
 use Rattle.fmp_schedules.specs.declared.section.Section.{Section}
 use Rattle.fmp_schedules.specs.Tried.{IsTimeless}
 use Rattle.fmp_schedules.proofs.SectionLaws.{any_met-timeless, sections-timeless}

@@ -1,12 +1,14 @@
 -- Sections: their lines without the number of the clock, and several sections at once.
-use Rattle.std.proofs.Common.{◌≡◌, ℕ, List, [], ◌∷◌, ◌++◌, Option, Some, None, Bool, true, false, ◌||◌, refl, ◌∙◌, ap, map}
+use Rattle.std.proofs.Common.{◌≡◌, ℕ, List, [], ◌∷◌, ◌++◌, Option, Some, None, Bool, true, false, ◌||◌, refl, ◌∙◌, ap}
+use Rattle.std.proofs.Common.{map}
 use Rattle.std.specs.List.{list_any}
 use Rattle.fmp_base.specs.declared.events.Line.{Line}
 use Rattle.fmp_base.specs.declared.events.Line.TheVariants as line
 use Rattle.fmp_bisimulation.specs.Closed.{all_timeless, timeless}
 use Rattle.fmp_schedules.specs.declared.section.Section.{Section}
 use Rattle.fmp_schedules.specs.Schedules.{is_any_met, sections_after}
-use Rattle.fmp_schedules.specs.Sections.{held_by, is_met, is_met_along, meets, section_after, section_along, section_on, staying}
+use Rattle.fmp_schedules.specs.Sections.{held_by, is_met, is_met_along, meets, section_after, section_along, section_on}
+use Rattle.fmp_schedules.specs.Sections.{staying}
 
 -- ---- the number of the clock
 

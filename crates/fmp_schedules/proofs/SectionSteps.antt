@@ -1,5 +1,6 @@
 -- A section after one more line.
-use Rattle.std.proofs.Common.{◌≡◌, ◌+◌, ◌<◌, ◌∙◌, ℕ, List, [], ◌∷◌, ◌++◌, Option, None, Bool, ◌||◌, ap, get_or, is_some, length, refl, sym, take}
+use Rattle.std.proofs.Common.{◌≡◌, ◌+◌, ◌<◌, ◌∙◌, ℕ, List, [], ◌∷◌, ◌++◌, Option, None, Bool, ◌||◌, ap, get_or, is_some}
+use Rattle.std.proofs.Common.{length, refl, sym, take}
 use Rattle.std.proofs.lemmas.List.{take_more}
 use Rattle.fmp_base.specs.declared.events.Line.{Line}
 use Rattle.fmp_schedules.specs.declared.section.Section.{Section}

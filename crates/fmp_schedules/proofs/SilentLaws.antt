@@ -9,7 +9,8 @@ use Rattle.fmp_base.specs.Setups.{setup}
 use Rattle.fmp_base.specs.Steps.{Reaction, Nothing, Did, Kept, step}
 use Rattle.fmp_base.specs.Systems.{SystemTables}
 use Rattle.fmp_bisimulation.specs.Closed.{AreAllowed, BothAlike, Watch, all_timeless, allowed_after, timeless, watched}
-use Rattle.fmp_schedules.specs.Schedules.{HoldsThere, IsSilent, Rules, Watched, at_first, lines_after, may_come, reached, watch, watched_at_setup}
+use Rattle.fmp_schedules.specs.Schedules.{HoldsThere, IsSilent, Rules, Watched, at_first, lines_after, may_come}
+use Rattle.fmp_schedules.specs.Schedules.{reached, watch, watched_at_setup}
 use Rattle.fmp_schedules.specs.Tried.{AreSilent, IsEven, IsSearched, IsTimeless, IsTriedSilent, is_event_of}
 use Rattle.fmp_schedules.proofs.HoldLaws.{searched-covered}
 use Rattle.fmp_schedules.proofs.RuleLaws.{may_come-same}

@@ -1,5 +1,6 @@
 -- A closed set in whose worlds no forbidden line was told shows that none is told behind events that lead to it.
-use Rattle.std.proofs.Common.{◌≡◌, ◌+◌, ℕ, List, [], ◌∷◌, Option, Some, None, Bool, false, ◌&&◌, ◌||◌, nat_lt, refl, sym, ◌∙◌, ap, ap₂, count_by}
+use Rattle.std.proofs.Common.{◌≡◌, ◌+◌, ℕ, List, [], ◌∷◌, Option, Some, None, Bool, false, ◌&&◌, ◌||◌, nat_lt, refl}
+use Rattle.std.proofs.Common.{sym, ◌∙◌, ap, ap₂, count_by}
 use Rattle.std.specs.List.{list_any}
 use Rattle.fmp_base.specs.declared.events.Event.{Event}
 use Rattle.fmp_base.specs.declared.events.Event.TheVariants as event
@@ -12,7 +13,8 @@ use Rattle.fmp_bisimulation.specs.Closed.{AreAllowed, IsClosed, IsCovered, NoneI
 use Rattle.fmp_bisimulation.proofs.ClosedLaws.{run-covers}
 use Rattle.fmp_schedules.specs.Likeness.{IsLikeness}
 use Rattle.fmp_schedules.specs.Deadlocks.{is_interrupt}
-use Rattle.fmp_schedules.specs.Schedules.{Rules, Watched, came_after, is_request, is_told, may_come, may_still, may_try, reached, stays_within, watch, watched_on}
+use Rattle.fmp_schedules.specs.Schedules.{Rules, Watched, came_after, is_request, is_told, may_come, may_still, may_try}
+use Rattle.fmp_schedules.specs.Schedules.{reached, stays_within, watch, watched_on}
 use Rattle.fmp_schedules.specs.Stuck.{MayFollow}
 use Rattle.fmp_schedules.specs.Tried.{IsTimeless}
 use Rattle.fmp_schedules.proofs.HoldLaws.{neither, told-watched}

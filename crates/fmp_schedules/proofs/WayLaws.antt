@@ -1,5 +1,6 @@
 -- Where each task of a closed set has a way on, no task is ever stuck.
-use Rattle.std.proofs.Common.{◌≡◌, ◌≢◌, ◌+◌, ◌<◌, ◌⊎◌, ℕ, zero, suc, List, [], ◌∷◌, Option, Some, None, Bool, true, false, ◌||◌, refl, sym, ◌∙◌, ap, ap₂, subst, arith, length, inl, inr}
+use Rattle.std.proofs.Common.{◌≡◌, ◌≢◌, ◌+◌, ◌<◌, ◌⊎◌, ℕ, zero, suc, List, [], ◌∷◌, Option, Some, None, Bool, true}
+use Rattle.std.proofs.Common.{false, ◌||◌, refl, sym, ◌∙◌, ap, ap₂, subst, arith, length, inl, inr}
 use Rattle.std.specs.List.{list_any}
 use Rattle.std.specs.Prelude.{slice_index_or}
 use Rattle.fmp_base.specs.declared.events.Event.{Event}
@@ -16,7 +17,8 @@ use Rattle.fmp_base.specs.Systems.{SystemTables}
 use Rattle.fmp_bisimulation.specs.Closed.{AreAllowed, BothAlike, all_timeless, allowed_after, timeless, watched}
 use Rattle.fmp_bisimulation.proofs.TimeLaws.{blocks-at}
 use Rattle.fmp_schedules.specs.Likeness.{IsLikeness}
-use Rattle.fmp_schedules.specs.Schedules.{IsSchedule, Rules, Watched, at_first, is_told, lines_after, may_come, reached, requests, watch, watched_at_setup, watched_on}
+use Rattle.fmp_schedules.specs.Schedules.{IsSchedule, Rules, Watched, at_first, is_told, lines_after, may_come, reached}
+use Rattle.fmp_schedules.specs.Schedules.{requests, watch, watched_at_setup, watched_on}
 use Rattle.fmp_schedules.specs.declared.section.Section.{Section}
 use Rattle.fmp_schedules.specs.Stuck.{MayGoOn, NoneIsStuck, acts}
 use Rattle.fmp_schedules.specs.Tried.{IsSearched, IsTimeless}

@@ -15,7 +15,8 @@ use Rattle.fmp_base.specs.Steps.{Done, Reaction, Nothing, Did, Kept, actor_of, s
 use Rattle.fmp_base.specs.Stretches.{is_over}
 use Rattle.fmp_base.specs.Systems.{SystemTables}
 use Rattle.fmp_schedules.specs.Deadlocks.{IsDeadlock}
-use Rattle.fmp_schedules.specs.Schedules.{Rules, came_after, is_told, lines_after, may_still, reached, requests, stays_within}
+use Rattle.fmp_schedules.specs.Schedules.{Rules, came_after, is_told, lines_after, may_still, reached, requests}
+use Rattle.fmp_schedules.specs.Schedules.{stays_within}
 use Rattle.fmp_schedules.specs.Sections.{is_met_along}
 
 -- from this context, if a stretch begins in it, the body ends its stretch within the bound

@@ -1,5 +1,6 @@
 -- Sections, in which one task at a time may be, as the lines of the trace tell.
-use Rattle.std.specs.Prelude.{ℕ, ℤ, pos, ◌≡◌, ◌+◌, List, [], ◌∷◌, Option, Some, None, Bool, true, false, nat_eq, not, slice_get, take, ◌&&◌, ◌||◌, if◌then◌else◌}
+use Rattle.std.specs.Prelude.{ℕ, ℤ, pos, ◌≡◌, ◌+◌, List, [], ◌∷◌, Option, Some, None, Bool, true, false, nat_eq, not}
+use Rattle.std.specs.Prelude.{slice_get, take, ◌&&◌, ◌||◌, if◌then◌else◌}
 use Rattle.std.specs.Ordering.{int_eq}
 use Rattle.fmp_base.specs.Codes.{code_of}
 use Rattle.fmp_base.specs.declared.calls.Call.{Call}

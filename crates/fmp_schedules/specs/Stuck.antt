@@ -1,5 +1,6 @@
 -- Tasks that can never go on.
-use Rattle.std.specs.Prelude.{ℕ, ◌≡◌, ◌≢◌, ◌<◌, List, [], Bool, true, false, count_by, length, nat_eq, slice_index_or, ◌&&◌, ◌||◌}
+use Rattle.std.specs.Prelude.{ℕ, ◌≡◌, ◌≢◌, ◌<◌, List, [], Bool, true, false, count_by, length, nat_eq, slice_index_or}
+use Rattle.std.specs.Prelude.{◌&&◌, ◌||◌}
 use Rattle.fmp_base.specs.declared.events.Event.{Event}
 use Rattle.fmp_base.specs.declared.events.Line.{Line}
 use Rattle.fmp_base.specs.declared.events.Line.TheVariants as line

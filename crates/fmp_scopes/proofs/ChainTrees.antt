@@ -5,7 +5,8 @@ use Rattle.fmp_tasklang.specs.declared.trees.Operator.TheVariants as operator
 use Rattle.fmp_tasklang.specs.Trees.{ExpressionTree}
 use Rattle.fmp_tasklang.specs.Scopes.{Scope}
 use Rattle.fmp_tasklang.specs.Views.{LinkTree, join, chain_tree}
-use Rattle.fmp_scopes.specs.Chains.{operator_size, operator_rise, link_size, links_size, links_depth, links_uses, operator_code, links_code, operator_depths, links_depths}
+use Rattle.fmp_scopes.specs.Chains.{operator_size, operator_rise, link_size, links_size, links_depth, links_uses}
+use Rattle.fmp_scopes.specs.Chains.{operator_code, links_code, operator_depths, links_depths}
 use Rattle.fmp_scopes.specs.Depths.{expression_depth}
 use Rattle.fmp_scopes.specs.DepthTables.{expression_depths}
 use Rattle.fmp_scopes.specs.Naming.{expression_uses}
@@ -16,7 +17,8 @@ append-nil : {A : Type 0} (xs : List A) → xs ++ [] ≡ xs
 append-nil [] = refl
 append-nil (x ∷ xs) = ap (λ ys. x ∷ ys) (append-nil xs)
 
-join-size : (op : Operator) (a b : ExpressionTree) → expression_size (join op a b) ≡ expression_size a + (expression_size b + operator_size op)
+join-size : (op : Operator) (a b : ExpressionTree) → expression_size (join op a b) ≡ expression_size a
+    + (expression_size b + operator_size op)
 join-size (operator.Binary op) a b = omega arith
 join-size operator.Both a b = omega arith
 join-size operator.Either a b = omega arith
@@ -41,7 +43,8 @@ chain-depth a [] = omega arith
 chain-depth a (l ∷ ls) =
     omega (arith, chain-depth (join l.operator a l.operand) ls, join-depth l.operator a l.operand)
 
-join-uses : (op : Operator) (a b : ExpressionTree) → expression_uses (join op a b) ≡ expression_uses a ++ expression_uses b
+join-uses : (op : Operator) (a b : ExpressionTree) → expression_uses (join op a b) ≡ expression_uses a
+    ++ expression_uses b
 join-uses (operator.Binary op) a b = refl
 join-uses operator.Both a b = refl
 join-uses operator.Either a b = refl
@@ -56,7 +59,8 @@ chain-uses a (l ∷ ls) =
 
 join-code :
     (scope : Scope) (a b : ExpressionTree) (op : Operator) (at : ℕ) →
-    expression_code scope (join op a b) at ≡ expression_code scope a at ++ operator_code scope op b (at + expression_size a)
+    expression_code scope (join op a b) at ≡ expression_code scope a at
+    ++ operator_code scope op b (at + expression_size a)
 join-code scope a b (operator.Binary op) at = refl
 join-code scope a b operator.Both at = refl
 join-code scope a b operator.Either at = refl
@@ -73,7 +77,8 @@ chain-code scope a (l ∷ ls) at =
     chain-code scope (join l.operator a l.operand) ls at
     ∙ ap (λ q. expression_code scope (join l.operator a l.operand) at ++ links_code scope ls q) e
     ∙ ap (λ is. is ++ links_code scope ls (p + link_size l)) (join-code scope a l.operand l.operator at)
-    ∙ append_assoc (expression_code scope a at) (operator_code scope l.operator l.operand p) (links_code scope ls (p + link_size l))
+    ∙ append_assoc (expression_code scope a at) (operator_code scope l.operator l.operand p)
+    (links_code scope ls (p + link_size l))
 
 join-depths :
     (a b : ExpressionTree) (op : Operator) (d : ℕ) →

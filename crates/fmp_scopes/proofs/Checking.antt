@@ -1,5 +1,6 @@
 -- Entries are checked one after another.
-use Rattle.std.proofs.Common.{◌≡◌, ℕ, suc, ◌<◌, List, Some, Err, length, slice_get, drop, get_or, sym, ap, ◌∙◌, drop-cons}
+use Rattle.std.proofs.Common.{◌≡◌, ℕ, suc, ◌<◌, List, Some, Err, length, slice_get, drop, get_or, sym, ap, ◌∙◌}
+use Rattle.std.proofs.Common.{drop-cons}
 use Rattle.fmp_lex.specs.declared.fault.BuildFault.{BuildFault}
 use Rattle.fmp_lex.specs.declared.fault.BuildFault.TheVariants as build
 use Rattle.fmp_lex.specs.declared.fault.FaultKind.{FaultKind}
@@ -13,8 +14,10 @@ use Rattle.fmp_scopes.specs.Naming.{at_token, first_offence}
 
 -- the fault of an entry
 pub checked-stopped :
-    (R : Type 0) (ts : List Token) (bodies : List BodyTree) (entries : List EntryUse) (at : ℕ) (why : FaultKind) (f : BuildFault) →
-    f ≡ offence_fault file.Configuration (slice_get ts at) why → entries_offence bodies entries ≡ Some (record { at = at; why = why }) →
+    (R : Type 0) (ts : List Token) (bodies : List BodyTree) (entries : List EntryUse) (at : ℕ) (why : FaultKind)
+    (f : BuildFault) →
+    f ≡ offence_fault file.Configuration (slice_get ts at) why → entries_offence bodies entries
+    ≡ Some (record { at = at; why = why }) →
     IsChecked {R = R} ts bodies entries (Err f)
 checked-stopped R ts bodies entries at why build.Memory is first = tt
 checked-stopped R ts bodies entries at why (build.At f place kind) is first = (record { at = at; why = why }, first, is)

@@ -1,5 +1,6 @@
 -- The table of first places of locals grows by one place after another.
-use Rattle.std.proofs.Common.{◌≡◌, ℕ, zero, suc, add-one, ◌+◌, ◌<◌, ◌≤◌, List, [], ◌∷◌, ◌++◌, length, take, get_or, map, refl, sym, ap, ◌∙◌, arith, subst, ⊎_elim}
+use Rattle.std.proofs.Common.{◌≡◌, ℕ, zero, suc, add-one, ◌+◌, ◌<◌, ◌≤◌, List, [], ◌∷◌, ◌++◌, length, take, get_or, map}
+use Rattle.std.proofs.Common.{refl, sym, ap, ◌∙◌, arith, subst, ⊎_elim}
 use Rattle.std.specs.Prelude.{slice_index}
 use Rattle.std.proofs.lemmas.Bool.{cases_lt}
 use Rattle.std.proofs.lemmas.List.{get_or_push, length-append}
@@ -18,7 +19,8 @@ taken-step (x ∷ ls) (suc i) l h e =
     let rest = taken-step ls i l (omega (arith, h)) e in
     let here : total_places (take (suc i + 1) (x ∷ ls)) ≡ x.places + total_places (take (suc i) ls) =
     ap (λ k. total_places (take k (x ∷ ls))) (add-one (suc i)) in
-    let there : total_places (take (i + 1) ls) ≡ total_places (take (suc i) ls) = ap (λ k. total_places (take k ls)) (add-one i) in
+    let there : total_places (take (i + 1) ls) ≡ total_places (take (suc i) ls) = ap (λ k. total_places (take k ls))
+    (add-one i) in
     omega (arith, rest, here, there)
 
 local-there :

@@ -1,5 +1,6 @@
 -- Headings stand for bodies where only kinds, names and depths are asked for.
-use Rattle.std.proofs.Common.{◌≡◌, ℕ, zero, suc, ◌<◌, List, [], ◌∷◌, Option, length, get_or, map, refl, sym, ap, ◌∙◌, arith}
+use Rattle.std.proofs.Common.{◌≡◌, ℕ, zero, suc, ◌<◌, List, [], ◌∷◌, Option, length, get_or, map, refl, sym, ap, ◌∙◌}
+use Rattle.std.proofs.Common.{arith}
 use Rattle.std.proofs.lemmas.List.{get_or_default}
 use Rattle.fmp_base.specs.declared.names.Name.{Name}
 use Rattle.fmp_base.specs.Names.{name_text}
@@ -14,7 +15,8 @@ use Rattle.fmp_scopes.specs.Entries.{body_place}
 use Rattle.fmp_scopes.specs.Headings.{heading_of, AreHeadings}
 
 pub names-headed :
-    (bodies : List BodyTree) → map (λ (h : Heading). h.name) (map heading_of bodies) ≡ map (λ (b : BodyTree). b.name.name) bodies
+    (bodies : List BodyTree) → map (λ (h : Heading). h.name) (map heading_of bodies)
+    ≡ map (λ (b : BodyTree). b.name.name) bodies
 names-headed [] = refl
 names-headed (b ∷ bs) = ap (λ ns. b.name.name ∷ ns) (names-headed bs)
 
@@ -32,7 +34,8 @@ place-headed headings bodies name o are h =
     ap (place_of (name_text name)) (sym (names-of headings bodies are)) ∙ sym h
 
 get-headed :
-    (bodies : List BodyTree) (k : ℕ) (d : Heading) → k < length bodies → get_or (map heading_of bodies) k d ≡ heading_of (body_at bodies k)
+    (bodies : List BodyTree) (k : ℕ) (d : Heading) → k < length bodies → get_or (map heading_of bodies) k d
+    ≡ heading_of (body_at bodies k)
 get-headed [] k d h = absurd (omega (arith, h))
 get-headed (b ∷ bs) zero d h = refl
 get-headed (b ∷ bs) (suc k) d h = get-headed bs k d (omega (arith, h))
@@ -43,7 +46,8 @@ length-headed (b ∷ bs) = ap suc (length-headed bs)
 
 -- the heading of the body at a place
 heading-at :
-    (headings : List Heading) (bodies : List BodyTree) (k : ℕ) (h : Heading) → AreHeadings headings bodies → k < length headings →
+    (headings : List Heading) (bodies : List BodyTree) (k : ℕ) (h : Heading) → AreHeadings headings bodies
+    → k < length headings →
     h ≡ get_or headings k h → h ≡ heading_of (body_at bodies k)
 heading-at headings bodies k h are within is =
     let long : length headings ≡ length bodies = ap length are ∙ length-headed bodies in

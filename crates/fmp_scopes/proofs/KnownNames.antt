@@ -9,7 +9,9 @@ use Rattle.fmp_tasklang.specs.Scopes.{Scope, NameMeaning, Variable, Array, Objec
 use Rattle.fmp_tasklang.specs.Stretches.{variable_number, word_number}
 use Rattle.fmp_tasklang.specs.Values.{array_number}
 use Rattle.fmp_scopes.specs.declared.offences.Offence.{Offence}
-use Rattle.fmp_scopes.specs.Naming.{expression_uses, word_uses, arguments_uses, call_uses, first_offence, NameUse, Writes, ReadsElement, WritesElement, write_fault, read_element_fault, write_element_fault, at_token, use_offence, uses_offence}
+use Rattle.fmp_scopes.specs.Naming.{expression_uses, word_uses, arguments_uses, call_uses, first_offence, NameUse}
+use Rattle.fmp_scopes.specs.Naming.{Writes, ReadsElement, WritesElement, write_fault, read_element_fault}
+use Rattle.fmp_scopes.specs.Naming.{write_element_fault, at_token, use_offence, uses_offence}
 
 pub none-first : (a b : Option Offence) → first_offence a b ≡ None → a ≡ None
 none-first None b h = refl
@@ -112,7 +114,8 @@ uses-append scope (u ∷ a) b =
 
 -- where the first part has a fault, it is that of both
 pub uses-here :
-    (scope : Scope) (a b : List NameUse) (o : Offence) → Some o ≡ uses_offence scope a → Some o ≡ uses_offence scope (a ++ b)
+    (scope : Scope) (a b : List NameUse) (o : Offence) → Some o ≡ uses_offence scope a → Some o
+    ≡ uses_offence scope (a ++ b)
 uses-here scope a b o h =
     ap (λ x. first_offence x (uses_offence scope b)) h ∙ sym (uses-append scope a b)
 
@@ -141,10 +144,12 @@ call-uses scope c =
 
 -- the faults of two parts
 pub two-parts :
-    (scope : Scope) (a b : List NameUse) (x y z : Option Offence) → x ≡ uses_offence scope a → y ≡ uses_offence scope b →
+    (scope : Scope) (a b : List NameUse) (x y z : Option Offence) → x ≡ uses_offence scope a → y
+    ≡ uses_offence scope b →
     z ≡ first_offence x y → z ≡ uses_offence scope (a ++ b)
 two-parts scope a b x y z first second both =
-    both ∙ ap (λ o. first_offence o y) first ∙ ap (first_offence (uses_offence scope a)) second ∙ sym (uses-append scope a b)
+    both ∙ ap (λ o. first_offence o y) first ∙ ap (first_offence (uses_offence scope a)) second
+    ∙ sym (uses-append scope a b)
 
 none-both : (a b : Option Offence) → a ≡ None → b ≡ None → first_offence a b ≡ None
 none-both a b p q = ap (λ o. first_offence o b) p ∙ q

@@ -1,12 +1,14 @@
 -- What a name means where the locals are `exinf` and these declared variables.
-use Rattle.std.proofs.Common.{◌≡◌, ℕ, zero, suc, add-one, ◌+◌, ◌<◌, false, cond, List, [], ◌∷◌, Option, Some, None, length, get_or, map, refl, sym, ap, ◌∙◌, arith}
+use Rattle.std.proofs.Common.{◌≡◌, ℕ, zero, suc, add-one, ◌+◌, ◌<◌, false, cond, List, [], ◌∷◌, Option, Some, None}
+use Rattle.std.proofs.Common.{length, get_or, map, refl, sym, ap, ◌∙◌, arith}
 use Rattle.std.specs.Prelude.{is_some, slice_get, if◌then◌else◌}
 use Rattle.std.specs.Str.{bytes_eq}
 use Rattle.fmp_base.specs.declared.names.Name.{Name}
 use Rattle.fmp_base.specs.Names.{name_text}
 use Rattle.fmp_tasklang.specs.declared.trees.Declaration.{Declaration}
 use Rattle.fmp_tasklang.specs.Layout.{Local, local_of, exinf_name}
-use Rattle.fmp_tasklang.specs.Scopes.{Scope, Variable, Array, place_of, object_number, is_array_or_none, local_or, meaning_of}
+use Rattle.fmp_tasklang.specs.Scopes.{Scope, Variable, Array, place_of, object_number, is_array_or_none, local_or}
+use Rattle.fmp_tasklang.specs.Scopes.{meaning_of}
 use Rattle.fmp_scopes.specs.Scopes.{locals_with}
 use Rattle.fmp_scopes.proofs.Positions.{raised, place_of-cons}
 
@@ -23,7 +25,8 @@ array-there [] k none h = absurd (omega (arith, h))
 array-there (d ∷ ds) zero none h = refl
 array-there (d ∷ ds) (suc k) none h = array-there ds k none (omega (arith, h))
 
-module _ (objects : List (List Name)) (vars : List Declaration) (n : Name) (other : bytes_eq (name_text n) (name_text exinf_name) ≡ false) where
+module _ (objects : List (List Name)) (vars : List Declaration) (n : Name)
+    (other : bytes_eq (name_text n) (name_text exinf_name) ≡ false) where
   abbrev scope : Scope
   scope = record { objects = objects; locals = locals_with vars }
 
@@ -33,7 +36,8 @@ module _ (objects : List (List Name)) (vars : List Declaration) (n : Name) (othe
   whole : place_of (name_text n) (map (λ (l : Local). l.name) (locals_with vars)) ≡ raised declared
   whole =
       place_of-cons (name_text n) exinf_name (map (λ (l : Local). l.name) (map local_of vars))
-      ∙ ap (λ b. cond b (Some 0) (raised (place_of (name_text n) (map (λ (l : Local). l.name) (map local_of vars))))) other
+      ∙ ap (λ b. cond b (Some 0) (raised (place_of (name_text n) (map (λ (l : Local). l.name) (map local_of vars)))))
+      other
       ∙ ap (λ ns. raised (place_of (name_text n) ns)) (names-declared vars)
 
   means : meaning_of scope n ≡ local_or (raised declared) scope (name_text n)

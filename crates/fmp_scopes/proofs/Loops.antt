@@ -1,5 +1,6 @@
 -- What one turn of a loop over a list leaves to do.
-use Rattle.std.proofs.Common.{◌≡◌, ℕ, suc, ◌+◌, ◌<◌, ◌≤◌, Bool, cond, List, [], ◌∷◌, Some, None, length, drop, get_or, map, sym, ap, ◌∙◌, arith, drop-cons}
+use Rattle.std.proofs.Common.{◌≡◌, ℕ, suc, ◌+◌, ◌<◌, ◌≤◌, Bool, cond, List, [], ◌∷◌, Some, None, length, drop, get_or}
+use Rattle.std.proofs.Common.{map, sym, ap, ◌∙◌, arith, drop-cons}
 use Rattle.std.specs.List.{position, position_from}
 use Rattle.std.proofs.lemmas.Iterator.Adapters.{position_from-zero}
 use Rattle.std.proofs.Math.ListN.{drop_of_length-le}
@@ -22,7 +23,8 @@ map-step f xs i x h e = ap (map f) (drop-step xs i x h e)
 -- a search for a row by its name
 pub position-step :
     {R A : Type 0} (t : A → Bool) (f : R → A) (rows : List R) (i : ℕ) (r : R) → i < length rows → r ≡ get_or rows i r →
-    position_from t i (drop i (map f rows)) ≡ cond (t (f r)) (Some i) (position_from t (i + 1) (drop (i + 1) (map f rows)))
+    position_from t i (drop i (map f rows)) ≡ cond (t (f r)) (Some i) (position_from t (i + 1)
+    (drop (i + 1) (map f rows)))
 position-step t f rows i r h e =
     ap (position_from t i) (drop-map f i rows ∙ map-step f rows i r h e)
     ∙ ap (λ xs. cond (t (f r)) (Some i) (position_from t (i + 1) xs)) (sym (drop-map f (i + 1) rows))

@@ -1,5 +1,6 @@
 -- The place of a name in a list that begins with another.
-use Rattle.std.proofs.Common.{◌≡◌, ℕ, ◌+◌, Bool, true, false, cond, List, [], ◌∷◌, Option, Some, None, refl, sym, ap, ◌∙◌}
+use Rattle.std.proofs.Common.{◌≡◌, ℕ, ◌+◌, Bool, true, false, cond, List, [], ◌∷◌, Option, Some, None, refl, sym, ap}
+use Rattle.std.proofs.Common.{◌∙◌}
 use Rattle.std.specs.List.{position, position_from}
 use Rattle.std.specs.Str.{bytes_eq}
 use Rattle.std.proofs.lemmas.Iterator.Adapters.{position_from-zero}
@@ -24,7 +25,8 @@ from-raised t (x ∷ xs) i =
     ∙ sym (raised-cond (t x) i (position_from t (i + 1) xs))
 
 position-cons :
-    {A : Type 0} (t : A → Bool) (x : A) (xs : List A) → position t (x ∷ xs) ≡ cond (t x) (Some 0) (raised (position t xs))
+    {A : Type 0} (t : A → Bool) (x : A) (xs : List A) → position t (x ∷ xs)
+    ≡ cond (t x) (Some 0) (raised (position t xs))
 position-cons t x xs =
     position_from-zero t (x ∷ xs)
     ∙ ap (cond (t x) (Some 0)) (from-raised t xs 0 ∙ ap raised (sym (position_from-zero t xs)))

@@ -1,5 +1,6 @@
 -- How many places locals have together.
-use Rattle.std.proofs.Common.{◌≡◌, ℕ, zero, suc, ◌+◌, ◌<◌, ◌≤◌, List, [], ◌∷◌, None, length, take, drop, get_or, map, refl, ap, ◌∙◌, arith}
+use Rattle.std.proofs.Common.{◌≡◌, ℕ, zero, suc, ◌+◌, ◌<◌, ◌≤◌, List, [], ◌∷◌, None, length, take, drop, get_or, map}
+use Rattle.std.proofs.Common.{refl, ap, ◌∙◌, arith}
 use Rattle.std.specs.Prelude.{slice_get}
 use Rattle.fmp_tasklang.specs.declared.trees.Declaration.{Declaration}
 use Rattle.fmp_tasklang.specs.Layout.{local_of, places_of, total_places, places_or_none, first_place, places_at}
@@ -21,7 +22,8 @@ left_end vars i h = ap (λ (ds : List Declaration). total_places (map local_of d
 pub ruleset sums = (left_step, left_end)
 
 -- the first variables have no more places than all
-pub taken_most : (vars : List Declaration) (i : ℕ) → total_places (map local_of (take i vars)) ≤ total_places (map local_of vars)
+pub taken_most : (vars : List Declaration) (i : ℕ) → total_places (map local_of (take i vars)) ≤ total_places
+    (map local_of vars)
 taken_most [] zero = omega arith
 taken_most [] (suc i) = omega arith
 taken_most (d ∷ ds) zero = omega arith
@@ -37,7 +39,8 @@ one_most (d ∷ ds) (suc i) none h = let rest = one_most ds i none (omega (arith
 
 -- the places before a variable
 taken_first :
-    (vars : List Declaration) (i : ℕ) → total_places (take i (map local_of vars)) ≡ total_places (map local_of (take i vars))
+    (vars : List Declaration) (i : ℕ) → total_places (take i (map local_of vars))
+    ≡ total_places (map local_of (take i vars))
 taken_first [] zero = refl
 taken_first [] (suc i) = refl
 taken_first (d ∷ ds) zero = refl

@@ -1,5 +1,6 @@
 -- What a chain in boxes and vectors amounts to.
-use Rattle.std.proofs.Common.{◌≡◌, ℕ, ◌+◌, ◌<◌, max, List, [], ◌∷◌, ◌++◌, length, drop, get_or, map, Box, sym, ap, ◌∙◌, append_assoc}
+use Rattle.std.proofs.Common.{◌≡◌, ℕ, ◌+◌, ◌<◌, max, List, [], ◌∷◌, ◌++◌, length, drop, get_or, map, Box, sym, ap, ◌∙◌}
+use Rattle.std.proofs.Common.{append_assoc}
 use Rattle.std.specs.declared.alloc.Global.{Global}
 use Rattle.std.specs.declared.vec.Vec.{Vec}
 use Rattle.fmp_base.specs.declared.operators.UnaryOperator.{UnaryOperator}
@@ -11,7 +12,8 @@ use Rattle.fmp_tasklang.specs.Scopes.{Scope}
 use Rattle.fmp_tasklang.specs.declared.trees.Statement.{Statement, If, IfElse, While}
 use Rattle.fmp_tasklang.specs.Trees.{if_then, if_else, while, next}
 use Rattle.fmp_tasklang.specs.Views.{expression_view, link_view, statement_view, block_view}
-use Rattle.fmp_tasklang.proofs.Views.{expression_view-Unary, expression_view-Chain, link_view-is, statement_view-If, statement_view-IfElse, statement_view-While}
+use Rattle.fmp_tasklang.proofs.Views.{expression_view-Unary, expression_view-Chain, link_view-is, statement_view-If}
+use Rattle.fmp_tasklang.proofs.Views.{statement_view-IfElse, statement_view-While}
 use Rattle.fmp_scopes.specs.Chains.{links_size, links_depth, links_uses, links_code, links_depths}
 use Rattle.fmp_scopes.specs.Depths.{expression_depth}
 use Rattle.fmp_scopes.specs.DepthTables.{expression_depths}
@@ -23,7 +25,8 @@ use Rattle.fmp_scopes.proofs.ChainTrees.{chain-size, chain-depth, chain-uses, ch
 
 module _ (e : Expression) (first : Box Expression Global) (links : Vec Link Global) (is : e ≡ Chain first links) where
   pub size-Chain :
-      expression_size (expression_view e) ≡ expression_size (expression_view first.value) + links_size (map link_view links.items)
+      expression_size (expression_view e) ≡ expression_size (expression_view first.value)
+      + links_size (map link_view links.items)
   size-Chain =
       ap (λ x. expression_size (expression_view x)) is ∙ ap expression_size (expression_view-Chain first links)
       ∙ chain-size (expression_view first.value) (map link_view links.items)
@@ -36,7 +39,8 @@ module _ (e : Expression) (first : Box Expression Global) (links : Vec Link Glob
       ∙ chain-depth (expression_view first.value) (map link_view links.items)
 
   pub uses-Chain :
-      expression_uses (expression_view e) ≡ expression_uses (expression_view first.value) ++ links_uses (map link_view links.items)
+      expression_uses (expression_view e) ≡ expression_uses (expression_view first.value)
+      ++ links_uses (map link_view links.items)
   uses-Chain =
       ap (λ x. expression_uses (expression_view x)) is ∙ ap expression_uses (expression_view-Chain first links)
       ∙ chain-uses (expression_view first.value) (map link_view links.items)
@@ -102,7 +106,8 @@ view-While s e v xs is items =
 pub unary-emitted :
     (scope : Scope) (e x : Expression) (op : UnaryOperator) (operand : Box Expression Global) → e ≡ Unary op operand →
     x ≡ operand.value → (begun made made' : List Instruction) →
-    made ≡ begun ++ expression_code scope (expression_view x) (length begun) → made' ≡ made ++ instruction.Unary op ∷ [] →
+    made ≡ begun ++ expression_code scope (expression_view x) (length begun) → made' ≡ made ++ instruction.Unary op
+    ∷ [] →
     made' ≡ begun ++ expression_code scope (expression_view e) (length begun)
 unary-emitted scope e x op operand is value begun made made' did last =
     let inner = expression_code scope (expression_view operand.value) (length begun) in
@@ -138,7 +143,8 @@ chain-emitted scope e x first links ls is value items begun made made' did len l
     ∙ ap (λ c. c ++ links_code scope (map link_view ls) p) did
     ∙ append_assoc begun one (links_code scope (map link_view ls) p)
     ∙ ap (λ xs. begun ++ (one ++ links_code scope (map link_view xs) p)) items
-    ∙ ap (λ y. begun ++ (expression_code scope (expression_view y) (length begun) ++ links_code scope (map link_view links.items) (length begun + expression_size (expression_view y)))) value
+    ∙ ap (λ y. begun ++ (expression_code scope (expression_view y) (length begun)
+    ++ links_code scope (map link_view links.items) (length begun + expression_size (expression_view y)))) value
     ∙ ap (λ c. begun ++ c) (sym (code-Chain e first links is scope (length begun)))
 
 pub chain-deep :

@@ -1,6 +1,8 @@
 -- How many operands a tree needs at most, beyond those that stand before it.
 use Rattle.std.specs.Prelude.{ℕ, ◌+◌, max, List, [], ◌∷◌}
-use Rattle.fmp_tasklang.specs.Trees.{ExpressionTree, number, named, element, unary, binary, both, either, StatementTree, assign, assign_element, service_call, if_then, if_else, while, break, continue, return, Block, empty, next, BodyTree}
+use Rattle.fmp_tasklang.specs.Trees.{ExpressionTree, number, named, element, unary, binary, both, either, StatementTree}
+use Rattle.fmp_tasklang.specs.Trees.{assign, assign_element, service_call, if_then, if_else, while, break, continue}
+use Rattle.fmp_tasklang.specs.Trees.{return, Block, empty, next, BodyTree}
 
 -- the second operand of an operator stands upon the first; those of `&&` and `||` never stand together
 abbrev pub expression_depth : ExpressionTree → ℕ

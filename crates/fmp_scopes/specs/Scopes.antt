@@ -7,7 +7,8 @@ use Rattle.fmp_base.specs.Systems.{SystemTables, tables_of}
 use Rattle.fmp_tasklang.specs.declared.trees.Declaration.{Declaration}
 use Rattle.fmp_lex.specs.declared.object_name.ObjectName.{ObjectName}
 use Rattle.fmp_tasklang.specs.Layout.{Local, local_of, exinf_local, first_place, total_places}
-use Rattle.fmp_tasklang.specs.Scopes.{Scope, NameMeaning, Variable, Array, Object, Unknown, object_names, object_number, number_or, place_of}
+use Rattle.fmp_tasklang.specs.Scopes.{Scope, NameMeaning, Variable, Array, Object, Unknown, object_names, object_number}
+use Rattle.fmp_tasklang.specs.Scopes.{number_or, place_of}
 use Rattle.fmp_scopes.specs.declared.names.Meaning.{Meaning}
 use Rattle.fmp_scopes.specs.declared.names.Meaning.TheVariants as meaning
 use Rattle.fmp_scopes.specs.declared.names.Names.{Names}
@@ -46,7 +47,8 @@ pub record HoldsNumbers (o : Objects) : Type 0 where
 abbrev pub AreNumbers : {S : Type 0} → Option (HashMap ObjectName ℕ S) → List Declaration → Type 0
 AreNumbers numbers variables =
     IfSome numbers (λ m.
-    (name : Name) → object_named m name ≡ number_or (place_of (name_text name) (map (λ d. d.name.name) variables)) Unknown)
+    (name : Name) → object_named m name ≡ number_or (place_of (name_text name) (map (λ d. d.name.name) variables))
+    Unknown)
 
 -- these are first places of locals, in order
 abbrev pub ArePlaces : List ℕ → List Declaration → Type 0

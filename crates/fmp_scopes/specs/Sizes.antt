@@ -1,6 +1,8 @@
 -- How many instructions a tree takes.
 use Rattle.std.specs.Prelude.{ℕ, ◌+◌, List, [], ◌∷◌}
-use Rattle.fmp_tasklang.specs.Trees.{ExpressionTree, number, named, element, unary, binary, both, either, StatementTree, assign, assign_element, service_call, if_then, if_else, while, break, continue, return, Block, empty, next, BodyTree}
+use Rattle.fmp_tasklang.specs.Trees.{ExpressionTree, number, named, element, unary, binary, both, either, StatementTree}
+use Rattle.fmp_tasklang.specs.Trees.{assign, assign_element, service_call, if_then, if_else, while, break, continue}
+use Rattle.fmp_tasklang.specs.Trees.{return, Block, empty, next, BodyTree}
 
 abbrev pub expression_size : ExpressionTree → ℕ
 expression_size (number k) = 1

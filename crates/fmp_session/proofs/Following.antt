@@ -1,5 +1,6 @@
 -- One more event of a session, and events that are taken anew from setup on.
-use Rattle.std.proofs.Common.{◌≡◌, ◌∙◌, ℕ, ◌+◌, ◌<◌, ◌≤◌, ◌^◌, List, [], ◌∷◌, ◌++◌, length, take, drop, drop-cons, get_or, add-one, refl, ap, sym, subst, arith, append_assoc, append-nil}
+use Rattle.std.proofs.Common.{◌≡◌, ◌∙◌, ℕ, ◌+◌, ◌<◌, ◌≤◌, ◌^◌, List, [], ◌∷◌, ◌++◌, length, take, drop, drop-cons}
+use Rattle.std.proofs.Common.{get_or, add-one, refl, ap, sym, subst, arith, append_assoc, append-nil}
 use Rattle.std.proofs.lemmas.List.{take-append-drop}
 use Rattle.fmp_base.specs.declared.events.Effect.TheVariants as effect
 use Rattle.fmp_base.specs.declared.events.Event.{Event}
@@ -58,7 +59,8 @@ module _ (i : ImageTables) (n : ℕ) (es : List Event) (e : Event) (k k' : Kerne
       ∙ kernel_last i n es e (reaction i n es e) refl taken_there
 
 module _ {C : Type 0} (sys : SystemTables) (M : Meaning C) (bound : ℕ) where
-  few_on : (w : World C) (x : Event) (r : Reaction C) (n : ℕ) (rest : World C → List Event) → ((v : World C) → length (rest v) ≤ n)
+  few_on : (w : World C) (x : Event) (r : Reaction C) (n : ℕ) (rest : World C → List Event)
+      → ((v : World C) → length (rest v) ≤ n)
       → length (taken_on w x r rest) ≤ n + 1
   few_on w x Nothing n rest h = let few = h w in omega (arith, few)
   few_on w x (Did d) n rest h = let few = h d.world in omega (arith, few)
@@ -68,7 +70,8 @@ module _ {C : Type 0} (sys : SystemTables) (M : Meaning C) (bound : ℕ) where
   few_taken : (w : World C) (es : List Event) → length (taken_events sys M bound w es) ≤ length es
   few_taken w [] = omega arith
   few_taken w (x ∷ es) =
-      let few = few_on w x (step sys M bound w x) (length es) (λ v. taken_events sys M bound v es) (λ v. few_taken v es) in omega (arith, few)
+      let few = few_on w x (step sys M bound w x) (length es) (λ v. taken_events sys M bound v es)
+      (λ v. few_taken v es) in omega (arith, few)
 
   tail_is : (x : Event) (xs ys : List Event) → ◌≡◌ {A = List Event} (x ∷ xs) (x ∷ ys) → xs ≡ ys
   tail_is x xs ys h = cc
@@ -109,7 +112,8 @@ module _ {C : Type 0} (sys : SystemTables) (M : Meaning C) (bound : ℕ) where
   last_on d x (Kept p v) es e rest h = rest (record d { world = v }) (tail_is x _ _ h)
 
   -- the last of events that are all taken is taken
-  last_taken : (d : Done C) (es : List Event) (e : Event) → taken_events sys M bound d.world (es ++ e ∷ []) ≡ es ++ e ∷ []
+  last_taken : (d : Done C) (es : List Event) (e : Event) → taken_events sys M bound d.world (es ++ e ∷ []) ≡ es ++ e
+      ∷ []
       → IsTaken (step sys M bound (done_after sys M bound d es).world e)
   last_taken d [] e h = last_of_one d.world e (step sys M bound d.world e) h
   last_taken d (x ∷ es) e h = last_on d x (step sys M bound d.world x) es e (λ n. last_taken n es e) h
@@ -123,9 +127,11 @@ legal_prefix i n es fs l =
     }
 
 -- the last of legal events does something
-pub legal_does : (i : ImageTables) (n : ℕ) (es : List Event) (e : Event) → IsLegal i n (es ++ e ∷ []) → IsTaken (reaction i n es e)
+pub legal_does : (i : ImageTables) (n : ℕ) (es : List Event) (e : Event) → IsLegal i n (es ++ e ∷ [])
+    → IsTaken (reaction i n es e)
 unfolding replay reaction
-legal_does i n es e l = last_taken i.system (code_meaning i.code) n (setup i.system (code_meaning i.code)) es e l.all_taken
+legal_does i n es e l = last_taken i.system (code_meaning i.code) n (setup i.system (code_meaning i.code)) es e
+    l.all_taken
 
 -- legal events that are taken one by one
 taken_on_from : (i : ImageTables) (n : ℕ) (before es : List Event) → IsLegal i n (before ++ es)
@@ -136,8 +142,10 @@ taken_on_from i n before (e ∷ es) l =
     let legal : IsLegal i n ((before ++ e ∷ []) ++ es) = subst (λ (xs : List Event). IsLegal i n xs) split l in
     let first : IsLegal i n (before ++ e ∷ []) = legal_prefix i n (before ++ e ∷ []) es legal in
     let step_is : step_on (kernel_after i n before) e ≡ reaction i n before e = step_of_replay i n before e _ refl in
-    let next : view_after (kernel_after i n before) (step_on (kernel_after i n before) e) ≡ kernel_after i n (before ++ e ∷ []) =
-    ap (view_after (kernel_after i n before)) step_is ∙ kernel_last i n before e (reaction i n before e) refl (legal_does i n before e first) in
+    let next : view_after (kernel_after i n before) (step_on (kernel_after i n before) e)
+    ≡ kernel_after i n (before ++ e ∷ []) =
+    ap (view_after (kernel_after i n before)) step_is ∙ kernel_last i n before e (reaction i n before e) refl
+    (legal_does i n before e first) in
     ap (λ (k : Kernels). view_after_all code_meaning k es) next ∙ taken_on_from i n (before ++ e ∷ []) es legal
     ∙ ap (kernel_after i n) (sym split)
 
@@ -170,7 +178,8 @@ module _ {B C : Type 0} (meaning : B → Meaning C) where
 -- the first of legal events, this many
 pub legal_take : (i : ImageTables) (n : ℕ) (es : List Event) (k : ℕ) → IsLegal i n es → IsLegal i n (take k es)
 legal_take i n es k l =
-    legal_prefix i n (take k es) (drop k es) (subst (λ (xs : List Event). IsLegal i n xs) (sym (take-append-drop k es)) l)
+    legal_prefix i n (take k es) (drop k es) (subst (λ (xs : List Event). IsLegal i n xs)
+    (sym (take-append-drop k es)) l)
 
 -- there is room for as many events as a session has at most
 pub room : (taken n : ℕ) → taken ≡ 0 → n ≤ 2 ^ 20 → taken + n ≤ 2 ^ 20

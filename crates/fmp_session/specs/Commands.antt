@@ -1,5 +1,6 @@
 -- The commands of a session, one a line.
-use Rattle.std.specs.Prelude.{ℕ, ◌+◌, List, [], ◌∷◌, Option, Some, None, Result, Ok, Err, ◌&&◌, if◌then◌else◌, nat_eq, nat_le, min, codes, bytes_eq, position, take, drop, slice_get}
+use Rattle.std.specs.Prelude.{ℕ, ◌+◌, List, [], ◌∷◌, Option, Some, None, Result, Ok, Err, ◌&&◌, if◌then◌else◌, nat_eq}
+use Rattle.std.specs.Prelude.{nat_le, min, codes, bytes_eq, position, take, drop, slice_get}
 use Rattle.std.specs.Option.{option_and_then, option_map, option_or}
 use Rattle.fmp_base.specs.declared.events.Event.{Event}
 use Rattle.fmp_base.specs.declared.events.Event.TheVariants as event
@@ -149,7 +150,8 @@ state_of None = Ok command.State
 state_of (Some name) = Ok command.StateOf
 
 -- the command by a first word and by what stands behind it, where the line is no event of a steps text
-abbrev pub by_word : (processors : ℕ) → List NamedInterrupt → (word : List ℕ) → (rest : Option (List ℕ)) → Result Command LineMistake
+abbrev pub by_word : (processors : ℕ) → List NamedInterrupt → (word : List ℕ) → (rest : Option (List ℕ))
+    → Result Command LineMistake
 by_word processors is word rest =
     if bytes_eq word [] then alone command.Skip rest
     else if bytes_eq word (codes "run") then run_of processors (or_nothing rest)

@@ -1,5 +1,6 @@
 -- Which handlers are pending, on which processor each handler runs, and the bitmaps in which they are found.
-use Rattle.std.specs.Prelude.{◌≡◌, ℕ, ◌+◌, ◌-◌, ◌*◌, ◌<◌, ◌≤◌, List, Option, Some, None, Bool, true, false, ◌&&◌, get_or, nat_eq, nat_lt, length, map, replicate, slice_get, slice_set, if◌then◌else◌}
+use Rattle.std.specs.Prelude.{◌≡◌, ℕ, ◌+◌, ◌-◌, ◌*◌, ◌<◌, ◌≤◌, List, Option, Some, None, Bool, true, false, ◌&&◌}
+use Rattle.std.specs.Prelude.{get_or, nat_eq, nat_lt, length, map, replicate, slice_get, slice_set, if◌then◌else◌}
 use Rattle.fmp_base.specs.declared.states.Handler.{Handler}
 use Rattle.fmp_base.specs.declared.states.Handler.TheVariants as handler
 use Rattle.fmp_base.specs.declared.systems.InterruptConfig.{InterruptConfig}

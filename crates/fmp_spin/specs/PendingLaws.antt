@@ -1,12 +1,15 @@
 -- What is pending by the processors of the handlers is what is pending by the tables of the system.
-use Rattle.std.proofs.Common.{◌≡◌, ℕ, zero, suc, ◌+◌, ◌<◌, ◌≤◌, List, [], ◌∷◌, length, Option, Some, None, Bool, ◌&&◌, nat_eq, refl, ap, ◌∙◌, sym, arith, map}
+use Rattle.std.proofs.Common.{◌≡◌, ℕ, zero, suc, ◌+◌, ◌<◌, ◌≤◌, List, [], ◌∷◌, length, Option, Some, None, Bool, ◌&&◌}
+use Rattle.std.proofs.Common.{nat_eq, refl, ap, ◌∙◌, sym, arith, map}
 use Rattle.std.specs.Prelude.{slice_get}
 use Rattle.fmp_base.specs.declared.systems.CyclicConfig.{CyclicConfig}
 use Rattle.fmp_base.specs.declared.systems.InterruptConfig.{InterruptConfig}
-use Rattle.fmp_base.specs.Settles.{first_pending, first_or, interrupt_or, cyclic_handler, interrupts_on, cycles_on, is_defined_on, pending_handler}
+use Rattle.fmp_base.specs.Settles.{first_pending, first_or, interrupt_or, cyclic_handler, interrupts_on, cycles_on}
+use Rattle.fmp_base.specs.Settles.{is_defined_on, pending_handler}
 use Rattle.fmp_base.specs.States.{KernelState, places_from}
 use Rattle.fmp_base.specs.Systems.{SystemTables, found, cyclic_config, interrupt_config}
-use Rattle.fmp_spin.specs.Pending.{handler_processors, processor_of, is_on, interrupts_there, cycles_there, first_handler}
+use Rattle.fmp_spin.specs.Pending.{handler_processors, processor_of, is_on, interrupts_there, cycles_there}
+use Rattle.fmp_spin.specs.Pending.{first_handler}
 
 -- two tests that agree on all places find the same
 first-same : (f g : ℕ → Bool) (from : ℕ) (bs : List Bool) → ((i : ℕ) → i < from + length bs → f i ≡ g i)

@@ -1,5 +1,6 @@
 -- Texts that begin with a word.
-use Rattle.std.proofs.Common.{ℕ, ◌≡◌, ◌≢◌, List, [], ◌∷◌, ◌++◌, Bool, true, false, Option, Some, None, MatchOption, nat_eq, refl, ap, ◌∙◌}
+use Rattle.std.proofs.Common.{ℕ, ◌≡◌, ◌≢◌, List, [], ◌∷◌, ◌++◌, Bool, true, false, Option, Some, None, MatchOption}
+use Rattle.std.proofs.Common.{nat_eq, refl, ap, ◌∙◌}
 use Rattle.std.proofs.lemmas.Bool.{eqb-true}
 use denote.Ref.{Bor}
 use Rattle.std.proofs.Common.{eq-eqb}

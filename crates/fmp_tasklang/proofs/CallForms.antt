@@ -1,5 +1,6 @@
 -- The calls that the grammar reads have the arguments of their services.
-use Rattle.std.proofs.Common.{◌≡◌, ℕ, suc, Bool, true, false, List, [], ◌∷◌, length, slice_get, Option, Some, None, option_and_then, is_some, refl, sym, ap, subst, ◌∙◌}
+use Rattle.std.proofs.Common.{◌≡◌, ℕ, suc, Bool, true, false, List, [], ◌∷◌, length, slice_get, Option, Some, None}
+use Rattle.std.proofs.Common.{option_and_then, is_some, refl, sym, ap, subst, ◌∙◌}
 use Rattle.fmp_base.specs.declared.services.Service.{Service}
 use Rattle.fmp_base.specs.declared.services.Service.TheVariants as service
 use Rattle.fmp_base.specs.Services.{arity, out_place}
@@ -12,9 +13,12 @@ use Rattle.fmp_tasklang.specs.declared.forms.CallPart.TheVariants as part
 use Rattle.fmp_tasklang.specs.declared.trees.Word.{Word}
 use Rattle.fmp_tasklang.specs.Trees.{ExpressionTree, StatementTree, Block, BodyTree}
 use Rattle.fmp_tasklang.specs.Blocks.{block_of, choice}
-use Rattle.fmp_tasklang.specs.Calls.{call_parts, ArgumentTree, value, out, values_of, out_from, Called, call_tree, OnePart, Parts, OneCall}
+use Rattle.fmp_tasklang.specs.Calls.{call_parts, ArgumentTree, value, out, values_of, out_from, Called, call_tree}
+use Rattle.fmp_tasklang.specs.Calls.{OnePart, Parts, OneCall}
 use Rattle.fmp_tasklang.specs.CallForms.{CallFits, StatementFits, BlockFits, CallsFit}
-use Rattle.fmp_tasklang.specs.Statements.{jump_of, IsStatement, an_assignment, an_element_assignment, a_call, a_jump, an_if, a_while, IsIf, if_chosen, IsElse, no_else, an_else, IsOther, a_block, another_if, IsBlock, braces, AreStatements, no_statement, a_statement}
+use Rattle.fmp_tasklang.specs.Statements.{jump_of, IsStatement, an_assignment, an_element_assignment, a_call, a_jump}
+use Rattle.fmp_tasklang.specs.Statements.{an_if, a_while, IsIf, if_chosen, IsElse, no_else, an_else, IsOther, a_block}
+use Rattle.fmp_tasklang.specs.Statements.{another_if, IsBlock, braces, AreStatements, no_statement, a_statement}
 use Rattle.fmp_tasklang.specs.Grammar.{Bodies}
 
 -- how many values a form has, and whether it has an out place
@@ -62,7 +66,8 @@ module _ (d : ℕ) (ts : List TokenKind) (limit : ℕ) where
       ∙ one_value p ps x.0 x.1 i x.3 x.4 (parts_values ps x.3 x.1 j x.5)
 
   one_out :
-      (p : CallPart) (ps : List CallPart) (a : Option ArgumentTree) (more : List ArgumentTree) (i k : ℕ) (w : Option Word) →
+      (p : CallPart) (ps : List CallPart) (a : Option ArgumentTree) (more : List ArgumentTree) (i k : ℕ)
+      (w : Option Word) →
       OnePart d p ts limit i a k → ((v : Option Word) → is_some (out_from v more) ≡ has_out (is_some v) ps) →
       is_some (out_from w (put a more)) ≡ has_out (is_some w) (p ∷ ps)
   one_out (part.Mark m) ps None more i k w x h = h w
@@ -87,7 +92,8 @@ module _ (d : ℕ) (ts : List TokenKind) (limit : ℕ) where
   pub call_fits :
       (result : Option Word) (c : Called) (i j : ℕ) → OneCall d ts limit i c j → CallFits (call_tree result c)
   call_fits result c i j x = (
-    ap (λ (z : Called). length z.arguments) x.1 ∙ parts_values (call_parts c.service) x.2 x.0 j x.4 ∙ form_values c.service,
+    ap (λ (z : Called). length z.arguments) x.1 ∙ parts_values (call_parts c.service) x.2 x.0 j x.4
+        ∙ form_values c.service,
     ap (λ (z : Called). is_some z.out) x.1 ∙ parts_out (call_parts c.service) x.2 x.0 j None x.4 ∙ form_out c.service,
   )
 

@@ -67,7 +67,8 @@ service_family (Some (kind.Keyword x)) a e = absurd (cc)
 service_family (Some (kind.Api x)) a e = absurd (cc)
 service_family (Some (kind.Bad x)) a e = absurd (cc)
 
-pub jump_family : (loop : Bool) (o : Option TokenKind) (a : StatementTree) → option_and_then (jump_of loop) o ≡ Some a → family o ≡ 4
+pub jump_family : (loop : Bool) (o : Option TokenKind) (a : StatementTree) → option_and_then (jump_of loop) o ≡ Some a
+    → family o ≡ 4
 jump_family true None a e = absurd (cc)
 jump_family true (Some (kind.Number x)) a e = absurd (cc)
 jump_family true (Some (kind.Constant x)) a e = absurd (cc)
@@ -89,7 +90,8 @@ jump_family false (Some (kind.Bad x)) a e = absurd (cc)
 
 -- a name is nothing else that begins an operand or a statement
 pub name_excludes : (o : Option TokenKind) (a : Name) → option_and_then name_of o ≡ Some a →
-    (option_and_then token_number o ≡ None) × (option_and_then unary_of o ≡ None) × (o ≡ Some (kind.Symbol symbol.LeftParen) → ⊥)
+    (option_and_then token_number o ≡ None) × (option_and_then unary_of o ≡ None)
+    × (o ≡ Some (kind.Symbol symbol.LeftParen) → ⊥)
 name_excludes None a e = absurd (cc)
 name_excludes (Some (kind.Number x)) a e = absurd (cc)
 name_excludes (Some (kind.Constant x)) a e = absurd (cc)
@@ -105,7 +107,8 @@ no_jump_name true n = refl
 no_jump_name false n = refl
 
 pub name_starts : (loop : Bool) (o : Option TokenKind) (a : Name) → option_and_then name_of o ≡ Some a →
-    (option_and_then service_of o ≡ None) × (option_and_then (jump_of loop) o ≡ None) × (o ≡ Some (kind.Keyword keyword.If) → ⊥) × (o ≡ Some (kind.Keyword keyword.While) → ⊥)
+    (option_and_then service_of o ≡ None) × (option_and_then (jump_of loop) o ≡ None)
+    × (o ≡ Some (kind.Keyword keyword.If) → ⊥) × (o ≡ Some (kind.Keyword keyword.While) → ⊥)
 name_starts loop None a e = absurd (cc)
 name_starts loop (Some (kind.Number x)) a e = absurd (cc)
 name_starts loop (Some (kind.Constant x)) a e = absurd (cc)

@@ -9,7 +9,8 @@ use Rattle.fmp_tasklang.specs.Expressions.{reference, IsWord}
 use Rattle.fmp_tasklang.specs.Reading.{RightWord, RightOperand, RightIndex, RightBracketed}
 use Rattle.fmp_tasklang.specs.Starts.{Starts}
 use Rattle.fmp_tasklang.proofs.Families.{name_excludes}
-use Rattle.fmp_tasklang.proofs.Operands.{open_bracket, word_here, word_missing, word_found, name_stop, name_then, without_index, with_index}
+use Rattle.fmp_tasklang.proofs.Operands.{open_bracket, word_here, word_missing, word_found, name_stop, name_then}
+use Rattle.fmp_tasklang.proofs.Operands.{without_index, with_index}
 
 module _ (ts : List TokenKind) (d i : ℕ) where
   pub operand_missing : Starts (slice_get ts i) None → i ≤ length ts → RightOperand ts d i (stopped i Syntax)

@@ -4,11 +4,13 @@ use Rattle.fmp_base.specs.declared.bodies.Fault.{Fault}
 use Rattle.fmp_base.specs.Operators.{place_in}
 use Rattle.fmp_base.specs.Stretches.{is_over}
 use Rattle.fmp_base.specs.Stretches as ends
-use Rattle.fmp_tasklang.specs.Trees.{StatementTree, assign, assign_element, service_call, if_then, if_else, while, break, continue, return}
+use Rattle.fmp_tasklang.specs.Trees.{StatementTree, assign, assign_element, service_call, if_then, if_else, while}
+use Rattle.fmp_tasklang.specs.Trees.{break, continue, return}
 use Rattle.fmp_tasklang.specs.Scopes.{Scope, meaning_of}
 use Rattle.fmp_tasklang.specs.Contexts.{Item, Do, Mark}
 use Rattle.fmp_tasklang.specs.Values.{Values, array_places, value, values}
-use Rattle.fmp_tasklang.specs.Stretches.{Way, Next, Goes, Turns, Stops, with_value, after_statement, after_item, follow, out_of_turns, walk, weight, turns}
+use Rattle.fmp_tasklang.specs.Stretches.{Way, Next, Goes, Turns, Stops, with_value, after_statement, after_item, follow}
+use Rattle.fmp_tasklang.specs.Stretches.{out_of_turns, walk, weight, turns}
 use Rattle.fmp_tasklang.specs.Laws.{HandsOverNothing}
 
 -- what stops is not over its bound

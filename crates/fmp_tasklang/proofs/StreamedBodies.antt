@@ -1,5 +1,6 @@
 -- What is right about reading a body while a window moves over its tokens.
-use Rattle.std.proofs.Common.{◌≡◌, ℕ, ◌+◌, ◌<◌, ◌≤◌, false, List, ◌++◌, length, slice_get, option_and_then, Some, Ok, Err, refl, sym, subst, arith}
+use Rattle.std.proofs.Common.{◌≡◌, ℕ, ◌+◌, ◌<◌, ◌≤◌, false, List, ◌++◌, length, slice_get, option_and_then, Some, Ok}
+use Rattle.std.proofs.Common.{Err, refl, sym, subst, arith}
 use Rattle.std.proofs.lemmas.List.{length-map}
 use Rattle.fmp_lex.specs.declared.reading.FirstFault.{FirstFault}
 use Rattle.fmp_lex.specs.declared.reading.GrammarFault.{GrammarFault}
@@ -7,10 +8,12 @@ use Rattle.fmp_lex.specs.declared.reading.ReadError.TheVariants.{Fault}
 use Rattle.fmp_lex.specs.declared.token.Token.{Token}
 use Rattle.fmp_lex.specs.declared.token.TokenKind.{TokenKind}
 use Rattle.fmp_lex.specs.declared.window.Window.{Window}
-use Rattle.fmp_lex.specs.Reading.{Rel, Seq, Star, OneToken, Item, RightToken, found, stopped, limited, kind_of, kinds_of}
+use Rattle.fmp_lex.specs.Reading.{Rel, Seq, Star, OneToken, Item, RightToken, found, stopped, limited, kind_of}
+use Rattle.fmp_lex.specs.Reading.{kinds_of}
 use Rattle.fmp_lex.specs.Windows.{IsWindow, Passed, Streams}
 use Rattle.fmp_lex.proofs.Repetitions.{star_framed, star_fills}
-use Rattle.fmp_lex.proofs.Sequences.{Framed, item_framed, token_framed, token_fills, seq_framed, seq_fills, seq_then, seq_stop}
+use Rattle.fmp_lex.proofs.Sequences.{Framed, item_framed, token_framed, token_fills, seq_framed, seq_fills, seq_then}
+use Rattle.fmp_lex.proofs.Sequences.{seq_stop}
 use Rattle.fmp_lex.proofs.Streaming.{passed_on, streams_here, streams_right, streams_as, streams_seq, streams_star}
 use Rattle.fmp_lex.proofs.Windows.{passed_few}
 use Rattle.fmp_tasklang.specs.declared.trees.BodyKind.{BodyKind}
@@ -133,7 +136,8 @@ module _ (i : ℕ) (b : BodyKind) (name : Word) (vs : List Declaration) (ss : Li
       ((name, (tt, vs)), (ss, tt)) j (item_framed body_kind_of) first rest)
 
 -- what is so where the statements of a body are not read
-pub body_lacks : (P : Type 0) (w0 : Window) (i n : ℕ) (h : Word × (Unit {0} × List Declaration)) → i < length w0.tokens →
+pub body_lacks : (P : Type 0) (w0 : Window) (i n : ℕ) (h : Word × (Unit {0} × List Declaration))
+    → i < length w0.tokens →
     RightHeading (kinds_of w0.tokens) (i + 1) (found h n) →
     ((before : List Token) → Passed w0 before n → P) → (before : List Token) → Passed w0 before i → P
 body_lacks P w0 i n h lt right lacks before passed =

@@ -4,7 +4,8 @@ use Rattle.fmp_tasklang.specs.Scopes.{Scope}
 use Rattle.fmp_tasklang.specs.Contexts.{Item}
 use Rattle.fmp_tasklang.specs.Values.{Values}
 use Rattle.fmp_base.specs.Stretches.{is_over}
-use Rattle.fmp_tasklang.specs.Stretches.{Way, Next, Goes, Turns, Stops, after_item, follow, out_of_turns, walk, weight, turns}
+use Rattle.fmp_tasklang.specs.Stretches.{Way, Next, Goes, Turns, Stops, after_item, follow, out_of_turns, walk, weight}
+use Rattle.fmp_tasklang.specs.Stretches.{turns}
 use Rattle.fmp_tasklang.specs.Laws.{MoreTurnsChangeNothing}
 
 -- where f is not over its bound, g is the same

@@ -7,7 +7,9 @@ use Rattle.fmp_base.specs.declared.operators.UnaryOperator.{UnaryOperator}
 use Rattle.fmp_tasklang.specs.declared.trees.Expression.{Expression, Name, Element, Unary, Chain}
 use Rattle.fmp_tasklang.specs.declared.trees.Expression as expression
 use Rattle.fmp_tasklang.specs.declared.trees.Link.{Link}
-use Rattle.fmp_tasklang.specs.declared.trees.Statement.{Statement, If, IfElse, While, Row_of-Statement, end_of-Statement, more_of-Statement, items-the_row-Statement, the_lemmas}
+use Rattle.fmp_tasklang.specs.declared.trees.Statement.{Statement, If, IfElse, While, Row_of-Statement}
+use Rattle.fmp_tasklang.specs.declared.trees.Statement.{end_of-Statement, more_of-Statement, items-the_row-Statement}
+use Rattle.fmp_tasklang.specs.declared.trees.Statement.{the_lemmas}
 use Rattle.fmp_tasklang.specs.declared.trees.Word.{Word}
 use Rattle.fmp_tasklang.specs.Trees.{named, element, unary, if_then, if_else, while, next}
 use Rattle.fmp_tasklang.specs.Views.{chain_tree, expression_view, link_view, statement_view, row_view, block_view}
@@ -39,7 +41,10 @@ link_view-is l = search (rules, expression.the_lemmas)
 -- links that grow at their end
 pub links_push :
     (links : List Link) (l : Link) →
-    map link_view (links ++ l ∷ []) ≡ map link_view links ++ record { operator = l.operator; operand = expression_view l.operand } ∷ []
+    map link_view (links ++ l ∷ []) ≡ map link_view links ++ record {
+      operator = l.operator;
+      operand = expression_view l.operand;
+    } ∷ []
 links_push links l = map-append link_view links (l ∷ []) ∙ ap (λ z. map link_view links ++ z ∷ []) (link_view-is l)
 
 -- the statements of a vector, as a block
@@ -68,16 +73,19 @@ pub statement_view-While :
 statement_view-While e s = search (rules, the_lemmas, row_view-items)
 
 -- blocks as the readers see them
-pub while_view : (e : Expression) (s : Vec Statement Global) → statement_view (While e s) ≡ while (expression_view e) (reading.block_view s)
+pub while_view : (e : Expression) (s : Vec Statement Global) → statement_view (While e s)
+    ≡ while (expression_view e) (reading.block_view s)
 while_view e s = statement_view-While e s ∙ ap (while (expression_view e)) (block_view-is s.items)
 
-pub if_view : (e : Expression) (s : Vec Statement Global) → statement_view (If e s) ≡ if_then (expression_view e) (reading.block_view s)
+pub if_view : (e : Expression) (s : Vec Statement Global) → statement_view (If e s)
+    ≡ if_then (expression_view e) (reading.block_view s)
 if_view e s = statement_view-If e s ∙ ap (if_then (expression_view e)) (block_view-is s.items)
 
 pub if_else_view :
     (e : Box Expression Global) (s r : Vec Statement Global) →
     statement_view (IfElse e s r) ≡ if_else (expression_view e.value) (reading.block_view s) (reading.block_view r)
-if_else_view e s r = statement_view-IfElse e s r ∙ ap₂ (if_else (expression_view e.value)) (block_view-is s.items) (block_view-is r.items)
+if_else_view e s r = statement_view-IfElse e s r ∙ ap₂ (if_else (expression_view e.value)) (block_view-is s.items)
+    (block_view-is r.items)
 
 pub views_of_parts : ViewsOfParts
 views_of_parts =

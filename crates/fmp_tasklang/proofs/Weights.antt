@@ -1,13 +1,17 @@
 -- The weight of what is to do bounds the items before the next mark, so that only turns bound a stretch.
-use Rattle.std.proofs.Common.{◌≡◌, ℕ, zero, suc, ◌+◌, ◌≤◌, ◌<◌, List, [], ◌∷◌, Bool, true, false, Result, Ok, Err, refl, ◌∙◌, arith}
+use Rattle.std.proofs.Common.{◌≡◌, ℕ, zero, suc, ◌+◌, ◌≤◌, ◌<◌, List, [], ◌∷◌, Bool, true, false, Result, Ok, Err, refl}
+use Rattle.std.proofs.Common.{◌∙◌, arith}
 use Rattle.std.specs.Prelude.{if◌then◌else◌}
 use Rattle.fmp_base.specs.declared.bodies.Fault.{Fault}
 use Rattle.fmp_base.specs.Operators.{is_zero, place_in}
-use Rattle.fmp_tasklang.specs.Trees.{StatementTree, assign, assign_element, service_call, if_then, if_else, while, break, continue, return, Block, empty, next}
+use Rattle.fmp_tasklang.specs.Trees.{StatementTree, assign, assign_element, service_call, if_then, if_else, while}
+use Rattle.fmp_tasklang.specs.Trees.{break, continue, return, Block, empty, next}
 use Rattle.fmp_tasklang.specs.Scopes.{Scope, meaning_of}
 use Rattle.fmp_tasklang.specs.Values.{Values, array_places, value, values}
 use Rattle.fmp_tasklang.specs.Contexts.{Item, Do, Mark, items_before}
-use Rattle.fmp_tasklang.specs.Stretches.{Way, Next, Goes, Turns, Stops, with_value, after_mark, from_mark, after_statement, after_item, statement_weight, block_weight, weight, follow, out_of_turns, walk, turns}
+use Rattle.fmp_tasklang.specs.Stretches.{Way, Next, Goes, Turns, Stops, with_value, after_mark, from_mark}
+use Rattle.fmp_tasklang.specs.Stretches.{after_statement, after_item, statement_weight, block_weight, weight, follow}
+use Rattle.fmp_tasklang.specs.Stretches.{out_of_turns, walk, turns}
 use Rattle.fmp_tasklang.specs.Laws.{FollowsEachItem}
 
 one-le-statement_weight : (s : StatementTree) → 1 ≤ statement_weight s

@@ -1,7 +1,8 @@
 -- The calls of a tree as the grammar has them.
 use Rattle.std.specs.Prelude.{◌≡◌, List, [], ◌∷◌, length, is_some}
 use Rattle.fmp_base.specs.Services.{arity, out_place}
-use Rattle.fmp_tasklang.specs.Trees.{CallTree, StatementTree, assign, assign_element, service_call, if_then, if_else, while, break, continue, return, Block, empty, next, BodyTree}
+use Rattle.fmp_tasklang.specs.Trees.{CallTree, StatementTree, assign, assign_element, service_call, if_then, if_else}
+use Rattle.fmp_tasklang.specs.Trees.{while, break, continue, return, Block, empty, next, BodyTree}
 
 -- as many arguments as the service takes, and a variable at the out place exactly if the service has one
 abbrev pub CallFits : CallTree → Type 0

@@ -1,6 +1,7 @@
 -- The locals of a body and their places: each variable has as many as its declaration says, one after another in order
 -- of declaration, and `exinf` has the first.
-use Rattle.std.specs.Prelude.{ℕ, ◌+◌, ℤ, pos, negsuc, List, [], ◌∷◌, map, take, slice_get, Option, Some, None, is_some, Bool, false, codes}
+use Rattle.std.specs.Prelude.{ℕ, ◌+◌, ℤ, pos, negsuc, List, [], ◌∷◌, map, take, slice_get, Option, Some, None, is_some}
+use Rattle.std.specs.Prelude.{Bool, false, codes}
 use Rattle.fmp_base.specs.declared.names.Name.{Name}
 use Rattle.fmp_base.specs.Names.{name_from}
 use Rattle.fmp_tasklang.specs.declared.trees.Declaration.{Declaration}

@@ -1,5 +1,6 @@
 -- When the answers of the readers of a task text are right.
-use Rattle.std.specs.Prelude.{◌≡◌, ℕ, ◌+◌, ◌≤◌, Bool, List, map, slice_get, Option, Some, None, option_and_then, Result, Ok, Err}
+use Rattle.std.specs.Prelude.{◌≡◌, ℕ, ◌+◌, ◌≤◌, Bool, List, map, slice_get, Option, Some, None, option_and_then, Result}
+use Rattle.std.specs.Prelude.{Ok, Err}
 use Rattle.std.specs.declared.vec.Vec.{Vec}
 use Rattle.std.specs.declared.alloc.Global.{Global}
 use Rattle.fmp_lex.specs.declared.fault.BuildFault.{BuildFault}
@@ -13,7 +14,8 @@ use Rattle.fmp_lex.specs.declared.token.TokenKind.{TokenKind}
 use Rattle.fmp_lex.specs.declared.token.TokenKind.TheVariants as kind
 use Rattle.fmp_base.specs.declared.words.Keyword.TheVariants as keyword
 use Rattle.fmp_lex.specs.Faults.{Spells, IsSyntaxFault}
-use Rattle.fmp_lex.specs.Reading.{Rel, At, IsToken, IsItem, Item, Star, ParseResult, Right, Anywhere, IsWhole, IsFirstFault}
+use Rattle.fmp_lex.specs.Reading.{Rel, At, IsToken, IsItem, Item, Star, ParseResult, Right, Anywhere, IsWhole}
+use Rattle.fmp_lex.specs.Reading.{IsFirstFault}
 use Rattle.fmp_base.specs.declared.services.Service.{Service}
 use Rattle.fmp_tasklang.specs.declared.calls.Argument.{Argument}
 use Rattle.fmp_tasklang.specs.declared.calls.Argument.TheVariants as argument
@@ -33,12 +35,14 @@ use Rattle.fmp_tasklang.specs.declared.trees.Program.{Program}
 use Rattle.fmp_tasklang.specs.declared.trees.ServiceCall.{ServiceCall}
 use Rattle.fmp_tasklang.specs.declared.trees.Statement.{Statement}
 use Rattle.fmp_tasklang.specs.declared.trees.Word.{Word}
-use Rattle.fmp_tasklang.specs.Trees.{ExpressionTree, StatementTree, assign, assign_element, service_call, Block, BodyTree}
+use Rattle.fmp_tasklang.specs.Trees.{ExpressionTree, StatementTree, assign, assign_element, service_call, Block}
+use Rattle.fmp_tasklang.specs.Trees.{BodyTree}
 use Rattle.fmp_tasklang.specs.Views.{LinkTree, expression_view, link_view, statement_view, body_view, program_view}
 use Rattle.fmp_tasklang.specs.Blocks.{block_of}
 use Rattle.fmp_tasklang.specs.Expressions.{operator_of, loosest, IsWord, IsOperand, IsIndex, IsExpression}
 use Rattle.fmp_tasklang.specs.Calls.{ArgumentTree, value, out, Called, called, call_tree, OnePart, Parts, OneCall}
-use Rattle.fmp_tasklang.specs.Statements.{jump_of, IsBracketed, IsCondition, IsStatement, IsIf, IsElse, IsOther, IsBlock}
+use Rattle.fmp_tasklang.specs.Statements.{jump_of, IsBracketed, IsCondition, IsStatement, IsIf, IsElse, IsOther}
+use Rattle.fmp_tasklang.specs.Statements.{IsBlock}
 use Rattle.fmp_tasklang.specs.Grammar.{body_kind_of, number_of, OneLength, OneVariable, OneBody, Bodies}
 
 abbrev pub itself : {A : Type 0} → A → A

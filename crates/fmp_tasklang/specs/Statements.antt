@@ -6,7 +6,8 @@ use Rattle.fmp_lex.specs.declared.token.TokenKind.TheVariants as kind
 use Rattle.fmp_base.specs.declared.words.Keyword.TheVariants as keyword
 use Rattle.fmp_lex.specs.Reading.{Allows, IsToken, IsItem}
 use Rattle.fmp_tasklang.specs.declared.trees.Word.{Word}
-use Rattle.fmp_tasklang.specs.Trees.{ExpressionTree, StatementTree, assign, assign_element, service_call, while, break, continue, return, Block}
+use Rattle.fmp_tasklang.specs.Trees.{ExpressionTree, StatementTree, assign, assign_element, service_call, while, break}
+use Rattle.fmp_tasklang.specs.Trees.{continue, return, Block}
 use Rattle.fmp_tasklang.specs.Blocks.{block_of, choice}
 use Rattle.fmp_tasklang.specs.Expressions.{loosest, IsWord, IsExpression}
 use Rattle.fmp_tasklang.specs.Calls.{Called, call_tree, OneCall}

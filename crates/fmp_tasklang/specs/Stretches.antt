@@ -6,7 +6,8 @@ use Rattle.fmp_base.specs.Services.{request}
 use Rattle.fmp_base.specs.Stretches.{Ending}
 use Rattle.fmp_base.specs.Stretches as ends
 use Rattle.fmp_tasklang.specs.declared.trees.Word.{Word}
-use Rattle.fmp_tasklang.specs.Trees.{CallTree, StatementTree, assign, assign_element, service_call, if_then, if_else, while, break, continue, return, Block, empty, next}
+use Rattle.fmp_tasklang.specs.Trees.{CallTree, StatementTree, assign, assign_element, service_call, if_then, if_else}
+use Rattle.fmp_tasklang.specs.Trees.{while, break, continue, return, Block, empty, next}
 use Rattle.fmp_tasklang.specs.Scopes.{Scope, NameMeaning, Variable, Array, Object, Unknown, meaning_of}
 use Rattle.fmp_tasklang.specs.Values.{Values, set_at, array_number, array_places, value, values}
 use Rattle.fmp_tasklang.specs.Contexts.{Item, Do, Mark, Receivers, TextContext, going, calling, written, items_before}

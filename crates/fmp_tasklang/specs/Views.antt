@@ -6,11 +6,15 @@ use Rattle.fmp_tasklang.specs.declared.trees.Expression.{Expression, fold-Expres
 use Rattle.fmp_tasklang.specs.declared.trees.Expression.TheOpen.{Expression-F, Link-F}
 use Rattle.fmp_tasklang.specs.declared.trees.Link.{Link, fold-Link}
 use Rattle.fmp_tasklang.specs.declared.trees.ServiceCall.{ServiceCall}
-use Rattle.fmp_tasklang.specs.declared.trees.Statement.{Statement, Row_of-Statement, end_of-Statement, more_of-Statement}
-use Rattle.fmp_tasklang.specs.declared.trees.Statement.TheVariants.{Assign, AssignElement, Call, If', IfElse', While', Break, Continue, Return}
+use Rattle.fmp_tasklang.specs.declared.trees.Statement.{Statement, Row_of-Statement, end_of-Statement}
+use Rattle.fmp_tasklang.specs.declared.trees.Statement.{more_of-Statement}
+use Rattle.fmp_tasklang.specs.declared.trees.Statement.TheVariants.{Assign, AssignElement, Call, If', IfElse', While'}
+use Rattle.fmp_tasklang.specs.declared.trees.Statement.TheVariants.{Break, Continue, Return}
 use Rattle.fmp_tasklang.specs.declared.trees.Body.{Body}
 use Rattle.fmp_tasklang.specs.declared.trees.Program.{Program}
-use Rattle.fmp_tasklang.specs.Trees.{ExpressionTree, number, named, element, unary, binary, both, either, CallTree, StatementTree, assign, assign_element, service_call, if_then, if_else, while, break, continue, return, Block, empty, next, BodyTree}
+use Rattle.fmp_tasklang.specs.Trees.{ExpressionTree, number, named, element, unary, binary, both, either, CallTree}
+use Rattle.fmp_tasklang.specs.Trees.{StatementTree, assign, assign_element, service_call, if_then, if_else, while}
+use Rattle.fmp_tasklang.specs.Trees.{break, continue, return, Block, empty, next, BodyTree}
 
 -- an operator between two trees
 abbrev pub join : Operator → ExpressionTree → ExpressionTree → ExpressionTree

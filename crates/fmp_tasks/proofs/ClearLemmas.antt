@@ -1,5 +1,6 @@
 -- A processor on which no handler is pending stays so where a handler is no longer pending.
-use Rattle.std.proofs.Common.{◌≡◌, ℕ, zero, suc, ◌+◌, List, [], ◌∷◌, Option, Some, None, Bool, true, false, ◌&&◌, refl, ap, ◌∙◌, length}
+use Rattle.std.proofs.Common.{◌≡◌, ℕ, zero, suc, ◌+◌, List, [], ◌∷◌, Option, Some, None, Bool, true, false, ◌&&◌, refl}
+use Rattle.std.proofs.Common.{ap, ◌∙◌, length}
 use Rattle.std.specs.Prelude.{slice_set}
 use Rattle.std.proofs.Math.ListN.{length-set}
 use Rattle.fmp_base.specs.declared.states.Handler.{Handler}
@@ -36,17 +37,20 @@ cleared : (pending : PendingMarks) (h : Handler) (p : ℕ) → first_handler pen
 cleared pending (handler.Interrupt i) p e =
     let rest = cyclic_handler (first_pending (cycles_there pending.processors p) 0 pending.cyclics) in
     let parts = none_interrupt (first_pending (interrupts_there pending.processors p) 0 pending.interrupts) rest e in
-    ap (λ (o : Option ℕ). interrupt_or o rest) (stays_none (interrupts_there pending.processors p) 0 pending.interrupts i parts.0)
+    ap (λ (o : Option ℕ). interrupt_or o rest) (stays_none (interrupts_there pending.processors p) 0
+    pending.interrupts i parts.0)
     ∙ parts.1
 cleared pending (handler.Cyclic c) p e =
     let found = first_pending (cycles_there pending.processors p) 0 pending.cyclics in
     let parts =
-    none_interrupt (first_pending (interrupts_there pending.processors p) 0 pending.interrupts) (cyclic_handler found) e in
+    none_interrupt (first_pending (interrupts_there pending.processors p) 0 pending.interrupts)
+    (cyclic_handler found) e in
     ap (λ (o : Option ℕ). interrupt_or o
     (cyclic_handler (first_pending (cycles_there pending.processors p) 0 (slice_set pending.cyclics c false)))) parts.0
     ∙ ap cyclic_handler (stays_none (cycles_there pending.processors p) 0 pending.cyclics c (none_cyclic found parts.1))
 
-pub cleared_processors : (pending : PendingMarks) (h : Handler) → (without_mark pending h).processors ≡ pending.processors
+pub cleared_processors : (pending : PendingMarks) (h : Handler) → (without_mark pending h).processors
+    ≡ pending.processors
 cleared_processors pending (handler.Interrupt i) = refl
 cleared_processors pending (handler.Cyclic c) = refl
 
@@ -61,7 +65,8 @@ cleared_cyclics pending (handler.Interrupt i) = refl
 cleared_cyclics pending (handler.Cyclic c) = length-set pending.cyclics c false
 
 -- no processor is less at rest where a handler is no longer pending
-pub at_rest_cleared : (marked : List Bool) (cpus : List Processor) (r : RingLists) (pending : PendingMarks) (h : Handler)
+pub at_rest_cleared : (marked : List Bool) (cpus : List Processor) (r : RingLists) (pending : PendingMarks)
+    (h : Handler)
     → AreAtRest marked cpus r pending → AreAtRest marked cpus r (without_mark pending h)
 at_rest_cleared marked cpus r pending h rest = record {
   each =

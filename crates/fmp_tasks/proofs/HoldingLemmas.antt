@@ -1,5 +1,6 @@
 -- Who stands behind a task in the lists stands behind it in its queue; so with messages.
-use Rattle.std.proofs.Common.{◌≡◌, ℕ, zero, suc, ◌<◌, ◌≤◌, List, [], ◌∷◌, Option, Some, None, Bool, true, false, nat_eq, nat_lt, refl, ap, ◌∙◌, sym, subst, arith, length}
+use Rattle.std.proofs.Common.{◌≡◌, ℕ, zero, suc, ◌<◌, ◌≤◌, List, [], ◌∷◌, Option, Some, None, Bool, true, false, nat_eq}
+use Rattle.std.proofs.Common.{nat_lt, refl, ap, ◌∙◌, sym, subst, arith, length}
 use Rattle.std.specs.Prelude.{◌&&◌, ◌||◌, filter, if◌then◌else◌}
 use Rattle.std.specs.List.{list_any}
 use Rattle.std.proofs.lemmas.Bool.Decides.{nat_tests}
@@ -53,12 +54,14 @@ beyond (x ∷ xs) (suc t) l = beyond xs t (omega arith)
 
 held-beyond : (sys : SystemTables) (s : KernelState) (t : ℕ) → length s.tasks ≤ t → queue_holding sys s t ≡ []
 held-beyond sys s t l =
-    ap (λ (x : TaskBlock). if is_ready x then filter (λ u. nat_eq (priority_in s.tasks u) x.priority) (ready_queue s x.processor)
+    ap (λ (x : TaskBlock). if is_ready x then filter (λ u. nat_eq (priority_in s.tasks u) x.priority)
+    (ready_queue s x.processor)
     else waiting_there sys s (queue_of x.phase)) (beyond s.tasks t l)
 
 module _ {sys : SystemTables} (s : KernelState) {ready : List ℕ} {waits : WaitQueues} {rings : RingLists}
     {deadlines : List (Option ℕ)} (k : Sound sys s.tasks s.order ready waits rings deadlines) where
-  by_queue : (o : Option WaitQueue) → IsSomeThere waits.counts o → listed rings.lists (wait_home waits o) ≡ waiting_there sys s o
+  by_queue : (o : Option WaitQueue) → IsSomeThere waits.counts o → listed rings.lists (wait_home waits o)
+      ≡ waiting_there sys s o
   by_queue None l = refl
   by_queue (Some q) l = wait_list k q l
 
@@ -72,19 +75,24 @@ module _ {sys : SystemTables} (s : KernelState) {ready : List ℕ} {waits : Wait
     f = Fits-at t k.blocks l
 
     p : (task_at s.tasks t).processor < waits.processors
-    p = subst (λ (n : ℕ). (task_at s.tasks t).processor < n) (sym (ap (λ (w : WaitQueues). w.processors) k.own_waits)) f.processor
+    p = subst (λ (n : ℕ). (task_at s.tasks t).processor < n) (sym (ap (λ (w : WaitQueues). w.processors) k.own_waits))
+        f.processor
 
     by_test : (b : Bool)
         → listed rings.lists (if b then Some (ready_head (task_at s.tasks t).processor (task_at s.tasks t).priority)
         else wait_home waits (queue_of (task_at s.tasks t).phase))
-        ≡ (if b then filter (λ u. nat_eq (priority_in s.tasks u) (priority_in s.tasks t)) (ready_queue s (task_at s.tasks t).processor)
+        ≡ (if b then filter (λ u. nat_eq (priority_in s.tasks u) (priority_in s.tasks t))
+        (ready_queue s (task_at s.tasks t).processor)
         else waiting_there sys s (queue_of (task_at s.tasks t).phase))
-    by_test true = ready_list waits sys s.tasks s.order rings.lists (task_at s.tasks t).processor (task_at s.tasks t).priority k.blocks k.kept p
+    by_test true = ready_list waits sys s.tasks s.order rings.lists (task_at s.tasks t).processor
+        (task_at s.tasks t).priority k.blocks k.kept p
         f.urgent f.least (lists-enough k)
-    by_test false = by_queue (queue_of (task_at s.tasks t).phase) (some_queue waits sys (task_at s.tasks t) k.own_waits f)
+    by_test false = by_queue (queue_of (task_at s.tasks t).phase) (some_queue waits sys
+        (task_at s.tasks t) k.own_waits f)
 
   -- who stands in a list has its home there
-  home-of : (t h : ℕ) → h < length rings.lists → is_in t (list_at rings.lists h) ≡ true → home waits (task_at s.tasks t) ≡ Some h
+  home-of : (t h : ℕ) → h < length rings.lists → is_in t (list_at rings.lists h) ≡ true
+      → home waits (task_at s.tasks t) ≡ Some h
   home-of t h l i =
       let F : ℕ → Bool = λ u. is_at h (home waits (task_at s.tasks u)) in
       at_home h (home waits (task_at s.tasks t))

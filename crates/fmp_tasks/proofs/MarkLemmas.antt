@@ -1,5 +1,6 @@
 -- A processor that is not marked stays at rest where tasks of other processors move.
-use Rattle.std.proofs.Common.{◌≡◌, ◌≢◌, ℕ, zero, suc, ◌+◌, ◌-◌, ◌*◌, ◌<◌, ◌≤◌, List, [], ◌∷◌, length, Option, Some, None, Bool, true, false, nat_eq, refl, ap, ◌∙◌, sym, subst, arith, replicate}
+use Rattle.std.proofs.Common.{◌≡◌, ◌≢◌, ℕ, zero, suc, ◌+◌, ◌-◌, ◌*◌, ◌<◌, ◌≤◌, List, [], ◌∷◌, length, Option, Some}
+use Rattle.std.proofs.Common.{None, Bool, true, false, nat_eq, refl, ap, ◌∙◌, sym, subst, arith, replicate}
 use Rattle.std.specs.Prelude.{slice_set, slice_index_or, if◌then◌else◌}
 use Rattle.std.proofs.Math.ListN.{length-set}
 use Rattle.std.proofs.lemmas.List.{get_or-set_other}
@@ -64,7 +65,8 @@ wait_home-elsewhere w None p l = tt
 wait_home-elsewhere w (Some q) p l = λ k m. let other : p * 16 + k ≢ head w q = omega arith in other
 
 -- the home of a task of another processor
-home-elsewhere : (w : WaitQueues) (sys : SystemTables) (x : TaskBlock) (p : ℕ) → Fits sys x → p < w.processors → p ≢ x.processor
+home-elsewhere : (w : WaitQueues) (sys : SystemTables) (x : TaskBlock) (p : ℕ) → Fits sys x → p < w.processors
+    → p ≢ x.processor
     → IsElsewhere (home w x) p
 home-elsewhere w sys x p f l ne = by_test (is_ready x) where
   by_test : (b : Bool)
@@ -86,7 +88,8 @@ joined-elsewhere by f r None t p other = refl
 joined-elsewhere by f r (Some h) t p other = most_urgent-elsewhere r h (enqueued (by h) f t (list_at r.lists h)) p other
 
 -- a processor whose most urgent ready task is the same is still at rest
-still : (cpus : List Processor) (old new : RingLists) (pending : PendingMarks) (p : ℕ) → most_urgent new p ≡ most_urgent old p
+still : (cpus : List Processor) (old new : RingLists) (pending : PendingMarks) (p : ℕ) → most_urgent new p
+    ≡ most_urgent old p
     → IsAtRest cpus old pending p → IsAtRest cpus new pending p
 still cpus old new pending p e rest = record {
   none = rest.none;
@@ -94,8 +97,10 @@ still cpus old new pending p e rest = record {
 }
 
 -- a task leaves its queue, on a processor that is marked
-pub at_rest_left : (marked : List Bool) (cpus : List Processor) (r : RingLists) (pending : PendingMarks) (w : WaitQueues)
-    (sys : SystemTables) (x : TaskBlock) (t : ℕ) → AreAtRest marked cpus r pending → w.processors ≡ length cpus → Fits sys x
+pub at_rest_left : (marked : List Bool) (cpus : List Processor) (r : RingLists) (pending : PendingMarks)
+    (w : WaitQueues)
+    (sys : SystemTables) (x : TaskBlock) (t : ℕ) → AreAtRest marked cpus r pending → w.processors ≡ length cpus
+    → Fits sys x
     → AreAtRest (slice_set marked x.processor true) cpus (record r { lists = left_from r.lists (home w x) t }) pending
 at_rest_left marked cpus r pending w sys x t rest same f = record {
   each =
@@ -108,9 +113,11 @@ at_rest_left marked cpus r pending w sys x t rest same f = record {
 
 -- a task joins its queue, on a processor that is marked
 pub at_rest_joined : (by : ℕ → QueueOrder) (f : ℕ → ℕ) (marked : List Bool) (cpus : List Processor) (r : RingLists)
-    (pending : PendingMarks) (w : WaitQueues) (sys : SystemTables) (x : TaskBlock) (t : ℕ) → AreAtRest marked cpus r pending
+    (pending : PendingMarks) (w : WaitQueues) (sys : SystemTables) (x : TaskBlock) (t : ℕ)
+    → AreAtRest marked cpus r pending
     → w.processors ≡ length cpus → Fits sys x
-    → AreAtRest (slice_set marked x.processor true) cpus (record r { lists = joined_to by f r.lists (home w x) t }) pending
+    → AreAtRest (slice_set marked x.processor true) cpus (record r { lists = joined_to by f r.lists (home w x) t })
+    pending
 at_rest_joined by f marked cpus r pending w sys x t rest same fits = record {
   each =
       λ p l e. let parts = set-marked marked x.processor p e in
@@ -121,9 +128,11 @@ at_rest_joined by f marked cpus r pending w sys x t rest same fits = record {
 }
 
 -- a ready queue of a processor that is marked changes
-pub at_rest_queue : (marked : List Bool) (cpus : List Processor) (r : RingLists) (pending : PendingMarks) (q priority : ℕ)
+pub at_rest_queue : (marked : List Bool) (cpus : List Processor) (r : RingLists) (pending : PendingMarks)
+    (q priority : ℕ)
     (l : List ℕ) → AreAtRest marked cpus r pending → 1 ≤ priority → priority ≤ 16
-    → AreAtRest (slice_set marked q true) cpus (record r { lists = slice_set r.lists (ready_head q priority) l }) pending
+    → AreAtRest (slice_set marked q true) cpus (record r { lists = slice_set r.lists (ready_head q priority) l })
+    pending
 at_rest_queue marked cpus r pending q priority l rest low high = record {
   each =
       λ p m e. let parts = set-marked marked q p e in
@@ -155,7 +164,8 @@ set_other (y ∷ ys) (suc p) zero x e = refl
 set_other (y ∷ ys) (suc p) (suc q) x e = let other : p ≢ q = omega arith in set_other ys p q x other
 
 -- a processor that is marked becomes another
-pub at_rest_set : (marked : List Bool) (cpus : List Processor) (r : RingLists) (pending : PendingMarks) (q : ℕ) (x : Processor)
+pub at_rest_set : (marked : List Bool) (cpus : List Processor) (r : RingLists) (pending : PendingMarks) (q : ℕ)
+    (x : Processor)
     → AreAtRest marked cpus r pending → AreAtRest (slice_set marked q true) (slice_set cpus q x) r pending
 at_rest_set marked cpus r pending q x rest = record {
   each =
@@ -170,7 +180,8 @@ at_rest_set marked cpus r pending q x rest = record {
 }
 
 -- all are marked
-pub at_rest_all : (cpus : List Processor) (r : RingLists) (pending : PendingMarks) → AreAtRest (replicate 8 true) cpus r pending
+pub at_rest_all : (cpus : List Processor) (r : RingLists) (pending : PendingMarks)
+    → AreAtRest (replicate 8 true) cpus r pending
 at_rest_all cpus r pending = record { each = λ p l e. let yes = all-marked 8 p in cc }
 
 set-unmarked : (marked : List Bool) (p q : ℕ) → slice_index_or (slice_set marked p false) q true ≡ false → q ≢ p
@@ -187,7 +198,8 @@ pub at_rest_unmarked : (marked : List Bool) (cpus : List Processor) (r : RingLis
 at_rest_unmarked marked cpus r pending q rest here = record {
   each = λ p l e. by_test p l e (nat_eq p q) refl;
 } where
-  by_test : (p : ℕ) → p < length cpus → slice_index_or (slice_set marked q false) p true ≡ false → (b : Bool) → nat_eq p q ≡ b
+  by_test : (p : ℕ) → p < length cpus → slice_index_or (slice_set marked q false) p true ≡ false → (b : Bool)
+      → nat_eq p q ≡ b
       → IsAtRest cpus r pending p
   by_test p l e true d = subst (λ (n : ℕ). IsAtRest cpus r pending n) (sym (nat_same p q d)) here
   by_test p l e false d = rest.each p l (set-unmarked marked q p e (nat_apart p q d))

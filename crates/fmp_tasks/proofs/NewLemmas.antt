@@ -1,5 +1,6 @@
 -- The tables of a system in which no task has started are sound.
-use Rattle.std.proofs.Common.{◌≡◌, ℕ, zero, suc, ◌+◌, ◌*◌, ◌≤◌, ◌^◌, List, [], ◌∷◌, length, Option, None, false, refl, ap, ◌∙◌, sym, replicate, map, arith}
+use Rattle.std.proofs.Common.{◌≡◌, ℕ, zero, suc, ◌+◌, ◌*◌, ◌≤◌, ◌^◌, List, [], ◌∷◌, length, Option, None, false, refl}
+use Rattle.std.proofs.Common.{ap, ◌∙◌, sym, replicate, map, arith}
 use Rattle.std.specs.List.{AllByRecursion}
 use Rattle.fmp_base.specs.declared.states.TaskBlock.{TaskBlock}
 use Rattle.fmp_base.specs.declared.systems.QueueOrder.{QueueOrder}
@@ -26,13 +27,22 @@ nothing : (by : QueueOrder) (f : ℕ → ℕ) → arranged by f [] ≡ []
 nothing Fifo f = refl
 nothing Priority f = refl
 
-Kept-nothing : (home : TaskBlock → Option ℕ) (by : ℕ → QueueOrder) (tasks : List TaskBlock) (n : ℕ) → Kept home by tasks [] (replicate n [])
+Kept-nothing : (home : TaskBlock → Option ℕ) (by : ℕ → QueueOrder) (tasks : List TaskBlock) (n : ℕ)
+    → Kept home by tasks [] (replicate n [])
 Kept-nothing home by tasks n = record { each = λ h l. empty-list n h ∙ sym (nothing (by h) (priority_in tasks)) }
 
 created-fits : (sys : SystemTables) (c : TaskConfig) → TaskInRange sys.processors c → Fits sys (created c)
-created-fits sys c k = record { urgent = k.priority.least; least = k.priority.most; processor = k.processor; next_processor = tt; queue = tt; dormant = refl }
+created-fits sys c k = record {
+  urgent = k.priority.least;
+  least = k.priority.most;
+  processor = k.processor;
+  next_processor = tt;
+  queue = tt;
+  dormant = refl;
+}
 
-all-created : (sys : SystemTables) (cs : List TaskConfig) → AllByRecursion (TaskInRange sys.processors) cs → AllFit sys (map created cs)
+all-created : (sys : SystemTables) (cs : List TaskConfig) → AllByRecursion (TaskInRange sys.processors) cs
+    → AllFit sys (map created cs)
 all-created sys [] h = tt
 all-created sys (c ∷ cs) h = (created-fits sys c h.0, all-created sys cs h.1)
 
@@ -63,10 +73,12 @@ Sound-new sys f =
       distinct = tt;
       standing = record { each = λ t l. sym (none-stands sys.tasks t) };
       processors = length-copies sys.processors 0;
-      exact = AreExact-new sys.processors (sys.processors * 16 + count_of_lists (counts_of sys)) (length sys.tasks) few (omega arith);
+      exact = AreExact-new sys.processors (sys.processors * 16 + count_of_lists (counts_of sys))
+          (length sys.tasks) few (omega arith);
       own_waits = refl;
       nodes = sym (length-map sys.tasks);
       heads = length-copies (sys.processors * 16 + count_of_lists (counts_of sys)) [];
-      kept = Kept-nothing (home (waits_of sys)) (order_with_head (waits_of sys) sys) (map created sys.tasks) (sys.processors * 16 + count_of_lists (counts_of sys));
+      kept = Kept-nothing (home (waits_of sys)) (order_with_head (waits_of sys) sys) (map created sys.tasks)
+          (sys.processors * 16 + count_of_lists (counts_of sys));
       deadlines_kept = none-due sys.tasks;
     }

@@ -1,5 +1,6 @@
 -- Where a task that joins a queue by priority comes: behind each that is as urgent.
-use Rattle.std.proofs.Common.{◌≡◌, ℕ, ◌<◌, ◌≤◌, List, [], ◌∷◌, ◌++◌, Option, Some, Bool, true, false, cond, nat_eq, refl, ap, ◌∙◌, sym, subst, arith, length}
+use Rattle.std.proofs.Common.{◌≡◌, ℕ, ◌<◌, ◌≤◌, List, [], ◌∷◌, ◌++◌, Option, Some, Bool, true, false, cond, nat_eq}
+use Rattle.std.proofs.Common.{refl, ap, ◌∙◌, sym, subst, arith, length}
 use Rattle.std.specs.Prelude.{slice_set, filter, ◌||◌}
 use Rattle.std.proofs.Math.ListN.{length-set}
 use Rattle.std.proofs.lemmas.Bool.{le-ltb}
@@ -55,7 +56,8 @@ Walked-sorted f x u (y ∷ ys) s i e = by_test (nat_eq u y) refl i (λ j. Walked
       let w : Walked f x ys (Some u) = rest j in
       let low : f y ≤ f u = AtLeast-in f (f y) u ys s.0 j in
       let below : f y ≤ f x = omega arith in
-      let later : from_node (Some u) ys ≡ from_node (Some u) (y ∷ ys) = ap (λ (q : List ℕ). u ∷ q) (sym (cut false d)) in
+      let later : from_node (Some u) ys ≡ from_node (Some u) (y ∷ ys) = ap (λ (q : List ℕ). u ∷ q)
+      (sym (cut false d)) in
       let past : behind_equals f x (y ∷ ys) ≡ y ∷ behind_equals f x ys = rw (le-ltb (f x) (f y) below) refl in
       record {
         past = y ∷ w.past;
@@ -97,7 +99,8 @@ ordered-left sys tasks order ready waits rings deadlines k t x lt fits = record 
       ∙ ap (λ (by : QueueOrder). arranged by f (filter F (without order t))) (queue_order waits sys q l ∙ e) in
       record {
         once =
-            rw (list, k.nodes) (IsOrder-queue Priority f F (length tasks) (without order t) (IsOrder-without _ _ _ k.distinct));
+            rw (list, k.nodes) (IsOrder-queue Priority f F (length tasks) (without order t)
+            (IsOrder-without _ _ _ k.distinct));
         behind = λ u m apart there urgent.
             let count : length now ≡ length tasks = length-set tasks t x in
             let m1 : u < length tasks = omega arith in

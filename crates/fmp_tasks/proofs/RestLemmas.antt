@@ -14,7 +14,8 @@ use Rattle.fmp_tasks.specs.Tables.{IsWhole, tables_view}
 use Rattle.fmp_tasks.proofs.SoundLemmas.{lists-enough, own_processors}
 use Rattle.fmp_tasks.proofs.TopLemmas.{most_urgent-is}
 
-quiet : (a : Inside) (p : ℕ) → IsWhole a → first_handler a.pending p ≡ pending_handler (tables_of a.system) (tables_view a).state p
+quiet : (a : Inside) (p : ℕ) → IsWhole a → first_handler a.pending p
+    ≡ pending_handler (tables_of a.system) (tables_view a).state p
 quiet a p w =
     let is = w.pending_interrupts in
     let cs = w.pending_cyclics in
@@ -22,9 +23,11 @@ quiet a p w =
     (record { processors = on; interrupts = a.pending.interrupts; cyclics = a.pending.cyclics }) p) w.handlers
     ∙ first_handler-is (tables_of a.system) (tables_view a).state p (omega (arith, is)) (omega (arith, cs))
 
-urgent : (a : Inside) (p : ℕ) → IsWhole a → p < a.system.processors → most_urgent a.rings p ≡ top (tables_view a).state p
+urgent : (a : Inside) (p : ℕ) → IsWhole a → p < a.system.processors → most_urgent a.rings p
+    ≡ top (tables_view a).state p
 urgent a p w l =
-    let there : p < a.waits.processors = subst (λ (n : ℕ). p < n) (sym (own_processors w.tasks ∙ w.tasks.processors)) l in
+    let there : p < a.waits.processors = subst (λ (n : ℕ). p < n) (sym (own_processors w.tasks ∙ w.tasks.processors))
+    l in
     most_urgent-is a.waits (tables_of a.system) _ _ _ _ w.tasks.blocks w.tasks.kept there (lists-enough w.tasks)
 
 pub unmarked_none : (a : Inside) (p : ℕ) → IsWhole a → p < a.system.processors → slice_index_or a.marks p true ≡ false

@@ -1,5 +1,6 @@
 -- The first of a ready queue goes to its end.
-use Rattle.std.proofs.Common.{◌≡◌, ℕ, zero, suc, ◌*◌, ◌<◌, ◌≤◌, List, [], ◌∷◌, ◌++◌, length, Option, Some, None, Bool, true, false, cond, nat_eq, refl, ap, ◌∙◌, sym, subst, arith, map, get_or-set_same}
+use Rattle.std.proofs.Common.{◌≡◌, ℕ, zero, suc, ◌*◌, ◌<◌, ◌≤◌, List, [], ◌∷◌, ◌++◌, length, Option, Some, None, Bool}
+use Rattle.std.proofs.Common.{true, false, cond, nat_eq, refl, ap, ◌∙◌, sym, subst, arith, map, get_or-set_same}
 use Rattle.std.specs.Prelude.{slice_set, not, ◌||◌}
 use Rattle.std.specs.List.{filter, list_any}
 use Rattle.std.proofs.lemmas.List.{set-set}
@@ -23,11 +24,13 @@ use Rattle.fmp_tasks.proofs.TopLemmas.{Fits-at, ready_fifo}
 filter-head : (p : ℕ → Bool) (l : List ℕ) (u : ℕ) (us : List ℕ) → filter p l ≡ u ∷ us → p u ≡ true
 filter-head p [] u us h = cc
 filter-head p (y ∷ ys) u us h = by_test (p y) refl h (filter-head p ys u us) where
-  by_test : (b : Bool) → p y ≡ b → cond b (y ∷ filter p ys) (filter p ys) ≡ u ∷ us → (filter p ys ≡ u ∷ us → p u ≡ true) → p u ≡ true
+  by_test : (b : Bool) → p y ≡ b → cond b (y ∷ filter p ys) (filter p ys) ≡ u ∷ us
+      → (filter p ys ≡ u ∷ us → p u ≡ true) → p u ≡ true
   by_test true e k rest = let same : y ≡ u = cc in subst (λ (z : ℕ). p z ≡ true) same e
   by_test false e k rest = rest k
 
-absent-filter : (F : ℕ → Bool) (t : ℕ) (l : List ℕ) → list_any (nat_eq t) l ≡ false → list_any (nat_eq t) (filter F l) ≡ false
+absent-filter : (F : ℕ → Bool) (t : ℕ) (l : List ℕ) → list_any (nat_eq t) l ≡ false → list_any (nat_eq t) (filter F l)
+    ≡ false
 absent-filter F t [] h = refl
 absent-filter F t (u ∷ us) h = by_test (nat_eq t u) refl h (λ k. absent-filter F t us k) where
   by_test : (b : Bool) → nat_eq t u ≡ b → (b || list_any (nat_eq t) us) ≡ false
@@ -60,10 +63,12 @@ without-absent t (u ∷ us) h = by_test (nat_eq t u) refl h (λ k. without-absen
       ap (λ (b : Bool). cond (not b) (u ∷ without us t) (without us t)) f ∙ ap (λ (l : List ℕ). u ∷ l) (rest k)
 
 without-first : (t : ℕ) (ts : List ℕ) → list_any (nat_eq t) ts ≡ false → without (t ∷ ts) t ≡ ts
-without-first t ts h = ap (λ (b : Bool). cond (not b) (t ∷ without ts t) (without ts t)) (nat_eq-same t) ∙ without-absent t ts h
+without-first t ts h = ap (λ (b : Bool). cond (not b) (t ∷ without ts t) (without ts t)) (nat_eq-same t)
+    ∙ without-absent t ts h
 
 -- the first of a list in FIFO order leaves it and joins it again
-rotates : (by : ℕ → QueueOrder) (f : ℕ → ℕ) (lists : List (List ℕ)) (h t : ℕ) (ts : List ℕ) → h < length lists → list_at lists h ≡ t ∷ ts
+rotates : (by : ℕ → QueueOrder) (f : ℕ → ℕ) (lists : List (List ℕ)) (h t : ℕ) (ts : List ℕ) → h < length lists
+    → list_at lists h ≡ t ∷ ts
     → list_any (nat_eq t) ts ≡ false → by h ≡ Fifo
     → slice_set lists h (rotated (list_at lists h)) ≡ joined_to by f (left_from lists (Some h) t) (Some h) t
 rotates by f lists h t ts l e d fifo =
@@ -71,8 +76,10 @@ rotates by f lists h t ts l e d fifo =
     ap (λ (q : List ℕ). slice_set lists h (rotated q)) e
     ∙ sym (set-set lists h ts (ts ++ t ∷ []))
     ∙ ap (λ (q : List ℕ). slice_set (slice_set lists h ts) h (q ++ t ∷ [])) (sym (get_or-set_same lists h ts [] l))
-    ∙ ap (λ (o : QueueOrder). slice_set (slice_set lists h ts) h (enqueued o f t (list_at (slice_set lists h ts) h))) (sym fifo)
-    ∙ ap (λ (q : List ℕ). slice_set (slice_set lists h q) h (enqueued (by h) f t (list_at (slice_set lists h q) h))) (sym w)
+    ∙ ap (λ (o : QueueOrder). slice_set (slice_set lists h ts) h (enqueued o f t (list_at (slice_set lists h ts) h)))
+    (sym fifo)
+    ∙ ap (λ (q : List ℕ). slice_set (slice_set lists h q) h (enqueued (by h) f t (list_at (slice_set lists h q) h)))
+    (sym w)
 
 at_home : (h : ℕ) (o : Option ℕ) → is_at h o ≡ true → o ≡ Some h
 at_home h None e = cc
@@ -94,7 +101,8 @@ module _ {sys : SystemTables} {tasks : List TaskBlock} {order ready : List ℕ} 
 
     listed : queue_at rings p priority ≡ filter (λ u. is_at (head p priority) (home waits (task_at tasks u))) order
     listed = k.kept.each (head p priority) below
-        ∙ ap (λ (by : QueueOrder). arranged by (priority_in tasks) (filter (λ u. is_at (head p priority) (home waits (task_at tasks u))) order)) fifo
+        ∙ ap (λ (by : QueueOrder). arranged by (priority_in tasks) (filter
+        (λ u. is_at (head p priority) (home waits (task_at tasks u))) order)) fifo
 
     lists_after : (ts : List ℕ) → queue_at rings p priority ≡ t ∷ ts
         → with_queue rings p priority (rotated (queue_at rings p priority))
@@ -103,33 +111,43 @@ module _ {sys : SystemTables} {tasks : List TaskBlock} {order ready : List ℕ} 
               (left_from rings.lists (home waits (task_at tasks t)) t) (home waits (task_at tasks t)) t;
         }
     lists_after ts e =
-        let order_of_list = subst (λ (q : List ℕ). IsOrder (length tasks) q) (sym listed ∙ e) (IsOrder-filter (length tasks) _ order k.distinct) in
-        let here : home waits (task_at tasks t) ≡ Some (head p priority) = at_home (head p priority) _ (filter-head _ order t ts (sym listed ∙ e)) in
+        let order_of_list = subst (λ (q : List ℕ). IsOrder (length tasks) q) (sym listed ∙ e)
+        (IsOrder-filter (length tasks) _ order k.distinct) in
+        let here : home waits (task_at tasks t) ≡ Some (head p priority) = at_home (head p priority) _
+        (filter-head _ order t ts (sym listed ∙ e)) in
         ap (λ (ls : List (List ℕ)). with_lists ls)
-        (rotates (order_with_head waits sys) (priority_in (slice_set tasks t (task_at tasks t))) rings.lists (head p priority) t ts below e order_of_list.1 fifo
-        ∙ ap (λ (o : Option ℕ). joined_to (order_with_head waits sys) (priority_in (slice_set tasks t (task_at tasks t))) (left_from rings.lists o t) o t) (sym here))
+        (rotates (order_with_head waits sys) (priority_in (slice_set tasks t (task_at tasks t))) rings.lists
+        (head p priority) t ts below e order_of_list.1 fifo
+        ∙ ap (λ (o : Option ℕ). joined_to (order_with_head waits sys) (priority_in
+        (slice_set tasks t (task_at tasks t))) (left_from rings.lists o t) o t) (sym here))
       where
         with_lists : List (List ℕ) → RingLists
         with_lists ls = record rings { lists = ls }
 
     -- after the first ready task of a priority went to the end
-    pub Sound-rotated : (after : RingLists) → t < length tasks → is_ready (task_at tasks t) ≡ true → Some t ≡ first_of (queue_at rings p priority)
+    pub Sound-rotated : (after : RingLists) → t < length tasks → is_ready (task_at tasks t) ≡ true → Some t
+        ≡ first_of (queue_at rings p priority)
         → after ≡ with_queue rings p priority (rotated (queue_at rings p priority)) → AreExact ready after
         → Sound sys tasks (to_end order t) ready waits after deadlines
     Sound-rotated after l able e r exact = by_list (queue_at rings p priority) refl e where
-      whole : (ts : List ℕ) → queue_at rings p priority ≡ t ∷ ts → Sound sys tasks (to_end order t) ready waits after deadlines
+      whole : (ts : List ℕ) → queue_at rings p priority ≡ t ∷ ts
+          → Sound sys tasks (to_end order t) ready waits after deadlines
       whole ts q =
           let x = task_at tasks t in
-          let s = Sound-last k t x l (Fits-at t k.blocks l) x ready after (in_order able) refl refl exact (r ∙ lists_after ts q) in
+          let s = Sound-last k t x l (Fits-at t k.blocks l) x ready after (in_order able) refl refl exact
+          (r ∙ lists_after ts q) in
           let same : slice_set tasks t x ≡ tasks = set-task_at tasks t in
           let kept : slice_set deadlines t x.deadline ≡ deadlines =
           s.deadlines_kept ∙ ap (λ (xs : List TaskBlock). map (λ x. x.deadline) xs) same ∙ sym k.deadlines_kept in
           subst (λ (ds : List (Option ℕ)). Sound sys tasks (to_end order t) ready waits after ds) kept
-          (subst (λ (xs : List TaskBlock). Sound sys xs (to_end order t) ready waits after (slice_set deadlines t x.deadline)) same s)
+          (subst (λ (xs : List TaskBlock). Sound sys xs (to_end order t) ready waits after
+          (slice_set deadlines t x.deadline)) same s)
         where
           in_order : is_ready (task_at tasks t) ≡ true → is_in_order (task_at tasks t) ≡ true
           in_order a = rw a refl
 
-      by_list : (q : List ℕ) → queue_at rings p priority ≡ q → Some t ≡ first_of q → Sound sys tasks (to_end order t) ready waits after deadlines
+      by_list : (q : List ℕ) → queue_at rings p priority ≡ q → Some t ≡ first_of q
+          → Sound sys tasks (to_end order t) ready waits after deadlines
       by_list [] d f = cc
-      by_list (u ∷ us) d f = let same : t ≡ u = cc in whole us (subst (λ (v : ℕ). queue_at rings p priority ≡ v ∷ us) (sym same) d)
+      by_list (u ∷ us) d f = let same : t ≡ u = cc in whole us (subst (λ (v : ℕ). queue_at rings p priority ≡ v ∷ us)
+          (sym same) d)

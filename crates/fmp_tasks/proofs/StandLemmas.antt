@@ -1,5 +1,6 @@
 -- Who is in the order, and so in the list of its home.
-use Rattle.std.proofs.Common.{◌≡◌, ℕ, ◌<◌, List, [], ◌∷◌, ◌++◌, Option, Some, None, Bool, true, false, cond, not, nat_eq, nat_le, refl, ap, ◌∙◌, sym, subst, arith, length}
+use Rattle.std.proofs.Common.{◌≡◌, ℕ, ◌<◌, List, [], ◌∷◌, ◌++◌, Option, Some, None, Bool, true, false, cond, not}
+use Rattle.std.proofs.Common.{nat_eq, nat_le, refl, ap, ◌∙◌, sym, subst, arith, length}
 use Rattle.std.specs.Prelude.{slice_set, ◌&&◌, ◌||◌, if◌then◌else◌}
 use Rattle.std.specs.List.{filter, list_any}
 use Rattle.std.proofs.Math.ListN.{length-set}
@@ -29,7 +30,8 @@ any-append p (y ∷ ys) m = by_test (p y) (any-append p ys m) where
   by_test false rest = rest
 
 -- another task is there without t where it was there
-pub any-without : (u t : ℕ) (l : List ℕ) → nat_eq u t ≡ false → list_any (nat_eq u) (without l t) ≡ list_any (nat_eq u) l
+pub any-without : (u t : ℕ) (l : List ℕ) → nat_eq u t ≡ false → list_any (nat_eq u) (without l t)
+    ≡ list_any (nat_eq u) l
 any-without u t [] h = refl
 any-without u t (y ∷ ys) h = by_test (nat_eq y t) refl (any-without u t ys h) where
   by_test : (b : Bool) → nat_eq y t ≡ b → list_any (nat_eq u) (without ys t) ≡ list_any (nat_eq u) ys
@@ -59,7 +61,8 @@ others_at_end u t l h =
     ∙ any-without u t l h
 
 -- all but t stand as they did, and t as its new block says
-stood : (tasks : List TaskBlock) (order after : List ℕ) (t : ℕ) (x : TaskBlock) → Standing tasks order → t < length tasks
+stood : (tasks : List TaskBlock) (order after : List ℕ) (t : ℕ) (x : TaskBlock) → Standing tasks order
+    → t < length tasks
     → list_any (nat_eq t) after ≡ is_in_order x
     → ((u : ℕ) → nat_eq u t ≡ false → list_any (nat_eq u) after ≡ list_any (nat_eq u) order)
     → Standing (slice_set tasks t x) after
@@ -75,15 +78,20 @@ stood tasks order after t x k lt here others = record { each = λ u l. by_test u
       let l1 : u < length tasks = omega arith in
       others u e ∙ k.each u l1 ∙ ap is_in_order (sym (task-other tasks t u x e))
 
-pub Standing-last : (tasks : List TaskBlock) (order : List ℕ) (t : ℕ) (x : TaskBlock) → Standing tasks order → t < length tasks
+pub Standing-last : (tasks : List TaskBlock) (order : List ℕ) (t : ℕ) (x : TaskBlock) → Standing tasks order
+    → t < length tasks
     → is_in_order x ≡ true → Standing (slice_set tasks t x) (to_end order t)
-Standing-last tasks order t x k l e = stood tasks order (to_end order t) t x k l (at_end t order ∙ sym e) (λ u h. others_at_end u t order h)
+Standing-last tasks order t x k l e = stood tasks order (to_end order t) t x k l (at_end t order ∙ sym e)
+    (λ u h. others_at_end u t order h)
 
-pub Standing-left : (tasks : List TaskBlock) (order : List ℕ) (t : ℕ) (x : TaskBlock) → Standing tasks order → t < length tasks
+pub Standing-left : (tasks : List TaskBlock) (order : List ℕ) (t : ℕ) (x : TaskBlock) → Standing tasks order
+    → t < length tasks
     → is_in_order x ≡ false → Standing (slice_set tasks t x) (without order t)
-Standing-left tasks order t x k l e = stood tasks order (without order t) t x k l (without-gone t order ∙ sym e) (λ u h. any-without u t order h)
+Standing-left tasks order t x k l e = stood tasks order (without order t) t x k l (without-gone t order ∙ sym e)
+    (λ u h. any-without u t order h)
 
-pub Standing-stays : (tasks : List TaskBlock) (order : List ℕ) (t : ℕ) (x : TaskBlock) → Standing tasks order → t < length tasks
+pub Standing-stays : (tasks : List TaskBlock) (order : List ℕ) (t : ℕ) (x : TaskBlock) → Standing tasks order
+    → t < length tasks
     → is_in_order x ≡ is_in_order (task_at tasks t) → Standing (slice_set tasks t x) order
 Standing-stays tasks order t x k l e = stood tasks order order t x k l (k.each t l ∙ sym e) (λ u h. refl)
 
@@ -93,7 +101,8 @@ any-filter F t [] = and_false (F t) where
   and_false true = refl
   and_false false = refl
 any-filter F t (y ∷ ys) = by_test (F y) refl (nat_eq t y) refl (any-filter F t ys) where
-  by_test : (b : Bool) → F y ≡ b → (c : Bool) → nat_eq t y ≡ c → list_any (nat_eq t) (filter F ys) ≡ (F t && list_any (nat_eq t) ys)
+  by_test : (b : Bool) → F y ≡ b → (c : Bool) → nat_eq t y ≡ c → list_any (nat_eq t) (filter F ys)
+      ≡ (F t && list_any (nat_eq t) ys)
       → list_any (nat_eq t) (cond b (y ∷ filter F ys) (filter F ys)) ≡ (F t && (c || list_any (nat_eq t) ys))
   by_test true e true d rest =
       let same : t ≡ y = nat_same t y d in
@@ -133,8 +142,10 @@ IsBelow n None = Unit {0}
 IsBelow n (Some h) = h < n
 
 -- a task that stands in the order is in the list of its home
-pub among : (home : TaskBlock → Option ℕ) (by : ℕ → QueueOrder) (tasks : List TaskBlock) (order : List ℕ) (lists : List (List ℕ)) (t : ℕ)
-    → Kept home by tasks order lists → Standing tasks order → t < length tasks → IsBelow (length lists) (home (task_at tasks t))
+pub among : (home : TaskBlock → Option ℕ) (by : ℕ → QueueOrder) (tasks : List TaskBlock) (order : List ℕ)
+    (lists : List (List ℕ)) (t : ℕ)
+    → Kept home by tasks order lists → Standing tasks order → t < length tasks
+    → IsBelow (length lists) (home (task_at tasks t))
     → ((h : ℕ) → home (task_at tasks t) ≡ Some h → is_in_order (task_at tasks t) ≡ true)
     → IsAmong t lists (home (task_at tasks t))
 among home by tasks order lists t kept k l below stays = by_home (home (task_at tasks t)) refl below where
@@ -150,13 +161,15 @@ among home by tasks order lists t kept k l below stays = by_home (home (task_at 
       ∙ there
 
 -- who has a queue stands in the order
-waiting_stands : (w : WaitQueues) (phase : Phase) (h : ℕ) → wait_home w (queue_of phase) ≡ Some h → is_waiting phase ≡ true
+waiting_stands : (w : WaitQueues) (phase : Phase) (h : ℕ) → wait_home w (queue_of phase) ≡ Some h → is_waiting phase
+    ≡ true
 waiting_stands w Dormant h e = cc
 waiting_stands w Ready h e = cc
 waiting_stands w (Waiting c) h e = refl
 
 pub home_stands : (w : WaitQueues) (x : TaskBlock) (h : ℕ) → home w x ≡ Some h → is_in_order x ≡ true
 home_stands w x h e = by_test (is_ready x) e where
-  by_test : (b : Bool) → (if b then Some (head x.processor x.priority) else wait_home w (queue_of x.phase)) ≡ Some h → (b || is_waiting x.phase) ≡ true
+  by_test : (b : Bool) → (if b then Some (head x.processor x.priority) else wait_home w (queue_of x.phase)) ≡ Some h
+      → (b || is_waiting x.phase) ≡ true
   by_test true d = refl
   by_test false d = waiting_stands w x.phase h d

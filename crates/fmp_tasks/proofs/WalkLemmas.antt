@@ -1,5 +1,6 @@
 -- A walk over all nodes of a list, which counts them.
-use Rattle.std.proofs.Common.{◌≡◌, ℕ, ◌+◌, ◌<◌, ◌≤◌, List, [], ◌∷◌, ◌++◌, Option, Some, None, length, true, ap, ◌∙◌, sym, arith, append_assoc, refl}
+use Rattle.std.proofs.Common.{◌≡◌, ℕ, ◌+◌, ◌<◌, ◌≤◌, List, [], ◌∷◌, ◌++◌, Option, Some, None, length, true, ap, ◌∙◌}
+use Rattle.std.proofs.Common.{sym, arith, append_assoc, refl}
 use Rattle.std.proofs.lemmas.List.{length-append}
 use Rattle.fmp_base.specs.Queues.{first_of}
 use Rattle.fmp_ring.specs.Orders.{IsOrder}
@@ -22,7 +23,8 @@ rest-from : (n u : ℕ) (l : List ℕ) (at : Option ℕ) (count : ℕ) → IsOrd
     → from_node at l ≡ behind u l
 rest-from n u l at count o w e = ap (λ (q : Option ℕ). from_node q l) e ∙ follower-rest n u l w.past o w.split
 
-pub past-one-more : (n u : ℕ) (l : List ℕ) (at : Option ℕ) (count : ℕ) → IsOrder n l → Past l (Some u) count → at ≡ follower u l
+pub past-one-more : (n u : ℕ) (l : List ℕ) (at : Option ℕ) (count : ℕ) → IsOrder n l → Past l (Some u) count → at
+    ≡ follower u l
     → Past l at (count + 1)
 past-one-more n u l at count o w e =
     record {
@@ -33,7 +35,8 @@ past-one-more n u l at count o w e =
     }
 
 -- each step leaves less
-pub past-shorter : (n u : ℕ) (l : List ℕ) (at : Option ℕ) (count : ℕ) → IsOrder n l → Past l (Some u) count → at ≡ follower u l
+pub past-shorter : (n u : ℕ) (l : List ℕ) (at : Option ℕ) (count : ℕ) → IsOrder n l → Past l (Some u) count → at
+    ≡ follower u l
     → length (from_node at l) < length (from_node (Some u) l)
 past-shorter n u l at count o w e = rw (rest-from n u l at count o w e) (omega arith)
 
@@ -44,7 +47,8 @@ past-in u l count w = rw w.split (in-split u w.past (behind u l))
 pub past-few : (n u : ℕ) (l : List ℕ) (count : ℕ) → IsOrder n l → Past l (Some u) count → count < n
 past-few n u l count o w =
     let most : length l ≤ n = IsOrder-length n l o in
-    let all : length l ≡ length w.past + length (u ∷ behind u l) = ap (λ (q : List ℕ). length q) w.split ∙ length-append w.past (u ∷ behind u l) in
+    let all : length l ≡ length w.past + length (u ∷ behind u l) = ap (λ (q : List ℕ). length q) w.split
+    ∙ length-append w.past (u ∷ behind u l) in
     let here : count ≡ length w.past = w.counted in
     omega arith
 

@@ -20,14 +20,16 @@ behind-few [] l = omega arith
 behind-few (w ∷ ws) l = omega arith
 
 -- a data queue holds at most 255 words
-few-found : (default : DataQueueConfig) (rows : List DataQueueConfig) (d : ℕ) → default.capacity ≤ 255 → AllByRecursion DataQueueInRange rows
+few-found : (default : DataQueueConfig) (rows : List DataQueueConfig) (d : ℕ) → default.capacity ≤ 255
+    → AllByRecursion DataQueueInRange rows
     → (found default (slice_get rows d)).capacity ≤ 255
 few-found default [] d l each = l
 few-found default (y ∷ ys) zero l each = each.0.capacity
 few-found default (y ∷ ys) (suc d) l each = few-found default ys d l each.1
 
 pub capacity-few : (sys : SystemTables) (d : ℕ) → IsInRange sys → (data_queue_config sys d).capacity ≤ 255
-capacity-few sys d k = few-found (record { name = no_name; order = Fifo; capacity = 0 }) sys.data_queues d (omega arith) k.data_queues.each
+capacity-few sys d k = few-found (record { name = no_name; order = Fifo; capacity = 0 }) sys.data_queues d
+    (omega arith) k.data_queues.each
 
 pub below-capacity : (a b : ℕ) → nat_lt a b ≡ true → a < b
 below-capacity a b h = grind (arith, nat_tests)

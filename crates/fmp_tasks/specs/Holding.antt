@@ -16,7 +16,8 @@ waiting_there sys s (Some q) = wait_queue sys s q
 abbrev pub queue_holding : SystemTables → KernelState → ℕ → List ℕ
 queue_holding sys s t =
     if is_ready (task_at s.tasks t)
-    then filter (λ u. nat_eq (priority_in s.tasks u) (priority_in s.tasks t)) (ready_queue s (task_at s.tasks t).processor)
+    then filter (λ u. nat_eq (priority_in s.tasks u) (priority_in s.tasks t))
+    (ready_queue s (task_at s.tasks t).processor)
     else waiting_there sys s (queue_of (task_at s.tasks t).phase)
 
 -- the messages of the mailbox in which message g is queued; empty if it is queued nowhere

@@ -1,6 +1,7 @@
 -- Where a task stands: by its block it has a place among the lists, of the ready queues first and then of the wait
 -- queues, or none.
-use Rattle.std.specs.Prelude.{◌≡◌, ℕ, ◌∷◌, [], ◌+◌, ◌-◌, ◌*◌, ◌<◌, ◌≤◌, List, Option, Some, None, Bool, true, false, ◌&&◌, ◌||◌, length, slice_set, filter, nat_eq, nat_lt, IfSome, if◌then◌else◌}
+use Rattle.std.specs.Prelude.{◌≡◌, ℕ, ◌∷◌, [], ◌+◌, ◌-◌, ◌*◌, ◌<◌, ◌≤◌, List, Option, Some, None, Bool, true, false}
+use Rattle.std.specs.Prelude.{◌&&◌, ◌||◌, length, slice_set, filter, nat_eq, nat_lt, IfSome, if◌then◌else◌}
 use Rattle.std.specs.List.{list_any}
 use Rattle.fmp_base.specs.declared.states.Phase.{Phase}
 use Rattle.fmp_base.specs.declared.states.Phase.TheVariants.{Dormant, Ready, Waiting}

@@ -1,5 +1,6 @@
 -- The least time, where a time is written.
-use Rattle.std.proofs.Common.{◌≡◌, ◌≢◌, ◌<◌, ◌≤◌, ◌+◌, ◌^◌, ◌-◌, ℕ, zero, suc, min, List, [], ◌∷◌, length, Option, Some, None, true, false, nat_eq, refl, ap, ◌∙◌, sym, arith}
+use Rattle.std.proofs.Common.{◌≡◌, ◌≢◌, ◌<◌, ◌≤◌, ◌+◌, ◌^◌, ◌-◌, ℕ, zero, suc, min, List, [], ◌∷◌, length, Option, Some}
+use Rattle.std.proofs.Common.{None, true, false, nat_eq, refl, ap, ◌∙◌, sym, arith}
 use Rattle.std.specs.Prelude.{slice_get, slice_set, eqb}
 use Rattle.std.specs.Option.{option_eq}
 use Rattle.std.proofs.lemmas.Bool.{eq-eqb}
@@ -40,15 +41,18 @@ least-read (Some h ∷ times) (suc c) before e =
     ap (min h) (least-read times c before e) ∙ lowered-over h (least_time (slice_set times c None)) before
 
 -- a handler that was not the first to be due leaves the least time of the others
-pub least-set : (times : List (Option ℕ)) (c : ℕ) (before due : Option ℕ) → slice_get times c ≡ Some before → before ≢ Some (least_time times)
+pub least-set : (times : List (Option ℕ)) (c : ℕ) (before due : Option ℕ) → slice_get times c ≡ Some before
+    → before ≢ Some (least_time times)
     → c < length times → least_time (slice_set times c due) ≡ lowered (least_time times) due
-least-set times c before due read other l = least-written times c due l ∙ ap (λ (n : ℕ). lowered n due) (rest before (least-read times c before read) other) where
-  rest : (o : Option ℕ) → least_time times ≡ lowered (least_time (slice_set times c None)) o → o ≢ Some (least_time times)
-      → least_time (slice_set times c None) ≡ least_time times
-  rest None e h = sym e
-  rest (Some b) e h =
-      let apart : b ≢ least_time times = λ s. h (ap (λ (n : ℕ). Some n) s) in
-      omega (arith, e)
+least-set times c before due read other l = least-written times c due l
+    ∙ ap (λ (n : ℕ). lowered n due) (rest before (least-read times c before read) other) where
+      rest : (o : Option ℕ) → least_time times ≡ lowered (least_time (slice_set times c None)) o
+          → o ≢ Some (least_time times)
+          → least_time (slice_set times c None) ≡ least_time times
+      rest None e h = sym e
+      rest (Some b) e h =
+          let apart : b ≢ least_time times = λ s. h (ap (λ (n : ℕ). Some n) s) in
+          omega (arith, e)
 
 -- a time of 32 bits is at most the greatest number
 pub least-fits : (times : List (Option ℕ)) → least_time times ≤ 2 ^ 32 - 1

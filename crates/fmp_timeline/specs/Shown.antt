@@ -1,5 +1,6 @@
 -- What the lanes show after an event.
-use Rattle.std.specs.Prelude.{ℕ, ◌≡◌, List, Option, None, Some, Bool, false, ◌&&◌, if◌then◌else◌, nat_eq, get_or, slice_get, length, map}
+use Rattle.std.specs.Prelude.{ℕ, ◌≡◌, List, Option, None, Some, Bool, false, ◌&&◌, if◌then◌else◌, nat_eq, get_or}
+use Rattle.std.specs.Prelude.{slice_get, length, map}
 use Rattle.std.specs.List.{range_with_len}
 use Rattle.fmp_base.specs.declared.events.StateWord.TheVariants as word
 use Rattle.fmp_base.specs.declared.events.TaskState.{TaskState}

@@ -13,7 +13,8 @@ use Rattle.fmp_tasklang.specs.Trees.{BodyTree}
 use Rattle.fmp_toppers.specs.declared.heads.TheConstants.{CONFIGURATION_HEAD}
 use Rattle.fmp_toppers.specs.declared.target.Target.{Target}
 use Rattle.fmp_toppers.specs.declared.target.Target.TheVariants as target
-use Rattle.fmp_toppers.specs.Lines.{api_closed, api_closed_by_null, api_opened, attribute, class_opened, count_field, entry_field, further, is_by_priority, lines, numbered, signed_field, time_field}
+use Rattle.fmp_toppers.specs.Lines.{api_closed, api_closed_by_null, api_opened, attribute, class_opened, count_field}
+use Rattle.fmp_toppers.specs.Lines.{entry_field, further, is_by_priority, lines, numbered, signed_field, time_field}
 
 unfoldable pub task_packet : (bodies : List BodyTree) → TaskConfig → List ℕ
 task_packet bodies t =

@@ -1,5 +1,6 @@
 -- The rows of the states that are kept.
-use Rattle.std.proofs.Common.{◌≡◌, ◌≤◌, ◌+◌, ℕ, suc, List, [], ◌∷◌, ◌++◌, Option, Some, None, refl, sym, ap, ◌∙◌, length, map, take, drop, slice_get, length-drop, arith}
+use Rattle.std.proofs.Common.{◌≡◌, ◌≤◌, ◌+◌, ℕ, suc, List, [], ◌∷◌, ◌++◌, Option, Some, None, refl, sym, ap, ◌∙◌}
+use Rattle.std.proofs.Common.{length, map, take, drop, slice_get, length-drop, arith}
 use Rattle.std.specs.Option.{option_map}
 use Rattle.std.proofs.lemmas.List.{drop-append-le, drop_at, map_push, take-append-le, take_all}
 use Rattle.std.proofs.lemmas.Option.{slice_get-map, slice_get_past}
@@ -7,7 +8,8 @@ use Rattle.fmp_visited.specs.declared.link.StateLink.{StateLink}
 use Rattle.fmp_visited.specs.declared.kept.State.{State}
 use Rattle.fmp_visited.specs.Kept.{AreWithin, KeptStates, kept_states, row_in}
 
-pub row-found : (bytes : List ℕ) (states : List State) (i : ℕ) (state : State) (kept : KeptStates) → kept_states bytes states ≡ kept
+pub row-found : (bytes : List ℕ) (states : List State) (i : ℕ) (state : State) (kept : KeptStates)
+    → kept_states bytes states ≡ kept
     → slice_get states i ≡ Some state → Some (row_in bytes state) ≡ slice_get kept.rows i
 row-found bytes states i state kept view e =
     sym (ap (λ (k : KeptStates). slice_get k.rows i) (sym view)
@@ -17,7 +19,8 @@ pub row-none : (bytes : List ℕ) (states : List State) (i : ℕ) (kept : KeptSt
     → length states ≤ i → None ≡ slice_get kept.rows i
 row-none bytes states i kept view past =
     sym (ap (λ (k : KeptStates). slice_get k.rows i) (sym view)
-    ∙ (slice_get-map (row_in bytes) states i ∙ ap (λ (o : Option State). option_map (row_in bytes) o) (slice_get_past states i past)))
+    ∙ (slice_get-map (row_in bytes) states i ∙ ap (λ (o : Option State). option_map (row_in bytes) o)
+    (slice_get_past states i past)))
 
 -- the row of a state stays where more bytes come
 row_in-append : (bytes row : List ℕ) (state : State) → state.start + state.length ≤ length bytes
@@ -32,9 +35,11 @@ row_in-end : (bytes row : List ℕ) (state : State) → state.start ≡ length b
     → row_in (bytes ++ row) state ≡ row
 unfolding row_in
 row_in-end bytes row state a b =
-    ap (λ (r : List ℕ). take state.length r) (drop_at bytes row state.start (sym a)) ∙ take_all state.length row (omega arith)
+    ap (λ (r : List ℕ). take state.length r) (drop_at bytes row state.start (sym a))
+    ∙ take_all state.length row (omega arith)
 
-within-first : (bytes : List ℕ) (s : State) (states : List State) → AreWithin bytes (s ∷ states) → s.start + s.length ≤ length bytes
+within-first : (bytes : List ℕ) (s : State) (states : List State) → AreWithin bytes (s ∷ states) → s.start
+    + s.length ≤ length bytes
 within-first bytes s states h = h 0 s (omega arith)
 
 within-rest : (bytes : List ℕ) (s : State) (states : List State) → AreWithin bytes (s ∷ states) → AreWithin bytes states
@@ -44,7 +49,8 @@ rows-append : (bytes row : List ℕ) (states : List State) → AreWithin bytes s
     → map (row_in (bytes ++ row)) states ≡ map (row_in bytes) states
 rows-append bytes row [] h = refl
 rows-append bytes row (s ∷ states) h =
-    ap (λ (r : List ℕ). r ∷ map (row_in (bytes ++ row)) states) (row_in-append bytes row s (within-first bytes s states h))
+    ap (λ (r : List ℕ). r ∷ map (row_in (bytes ++ row)) states) (row_in-append bytes row s
+    (within-first bytes s states h))
     ∙ ap (λ (rs : List (List ℕ)). row_in bytes s ∷ rs) (rows-append bytes row states (within-rest bytes s states h))
 
 abbrev link_of : State → StateLink
@@ -63,7 +69,8 @@ kept-more bytes row new states more state kept view h a b e f =
     map_push (row_in (bytes ++ row)) states state
     ∙ (ap (λ (r : List ℕ). map (row_in (bytes ++ row)) states ++ r ∷ []) (row_in-end bytes row state a b)
     ∙ ap (λ (rs : List (List ℕ)). rs ++ row ∷ []) (rows-append bytes row states h)) in
-    let links : map link_of (states ++ state ∷ []) ≡ map link_of states ++ state.link ∷ [] = map_push link_of states state in
+    let links : map link_of (states ++ state ∷ []) ≡ map link_of states ++ state.link
+    ∷ [] = map_push link_of states state in
     ap (λ (n : List ℕ). kept_states n more) e
     ∙ (ap (λ (m : List State). kept_states (bytes ++ row) m) f
     ∙ (ap (λ (rs : List (List ℕ)). kept_of rs (map link_of (states ++ state ∷ []))) rows

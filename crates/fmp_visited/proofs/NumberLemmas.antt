@@ -1,5 +1,6 @@
 -- Numbers in rows.
-use Rattle.std.proofs.Common.{◌≡◌, ◌<◌, ◌≤◌, ◌+◌, ◌-◌, ◌/◌, ◌%◌, ◌^◌, ℕ, zero, suc, Bool, true, false, cond, nat_lt, List, [], ◌∷◌, ◌++◌, refl, sym, ap, ◌∙◌, append_assoc, arith, lit<}
+use Rattle.std.proofs.Common.{◌≡◌, ◌<◌, ◌≤◌, ◌+◌, ◌-◌, ◌/◌, ◌%◌, ◌^◌, ℕ, zero, suc, Bool, true, false, cond, nat_lt}
+use Rattle.std.proofs.Common.{List, [], ◌∷◌, ◌++◌, refl, sym, ap, ◌∙◌, append_assoc, arith, lit<}
 use Rattle.std.proofs.Math.Nat.{pow-suc}
 use Rattle.std.proofs.lemmas.Bool.{ltb-true, lt-ltb, le-ltb}
 use Rattle.std.proofs.lemmas.Nat.{div_below}
@@ -7,17 +8,20 @@ use Rattle.fmp_visited.specs.Rows.{bytes_of, number_in}
 
 -- the last byte
 pub number-last : (most n : ℕ) → n < 128 → number_in (suc most) n ≡ n ∷ []
-number-last most n lt = ap (λ (b : Bool). cond b (n ∷ []) ((n % 128 + 128) ∷ number_in most (n / 128))) (lt-ltb n 128 lt)
+number-last most n lt = ap (λ (b : Bool). cond b (n ∷ []) ((n % 128 + 128) ∷ number_in most (n / 128)))
+    (lt-ltb n 128 lt)
 
 -- one of the others
 pub number-more : (most n : ℕ) → 128 ≤ n → number_in (suc most) n ≡ (n % 128 + 128) ∷ number_in most (n / 128)
-number-more most n le = ap (λ (b : Bool). cond b (n ∷ []) ((n % 128 + 128) ∷ number_in most (n / 128))) (le-ltb n 128 le)
+number-more most n le = ap (λ (b : Bool). cond b (n ∷ []) ((n % 128 + 128) ∷ number_in most (n / 128)))
+    (le-ltb n 128 le)
 
 shorter : (most n : ℕ) → n < 128 ^ suc most → n / 128 < 128 ^ most
 shorter most n lt = div_below n 128 (128 ^ most) (lit< tt) (omega (arith, lt, pow-suc 128 most))
 
 -- which number bytes begin with, and what stands behind it
-number-told : (most a b : ℕ) (x y : List ℕ) → a < 128 ^ most → b < 128 ^ most → number_in most a ++ x ≡ number_in most b ++ y
+number-told : (most a b : ℕ) (x y : List ℕ) → a < 128 ^ most → b < 128 ^ most → number_in most a ++ x
+    ≡ number_in most b ++ y
     → (a ≡ b) × (x ≡ y)
 number-told zero a b x y p q e = (omega arith, e)
 number-told (suc most) a b x y p q e =
@@ -42,7 +46,8 @@ number-told (suc most) a b x y p q e =
           let high : a / 128 ≡ b / 128 = both.0 in
           (omega (arith, head, high), both.1)
 
-pub bytes-told : (a b : ℕ) (x y : List ℕ) → a < 2 ^ 32 → b < 2 ^ 32 → bytes_of a ++ x ≡ bytes_of b ++ y → (a ≡ b) × (x ≡ y)
+pub bytes-told : (a b : ℕ) (x y : List ℕ) → a < 2 ^ 32 → b < 2 ^ 32 → bytes_of a ++ x ≡ bytes_of b ++ y → (a ≡ b)
+    × (x ≡ y)
 unfolding bytes_of
 bytes-told a b x y p q e = number-told 5 a b x y (omega arith) (omega arith) e
 
@@ -59,12 +64,14 @@ bytes-more i n lt great =
     ap (λ (k : ℕ). number_in k n) left ∙ number-more (5 - (i + 1)) n great
 
 -- a number that was written as far as its last byte
-pub written-last : (row front : List ℕ) (i n : ℕ) (all : List ℕ) → i < 5 → n < 128 → row ++ number_in (5 - i) n ≡ front ++ all
+pub written-last : (row front : List ℕ) (i n : ℕ) (all : List ℕ) → i < 5 → n < 128 → row ++ number_in (5 - i) n
+    ≡ front ++ all
     → row ++ n ∷ [] ≡ front ++ all
 written-last row front i n all lt small e = ap (λ (bytes : List ℕ). row ++ bytes) (sym (bytes-last i n lt small)) ∙ e
 
 -- a number of which one more byte is written
-pub written-more : (row front : List ℕ) (i n : ℕ) (all : List ℕ) → i < 5 → 128 ≤ n → row ++ number_in (5 - i) n ≡ front ++ all
+pub written-more : (row front : List ℕ) (i n : ℕ) (all : List ℕ) → i < 5 → 128 ≤ n → row ++ number_in (5 - i) n
+    ≡ front ++ all
     → (row ++ (n % 128 + 128) ∷ []) ++ number_in (5 - (i + 1)) (n / 128) ≡ front ++ all
 written-more row front i n all lt great e =
     append_assoc row ((n % 128 + 128) ∷ []) (number_in (5 - (i + 1)) (n / 128))

@@ -1,5 +1,8 @@
 -- What is read from rows.
-use Rattle.std.proofs.Common.{◌≡◌, ◌<◌, ◌≤◌, ◌+◌, ◌-◌, ◌*◌, ◌/◌, ◌%◌, ◌^◌, ℕ, zero, suc, Bool, true, false, cond, nat_eq, List, [], ◌∷◌, ◌++◌, inl, inr, refl, sym, ap, ◌∙◌, append_assoc, add_assoc, add-zero, mul-add, mul-zero, mul-suc, mul_assoc, mul_comm, mul-le-mul_right, div-add-mod', get_or, length, take, drop, arith, lit≤, min}
+use Rattle.std.proofs.Common.{◌≡◌, ◌<◌, ◌≤◌, ◌+◌, ◌-◌, ◌*◌, ◌/◌, ◌%◌, ◌^◌, ℕ, zero, suc, Bool, true, false, cond}
+use Rattle.std.proofs.Common.{nat_eq, List, [], ◌∷◌, ◌++◌, inl, inr, refl, sym, ap, ◌∙◌, append_assoc, add_assoc}
+use Rattle.std.proofs.Common.{add-zero, mul-add, mul-zero, mul-suc, mul_assoc, mul_comm, mul-le-mul_right, div-add-mod'}
+use Rattle.std.proofs.Common.{get_or, length, take, drop, arith, lit≤, min}
 use Rattle.std.specs.Prelude.{not}
 use Rattle.std.proofs.lemmas.Bool.{cases_lt, eqb-true, eqb-false}
 use Rattle.std.proofs.lemmas.List.{drop-drop, drop_all, get_or-drop, take_all, take_more}
@@ -29,11 +32,13 @@ pub record IsReading (row : List ℕ) (count number unit at n : ℕ) (rest : Lis
   pub value : n ≡ number + unit * left
   pub bytes : drop at row ≡ number_in (5 - count) left ++ rest
 
-pub reading-begun : (row : List ℕ) (at n : ℕ) (rest : List ℕ) → drop at row ≡ bytes_of n ++ rest → IsReading row 0 0 1 at n rest
+pub reading-begun : (row : List ℕ) (at n : ℕ) (rest : List ℕ) → drop at row ≡ bytes_of n ++ rest
+    → IsReading row 0 0 1 at n rest
 unfolding bytes_of
 reading-begun row at n rest e = record { left = n; value = omega arith; bytes = e }
 
-first-last : (count left : ℕ) (rest : List ℕ) → count < 5 → left < 128 → number_in (5 - count) left ++ rest ≡ left ∷ rest
+first-last : (count left : ℕ) (rest : List ℕ) → count < 5 → left < 128 → number_in (5 - count) left ++ rest ≡ left
+    ∷ rest
 first-last count left rest lt small = ap (λ (b : List ℕ). b ++ rest) (bytes-last count left lt small)
 
 first-more : (count left : ℕ) (rest : List ℕ) → count < 5 → 128 ≤ left
@@ -54,7 +59,8 @@ reading-there row count number unit at n rest lt past r =
 -- unit * (q * 128 + d) is d * unit and unit * 128 * q
 spread : (unit q d : ℕ) → unit * (q * 128 + d) ≡ d * unit + unit * 128 * q
 spread unit q d =
-    let first : unit * (q * 128) ≡ unit * 128 * q = ap (λ (n : ℕ). unit * n) (mul_comm q 128) ∙ sym (mul_assoc unit 128 q) in
+    let first : unit * (q * 128) ≡ unit * 128 * q = ap (λ (n : ℕ). unit * n) (mul_comm q 128)
+    ∙ sym (mul_assoc unit 128 q) in
     let second : unit * d ≡ d * unit = mul_comm unit d in
     mul-add unit (q * 128) d ∙ omega (arith, first, second)
 
@@ -65,7 +71,8 @@ pub reading-more : (row : List ℕ) (count number unit at n : ℕ) (rest : List 
 reading-more row count number unit at n rest lt high r =
     elim (cases_lt r.left 128) [
       | inl small ↦
-          let here : get_or row at 0 ≡ r.left = at-first row at r.left rest (r.bytes ∙ first-last count r.left rest lt small) in
+          let here : get_or row at 0 ≡ r.left = at-first row at r.left rest
+          (r.bytes ∙ first-last count r.left rest lt small) in
           absurd (omega (arith, here, small, high))
       | inr great ↦
           let q : ℕ = r.left / 128 in
@@ -111,17 +118,20 @@ none_left unit zero n lt le = refl
 none_left unit (suc left) n lt le = absurd (omega (arith, lt, le, mul-suc unit left))
 
 -- as many bytes as there may be
-pub reading-end : (row : List ℕ) (count number unit at n : ℕ) (rest : List ℕ) → count ≡ 5 → unit ≡ 128 ^ count → n < 2 ^ 32
+pub reading-end : (row : List ℕ) (count number unit at n : ℕ) (rest : List ℕ) → count ≡ 5 → unit ≡ 128 ^ count
+    → n < 2 ^ 32
     → IsReading row count number unit at n rest → (number ≡ n) × (drop at row ≡ rest)
 reading-end row count number unit at n rest five power small r =
     let great : unit ≡ 128 ^ 5 = power ∙ ap (λ (k : ℕ). 128 ^ k) five in
     let within : unit * r.left ≤ n = omega (arith, r.value) in
     let none : r.left ≡ 0 = none_left unit r.left n (omega (arith, great, small)) within in
-    let value : n ≡ number + 0 = r.value ∙ (ap (λ (m : ℕ). number + unit * m) none ∙ ap (λ (m : ℕ). number + m) (mul-zero unit)) in
+    let value : n ≡ number + 0 = r.value ∙ (ap (λ (m : ℕ). number + unit * m) none
+    ∙ ap (λ (m : ℕ). number + m) (mul-zero unit)) in
     (omega (arith, value), r.bytes ∙ ap (λ (k : ℕ). number_in (5 - k) r.left ++ rest) five)
 
 -- what was read fits
-pub read-fits : (count number unit byte : ℕ) → unit ≡ 128 ^ count → number < unit → number + byte % 128 * unit < unit * 128
+pub read-fits : (count number unit byte : ℕ) → unit ≡ 128 ^ count → number < unit → number
+    + byte % 128 * unit < unit * 128
 read-fits count number unit byte power small =
     let times : byte % 128 * unit ≤ 127 * unit = mul-le-mul_right unit (omega arith) in
     omega (arith, times, small)
@@ -179,7 +189,8 @@ pub unpack-there : (row first v new : List ℕ) (group at : ℕ) → group < len
 unpack-there row first v new group at lt past u =
     let s : ℕ = group * 8 in
     at-none row at (mask_of (group_at s first) (group_at s v))
-    (changes_of (group_at s first) (group_at s v) ++ groups_from (length first / 8 + 1 - (group + 1)) ((group + 1) * 8) first v)
+    (changes_of (group_at s first) (group_at s v) ++ groups_from (length first / 8 + 1 - (group + 1))
+    ((group + 1) * 8) first v)
     past (u.bytes ∙ groups-more (length first / 8 + 1) group first v lt)
 
 pub unpack-end : (row first v new : List ℕ) (group at : ℕ) → length v ≡ length first → length first / 8 + 1 ≤ group
@@ -187,14 +198,16 @@ pub unpack-end : (row first v new : List ℕ) (group at : ℕ) → length v ≡ 
 unpack-end row first v new group at same le u = u.values ∙ take_all (group * 8) v (omega arith)
 
 -- the values of a field whose bytes stand there if it differs
-pub value-differs : (s d : Bool) (bytes rest all : List ℕ) → d ≡ not s → d ≡ true → all ≡ cond s [] bytes ++ rest → all ≡ bytes ++ rest
+pub value-differs : (s d : Bool) (bytes rest all : List ℕ) → d ≡ not s → d ≡ true → all ≡ cond s [] bytes ++ rest
+    → all ≡ bytes ++ rest
 value-differs true d bytes rest all e is k = let clash : true ≡ false = sym is ∙ e in cc
 value-differs false d bytes rest all e is k = k
 
 pub value-same : (value first : ℕ) (d : Bool) (bytes rest all : List ℕ) → d ≡ not (nat_eq value first) → d ≡ false
     → all ≡ cond (nat_eq value first) [] bytes ++ rest → (first ≡ value) × (all ≡ rest)
 value-same value first d bytes rest all e is k = by_test (nat_eq value first) refl e k where
-  by_test : (s : Bool) → nat_eq value first ≡ s → d ≡ not s → all ≡ cond s [] bytes ++ rest → (first ≡ value) × (all ≡ rest)
+  by_test : (s : Bool) → nat_eq value first ≡ s → d ≡ not s → all ≡ cond s [] bytes ++ rest → (first ≡ value)
+      × (all ≡ rest)
   by_test true same h m = (sym (eqb-true value first same), m)
   by_test false same h m = let clash : true ≡ false = sym h ∙ is in absurd cc
 
@@ -207,8 +220,10 @@ power-small (suc (suc (suc (suc zero)))) lt = lit≤ tt
 power-small (suc (suc (suc (suc (suc k))))) lt = absurd (omega arith)
 
 -- one more value
-pub unpacking-more : (row first v old new more : List ℕ) (k mask at value behind : ℕ) (rest : List ℕ) → length v ≡ length first
-    → k < length first → IsUnpacking row first v old new k mask at rest → more ≡ new ++ value ∷ [] → value ≡ get_or v k 0
+pub unpacking-more : (row first v old new more : List ℕ) (k mask at value behind : ℕ) (rest : List ℕ) → length v
+    ≡ length first
+    → k < length first → IsUnpacking row first v old new k mask at rest → more ≡ new ++ value ∷ [] → value
+    ≡ get_or v k 0
     → drop behind row ≡ changes_of (drop (k + 1) first) (drop (k + 1) v) ++ rest
     → IsUnpacking row first v old more (k + 1) (mask / 2) behind rest
 unpacking-more row first v old new more k mask at value behind rest same lt u e is bytes =
@@ -242,7 +257,8 @@ unpacking-end row first v old new k mask at rest same le u = (
 )
 
 -- what stands where a group begins
-pub unpack-group : (row first v new fields : List ℕ) (group at : ℕ) → group < length first / 8 + 1 → fields ≡ group_at (group * 8) first
+pub unpack-group : (row first v new fields : List ℕ) (group at : ℕ) → group < length first / 8 + 1 → fields
+    ≡ group_at (group * 8) first
     → AreUnpacked row first v new group at
     → (get_or row at 0 ≡ mask_of fields (group_at (group * 8) v))
     × (drop (at + 1) row

@@ -1,7 +1,11 @@
 -- Rows tell values.
-use Rattle.std.proofs.Common.{◌≡◌, ◌<◌, ◌≤◌, ◌+◌, ◌-◌, ◌*◌, ◌/◌, ◌^◌, min, ℕ, zero, suc, Bool, true, false, cond, nat_eq, List, [], ◌∷◌, ◌++◌, refl, sym, ap, subst, ◌∙◌, append_assoc, append-nil, add_assoc, add-zero, zero-add, mul_assoc, mul-add, mul-one, mul-zero, le-add_right, pow-suc, inl, inr, get_or, length, take, drop, arith, length-drop}
+use Rattle.std.proofs.Common.{◌≡◌, ◌<◌, ◌≤◌, ◌+◌, ◌-◌, ◌*◌, ◌/◌, ◌^◌, min, ℕ, zero, suc, Bool, true, false, cond}
+use Rattle.std.proofs.Common.{nat_eq, List, [], ◌∷◌, ◌++◌, refl, sym, ap, subst, ◌∙◌, append_assoc, append-nil}
+use Rattle.std.proofs.Common.{add_assoc, add-zero, zero-add, mul_assoc, mul-add, mul-one, mul-zero, le-add_right}
+use Rattle.std.proofs.Common.{pow-suc, inl, inr, get_or, length, take, drop, arith, length-drop}
 use Rattle.std.proofs.lemmas.Bool.{cases_lt, eqb-true, eq-eqb, ne_eqb}
-use Rattle.std.proofs.lemmas.List.{length-take, get_or-take, get_or-drop, drop-drop, drop_all, drop_more, take-append-drop}
+use Rattle.std.proofs.lemmas.List.{length-take, get_or-take, get_or-drop, drop-drop, drop_all, drop_more}
+use Rattle.std.proofs.lemmas.List.{take-append-drop}
 use Rattle.std.proofs.lemmas.Nat.{pow_below, pow_pos}
 use Rattle.fmp_visited.specs.Rows.{AreValues, bytes_of, changes_of, group_at, groups_from, mask_of, row_of}
 use Rattle.fmp_visited.proofs.NumberLemmas.{bytes-told}
@@ -26,7 +30,8 @@ values-rest a v h k d lt = h (suc k) d (omega arith)
 pub values-group : (s : ℕ) (v : List ℕ) → AreValues v → AreValues (group_at s v)
 unfolding group_at
 values-group s v h k d lt =
-    let few : length (take 8 (drop s v)) ≡ min 8 (length v - s) = length-take 8 (drop s v) ∙ ap (λ (n : ℕ). min 8 n) (length-drop s v) in
+    let few : length (take 8 (drop s v)) ≡ min 8 (length v - s) = length-take 8 (drop s v)
+    ∙ ap (λ (n : ℕ). min 8 n) (length-drop s v) in
     let low : k < 8 = omega (arith, lt, few) in
     let there : s + k < length v = omega (arith, lt, few) in
     subst (λ (x : ℕ). x < 2 ^ 32) (sym (get_or-take 8 (drop s v) k d low ∙ get_or-drop s v k d)) (h (s + k) d there)
@@ -43,7 +48,8 @@ changes-told (b ∷ f) (a ∷ v) [] x y m n p q masks e = absurd cc
 changes-told (b ∷ f) (a ∷ v) (c ∷ w) x y m n p q masks e =
     by_tests (nat_eq a b) (nat_eq c b) refl refl masks e
     (changes-told f v w x y (omega arith) (omega arith) (values-rest a v p) (values-rest c w q)) where
-      by_tests : (s t : Bool) → nat_eq a b ≡ s → nat_eq c b ≡ t → cond s 0 1 + 2 * mask_of f v ≡ cond t 0 1 + 2 * mask_of f w
+      by_tests : (s t : Bool) → nat_eq a b ≡ s → nat_eq c b ≡ t → cond s 0 1 + 2 * mask_of f v ≡ cond t 0 1
+          + 2 * mask_of f w
           → (cond s [] (bytes_of a) ++ changes_of f v) ++ x ≡ (cond t [] (bytes_of c) ++ changes_of f w) ++ y
           → (mask_of f v ≡ mask_of f w → changes_of f v ++ x ≡ changes_of f w ++ y → (v ≡ w) × (x ≡ y))
           → ((a ∷ v) ≡ (c ∷ w)) × (x ≡ y)
@@ -56,7 +62,8 @@ changes-told (b ∷ f) (a ∷ v) (c ∷ w) x y m n p q masks e =
       by_tests true false s t k l rest = absurd (omega arith)
       by_tests false true s t k l rest = absurd (omega arith)
       by_tests false false s t k l rest =
-          let front = bytes-told a c (changes_of f v ++ x) (changes_of f w ++ y) (values-first a v p) (values-first c w q)
+          let front = bytes-told a c (changes_of f v ++ x) (changes_of f w ++ y) (values-first a v p)
+          (values-first c w q)
           (sym (append_assoc (bytes_of a) (changes_of f v) x) ∙ (l ∙ append_assoc (bytes_of c) (changes_of f w) y)) in
           let both = rest (omega arith) front.1 in
           let first : a ≡ c = front.0 in
@@ -75,7 +82,8 @@ group-told s f v w x y m n p q e =
     let other : length (group_at s w) ≡ min 8 (length w - s) = length-group s w in
     let masks : mask_of (group_at s f) (group_at s v) ≡ mask_of (group_at s f) (group_at s w) = cc in
     let behind : changes_of (group_at s f) (group_at s v) ++ x ≡ changes_of (group_at s f) (group_at s w) ++ y = cc in
-    changes-told (group_at s f) (group_at s v) (group_at s w) x y (omega (arith, size, one, m)) (omega (arith, size, other, n))
+    changes-told (group_at s f) (group_at s v) (group_at s w) x y (omega (arith, size, one, m))
+    (omega (arith, size, other, n))
     (values-group s v p) (values-group s w q) masks behind
 
 groups-told : (count s : ℕ) (f v w : List ℕ) → length v ≡ length f → length w ≡ length f → AreValues v → AreValues w
@@ -149,7 +157,8 @@ mask-more k f v in_first in_values =
 
 pub changes-more : (k : ℕ) (f v : List ℕ) → k < length f → k < length v
     → changes_of (drop k f) (drop k v)
-    ≡ cond (nat_eq (get_or v k 0) (get_or f k 0)) [] (bytes_of (get_or v k 0)) ++ changes_of (drop (k + 1) f) (drop (k + 1) v)
+    ≡ cond (nat_eq (get_or v k 0) (get_or f k 0)) [] (bytes_of (get_or v k 0))
+    ++ changes_of (drop (k + 1) f) (drop (k + 1) v)
 changes-more k f v in_first in_values =
     ap (λ (g : List ℕ). changes_of g (drop k v)) (drop_more f k 0 in_first)
     ∙ ap (λ (w : List ℕ). changes_of (get_or f k 0 ∷ drop (k + 1) f) w) (drop_more v k 0 in_values)
@@ -164,10 +173,12 @@ pub bit-set : (k mask bit total : ℕ) (f v : List ℕ) → k < length f → k <
 bit-set k mask bit total f v in_first in_values differs e =
     let m : ℕ = mask_of (drop (k + 1) f) (drop (k + 1) v) in
     let here : mask_of (drop k f) (drop k v) ≡ 1 + 2 * m =
-    mask-more k f v in_first in_values ∙ ap (λ (s : Bool). cond s 0 1 + 2 * m) (ne_eqb (get_or v k 0) (get_or f k 0) differs) in
+    mask-more k f v in_first in_values ∙ ap (λ (s : Bool). cond s 0 1 + 2 * m)
+    (ne_eqb (get_or v k 0) (get_or f k 0) differs) in
     let spread : bit * (1 + 2 * m) ≡ bit + bit * 2 * m =
     mul-add bit 1 (2 * m) ∙ (ap (λ (n : ℕ). n + bit * (2 * m)) (mul-one bit) ∙ ap (λ (n : ℕ). bit + n) (twice bit m)) in
-    add_assoc mask bit (bit * 2 * m) ∙ (ap (λ (n : ℕ). mask + n) (sym spread) ∙ (ap (λ (n : ℕ). mask + bit * n) (sym here) ∙ e))
+    add_assoc mask bit (bit * 2 * m) ∙ (ap (λ (n : ℕ). mask + n) (sym spread)
+    ∙ (ap (λ (n : ℕ). mask + bit * n) (sym here) ∙ e))
 
 -- the bit of one that does not
 pub bit-clear : (k mask bit total : ℕ) (f v : List ℕ) → k < length f → k < length v
@@ -176,7 +187,8 @@ pub bit-clear : (k mask bit total : ℕ) (f v : List ℕ) → k < length f → k
 bit-clear k mask bit total f v in_first in_values same e =
     let m : ℕ = mask_of (drop (k + 1) f) (drop (k + 1) v) in
     let here : mask_of (drop k f) (drop k v) ≡ 2 * m =
-    mask-more k f v in_first in_values ∙ (ap (λ (s : Bool). cond s 0 1 + 2 * m) (eq-eqb (get_or v k 0) (get_or f k 0) same) ∙ zero-add (2 * m)) in
+    mask-more k f v in_first in_values ∙ (ap (λ (s : Bool). cond s 0 1 + 2 * m)
+    (eq-eqb (get_or v k 0) (get_or f k 0) same) ∙ zero-add (2 * m)) in
     ap (λ (n : ℕ). mask + n) (sym (twice bit m)) ∙ (ap (λ (n : ℕ). mask + bit * n) (sym here) ∙ e)
 
 -- a mask in the making is not greater than the mask of a group
@@ -185,7 +197,8 @@ pub mask-fits : (k mask bit : ℕ) (f v : List ℕ) → length f ≤ 8 → k < l
 mask-fits k mask bit f v few lt unit e =
     let small : mask_of f v < 256 = mask-small 8 f v few in
     let low : 2 ^ k < 2 ^ 8 = pow_below k 8 (omega arith) in
-    let part : mask ≤ mask_of f v = subst (λ (n : ℕ). mask ≤ n) e (le-add_right mask (bit * mask_of (drop k f) (drop k v))) in
+    let part : mask ≤ mask_of f v = subst (λ (n : ℕ). mask ≤ n) e (le-add_right mask
+    (bit * mask_of (drop k f) (drop k v))) in
     omega (arith, small, low, part, unit)
 
 pub mask-whole : (k mask bit : ℕ) (f v : List ℕ) → min (length f) (length v) ≤ k
@@ -230,7 +243,8 @@ pack-begun row f v e =
     let all : length f / 8 + 1 - 0 ≡ length f / 8 + 1 = omega arith in
     ap (λ (r : List ℕ). r ++ groups_from (length f / 8 + 1 - 0) (0 * 8) f v) e ∙ ap (λ (n : ℕ). groups_from n 0 f v) all
 
-pub pack-more : (i count : ℕ) (row new f v g h total : List ℕ) → i < count → g ≡ group_at (i * 8) f → h ≡ group_at (i * 8) v
+pub pack-more : (i count : ℕ) (row new f v g h total : List ℕ) → i < count → g ≡ group_at (i * 8) f → h
+    ≡ group_at (i * 8) v
     → new ≡ row ++ mask_of g h ∷ changes_of g h → row ++ groups_from (count - i) (i * 8) f v ≡ total
     → new ++ groups_from (count - (i + 1)) ((i + 1) * 8) f v ≡ total
 pack-more i count row new f v g h total lt a b e done =
@@ -238,7 +252,8 @@ pack-more i count row new f v g h total lt a b e done =
     let first : List ℕ = group_at (i * 8) f in
     let values : List ℕ = group_at (i * 8) v in
     let written : new ≡ row ++ mask_of first values ∷ changes_of first values =
-    e ∙ (ap (λ (x : List ℕ). row ++ mask_of x h ∷ changes_of x h) a ∙ ap (λ (y : List ℕ). row ++ mask_of first y ∷ changes_of first y) b) in
+    e ∙ (ap (λ (x : List ℕ). row ++ mask_of x h ∷ changes_of x h) a
+    ∙ ap (λ (y : List ℕ). row ++ mask_of first y ∷ changes_of first y) b) in
     ap (λ (r : List ℕ). r ++ rest) written
     ∙ (append_assoc row (mask_of first values ∷ changes_of first values) rest
     ∙ (ap (λ (bytes : List ℕ). row ++ bytes) (sym (groups-more count i f v lt)) ∙ done))

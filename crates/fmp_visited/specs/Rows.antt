@@ -1,5 +1,6 @@
 -- Rows: the bytes that tell the values of fields that differ from the first ones.
-use Rattle.std.specs.Prelude.{ℕ, zero, suc, ◌+◌, ◌*◌, ◌/◌, ◌%◌, ◌<◌, ◌^◌, List, [], ◌∷◌, ◌++◌, length, take, drop, All, nat_eq, nat_lt, if◌then◌else◌}
+use Rattle.std.specs.Prelude.{ℕ, zero, suc, ◌+◌, ◌*◌, ◌/◌, ◌%◌, ◌<◌, ◌^◌, List, [], ◌∷◌, ◌++◌, length, take, drop, All}
+use Rattle.std.specs.Prelude.{nat_eq, nat_lt, if◌then◌else◌}
 
 -- each value is one of 32 bits
 abbrev pub AreValues : List ℕ → Type 0

@@ -1,5 +1,6 @@
 -- Lists that are the same at each place are the same; and texts of which one part more stands.
-use Rattle.std.proofs.Common.{◌≡◌, ℕ, zero, suc, ◌+◌, ◌-◌, ◌<◌, ◌≤◌, List, [], ◌∷◌, ◌++◌, append_assoc, length, refl, sym, subst, ap, ◌∙◌, arith, ⊎_elim}
+use Rattle.std.proofs.Common.{◌≡◌, ℕ, zero, suc, ◌+◌, ◌-◌, ◌<◌, ◌≤◌, List, [], ◌∷◌, ◌++◌, append_assoc, length, refl}
+use Rattle.std.proofs.Common.{sym, subst, ap, ◌∙◌, arith, ⊎_elim}
 use Rattle.std.specs.Prelude.{slice_get}
 use Rattle.std.proofs.lemmas.Bool.{cases_lt}
 use Rattle.std.proofs.lemmas.Option.{slice_get_past}
@@ -28,11 +29,13 @@ pub same-throughout :
 same-throughout xs ys n short also h =
     lists-same xs ys (λ i.
     ⊎_elim (λ (below : i < n). h i below)
-    (λ (past : n ≤ i). slice_get_past xs i (omega (arith, short, past)) ∙ sym (slice_get_past ys i (omega (arith, also, past))))
+    (λ (past : n ≤ i). slice_get_past xs i (omega (arith, short, past))
+    ∙ sym (slice_get_past ys i (omega (arith, also, past))))
     (cases_lt i n))
 
 -- one part of what is to be appended stands
-pub appended : (old new part rest all whole : List ℕ) → new ≡ old ++ part → all ≡ part ++ rest → old ++ all ≡ whole → new ++ rest ≡ whole
+pub appended : (old new part rest all whole : List ℕ) → new ≡ old ++ part → all ≡ part ++ rest → old ++ all ≡ whole
+    → new ++ rest ≡ whole
 appended old new part rest all whole one parts h =
     ap (λ xs. xs ++ rest) one ∙ append_assoc old part rest ∙ ap (λ xs. old ++ xs) (sym parts) ∙ h
 

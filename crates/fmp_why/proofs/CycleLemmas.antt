@@ -1,5 +1,6 @@
 -- One step more on the way of tasks that wait for one another.
-use Rattle.std.proofs.Common.{◌≡◌, refl, ap, ◌∙◌, ℕ, suc, zero, ◌+◌, ◌-◌, ◌<◌, ◌≤◌, List, [], ◌∷◌, Option, Some, None, Bool, true, false, ◌||◌, if◌then◌else◌, nat_eq, arith, length}
+use Rattle.std.proofs.Common.{◌≡◌, refl, ap, ◌∙◌, ℕ, suc, zero, ◌+◌, ◌-◌, ◌<◌, ◌≤◌, List, [], ◌∷◌, Option, Some, None}
+use Rattle.std.proofs.Common.{Bool, true, false, ◌||◌, if◌then◌else◌, nat_eq, arith, length}
 use Rattle.fmp_why.specs.declared.obstacles.SpinWait.{SpinWait}
 use Rattle.fmp_base.specs.declared.states.Processor.{Processor}
 use Rattle.fmp_why.specs.Cycles.{cycle_from, is_on_cycle, leads_to, next_of}
@@ -41,7 +42,8 @@ cycle-on bs m t h e =
     ∙ ap (λ (b : Bool). if b then Some t else cycle_from bs (t + 1) (m - (t + 1))) e
 
 -- where nothing more is spun for
-pub spins-end : (cpus : List Processor) (spins : List (Option SpinWait)) (t : ℕ) → length spins < 1 → None ≡ spin_of cpus spins t
+pub spins-end : (cpus : List Processor) (spins : List (Option SpinWait)) (t : ℕ) → length spins < 1 → None
+    ≡ spin_of cpus spins t
 spins-end [] spins t h = refl
 spins-end (x ∷ xs) [] t h = refl
 spins-end (x ∷ xs) (s ∷ ss) t h = absurd (omega (arith, h))

@@ -1,5 +1,7 @@
 -- The tables of a history are what a trace has told, line by line.
-use Rattle.std.proofs.Common.{◌≡◌, refl, sym, ap, ◌∙◌, ℕ, suc, zero, ◌+◌, ◌<◌, ◌≤◌, List, [], ◌∷◌, ◌++◌, Option, Some, None, Bool, true, false, ◌&&◌, if◌then◌else◌, nat_eq, nat_lt, length, replicate, get_or, arith, slice_set, append-nil}
+use Rattle.std.proofs.Common.{◌≡◌, refl, sym, ap, ◌∙◌, ℕ, suc, zero, ◌+◌, ◌<◌, ◌≤◌, List, [], ◌∷◌, ◌++◌, Option, Some}
+use Rattle.std.proofs.Common.{None, Bool, true, false, ◌&&◌, if◌then◌else◌, nat_eq, nat_lt, length, replicate, get_or}
+use Rattle.std.proofs.Common.{arith, slice_set, append-nil}
 use Rattle.std.specs.Prelude.{slice_get}
 use Rattle.std.specs.Option.{option_map}
 use Rattle.std.proofs.lemmas.Bool.Decides.{nat_tests}
@@ -14,8 +16,11 @@ use Rattle.fmp_base.specs.Systems.{SystemTables}
 use Rattle.fmp_why.specs.declared.history.ObjectAct.{ObjectAct}
 use Rattle.fmp_why.specs.declared.history.TaskPart.{TaskPart}
 use Rattle.fmp_why.specs.declared.history.ObjectTrail.{ObjectTrail}
-use Rattle.fmp_why.specs.Histories.{Told, act_of, after_act, after_deed, after_done, count_of, done_in, holder_of, holders_from, is_done, is_on, is_same_kind, nothing, part_in, part_of, part_told, released_with, told_with, trail_of, trail_told, waits_from, waits_of}
-use Rattle.fmp_why.specs.HistoryTables.{IsTold, Tables, act_noted, changed_at, deed_noted, done_noted, holders_in, line_noted, lines_noted, part_noted, trails_in}
+use Rattle.fmp_why.specs.Histories.{Told, act_of, after_act, after_deed, after_done, count_of, done_in, holder_of}
+use Rattle.fmp_why.specs.Histories.{holders_from, is_done, is_on, is_same_kind, nothing, part_in, part_of, part_told}
+use Rattle.fmp_why.specs.Histories.{released_with, told_with, trail_of, trail_told, waits_from, waits_of}
+use Rattle.fmp_why.specs.HistoryTables.{IsTold, Tables, act_noted, changed_at, deed_noted, done_noted, holders_in}
+use Rattle.fmp_why.specs.HistoryTables.{line_noted, lines_noted, part_noted, trails_in}
 use Rattle.fmp_why.specs.Obstacles.{is_task}
 
 lt-zero : (i : ℕ) → nat_lt i 0 ≡ false
@@ -60,7 +65,8 @@ changed-set f (x ∷ xs) zero d h = refl
 changed-set f (x ∷ xs) (suc i) d h = ap (λ ys. x ∷ ys) (changed-set f xs i d (omega (arith, h)))
 
 -- the same, by what was read there
-pub changed-read : {A : Type 0} (f : A → A) (xs : List A) (i : ℕ) (x y : A) → i < length xs → x ≡ get_or xs i x → y ≡ f x
+pub changed-read : {A : Type 0} (f : A → A) (xs : List A) (i : ℕ) (x y : A) → i < length xs → x ≡ get_or xs i x → y
+    ≡ f x
     → slice_set xs i y ≡ changed_at f xs i
 changed-read f xs i x y h here e =
     ap (λ z. slice_set xs i z) (e ∙ ap f here) ∙ changed-set f xs i x h
@@ -82,13 +88,15 @@ get-replicate (suc n) (suc i) x =
 -- nothing is told before the first line
 pub none-told : (sys : SystemTables) (h : Tables)
     → h.semaphores ≡ replicate (length sys.semaphores) nothing → h.flags ≡ replicate (length sys.flags) nothing
-    → h.data_queues ≡ replicate (length sys.data_queues) nothing → h.mailboxes ≡ replicate (length sys.mailboxes) nothing
+    → h.data_queues ≡ replicate (length sys.data_queues) nothing → h.mailboxes
+    ≡ replicate (length sys.mailboxes) nothing
     → h.spin_locks ≡ replicate (length sys.spin_locks) nothing
     → h.tasks ≡ replicate (length sys.tasks) (record { event = 0; waits = None }) → IsTold sys [] h
 none-told sys h semaphores flags queues mailboxes locks tasks =
     record {
       trails = by_kind;
-      parts = λ t. ap (λ (xs : List TaskPart). slice_get xs t) tasks ∙ get-replicate (length sys.tasks) t (record { event = 0; waits = None });
+      parts = λ t. ap (λ (xs : List TaskPart). slice_get xs t) tasks
+          ∙ get-replicate (length sys.tasks) t (record { event = 0; waits = None });
     }
   where
     rows : (xs : List ObjectTrail) (n : ℕ) → xs ≡ replicate n nothing → (i : ℕ)
@@ -115,7 +123,8 @@ map-if false f x = refl
 -- a deed changes the object of its kind at its place, and no other
 deed-there : (k l : ObjectKind) (i j : ℕ) (f : ObjectTrail → ObjectTrail) (h : Tables)
     → slice_get (trails_in (deed_noted l j f h) k) i
-    ≡ (if is_same_kind k l && nat_eq i j then option_map f (slice_get (trails_in h k) i) else slice_get (trails_in h k) i)
+    ≡ (if is_same_kind k l && nat_eq i j then option_map f (slice_get (trails_in h k) i) else slice_get
+    (trails_in h k) i)
 deed-there kind.Semaphore kind.Semaphore i j f h = get-changed f h.semaphores j i
 deed-there kind.Flag kind.Flag i j f h = get-changed f h.flags j i
 deed-there kind.DataQueue kind.DataQueue i j f h = get-changed f h.data_queues j i
@@ -124,7 +133,8 @@ deed-there kind.SpinLock kind.SpinLock i j f h = get-changed f h.spin_locks j i
 deed-there k l i j f h = refl
 
 -- no task's part changes by a deed
-deed-tasks : (l : ObjectKind) (j : ℕ) (f : ObjectTrail → ObjectTrail) (h : Tables) → (deed_noted l j f h).tasks ≡ h.tasks
+deed-tasks : (l : ObjectKind) (j : ℕ) (f : ObjectTrail → ObjectTrail) (h : Tables) → (deed_noted l j f h).tasks
+    ≡ h.tasks
 deed-tasks kind.Semaphore j f h = refl
 deed-tasks kind.Flag j f h = refl
 deed-tasks kind.DataQueue j f h = refl
@@ -133,7 +143,8 @@ deed-tasks kind.SpinLock j f h = refl
 deed-tasks _ j f h = refl
 
 -- if what is there is x, then after a deed it is what the deed makes of x
-on-there : (on b : Bool) (f : ObjectTrail → ObjectTrail) (x : ObjectTrail) (old : Option ObjectTrail) → old ≡ (if b then Some x else None)
+on-there : (on b : Bool) (f : ObjectTrail → ObjectTrail) (x : ObjectTrail) (old : Option ObjectTrail) → old
+    ≡ (if b then Some x else None)
     → (if on then option_map f old else old) ≡ (if b then Some (if on then f x else x) else None)
 on-there true b f x old e = ap (option_map f) e ∙ map-if b f x
 on-there false b f x old e = e
@@ -152,7 +163,8 @@ module _ (k : ObjectKind) (i event : ℕ) (b : Bool) (x : ObjectTrail) (h : Tabl
   done-there None e = e
   done-there (Some done) e = act-there done.0 (act_of done.1) e
 
-act-tasks : (event : ℕ) (who : Caller) (act : Option ObjectAct) (h : Tables) → (act_noted event who act h).tasks ≡ h.tasks
+act-tasks : (event : ℕ) (who : Caller) (act : Option ObjectAct) (h : Tables) → (act_noted event who act h).tasks
+    ≡ h.tasks
 act-tasks event who None h = refl
 act-tasks event who (Some a) h =
     deed-tasks a.kind a.place (after_deed a.way (record { actor = who; event = event })) h
@@ -162,7 +174,8 @@ done-tasks event None h = refl
 done-tasks event (Some done) h = act-tasks event done.0 (act_of done.1) h
 
 -- a part of a task is no deed on an object
-part-trails : (t : Option ℕ) (x : TaskPart) (h : Tables) (k : ObjectKind) → trails_in (part_noted t x h) k ≡ trails_in h k
+part-trails : (t : Option ℕ) (x : TaskPart) (h : Tables) (k : ObjectKind) → trails_in (part_noted t x h) k
+    ≡ trails_in h k
 part-trails None x h k = refl
 part-trails (Some t) x h kind.Semaphore = refl
 part-trails (Some t) x h kind.Flag = refl
@@ -187,7 +200,8 @@ part-there : (t : ℕ) (who : Option ℕ) (b : Bool) (new old : TaskPart) (h : T
 part-there t None b new old h e = e
 part-there t (Some u) b new old h e =
     get-changed (λ _. new) h.tasks u t
-    ∙ ap (λ (on : Bool). if on then option_map (λ _. new) (slice_get h.tasks t) else slice_get h.tasks t) (nat_eq-sym t u)
+    ∙ ap (λ (on : Bool). if on then option_map (λ _. new) (slice_get h.tasks t) else slice_get h.tasks t)
+    (nat_eq-sym t u)
     ∙ set-if (nat_eq u t) b new old (slice_get h.tasks t) e
 
 -- who did what is read from the call with which a task waits
@@ -209,9 +223,11 @@ line-told sys told h event x is =
           done-there k i event (nat_lt i (count_of sys k)) (trail_of sys k i told) mid
           (done_in (λ t. waits_of (slice_get h.tasks t)) x)
           (ap (λ (xs : List ObjectTrail). slice_get xs i) (part-trails (part_in x) now h k) ∙ is.trails k i)
-          ∙ ap (λ (d : Option (Caller × Call)). if nat_lt i (count_of sys k) then Some (after_done k i event d (trail_of sys k i told)) else None) same;
+          ∙ ap (λ (d : Option (Caller × Call)). if nat_lt i (count_of sys k) then Some
+          (after_done k i event d (trail_of sys k i told)) else None) same;
       parts = λ t.
-          ap (λ (xs : List TaskPart). slice_get xs t) (done-tasks event (done_in (λ t. waits_of (slice_get h.tasks t)) x) mid)
+          ap (λ (xs : List TaskPart). slice_get xs t) (done-tasks event
+          (done_in (λ t. waits_of (slice_get h.tasks t)) x) mid)
           ∙ part-there t (part_in x) (nat_lt t (length sys.tasks)) now (part_of t told) h (is.parts t);
     }
 
@@ -237,12 +253,16 @@ none-there h = cc
 
 -- the holders, by what a trace has told of each semaphore
 holders-there : (sys : SystemTables) (told : Told) (i : ℕ) (cs : List SemaphoreConfig) (xs : List ObjectTrail)
-    → ((j : ℕ) → slice_get xs j ≡ (if nat_lt j (length cs) then Some (trail_of sys kind.Semaphore (i + j) told) else None))
+    → ((j : ℕ) → slice_get xs j ≡ (if nat_lt j (length cs) then Some (trail_of sys kind.Semaphore (i + j) told) else
+    None))
     → holders_in cs xs ≡ holders_from sys told i cs
 holders-there sys told i [] xs e = refl
-holders-there sys told i (c ∷ cs) [] e = none-there (e 0 ∙ ap (λ (b : Bool). if b then Some (trail_of sys kind.Semaphore (i + 0) told) else None) (zero-lt (length cs)))
+holders-there sys told i (c ∷ cs) [] e = none-there (e 0 ∙ ap (λ (b : Bool). if b then Some
+    (trail_of sys kind.Semaphore (i + 0) told) else None) (zero-lt (length cs)))
 holders-there sys told i (c ∷ cs) (x ∷ xs) e =
-    ap (λ (y : ObjectTrail). holder_of c y ∷ holders_in cs xs) (first x (e 0 ∙ ap (λ (b : Bool). if b then Some (trail_of sys kind.Semaphore (i + 0) told) else None) (zero-lt (length cs))))
+    ap (λ (y : ObjectTrail). holder_of c y ∷ holders_in cs xs) (first x
+    (e 0 ∙ ap (λ (b : Bool). if b then Some (trail_of sys kind.Semaphore (i + 0) told) else None)
+    (zero-lt (length cs))))
     ∙ ap (λ ys. holder_of c (trail_of sys kind.Semaphore i told) ∷ ys)
     (holders-there sys told (i + 1) cs xs (λ j. e (suc j)
     ∙ ap (λ (b : Bool). if b then Some (trail_of sys kind.Semaphore (i + suc j) told) else None) (lt-suc j (length cs))
@@ -254,14 +274,16 @@ holders-there sys told i (c ∷ cs) (x ∷ xs) e =
     none-more : (i : ℕ) → i + 0 ≡ i
     none-more i = omega arith
 
-    first : (x : ObjectTrail) → Some x ≡ Some (trail_of sys kind.Semaphore (i + 0) told) → x ≡ trail_of sys kind.Semaphore i told
+    first : (x : ObjectTrail) → Some x ≡ Some (trail_of sys kind.Semaphore (i + 0) told) → x
+        ≡ trail_of sys kind.Semaphore i told
     first x h = some-same h ∙ ap (λ (n : ℕ). trail_of sys kind.Semaphore n told) (none-more i)
 
 pub holders-are : (sys : SystemTables) (told : Told) (h : Tables) → IsTold sys told h
     → holders_in sys.semaphores h.semaphores ≡ holders_from sys told 0 sys.semaphores
 holders-are sys told h is =
     holders-there sys told 0 sys.semaphores h.semaphores (λ j. is.trails kind.Semaphore j
-    ∙ ap (λ (n : ℕ). if nat_lt j (length sys.semaphores) then Some (trail_of sys kind.Semaphore n told) else None) (from-zero j))
+    ∙ ap (λ (n : ℕ). if nat_lt j (length sys.semaphores) then Some (trail_of sys kind.Semaphore n told) else None)
+    (from-zero j))
   where
     from-zero : (j : ℕ) → j ≡ 0 + j
     from-zero j = omega arith

@@ -1,5 +1,6 @@
 -- Tables that end before others, and one task more on a cycle.
-use Rattle.std.proofs.Common.{◌≡◌, ◌∙◌, ℕ, suc, zero, ◌+◌, ◌-◌, ◌<◌, List, [], ◌∷◌, ◌++◌, Option, Some, None, Bool, true, ap, arith, length, refl, sym}
+use Rattle.std.proofs.Common.{◌≡◌, ◌∙◌, ℕ, suc, zero, ◌+◌, ◌-◌, ◌<◌, List, [], ◌∷◌, ◌++◌, Option, Some, None, Bool}
+use Rattle.std.proofs.Common.{true, ap, arith, length, refl, sym}
 use Rattle.std.proofs.lemmas.List.{append-nil}
 use Rattle.std.specs.List.{list_all}
 use Rattle.std.specs.Prelude.{zip}
@@ -12,7 +13,8 @@ use Rattle.fmp_why.specs.Reports.{Sight, holder_lines, stands}
 pub nothing-left : {A : Type 0} (out rest whole : List A) → rest ≡ [] → out ++ rest ≡ whole → out ≡ whole
 nothing-left out rest whole none h = sym (append-nil out) ∙ ap (λ r. out ++ r) (sym none) ∙ h
 
-pub no-holders : (x : Sight) (p : ℕ) (cpus : List Processor) (over : List Bool) → length over < 1 → holder_lines x p cpus over ≡ []
+pub no-holders : (x : Sight) (p : ℕ) (cpus : List Processor) (over : List Bool) → length over < 1
+    → holder_lines x p cpus over ≡ []
 no-holders x p [] over h = refl
 no-holders x p (cpu ∷ cpus) [] h = refl
 no-holders x p (cpu ∷ cpus) (o ∷ os) h = absurd (omega (arith, h))

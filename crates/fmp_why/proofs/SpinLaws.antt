@@ -1,5 +1,6 @@
 -- What a processor spins for, by the kernel's own answer to its next call; and where nothing is spun for.
-use Rattle.std.proofs.Common.{◌≡◌, refl, sym, ap, ◌∙◌, ℕ, ℤ, ◌+◌, List, [], ◌∷◌, Option, Some, None, Bool, true, false, ◌&&◌, ◌||◌, not, if◌then◌else◌, length}
+use Rattle.std.proofs.Common.{◌≡◌, refl, sym, ap, ◌∙◌, ℕ, ℤ, ◌+◌, List, [], ◌∷◌, Option, Some, None, Bool, true, false}
+use Rattle.std.proofs.Common.{◌&&◌, ◌||◌, not, if◌then◌else◌, length}
 use Rattle.std.specs.Prelude.{cond}
 use Rattle.std.specs.List.{position_from}
 use Rattle.std.proofs.lemmas.Iterator.Adapters.{position_from-zero}
@@ -19,7 +20,8 @@ use Rattle.fmp_base.specs.States.{KernelState, processor_at}
 use Rattle.fmp_base.specs.Steps.{actor_by, actor_of}
 use Rattle.fmp_base.specs.Systems.{SystemTables}
 use Rattle.fmp_why.specs.declared.obstacles.SpinWait.{SpinWait}
-use Rattle.fmp_why.specs.Obstacles.{asked_lock, held_by, held_lock, holder_of, holds_spin_lock, is_any_held, is_held_lock, is_open, is_some, may_spin, runs_task, spin_on, spins_by}
+use Rattle.fmp_why.specs.Obstacles.{asked_lock, held_by, held_lock, holder_of, holds_spin_lock, is_any_held}
+use Rattle.fmp_why.specs.Obstacles.{is_held_lock, is_open, is_some, may_spin, runs_task, spin_on, spins_by}
 use Rattle.fmp_why.specs.Verdicts.{is_spin}
 
 some-of : (b : Bool) (i : ℕ) (rest : Option ℕ) → is_some (cond b (Some i) rest) ≡ (b || is_some rest)
@@ -48,15 +50,18 @@ answered false s p l = refl
 module _ (s : KernelState) (p : ℕ) where
   of-lock : (free : Bool) (l : Option ℕ)
       → is_spin (if free then held_lock s.processors l else None)
-      ≡ spins_by (refused_if (not free) s er.Ctx (tested s er.Id l (λ i. spin_lock_taken (is_held i s.processors) s p i))).answer
+      ≡ spins_by (refused_if (not free) s er.Ctx (tested s er.Id l (λ i. spin_lock_taken
+      (is_held i s.processors) s p i))).answer
   of-lock false l = refl
   of-lock true None = refl
   of-lock true (Some l) =
       held-spin l (holder_of s.processors l) ∙ held l s.processors ∙ sym (answered (is_held l s.processors) s p l)
 
-  of-task : (h : Option Handler) (r : Option ℕ) (me : ℕ) (free : Bool) (l : Option ℕ) → actor_by h r ≡ Some (caller.Task me)
+  of-task : (h : Option Handler) (r : Option ℕ) (me : ℕ) (free : Bool) (l : Option ℕ) → actor_by h r
+      ≡ Some (caller.Task me)
       → is_spin (if runs_task h r && free then held_lock s.processors l else None)
-      ≡ spins_by (refused_if (not free) s er.Ctx (tested s er.Id l (λ i. spin_lock_taken (is_held i s.processors) s p i))).answer
+      ≡ spins_by (refused_if (not free) s er.Ctx (tested s er.Id l (λ i. spin_lock_taken
+      (is_held i s.processors) s p i))).answer
   of-task (Some h) r me free l e = absurd (cc e)
   of-task None (Some t) me free l e = of-lock free l
   of-task None None me free l e = absurd (cc e)

@@ -1,5 +1,6 @@
 -- Cycles of tasks that wait for one another.
-use Rattle.std.specs.Prelude.{ℕ, ◌+◌, List, [], ◌∷◌, Option, Some, None, Bool, false, ◌||◌, if◌then◌else◌, nat_eq, get_or, length, min, suc, zero}
+use Rattle.std.specs.Prelude.{ℕ, ◌+◌, List, [], ◌∷◌, Option, Some, None, Bool, false, ◌||◌, if◌then◌else◌, nat_eq}
+use Rattle.std.specs.Prelude.{get_or, length, min, suc, zero}
 
 -- the task that task t waits for
 abbrev pub next_of : (blockers : List (Option ℕ)) → ℕ → Option ℕ

@@ -1,5 +1,6 @@
 -- Who took what and gave it back, and since when tasks stand where they do, as the lines of a trace tell it.
-use Rattle.std.specs.Prelude.{ℕ, ◌+◌, zero, suc, ℤ, pos, negsuc, List, [], ◌∷◌, length, Option, Some, None, Bool, true, false, ◌&&◌, if◌then◌else◌, nat_eq, nat_lt}
+use Rattle.std.specs.Prelude.{ℕ, ◌+◌, zero, suc, ℤ, pos, negsuc, List, [], ◌∷◌, length, Option, Some, None, Bool, true}
+use Rattle.std.specs.Prelude.{false, ◌&&◌, if◌then◌else◌, nat_eq, nat_lt}
 use Rattle.fmp_base.specs.declared.calls.Call.{Call}
 use Rattle.fmp_base.specs.declared.calls.Reply.{Reply}
 use Rattle.fmp_base.specs.declared.catalogue.Action.{Action}

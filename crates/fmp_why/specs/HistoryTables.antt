@@ -11,7 +11,8 @@ use Rattle.fmp_why.specs.declared.history.ObjectAct.{ObjectAct}
 use Rattle.fmp_why.specs.declared.history.History as declared
 use Rattle.fmp_why.specs.declared.history.TaskPart.{TaskPart}
 use Rattle.fmp_why.specs.declared.history.ObjectTrail.{ObjectTrail}
-use Rattle.fmp_why.specs.Histories.{Told, act_of, after_deed, done_in, event_of, holder_of, part_in, part_told, trail_or, trail_told, waits_from, waits_of}
+use Rattle.fmp_why.specs.Histories.{Told, act_of, after_deed, done_in, event_of, holder_of, part_in, part_told}
+use Rattle.fmp_why.specs.Histories.{trail_or, trail_told, waits_from, waits_of}
 
 pub record Tables : Type 0 where
   pub semaphores : List ObjectTrail

@@ -1,5 +1,6 @@
 -- What tasks wait and spin for, and which task holds it.
-use Rattle.std.specs.Prelude.{ℕ, List, [], ◌∷◌, Option, Some, None, Bool, true, false, ◌&&◌, if◌then◌else◌, nat_eq, position, slice_get}
+use Rattle.std.specs.Prelude.{ℕ, List, [], ◌∷◌, Option, Some, None, Bool, true, false, ◌&&◌, if◌then◌else◌, nat_eq}
+use Rattle.std.specs.Prelude.{position, slice_get}
 use Rattle.std.specs.Option.{option_and_then}
 use Rattle.fmp_base.specs.declared.calls.Answer.{Answer}
 use Rattle.fmp_base.specs.declared.calls.Answer.TheVariants as answer

@@ -1,5 +1,6 @@
 -- What is said of the tasks that wait and spin.
-use Rattle.std.specs.Prelude.{ℕ, ◌+◌, zero, suc, List, [], ◌∷◌, ◌++◌, Option, Some, None, Bool, false, ◌&&◌, ◌||◌, not, if◌then◌else◌, codes, decimal, is_some, length, nat_eq, slice_get, zip}
+use Rattle.std.specs.Prelude.{ℕ, ◌+◌, zero, suc, List, [], ◌∷◌, ◌++◌, Option, Some, None, Bool, false, ◌&&◌, ◌||◌, not}
+use Rattle.std.specs.Prelude.{if◌then◌else◌, codes, decimal, is_some, length, nat_eq, slice_get, zip}
 use Rattle.std.specs.List.{list_all, list_any}
 use Rattle.fmp_base.specs.declared.catalogue.ObjectKind.{ObjectKind}
 use Rattle.fmp_base.specs.declared.catalogue.ObjectKind.TheVariants as kind

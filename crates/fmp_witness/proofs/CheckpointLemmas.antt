@@ -1,10 +1,12 @@
 -- Kernels along a path: what is kept of them where the path changes.
-use Rattle.std.proofs.Common.{◌≡◌, ℕ, zero, suc, ◌+◌, ◌*◌, ◌/◌, ◌%◌, ◌<◌, ◌≤◌, List, [], ◌∷◌, ◌++◌, get_or, length, slice_set, take, ap, ◌∙◌, subst, sym, arith}
+use Rattle.std.proofs.Common.{◌≡◌, ℕ, zero, suc, ◌+◌, ◌*◌, ◌/◌, ◌%◌, ◌<◌, ◌≤◌, List, [], ◌∷◌, ◌++◌, get_or, length}
+use Rattle.std.proofs.Common.{slice_set, take, ap, ◌∙◌, subst, sym, arith}
 use Rattle.std.proofs.Math.ListN.{get_or-append, length-set}
 use Rattle.std.proofs.Math.Logic.{⊎_elim}
 use Rattle.std.proofs.Math.Seq.{get_or-append_seam}
 use Rattle.std.proofs.lemmas.Bool.Decides.{eqb_tells}
-use Rattle.std.proofs.lemmas.List.{get_or-set_same, get_or-set_other, length-append, length-take-le, take-append-le, take-take, take_all, take_more}
+use Rattle.std.proofs.lemmas.List.{get_or-set_same, get_or-set_other, length-append, length-take-le, take-append-le}
+use Rattle.std.proofs.lemmas.List.{take-take, take_all, take_more}
 use Rattle.fmp_base.specs.declared.events.Event.{Event}
 use Rattle.fmp_base.specs.Steps.{Reaction, Nothing, Did, Kept}
 use Rattle.fmp_witness.specs.Followed.{IsFollowed}
@@ -100,7 +102,8 @@ module _ (i : ImageTables) (n : ℕ) where
       }
 
   -- fewer events
-  pub kernels_fewer : (kernels : List Kernels) (steps : List Event) (m : ℕ) → AreKernelsAlong i n kernels steps → m ≤ length steps
+  pub kernels_fewer : (kernels : List Kernels) (steps : List Event) (m : ℕ) → AreKernelsAlong i n kernels steps
+      → m ≤ length steps
       → AreKernelsAlong i n kernels (take m steps)
   kernels_fewer kernels steps m r low =
       let few : length (take m steps) ≡ m = length-take-le m steps low in
@@ -125,13 +128,15 @@ module _ (i : ImageTables) (n : ℕ) where
       (eqb_tells k at)
 
   each_kept : (kernels : List Kernels) (steps : List Event) (e : Event) (at : ℕ) (top d : Kernels) (k : ℕ)
-      → AreKernelsAlong i n kernels steps → at < length kernels → 8 * at ≡ length steps + 1 → IsFollowed i n (steps ++ e ∷ []) top
+      → AreKernelsAlong i n kernels steps → at < length kernels → 8 * at ≡ length steps + 1
+      → IsFollowed i n (steps ++ e ∷ []) top
       → 8 * k ≤ length steps + 1
       → IsFollowed i n (take (8 * k) (steps ++ e ∷ [])) (get_or (slice_set kernels at top) k d)
   each_kept kernels steps e at top d k r there eighth f le =
       let more : length (steps ++ e ∷ []) ≡ length steps + 1 = length-append steps (e ∷ []) in
       ⊎_elim
-      (λ same. subst (λ (m : ℕ). IsFollowed i n (take (8 * m) (steps ++ e ∷ [])) (get_or (slice_set kernels at top) m d))
+      (λ same. subst (λ (m : ℕ). IsFollowed i n (take (8 * m) (steps ++ e ∷ []))
+      (get_or (slice_set kernels at top) m d))
       (sym same.1)
       (subst (λ (x : Kernels). IsFollowed i n (take (8 * at) (steps ++ e ∷ [])) x)
       (sym (get_or-set_same kernels at top d there))
@@ -147,7 +152,8 @@ module _ (i : ImageTables) (n : ℕ) where
       (eqb_tells k at)
 
   pub kernels_kept : (kernels : List Kernels) (steps : List Event) (e : Event) (at : ℕ) (top : Kernels)
-      → AreKernelsAlong i n kernels steps → at < length kernels → 8 * at ≡ length steps + 1 → IsFollowed i n (steps ++ e ∷ []) top
+      → AreKernelsAlong i n kernels steps → at < length kernels → 8 * at ≡ length steps + 1
+      → IsFollowed i n (steps ++ e ∷ []) top
       → AreKernelsAlong i n (slice_set kernels at top) (steps ++ e ∷ [])
   kernels_kept kernels steps e at top r there eighth f =
       let more : length (steps ++ e ∷ []) ≡ length steps + 1 = length-append steps (e ∷ []) in
@@ -160,7 +166,8 @@ module _ (i : ImageTables) (n : ℕ) where
       }
 
   -- one more event, after which no kernel is kept
-  pub kernels_between : (kernels : List Kernels) (steps more : List Event) (e : Event) → AreKernelsAlong i n kernels steps
+  pub kernels_between : (kernels : List Kernels) (steps more : List Event) (e : Event)
+      → AreKernelsAlong i n kernels steps
       → (((length steps + 1) % 8 ≡ 0) → ⊥) → more ≡ steps ++ e ∷ [] → AreKernelsAlong i n kernels more
   kernels_between kernels steps more e r between h =
       let long : length (steps ++ e ∷ []) ≡ length steps + 1 = length-append steps (e ∷ []) in
@@ -176,7 +183,8 @@ module _ (i : ImageTables) (n : ℕ) where
       subst (λ (es : List Event). AreKernelsAlong i n kernels es) (sym h) kept
 
   -- the same with what is equal to these
-  pub kernels_put : (kernels : List Kernels) (steps steps0 more : List Event) (e : Event) (top top0 x : Kernels) (place : ℕ)
+  pub kernels_put : (kernels : List Kernels) (steps steps0 more : List Event) (e : Event) (top top0 x : Kernels)
+      (place : ℕ)
       → AreKernelsAlong i n kernels steps → place < length kernels → steps ≡ steps0 → top ≡ top0
       → IsFollowed i n (steps0 ++ e ∷ []) top0 → 8 * place ≡ length steps + 1 → x ≡ top → more ≡ steps ++ e ∷ []
       → AreKernelsAlong i n (slice_set kernels place x) more
@@ -191,20 +199,23 @@ module _ (i : ImageTables) (n : ℕ) where
       subst (λ (k : Kernels). AreKernelsAlong i n (slice_set kernels place k) (steps ++ e ∷ [])) (sym hx) k1 in
       subst (λ (es : List Event). AreKernelsAlong i n (slice_set kernels place x) es) (sym hm) k2
 
-  pub kernels_cut : (kernels : List Kernels) (steps cut : List Event) (m : ℕ) → AreKernelsAlong i n kernels steps → m ≤ length steps
+  pub kernels_cut : (kernels : List Kernels) (steps cut : List Event) (m : ℕ) → AreKernelsAlong i n kernels steps
+      → m ≤ length steps
       → cut ≡ take m steps → AreKernelsAlong i n kernels cut
   kernels_cut kernels steps cut m r low h =
       subst (λ (es : List Event). AreKernelsAlong i n kernels es) (sym h) (kernels_fewer kernels steps m r low)
 
   -- a kernel that is put back into the state of a checkpoint
-  pub over_checkpoint : (kernels : List Kernels) (steps : List Event) (m : ℕ) (x k : Kernels) → AreKernelsAlong i n kernels steps
+  pub over_checkpoint : (kernels : List Kernels) (steps : List Event) (m : ℕ) (x k : Kernels)
+      → AreKernelsAlong i n kernels steps
       → 8 * m ≤ length steps → x ≡ get_or kernels m x → k ≡ x → IsOver i n k
   over_checkpoint kernels steps m x k r low there same =
       let o : IsOver i n (get_or kernels m x) = r.over m x (omega (arith, r.long)) in
       subst (λ (y : Kernels). IsOver i n y) (sym (same ∙ there)) o
 
   -- and the events that led to it
-  pub followed_checkpoint : (kernels : List Kernels) (steps es : List Event) (m : ℕ) (x k : Kernels) → AreKernelsAlong i n kernels steps
+  pub followed_checkpoint : (kernels : List Kernels) (steps es : List Event) (m : ℕ) (x k : Kernels)
+      → AreKernelsAlong i n kernels steps
       → 8 * m ≤ length steps → x ≡ get_or kernels m x → k ≡ x → take (8 * m) steps ≡ take (8 * m) es
       → IsFollowed i n (take (8 * m) es) k
   followed_checkpoint kernels steps es m x k r low there same alike =

@@ -1,5 +1,6 @@
 -- One more event of a kernel that has done events.
-use Rattle.std.proofs.Common.{◌≡◌, ℕ, ◌+◌, ◌<◌, ◌≤◌, List, [], ◌∷◌, ◌++◌, get_or, length, take, refl, ap, ◌∙◌, subst, sym}
+use Rattle.std.proofs.Common.{◌≡◌, ℕ, ◌+◌, ◌<◌, ◌≤◌, List, [], ◌∷◌, ◌++◌, get_or, length, take, refl, ap, ◌∙◌, subst}
+use Rattle.std.proofs.Common.{sym}
 use Rattle.std.proofs.lemmas.List.{take_all, take_more}
 use Rattle.fmp_base.specs.declared.events.Effect.TheVariants as effect
 use Rattle.fmp_base.specs.declared.events.Event.{Event}

@@ -1,5 +1,6 @@
 -- A section along the events that a kernel takes.
-use Rattle.std.proofs.Common.{◌≡◌, ◌==◌, ◌+◌, ◌-◌, ◌<◌, ◌≤◌, ℕ, false, List, [], ◌∷◌, ◌++◌, Some, refl, sym, ap, ◌∙◌, append-nil, arith, get_or, length, slice_get, subst, take}
+use Rattle.std.proofs.Common.{◌≡◌, ◌==◌, ◌+◌, ◌-◌, ◌<◌, ◌≤◌, ℕ, false, List, [], ◌∷◌, ◌++◌, Some, refl, sym, ap, ◌∙◌}
+use Rattle.std.proofs.Common.{append-nil, arith, get_or, length, slice_get, subst, take}
 use Rattle.std.proofs.lemmas.List.{take_all, take_more}
 use Rattle.fmp_base.specs.declared.events.Effect.TheVariants as effect
 use Rattle.fmp_base.specs.declared.events.Event.{Event}

@@ -49,7 +49,8 @@ pub record AreTogether (sys : SystemTables) (M : Meaning MachineContext) (n : �
   pub met : IsMeeting (section_along section (lines_after sys M n before)) done.lines t.meeting
 
 -- this is seen in what events have left
-abbrev pub IsSeen : SystemTables → Meaning MachineContext → ℕ → Question → List Event → Done MachineContext → FindingKind
+abbrev pub IsSeen : SystemTables → Meaning MachineContext → ℕ → Question → List Event → Done MachineContext
+    → FindingKind
     → Type 0
 IsSeen sys M n q es d (kind.Line place) = HasForbidden sys q d.world d.lines place
 IsSeen sys M n q es d kind.Deadlock = IsDeadlock sys M n d.world q.rest.items (may_interrupt q.interrupts es)

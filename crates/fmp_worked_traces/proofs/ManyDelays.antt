@@ -1,5 +1,6 @@
 -- The run of 255 tasks that all delay themselves, computed in parts.
-use Rattle.std.proofs.Common.{◌≡◌, refl, ap, ℕ, zero, suc, ◌+◌, pos, List, [], ◌∷◌, ◌++◌, ◌∙◌, drop, Option, Some, None, false, replicate}
+use Rattle.std.proofs.Common.{◌≡◌, refl, ap, ℕ, zero, suc, ◌+◌, pos, List, [], ◌∷◌, ◌++◌, ◌∙◌, drop, Option, Some, None}
+use Rattle.std.proofs.Common.{false, replicate}
 use Rattle.fmp_base.specs.declared.bodies.Held.TheVariants.{Goes, Awaits}
 use Rattle.fmp_base.specs.declared.services.Service.TheVariants as service
 use Rattle.fmp_base.specs.declared.events.Event.{Event}
@@ -54,7 +55,11 @@ first_left k (suc n) = Some k
 
 -- the context of a task that has called dly_tsk
 abbrev called : TextContext
-called = calling (first_values (body_at delaying 0) (pos 0)) [] (record { service = service.DlyTsk; out = None; result = None })
+called = calling (first_values (body_at delaying 0) (pos 0)) [] (record {
+  service = service.DlyTsk;
+  out = None;
+  result = None;
+})
 
 -- the world where the first k tasks have begun their delays, and n are left
 abbrev world_at : ℕ → ℕ → World TextContext
@@ -97,7 +102,8 @@ part :
     Begin k m n →
     drop (m + n) (from (world_at k (m + n)) (replicate m (Run 1) ++ fs)) ≡ drop n (from (world_at (k + m) n) fs)
 part k m n fs begin =
-    after_part tables meaning usual_bound (replicate m (Run 1)) fs (world_at k (m + n)) (record { world = world_at (k + m) n; count = m }) n begin
+    after_part tables meaning usual_bound (replicate m (Run 1)) fs (world_at k (m + n))
+    (record { world = world_at (k + m) n; count = m }) n begin
 
 none_begun : (setup tables meaning).world ≡ world_at 0 255
 none_begun = refl

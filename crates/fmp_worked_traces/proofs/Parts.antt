@@ -19,7 +19,8 @@ joined r q = record q { events = r.events ++ q.events }
 
 -- the two parts of a run from a world
 abbrev Parts : {C : Type 0} → SystemTables → Meaning C → ℕ → (es fs : List Event) → World C → Type 0
-Parts sys M bound es fs w = run sys M bound w (es ++ fs) ≡ joined (run sys M bound w es) (run sys M bound (run sys M bound w es).world fs)
+Parts sys M bound es fs w = run sys M bound w (es ++ fs) ≡ joined (run sys M bound w es)
+    (run sys M bound (run sys M bound w es).world fs)
 
 parts_on :
     {C : Type 0} (sys : SystemTables) (M : Meaning C) (bound : ℕ) (es fs : List Event) →
@@ -31,7 +32,8 @@ parts_on sys M bound es fs rest w Nothing = rest w
 parts_on sys M bound es fs rest w (Did d) = ap (after_first d.lines) (rest d.world)
 parts_on sys M bound es fs rest w (Kept p v) = rest v
 
-parts : {C : Type 0} (sys : SystemTables) (M : Meaning C) (bound : ℕ) (es fs : List Event) (w : World C) → Parts sys M bound es fs w
+parts : {C : Type 0} (sys : SystemTables) (M : Meaning C) (bound : ℕ) (es fs : List Event) (w : World C)
+    → Parts sys M bound es fs w
 parts sys M bound [] fs w = refl
 parts sys M bound (e ∷ es) fs w = parts_on sys M bound es fs (parts sys M bound es fs) w (step sys M bound w e)
 
@@ -50,7 +52,8 @@ events_from sys M bound w es = (run sys M bound w es).events
 
 -- the lines after the events of a part are those of the run from its end
 pub after_part :
-    {C : Type 0} (sys : SystemTables) (M : Meaning C) (bound : ℕ) (es fs : List Event) (w : World C) (a : Arrival C) (k : ℕ) →
+    {C : Type 0} (sys : SystemTables) (M : Meaning C) (bound : ℕ) (es fs : List Event) (w : World C) (a : Arrival C)
+    (k : ℕ) →
     arrival (run sys M bound w es) ≡ a →
     drop (a.count + k) (events_from sys M bound w (es ++ fs)) ≡ drop k (events_from sys M bound a.world fs)
 unfolding events_from
@@ -59,12 +62,14 @@ after_part sys M bound es fs w a k arrives =
     subst
     (λ b. drop (b.count + k) (run sys M bound w (es ++ fs)).events ≡ drop k (run sys M bound b.world fs).events)
     arrives
-    (ap (λ q. drop (length r.events + k) q.events) (parts sys M bound es fs w) ∙ drop-append-add r.events (run sys M bound r.world fs).events k)
+    (ap (λ q. drop (length r.events + k) q.events) (parts sys M bound es fs w)
+    ∙ drop-append-add r.events (run sys M bound r.world fs).events k)
 
 -- what is printed is the text of those lines
 pub printed_from-events :
     (k : ℕ) (sys : SystemTables) (bodies : List BodyTree) (bound : ℕ) (es : List Event) →
     printed_from k sys bodies bound es ≡
-    events_text sys k (drop (k - 1) (events_from sys (text_meaning sys bodies) bound (setup sys (text_meaning sys bodies)).world es))
+    events_text sys k (drop (k - 1) (events_from sys (text_meaning sys bodies) bound
+    (setup sys (text_meaning sys bodies)).world es))
 unfolding events_from
 printed_from-events k sys bodies bound es = refl

@@ -6,7 +6,8 @@ use Rattle.fmp_base.specs.declared.events.Event.TheVariants.{Run, Int}
 use Rattle.fmp_base.specs.declared.systems.Entry.TheVariants as entry
 use Rattle.fmp_base.specs.Systems.{SystemTables}
 use Rattle.fmp_tasklang.specs.Trees.{BodyTree}
-use Rattle.fmp_worked_traces.specs.Builders.{active_task, in_second_class, system, spin_lock, spelled, whole, call, task, handler, usual_bound, lines_of, printed}
+use Rattle.fmp_worked_traces.specs.Builders.{active_task, in_second_class, system, spin_lock, spelled, whole, call}
+use Rattle.fmp_worked_traces.specs.Builders.{task, handler, usual_bound, lines_of, printed}
 
 -- a task of the first processor, two of the second, a spin lock, and a handler of interrupt 3 on the first processor
 abbrev pub lock_and_interrupt : SystemTables

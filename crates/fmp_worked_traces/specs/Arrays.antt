@@ -6,7 +6,8 @@ use Rattle.fmp_base.specs.declared.events.Event.TheVariants.{Run}
 use Rattle.fmp_base.specs.Systems.{SystemTables}
 use Rattle.fmp_tasklang.specs.declared.trees.BodyKind.TheVariants as kind
 use Rattle.fmp_tasklang.specs.Trees.{ExpressionTree, binary, BodyTree}
-use Rattle.fmp_worked_traces.specs.Builders.{active_task, system, spelled, whole, element_at, set_to, set_element, call, variable, array, body_with, usual_bound, lines_of, printed}
+use Rattle.fmp_worked_traces.specs.Builders.{active_task, system, spelled, whole, element_at, set_to, set_element, call}
+use Rattle.fmp_worked_traces.specs.Builders.{variable, array, body_with, usual_bound, lines_of, printed}
 
 -- one task, which starts at setup
 abbrev pub one_task : SystemTables

@@ -21,7 +21,8 @@ use Rattle.fmp_tasklang.specs.declared.trees.Declaration.{Declaration}
 use Rattle.fmp_tasklang.specs.declared.trees.Word.{Word}
 use Rattle.fmp_tasklang.specs.Contexts.{TextContext}
 use Rattle.fmp_tasklang.specs.Texts.{text_meaning}
-use Rattle.fmp_tasklang.specs.Trees.{ExpressionTree, number, named, element, unary, StatementTree, assign, assign_element, service_call, Block, empty, next, BodyTree}
+use Rattle.fmp_tasklang.specs.Trees.{ExpressionTree, number, named, element, unary, StatementTree, assign}
+use Rattle.fmp_tasklang.specs.Trees.{assign_element, service_call, Block, empty, next, BodyTree}
 
 -- a name
 abbrev pub called : String → Name

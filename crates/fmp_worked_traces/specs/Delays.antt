@@ -4,7 +4,8 @@ use Rattle.fmp_base.specs.declared.services.Service.TheVariants as service
 use Rattle.fmp_base.specs.declared.events.Event.TheVariants.{Run, Tick}
 use Rattle.fmp_base.specs.Systems.{SystemTables}
 use Rattle.fmp_tasklang.specs.Trees.{BodyTree}
-use Rattle.fmp_worked_traces.specs.Builders.{active_task, system, whole, call, task, usual_bound, lines_of, printed_from}
+use Rattle.fmp_worked_traces.specs.Builders.{active_task, system, whole, call, task, usual_bound, lines_of}
+use Rattle.fmp_worked_traces.specs.Builders.{printed_from}
 
 -- three tasks, of which the last is the most urgent
 abbrev pub three_tasks : SystemTables

@@ -5,7 +5,8 @@ use Rattle.fmp_base.specs.declared.events.Event.TheVariants.{Run}
 use Rattle.fmp_base.specs.declared.systems.QueueOrder.TheVariants.{Fifo}
 use Rattle.fmp_base.specs.Systems.{SystemTables}
 use Rattle.fmp_tasklang.specs.Trees.{BodyTree}
-use Rattle.fmp_worked_traces.specs.Builders.{called, active_task, dormant_task, system, spelled, whole, call, call_into, task, usual_bound, lines_of, printed_from}
+use Rattle.fmp_worked_traces.specs.Builders.{called, active_task, dormant_task, system, spelled, whole, call, call_into}
+use Rattle.fmp_worked_traces.specs.Builders.{task, usual_bound, lines_of, printed_from}
 
 -- a main task, two tasks of one priority, and an eventflag with TA_WMUL and TA_CLR
 abbrev pub main_and_two : SystemTables

@@ -6,7 +6,8 @@ use Rattle.fmp_base.specs.declared.events.Event.TheVariants.{Run, Tick, Int}
 use Rattle.fmp_base.specs.declared.systems.Entry.TheVariants as entry
 use Rattle.fmp_base.specs.Systems.{SystemTables}
 use Rattle.fmp_tasklang.specs.Trees.{BodyTree}
-use Rattle.fmp_worked_traces.specs.Builders.{called, active_task, dormant_task, system, spelled, whole, call, task, handler, usual_bound, lines_of, printed_at_setup, printed_from}
+use Rattle.fmp_worked_traces.specs.Builders.{called, active_task, dormant_task, system, spelled, whole, call, task}
+use Rattle.fmp_worked_traces.specs.Builders.{handler, usual_bound, lines_of, printed_at_setup, printed_from}
 
 -- a task, a more urgent one that is dormant, and a handler of interrupt 3
 abbrev pub two_and_interrupt : SystemTables

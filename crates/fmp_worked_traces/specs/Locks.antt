@@ -5,7 +5,9 @@ use Rattle.fmp_base.specs.declared.events.Event.TheVariants.{Run}
 use Rattle.fmp_base.specs.declared.operators.BinaryOperator.TheVariants.{Subtract, Divide, Equal}
 use Rattle.fmp_base.specs.Systems.{SystemTables}
 use Rattle.fmp_tasklang.specs.Trees.{ExpressionTree, binary, BodyTree, if_then}
-use Rattle.fmp_worked_traces.specs.Builders.{active_task, one_on_each, shared_word, spin_lock, system, spelled, whole, minus, set_to, call, call_into, block_of, task, usual_bound, lines_of, printed_from}
+use Rattle.fmp_worked_traces.specs.Builders.{active_task, one_on_each, shared_word, spin_lock, system, spelled, whole}
+use Rattle.fmp_worked_traces.specs.Builders.{minus, set_to, call, call_into, block_of, task, usual_bound, lines_of}
+use Rattle.fmp_worked_traces.specs.Builders.{printed_from}
 
 -- a task on each of two processors, and a spin lock
 abbrev pub two_and_lock : SystemTables

@@ -5,7 +5,8 @@ use Rattle.fmp_base.specs.declared.events.Event.TheVariants.{Run}
 use Rattle.fmp_base.specs.declared.systems.QueueOrder.TheVariants.{Fifo, Priority}
 use Rattle.fmp_base.specs.Systems.{SystemTables}
 use Rattle.fmp_tasklang.specs.Trees.{BodyTree}
-use Rattle.fmp_worked_traces.specs.Builders.{called, active_task, system, spelled, call, call_into, task, usual_bound, lines_of, printed_from}
+use Rattle.fmp_worked_traces.specs.Builders.{called, active_task, system, spelled, call, call_into, task, usual_bound}
+use Rattle.fmp_worked_traces.specs.Builders.{lines_of, printed_from}
 
 -- a task, a mailbox with TA_MPRI, and messages of priorities 2 and 1
 abbrev pub one_mailbox : SystemTables

@@ -8,7 +8,8 @@ use Rattle.fmp_base.specs.Names.{name_from}
 use Rattle.fmp_base.specs.States.{places_from}
 use Rattle.fmp_base.specs.Systems.{SystemTables}
 use Rattle.fmp_tasklang.specs.Trees.{BodyTree}
-use Rattle.fmp_worked_traces.specs.Builders.{created_task, system, whole, call, task, usual_bound, lines_of, printed_from}
+use Rattle.fmp_worked_traces.specs.Builders.{created_task, system, whole, call, task, usual_bound, lines_of}
+use Rattle.fmp_worked_traces.specs.Builders.{printed_from}
 
 -- the task of a number: its name is T and the number
 abbrev pub task_numbered : ℕ → TaskConfig

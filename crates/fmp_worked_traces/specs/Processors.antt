@@ -5,7 +5,9 @@ use Rattle.fmp_base.specs.declared.events.Event.{Event}
 use Rattle.fmp_base.specs.declared.events.Event.TheVariants.{Run}
 use Rattle.fmp_base.specs.Systems.{SystemTables}
 use Rattle.fmp_tasklang.specs.Trees.{BodyTree, while}
-use Rattle.fmp_worked_traces.specs.Builders.{active_task, in_second_class, on_one_only, system, one_on_each, spelled, whole, call, block_of, task, usual_bound, lines_of, printed_from, states_after}
+use Rattle.fmp_worked_traces.specs.Builders.{active_task, in_second_class, on_one_only, system, one_on_each, spelled}
+use Rattle.fmp_worked_traces.specs.Builders.{whole, call, block_of, task, usual_bound, lines_of, printed_from}
+use Rattle.fmp_worked_traces.specs.Builders.{states_after}
 
 -- a task in CLASS(TCL_1_ONLY) and one in CLASS(TCL_2)
 abbrev pub bound_and_free : SystemTables

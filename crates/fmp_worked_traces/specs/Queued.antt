@@ -5,7 +5,8 @@ use Rattle.fmp_base.specs.declared.services.Service.{Service}
 use Rattle.fmp_base.specs.declared.services.Service.TheVariants as service
 use Rattle.fmp_base.specs.Systems.{SystemTables}
 use Rattle.fmp_tasklang.specs.Trees.{BodyTree, while}
-use Rattle.fmp_worked_traces.specs.Builders.{active_task, system, one_on_each, in_older_image, spelled, whole, call, block_of, task, usual_bound, lines_of, printed_from}
+use Rattle.fmp_worked_traces.specs.Builders.{active_task, system, one_on_each, in_older_image, spelled, whole, call}
+use Rattle.fmp_worked_traces.specs.Builders.{block_of, task, usual_bound, lines_of, printed_from}
 
 -- m activates T, which runs on processor 2, for starts on processors 2 and 1; t ends at once
 abbrev pub activating_twice : List BodyTree

@@ -4,7 +4,8 @@ use Rattle.fmp_base.specs.declared.events.Event.TheVariants.{Run}
 use Rattle.fmp_base.specs.declared.services.Service.TheVariants as service
 use Rattle.fmp_base.specs.Systems.{SystemTables}
 use Rattle.fmp_tasklang.specs.Trees.{BodyTree}
-use Rattle.fmp_worked_traces.specs.Builders.{active_task, in_second_class, system, whole, call, task, usual_bound, lines_of, printed, printed_from}
+use Rattle.fmp_worked_traces.specs.Builders.{active_task, in_second_class, system, whole, call, task, usual_bound}
+use Rattle.fmp_worked_traces.specs.Builders.{lines_of, printed, printed_from}
 
 -- task M on processor 1, and A and B of priority 10 on processor 2
 abbrev pub one_and_two : (priority : ℕ) → SystemTables

@@ -5,7 +5,8 @@ use Rattle.fmp_base.specs.declared.events.Event.TheVariants.{Run}
 use Rattle.fmp_base.specs.declared.systems.QueueOrder.TheVariants.{Priority}
 use Rattle.fmp_base.specs.Systems.{SystemTables}
 use Rattle.fmp_tasklang.specs.Trees.{StatementTree, BodyTree}
-use Rattle.fmp_worked_traces.specs.Builders.{called, active_task, dormant_task, system, spelled, whole, call, task, usual_bound, lines_of, printed_from}
+use Rattle.fmp_worked_traces.specs.Builders.{called, active_task, dormant_task, system, spelled, whole, call, task}
+use Rattle.fmp_worked_traces.specs.Builders.{usual_bound, lines_of, printed_from}
 
 -- a main task, three tasks of priorities 10, 5 and 5, and a semaphore with TA_TPRI, the count 0 and the limit 3
 abbrev pub main_and_three : SystemTables

@@ -4,7 +4,8 @@ use Rattle.fmp_base.specs.declared.services.Service.TheVariants as service
 use Rattle.fmp_base.specs.declared.events.Event.TheVariants.{Run}
 use Rattle.fmp_base.specs.Systems.{SystemTables}
 use Rattle.fmp_tasklang.specs.Trees.{BodyTree}
-use Rattle.fmp_worked_traces.specs.Builders.{active_task, dormant_task, system, spelled, whole, call, task, usual_bound, lines_of, printed, printed_from}
+use Rattle.fmp_worked_traces.specs.Builders.{active_task, dormant_task, system, spelled, whole, call, task, usual_bound}
+use Rattle.fmp_worked_traces.specs.Builders.{lines_of, printed, printed_from}
 
 -- one task, which starts at setup
 abbrev pub one_task : SystemTables

@@ -1,5 +1,6 @@
 -- In a settled world an actor goes on from its context.
-use Rattle.std.proofs.Common.{◌≡◌, ℕ, zero, suc, ◌<◌, List, [], ◌∷◌, Option, Some, None, length, slice_get, sym, subst, ap, ◌∙◌, refl, arith}
+use Rattle.std.proofs.Common.{◌≡◌, ℕ, zero, suc, ◌<◌, List, [], ◌∷◌, Option, Some, None, length, slice_get, sym, subst}
+use Rattle.std.proofs.Common.{ap, ◌∙◌, refl, arith}
 use Rattle.fmp_base.specs.declared.bodies.Held.{Held}
 use Rattle.fmp_base.specs.declared.bodies.Held.TheVariants.{Goes, Awaits}
 use Rattle.fmp_base.specs.declared.states.Caller.{Caller}
@@ -23,7 +24,8 @@ ready-within [] t h = cc
 ready-within (x ∷ tasks) zero h = omega arith
 ready-within (x ∷ tasks) (suc t) h = let l = ready-within tasks t h in omega (arith, l)
 
-handled-within : (cpus : List Processor) (p : ℕ) (i : Handler) → (found idle (slice_get cpus p)).handler ≡ Some i → p < length cpus
+handled-within : (cpus : List Processor) (p : ℕ) (i : Handler) → (found idle (slice_get cpus p)).handler ≡ Some i
+    → p < length cpus
 handled-within [] p i h = cc
 handled-within (c ∷ cpus) zero i h = omega arith
 handled-within (c ∷ cpus) (suc p) i h = let l = handled-within cpus p i h in omega (arith, l)
@@ -53,7 +55,8 @@ module _ {C : Type 0} (sys : SystemTables) where
   goes-on b (Some (Goes c)) there free e = cc
   goes-on b (Some (Awaits c)) there free e = free c refl
 
-  none-by : (w : World C) (p : ℕ) (o : Option Caller) → IsSettledWorld sys w → actor_of (processor_at w.state p) ≡ o → going_by sys w.contexts p o ≡ None → o ≡ None
+  none-by : (w : World C) (p : ℕ) (o : Option Caller) → IsSettledWorld sys w → actor_of (processor_at w.state p) ≡ o
+      → going_by sys w.contexts p o ≡ None → o ≡ None
   none-by w p None h a e = refl
   none-by w p (Some who) h a e =
       absurd (goes-on (caller_body sys w.contexts p who) (context_of w.contexts p who)

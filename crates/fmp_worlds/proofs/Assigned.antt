@@ -1,5 +1,6 @@
 -- What a processor runs is assigned to it: how this comes through a change of a task or a processor.
-use Rattle.std.proofs.Common.{◌≡◌, ℕ, zero, suc, ◌<◌, List, [], ◌∷◌, length, Some, true, slice_get, slice_set, refl, sym, subst, ap, ◌∙◌, arith}
+use Rattle.std.proofs.Common.{◌≡◌, ℕ, zero, suc, ◌<◌, List, [], ◌∷◌, length, Some, true, slice_get, slice_set, refl}
+use Rattle.std.proofs.Common.{sym, subst, ap, ◌∙◌, arith}
 use Rattle.fmp_base.specs.declared.states.Phase.TheVariants.{Ready}
 use Rattle.fmp_base.specs.declared.states.Processor.{Processor}
 use Rattle.fmp_base.specs.declared.states.TaskBlock.{TaskBlock}
@@ -41,7 +42,8 @@ pub record Assigned (tasks : List TaskBlock) (cpus : List Processor) : Type 0 wh
 abbrev pub Holds : KernelState → Type 0
 Holds s = Assigned s.tasks s.processors
 
-pub fits-task : (tasks : List TaskBlock) (t : ℕ) (y : TaskBlock) (q u : ℕ) → (t ≡ u → Fits q y) → Fits q (task_at tasks u)
+pub fits-task : (tasks : List TaskBlock) (t : ℕ) (y : TaskBlock) (q u : ℕ) → (t ≡ u → Fits q y)
+    → Fits q (task_at tasks u)
     → Fits q (task_at (slice_set tasks t y) u)
 fits-task tasks t y q u h k = set_at (task_at [] 0) (λ x. Fits q x) tasks t y u h k
 
@@ -49,10 +51,14 @@ fits-task tasks t y q u h k = set_at (task_at [] 0) (λ x. Fits q x) tasks t y u
 pub assigned-task : (tasks : List TaskBlock) (cpus : List Processor) (t : ℕ) (y : TaskBlock) → Assigned tasks cpus
     → ((q : ℕ) → Runs cpus q t → Fits q y) → Assigned (slice_set tasks t y) cpus
 assigned-task tasks cpus t y a h =
-    record { each = λ q u r. fits-task tasks t y q u (λ e. h q (subst (λ (v : ℕ). Runs cpus q v) (sym e) r)) (a.each q u r) }
+    record {
+      each = λ q u r. fits-task tasks t y q u (λ e. h q (subst (λ (v : ℕ). Runs cpus q v) (sym e) r)) (a.each q
+          u r);
+    }
 
 -- processor p becomes one whose task it may run
-pub assigned-processor : (tasks : List TaskBlock) (cpus : List Processor) (p : ℕ) (cpu : Processor) → Assigned tasks cpus
+pub assigned-processor : (tasks : List TaskBlock) (cpus : List Processor) (p : ℕ) (cpu : Processor)
+    → Assigned tasks cpus
     → ((t : ℕ) → cpu.run ≡ Some t → Fits p (task_at tasks t)) → Assigned tasks (slice_set cpus p cpu)
 assigned-processor tasks cpus p cpu a h = record { each = λ q t r. after q t r } where
   after : (q t : ℕ) → Runs (slice_set cpus p cpu) q t → Fits q (task_at tasks t)

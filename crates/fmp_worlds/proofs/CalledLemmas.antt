@@ -17,15 +17,23 @@ use Rattle.fmp_base.specs.States.{KernelState, task_at, processor_at}
 use Rattle.fmp_base.specs.Systems.{SystemTables}
 use Rattle.fmp_worlds.proofs.Bools.{or-false, and-false}
 use Rattle.fmp_worlds.proofs.CallerLemmas.{Acts, MayLeave, may_wait, keeps-ter_tsk, keeps-ext_tsk, keeps-mig_tsk}
-use Rattle.fmp_worlds.proofs.ObjectCallLemmas.{keeps-sig_sem, keeps-wai_sem, keeps-twai_sem, keeps-ld_shr, keeps-st_shr, keeps-set_flg, keeps-clr_flg, keeps-wai_flg, keeps-twai_flg}
+use Rattle.fmp_worlds.proofs.ObjectCallLemmas.{keeps-sig_sem, keeps-wai_sem, keeps-twai_sem, keeps-ld_shr, keeps-st_shr}
+use Rattle.fmp_worlds.proofs.ObjectCallLemmas.{keeps-set_flg, keeps-clr_flg, keeps-wai_flg, keeps-twai_flg}
 use Rattle.fmp_worlds.proofs.Outcomes.{Keeps, keeps-refused, keeps-succeeds_in, keeps-within, keeps-refused_if}
-use Rattle.fmp_worlds.proofs.ProcessorCallLemmas.{keeps-sta_cyc, keeps-stp_cyc, keeps-loc_cpu, keeps-unl_cpu, keeps-dispatch_set, keeps-loc_spn, keeps-try_spn, keeps-unl_spn}
-use Rattle.fmp_worlds.proofs.QueueCallLemmas.{keeps-snd_dtq, keeps-tsnd_dtq, keeps-fsnd_dtq, keeps-rcv_dtq, keeps-trcv_dtq, keeps-snd_mbx, keeps-rcv_mbx, keeps-trcv_mbx}
-use Rattle.fmp_worlds.proofs.TaskCallLemmas.{keeps-act_tsk, keeps-iact_tsk, keeps-can_act, keeps-chg_pri, keeps-get_pri, keeps-mact_tsk, keeps-slp_tsk, keeps-tslp_tsk, keeps-wup_tsk, keeps-iwup_tsk, keeps-can_wup, keeps-rel_wai, keeps-sus_tsk, keeps-rsm_tsk, keeps-dly_tsk, keeps-rot_rdq, keeps-irot_rdq, keeps-mrot_rdq, keeps-get_tid}
+use Rattle.fmp_worlds.proofs.ProcessorCallLemmas.{keeps-sta_cyc, keeps-stp_cyc, keeps-loc_cpu, keeps-unl_cpu}
+use Rattle.fmp_worlds.proofs.ProcessorCallLemmas.{keeps-dispatch_set, keeps-loc_spn, keeps-try_spn, keeps-unl_spn}
+use Rattle.fmp_worlds.proofs.QueueCallLemmas.{keeps-snd_dtq, keeps-tsnd_dtq, keeps-fsnd_dtq, keeps-rcv_dtq}
+use Rattle.fmp_worlds.proofs.QueueCallLemmas.{keeps-trcv_dtq, keeps-snd_mbx, keeps-rcv_mbx, keeps-trcv_mbx}
+use Rattle.fmp_worlds.proofs.TaskCallLemmas.{keeps-act_tsk, keeps-iact_tsk, keeps-can_act, keeps-chg_pri, keeps-get_pri}
+use Rattle.fmp_worlds.proofs.TaskCallLemmas.{keeps-mact_tsk, keeps-slp_tsk, keeps-tslp_tsk, keeps-wup_tsk}
+use Rattle.fmp_worlds.proofs.TaskCallLemmas.{keeps-iwup_tsk, keeps-can_wup, keeps-rel_wai, keeps-sus_tsk, keeps-rsm_tsk}
+use Rattle.fmp_worlds.proofs.TaskCallLemmas.{keeps-dly_tsk, keeps-rot_rdq, keeps-irot_rdq, keeps-mrot_rdq}
+use Rattle.fmp_worlds.proofs.TaskCallLemmas.{keeps-get_tid}
 
 -- a task that may make a call on itself that takes it off its processor can be taken off
 may_leave : (s : KernelState) (p me : ℕ) (t c : ℤ)
-    → is_barred (permission (service_of (call.MigTsk t c))) (processor_at s p) (caller.Task me) (call.MigTsk t c) ≡ false
+    → is_barred (permission (service_of (call.MigTsk t c))) (processor_at s p) (caller.Task me) (call.MigTsk t c)
+    ≡ false
     → MayLeave s p me t
 may_leave s p me t c h self =
     let cpu = processor_at s p in
@@ -52,7 +60,8 @@ by_task sys s p me (call.TerTsk task) h = keeps-ter_tsk sys s p me task
 by_task sys s p me (call.ChgPri task priority) h = keeps-chg_pri sys s me task priority
 by_task sys s p me (call.GetPri task) h = keeps-get_pri sys s me task
 by_task sys s p me (call.MactTsk task processor) h = keeps-mact_tsk sys s me task processor
-by_task sys s p me (call.MigTsk task processor) h = keeps-mig_tsk sys s p me task processor (may_leave s p me task processor h)
+by_task sys s p me (call.MigTsk task processor) h = keeps-mig_tsk sys s p me task processor
+    (may_leave s p me task processor h)
 by_task sys s p me call.SlpTsk h = keeps-slp_tsk sys s me Forever (may_wait sys s p me h)
 by_task sys s p me (call.TslpTsk limit) h = keeps-tslp_tsk sys s me limit (may_wait sys s p me h)
 by_task sys s p me (call.WupTsk task) h = keeps-wup_tsk sys s me task
@@ -67,11 +76,15 @@ by_task sys s p me (call.PolSem semaphore) h = keeps-wai_sem sys s me Poll semap
 by_task sys s p me (call.TwaiSem semaphore limit) h = keeps-twai_sem sys s me semaphore limit (may_wait sys s p me h)
 by_task sys s p me (call.SetFlg flag pattern) h = keeps-set_flg sys s flag pattern
 by_task sys s p me (call.ClrFlg flag pattern) h = keeps-clr_flg sys s flag pattern
-by_task sys s p me (call.WaiFlg flag pattern mode) h = keeps-wai_flg sys s me Forever flag pattern mode (may_wait sys s p me h)
+by_task sys s p me (call.WaiFlg flag pattern mode) h = keeps-wai_flg sys s me Forever flag pattern mode
+    (may_wait sys s p me h)
 by_task sys s p me (call.PolFlg flag pattern mode) h = keeps-wai_flg sys s me Poll flag pattern mode tt
-by_task sys s p me (call.TwaiFlg flag pattern mode limit) h = keeps-twai_flg sys s me flag pattern mode limit (may_wait sys s p me h)
-by_task sys s p me (call.SndDtq queue word) h = keeps-snd_dtq sys s me (task_at s.tasks me) Forever queue word (λ c. keeps-within sys s Forever me c (may_wait sys s p me h))
-by_task sys s p me (call.PsndDtq queue word) h = keeps-snd_dtq sys s me (task_at s.tasks me) Poll queue word (λ c. keeps-within sys s Poll me c tt)
+by_task sys s p me (call.TwaiFlg flag pattern mode limit) h = keeps-twai_flg sys s me flag pattern mode limit
+    (may_wait sys s p me h)
+by_task sys s p me (call.SndDtq queue word) h = keeps-snd_dtq sys s me (task_at s.tasks me) Forever queue word
+    (λ c. keeps-within sys s Forever me c (may_wait sys s p me h))
+by_task sys s p me (call.PsndDtq queue word) h = keeps-snd_dtq sys s me (task_at s.tasks me) Poll queue word
+    (λ c. keeps-within sys s Poll me c tt)
 by_task sys s p me (call.TsndDtq queue word limit) h = keeps-tsnd_dtq sys s me queue word limit (may_wait sys s p me h)
 by_task sys s p me (call.FsndDtq queue word) h = keeps-fsnd_dtq sys s queue word
 by_task sys s p me (call.RcvDtq queue) h = keeps-rcv_dtq sys s me Forever queue (may_wait sys s p me h)
@@ -111,7 +124,8 @@ keeps-handler_call sys s p i (call.IwupTsk task) = unless_locked sys s p _ (keep
 keeps-handler_call sys s p i (call.IrelWai task) = unless_locked sys s p _ (keeps-rel_wai sys s task)
 keeps-handler_call sys s p i (call.IsigSem semaphore) = unless_locked sys s p _ (keeps-sig_sem sys s semaphore)
 keeps-handler_call sys s p i (call.IsetFlg flag pattern) = unless_locked sys s p _ (keeps-set_flg sys s flag pattern)
-keeps-handler_call sys s p i (call.IpsndDtq queue word) = unless_locked sys s p _ (keeps-snd_dtq sys s 0 (task_at [] 0) Poll queue word (λ c. keeps-refused sys s er.Tmout))
+keeps-handler_call sys s p i (call.IpsndDtq queue word) = unless_locked sys s p _
+    (keeps-snd_dtq sys s 0 (task_at [] 0) Poll queue word (λ c. keeps-refused sys s er.Tmout))
 keeps-handler_call sys s p i (call.IfsndDtq queue word) = unless_locked sys s p _ (keeps-fsnd_dtq sys s queue word)
 keeps-handler_call sys s p i (call.IrotRdq priority) = unless_locked sys s p _ (keeps-irot_rdq sys s p priority)
 keeps-handler_call sys s p i c = keeps-refused sys s er.Ctx
@@ -119,4 +133,5 @@ keeps-handler_call sys s p i c = keeps-refused sys s er.Ctx
 pub keeps-task_call : (sys : SystemTables) (s : KernelState) (p me : ℕ) (c : Call)
     → Keeps (Acts sys s p me) p (Some me) sys s (called sys s p (caller.Task me) c)
 keeps-task_call sys s p me c =
-    keeps-refused_if sys s (is_barred (permission (service_of c)) (processor_at s p) (caller.Task me) c) er.Ctx _ (λ e. by_task sys s p me c e)
+    keeps-refused_if sys s (is_barred (permission (service_of c)) (processor_at s p) (caller.Task me) c) er.Ctx _
+    (λ e. by_task sys s p me c e)

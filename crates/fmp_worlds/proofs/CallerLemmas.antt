@@ -1,5 +1,6 @@
 -- The calls of a task that may stop what its processor runs: ter_tsk on another task of it, mig_tsk and ext_tsk.
-use Rattle.std.proofs.Common.{◌≡◌, ℕ, zero, suc, ℤ, pos, negsuc, Some, None, Bool, true, false, ◌||◌, not, ◌⊎◌, inl, inr, length, nat_eq, nat_lt, slice_set, refl, sym, subst, ◌∙◌, arith, if◌then◌else◌}
+use Rattle.std.proofs.Common.{◌≡◌, ℕ, zero, suc, ℤ, pos, negsuc, Some, None, Bool, true, false, ◌||◌, not, ◌⊎◌, inl}
+use Rattle.std.proofs.Common.{inr, length, nat_eq, nat_lt, slice_set, refl, sym, subst, ◌∙◌, arith, if◌then◌else◌}
 use Rattle.std.proofs.lemmas.Bool.{eqb-true}
 use Rattle.std.proofs.lemmas.Bool.Decides.{nat_tests}
 use Rattle.fmp_base.specs.declared.calls.Answer.TheVariants.{Ends}
@@ -13,10 +14,13 @@ use Rattle.fmp_base.specs.Queues.{is_ready}
 use Rattle.fmp_base.specs.Settles.{pending_handler}
 use Rattle.fmp_base.specs.States.{KernelState, unchanged, task_at, processor_at}
 use Rattle.fmp_base.specs.Systems.{SystemTables}
-use Rattle.fmp_base.specs.TaskCalls.{self_or, by_number, is_dormant, moved_by, assigned_by, allowed_processor, ter_tsk, mig_tsk, migrated, terminated}
+use Rattle.fmp_base.specs.TaskCalls.{self_or, by_number, is_dormant, moved_by, assigned_by, allowed_processor, ter_tsk}
+use Rattle.fmp_base.specs.TaskCalls.{mig_tsk, migrated, terminated}
 use Rattle.fmp_worlds.proofs.Assigned.{Runs, Fits, Holds, IsRunNowhere, fits-task}
 use Rattle.fmp_worlds.proofs.Bools.{or-false, not-false}
-use Rattle.fmp_worlds.proofs.Changes.{SameActors, actors-moved, holds-ended, holds-ended_itself, actors-ended_by, actors-ended_itself, handlers-ended_itself, handlers-same, lines-ended_by, lines-ended_itself}
+use Rattle.fmp_worlds.proofs.Changes.{SameActors, actors-moved, holds-ended, holds-ended_itself, actors-ended_by}
+use Rattle.fmp_worlds.proofs.Changes.{actors-ended_itself, handlers-ended_itself, handlers-same, lines-ended_by}
+use Rattle.fmp_worlds.proofs.Changes.{lines-ended_itself}
 use Rattle.fmp_worlds.proofs.Lines.{IsOwn}
 use Rattle.fmp_worlds.proofs.Told.{IsReady, changed, ended-told, still, woken-ended, woken-ended_itself}
 use Rattle.fmp_worlds.proofs.Outcomes.{Keeps, MayWait, keeps-succeeds, keeps-tested, keeps-refused_if, keeps-on_task}
@@ -65,11 +69,16 @@ keeps-ter_tsk sys s p me t = keeps-on_task sys s (by_number s t) _ (λ u o. by_b
       (λ e. keeps-refused_if sys s (is_dormant x.phase || not (nat_eq x.processor p)) er.Obj _
       (λ f. keeps-succeeds sys s _ (λ k a. holds-ended sys (unchanged s) u x (unrun u e (on_processor x p f) k a) a)
       (actors-ended_by x.activations sys (unchanged s) u _)
-      (λ k a. lines-ended_by x.activations sys s u _ (IsOwn s p) (λ q r h. absurd (unrun u e (on_processor x p f) k a r h)))
+      (λ k a. lines-ended_by x.activations sys s u _ (IsOwn s p) (λ q r h. absurd
+      (unrun u e (on_processor x p f) k a r h)))
       (woken-ended x.activations sys s (unchanged s) u _ refl (still (λ t r. r)))))
 
 pub keeps-ext_tsk : (sys : SystemTables) (s : KernelState) (p me : ℕ)
-    → Keeps (Acts sys s p me) p (Some me) sys s (record { answer = Ends; progress = ended_itself sys s p me (task_at s.tasks me) })
+    → Keeps (Acts sys s p me) p (Some me) sys s (record {
+      answer = Ends;
+      progress = ended_itself sys s p me (task_at
+          s.tasks me);
+    })
 keeps-ext_tsk sys s p me =
     record {
       settles = λ k a. can_settle sys _ (holds-ended_itself sys s p me (task_at s.tasks me) k.runs a);
@@ -111,7 +120,12 @@ moved-settles sys s p me u c t may o e k a b = by_order b where
   dispatches q r =
       let only = only_caller sys s p me u q k a e r in
       let free = may (names_caller me (length s.tasks) u t o only.caller) in
-      let there : Dispatches (processor_at s p) (pending_handler sys s p) = record { unhandled = k.unhandled; unlocked = free.0; enabled = free.1; nothing = k.nothing free.0 } in
+      let there : Dispatches (processor_at s p) (pending_handler sys s p) = record {
+        unhandled = k.unhandled;
+        unlocked = free.0;
+        enabled = free.1;
+        nothing = k.nothing free.0;
+      } in
       subst (λ (v : ℕ). Dispatches (processor_at s v) (pending_handler sys s v)) only.place there
 
   by_task : (q v : ℕ) → Runs s.processors q v → (b : Bool) → nat_eq u v ≡ b
@@ -136,7 +150,8 @@ actors-assigned : (b : Bool) (s : KernelState) (u : ℕ) (x : TaskBlock) (c : �
 actors-assigned true s u x c q = refl
 actors-assigned false s u x c q = actors-moved (is_ready x) s u (record x { processor = c }) q
 
-assigned-still : (b : Bool) (s : KernelState) (u c t : ℕ) → IsReady (assigned_by b s u (task_at s.tasks u) c) t → IsReady s t
+assigned-still : (b : Bool) (s : KernelState) (u c t : ℕ) → IsReady (assigned_by b s u (task_at s.tasks u) c) t
+    → IsReady s t
 assigned-still true s u c t = λ r. r
 assigned-still false s u c t = by_order (is_ready (task_at s.tasks u)) where
   by_order : (b : Bool) → IsReady (moved_by b s u (record (task_at s.tasks u) { processor = c })) t → IsReady s t
@@ -146,17 +161,21 @@ assigned-still false s u c t = by_order (is_ready (task_at s.tasks u)) where
 pub keeps-mig_tsk : (sys : SystemTables) (s : KernelState) (p me : ℕ) (t c : ℤ) → MayLeave s p me t
     → Keeps (Acts sys s p me) p (Some me) sys s (mig_tsk sys s p me t c)
 keeps-mig_tsk sys s p me t c may =
-    keeps-on_task sys s (self_or s me t) _ (λ u o. keeps-tested sys s er.Par (allowed_processor sys u c) _ (λ q. by_block u o q)) where
-      by_block : (u : ℕ) → self_or s me t ≡ Some u → (q : ℕ) → Keeps (Acts sys s p me) p (Some me) sys s (migrated s p u (task_at s.tasks u) q)
+    keeps-on_task sys s (self_or s me t) _ (λ u o. keeps-tested sys s er.Par (allowed_processor sys u c) _
+    (λ q. by_block u o q)) where
+      by_block : (u : ℕ) → self_or s me t ≡ Some u → (q : ℕ) → Keeps (Acts sys s p me) p (Some me) sys s
+          (migrated s p u (task_at s.tasks u) q)
       by_block u o q =
           let x = task_at s.tasks u in
           keeps-refused_if sys s (is_dormant x.phase || not (nat_eq x.processor p)) er.Obj _ (λ e. record {
-            settles = λ k a. assigned-settles (nat_eq x.processor q) sys s u q a (moved-settles sys s p me u q t may o (on_processor x p e) k a (is_ready x));
+            settles = λ k a. assigned-settles (nat_eq x.processor q) sys s u q a
+                (moved-settles sys s p me u q t may o (on_processor x p e) k a (is_ready x));
             spins = λ h. cc;
             waits = λ h. cc;
             ends = λ h. cc;
             actors = λ v n. actors-assigned (nat_eq x.processor q) s u x q v;
-            handlers = handlers-same s (assigned_by (nat_eq x.processor q) s u x q) (actors-assigned (nat_eq x.processor q) s u x q);
+            handlers = handlers-same s (assigned_by (nat_eq x.processor q) s u x q)
+                (actors-assigned (nat_eq x.processor q) s u x q);
             lines = λ k a. tt;
             woken = still (assigned-still (nat_eq x.processor q) s u q);
           })
@@ -170,5 +189,10 @@ may_wait sys s p me h =
     record {
       is = refl;
       runs = λ k. k.runs;
-      dispatches = λ k. record { unhandled = k.unhandled; unlocked = parts.0; enabled = parts.1; nothing = k.nothing parts.0 };
+      dispatches = λ k. record {
+        unhandled = k.unhandled;
+        unlocked = parts.0;
+        enabled = parts.1;
+        nothing = k.nothing parts.0;
+      };
     }

@@ -9,11 +9,13 @@ use Rattle.fmp_base.specs.declared.states.Phase.{Phase}
 use Rattle.fmp_base.specs.declared.states.Phase.TheVariants.{Dormant, Ready, Waiting}
 use Rattle.fmp_base.specs.declared.states.Processor.{Processor}
 use Rattle.fmp_base.specs.declared.states.TaskBlock.{TaskBlock}
-use Rattle.fmp_base.specs.Changes.{started, started_block, released, released_state, ended, ended_by, ended_block, ended_itself, with_nothing_run, suspended, suspended_by}
+use Rattle.fmp_base.specs.Changes.{started, started_block, released, released_state, ended, ended_by, ended_block}
+use Rattle.fmp_base.specs.Changes.{ended_itself, with_nothing_run, suspended, suspended_by}
 use Rattle.fmp_base.specs.States.{KernelState, Progress, unchanged, task_at, processor_at, with_processor, idle}
 use Rattle.fmp_base.specs.Systems.{SystemTables}
 use Rattle.fmp_base.specs.TaskCalls.{moved_by}
-use Rattle.fmp_worlds.proofs.Assigned.{set_at, set_over, set_other, run-once, Runs, Assigned, Holds, IsRunNowhere, assigned-processor, assigned-alike, assigned-unrun}
+use Rattle.fmp_worlds.proofs.Assigned.{set_at, set_over, set_other, run-once, Runs, Assigned, Holds, IsRunNowhere}
+use Rattle.fmp_worlds.proofs.Assigned.{assigned-processor, assigned-alike, assigned-unrun}
 use Rattle.fmp_worlds.proofs.Lines.{IsOwn}
 
 -- a processor changes, and not what it runs
@@ -49,7 +51,8 @@ holds-ended sys g t x u a = ended_from x.activations sys g t (ended_block sys t 
 nowhere : (s : KernelState) (p t : ℕ) → Runs s.processors p t → Holds s
     → IsRunNowhere (with_nothing_run s p).processors t
 nowhere s p t r a q =
-    set_over idle (λ c. c.run ≡ Some t → ⊥) s.processors p _ q (λ e. cc) (λ e h. cc) (λ apart h. apart (let f = a.each p t r in let g = a.each q t h in sym f.place ∙ g.place))
+    set_over idle (λ c. c.run ≡ Some t → ⊥) s.processors p _ q (λ e. cc) (λ e h. cc)
+    (λ apart h. apart (let f = a.each p t r in let g = a.each q t h in sym f.place ∙ g.place))
 
 pub holds-ended_itself : (sys : SystemTables) (s : KernelState) (p t : ℕ) (x : TaskBlock) → Runs s.processors p t
     → Holds s → Holds (ended_itself sys s p t x).state
@@ -57,7 +60,8 @@ holds-ended_itself sys s p t x r a =
     holds-ended sys (unchanged (with_nothing_run s p)) t x (nowhere s p t r a)
     (assigned-processor s.tasks s.processors p _ a (λ u h. cc))
 
-suspended_from : (phase : Phase) (s : KernelState) (t : ℕ) (y : TaskBlock) → Assigned (slice_set s.tasks t y) s.processors
+suspended_from : (phase : Phase) (s : KernelState) (t : ℕ) (y : TaskBlock)
+    → Assigned (slice_set s.tasks t y) s.processors
     → Holds (suspended_by phase s t y)
 suspended_from Dormant s t y a = a
 suspended_from Ready s t y a = a
@@ -125,7 +129,8 @@ actors-ended_itself sys s p t x q apart =
 pub handlers-ended_itself : (sys : SystemTables) (s : KernelState) (p t : ℕ) (x : TaskBlock)
     → SameHandlers s (ended_itself sys s p t x).state
 handlers-ended_itself sys s p t x q =
-    ap (λ (y : Option Handler × Option ℕ). y.0) (actors-ended_by x.activations sys (unchanged (with_nothing_run s p)) t _ q)
+    ap (λ (y : Option Handler × Option ℕ). y.0) (actors-ended_by x.activations sys
+    (unchanged (with_nothing_run s p)) t _ q)
     ∙ set_at idle (λ (c : Processor). c.handler ≡ (processor_at s q).handler) s.processors p _ q
     (λ same. ap (λ (v : ℕ). (processor_at s v).handler) same) refl
 
@@ -141,7 +146,9 @@ pub lines-ended_by : (n : ℕ) (sys : SystemTables) (s : KernelState) (t : ℕ) 
 lines-ended_by zero sys s t y P h = tt
 lines-ended_by (suc n) sys s t y P h = (h _, tt)
 
-pub lines-ended_itself : (sys : SystemTables) (s : KernelState) (p t : ℕ) (x : TaskBlock) → Runs s.processors p t → Holds s
+pub lines-ended_itself : (sys : SystemTables) (s : KernelState) (p t : ℕ) (x : TaskBlock) → Runs s.processors p t
+    → Holds s
     → AllByRecursion (IsOwn s p) (ended_itself sys s p t x).lines
 lines-ended_itself sys s p t x r a =
-    lines-ended_by x.activations sys (with_nothing_run s p) t _ (IsOwn s p) (λ q v h. run-once s.tasks s.processors t p v a r h)
+    lines-ended_by x.activations sys (with_nothing_run s p) t _ (IsOwn s p)
+    (λ q v h. run-once s.tasks s.processors t p v a r h)

@@ -1,5 +1,6 @@
 -- An actor goes on from its context through every event that does not run it.
-use Rattle.std.proofs.Common.{◌≡◌, ℕ, zero, suc, ◌+◌, List, [], ◌∷◌, ◌++◌, Option, Some, None, Bool, true, false, ◌||◌, length, refl, sym, subst, ap, ◌∙◌, arith, if◌then◌else◌}
+use Rattle.std.proofs.Common.{◌≡◌, ℕ, zero, suc, ◌+◌, List, [], ◌∷◌, ◌++◌, Option, Some, None, Bool, true, false, ◌||◌}
+use Rattle.std.proofs.Common.{length, refl, sym, subst, ap, ◌∙◌, arith, if◌then◌else◌}
 use Rattle.std.specs.List.{AllByRecursion}
 use Rattle.fmp_base.specs.declared.bodies.HandlerContext.{HandlerContext}
 use Rattle.fmp_base.specs.declared.bodies.Held.{Held}
@@ -19,12 +20,15 @@ use Rattle.fmp_base.specs.declared.states.Handler.TheVariants as handler
 use Rattle.fmp_base.specs.declared.states.Processor.{Processor}
 use Rattle.fmp_base.specs.declared.systems.InterruptConfig.{InterruptConfig}
 use Rattle.fmp_base.specs.Calls.{called}
-use Rattle.fmp_base.specs.Meanings.{Meaning, Contexts, World, task_body, context_at, context_in, body_in, context_of, context_for, with_context, told, delivered_to, contexts_after, contexts_after_all}
+use Rattle.fmp_base.specs.Meanings.{Meaning, Contexts, World, task_body, context_at, context_in, body_in, context_of}
+use Rattle.fmp_base.specs.Meanings.{context_for, with_context, told, delivered_to, contexts_after, contexts_after_all}
 use Rattle.fmp_base.specs.ProcessorCalls.{is_cpu_locked}
 use Rattle.fmp_base.specs.Queues.{top}
-use Rattle.fmp_base.specs.Settles.{begun, dispatched, dispatch_lines, is_same_task, runs_handler, is_dispatch_held, handler_to_begin, pending_handler, settled_with, settled_on, all_settled, settled}
+use Rattle.fmp_base.specs.Settles.{begun, dispatched, dispatch_lines, is_same_task, runs_handler, is_dispatch_held}
+use Rattle.fmp_base.specs.Settles.{handler_to_begin, pending_handler, settled_with, settled_on, all_settled, settled}
 use Rattle.fmp_base.specs.States.{KernelState, Progress, unchanged, task_at, processor_at, idle, places_from}
-use Rattle.fmp_base.specs.Steps.{Reaction, Nothing, Did, Kept, finished, actor_by, actor_ended, contexts_ended, ended_with, answered, stretched, run_in, run_by, interrupted, interrupted_by, step}
+use Rattle.fmp_base.specs.Steps.{Reaction, Nothing, Did, Kept, finished, actor_by, actor_ended, contexts_ended}
+use Rattle.fmp_base.specs.Steps.{ended_with, answered, stretched, run_in, run_by, interrupted, interrupted_by, step}
 use Rattle.fmp_base.specs.Stretches.{Ending}
 use Rattle.fmp_base.specs.Stretches as ends
 use Rattle.fmp_base.specs.Systems.{SystemTables, interrupt_config, task_config}
@@ -72,13 +76,15 @@ told-goes : {C : Type 0} (M : Meaning C) (b : ℕ) (reply : Reply) (o : Option (
     → told M b reply o ≡ Some (Goes c)
 told-goes {C} M b reply o c e = ap (λ (x : Option (Held C)). told M b reply x) e
 
-told-in : {C : Type 0} (M : Meaning C) (entry : ℕ) (reply : Reply) (o : Option (HandlerContext (Held C))) (b : ℕ) (c : C)
+told-in : {C : Type 0} (M : Meaning C) (entry : ℕ) (reply : Reply) (o : Option (HandlerContext (Held C))) (b : ℕ)
+    (c : C)
     → GoesIn o b c → GoesIn (context_for (body_in o) (told M entry reply (context_in o))) b c
 told-in M entry reply None b c h = let e = h.there in absurd (cc)
 told-in {C} M entry reply (Some x) b c h =
     let e = h.there in
     let same : x ≡ h.is = cc in
-    let goes : Some x.context ≡ Some (Goes c) = ap (λ (y : HandlerContext (Held C)). Some y.context) same ∙ ap (λ (y : Held C). Some y) h.context in
+    let goes : Some x.context ≡ Some (Goes c) = ap (λ (y : HandlerContext (Held C)). Some y.context) same
+    ∙ ap (λ (y : Held C). Some y) h.context in
     record {
       is = record { body = x.body; context = Goes c };
       there = ap (λ (y : Option (Held C)). context_for x.body y) (told-goes M entry reply (Some x.context) c goes);
@@ -86,21 +92,26 @@ told-in {C} M entry reply (Some x) b c h =
       context = refl;
     }
 
-delivered-task : {C : Type 0} (sys : SystemTables) (M : Meaning C) (cs : Contexts (Held C)) (q : ℕ) (who : Caller) (reply : Reply) (t : ℕ) (c : C)
+delivered-task : {C : Type 0} (sys : SystemTables) (M : Meaning C) (cs : Contexts (Held C)) (q : ℕ) (who : Caller)
+    (reply : Reply) (t : ℕ) (c : C)
     → context_at cs.tasks t ≡ Some (Goes c) → context_at (delivered_to sys M cs q who reply).tasks t ≡ Some (Goes c)
 delivered-task {C} sys M cs q (caller.Task u) reply t c h =
     set_at None (λ (o : Option (Held C)). o ≡ Some (Goes c)) cs.tasks u _ t
-    (λ e. told-goes M (task_body sys u) reply (context_at cs.tasks u) c (subst (λ (v : ℕ). context_at cs.tasks v ≡ Some (Goes c)) (sym e) h)) h
+    (λ e. told-goes M (task_body sys u) reply (context_at cs.tasks u) c
+    (subst (λ (v : ℕ). context_at cs.tasks v ≡ Some (Goes c)) (sym e) h)) h
 delivered-task sys M cs q (caller.Handler i) reply t c h = h
 
-delivered-handler : {C : Type 0} (sys : SystemTables) (M : Meaning C) (cs : Contexts (Held C)) (q : ℕ) (who : Caller) (reply : Reply) (p b : ℕ) (c : C)
+delivered-handler : {C : Type 0} (sys : SystemTables) (M : Meaning C) (cs : Contexts (Held C)) (q : ℕ) (who : Caller)
+    (reply : Reply) (p b : ℕ) (c : C)
     → GoesIn (context_at cs.handlers p) b c → GoesIn (context_at (delivered_to sys M cs q who reply).handlers p) b c
 delivered-handler sys M cs q (caller.Task u) reply p b c h = h
 delivered-handler {C} sys M cs q (caller.Handler i) reply p b c h =
     set_at None (λ (o : Option (HandlerContext (Held C))). GoesIn o b c) cs.handlers q _ p
-    (λ e. told-in M _ reply (context_at cs.handlers q) b c (subst (λ (v : ℕ). GoesIn (context_at cs.handlers v) b c) (sym e) h)) h
+    (λ e. told-in M _ reply (context_at cs.handlers q) b c (subst (λ (v : ℕ). GoesIn (context_at cs.handlers v) b c)
+    (sym e) h)) h
 
-after-task : {C : Type 0} (sys : SystemTables) (M : Meaning C) (cs : Contexts (Held C)) (p t : ℕ) (c : C) (l : Line) → Spares p (caller.Task t) l
+after-task : {C : Type 0} (sys : SystemTables) (M : Meaning C) (cs : Contexts (Held C)) (p t : ℕ) (c : C) (l : Line)
+    → Spares p (caller.Task t) l
     → context_at cs.tasks t ≡ Some (Goes c) → context_at (contexts_after sys M cs l).tasks t ≡ Some (Goes c)
 after-task {C} sys M cs p t c (line.Starts q u) s h =
     set_at None (λ (o : Option (Held C)). o ≡ Some (Goes c)) cs.tasks u _ t (λ e. absurd (s e)) h
@@ -115,8 +126,10 @@ after-task sys M cs p t c (line.Fault q who fault) s h = h
 after-task sys M cs p t c (line.Pends q i) s h = h
 after-task sys M cs p t c (line.Runs q u) s h = h
 
-after-handler : {C : Type 0} (sys : SystemTables) (M : Meaning C) (cs : Contexts (Held C)) (p : ℕ) (i : Handler) (b : ℕ) (c : C) (l : Line)
-    → Spares p (caller.Handler i) l → GoesIn (context_at cs.handlers p) b c → GoesIn (context_at (contexts_after sys M cs l).handlers p) b c
+after-handler : {C : Type 0} (sys : SystemTables) (M : Meaning C) (cs : Contexts (Held C)) (p : ℕ) (i : Handler)
+    (b : ℕ) (c : C) (l : Line)
+    → Spares p (caller.Handler i) l → GoesIn (context_at cs.handlers p) b c
+    → GoesIn (context_at (contexts_after sys M cs l).handlers p) b c
 after-handler {C} sys M cs p i b c (line.Begins q j) s h =
     set_at None (λ (o : Option (HandlerContext (Held C))). GoesIn o b c) cs.handlers q _ p (λ e. absurd (s e)) h
 after-handler sys M cs p i b c (line.Gets q u reply) s h = delivered-handler sys M cs q (caller.Task u) reply p b c h
@@ -131,13 +144,16 @@ after-handler sys M cs p i b c (line.Fault q who fault) s h = h
 after-handler sys M cs p i b c (line.Pends q j) s h = h
 after-handler sys M cs p i b c (line.Runs q u) s h = h
 
-after-line : {C : Type 0} (sys : SystemTables) (M : Meaning C) (cs : Contexts (Held C)) (p : ℕ) (who : Caller) (b : ℕ) (c : C) (l : Line) → Spares p who l
+after-line : {C : Type 0} (sys : SystemTables) (M : Meaning C) (cs : Contexts (Held C)) (p : ℕ) (who : Caller) (b : ℕ)
+    (c : C) (l : Line) → Spares p who l
     → IsGoing sys cs p who b c → IsGoing sys (contexts_after sys M cs l) p who b c
 after-line sys M cs p (caller.Task t) b c l s h = (h.0, after-task sys M cs p t c l s h.1)
 after-line sys M cs p (caller.Handler i) b c l s h = after-handler sys M cs p i b c l s h
 
-after-lines : {C : Type 0} (sys : SystemTables) (M : Meaning C) (cs : Contexts (Held C)) (p : ℕ) (who : Caller) (b : ℕ) (c : C) (ls : List Line)
-    → AllByRecursion (Spares p who) ls → IsGoing sys cs p who b c → IsGoing sys (contexts_after_all sys M cs ls) p who b c
+after-lines : {C : Type 0} (sys : SystemTables) (M : Meaning C) (cs : Contexts (Held C)) (p : ℕ) (who : Caller)
+    (b : ℕ) (c : C) (ls : List Line)
+    → AllByRecursion (Spares p who) ls → IsGoing sys cs p who b c
+    → IsGoing sys (contexts_after_all sys M cs ls) p who b c
 after-lines sys M cs p who b c [] s h = h
 after-lines sys M cs p who b c (l ∷ ls) s h =
     after-lines sys M (contexts_after sys M cs l) p who b c ls s.1 (after-line sys M cs p who b c l s.0 h)
@@ -160,7 +176,8 @@ spared-begun p (caller.Task t) g q h e s =
 spared-begun p (caller.Handler i) g q h e s = by_kind h where
   apart : q ≡ p → ⊥
   apart same =
-      let runs : (processor_at g.state q).handler ≡ Some i = subst (λ (v : ℕ). (processor_at g.state v).handler ≡ Some i) (sym same) s.stays in
+      let runs : (processor_at g.state q).handler ≡ Some i = subst (λ (v : ℕ). (processor_at g.state v).handler
+      ≡ Some i) (sym same) s.stays in
       cc
 
   by_kind : (h : Handler) → Spared p (caller.Handler i) (begun g q (processor_at g.state q) h)
@@ -168,13 +185,15 @@ spared-begun p (caller.Handler i) g q h e s = by_kind h where
       record {
         lines = all-snoc (Spares p (caller.Handler i)) g.lines _ s.lines apart;
         stays =
-            set_at idle (λ (c : Processor). c.handler ≡ Some i) g.state.processors q _ p (λ same. absurd (apart same)) s.stays;
+            set_at idle (λ (c : Processor). c.handler ≡ Some i) g.state.processors q _ p
+            (λ same. absurd (apart same)) s.stays;
       }
   by_kind (handler.Cyclic j) =
       record {
         lines = all-snoc (Spares p (caller.Handler i)) g.lines _ s.lines apart;
         stays =
-            set_at idle (λ (c : Processor). c.handler ≡ Some i) g.state.processors q _ p (λ same. absurd (apart same)) s.stays;
+            set_at idle (λ (c : Processor). c.handler ≡ Some i) g.state.processors q _ p
+            (λ same. absurd (apart same)) s.stays;
       }
 
 dispatch-spares : (same : Bool) (p : ℕ) (who : Caller) (q : ℕ) (t : Option ℕ)
@@ -187,7 +206,8 @@ spared-dispatched : (p : ℕ) (who : Caller) (g : Progress) (q : ℕ) (t : Optio
     → Spared p who (dispatched g q (processor_at g.state q) t)
 spared-dispatched p who g q t s =
     record {
-      lines = all-append (Spares p who) g.lines _ s.lines (dispatch-spares (is_same_task (processor_at g.state q).run t) p who q t);
+      lines = all-append (Spares p who) g.lines _ s.lines (dispatch-spares
+          (is_same_task (processor_at g.state q).run t) p who q t);
       stays = by_kind who s.stays;
     } where
       by_kind : (who : Caller) → Stays p who g.state → Stays p who (dispatched g q (processor_at g.state q) t).state
@@ -206,14 +226,16 @@ spared-with : (o : Option Handler) (sys : SystemTables) (p : ℕ) (who : Caller)
     → Spared p who (settled_with o g q (processor_at g.state q))
 spared-with None sys p who g q e s = spared-none (is_dispatch_held (processor_at g.state q)) p who g q s
 spared-with (Some h) sys p who g q e s =
-    spared-begun p who g q h (none_runs (processor_at g.state q).handler (is_cpu_locked (processor_at g.state q)) (pending_handler sys g.state q) h e) s
+    spared-begun p who g q h (none_runs (processor_at g.state q).handler (is_cpu_locked (processor_at g.state q))
+    (pending_handler sys g.state q) h e) s
 
 spared-all : (sys : SystemTables) (p : ℕ) (who : Caller) (g : Progress) (qs : List ℕ) → Spared p who g
     → Spared p who (all_settled sys g qs)
 spared-all sys p who g [] s = s
 spared-all sys p who g (q ∷ qs) s =
     let next = settled_on sys g q (processor_at g.state q) in
-    spared-all sys p who next qs (spared-with (handler_to_begin sys g.state q (processor_at g.state q)) sys p who g q refl s)
+    spared-all sys p who next qs (spared-with (handler_to_begin sys g.state q (processor_at g.state q)) sys p who g q
+    refl s)
 
 -- events
 
@@ -243,7 +265,8 @@ spare s own p (caller.Handler i) n a (line.Pends q j) h = tt
 spare s own p (caller.Handler i) n a (line.Runs q u) h = tt
 
 -- what is kept of another caller changes
-apart-context : {C : Type 0} (sys : SystemTables) (cs : Contexts (Held C)) (p q : ℕ) (who other : Caller) (b : ℕ) (c : C) (y : Option (Held C))
+apart-context : {C : Type 0} (sys : SystemTables) (cs : Contexts (Held C)) (p q : ℕ) (who other : Caller) (b : ℕ)
+    (c : C) (y : Option (Held C))
     → (q ≡ p → ⊥) → ((t : ℕ) → who ≡ caller.Task t → other ≡ caller.Task t → ⊥) → IsGoing sys cs p who b c
     → IsGoing sys (with_context cs q other y) p who b c
 apart-context sys cs p q (caller.Task t) (caller.Task u) b c y n m h =
@@ -277,7 +300,8 @@ module _ {C : Type 0} (sys : SystemTables) (M : Meaning C) (p : ℕ) (who : Call
   one : (l : Line) → Spares p who l → AllByRecursion (Spares p who) (l ∷ [])
   one l h = (h, tt)
 
-  spares-call : (q : ℕ) (other : Caller) (made : Call) (reply : Option Reply) → Spares p who (line.Call q other made reply)
+  spares-call : (q : ℕ) (other : Caller) (made : Call) (reply : Option Reply)
+      → Spares p who (line.Call q other made reply)
   spares-call q other made reply = by_kind who where
     by_kind : (who : Caller) → Spares p who (line.Call q other made reply)
     by_kind (caller.Task t) = tt
@@ -293,7 +317,8 @@ module _ {C : Type 0} (sys : SystemTables) (M : Meaning C) (p : ℕ) (who : Call
       → AllByRecursion (Spares p who) g.lines → Stays p who g.state → IsGoing sys cs p who b c
       → LeavesGoing sys p who b c (answered answer sys M cs q other made g)
   answered-going (Replies reply) cs q other made g rest h k =
-      finished-going cs (line.Call q other made (Some reply) ∷ []) g (one _ (spares-call q other made (Some reply))) rest h k
+      finished-going cs (line.Call q other made (Some reply) ∷ []) g (one _ (spares-call q other made (Some reply)))
+      rest h k
   answered-going Waits cs q other made g rest h k =
       finished-going cs (line.Call q other made None ∷ []) g (one _ (spares-call q other made None)) rest h k
   answered-going Ends cs q other made g rest h k =
@@ -308,40 +333,52 @@ module _ {C : Type 0} (sys : SystemTables) (M : Meaning C) (p : ℕ) (who : Call
       let acts = subst (λ (v : Caller). IsActor sys s q v) f i in
       n (run-once s.tasks s.processors t q p a acts.runs runs)
 
-  called-going : (w : World C) (q : ℕ) (other : Caller) (d : C) (made : Call) → (q ≡ p → ⊥) → IsActor sys w.state q other → Holds w.state
+  called-going : (w : World C) (q : ℕ) (other : Caller) (d : C) (made : Call) → (q ≡ p → ⊥)
+      → IsActor sys w.state q other → Holds w.state
       → ActsOn p who w.state → IsGoing sys w.contexts p who b c
       → LeavesGoing sys p who b c (stretched sys M w q other (ends.Call d made))
   called-going w q (caller.Task t) d made n i a k h =
       let o = called sys w.state q (caller.Task t) made in
       let f = keeps-task_call sys w.state q t made in
-      answered-going o.answer _ q (caller.Task t) made o.progress (all-map (IsOwn w.state q) (Spares p who) o.progress.lines (spare w.state q p who n k) (f.lines i a))
+      answered-going o.answer _ q (caller.Task t) made o.progress (all-map (IsOwn w.state q)
+      (Spares p who) o.progress.lines (spare w.state q p who n k) (f.lines i a))
       (stays w.state o.progress.state (ap (λ (x : Option Handler × Option ℕ). x.0) (f.actors p n)) k)
-      (apart-context sys w.contexts p q who (caller.Task t) b c (Some (Awaits d)) n (apart w.state q (caller.Task t) n i a k) h)
+      (apart-context sys w.contexts p q who (caller.Task t) b c (Some (Awaits d)) n
+      (apart w.state q (caller.Task t) n i a k) h)
   called-going w q (caller.Handler j) d made n i a k h =
       let o = called sys w.state q (caller.Handler j) made in
       let f = keeps-handler_call sys w.state q j made in
-      answered-going o.answer _ q (caller.Handler j) made o.progress (all-map (IsOwn w.state q) (Spares p who) o.progress.lines (spare w.state q p who n k) (f.lines tt a))
+      answered-going o.answer _ q (caller.Handler j) made o.progress (all-map (IsOwn w.state q)
+      (Spares p who) o.progress.lines (spare w.state q p who n k) (f.lines tt a))
       (stays w.state o.progress.state (ap (λ (x : Option Handler × Option ℕ). x.0) (f.actors p n)) k)
-      (apart-context sys w.contexts p q who (caller.Handler j) b c (Some (Awaits d)) n (apart w.state q (caller.Handler j) n i a k) h)
+      (apart-context sys w.contexts p q who (caller.Handler j) b c (Some (Awaits d)) n
+      (apart w.state q (caller.Handler j) n i a k) h)
 
-  ended-going : (w : World C) (q : ℕ) (other : Caller) (own : Line) → Spares p who own → (q ≡ p → ⊥) → IsActor sys w.state q other → Holds w.state
-      → ActsOn p who w.state → IsGoing sys w.contexts p who b c → LeavesGoing sys p who b c (Did (ended_with sys M w q other own))
+  ended-going : (w : World C) (q : ℕ) (other : Caller) (own : Line) → Spares p who own → (q ≡ p → ⊥)
+      → IsActor sys w.state q other → Holds w.state
+      → ActsOn p who w.state → IsGoing sys w.contexts p who b c
+      → LeavesGoing sys p who b c (Did (ended_with sys M w q other own))
   ended-going w q (caller.Task t) own first n i a k h =
       let x = task_at w.state.tasks t in
       let g = actor_ended sys w.state q (caller.Task t) in
       let fresh : Option (Held C) = Some (Goes (M.start (task_body sys t) (task_config sys t).exinf)) in
       finished-going (contexts_ended sys M w.contexts q (caller.Task t)) (own ∷ []) g (one own first)
-      (all-map (IsOwn w.state q) (Spares p who) g.lines (spare w.state q p who n k) (lines-ended_itself sys w.state q t x i.runs a))
-      (stays w.state g.state (ap (λ (x : Option Handler × Option ℕ). x.0) (actors-ended_itself sys w.state q t x p n)) k)
+      (all-map (IsOwn w.state q) (Spares p who) g.lines (spare w.state q p who n k)
+      (lines-ended_itself sys w.state q t x i.runs a))
+      (stays w.state g.state (ap (λ (x : Option Handler × Option ℕ). x.0) (actors-ended_itself sys w.state q t x p n))
+      k)
       (apart-context sys w.contexts p q who (caller.Task t) b c fresh n (apart w.state q (caller.Task t) n i a k) h)
   ended-going w q (caller.Handler j) own first n i a k h =
       let g = actor_ended sys w.state q (caller.Handler j) in
       finished-going (contexts_ended sys M w.contexts q (caller.Handler j)) (own ∷ []) g (one own first) tt
       (stays w.state g.state (ap (λ (x : Processor). x.handler) (set_other idle w.state.processors q _ p n)) k)
-      (apart-context sys w.contexts p q who (caller.Handler j) b c None n (apart w.state q (caller.Handler j) n i a k) h)
+      (apart-context sys w.contexts p q who (caller.Handler j) b c None n
+      (apart w.state q (caller.Handler j) n i a k) h)
 
-  stretched-going : (w : World C) (q : ℕ) (other : Caller) (x : Ending C) → (q ≡ p → ⊥) → IsActor sys w.state q other → Holds w.state
-      → ActsOn p who w.state → IsGoing sys w.contexts p who b c → LeavesGoing sys p who b c (stretched sys M w q other x)
+  stretched-going : (w : World C) (q : ℕ) (other : Caller) (x : Ending C) → (q ≡ p → ⊥) → IsActor sys w.state q other
+      → Holds w.state
+      → ActsOn p who w.state → IsGoing sys w.contexts p who b c
+      → LeavesGoing sys p who b c (stretched sys M w q other x)
   stretched-going w q other (ends.Call d made) n i a k h = called-going w q other d made n i a k h
   stretched-going w q other (ends.End d) n i a k h =
       ended-going w q other (line.End q other) (spares-end q other) n i a k h
@@ -354,19 +391,22 @@ module _ {C : Type 0} (sys : SystemTables) (M : Meaning C) (p : ℕ) (who : Call
   stretched-going w q other (ends.Over (Some d)) n i a k h =
       apart-context sys w.contexts p q who other b c (Some (Goes d)) n (apart w.state q other n i a k) h
 
-  run_in-going : (n : ℕ) (w : World C) (q : ℕ) (other : Caller) (o : Option (Held C)) → (q ≡ p → ⊥) → IsActor sys w.state q other → Holds w.state
+  run_in-going : (n : ℕ) (w : World C) (q : ℕ) (other : Caller) (o : Option (Held C)) → (q ≡ p → ⊥)
+      → IsActor sys w.state q other → Holds w.state
       → ActsOn p who w.state → IsGoing sys w.contexts p who b c → LeavesGoing sys p who b c (run_in sys M n w q other o)
   run_in-going n w q other None m i a k h = tt
   run_in-going n w q other (Some (Awaits d)) m i a k h = tt
   run_in-going n w q other (Some (Goes d)) m i a k h = stretched-going w q other _ m i a k h
 
   run_by-going : (n : ℕ) (w : World C) (q : ℕ) (i : Option Handler) (t : Option ℕ) → (q ≡ p → ⊥) → IsSettled sys w.state
-      → (processor_at w.state q).handler ≡ i → (processor_at w.state q).run ≡ t → ActsOn p who w.state → IsGoing sys w.contexts p who b c
+      → (processor_at w.state q).handler ≡ i → (processor_at w.state q).run ≡ t → ActsOn p who w.state
+      → IsGoing sys w.contexts p who b c
       → LeavesGoing sys p who b c (run_by sys M n w q (actor_by i t))
   run_by-going n w q (Some i) t m s e r k h =
       run_in-going n w q (caller.Handler i) (context_of w.contexts q (caller.Handler i)) m tt (holds sys w.state s) k h
   run_by-going n w q None (Some t) m s e r k h =
-      run_in-going n w q (caller.Task t) (context_of w.contexts q (caller.Task t)) m (acts sys w.state q t s e r) (holds sys w.state s) k h
+      run_in-going n w q (caller.Task t) (context_of w.contexts q (caller.Task t)) m (acts sys w.state q t s e r)
+      (holds sys w.state s) k h
   run_by-going n w q None None m s e r k h = tt
 
   interrupted-going : (o : Option InterruptConfig) (w : World C) (i : ℕ) → ActsOn p who w.state
@@ -380,26 +420,31 @@ module _ {C : Type 0} (sys : SystemTables) (M : Meaning C) (p : ℕ) (who : Call
     by_pending : (pending : Bool) → LeavesGoing sys p who b c (interrupted_by pending sys M w i)
     by_pending true = tt
     by_pending false =
-        finished-going w.contexts (line.Int i ∷ []) (unchanged (with_interrupt_pending w.state i)) (one _ (first who)) tt
+        finished-going w.contexts (line.Int i ∷ []) (unchanged (with_interrupt_pending w.state i))
+        (one _ (first who)) tt
         (stays w.state (with_interrupt_pending w.state i) refl k) h
 
   ticked-going : (w : World C) → ActsOn p who w.state → IsGoing sys w.contexts p who b c
-      → LeavesGoing sys p who b c (Did (finished sys M w.contexts (line.Tick (w.state.clock + 1) ∷ []) (ticked sys w.state)))
+      → LeavesGoing sys p who b c (Did (finished sys M w.contexts (line.Tick (w.state.clock + 1) ∷ [])
+      (ticked sys w.state)))
   ticked-going w k h =
       let g = ticked sys w.state in
       finished-going w.contexts (line.Tick (w.state.clock + 1) ∷ []) g (one _ (first who))
-      (all-map (IsOwn w.state (suc p)) (Spares p who) g.lines (spare w.state (suc p) p who (λ e. absurd (omega (arith, e))) k) (lines-ticked sys w.state (suc p)))
+      (all-map (IsOwn w.state (suc p)) (Spares p who) g.lines (spare w.state (suc p) p who
+      (λ e. absurd (omega (arith, e))) k) (lines-ticked sys w.state (suc p)))
       (stays w.state g.state (ap (λ (x : Option Handler × Option ℕ). x.0) (actors-ticked sys w.state p)) k) h where
         first : (who : Caller) → Spares p who (line.Tick (w.state.clock + 1))
         first (caller.Task t) = tt
         first (caller.Handler j) = tt
 
   -- an event that does not run p leaves its actor where it goes on
-  pub step-going : (n : ℕ) (w : World C) (e : Event) → IsSettled sys w.state → (run_place e ≡ Some p → ⊥) → ActsOn p who w.state
+  pub step-going : (n : ℕ) (w : World C) (e : Event) → IsSettled sys w.state → (run_place e ≡ Some p → ⊥)
+      → ActsOn p who w.state
       → IsGoing sys w.contexts p who b c → LeavesGoing sys p who b c (step sys M n w e)
   step-going n w (Run zero) s m k h = tt
   step-going n w (Run (suc q)) s m k h =
-      run_by-going n w q (processor_at w.state q).handler (processor_at w.state q).run (λ e. m (ap (λ (v : ℕ). Some v) e)) s refl refl k h
+      run_by-going n w q (processor_at w.state q).handler (processor_at w.state q).run
+      (λ e. m (ap (λ (v : ℕ). Some v) e)) s refl refl k h
   step-going n w Tick s m k h = ticked-going w k h
   step-going n w (Int zero) s m k h = tt
   step-going n w (Int (suc i)) s m k h = interrupted-going (interrupt_config sys i) w i k h

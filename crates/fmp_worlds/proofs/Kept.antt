@@ -1,5 +1,7 @@
 -- A context is kept of each task, and of each handler that runs.
-use Rattle.std.proofs.Common.{◌≡◌, ℕ, zero, suc, ◌+◌, ◌<◌, ◌≤◌, List, [], ◌∷◌, ◌++◌, Option, Some, None, Bool, true, false, ◌&&◌, ◌||◌, ◌⊎◌, inl, inr, length, map, replicate, slice_get, slice_set, refl, sym, subst, ap, ◌∙◌, arith, if◌then◌else◌}
+use Rattle.std.proofs.Common.{◌≡◌, ℕ, zero, suc, ◌+◌, ◌<◌, ◌≤◌, List, [], ◌∷◌, ◌++◌, Option, Some, None, Bool, true}
+use Rattle.std.proofs.Common.{false, ◌&&◌, ◌||◌, ◌⊎◌, inl, inr, length, map, replicate, slice_get, slice_set, refl, sym}
+use Rattle.std.proofs.Common.{subst, ap, ◌∙◌, arith, if◌then◌else◌}
 use Rattle.std.proofs.lemmas.List.{length-set}
 use Rattle.std.specs.List.{AllByRecursion}
 use Rattle.fmp_base.specs.declared.bodies.HandlerContext.{HandlerContext}
@@ -23,13 +25,21 @@ use Rattle.fmp_base.specs.declared.systems.CyclicConfig.{CyclicConfig}
 use Rattle.fmp_base.specs.declared.systems.InterruptConfig.{InterruptConfig}
 use Rattle.fmp_base.specs.declared.systems.TaskConfig.{TaskConfig}
 use Rattle.fmp_base.specs.Calls.{called}
-use Rattle.fmp_base.specs.Meanings.{Meaning, Contexts, World, task_body, context_at, context_in, body_in, context_of, context_for, fresh_context, handler_start, interrupt_start, cyclic_start, told, delivered_to, contexts_after, contexts_after_all, with_context}
+use Rattle.fmp_base.specs.Meanings.{Meaning, Contexts, World, task_body, context_at, context_in, body_in, context_of}
+use Rattle.fmp_base.specs.Meanings.{context_for, fresh_context, handler_start, interrupt_start, cyclic_start, told}
+use Rattle.fmp_base.specs.Meanings.{delivered_to, contexts_after, contexts_after_all, with_context}
 use Rattle.fmp_base.specs.Queues.{top}
-use Rattle.fmp_base.specs.Settles.{dispatched, dispatch_lines, is_same_task, runs_handler, is_dispatch_held, handler_to_begin, is_defined_on, interrupts_on, cycles_on, first_or, first_pending, cyclic_handler, interrupt_or, pending_handler, without_pending, settled_with, settled_on, all_settled, settled}
+use Rattle.fmp_base.specs.Settles.{dispatched, dispatch_lines, is_same_task, runs_handler, is_dispatch_held}
+use Rattle.fmp_base.specs.Settles.{handler_to_begin, is_defined_on, interrupts_on, cycles_on, first_or, first_pending}
+use Rattle.fmp_base.specs.Settles.{cyclic_handler, interrupt_or, pending_handler, without_pending, settled_with}
+use Rattle.fmp_base.specs.Settles.{settled_on, all_settled, settled}
 use Rattle.fmp_base.specs.ProcessorCalls.{is_cpu_locked}
 use Rattle.fmp_base.specs.Setups.{setup, all_started, started_if, created_state, first_contexts}
-use Rattle.fmp_base.specs.States.{KernelState, Progress, unchanged, task_at, processor_at, with_processor, idle, places_from}
-use Rattle.fmp_base.specs.Steps.{Reaction, Nothing, Did, Kept, actor_by, actor_ended, actor_of, call_made, contexts_ended, ended_with, finished, handler_ended, answered, stretched, run_in, run_by, interrupted, interrupted_by, step}
+use Rattle.fmp_base.specs.States.{KernelState, Progress, unchanged, task_at, processor_at, with_processor, idle}
+use Rattle.fmp_base.specs.States.{places_from}
+use Rattle.fmp_base.specs.Steps.{Reaction, Nothing, Did, Kept, actor_by, actor_ended, actor_of, call_made}
+use Rattle.fmp_base.specs.Steps.{contexts_ended, ended_with, finished, handler_ended, answered, stretched, run_in}
+use Rattle.fmp_base.specs.Steps.{run_by, interrupted, interrupted_by, step}
 use Rattle.fmp_base.specs.Stretches.{Ending}
 use Rattle.fmp_base.specs.Stretches as ends
 use Rattle.fmp_base.specs.Systems.{SystemTables, body_of, found, interrupt_config, task_config}
@@ -89,13 +99,15 @@ first-of on i n c rest go (inr h) =
     let below = first.within in
     record { holds = first.holds; within = omega (arith, below) }
 
-first-is : (on : ℕ → Bool) (i : ℕ) (bs : List Bool) (c : ℕ) → first_pending on i bs ≡ Some c → IsFirst on i (length bs) c
+first-is : (on : ℕ → Bool) (i : ℕ) (bs : List Bool) (c : ℕ) → first_pending on i bs ≡ Some c
+    → IsFirst on i (length bs) c
 first-is on i [] c h = cc
 first-is on i (b ∷ bs) c h =
     let rest = first_pending on (i + 1) bs in
     first-of on i (length bs) c rest (λ e. first-is on (i + 1) bs c e) (first-or b (on i) i c rest h)
 
-pending-there : (sys : SystemTables) (s : KernelState) (p : ℕ) (h : Handler) → length s.pending_cyclics ≤ length sys.cyclics
+pending-there : (sys : SystemTables) (s : KernelState) (p : ℕ) (h : Handler)
+    → length s.pending_cyclics ≤ length sys.cyclics
     → pending_handler sys s p ≡ Some h → IsThere (handler_start sys h)
 pending-there sys s p h few e =
     by_interrupt (first_pending (interrupts_on sys p) 0 s.pending_interrupts) h refl e where
@@ -134,7 +146,8 @@ cyclics-with (Some (handler.Interrupt i)) g p cpu = refl
 cyclics-with (Some (handler.Cyclic c)) g p cpu = length-set g.state.pending_cyclics c false
 cyclics-with None g p cpu = by_held (is_dispatch_held cpu) where
   by_held : (b : Bool)
-      → length (if b then g else dispatched g p cpu (top g.state p)).state.pending_cyclics ≡ length g.state.pending_cyclics
+      → length (if b then g else dispatched g p cpu (top g.state p)).state.pending_cyclics
+      ≡ length g.state.pending_cyclics
   by_held true = refl
   by_held false = refl
 
@@ -168,7 +181,8 @@ dispatch-begins_none false p t = (tt, tt)
 
 -- contexts through lines
 
-told-there : {C : Type 0} (M : Meaning C) (b : ℕ) (reply : Reply) (o : Option (Held C)) → IsThere o → IsThere (told M b reply o)
+told-there : {C : Type 0} (M : Meaning C) (b : ℕ) (reply : Reply) (o : Option (Held C)) → IsThere o
+    → IsThere (told M b reply o)
 told-there M b reply None h = h
 told-there M b reply (Some (Goes c)) h = tt
 told-there M b reply (Some (Awaits c)) h = tt
@@ -227,7 +241,8 @@ module _ {C : Type 0} (sys : SystemTables) (M : Meaning C) where
   kept-all cs t [] h = h
   kept-all cs t (l ∷ ls) h = kept-all (contexts_after sys M cs l) t ls (kept-after cs t l h)
 
-  kept-after_on : (cs : Contexts (Held C)) (p : ℕ) (l : Line) → BeginsNone l → IsKeptOn cs p → IsKeptOn (contexts_after sys M cs l) p
+  kept-after_on : (cs : Contexts (Held C)) (p : ℕ) (l : Line) → BeginsNone l → IsKeptOn cs p
+      → IsKeptOn (contexts_after sys M cs l) p
   kept-after_on cs p (line.Begins q i) n h = absurd n
   kept-after_on cs p (line.Starts q u) n h = h
   kept-after_on cs p (line.Gets q u reply) n h = h
@@ -264,7 +279,8 @@ module _ {C : Type 0} (sys : SystemTables) (M : Meaning C) where
   places-after cs (line.Pends q i) = refl
   places-after cs (line.Runs q u) = refl
 
-  places-all : (cs : Contexts (Held C)) (ls : List Line) → length (contexts_after_all sys M cs ls).handlers ≡ length cs.handlers
+  places-all : (cs : Contexts (Held C)) (ls : List Line) → length (contexts_after_all sys M cs ls).handlers
+      ≡ length cs.handlers
   places-all cs [] = refl
   places-all cs (l ∷ ls) = places-all (contexts_after sys M cs l) ls ∙ places-after cs l
 
@@ -306,14 +322,16 @@ module _ {C : Type 0} (sys : SystemTables) (M : Meaning C) where
         was : (p ≡ q → ⊥) → IsThere (processor_at g.state q).handler
         was n =
             subst (λ (c : Processor). IsThere c.handler)
-            (set_other idle u.processors p now q n ∙ ap (λ (cpus : List Processor). found idle (slice_get cpus q)) same) running
+            (set_other idle u.processors p now q n ∙ ap (λ (cpus : List Processor). found idle (slice_get cpus q))
+            same) running
 
   on-dispatched : (cs : Contexts (Held C)) (g : Progress) (p : ℕ) (t : Option ℕ) → KeepsOn cs g
       → KeepsOn cs (dispatched g p (processor_at g.state p) t)
   on-dispatched cs g p t k q within running =
       let more = dispatch_lines (is_same_task (processor_at g.state p).run t) p t in
       subst (λ (ds : Contexts (Held C)). IsKeptOn ds q) (sym (after-append cs g.lines more))
-      (kept-all_on (contexts_after_all sys M cs g.lines) q more (dispatch-begins_none _ p t) (k q inside (was running))) where
+      (kept-all_on (contexts_after_all sys M cs g.lines) q more (dispatch-begins_none _ p t)
+      (k q inside (was running))) where
         inside : q < length (contexts_after_all sys M cs g.lines).handlers
         inside =
             let a = places-all cs (g.lines ++ dispatch_lines (is_same_task (processor_at g.state p).run t) p t) in
@@ -323,7 +341,8 @@ module _ {C : Type 0} (sys : SystemTables) (M : Meaning C) where
         was : IsThere (processor_at (dispatched g p (processor_at g.state p) t).state q).handler
             → IsThere (processor_at g.state q).handler
         was =
-            set_at idle (λ (c : Processor). IsThere c.handler → IsThere (processor_at g.state q).handler) g.state.processors p _ q
+            set_at idle (λ (c : Processor). IsThere c.handler → IsThere (processor_at g.state q).handler)
+            g.state.processors p _ q
             (λ e r. subst (λ (v : ℕ). IsThere (processor_at g.state v).handler) e r) (λ r. r)
 
   on-none : (held : Bool) (cs : Contexts (Held C)) (g : Progress) (p : ℕ) → KeepsOn cs g
@@ -332,15 +351,18 @@ module _ {C : Type 0} (sys : SystemTables) (M : Meaning C) where
   on-none false cs g p k = on-dispatched cs g p (top g.state p) k
 
   on-with : (o : Option Handler) (cs : Contexts (Held C)) (g : Progress) (p : ℕ)
-      → handler_to_begin sys g.state p (processor_at g.state p) ≡ o → length g.state.pending_cyclics ≤ length sys.cyclics
+      → handler_to_begin sys g.state p (processor_at g.state p) ≡ o
+      → length g.state.pending_cyclics ≤ length sys.cyclics
       → KeepsOn cs g → KeepsOn cs (settled_with o g p (processor_at g.state p))
   on-with None cs g p e few k = on-none (is_dispatch_held (processor_at g.state p)) cs g p k
   on-with (Some (handler.Interrupt i)) cs g p e few k =
       on-begun cs g (without_pending g.state (handler.Interrupt i)) p (handler.Interrupt i) refl
-      (begins-there (runs_handler (processor_at g.state p).handler || is_cpu_locked (processor_at g.state p)) sys g.state p _ few e) k
+      (begins-there (runs_handler (processor_at g.state p).handler || is_cpu_locked (processor_at g.state p)) sys
+      g.state p _ few e) k
   on-with (Some (handler.Cyclic c)) cs g p e few k =
       on-begun cs g (without_pending g.state (handler.Cyclic c)) p (handler.Cyclic c) refl
-      (begins-there (runs_handler (processor_at g.state p).handler || is_cpu_locked (processor_at g.state p)) sys g.state p _ few e) k
+      (begins-there (runs_handler (processor_at g.state p).handler || is_cpu_locked (processor_at g.state p)) sys
+      g.state p _ few e) k
 
   on-all : (cs : Contexts (Held C)) (g : Progress) (ps : List ℕ) → length g.state.pending_cyclics ≤ length sys.cyclics
       → KeepsOn cs g → KeepsOn cs (all_settled sys g ps)
@@ -348,7 +370,8 @@ module _ {C : Type 0} (sys : SystemTables) (M : Meaning C) where
   on-all cs g (p ∷ ps) few k =
       let cpu = processor_at g.state p in
       let same = cyclics-with (handler_to_begin sys g.state p cpu) g p cpu in
-      on-all cs (settled_on sys g p cpu) ps (omega (arith, few, same)) (on-with (handler_to_begin sys g.state p cpu) cs g p refl few k)
+      on-all cs (settled_on sys g p cpu) ps (omega (arith, few, same)) (on-with
+      (handler_to_begin sys g.state p cpu) cs g p refl few k)
 
   -- events
 
@@ -382,16 +405,19 @@ module _ {C : Type 0} (sys : SystemTables) (M : Meaning C) where
   no_more : (s u : KernelState) → SameHandlers s u → RunsNoMore s u
   no_more s u h q r = subst (λ (o : Option Handler). IsThere o) (h q) r
 
-  caused-kept : (s : KernelState) (cs : Contexts (Held C)) (own : Line) (g : Progress) → AreKeptTasks cs → AreKeptOn cs s
+  caused-kept : (s : KernelState) (cs : Contexts (Held C)) (own : Line) (g : Progress) → AreKeptTasks cs
+      → AreKeptOn cs s
       → BeginsNone own → AllByRecursion BeginsNone g.lines → RunsNoMore s g.state
       → LeavesKept (Did (finished sys M cs (own ∷ []) g))
   caused-kept s cs own g tasks on first rest more =
       finished-kept cs (own ∷ []) g tasks
-      (λ p within running. kept-all_on cs p (own ∷ g.lines) (first, rest) (on p (inside p within) (more p running))) where
-        inside : (p : ℕ) → p < length (contexts_after_all sys M cs (own ∷ g.lines)).handlers → p < length cs.handlers
-        inside p within = let a = places-all cs (own ∷ g.lines) in omega (arith, within, a)
+      (λ p within running. kept-all_on cs p (own ∷ g.lines) (first, rest) (on p (inside p within) (more p running)))
+    where
+      inside : (p : ℕ) → p < length (contexts_after_all sys M cs (own ∷ g.lines)).handlers → p < length cs.handlers
+      inside p within = let a = places-all cs (own ∷ g.lines) in omega (arith, within, a)
 
-  answered-kept : (answer : Answer) (s : KernelState) (cs : Contexts (Held C)) (p : ℕ) (who : Caller) (made : Call) (g : Progress)
+  answered-kept : (answer : Answer) (s : KernelState) (cs : Contexts (Held C)) (p : ℕ) (who : Caller) (made : Call)
+      (g : Progress)
       → AreKeptTasks cs → AreKeptOn cs s → AllByRecursion BeginsNone g.lines → RunsNoMore s g.state
       → LeavesKept (answered answer sys M cs p who made g)
   answered-kept (Replies reply) s cs p who made g tasks on rest more =
@@ -414,31 +440,39 @@ module _ {C : Type 0} (sys : SystemTables) (M : Meaning C) where
       let same = length-set cs.handlers p (context_for (body_in (context_at cs.handlers p)) (Some c)) in
       set_at None OnHandler cs.handlers p _ q (λ e. tt) (h q (omega (arith, l, same)) running)
 
-  called-kept : (w : World C) (p : ℕ) (who : Caller) (c : Held C) (made : Call) → IsActor sys w.state p who → Holds w.state
-      → AreKept sys w → LeavesKept (call_made sys M (with_context w.contexts p who (Some c)) p who made (called sys w.state p who made))
+  called-kept : (w : World C) (p : ℕ) (who : Caller) (c : Held C) (made : Call) → IsActor sys w.state p who
+      → Holds w.state
+      → AreKept sys w → LeavesKept (call_made sys M (with_context w.contexts p who (Some c)) p who made
+      (called sys w.state p who made))
   called-kept w p (caller.Task me) c made i a k =
       let o = called sys w.state p (caller.Task me) made in
       let f = keeps-task_call sys w.state p me made in
-      answered-kept o.answer w.state (with_context w.contexts p (caller.Task me) (Some c)) p (caller.Task me) made o.progress
+      answered-kept o.answer w.state (with_context w.contexts p (caller.Task me) (Some c)) p
+      (caller.Task me) made o.progress
       (with-tasks w.contexts p (caller.Task me) c k.tasks) (with-on w.state w.contexts p (caller.Task me) c k.handlers)
       (all-map (IsOwn w.state p) BeginsNone o.progress.lines (own-begins_none w.state p) (f.lines i a))
       (no_more w.state o.progress.state f.handlers)
   called-kept w p (caller.Handler j) c made i a k =
       let o = called sys w.state p (caller.Handler j) made in
       let f = keeps-handler_call sys w.state p j made in
-      answered-kept o.answer w.state (with_context w.contexts p (caller.Handler j) (Some c)) p (caller.Handler j) made o.progress
-      (with-tasks w.contexts p (caller.Handler j) c k.tasks) (with-on w.state w.contexts p (caller.Handler j) c k.handlers)
+      answered-kept o.answer w.state (with_context w.contexts p (caller.Handler j) (Some c)) p
+      (caller.Handler j) made o.progress
+      (with-tasks w.contexts p (caller.Handler j) c k.tasks) (with-on w.state w.contexts p
+      (caller.Handler j) c k.handlers)
       (all-map (IsOwn w.state p) BeginsNone o.progress.lines (own-begins_none w.state p) (f.lines tt a))
       (no_more w.state o.progress.state f.handlers)
 
-  ended-kept : (w : World C) (p : ℕ) (who : Caller) (own : Line) → BeginsNone own → IsActor sys w.state p who → Holds w.state
+  ended-kept : (w : World C) (p : ℕ) (who : Caller) (own : Line) → BeginsNone own → IsActor sys w.state p who
+      → Holds w.state
       → AreKept sys w → LeavesKept (Did (ended_with sys M w p who own))
   ended-kept w p (caller.Task t) own n i a k =
       let x = task_at w.state.tasks t in
       let g = actor_ended sys w.state p (caller.Task t) in
       caused-kept w.state (contexts_ended sys M w.contexts p (caller.Task t)) own g
-      (with-tasks w.contexts p (caller.Task t) (Goes (M.start (task_body sys t) (task_config sys t).exinf)) k.tasks) k.handlers n
-      (all-map (IsOwn w.state p) BeginsNone g.lines (own-begins_none w.state p) (lines-ended_itself sys w.state p t x i.runs a))
+      (with-tasks w.contexts p (caller.Task t) (Goes (M.start (task_body sys t) (task_config sys t).exinf)) k.tasks)
+      k.handlers n
+      (all-map (IsOwn w.state p) BeginsNone g.lines (own-begins_none w.state p)
+      (lines-ended_itself sys w.state p t x i.runs a))
       (no_more w.state g.state (handlers-ended_itself sys w.state p t x))
   ended-kept w p (caller.Handler j) own n i a k =
       caused-kept (handler_ended w.state p) (contexts_ended sys M w.contexts p (caller.Handler j)) own
@@ -449,7 +483,8 @@ module _ {C : Type 0} (sys : SystemTables) (M : Meaning C) where
             set_over idle
             (λ (c : Processor). IsThere c.handler → IsKeptOn (contexts_ended sys M w.contexts p (caller.Handler j)) q)
             w.state.processors p _ q (λ r. absurd r) (λ e r. absurd r)
-            (λ m r. subst OnHandler (sym (set_other None w.contexts.handlers p None q m)) (k.handlers q (omega (arith, l, same)) r))
+            (λ m r. subst OnHandler (sym (set_other None w.contexts.handlers p None q m))
+            (k.handlers q (omega (arith, l, same)) r))
 
   stretched-kept : (w : World C) (p : ℕ) (who : Caller) (x : Ending C) → IsActor sys w.state p who → Holds w.state
       → AreKept sys w → LeavesKept (stretched sys M w p who x)
@@ -463,7 +498,8 @@ module _ {C : Type 0} (sys : SystemTables) (M : Meaning C) where
         handlers = with-on w.state w.contexts p who (Goes c) k.handlers;
       }
 
-  run_in-kept : (n : ℕ) (w : World C) (p : ℕ) (who : Caller) (o : Option (Held C)) → IsActor sys w.state p who → Holds w.state
+  run_in-kept : (n : ℕ) (w : World C) (p : ℕ) (who : Caller) (o : Option (Held C)) → IsActor sys w.state p who
+      → Holds w.state
       → AreKept sys w → LeavesKept (run_in sys M n w p who o)
   run_in-kept n w p who None i a k = tt
   run_in-kept n w p who (Some (Awaits c)) i a k = tt
@@ -475,10 +511,12 @@ module _ {C : Type 0} (sys : SystemTables) (M : Meaning C) where
   run_by-kept n w p (Some i) t h e r k =
       run_in-kept n w p (caller.Handler i) (context_of w.contexts p (caller.Handler i)) tt (holds sys w.state h) k
   run_by-kept n w p None (Some t) h e r k =
-      run_in-kept n w p (caller.Task t) (context_of w.contexts p (caller.Task t)) (acts sys w.state p t h e r) (holds sys w.state h) k
+      run_in-kept n w p (caller.Task t) (context_of w.contexts p (caller.Task t)) (acts sys w.state p t h e r)
+      (holds sys w.state h) k
   run_by-kept n w p None None h e r k = tt
 
-  applied_in-kept : (w : World C) (p : ℕ) (who : Caller) (o : Option (Held C)) (x : Ending C) → IsActor sys w.state p who
+  applied_in-kept : (w : World C) (p : ℕ) (who : Caller) (o : Option (Held C)) (x : Ending C)
+      → IsActor sys w.state p who
       → Holds w.state → AreKept sys w → LeavesKept (applied_in sys M w p who o x)
   applied_in-kept w p who None x i a k = tt
   applied_in-kept w p who (Some (Awaits c)) x i a k = tt
@@ -490,23 +528,28 @@ module _ {C : Type 0} (sys : SystemTables) (M : Meaning C) where
   applied_by-kept w p (Some i) t x h e r k =
       applied_in-kept w p (caller.Handler i) (context_of w.contexts p (caller.Handler i)) x tt (holds sys w.state h) k
   applied_by-kept w p None (Some t) x h e r k =
-      applied_in-kept w p (caller.Task t) (context_of w.contexts p (caller.Task t)) x (acts sys w.state p t h e r) (holds sys w.state h) k
+      applied_in-kept w p (caller.Task t) (context_of w.contexts p (caller.Task t)) x (acts sys w.state p t h e r)
+      (holds sys w.state h) k
   applied_by-kept w p None None x h e r k = tt
 
   pub applied-kept : (w : World C) (p : ℕ) (x : Ending C) → IsSettled sys w.state → AreKept sys w
       → LeavesKept (applied_by sys M w p (actor_of (processor_at w.state p)) x)
-  applied-kept w p x h k = applied_by-kept w p (processor_at w.state p).handler (processor_at w.state p).run x h refl refl k
+  applied-kept w p x h k = applied_by-kept w p (processor_at w.state p).handler
+      (processor_at w.state p).run x h refl refl k
 
-  interrupted-kept : (o : Option InterruptConfig) (w : World C) (i : ℕ) → AreKept sys w → LeavesKept (interrupted o sys M w i)
+  interrupted-kept : (o : Option InterruptConfig) (w : World C) (i : ℕ) → AreKept sys w
+      → LeavesKept (interrupted o sys M w i)
   interrupted-kept None w i k = tt
   interrupted-kept (Some config) w i k = by_pending (is_pending w.state.pending_interrupts i) where
     by_pending : (pending : Bool) → LeavesKept (interrupted_by pending sys M w i)
     by_pending true = tt
     by_pending false =
-        caused-kept w.state w.contexts (line.Int i) (unchanged (with_interrupt_pending w.state i)) k.tasks k.handlers tt tt
+        caused-kept w.state w.contexts (line.Int i) (unchanged (with_interrupt_pending w.state i)) k.tasks k.handlers
+        tt tt
         (λ q r. r)
 
-  pub step-kept : (n : ℕ) (w : World C) (e : Event) → IsSettled sys w.state → AreKept sys w → LeavesKept (step sys M n w e)
+  pub step-kept : (n : ℕ) (w : World C) (e : Event) → IsSettled sys w.state → AreKept sys w
+      → LeavesKept (step sys M n w e)
   step-kept n w (Run zero) h k = tt
   step-kept n w (Run (suc p)) h k =
       run_by-kept n w p (processor_at w.state p).handler (processor_at w.state p).run h refl refl k

@@ -14,7 +14,8 @@ IsOwn s own (line.Begins q h) = ⊥
 IsOwn s own (line.Runs q t) = ⊥
 IsOwn s own _ = Unit {0}
 
-pub all-snoc : {A : Type 0} (P : A → Type 0) (xs : List A) (x : A) → AllByRecursion P xs → P x → AllByRecursion P (xs ++ x ∷ [])
+pub all-snoc : {A : Type 0} (P : A → Type 0) (xs : List A) (x : A) → AllByRecursion P xs → P x
+    → AllByRecursion P (xs ++ x ∷ [])
 all-snoc P [] x h k = (k, tt)
 all-snoc P (y ∷ xs) x h k = (h.0, all-snoc P xs x h.1 k)
 

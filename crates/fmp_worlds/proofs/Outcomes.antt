@@ -1,5 +1,6 @@
 -- The effect that every call has: a state that can settle, and nothing where the caller spins for a spin lock.
-use Rattle.std.proofs.Common.{◌≡◌, ℕ, ℤ, [], Option, Some, None, Bool, true, false, ◌⊎◌, inl, inr, nat_eq, refl, sym, subst, arith, slice_set, if◌then◌else◌}
+use Rattle.std.proofs.Common.{◌≡◌, ℕ, ℤ, [], Option, Some, None, Bool, true, false, ◌⊎◌, inl, inr, nat_eq, refl, sym}
+use Rattle.std.proofs.Common.{subst, arith, slice_set, if◌then◌else◌}
 use Rattle.std.specs.List.{AllByRecursion}
 use Rattle.std.proofs.lemmas.Bool.{eqb-true}
 use Rattle.std.proofs.lemmas.Bool.Decides.{nat_tests}
@@ -12,7 +13,8 @@ use Rattle.fmp_base.specs.declared.states.TaskBlock.{TaskBlock}
 use Rattle.fmp_base.specs.declared.states.TimeLimit.{TimeLimit}
 use Rattle.fmp_base.specs.declared.states.TimeLimit.TheVariants as limit
 use Rattle.fmp_base.specs.declared.states.WaitCause.{WaitCause}
-use Rattle.fmp_base.specs.Outcomes.{CallOutcome, refused, succeeds, succeeds_in, gives, waits, waits_within, tested, refused_if, on_task}
+use Rattle.fmp_base.specs.Outcomes.{CallOutcome, refused, succeeds, succeeds_in, gives, waits, waits_within, tested}
+use Rattle.fmp_base.specs.Outcomes.{refused_if, on_task}
 use Rattle.fmp_base.specs.Settles.{pending_handler}
 use Rattle.fmp_base.specs.States.{KernelState, Progress, unchanged, task_at, processor_at, with_last}
 use Rattle.fmp_base.specs.Systems.{SystemTables}
@@ -39,7 +41,8 @@ IsEnded None g = ⊥
 IsEnded (Some t) g = IsReady g.state t → IsTold t g.lines
 
 -- where K is known of the caller, on processor own; it is the task `who`, or a handler
-pub record Keeps (K : Type 0) (own : ℕ) (who : Option ℕ) (sys : SystemTables) (s : KernelState) (o : CallOutcome) : Type 0 where
+pub record Keeps (K : Type 0) (own : ℕ) (who : Option ℕ) (sys : SystemTables) (s : KernelState)
+    (o : CallOutcome) : Type 0 where
   pub settles : K → Holds s → CanSettle sys o.progress.state
   pub spins :
       o.answer ≡ Spins → (o.progress ≡ unchanged s) × IsLockHeld sys s × ((processor_at s own).lock ≡ Free) × IsTask who
@@ -95,7 +98,8 @@ module _ {K : Type 0} {own : ℕ} {who : Option ℕ} (sys : SystemTables) (s : K
         woken = woken;
       }
 
-  pub keeps-succeeds_in : (u : KernelState) → (Holds s → Holds u) → SameActors s u → ((t : ℕ) → IsReady u t → IsReady s t)
+  pub keeps-succeeds_in : (u : KernelState) → (Holds s → Holds u) → SameActors s u
+      → ((t : ℕ) → IsReady u t → IsReady s t)
       → Keeps K own who sys s (succeeds_in u)
   keeps-succeeds_in u h same none = keeps-succeeds (unchanged u) (λ k a. h a) same (λ k a. tt) (still none)
 
@@ -129,7 +133,8 @@ module _ {K : Type 0} {own : ℕ} {who : Option ℕ} (sys : SystemTables) (s : K
     y = record (task_at s.tasks t) { phase = Waiting c; deadline = deadline }
 
     away : IsReady (with_last s t y) t → ⊥
-    away = set_over (task_at [] 0) (λ x. x.phase ≡ Ready → ⊥) s.tasks t y t (λ r. cc) (λ same r. cc) (λ n. absurd (n refl))
+    away = set_over (task_at [] 0) (λ x. x.phase ≡ Ready → ⊥) s.tasks t y t (λ r. cc) (λ same r. cc)
+        (λ n. absurd (n refl))
 
     by_test : K → Holds s → (q v : ℕ) → Runs s.processors q v → (b : Bool) → nat_eq t v ≡ b
         → Fits q (task_at (slice_set s.tasks t y) v) ⊎ Dispatches (processor_at s q) (pending_handler sys s q)
@@ -138,7 +143,8 @@ module _ {K : Type 0} {own : ℕ} {who : Option ℕ} (sys : SystemTables) (s : K
         inr (subst (λ (p : ℕ). Dispatches (processor_at s p) (pending_handler sys s p))
         (run-once s.tasks s.processors t own q a (w.runs k) there) (w.dispatches k))
     by_test k a q v r false apart =
-        inl (fits-task s.tasks t y q v (λ (same : t ≡ v). absurd (grind (arith, nat_tests, same, apart))) (a.each q v r))
+        inl (fits-task s.tasks t y q v (λ (same : t ≡ v). absurd (grind (arith, nat_tests, same, apart)))
+        (a.each q v r))
 
   pub keeps-within : (limit : TimeLimit) (t : ℕ) (c : WaitCause) → Within limit (MayWait K own who sys s t)
       → Keeps K own who sys s (waits_within limit s t (task_at s.tasks t) c)
@@ -146,7 +152,8 @@ module _ {K : Type 0} {own : ℕ} {who : Option ℕ} (sys : SystemTables) (s : K
   keeps-within limit.Poll t c w = keeps-refused er.Tmout
   keeps-within (limit.Ticks n) t c w = keeps-waits t c _ w
 
-  pub keeps-tested : {A : Type 0} (e : Er) (o : Option A) (go : A → CallOutcome) → ((a : A) → Keeps K own who sys s (go a))
+  pub keeps-tested : {A : Type 0} (e : Er) (o : Option A) (go : A → CallOutcome)
+      → ((a : A) → Keeps K own who sys s (go a))
       → Keeps K own who sys s (tested s e o go)
   keeps-tested e None go h = keeps-refused e
   keeps-tested e (Some a) go h = h a
@@ -157,10 +164,12 @@ module _ {K : Type 0} {own : ℕ} {who : Option ℕ} (sys : SystemTables) (s : K
   keeps-refused_if false e o h = h refl
 
   pub keeps-on_task : (o : Option ℕ) (go : ℕ → TaskBlock → CallOutcome)
-      → ((t : ℕ) → o ≡ Some t → Keeps K own who sys s (go t (task_at s.tasks t))) → Keeps K own who sys s (on_task s o go)
+      → ((t : ℕ) → o ≡ Some t → Keeps K own who sys s (go t (task_at s.tasks t)))
+      → Keeps K own who sys s (on_task s o go)
   keeps-on_task None go h = keeps-refused er.Id
   keeps-on_task (Some t) go h = h t refl
 
-  pub keeps-if : (b : Bool) (o p : CallOutcome) → Keeps K own who sys s o → Keeps K own who sys s p → Keeps K own who sys s (if b then o else p)
+  pub keeps-if : (b : Bool) (o p : CallOutcome) → Keeps K own who sys s o → Keeps K own who sys s p
+      → Keeps K own who sys s (if b then o else p)
   keeps-if true o p h k = h
   keeps-if false o p h k = k

@@ -1,8 +1,10 @@
 -- Where no handler is pending, none is after another has begun.
-use Rattle.std.proofs.Common.{◌≡◌, ℕ, zero, suc, ◌+◌, List, [], ◌∷◌, Option, Some, None, Bool, true, false, ◌&&◌, slice_set, refl}
+use Rattle.std.proofs.Common.{◌≡◌, ℕ, zero, suc, ◌+◌, List, [], ◌∷◌, Option, Some, None, Bool, true, false, ◌&&◌}
+use Rattle.std.proofs.Common.{slice_set, refl}
 use Rattle.fmp_base.specs.declared.states.Handler.{Handler}
 use Rattle.fmp_base.specs.declared.states.Handler.TheVariants as handler
-use Rattle.fmp_base.specs.Settles.{pending_handler, first_pending, first_or, cyclic_handler, interrupt_or, interrupts_on, cycles_on, without_pending}
+use Rattle.fmp_base.specs.Settles.{pending_handler, first_pending, first_or, cyclic_handler, interrupt_or}
+use Rattle.fmp_base.specs.Settles.{interrupts_on, cycles_on, without_pending}
 use Rattle.fmp_base.specs.States.{KernelState}
 use Rattle.fmp_base.specs.Systems.{SystemTables}
 

@@ -12,7 +12,8 @@ use Rattle.fmp_base.specs.declared.systems.InterruptConfig.{InterruptConfig}
 use Rattle.fmp_base.specs.Calls.{called}
 use Rattle.fmp_base.specs.Meanings.{Meaning, Contexts, World, context_of}
 use Rattle.fmp_base.specs.States.{KernelState, Progress, processor_at}
-use Rattle.fmp_base.specs.Steps.{Reaction, Nothing, Did, Kept, actor_of, answered, stretched, run_in, run_by, interrupted, interrupted_by, step}
+use Rattle.fmp_base.specs.Steps.{Reaction, Nothing, Did, Kept, actor_of, answered, stretched, run_in, run_by}
+use Rattle.fmp_base.specs.Steps.{interrupted, interrupted_by, step}
 use Rattle.fmp_base.specs.Stretches.{Ending}
 use Rattle.fmp_base.specs.Stretches as ends
 use Rattle.fmp_base.specs.Systems.{SystemTables, interrupt_config}
@@ -41,7 +42,8 @@ module _ {C : Type 0} (sys : SystemTables) (M : Meaning C) where
   stretched-in w p who (ends.Over None) = tt
   stretched-in w p who (ends.Over (Some c)) = refl
 
-  run_in-in : (n : ℕ) (w : World C) (p : ℕ) (who : Caller) (o : Option (Held C)) → KeptIn w.state (run_in sys M n w p who o)
+  run_in-in : (n : ℕ) (w : World C) (p : ℕ) (who : Caller) (o : Option (Held C))
+      → KeptIn w.state (run_in sys M n w p who o)
   run_in-in n w p who None = tt
   run_in-in n w p who (Some (Awaits c)) = tt
   run_in-in n w p who (Some (Goes c)) = stretched-in w p who _
@@ -56,7 +58,8 @@ module _ {C : Type 0} (sys : SystemTables) (M : Meaning C) where
   applied_in-in w p who (Some (Awaits c)) x = tt
   applied_in-in w p who (Some (Goes c)) x = stretched-in w p who x
 
-  pub applied_by-in : (w : World C) (p : ℕ) (o : Option Caller) (x : Ending C) → KeptIn w.state (applied_by sys M w p o x)
+  pub applied_by-in : (w : World C) (p : ℕ) (o : Option Caller) (x : Ending C)
+      → KeptIn w.state (applied_by sys M w p o x)
   applied_by-in w p None x = tt
   applied_by-in w p (Some who) x = applied_in-in w p who (context_of w.contexts p who) x
 

@@ -1,5 +1,6 @@
 -- The calls on cyclic handlers and on the state of a processor have the effect that every call has.
-use Rattle.std.proofs.Common.{◌≡◌, ◌<◌, ℕ, zero, suc, ℤ, pos, negsuc, List, [], ◌∷◌, Option, Some, None, Bool, true, false, ◌||◌, not, length, nat_lt, slice_get, refl, ap, arith, if◌then◌else◌}
+use Rattle.std.proofs.Common.{◌≡◌, ◌<◌, ℕ, zero, suc, ℤ, pos, negsuc, List, [], ◌∷◌, Option, Some, None, Bool, true}
+use Rattle.std.proofs.Common.{false, ◌||◌, not, length, nat_lt, slice_get, refl, ap, arith, if◌then◌else◌}
 use Rattle.std.proofs.lemmas.Bool.{eqb-true}
 use Rattle.std.proofs.lemmas.Bool.Decides.{nat_tests}
 use Rattle.fmp_base.specs.declared.codes.Er.TheVariants as er
@@ -53,14 +54,17 @@ lock_held sys s n e h =
 module _ {K : Type 0} {own : ℕ} {who : Option ℕ} (sys : SystemTables) (s : KernelState) where
   pub keeps-sta_cyc : (c : ℤ) → Keeps K own who sys s (calls.sta_cyc sys s c)
   keeps-sta_cyc c =
-      keeps-tested sys s er.Id (numbered (length s.due_times) c) _ (λ i. keeps-succeeds_in sys s _ (λ a. a) (λ q. refl) (λ t r. r))
+      keeps-tested sys s er.Id (numbered (length s.due_times) c) _ (λ i. keeps-succeeds_in sys s _ (λ a. a)
+      (λ q. refl) (λ t r. r))
 
   pub keeps-stp_cyc : (c : ℤ) → Keeps K own who sys s (calls.stp_cyc s c)
   keeps-stp_cyc c =
-      keeps-tested sys s er.Id (numbered (length s.due_times) c) _ (λ i. keeps-succeeds_in sys s _ (λ a. a) (λ q. refl) (λ t r. r))
+      keeps-tested sys s er.Id (numbered (length s.due_times) c) _ (λ i. keeps-succeeds_in sys s _ (λ a. a)
+      (λ q. refl) (λ t r. r))
 
   cpu_locked_from : (l : Lock) (p : ℕ) → Keeps K own who sys s (calls.cpu_locked_from l s p)
-  cpu_locked_from Free p = keeps-succeeds_in sys s _ (λ a. holds-lock s p Cpu a) (actors-processor s p _ refl) (λ t r. r)
+  cpu_locked_from Free p = keeps-succeeds_in sys s _ (λ a. holds-lock s p Cpu a) (actors-processor s p _ refl)
+      (λ t r. r)
   cpu_locked_from Cpu p = keeps-succeeds_in sys s s (λ a. a) (λ q. refl) (λ t r. r)
   cpu_locked_from (Spin l) p = keeps-succeeds_in sys s s (λ a. a) (λ q. refl) (λ t r. r)
 
@@ -69,16 +73,19 @@ module _ {K : Type 0} {own : ℕ} {who : Option ℕ} (sys : SystemTables) (s : K
 
   cpu_unlocked_from : (l : Lock) (p : ℕ) → Keeps K own who sys s (calls.cpu_unlocked_from l s p)
   cpu_unlocked_from Free p = keeps-succeeds_in sys s s (λ a. a) (λ q. refl) (λ t r. r)
-  cpu_unlocked_from Cpu p = keeps-succeeds_in sys s _ (λ a. holds-lock s p Free a) (actors-processor s p _ refl) (λ t r. r)
+  cpu_unlocked_from Cpu p = keeps-succeeds_in sys s _ (λ a. holds-lock s p Free a) (actors-processor s p _ refl)
+      (λ t r. r)
   cpu_unlocked_from (Spin l) p = keeps-refused sys s er.Ctx
 
   pub keeps-unl_cpu : (p : ℕ) → Keeps K own who sys s (calls.unl_cpu s p)
   keeps-unl_cpu p = cpu_unlocked_from (processor_at s p).lock p
 
   pub keeps-dispatch_set : (p : ℕ) (disabled : Bool) → Keeps K own who sys s (calls.dispatch_set s p disabled)
-  keeps-dispatch_set p disabled = keeps-succeeds_in sys s _ (λ a. holds-processor s p _ refl a) (actors-processor s p _ refl) (λ t r. r)
+  keeps-dispatch_set p disabled = keeps-succeeds_in sys s _ (λ a. holds-processor s p _ refl a)
+      (actors-processor s p _ refl) (λ t r. r)
 
-  spin_lock_taken : (held : Bool) (p l : ℕ) → (held ≡ true → IsLockHeld sys s) → (processor_at s own).lock ≡ Free → IsTask who
+  spin_lock_taken : (held : Bool) (p l : ℕ) → (held ≡ true → IsLockHeld sys s) → (processor_at s own).lock ≡ Free
+      → IsTask who
       → Keeps K own who sys s (calls.spin_lock_taken held s p l)
   spin_lock_taken true p l k free task =
       record {
@@ -91,9 +98,11 @@ module _ {K : Type 0} {own : ℕ} {who : Option ℕ} (sys : SystemTables) (s : K
         lines = λ k a. tt;
         woken = still (λ t r. r);
       }
-  spin_lock_taken false p l k free task = keeps-succeeds_in sys s _ (λ a. holds-lock s p (Spin l) a) (actors-processor s p _ refl) (λ t r. r)
+  spin_lock_taken false p l k free task = keeps-succeeds_in sys s _ (λ a. holds-lock s p (Spin l) a)
+      (actors-processor s p _ refl) (λ t r. r)
 
-  pub keeps-loc_spn : (p : ℕ) (l : ℤ) → (processor_at s own).lock ≡ Free → IsTask who → Keeps K own who sys s (calls.loc_spn sys s p l)
+  pub keeps-loc_spn : (p : ℕ) (l : ℤ) → (processor_at s own).lock ≡ Free → IsTask who
+      → Keeps K own who sys s (calls.loc_spn sys s p l)
   keeps-loc_spn p (pos zero) free task = keeps-refused sys s er.Id
   keeps-loc_spn p (pos (suc n)) free task = by_test (nat_lt n (length sys.spin_locks)) refl where
     by_test : (b : Bool) → nat_lt n (length sys.spin_locks) ≡ b
@@ -106,9 +115,11 @@ module _ {K : Type 0} {own : ℕ} {who : Option ℕ} (sys : SystemTables) (s : K
   pub keeps-try_spn : (p : ℕ) (l : ℤ) → Keeps K own who sys s (calls.try_spn sys s p l)
   keeps-try_spn p l =
       keeps-tested sys s er.Id (numbered (length sys.spin_locks) l) _
-      (λ i. keeps-refused_if sys s (is_held i s.processors) er.Obj _ (λ e. keeps-succeeds_in sys s _ (λ a. holds-lock s p (Spin i) a) (actors-processor s p _ refl) (λ t r. r)))
+      (λ i. keeps-refused_if sys s (is_held i s.processors) er.Obj _ (λ e. keeps-succeeds_in sys s _
+      (λ a. holds-lock s p (Spin i) a) (actors-processor s p _ refl) (λ t r. r)))
 
   pub keeps-unl_spn : (p : ℕ) (l : ℤ) → Keeps K own who sys s (calls.unl_spn sys s p l)
   keeps-unl_spn p l =
       keeps-tested sys s er.Id (numbered (length sys.spin_locks) l) _
-      (λ i. keeps-refused_if sys s (not (is_spin i (processor_at s p).lock)) er.Iluse _ (λ e. keeps-succeeds_in sys s _ (λ a. holds-lock s p Free a) (actors-processor s p _ refl) (λ t r. r)))
+      (λ i. keeps-refused_if sys s (not (is_spin i (processor_at s p).lock)) er.Iluse _
+      (λ e. keeps-succeeds_in sys s _ (λ a. holds-lock s p Free a) (actors-processor s p _ refl) (λ t r. r)))

@@ -28,7 +28,8 @@ IsSettled-run_once sys s h = record { each = λ t p q a b. run-once s.tasks s.pr
 pub setup-settled : {C : Type 0} (sys : SystemTables) (M : Meaning C) → IsSettled sys (setup sys M).world.state
 setup-settled sys M =
     let ts = places_from 0 (length sys.tasks) in
-    settled-settles sys (all_started sys (unchanged (created_state sys)) ts) (can_settle sys _ (holds-all_started sys ts))
+    settled-settles sys (all_started sys (unchanged (created_state sys)) ts)
+    (can_settle sys _ (holds-all_started sys ts))
 
 -- each event that does something leaves a settled state
 pub step-settled : {C : Type 0} (sys : SystemTables) (M : Meaning C) (n : ℕ) (w : World C) (e : Event) (d : Done C)
@@ -37,9 +38,11 @@ step-settled {C} sys M n w e d h k =
     subst (λ (r : Reaction C). LeavesSettled sys r) k (step-leaves_settled sys M n w e h)
 
 -- and so does each event that keeps a place
-pub kept-settled : {C : Type 0} (sys : SystemTables) (M : Meaning C) (n : ℕ) (w : World C) (e : Event) (p : ℕ) (v : World C)
+pub kept-settled : {C : Type 0} (sys : SystemTables) (M : Meaning C) (n : ℕ) (w : World C) (e : Event) (p : ℕ)
+    (v : World C)
     → IsSettled sys w.state → step sys M n w e ≡ Kept p v → IsSettled sys v.state
-kept-settled {C} sys M n w e p v h k = subst (λ (r : Reaction C). LeavesSettled sys r) k (step-leaves_settled sys M n w e h)
+kept-settled {C} sys M n w e p v h k = subst (λ (r : Reaction C). LeavesSettled sys r) k
+    (step-leaves_settled sys M n w e h)
 
 run_on-settled : {C : Type 0} (sys : SystemTables) (w : World C) (x : Reaction C) (rest : World C → Trace C)
     → IsSettled sys w.state → LeavesSettled sys x

@@ -16,7 +16,8 @@ use Rattle.fmp_base.specs.declared.systems.InterruptConfig.{InterruptConfig}
 use Rattle.fmp_base.specs.Calls.{called}
 use Rattle.fmp_base.specs.Meanings.{Meaning, Contexts, World, context_of}
 use Rattle.fmp_base.specs.States.{KernelState, Progress, unchanged, task_at, processor_at}
-use Rattle.fmp_base.specs.Steps.{Reaction, Nothing, Did, Kept, finished, actor_by, actor_ended, contexts_ended, answered, stretched, run_in, run_by, interrupted, interrupted_by, step}
+use Rattle.fmp_base.specs.Steps.{Reaction, Nothing, Did, Kept, finished, actor_by, actor_ended, contexts_ended}
+use Rattle.fmp_base.specs.Steps.{answered, stretched, run_in, run_by, interrupted, interrupted_by, step}
 use Rattle.fmp_base.specs.Stretches.{Ending}
 use Rattle.fmp_base.specs.Stretches as ends
 use Rattle.fmp_base.specs.Systems.{SystemTables, interrupt_config}
@@ -43,11 +44,13 @@ abbrev pub IsActor : SystemTables → KernelState → ℕ → Caller → Type 0
 IsActor sys s p (caller.Task t) = Acts sys s p t
 IsActor sys s p (caller.Handler i) = Unit {0}
 
-finished-settled : {C : Type 0} (sys : SystemTables) (M : Meaning C) (cs : Contexts (Held C)) (own : List Line) (g : Progress)
+finished-settled : {C : Type 0} (sys : SystemTables) (M : Meaning C) (cs : Contexts (Held C)) (own : List Line)
+    (g : Progress)
     → CanSettle sys g.state → LeavesSettled sys (Did (finished sys M cs own g))
 finished-settled sys M cs own g h = settled-settles sys (record g { lines = own ++ g.lines }) h
 
-called-can_settle : (sys : SystemTables) (s : KernelState) (p : ℕ) (who : Caller) (c : Call) → IsActor sys s p who → Holds s
+called-can_settle : (sys : SystemTables) (s : KernelState) (p : ℕ) (who : Caller) (c : Call) → IsActor sys s p who
+    → Holds s
     → CanSettle sys (called sys s p who c).progress.state
 called-can_settle sys s p (caller.Task t) c k a = let h = keeps-task_call sys s p t c in h.settles k a
 called-can_settle sys s p (caller.Handler i) c k a = let h = keeps-handler_call sys s p i c in h.settles tt a
@@ -58,7 +61,8 @@ ended-can_settle sys s p (caller.Task t) k a =
     can_settle sys _ (holds-ended_itself sys s p t (task_at s.tasks t) k.runs a)
 ended-can_settle sys s p (caller.Handler i) k a = can_settle sys _ (holds-processor s p _ refl a)
 
-answered-settled : {C : Type 0} (answer : Answer) (sys : SystemTables) (M : Meaning C) (cs : Contexts (Held C)) (p : ℕ) (who : Caller) (c : Call) (g : Progress)
+answered-settled : {C : Type 0} (answer : Answer) (sys : SystemTables) (M : Meaning C) (cs : Contexts (Held C))
+    (p : ℕ) (who : Caller) (c : Call) (g : Progress)
     → CanSettle sys g.state → LeavesSettled sys (answered answer sys M cs p who c g)
 answered-settled (Replies reply) sys M cs p who c g h =
     finished-settled sys M cs (line.Call p who c (Some reply) ∷ []) g h
@@ -66,18 +70,23 @@ answered-settled Waits sys M cs p who c g h = finished-settled sys M cs (line.Ca
 answered-settled Ends sys M cs p who c g h = finished-settled sys M cs (line.End p who ∷ []) g h
 answered-settled Spins sys M cs p who c g h = tt
 
-pub stretched-settled : {C : Type 0} (sys : SystemTables) (M : Meaning C) (w : World C) (p : ℕ) (who : Caller) (x : Ending C)
+pub stretched-settled : {C : Type 0} (sys : SystemTables) (M : Meaning C) (w : World C) (p : ℕ) (who : Caller)
+    (x : Ending C)
     → IsActor sys w.state p who → IsSettled sys w.state → LeavesSettled sys (stretched sys M w p who x)
 stretched-settled sys M w p who (ends.Call c made) k h =
-    answered-settled (called sys w.state p who made).answer sys M _ p who made (called sys w.state p who made).progress (called-can_settle sys w.state p who made k (holds sys w.state h))
+    answered-settled (called sys w.state p who made).answer sys M _ p who made
+    (called sys w.state p who made).progress (called-can_settle sys w.state p who made k (holds sys w.state h))
 stretched-settled sys M w p who (ends.End c) k h =
-    finished-settled sys M (contexts_ended sys M w.contexts p who) (line.End p who ∷ []) (actor_ended sys w.state p who) (ended-can_settle sys w.state p who k (holds sys w.state h))
+    finished-settled sys M (contexts_ended sys M w.contexts p who) (line.End p who ∷ [])
+    (actor_ended sys w.state p who) (ended-can_settle sys w.state p who k (holds sys w.state h))
 stretched-settled sys M w p who (ends.Fault c fault) k h =
-    finished-settled sys M (contexts_ended sys M w.contexts p who) (line.Fault p who fault ∷ []) (actor_ended sys w.state p who) (ended-can_settle sys w.state p who k (holds sys w.state h))
+    finished-settled sys M (contexts_ended sys M w.contexts p who) (line.Fault p who fault ∷ [])
+    (actor_ended sys w.state p who) (ended-can_settle sys w.state p who k (holds sys w.state h))
 stretched-settled sys M w p who (ends.Over None) k h = tt
 stretched-settled sys M w p who (ends.Over (Some c)) k h = h
 
-run_in-settled : {C : Type 0} (sys : SystemTables) (M : Meaning C) (n : ℕ) (w : World C) (p : ℕ) (who : Caller) (c : Option (Held C))
+run_in-settled : {C : Type 0} (sys : SystemTables) (M : Meaning C) (n : ℕ) (w : World C) (p : ℕ) (who : Caller)
+    (c : Option (Held C))
     → IsActor sys w.state p who → IsSettled sys w.state → LeavesSettled sys (run_in sys M n w p who c)
 run_in-settled sys M n w p who None k a = tt
 run_in-settled sys M n w p who (Some (Awaits c)) k a = tt
@@ -88,7 +97,8 @@ pub acts : (sys : SystemTables) (s : KernelState) (p t : ℕ) → IsSettled sys 
 acts sys s p t h e r =
     record { runs = r; unhandled = e; nothing = λ l. h.begun p (runs-within s.processors p t r) e l }
 
-run_by-settled : {C : Type 0} (sys : SystemTables) (M : Meaning C) (n : ℕ) (w : World C) (p : ℕ) (i : Option Handler) (t : Option ℕ)
+run_by-settled : {C : Type 0} (sys : SystemTables) (M : Meaning C) (n : ℕ) (w : World C) (p : ℕ) (i : Option Handler)
+    (t : Option ℕ)
     → IsSettled sys w.state → (processor_at w.state p).handler ≡ i → (processor_at w.state p).run ≡ t
     → LeavesSettled sys (run_by sys M n w p (actor_by i t))
 run_by-settled sys M n w p (Some i) t h e r =
@@ -97,13 +107,16 @@ run_by-settled sys M n w p None (Some t) h e r =
     run_in-settled sys M n w p (caller.Task t) (context_of w.contexts p (caller.Task t)) (acts sys w.state p t h e r) h
 run_by-settled sys M n w p None None h e r = tt
 
-interrupted_by-settled : {C : Type 0} (b : Bool) (sys : SystemTables) (M : Meaning C) (w : World C) (i : ℕ) → Holds w.state
+interrupted_by-settled : {C : Type 0} (b : Bool) (sys : SystemTables) (M : Meaning C) (w : World C) (i : ℕ)
+    → Holds w.state
     → LeavesSettled sys (interrupted_by b sys M w i)
 interrupted_by-settled true sys M w i a = tt
 interrupted_by-settled false sys M w i a =
-    finished-settled sys M w.contexts (line.Int i ∷ []) (unchanged (with_interrupt_pending w.state i)) (can_settle sys _ a)
+    finished-settled sys M w.contexts (line.Int i ∷ []) (unchanged (with_interrupt_pending w.state i))
+    (can_settle sys _ a)
 
-interrupted-settled : {C : Type 0} (config : Option InterruptConfig) (sys : SystemTables) (M : Meaning C) (w : World C) (i : ℕ)
+interrupted-settled : {C : Type 0} (config : Option InterruptConfig) (sys : SystemTables) (M : Meaning C)
+    (w : World C) (i : ℕ)
     → Holds w.state → LeavesSettled sys (interrupted config sys M w i)
 interrupted-settled None sys M w i a = tt
 interrupted-settled (Some config) sys M w i a =
@@ -115,7 +128,8 @@ step-leaves_settled sys M n w (Run zero) h = tt
 step-leaves_settled sys M n w (Run (suc p)) h =
     run_by-settled sys M n w p (processor_at w.state p).handler (processor_at w.state p).run h refl refl
 step-leaves_settled sys M n w Tick h =
-    finished-settled sys M w.contexts (line.Tick (w.state.clock + 1) ∷ []) (ticked sys w.state) (can_settle sys _ (holds-ticked sys w.state (holds sys w.state h)))
+    finished-settled sys M w.contexts (line.Tick (w.state.clock + 1) ∷ []) (ticked sys w.state)
+    (can_settle sys _ (holds-ticked sys w.state (holds sys w.state h)))
 step-leaves_settled sys M n w (Int zero) h = tt
 step-leaves_settled sys M n w (Int (suc i)) h =
     interrupted-settled (interrupt_config sys i) sys M w i (holds sys w.state h)

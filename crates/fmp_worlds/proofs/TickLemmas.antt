@@ -5,7 +5,8 @@ use Rattle.fmp_base.specs.Outcomes.{code}
 use Rattle.fmp_base.specs.Setups.{all_started, started_if, created_state}
 use Rattle.fmp_base.specs.States.{KernelState, Progress, unchanged, task_at, idle, places_from}
 use Rattle.fmp_base.specs.Systems.{SystemTables, task_config}
-use Rattle.fmp_base.specs.Ticks.{timeout_code, is_due, timed_out, timed_out_by, all_timed_out, is_pending, pended_by, cycled, cycled_by, all_cycled, ticked, with_clock_advanced}
+use Rattle.fmp_base.specs.Ticks.{timeout_code, is_due, timed_out, timed_out_by, all_timed_out, is_pending, pended_by}
+use Rattle.fmp_base.specs.Ticks.{cycled, cycled_by, all_cycled, ticked, with_clock_advanced}
 use Rattle.fmp_worlds.proofs.Assigned.{Runs, Holds}
 use Rattle.fmp_worlds.proofs.Changes.{SameActors, holds-released, actors-released}
 use Rattle.fmp_worlds.proofs.Lines.{IsOwn, all-snoc}
@@ -37,7 +38,8 @@ holds-all_cycled sys g (c ∷ cs) a = holds-all_cycled sys (cycled sys g c) cs (
 
 pub holds-ticked : (sys : SystemTables) (s : KernelState) → Holds s → Holds (ticked sys s).state
 holds-ticked sys s a =
-    holds-all_cycled sys _ (places_from 0 (length s.due_times)) (holds-all_timed_out (unchanged (with_clock_advanced s)) (places_from 0 (length s.tasks)) a)
+    holds-all_cycled sys _ (places_from 0 (length s.due_times)) (holds-all_timed_out
+    (unchanged (with_clock_advanced s)) (places_from 0 (length s.tasks)) a)
 
 -- the clock begins and ends no handler, and starts no task
 record Clocked (s : KernelState) (own : ℕ) (g : Progress) : Type 0 where
@@ -81,7 +83,8 @@ clocked-all_cycled sys s own g (i ∷ is) c =
 clocked-ticked : (sys : SystemTables) (s : KernelState) (own : ℕ) → Clocked s own (ticked sys s)
 clocked-ticked sys s own =
     clocked-all_cycled sys s own _ (places_from 0 (length s.due_times))
-    (clocked-all_timed_out s own (unchanged (with_clock_advanced s)) (places_from 0 (length s.tasks)) (record { actors = λ q. refl; lines = tt }))
+    (clocked-all_timed_out s own (unchanged (with_clock_advanced s)) (places_from 0 (length s.tasks))
+    (record { actors = λ q. refl; lines = tt }))
 
 pub actors-ticked : (sys : SystemTables) (s : KernelState) → SameActors s (ticked sys s).state
 actors-ticked sys s = let c = clocked-ticked sys s 0 in c.actors
@@ -107,15 +110,22 @@ all_started-runs_nothing : (sys : SystemTables) (g : Progress) (ts : List ℕ) �
     → RunsNothing (all_started sys g ts).state
 all_started-runs_nothing sys g [] h = h
 all_started-runs_nothing sys g (t ∷ ts) h =
-    all_started-runs_nothing sys (started_if (task_config sys t).activated sys g t) ts (started_from (task_config sys t).activated sys g t h)
+    all_started-runs_nothing sys (started_if (task_config sys t).activated sys g t) ts
+    (started_from (task_config sys t).activated sys g t h)
 
-pub holds-all_started : (sys : SystemTables) (ts : List ℕ) → Holds (all_started sys (unchanged (created_state sys)) ts).state
+pub holds-all_started : (sys : SystemTables) (ts : List ℕ) → Holds (all_started sys
+    (unchanged (created_state sys)) ts).state
 holds-all_started sys ts =
-    record { each = λ q t r. absurd (all_started-runs_nothing sys (unchanged (created_state sys)) ts (λ q t r. idle-runs_nothing sys.processors q t r) q t r) }
+    record {
+      each = λ q t r. absurd (all_started-runs_nothing sys (unchanged (created_state sys)) ts
+          (λ q t r. idle-runs_nothing sys.processors q t r) q t r);
+    }
 
 -- a task that the clock makes ready is told
-woken-timed_out : (b : Bool) (s : KernelState) (g : Progress) (t : ℕ) → Woken s g → Woken s (timed_out_by b g t (task_at g.state.tasks t))
-woken-timed_out true s g t w = woken-released s g t (task_at g.state.tasks t) (code (timeout_code (task_at g.state.tasks t).phase)) w
+woken-timed_out : (b : Bool) (s : KernelState) (g : Progress) (t : ℕ) → Woken s g
+    → Woken s (timed_out_by b g t (task_at g.state.tasks t))
+woken-timed_out true s g t w = woken-released s g t (task_at g.state.tasks t)
+    (code (timeout_code (task_at g.state.tasks t).phase)) w
 woken-timed_out false s g t w = w
 
 woken-all_timed_out : (s : KernelState) (g : Progress) (ts : List ℕ) → Woken s g → Woken s (all_timed_out g ts)
@@ -124,15 +134,19 @@ woken-all_timed_out s g (t ∷ ts) w =
     let x = task_at g.state.tasks t in
     woken-all_timed_out s (timed_out g t x) ts (woken-timed_out (is_due g.state.clock x.deadline) s g t w)
 
-woken-pended : (b : Bool) (sys : SystemTables) (s : KernelState) (g : Progress) (c : ℕ) → Woken s g → Woken s (pended_by b sys g c)
+woken-pended : (b : Bool) (sys : SystemTables) (s : KernelState) (g : Progress) (c : ℕ) → Woken s g
+    → Woken s (pended_by b sys g c)
 woken-pended true sys s g c w = w
 woken-pended false sys s g c w = woken-line s _ refl w
 
-woken-cycled : (b : Bool) (sys : SystemTables) (s : KernelState) (g : Progress) (c : ℕ) → Woken s g → Woken s (cycled_by b sys g c)
-woken-cycled true sys s g c w = let h = woken-pended (is_pending g.state.pending_cyclics c) sys s g c w in record { each = λ t r. h.each t r }
+woken-cycled : (b : Bool) (sys : SystemTables) (s : KernelState) (g : Progress) (c : ℕ) → Woken s g
+    → Woken s (cycled_by b sys g c)
+woken-cycled true sys s g c w = let h = woken-pended (is_pending g.state.pending_cyclics c) sys s g c w in
+    record { each = λ t r. h.each t r }
 woken-cycled false sys s g c w = w
 
-woken-all_cycled : (sys : SystemTables) (s : KernelState) (g : Progress) (cs : List ℕ) → Woken s g → Woken s (all_cycled sys g cs)
+woken-all_cycled : (sys : SystemTables) (s : KernelState) (g : Progress) (cs : List ℕ) → Woken s g
+    → Woken s (all_cycled sys g cs)
 woken-all_cycled sys s g [] w = w
 woken-all_cycled sys s g (c ∷ cs) w = woken-all_cycled sys s (cycled sys g c) cs (woken-cycled _ sys s g c w)
 

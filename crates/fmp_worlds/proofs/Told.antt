@@ -1,12 +1,14 @@
 -- Which tasks become ready, and the lines that tell them so.
-use Rattle.std.proofs.Common.{◌≡◌, ℕ, zero, suc, List, [], ◌∷◌, ◌++◌, None, Bool, true, false, ◌⊎◌, inl, inr, refl, sym, subst, ap, ◌∙◌, slice_set}
+use Rattle.std.proofs.Common.{◌≡◌, ℕ, zero, suc, List, [], ◌∷◌, ◌++◌, None, Bool, true, false, ◌⊎◌, inl, inr, refl, sym}
+use Rattle.std.proofs.Common.{subst, ap, ◌∙◌, slice_set}
 use Rattle.fmp_base.specs.declared.calls.Reply.{Reply}
 use Rattle.fmp_base.specs.declared.events.Line.{Line}
 use Rattle.fmp_base.specs.declared.events.Line.TheVariants as line
 use Rattle.fmp_base.specs.declared.states.Phase.{Phase}
 use Rattle.fmp_base.specs.declared.states.Phase.TheVariants.{Dormant, Ready, Waiting}
 use Rattle.fmp_base.specs.declared.states.TaskBlock.{TaskBlock}
-use Rattle.fmp_base.specs.Changes.{started, released, released_state, ended_by, ended_block, ended_itself, suspended_by, with_nothing_run}
+use Rattle.fmp_base.specs.Changes.{started, released, released_state, ended_by, ended_block, ended_itself, suspended_by}
+use Rattle.fmp_base.specs.Changes.{with_nothing_run}
 use Rattle.fmp_base.specs.States.{KernelState, Progress, unchanged, task_at}
 use Rattle.fmp_base.specs.Systems.{SystemTables}
 use Rattle.fmp_worlds.proofs.Assigned.{set_at, set_over}
@@ -53,7 +55,8 @@ changed s t y e u =
 pub left : (s : KernelState) (g : Progress) (t : ℕ) (y : TaskBlock) → (y.phase ≡ Ready → ⊥) → Woken s g → (u : ℕ)
     → (task_at (slice_set g.state.tasks t y) u).phase ≡ Ready → IsReady s u ⊎ IsTold u g.lines
 left s g t y n w u =
-    set_at (task_at [] 0) (λ x. x.phase ≡ Ready → IsReady s u ⊎ IsTold u g.lines) g.state.tasks t y u (λ same r. absurd (n r))
+    set_at (task_at [] 0) (λ x. x.phase ≡ Ready → IsReady s u ⊎ IsTold u g.lines) g.state.tasks t y u
+    (λ same r. absurd (n r))
     (λ r. w.each u r)
 
 -- a task changes, and a line tells it
@@ -77,11 +80,15 @@ woken-released s g t x reply w = by_order x.suspended where
   y : TaskBlock
   y = record x { phase = Ready; deadline = None }
 
-  by_order : (b : Bool) → Woken s (record { state = released_state b g.state t y; lines = g.lines ++ line.Gets x.processor t reply ∷ [] })
+  by_order : (b : Bool) → Woken s (record {
+    state = released_state b g.state t y;
+    lines = g.lines ++ line.Gets x.processor t reply ∷ [];
+  })
   by_order true = record { each = told s g t y (line.Gets x.processor t reply) refl w }
   by_order false = record { each = told s g t y (line.Gets x.processor t reply) refl w }
 
-pub woken-ended : (n : ℕ) (sys : SystemTables) (s : KernelState) (g : Progress) (t : ℕ) (y : TaskBlock) → y.phase ≡ Dormant → Woken s g
+pub woken-ended : (n : ℕ) (sys : SystemTables) (s : KernelState) (g : Progress) (t : ℕ) (y : TaskBlock) → y.phase
+    ≡ Dormant → Woken s g
     → Woken s (ended_by n sys g t y)
 woken-ended zero sys s g t y e w = record { each = left s g t y (λ r. cc) w }
 woken-ended (suc n) sys s g t y e w = woken-started sys s g t (record y { activations = n }) w
@@ -94,13 +101,15 @@ ended-told zero sys g t y e =
     (λ n. absurd (n refl))
 ended-told (suc n) sys g t y e = λ r. told-behind t g.lines _ (inl refl)
 
-pub suspended-still : (phase : Phase) (s : KernelState) (t : ℕ) (y : TaskBlock) → y.phase ≡ (task_at s.tasks t).phase → (u : ℕ)
+pub suspended-still : (phase : Phase) (s : KernelState) (t : ℕ) (y : TaskBlock) → y.phase ≡ (task_at s.tasks t).phase
+    → (u : ℕ)
     → IsReady (suspended_by phase s t y) u → IsReady s u
 suspended-still Dormant s t y e u = changed s t y e u
 suspended-still Ready s t y e u = changed s t y e u
 suspended-still (Waiting c) s t y e u = changed s t y e u
 
-pub woken-ended_itself : (sys : SystemTables) (s : KernelState) (p t : ℕ) (x : TaskBlock) → Woken s (ended_itself sys s p t x)
+pub woken-ended_itself : (sys : SystemTables) (s : KernelState) (p t : ℕ) (x : TaskBlock)
+    → Woken s (ended_itself sys s p t x)
 woken-ended_itself sys s p t x =
     woken-ended x.activations sys s (unchanged (with_nothing_run s p)) t (ended_block sys t x) refl (still (λ u r. r))
 

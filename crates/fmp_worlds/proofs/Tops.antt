@@ -1,5 +1,6 @@
 -- The task that is to run on a processor may run there.
-use Rattle.std.proofs.Common.{◌≡◌, ℕ, List, [], ◌∷◌, Option, Some, None, Bool, true, false, cond, ◌⊎◌, inl, inr, not, nat_eq, nat_lt, refl, subst, if◌then◌else◌}
+use Rattle.std.proofs.Common.{◌≡◌, ℕ, List, [], ◌∷◌, Option, Some, None, Bool, true, false, cond, ◌⊎◌, inl, inr, not}
+use Rattle.std.proofs.Common.{nat_eq, nat_lt, refl, subst, if◌then◌else◌}
 use Rattle.std.specs.List.{filter}
 use Rattle.std.proofs.lemmas.Bool.{eqb-true}
 use Rattle.fmp_base.specs.declared.states.Phase.{Phase}
@@ -41,7 +42,8 @@ passes (Waiting c) h = cc
 pub fits-top : (s : KernelState) (q t : ℕ) → top s q ≡ Some t → Fits q (task_at s.tasks t)
 fits-top s q t h =
     let x = task_at s.tasks t in
-    let on : is_ready_on q x ≡ true = first_urgent-passes s.tasks (λ u. is_ready_on q (task_at s.tasks u)) s.order t h in
+    let on : is_ready_on q x ≡ true = first_urgent-passes s.tasks (λ u. is_ready_on q (task_at s.tasks u)) s.order t h
+    in
     let parts = and-true (is_ready x) (nat_eq x.processor q) on in
     let ready = and-true (is_ready_phase x.phase) (not x.suspended) parts.0 in
     record { place = eqb-true x.processor q parts.1; ready = passes x.phase ready.0 }

@@ -10,7 +10,8 @@ returns-in_err-file-clause-err g c =
     let files = g.O.Outside.files c.args.outside.now in
     let cmd = c.args.cmd.now in
     let texts = map (λ t. t.items) c.deref.result.now in
-    let read = subst (λ ts. AreInputs files cmd (map (λ t. t.items) ts)) (sym c.deref.ensures.value) c.in_ok-texts.ensures.texts in
+    let read = subst (λ ts. AreInputs files cmd (map (λ t. t.items) ts))
+    (sym c.deref.ensures.value) c.in_ok-texts.ensures.texts in
     err_is _ _ _ c.from_residual-in_err-file.ensures.1 (faulty texts read c.in_err-file.ensures.err (does_nothing _))
 
 pub returns-in_err-write_output-clause-err : goal.returns-in_err-write_output-clause-err
@@ -18,10 +19,15 @@ returns-in_err-write_output-clause-err g c =
     let files = g.O.Outside.files c.args.outside.now in
     let cmd = c.args.cmd.now in
     let texts = map (λ t. t.items) c.deref.result.now in
-    let read = subst (λ ts. AreInputs files cmd (map (λ t. t.items) ts)) (sym c.deref.ensures.value) c.in_ok-texts.ensures.texts in
+    let read = subst (λ ts. AreInputs files cmd (map (λ t. t.items) ts))
+    (sym c.deref.ensures.value) c.in_ok-texts.ensures.texts in
     let file = c.in_ok-file.file.items in
     let out = c.in_ok-file.out.items in
-    let performs : Performs files cmd file out = record { inputs = texts; read = read; made = c.in_ok-file.ensures.ok } in
+    let performs : Performs files cmd file out = record {
+      inputs = texts;
+      read = read;
+      made = c.in_ok-file.ensures.ok;
+    } in
     let begun =
     subst (λ bytes. BeginsFile (output_of cmd) bytes (g.O.Outside.done c.args.outside.now)
     (g.O.Outside.done c.write_output.new.outside)) c.deref-2.ensures.value

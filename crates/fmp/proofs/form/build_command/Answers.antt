@@ -6,9 +6,12 @@ use Rattle.fmp.proofs.form.build_command.Goals as goal
 
 pub returns : goal.returns
 returns c =
-    let one = one_rule (Ok c.named-command.result) _ (new_app (codes "build")) _ (file (codes "CFG")) c.named-command.ensures c.config_word.ensures.rule c.with_argument-command.ensures in
-    let two = one_rule c.with_argument-command.result _ _ _ (file (codes "SRC")) one c.tasks_word.ensures.rule c.with_argument-command-2.ensures in
-    one_rule c.with_argument-command-2.result _ _ _ (file (codes "OUT")) two c.file_word.ensures.rule c.with_argument.ensures
+    let one = one_rule (Ok c.named-command.result) _ (new_app (codes "build")) _
+    (file (codes "CFG")) c.named-command.ensures c.config_word.ensures.rule c.with_argument-command.ensures in
+    let two = one_rule c.with_argument-command.result _ _ _ (file (codes "SRC")) one c.tasks_word.ensures.rule
+    c.with_argument-command-2.ensures in
+    one_rule c.with_argument-command-2.result _ _ _ (file (codes "OUT")) two c.file_word.ensures.rule
+    c.with_argument.ensures
 
 pub with_argument-command-requires : goal.with_argument-command-requires
 with_argument-command-requires c = c.config_word.ensures.local

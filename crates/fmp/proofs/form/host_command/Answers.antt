@@ -6,10 +6,14 @@ use Rattle.fmp.proofs.form.host_command.Goals as goal
 
 pub returns : goal.returns
 returns c =
-    let one = one_rule (Ok c.named-command.result) _ (new_app (codes "host")) _ (file (codes "IMAGE")) c.named-command.ensures c.image_word.ensures.rule c.with_argument-command.ensures in
-    let two = one_rule c.with_argument-command.result _ _ _ (file (codes "JOURNAL")) one c.file_word.ensures.rule c.with_argument-command-2.ensures in
-    let three = one_rule c.with_argument-command-2.result _ _ _ (count (codes "turns")) two c.count_option.ensures.rule c.with_argument-command-3.ensures in
-    let four = one_rule c.with_argument-command-3.result _ _ _ (count (codes "ticks")) three c.count_option-2.ensures.rule c.with_argument-command-4.ensures in
+    let one = one_rule (Ok c.named-command.result) _ (new_app (codes "host")) _
+    (file (codes "IMAGE")) c.named-command.ensures c.image_word.ensures.rule c.with_argument-command.ensures in
+    let two = one_rule c.with_argument-command.result _ _ _ (file (codes "JOURNAL")) one c.file_word.ensures.rule
+    c.with_argument-command-2.ensures in
+    let three = one_rule c.with_argument-command-2.result _ _ _ (count (codes "turns")) two
+    c.count_option.ensures.rule c.with_argument-command-3.ensures in
+    let four = one_rule c.with_argument-command-3.result _ _ _ (count (codes "ticks")) three
+    c.count_option-2.ensures.rule c.with_argument-command-4.ensures in
     one_rule c.with_argument-command-4.result _ _ _ bound four c.bound_option.ensures.rule c.with_argument.ensures
 
 pub with_argument-command-requires : goal.with_argument-command-requires

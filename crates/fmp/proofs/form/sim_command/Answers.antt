@@ -6,8 +6,10 @@ use Rattle.fmp.proofs.form.sim_command.Goals as goal
 
 pub returns : goal.returns
 returns c =
-    let one = one_rule (Ok c.named-command.result) _ (new_app (codes "sim")) _ (file (codes "IMAGE")) c.named-command.ensures c.image_word.ensures.rule c.with_argument-command.ensures in
-    let two = one_rule c.with_argument-command.result _ _ _ (file (codes "STEPS")) one c.file_word.ensures.rule c.with_argument-command-2.ensures in
+    let one = one_rule (Ok c.named-command.result) _ (new_app (codes "sim")) _
+    (file (codes "IMAGE")) c.named-command.ensures c.image_word.ensures.rule c.with_argument-command.ensures in
+    let two = one_rule c.with_argument-command.result _ _ _ (file (codes "STEPS")) one c.file_word.ensures.rule
+    c.with_argument-command-2.ensures in
     one_rule c.with_argument-command-2.result _ _ _ bound two c.bound_option.ensures.rule c.with_argument.ensures
 
 pub with_argument-command-requires : goal.with_argument-command-requires

@@ -8,9 +8,11 @@ returns-in-Ok-clause-ok g c =
     let file = c.host.new.file.items in
     let out = c.host.new.out.items in
     record {
-      hosted = subst₂ (λ (x y : List ℕ). Hosts image c.args.work x file y out) c.new-journal.ensures.items c.new-out.ensures.items c.in-Ok.ensures.ok;
+      hosted = subst₂ (λ (x y : List ℕ). Hosts image c.args.work x file y out) c.new-journal.ensures.items
+          c.new-out.ensures.items c.in-Ok.ensures.ok;
       meant =
           λ cfg src i b spelled.
-          subst₂ (λ (x y : List ℕ). HostsTexts i b.tasks.bodies c.args.work x file y out) c.new-journal.ensures.items c.new-out.ensures.items
+          subst₂ (λ (x y : List ℕ). HostsTexts i b.tasks.bodies c.args.work x file y out) c.new-journal.ensures.items
+          c.new-out.ensures.items
           (c.in-Ok.ensures.headline cfg src i b spelled);
     }

@@ -10,7 +10,8 @@ pub unwrap-requires : goal.unwrap-requires
 unwrap-requires c =
     let found = found_of c.args.words.now in
     let id = c.args.id.now in
-    number_given 32 0 1048576 (λ word read. ParsesUnsigned 32 10 word read × ExplainsUnsignedError 10 word read × HasUnsignedDigitsIfOk word read)
+    number_given 32 0 1048576 (λ word read. ParsesUnsigned 32 10 word read × ExplainsUnsignedError 10 word read
+    × HasUnsignedDigitsIfOk word read)
     (one_text found id) c.get_one.result (lit< tt)
     (subst (λ text. IsSomeAnd text (IsUnsignedIn 0 1048576)) (sym (one_text-rows found id)) c.requires)
     c.get_one.ensures.value (λ t r given. given.0)
@@ -19,8 +20,10 @@ pub returns : goal.returns
 returns c =
     let found = found_of c.args.words.now in
     let id = c.args.id.now in
-    let (word, is, gives) = number_read (λ word read. ParsesUnsigned 32 10 word read × ExplainsUnsignedError 10 word read × HasUnsignedDigitsIfOk word read)
-    (one_text found id) c.get_one.result c.unwrap.result c.get_one.ensures.none c.get_one.ensures.value c.unwrap.ensures in
+    let (word, is, gives) = number_read (λ word read. ParsesUnsigned 32 10 word read
+    × ExplainsUnsignedError 10 word read × HasUnsignedDigitsIfOk word read)
+    (one_text found id) c.get_one.result c.unwrap.result c.get_one.ensures.none c.get_one.ensures.value
+    c.unwrap.ensures in
     let there = sym (one_text-rows found id) ∙ is in
     let bounds : IsUnsignedIn 0 1048576 word = subst (λ o. IsSomeAnd o (IsUnsignedIn 0 1048576)) there c.requires in
     let number = gives.0.1 in

@@ -7,9 +7,12 @@ use Rattle.fmp.proofs.reading.name_of.Goals as goal
 
 pub unwrap-requires : goal.unwrap-requires
 unwrap-requires c =
-    some_of_text (λ s. s.now) c.get_str.result _ (c.get_str.ensures ∙ first_value-rows (found_of c.args.words.now) c.args.id.now) c.requires
+    some_of_text (λ s. s.now) c.get_str.result _ (c.get_str.ensures
+    ∙ first_value-rows (found_of c.args.words.now) c.args.id.now) c.requires
 
 pub returns : goal.returns
 returns c =
-    let found = sym (first_value-rows (found_of c.args.words.now) c.args.id.now) ∙ sym c.get_str.ensures ∙ ap (option_map (λ s. s.now)) c.unwrap.ensures in
-    IfOk-weaker c.from_str.result _ _ (λ name e. found ∙ ap (λ (text : List ℕ). Some text) (sym e)) c.from_str.ensures.ok
+    let found = sym (first_value-rows (found_of c.args.words.now) c.args.id.now) ∙ sym c.get_str.ensures
+    ∙ ap (option_map (λ s. s.now)) c.unwrap.ensures in
+    IfOk-weaker c.from_str.result _ _ (λ name e. found ∙ ap (λ (text : List ℕ). Some text) (sym e))
+    c.from_str.ensures.ok

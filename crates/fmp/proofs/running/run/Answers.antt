@@ -6,12 +6,14 @@ use Rattle.fmp.proofs.running.run.Goals as goal
 
 pub returns-in-Ok-command : goal.returns-in-Ok-command
 returns-in-Ok-command g c =
-    let same : map (λ word. word.now) c.deref.result.now ≡ map string_bytes c.args.words.now = ap (map (λ word. word.now)) c.deref.ensures.value ∙ c.in-Ok.ensures in
+    let same : map (λ word. word.now) c.deref.result.now ≡ map string_bytes c.args.words.now = ap
+    (map (λ word. word.now)) c.deref.ensures.value ∙ c.in-Ok.ensures in
     let cmd = c.in-Ok-command.cmd in
     ran cmd (subst (λ words. AsksFor words cmd) same c.in-Ok-command.ensures.asked) c.run_command.ensures
 
 pub returns : goal.returns
 returns g c =
-    let same : map (λ word. word.now) c.deref.result.now ≡ map string_bytes c.args.words.now = ap (map (λ word. word.now)) c.deref.ensures.value ∙ c.in-Ok.ensures in
+    let same : map (λ word. word.now) c.deref.result.now ≡ map string_bytes c.args.words.now = ap
+    (map (λ word. word.now)) c.deref.ensures.value ∙ c.in-Ok.ensures in
     let kind = kind_of c.in-Err-command.error in
     refused kind (subst (λ words. IsRefused words kind) same c.in-Err-command.ensures.refused) c.refuse.ensures

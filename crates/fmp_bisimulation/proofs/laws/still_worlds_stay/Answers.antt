@@ -8,7 +8,8 @@ use Rattle.fmp_bisimulation.proofs.laws.still_worlds_stay.Goals as goal
 
 pub returns-clause-alike : goal.returns-clause-alike
 returns-clause-alike g c = λ sys M n W may blind rule v w a h still.
-    alike-still (Alike sys) W (worlds-chained sys) blind (worlds-sym sys) may rule (step sys M n) (step-same sys M n) v w a h still
+    alike-still (Alike sys) W (worlds-chained sys) blind (worlds-sym sys) may rule (step sys M n)
+    (step-same sys M n) v w a h still
 
 pub returns-clause-world : goal.returns-clause-world
 returns-clause-world g c = λ sys M n W may blind rule w a es settled still allowed.

@@ -6,4 +6,5 @@ use Rattle.fmp_cfgparse.proofs.configuring.add_classes.Given as goal
 
 abbrev pub invariant-loop-class : goal.invariant-loop-class
 invariant-loop-class l =
-    walk_classes l.processors (map class_view (drop l.class-index l.classes)) (making_of l.making) ≡ walk_classes l.processors (map class_view l.classes) (making_of l.initial.making)
+    walk_classes l.processors (map class_view (drop l.class-index l.classes)) (making_of l.making)
+    ≡ walk_classes l.processors (map class_view l.classes) (making_of l.initial.making)

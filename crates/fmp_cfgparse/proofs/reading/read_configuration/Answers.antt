@@ -39,5 +39,6 @@ returns-in-Ok-clause-refuses c =
 
 pub returns-in-Ok-configure-clause-rules : goal.returns-in-Ok-configure-clause-rules
 returns-in-Ok-configure-clause-rules c =
-    made_keeps c.args.text.now c.in-Ok.parsed.list.tokens (configuration_view c.in-Ok.parsed.tree) (making_of c.in-Ok-configure.making)
+    made_keeps c.args.text.now c.in-Ok.parsed.list.tokens (configuration_view c.in-Ok.parsed.tree)
+    (making_of c.in-Ok-configure.making)
     c.in-Ok.ensures c.in-Ok-configure.ensures

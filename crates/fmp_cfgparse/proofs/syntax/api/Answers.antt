@@ -15,7 +15,8 @@ returns-in_err-fields c =
     let a = c.args.kind in
     let e = err_from_is_err_and c.from_residual.result c.from_residual.ensures.1 in
     let x = rw c.parts_of.ensures at c.in_err-fields.ensures in
-    rw (e.1, e.2) (err_as fields_view api_view c.in_err-fields.field-0.0 (RightParts (api_parts a) ts (i + 1)) (RightApi ts i)
+    rw (e.1, e.2) (err_as fields_view api_view c.in_err-fields.field-0.0 (RightParts (api_parts a) ts (i + 1))
+    (RightApi ts i)
     (λ j why x. api_then ts i a c.requires.first (stopped j why) x) x)
 
 pub returns : goal.returns

@@ -16,7 +16,8 @@ returns-in_err-one c =
     let m = c.apis.i in
     let e = err_from_is_err_and c.from_residual.result c.from_residual.ensures.1 in
     rw (e.1, e.2) (err_as api_view apis_view c.in_err-one.field-0.0 (RightApi ts m) (RightApis ts i)
-    (λ j why x. c.apis.invariant.goes (stopped j why) (apis_stop ts m c.in-Some.kind (sym c.in-Some.ensures.value) j why x)) c.in_err-one.ensures)
+    (λ j why x. c.apis.invariant.goes (stopped j why) (apis_stop ts m c.in-Some.kind
+    (sym c.in-Some.ensures.value) j why x)) c.in_err-one.ensures)
 
 pub apis-smaller : goal.apis-smaller
 apis-smaller c =
@@ -37,10 +38,12 @@ apis-preserved c =
     let xs = apis_view c.apis.found in
     let x : RightApi ts m (found a k) = c.in_ok-one.ensures in
     let within = simp length-map at x.within in
-    let pushed : map api_view c.push.new.self.items ≡ xs ++ a ∷ [] = rw c.in_ok-push.ensures.items (map-append api_view c.apis.found.items (c.in_ok-one.one ∷ [])) in
+    let pushed : map api_view c.push.new.self.items ≡ xs ++ a
+    ∷ [] = rw c.in_ok-push.ensures.items (map-append api_view c.apis.found.items (c.in_ok-one.one ∷ [])) in
     record {
       within = within;
-      goes = rw pushed (λ o rest. push_before xs a o (RightApis ts i) (c.apis.invariant.goes (map_result (λ (more : List ApiTree). a ∷ more) o)
+      goes = rw pushed (λ o rest. push_before xs a o (RightApis ts i) (c.apis.invariant.goes
+          (map_result (λ (more : List ApiTree). a ∷ more) o)
           (more_apis ts m c.in-Some.kind (sym c.in-Some.ensures.value) a k x o rest)));
     }
 

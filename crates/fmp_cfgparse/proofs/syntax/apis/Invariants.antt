@@ -8,7 +8,8 @@ use Rattle.fmp_cfgparse.proofs.syntax.apis.Given as goal
 abbrev pub invariant-apis : goal.invariant-apis
 invariant-apis l = record {
   within : l.i ≤ length l.tokens;
-  goes : (o : ParseResult (List ApiTree)) → RightApis (kinds_of l.tokens) l.i o → RightApis (kinds_of l.tokens) l.at (map_result (put_before (apis_view l.found)) o);
+  goes : (o : ParseResult (List ApiTree)) → RightApis (kinds_of l.tokens) l.i o
+      → RightApis (kinds_of l.tokens) l.at (map_result (put_before (apis_view l.found)) o);
 }
 
 abbrev pub decreases-apis : goal.decreases-apis

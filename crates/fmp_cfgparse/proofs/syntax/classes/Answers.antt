@@ -16,7 +16,8 @@ returns-in_err-one c =
     let m = c.classes.i in
     let e = err_from_is_err_and c.from_residual.result c.from_residual.ensures.1 in
     rw (e.1, e.2) (err_as class_view classes_view c.in_err-one.field-0.0 (RightClass ts m) (RightClasses ts i)
-    (λ j why x. c.classes.invariant.goes (stopped j why) (classes_stop ts m (c.classes-test.ensures.yes (search rules)) j why x)) c.in_err-one.ensures)
+    (λ j why x. c.classes.invariant.goes (stopped j why) (classes_stop ts m
+    (c.classes-test.ensures.yes (search rules)) j why x)) c.in_err-one.ensures)
 
 pub classes-smaller : goal.classes-smaller
 classes-smaller c =
@@ -37,10 +38,12 @@ classes-preserved c =
     let xs = classes_view c.classes.found in
     let x : RightClass ts m (found a k) = c.in_ok-one.ensures in
     let within = simp length-map at x.within in
-    let pushed : map class_view c.push.new.self.items ≡ xs ++ a ∷ [] = rw c.in_ok-push.ensures.items (map-append class_view c.classes.found.items (c.in_ok-one.one ∷ [])) in
+    let pushed : map class_view c.push.new.self.items ≡ xs ++ a
+    ∷ [] = rw c.in_ok-push.ensures.items (map-append class_view c.classes.found.items (c.in_ok-one.one ∷ [])) in
     record {
       within = within;
-      goes = rw pushed (λ o rest. push_before xs a o (RightClasses ts i) (c.classes.invariant.goes (map_result (λ (more : List ClassTree). a ∷ more) o)
+      goes = rw pushed (λ o rest. push_before xs a o (RightClasses ts i)
+          (c.classes.invariant.goes (map_result (λ (more : List ClassTree). a ∷ more) o)
           (more_classes ts m (c.classes-test.ensures.yes (search rules)) a k x o rest)));
     }
 
@@ -49,4 +52,5 @@ returns c =
     let ts = kinds_of c.args.tokens.now in
     let m = c.classes.i in
     let within : m ≤ length ts = simp length-map c.classes.invariant.within in
-    rw append-nil at (c.classes.invariant.goes (found [] m) (no_more_classes ts m (c.classes-test.ensures.no refl) within))
+    rw append-nil at (c.classes.invariant.goes (found [] m) (no_more_classes ts m
+    (c.classes-test.ensures.no refl) within))

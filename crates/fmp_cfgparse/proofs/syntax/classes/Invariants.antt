@@ -8,7 +8,8 @@ use Rattle.fmp_cfgparse.proofs.syntax.classes.Given as goal
 abbrev pub invariant-classes : goal.invariant-classes
 invariant-classes l = record {
   within : l.i ≤ length l.tokens;
-  goes : (o : ParseResult (List ClassTree)) → RightClasses (kinds_of l.tokens) l.i o → RightClasses (kinds_of l.tokens) l.at (map_result (put_before (classes_view l.found)) o);
+  goes : (o : ParseResult (List ClassTree)) → RightClasses (kinds_of l.tokens) l.i o
+      → RightClasses (kinds_of l.tokens) l.at (map_result (put_before (classes_view l.found)) o);
 }
 
 abbrev pub decreases-classes : goal.decreases-classes

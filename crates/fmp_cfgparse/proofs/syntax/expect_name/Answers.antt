@@ -9,4 +9,5 @@ use Rattle.fmp_cfgparse.proofs.syntax.expect_name.Goals as goal
 pub returns-in-None : goal.returns-in-None
 returns-in-None c =
     let within : c.args.at ≤ length (kinds_of c.args.tokens.now) = simp length-map c.requires in
-    item_missing name_of (kinds_of c.args.tokens.now) c.args.at name_fills (λ a is. let e : None ≡ Some a = c.in-None.ensures.value ∙ is in absurd (cc)) within
+    item_missing name_of (kinds_of c.args.tokens.now) c.args.at name_fills
+    (λ a is. let e : None ≡ Some a = c.in-None.ensures.value ∙ is in absurd (cc)) within

@@ -31,9 +31,11 @@ returns-then-is_symbol_at c =
 pub returns-in-Some : goal.returns-in-Some
 returns-in-Some c =
     let lt : c.args.at < length (kinds_of c.args.tokens.now) = simp length-map (c.in-Some.ensures.within) in
-    plain_found (kinds_of c.args.tokens.now) c.args.at (c.is_symbol_at.ensures.no c.if-is_symbol_at.false) c.in-Some.item lt (sym c.in-Some.ensures.value)
+    plain_found (kinds_of c.args.tokens.now) c.args.at (c.is_symbol_at.ensures.no c.if-is_symbol_at.false)
+    c.in-Some.item lt (sym c.in-Some.ensures.value)
 
 pub returns-in-None : goal.returns-in-None
 returns-in-None c =
     let within : c.args.at ≤ length (kinds_of c.args.tokens.now) = simp length-map c.requires in
-    plain_missing (kinds_of c.args.tokens.now) c.args.at (c.is_symbol_at.ensures.no c.if-is_symbol_at.false) c.in-None.ensures.value within
+    plain_missing (kinds_of c.args.tokens.now) c.args.at (c.is_symbol_at.ensures.no c.if-is_symbol_at.false)
+    c.in-None.ensures.value within

@@ -10,7 +10,8 @@ use Rattle.fmp_cfgparse.proofs.Items.{value_then, value_stop, more_items, more_i
 use Rattle.fmp_lex.proofs.Repetitions.{put_before, push_before}
 use Rattle.fmp_cfgparse.proofs.syntax.value.Goals as goal
 
-first_of_value : (a : Item) (o : ParseResult (List Item)) (P : ParseResult (List Item) → Type 0) → P (map_result (λ (more : List Item). a ∷ more) o) →
+first_of_value : (a : Item) (o : ParseResult (List Item)) (P : ParseResult (List Item) → Type 0)
+    → P (map_result (λ (more : List Item). a ∷ more) o) →
     P (map_result (put_before (a ∷ [])) o)
 first_of_value a (found more j) P x = x
 first_of_value a (stopped j why) P x = x
@@ -28,17 +29,20 @@ returns-then-not-is_symbol_at c =
     let ts = kinds_of c.args.tokens.now in
     let k = c.in_ok-first.next in
     let x : RightItem ts c.args.at (found c.in_ok-first.first k) = c.in_ok-first.ensures in
-    value_then ts c.args.at k c.in_ok-first.first x (found [] k) (no_more_items ts k (c.is_symbol_at.ensures.no (search rules)) x.within)
+    value_then ts c.args.at k c.in_ok-first.first x (found [] k) (no_more_items ts k
+    (c.is_symbol_at.ensures.no (search rules)) x.within)
 
 pub items-init : goal.items-init
 items-init c =
     let ts = kinds_of c.args.tokens.now in
     let x : RightItem ts c.args.at (found c.in_ok-first.first c.in_ok-first.next) = c.in_ok-first.ensures in
     let within = simp length-map at x.within in
-    let pushed : c.push.new.self.items ≡ c.in_ok-first.first ∷ [] = c.in_ok-push.ensures.items ∙ ap (λ z. z ++ c.in_ok-first.first ∷ []) c.new-items.ensures.items in
+    let pushed : c.push.new.self.items ≡ c.in_ok-first.first ∷ [] = c.in_ok-push.ensures.items
+    ∙ ap (λ z. z ++ c.in_ok-first.first ∷ []) c.new-items.ensures.items in
     record {
       within = within;
-      goes = rw pushed (λ o rest. first_of_value c.in_ok-first.first o (RightValue ts c.args.at) (value_then ts c.args.at c.in_ok-first.next c.in_ok-first.first x o rest));
+      goes = rw pushed (λ o rest. first_of_value c.in_ok-first.first o (RightValue ts c.args.at)
+          (value_then ts c.args.at c.in_ok-first.next c.in_ok-first.first x o rest));
     }
 
 pub returns-in_err-one : goal.returns-in_err-one
@@ -48,7 +52,8 @@ returns-in_err-one c =
     let m = c.items.i in
     let p = err_from_is_err_and c.from_residual-in_err-one.result c.from_residual-in_err-one.ensures.1 in
     rw (p.1, p.2) (find_as itself items_view c.in_err-one.field-0.0 (RightItem ts (m + 1)) (RightValue ts i)
-    (λ j why x. c.items.invariant.goes (stopped j why) (more_items_stop ts m (c.items-test.ensures.yes (search rules)) j why x)) c.in_err-one.ensures)
+    (λ j why x. c.items.invariant.goes (stopped j why) (more_items_stop ts m
+    (c.items-test.ensures.yes (search rules)) j why x)) c.in_err-one.ensures)
 
 pub items-preserved : goal.items-preserved
 items-preserved c =
@@ -62,7 +67,8 @@ items-preserved c =
     let pushed : c.push-in-items.new.self.items ≡ c.items.items.items ++ a ∷ [] = c.in_ok-push-2.ensures.items in
     record {
       within = within;
-      goes = rw pushed (λ o rest. push_before c.items.items.items a o (RightValue ts i) (c.items.invariant.goes (map_result (λ (more : List Item). a ∷ more) o)
+      goes = rw pushed (λ o rest. push_before c.items.items.items a o (RightValue ts i)
+          (c.items.invariant.goes (map_result (λ (more : List Item). a ∷ more) o)
           (more_items ts m (c.items-test.ensures.yes (search rules)) a k x o rest)));
     }
 

@@ -10,11 +10,13 @@ give_reply-requires-clause-out c =
     let call = c.in-Some-Call in
     let here : call_before c.args.body.now.instructions.items c.args.context.now.pc
     ≡ Some (Call call.service call.out call.receiver) = cc in
-    (call_fits (body_tables c.args.body.now) c.args.context.now.pc call.service call.out call.receiver c.requires here).0
+    (call_fits (body_tables c.args.body.now) c.args.context.now.pc call.service call.out call.receiver c.requires
+    here).0
 
 pub give_reply-requires-clause-receiver : goal.give_reply-requires-clause-receiver
 give_reply-requires-clause-receiver c =
     let call = c.in-Some-Call in
     let here : call_before c.args.body.now.instructions.items c.args.context.now.pc
     ≡ Some (Call call.service call.out call.receiver) = cc in
-    (call_fits (body_tables c.args.body.now) c.args.context.now.pc call.service call.out call.receiver c.requires here).1
+    (call_fits (body_tables c.args.body.now) c.args.context.now.pc call.service call.out call.receiver c.requires
+    here).1

@@ -3,7 +3,8 @@ use Rattle.fmp_base.specs.Systems.{tables_of}
 use Rattle.fmp_tasklang.specs.Views.{body_view, program_view}
 use Rattle.fmp_instructions.specs.Instructions.{body_tables}
 use Rattle.fmp_codegen.specs.Compiling.{bodies_offence}
-use Rattle.fmp_codegen.proofs.Judging.{compiled-on, compiled-stopped, judged-here, judged-on, map-append, code-tied, code-verified, all-accepted, all-compiled}
+use Rattle.fmp_codegen.proofs.Judging.{compiled-on, compiled-stopped, judged-here, judged-on, map-append, code-tied}
+use Rattle.fmp_codegen.proofs.Judging.{code-verified, all-accepted, all-compiled}
 use Rattle.fmp_codegen.proofs.Limits.{few-viewed, low-bodies}
 use Rattle.fmp_codegen.proofs.compiling.compile.Goals as goal
 
@@ -14,7 +15,8 @@ returns-in-Err-clause-compiled c =
     let bodies = program_view c.args.program.now in
     let within : c.loop-i.i < length items = omega (arith, c.loop-i-test.true, c.len-i-end.ensures) in
     let first : bodies_offence tables [] bodies ≡ Some c.in-Err.offence =
-    judged-here tables items c.loop-i.i c.index-body.result.now within (search rules) (bodies_offence tables [] bodies) c.in-Err.offence
+    judged-here tables items c.loop-i.i c.index-body.result.now within (search rules)
+    (bodies_offence tables [] bodies) c.in-Err.offence
     (search rules) c.loop-i.invariant.rest in
     compiled-stopped tables c.args.tokens.now bodies c.in-Err.offence c.source_fault.result c.source_fault.ensures first
 
@@ -66,9 +68,12 @@ loop-i-preserved c =
     let bodies = program_view c.args.program.now in
     let code = c.in_ok-code-in-Ok.code in
     let within : c.loop-i.i < length items = omega (arith, c.loop-i-test.true, c.len-i-end.ensures) in
-    let grows = ap (map body_tables) c.in_ok-append-in-Ok.ensures ∙ map-append body_tables c.loop-i.bodies.items (code ∷ []) in
+    let grows = ap (map body_tables) c.in_ok-append-in-Ok.ensures
+    ∙ map-append body_tables c.loop-i.bodies.items (code ∷ []) in
     record {
-      rest = judged-on tables items c.loop-i.i c.index-body.result.now within (search rules) (bodies_offence tables [] bodies) (search rules) c.loop-i.invariant.rest;
-      code = compiled-on tables items c.loop-i.i c.index-body.result.now within (search rules) (map body_tables c.loop-i.bodies.items) _ (body_tables code) _ grows
+      rest = judged-on tables items c.loop-i.i c.index-body.result.now within (search rules)
+          (bodies_offence tables [] bodies) (search rules) c.loop-i.invariant.rest;
+      code = compiled-on tables items c.loop-i.i c.index-body.result.now within (search rules)
+          (map body_tables c.loop-i.bodies.items) _ (body_tables code) _ grows
           c.in_ok-code-in-Ok.ensures c.loop-i.invariant.code;
     }

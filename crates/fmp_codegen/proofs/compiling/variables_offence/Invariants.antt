@@ -9,7 +9,8 @@ abbrev pub invariant-loop-i : goal.invariant-loop-i
 invariant-loop-i l =
     record {
       rest :
-          variables_offence (tables_of l.objects.system.now) (locals_with (take l.i l.variables)) (drop l.i l.variables) ≡
+          variables_offence (tables_of l.objects.system.now) (locals_with (take l.i l.variables))
+          (drop l.i l.variables) ≡
           variables_offence (tables_of l.objects.system.now) (exinf_local ∷ []) l.variables;
       counted : l.places ≡ total_places (locals_with (take l.i l.variables));
       low : l.places ≤ 64;

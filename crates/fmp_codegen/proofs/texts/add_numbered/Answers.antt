@@ -16,7 +16,8 @@ pub returns-in_ok-append-in-Ok-2 : goal.returns-in_ok-append-in-Ok-2
 returns-in_ok-append-in-Ok-2 c = λ bodies are.
     let made = c.args.made.now in
     let fine = none-there made.offence (search rules) in
-    made-more (tables_of c.args.objects.now.system.now) bodies (body_view c.args.body.now) made _ fine are (search rules) refl (search rules)
+    made-more (tables_of c.args.objects.now.system.now) bodies (body_view c.args.body.now) made _ fine are
+    (search rules) refl (search rules)
     (code-more made.bodies.items _ c.in_ok-code-in-Ok.code _ c.in_ok-append-in-Ok.ensures c.in_ok-code-in-Ok.ensures)
 
 pub returns-in-Err : goal.returns-in-Err
@@ -24,7 +25,8 @@ returns-in-Err c = λ bodies are.
     let made = c.args.made.now in
     let tables = tables_of c.args.objects.now.system.now in
     let fine = none-there made.offence (search rules) in
-    let judged = ap (λ (hs : List Heading). body_offence tables (map (λ (h : Heading). h.name) hs) (body_view c.args.body.now))
+    let judged = ap (λ (hs : List Heading). body_offence tables (map (λ (h : Heading). h.name) hs)
+    (body_view c.args.body.now))
     (sym c.deref.ensures.value)
     ∙ c.in-Err.ensures.first in
     made-stops tables bodies (body_view c.args.body.now) made _ fine are c.in-Err.offence judged refl

@@ -24,7 +24,8 @@ returns-in_err-one c =
     let is = sym c.in-Some.ensures.value in
     let p = err_from_is_err_and c.from_residual.result c.from_residual.ensures.1 in
     rw (p.1, p.2) (read-error (tables_of c.args.objects.now.system.now) ts c.in_err-one.field-0.0 (RightBody ts k)
-    (λ j why x. c.bodies.invariant.goes.2 (stopped j why) (bodies_stop ts k c.in-Some.kind is j why x)) c.in_err-one.ensures)
+    (λ j why x. c.bodies.invariant.goes.2 (stopped j why) (bodies_stop ts k c.in-Some.kind is j why x))
+    c.in_err-one.ensures)
 
 pub bodies-smaller : goal.bodies-smaller
 bodies-smaller c =
@@ -50,7 +51,8 @@ bodies-preserved c =
       goes = (
         before.0 ++ a ∷ [],
         c.in_ok-add_body.ensures before.0 before.1,
-        λ o rest. push_before before.0 a o (RightBodies ts 0) (before.2 (map_result (λ (more : List BodyTree). a ∷ more) o)
+        λ o rest. push_before before.0 a o (RightBodies ts 0) (before.2
+            (map_result (λ (more : List BodyTree). a ∷ more) o)
             (bodies_more ts k c.in-Some.kind is a n x o rest)),
       );
     }

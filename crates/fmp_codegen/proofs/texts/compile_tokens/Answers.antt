@@ -11,7 +11,8 @@ pub returns-in_err-made : goal.returns-in_err-made
 returns-in_err-made c =
     let ts = kinds_of c.args.tokens.now in
     let e = err_from_is_err_and c.from_residual.result c.from_residual.ensures.1 in
-    rw (e.1, e.2) (made-stopped (tables_of c.args.objects.now.system.now) ts c.in_err-made.field-0.0 c.in_err-made.ensures)
+    rw (e.1, e.2) (made-stopped (tables_of c.args.objects.now.system.now) ts c.in_err-made.field-0.0
+    c.in_err-made.ensures)
 
 pub returns-then-next-len : goal.returns-then-next-len
 returns-then-next-len c =

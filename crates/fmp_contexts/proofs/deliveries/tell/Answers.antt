@@ -11,5 +11,7 @@ returns-clause-fitting g c =
     let M = g.B.Body.meaning c.args.body.now in
     let held = context_of cs c.args.p c.args.who in
     let after = told M c.entry_of-entry.result c.args.reply held in
-    let fits = subst (λ (n : ℕ). OfOption (OfHeld (g.B.Body.is_context c.args.body.now n)) after) c.entry_of-entry.ensures c.tell.ensures.fits in
-    rw c.tell.ensures.contexts (fitting_set cs c.args.p c.args.who after c.requires.contexts (told_there M c.entry_of-entry.result c.args.reply held) fits)
+    let fits = subst (λ (n : ℕ). OfOption (OfHeld (g.B.Body.is_context c.args.body.now n)) after)
+    c.entry_of-entry.ensures c.tell.ensures.fits in
+    rw c.tell.ensures.contexts (fitting_set cs c.args.p c.args.who after c.requires.contexts
+    (told_there M c.entry_of-entry.result c.args.reply held) fits)

@@ -11,11 +11,13 @@ use Rattle.fmp_drive.proofs.DriveLemmas.{all_more, run_more, run_none}
 use Rattle.fmp_drive.proofs.driving.drive.Goals as goal
 
 still : {B C : Type 0} (meaning : B → Meaning C) (k k' : KernelView B C) (processors : ℕ)
-    → AllStand meaning k source.Processor 1 (processors + 1) × (k' ≡ k) → AllStand meaning k' source.Processor 1 (processors + 1)
+    → AllStand meaning k source.Processor 1 (processors + 1) × (k' ≡ k)
+    → AllStand meaning k' source.Processor 1 (processors + 1)
 still {B} {C} meaning k k' processors m =
     subst (λ (x : KernelView B C). AllStand meaning x source.Processor 1 (processors + 1)) (sym m.1) m.0
 
-none_yet : {B C : Type 0} (meaning : B → Meaning C) (k : KernelView B C) (es : List Event) → es ≡ [] → HasRun meaning k k es
+none_yet : {B C : Type 0} (meaning : B → Meaning C) (k : KernelView B C) (es : List Event) → es ≡ []
+    → HasRun meaning k k es
 none_yet {B} {C} meaning k es e = subst (λ (xs : List Event). HasRun meaning k k xs) (sym e) (run_none meaning k)
 
 no_steps : (processors : ℕ) (es : List Event) → es ≡ [] → AllByRecursion (IsStep processors) es

@@ -3,12 +3,19 @@ use Rattle.fmp_drive.proofs.DriveLemmas.{done_step, kept_step, stand_end, stand_
 use Rattle.fmp_drive.proofs.trying.first_taken.Goals as goal
 
 pub loop-number-init : goal.loop-number-init
-loop-number-init g c = record { same = refl; from = omega arith; stand = λ m low high. absurd (omega (arith, low, high)) }
+loop-number-init g c = record {
+  same = refl;
+  from = omega arith;
+  stand = λ m low high. absurd (omega
+      (arith, low, high));
+}
 
 pub loop-number-preserved : goal.loop-number-preserved
 loop-number-preserved g c =
-    let both = stand_step g.B.Body.meaning c.args.kernel.now c.loop-number.kernel c.step.new.self c.args.source c.args.first
-    c.loop-number.number _ c.loop-number.invariant.same c.event_of-e.ensures (sym c.in-Nothing.is ∙ c.step.ensures.effect)
+    let both = stand_step g.B.Body.meaning c.args.kernel.now c.loop-number.kernel c.step.new.self c.args.source
+    c.args.first
+    c.loop-number.number _ c.loop-number.invariant.same c.event_of-e.ensures
+    (sym c.in-Nothing.is ∙ c.step.ensures.effect)
     c.step.ensures.state c.loop-number.invariant.stand in
     record { same = both.0; from = omega arith; stand = both.1 }
 

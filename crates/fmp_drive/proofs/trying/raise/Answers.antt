@@ -3,5 +3,6 @@ use Rattle.fmp_drive.proofs.trying.raise.Goals as goal
 
 pub returns-clause-step : goal.returns-clause-step
 returns-clause-step g c =
-    interrupt_steps g.B.Body.meaning c.first_taken.result c.args.kernel.now c.first_taken.new.kernel c.args.processors c.args.first
+    interrupt_steps g.B.Body.meaning c.first_taken.result c.args.kernel.now c.first_taken.new.kernel c.args.processors
+    c.args.first
     c.requires.first c.first_taken.ensures

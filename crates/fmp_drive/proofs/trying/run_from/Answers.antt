@@ -3,5 +3,6 @@ use Rattle.fmp_drive.proofs.trying.run_from.Goals as goal
 
 pub returns : goal.returns
 returns g c =
-    processor_steps g.B.Body.meaning c.first_taken.result c.args.kernel.now c.first_taken.new.kernel c.args.processors c.args.first
+    processor_steps g.B.Body.meaning c.first_taken.result c.args.kernel.now c.first_taken.new.kernel c.args.processors
+    c.args.first
     c.requires.first c.first_taken.ensures

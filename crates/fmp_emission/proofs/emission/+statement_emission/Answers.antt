@@ -7,7 +7,8 @@ use Rattle.fmp_scopes.specs.Scheme.{statement_code}
 use Rattle.fmp_scopes.specs.Scopes.{scope_view}
 use Rattle.fmp_scopes.specs.Sizes.{expression_size, statement_size, block_size}
 use Rattle.fmp_emission.specs.Breaks.{statement_breaks, block_breaks}
-use Rattle.fmp_emission.proofs.Arms.{if-emitted, while-emitted, else-emitted, if-deep, while-deep, else-deep, both-noted}
+use Rattle.fmp_emission.proofs.Arms.{if-emitted, while-emitted, else-emitted, if-deep, while-deep, else-deep}
+use Rattle.fmp_emission.proofs.Arms.{both-noted}
 use Rattle.fmp_scopes.proofs.ViewTrees.{view-If, view-IfElse, view-While}
 use Rattle.fmp_emission.proofs.emission.+statement_emission.Goals as goal
 
@@ -22,8 +23,21 @@ emit_statement-emit_block-requires t c =
     let view = view-If c.args.s.now c.in-If.condition c.in-If.then c.deref-in-If.result.now c.in-If.is
     c.deref-in-If.ensures.value in
     let size = ap statement_size view in
-    let depth = ap statement_depth view in
-    (search (rules, the_lemmas), (c.requires.held, (omega (arith, size, c.in_ok-emit_test-in-If.ensures.len, c.requires.room), omega (arith, depth, c.requires.low))))
+    let depth = ap statement_depth view in (
+      search (rules, the_lemmas),
+      (
+        c.requires.held,
+        (
+          omega (
+            arith,
+            size,
+            c.in_ok-emit_test-in-If.ensures.len,
+            c.requires.room,
+          ),
+          omega (arith, depth, c.requires.low),
+        ),
+      ),
+    )
 
 pub emit_statement-emit_test-requires-in-IfElse-clause-room :
     goal.emit_statement-emit_test-requires-in-IfElse-clause-room
@@ -42,8 +56,21 @@ emit_statement-emit_block-requires-in-IfElse t c =
     c.deref-in-IfElse-2.ensures.value
     refl in
     let size = ap statement_size view in
-    let depth = ap statement_depth view in
-    (search (rules, the_lemmas), (c.requires.held, (omega (arith, size, c.in_ok-emit_test-in-IfElse.ensures.len, c.requires.room), omega (arith, depth, c.requires.low))))
+    let depth = ap statement_depth view in (
+      search (rules, the_lemmas),
+      (
+        c.requires.held,
+        (
+          omega (
+            arith,
+            size,
+            c.in_ok-emit_test-in-IfElse.ensures.len,
+            c.requires.room,
+          ),
+          omega (arith, depth, c.requires.low),
+        ),
+      ),
+    )
 
 pub emit_statement-emit_block-requires-in-IfElse-2 : goal.emit_statement-emit_block-requires-in-IfElse-2
 emit_statement-emit_block-requires-in-IfElse-2 t c =
@@ -80,10 +107,24 @@ emit_statement-emit_test-requires-in-While-clause-room t c =
 
 pub emit_statement-emit_block-requires-in-While : goal.emit_statement-emit_block-requires-in-While
 emit_statement-emit_block-requires-in-While t c =
-    let view = view-While c.args.s.now c.in-While.condition c.in-While.body c.deref-in-While.result.now c.in-While.is c.deref-in-While.ensures.value in
+    let view = view-While c.args.s.now c.in-While.condition c.in-While.body c.deref-in-While.result.now c.in-While.is
+    c.deref-in-While.ensures.value in
     let size = ap statement_size view in
-    let depth = ap statement_depth view in
-    (search (rules, the_lemmas), (c.requires.held, (omega (arith, size, c.in_ok-emit_test-in-While.ensures.len, c.requires.room), omega (arith, depth, c.requires.low))))
+    let depth = ap statement_depth view in (
+      search (rules, the_lemmas),
+      (
+        c.requires.held,
+        (
+          omega (
+            arith,
+            size,
+            c.in_ok-emit_test-in-While.ensures.len,
+            c.requires.room,
+          ),
+          omega (arith, depth, c.requires.low),
+        ),
+      ),
+    )
 
 pub emit_statement-returns-in_ok-emit_block-in-If-clause-code :
     goal.emit_statement-returns-in_ok-emit_block-in-If-clause-code
@@ -106,7 +147,13 @@ emit_statement-returns-in_ok-emit_block-in-If-clause-len t c =
     let view = view-If c.args.s.now c.in-If.condition c.in-If.then c.deref-in-If.result.now c.in-If.is
     c.deref-in-If.ensures.value in
     let size = ap statement_size view in
-    omega (arith, size, c.in_ok-emit_test-in-If.ensures.len, c.in_ok-emit_block-in-If.ensures.len, c.end_test.ensures.len)
+    omega (
+      arith,
+      size,
+      c.in_ok-emit_test-in-If.ensures.len,
+      c.in_ok-emit_block-in-If.ensures.len,
+      c.end_test.ensures.len,
+    )
 
 pub emit_statement-returns-in_ok-emit_block-in-If-clause-depths :
     goal.emit_statement-returns-in_ok-emit_block-in-If-clause-depths
@@ -150,7 +197,16 @@ emit_statement-returns-in_ok-emit_block-in-IfElse-2-clause-len t c =
     c.deref-in-IfElse-2.result.now c.deref-in-IfElse-3.result.now c.in-IfElse.is c.deref-in-IfElse.ensures
     c.deref-in-IfElse-2.ensures.value c.deref-in-IfElse-3.ensures.value in
     let size = ap statement_size view in
-    omega (arith, size, c.in_ok-emit_test-in-IfElse.ensures.len, c.in_ok-emit_block-in-IfElse.ensures.len, c.in_ok-put-in-IfElse.ensures.len, c.in_ok-emit_block-in-IfElse-2.ensures.len, c.end_test-in-IfElse.ensures.len, c.end_jump.ensures.len)
+    omega (
+      arith,
+      size,
+      c.in_ok-emit_test-in-IfElse.ensures.len,
+      c.in_ok-emit_block-in-IfElse.ensures.len,
+      c.in_ok-put-in-IfElse.ensures.len,
+      c.in_ok-emit_block-in-IfElse-2.ensures.len,
+      c.end_test-in-IfElse.ensures.len,
+      c.end_jump.ensures.len,
+    )
 
 pub emit_statement-returns-in_ok-emit_block-in-IfElse-2-clause-depths :
     goal.emit_statement-returns-in_ok-emit_block-in-IfElse-2-clause-depths
@@ -174,7 +230,8 @@ emit_statement-returns-in_ok-emit_block-in-IfElse-2-clause-depths t c =
 pub emit_statement-returns-in_ok-put-in-While-clause-code :
     goal.emit_statement-returns-in_ok-put-in-While-clause-code
 emit_statement-returns-in_ok-put-in-While-clause-code t c =
-    let view = view-While c.args.s.now c.in-While.condition c.in-While.body c.deref-in-While.result.now c.in-While.is c.deref-in-While.ensures.value in
+    let view = view-While c.args.s.now c.in-While.condition c.in-While.body c.deref-in-While.result.now c.in-While.is
+    c.deref-in-While.ensures.value in
     let scope = scope_view c.args.names.now in
     let begun = c.args.out.now.instructions.items in
     let start = c.args.out.now.instructions.ok.0 in
@@ -188,25 +245,37 @@ emit_statement-returns-in_ok-put-in-While-clause-code t c =
     c.last_place-test-in-While.ensures c.in_ok-emit_block-in-While.ensures.len
     (omega (arith, start, c.place-start.ensures, c.len.ensures)) c.in_ok-put-in-While.ensures.code
     c.in_ok-put-in-While.ensures.len c.end_test-in-While.ensures.code c.end_test-in-While.ensures.len
-    (omega (arith, c.len-outer.ensures, c.args.breaks.now.ok.0)) c.in_ok-emit_block-in-While.ensures.breaks c.end_breaks.ensures.code c.args.again 0
+    (omega (arith, c.len-outer.ensures, c.args.breaks.now.ok.0)) c.in_ok-emit_block-in-While.ensures.breaks
+    c.end_breaks.ensures.code c.args.again 0
     ∙ ap (λ st. begun ++ statement_code scope st (length begun) c.args.again 0) (sym view)
 
 pub emit_statement-returns-in_ok-put-in-While-clause-len :
     goal.emit_statement-returns-in_ok-put-in-While-clause-len
 emit_statement-returns-in_ok-put-in-While-clause-len t c =
-    let view = view-While c.args.s.now c.in-While.condition c.in-While.body c.deref-in-While.result.now c.in-While.is c.deref-in-While.ensures.value in
+    let view = view-While c.args.s.now c.in-While.condition c.in-While.body c.deref-in-While.result.now c.in-While.is
+    c.deref-in-While.ensures.value in
     let size = ap statement_size view in
-    omega (arith, size, c.in_ok-emit_test-in-While.ensures.len, c.in_ok-emit_block-in-While.ensures.len, c.in_ok-put-in-While.ensures.len, c.end_test-in-While.ensures.len, c.end_breaks.ensures.len)
+    omega (
+      arith,
+      size,
+      c.in_ok-emit_test-in-While.ensures.len,
+      c.in_ok-emit_block-in-While.ensures.len,
+      c.in_ok-put-in-While.ensures.len,
+      c.end_test-in-While.ensures.len,
+      c.end_breaks.ensures.len,
+    )
 
 pub emit_statement-returns-in_ok-put-in-While-clause-depths :
     goal.emit_statement-returns-in_ok-put-in-While-clause-depths
 emit_statement-returns-in_ok-put-in-While-clause-depths t c =
-    let view = view-While c.args.s.now c.in-While.condition c.in-While.body c.deref-in-While.result.now c.in-While.is c.deref-in-While.ensures.value in
+    let view = view-While c.args.s.now c.in-While.condition c.in-While.body c.deref-in-While.result.now c.in-While.is
+    c.deref-in-While.ensures.value in
     let begun = c.args.out.now.depths.items in
     c.end_breaks.ensures.depths ∙ c.end_test-in-While.ensures.depths
     ∙ while-deep (expression_view c.in-While.condition) (block_view c.deref-in-While.result.now) begun
     c.emit_test-in-While.new.out.depths.items c.emit_block-in-While.new.out.depths.items
-    c.in_ok-emit_test-in-While.ensures.depths c.in_ok-emit_block-in-While.ensures.depths c.put-in-While.new.out.depths.items
+    c.in_ok-emit_test-in-While.ensures.depths c.in_ok-emit_block-in-While.ensures.depths
+    c.put-in-While.new.out.depths.items
     c.in_ok-put-in-While.ensures.depths
     ∙ ap (λ st. begun ++ statement_depths st) (sym view)
 
@@ -254,15 +323,32 @@ emit_statement-end_jump-requires-clause-room t c =
 
 pub emit_statement-end_test-requires-in-While-clause-room : goal.emit_statement-end_test-requires-in-While-clause-room
 emit_statement-end_test-requires-in-While-clause-room t c =
-    let view = view-While c.args.s.now c.in-While.condition c.in-While.body c.deref-in-While.result.now c.in-While.is c.deref-in-While.ensures.value in
+    let view = view-While c.args.s.now c.in-While.condition c.in-While.body c.deref-in-While.result.now c.in-While.is
+    c.deref-in-While.ensures.value in
     let size = ap statement_size view in
-    omega (arith, size, c.in_ok-emit_test-in-While.ensures.len, c.in_ok-emit_block-in-While.ensures.len, c.in_ok-put-in-While.ensures.len, c.requires.room)
+    omega (
+      arith,
+      size,
+      c.in_ok-emit_test-in-While.ensures.len,
+      c.in_ok-emit_block-in-While.ensures.len,
+      c.in_ok-put-in-While.ensures.len,
+      c.requires.room,
+    )
 
 pub emit_statement-end_breaks-requires : goal.emit_statement-end_breaks-requires
 emit_statement-end_breaks-requires t c =
-    let view = view-While c.args.s.now c.in-While.condition c.in-While.body c.deref-in-While.result.now c.in-While.is c.deref-in-While.ensures.value in
+    let view = view-While c.args.s.now c.in-While.condition c.in-While.body c.deref-in-While.result.now c.in-While.is
+    c.deref-in-While.ensures.value in
     let size = ap statement_size view in
-    omega (arith, size, c.in_ok-emit_test-in-While.ensures.len, c.in_ok-emit_block-in-While.ensures.len, c.in_ok-put-in-While.ensures.len, c.end_test-in-While.ensures.len, c.requires.room)
+    omega (
+      arith,
+      size,
+      c.in_ok-emit_test-in-While.ensures.len,
+      c.in_ok-emit_block-in-While.ensures.len,
+      c.in_ok-put-in-While.ensures.len,
+      c.end_test-in-While.ensures.len,
+      c.requires.room,
+    )
 
 pub emit_statement-returns-in_ok-emit_block-in-If-clause-breaks :
     goal.emit_statement-returns-in_ok-emit_block-in-If-clause-breaks
@@ -288,7 +374,13 @@ emit_statement-returns-in_ok-emit_block-in-IfElse-2-clause-breaks t c =
     let second = block_view c.deref-in-IfElse-3.result.now in
     let behind : length c.end_test-in-IfElse.new.out.instructions.items ≡
     length begun + expression_size (expression_view c.deref-in-IfElse.result.now) + 1 + block_size first + 1 =
-    omega (arith, c.in_ok-emit_test-in-IfElse.ensures.len, c.in_ok-emit_block-in-IfElse.ensures.len, c.in_ok-put-in-IfElse.ensures.len, c.end_test-in-IfElse.ensures.len) in
+    omega (
+      arith,
+      c.in_ok-emit_test-in-IfElse.ensures.len,
+      c.in_ok-emit_block-in-IfElse.ensures.len,
+      c.in_ok-put-in-IfElse.ensures.len,
+      c.end_test-in-IfElse.ensures.len,
+    ) in
     both-noted noted first second (length begun + expression_size (expression_view c.deref-in-IfElse.result.now) + 1)
     c.emit_block-in-IfElse.new.breaks.items c.emit_block-in-IfElse-2.new.breaks.items
     (length c.emit_test-in-IfElse.new.out.instructions.items) (length c.end_test-in-IfElse.new.out.instructions.items)

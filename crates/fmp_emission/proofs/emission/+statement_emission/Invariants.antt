@@ -19,6 +19,7 @@ invariant-emit_block-loop-s l =
           begun ++ block_code (scope_view l.names) whole (length begun) l.again 0;
       len : length made + block_size rest ≡ length begun + block_size whole;
       depths : l.out.depths.items ++ block_depths rest ≡ l.fn.out.depths.items ++ block_depths whole;
-      breaks : l.breaks.items ++ block_breaks rest (length made) ≡ l.fn.breaks.items ++ block_breaks whole (length begun);
+      breaks : l.breaks.items ++ block_breaks rest (length made) ≡ l.fn.breaks.items
+          ++ block_breaks whole (length begun);
       low : block_depth rest ≤ 64;
     }

@@ -14,8 +14,17 @@ emit_expression-emit_expression-requires-in-Chain t c =
     let size = size-Chain c.args.e.now c.in-Chain.first c.in-Chain.rest c.in-Chain.is in
     let depth = depth-Chain c.args.e.now c.in-Chain.first c.in-Chain.rest c.in-Chain.is in
     let first = ap (λ x. expression_size (expression_view x)) c.deref-in-Chain.ensures in
-    let low = ap (λ x. expression_depth (expression_view x)) c.deref-in-Chain.ensures in
-    (search (rules, the_lemmas), (c.requires.held, (omega (arith, size, first, c.requires.room), omega (arith, depth, low, c.requires.low))))
+    let low = ap (λ x. expression_depth (expression_view x)) c.deref-in-Chain.ensures in (
+      search (rules, the_lemmas),
+      (
+        c.requires.held,
+        (
+          omega (arith, size, first, c.requires.room),
+          omega
+              (arith, depth, low, c.requires.low),
+        ),
+      ),
+    )
 
 pub emit_expression-emit_links-requires : goal.emit_expression-emit_links-requires
 emit_expression-emit_links-requires t c =
@@ -24,8 +33,17 @@ emit_expression-emit_links-requires t c =
     let first = ap (λ x. expression_size (expression_view x)) c.deref-in-Chain.ensures in
     let rest = ap (λ xs. links_size (map link_view xs)) c.deref-in-Chain-2.ensures.value in
     let low = ap (λ xs. links_depth (map link_view xs)) c.deref-in-Chain-2.ensures.value in
-    let len = c.in_ok-emit_expression-in-Chain.ensures.len in
-    (search (rules, the_lemmas), (c.requires.held, (omega (arith, size, first, rest, len, c.requires.room), omega (arith, depth, low, c.requires.low))))
+    let len = c.in_ok-emit_expression-in-Chain.ensures.len in (
+      search (rules, the_lemmas),
+      (
+        c.requires.held,
+        (
+          omega (arith, size, first, rest, len, c.requires.room),
+          omega
+              (arith, depth, low, c.requires.low),
+        ),
+      ),
+    )
 
 pub emit_expression-returns-in_ok-put-in-Element-clause-code :
     goal.emit_expression-returns-in_ok-put-in-Element-clause-code
@@ -47,23 +65,29 @@ emit_expression-returns-in_ok-put-in-Element-clause-depths t c =
 
 pub emit_expression-returns-in_ok-put-in-Unary-clause-code : goal.emit_expression-returns-in_ok-put-in-Unary-clause-code
 emit_expression-returns-in_ok-put-in-Unary-clause-code t c =
-    unary-emitted (scope_view c.args.names.now) c.args.e.now c.deref-in-Unary.result.now c.in-Unary.operator c.in-Unary.operand
-    c.in-Unary.is c.deref-in-Unary.ensures c.args.out.now.instructions.items c.emit_expression-in-Unary.new.out.instructions.items
-    c.put-in-Unary.new.out.instructions.items c.in_ok-emit_expression-in-Unary.ensures.code c.in_ok-put-in-Unary.ensures.code
+    unary-emitted (scope_view c.args.names.now) c.args.e.now c.deref-in-Unary.result.now c.in-Unary.operator
+    c.in-Unary.operand
+    c.in-Unary.is c.deref-in-Unary.ensures c.args.out.now.instructions.items
+    c.emit_expression-in-Unary.new.out.instructions.items
+    c.put-in-Unary.new.out.instructions.items c.in_ok-emit_expression-in-Unary.ensures.code
+    c.in_ok-put-in-Unary.ensures.code
 
 pub emit_expression-returns-in_ok-put-in-Unary-clause-depths :
     goal.emit_expression-returns-in_ok-put-in-Unary-clause-depths
 emit_expression-returns-in_ok-put-in-Unary-clause-depths t c =
     unary-deep c.args.e.now c.deref-in-Unary.result.now c.in-Unary.operator c.in-Unary.operand c.args.depth
     c.in-Unary.is c.deref-in-Unary.ensures c.args.out.now.depths.items c.emit_expression-in-Unary.new.out.depths.items
-    c.put-in-Unary.new.out.depths.items c.in_ok-emit_expression-in-Unary.ensures.depths c.in_ok-put-in-Unary.ensures.depths
+    c.put-in-Unary.new.out.depths.items c.in_ok-emit_expression-in-Unary.ensures.depths
+    c.in_ok-put-in-Unary.ensures.depths
 
 pub emit_expression-returns-in_ok-emit_links-in-Chain-clause-code :
     goal.emit_expression-returns-in_ok-emit_links-in-Chain-clause-code
 emit_expression-returns-in_ok-emit_links-in-Chain-clause-code t c =
-    chain-emitted (scope_view c.args.names.now) c.args.e.now c.deref-in-Chain.result.now c.in-Chain.first c.in-Chain.rest
+    chain-emitted (scope_view c.args.names.now) c.args.e.now c.deref-in-Chain.result.now c.in-Chain.first
+    c.in-Chain.rest
     c.deref-in-Chain-2.result.now c.in-Chain.is c.deref-in-Chain.ensures c.deref-in-Chain-2.ensures.value
-    c.args.out.now.instructions.items c.emit_expression-in-Chain.new.out.instructions.items c.emit_links.new.out.instructions.items
+    c.args.out.now.instructions.items c.emit_expression-in-Chain.new.out.instructions.items
+    c.emit_links.new.out.instructions.items
     c.in_ok-emit_expression-in-Chain.ensures.code c.in_ok-emit_expression-in-Chain.ensures.len
     c.in_ok-emit_links-in-Chain.ensures.code
 
@@ -73,7 +97,14 @@ emit_expression-returns-in_ok-emit_links-in-Chain-clause-len t c =
     let size = size-Chain c.args.e.now c.in-Chain.first c.in-Chain.rest c.in-Chain.is in
     let first = ap (λ x. expression_size (expression_view x)) c.deref-in-Chain.ensures in
     let rest = ap (λ xs. links_size (map link_view xs)) c.deref-in-Chain-2.ensures.value in
-    omega (arith, size, first, rest, c.in_ok-emit_expression-in-Chain.ensures.len, c.in_ok-emit_links-in-Chain.ensures.len)
+    omega (
+      arith,
+      size,
+      first,
+      rest,
+      c.in_ok-emit_expression-in-Chain.ensures.len,
+      c.in_ok-emit_links-in-Chain.ensures.len,
+    )
 
 pub emit_expression-returns-in_ok-emit_links-in-Chain-clause-depths :
     goal.emit_expression-returns-in_ok-emit_links-in-Chain-clause-depths

@@ -7,10 +7,12 @@ use Rattle.fmp_engine.proofs.play.give_all.Goals as goal
 pub returns-clause-ok : goal.returns-clause-ok
 returns-clause-ok g c =
     on_ok_then c.give-given.result
-    (λ h. given_all g.T.Outlet.gave _ _ c.as_slice.result.now c.args.text.now.items c.as_slice.ensures.value h) c.give-given.ensures.ok
+    (λ h. given_all g.T.Outlet.gave _ _ c.as_slice.result.now c.args.text.now.items c.as_slice.ensures.value h)
+    c.give-given.ensures.ok
 
 pub returns-clause-err : goal.returns-clause-err
 returns-clause-err g c =
     on_err_then c.give-given.result
-    (λ h. subst (λ (xs : List ℕ). GivenFront g.T.Outlet.stopped c.args.outlet.now c.give-given.new.self xs) c.as_slice.ensures.value h)
+    (λ h. subst (λ (xs : List ℕ). GivenFront g.T.Outlet.stopped c.args.outlet.now c.give-given.new.self xs)
+    c.as_slice.ensures.value h)
     c.give-given.ensures.err

@@ -37,7 +37,8 @@ returns-clause-err g c body n start =
     let left : c.finish.new.out.items ≡ c.take.new.page =
     c.finish.ensures.text ∙ ap (λ (xs : List ℕ). xs ++ c.take.new.page) c.requires.no_text in
     on_err_then c.give_states.result
-    (λ last. end_stopped g.T.Outlet.gave g.T.Outlet.stopped g.met.T.Outlet.gave_more g.met.T.Outlet.stopped_later _ _ _ _
+    (λ last. end_stopped g.T.Outlet.gave g.T.Outlet.stopped g.met.T.Outlet.gave_more g.met.T.Outlet.stopped_later _ _
+    _ _
     c.print_setup.new.page c.give_piece.new.page c.take.new.page _ (text_of_events meaning k es)
     (states_text sys (state_after meaning k es)) _
     (whole meaning body n sys k es c.print_setup.new.page start first)
@@ -67,6 +68,7 @@ returns-in_err-take-clause-err g c body n start =
     let first : c.print_setup.new.page ≡ lines_text sys 0 k.lines = search rules in
     on_err_from _
     (events_stopped g.T.Outlet.gave g.T.Outlet.stopped g.met.T.Outlet.gave_more g.met.T.Outlet.stopped_later _ _ _
-    c.print_setup.new.page c.give_piece.new.page (text_of_events meaning k es) (states_text sys (state_after meaning k es)) _
+    c.print_setup.new.page c.give_piece.new.page (text_of_events meaning k es)
+    (states_text sys (state_after meaning k es)) _
     (whole meaning body n sys k es c.print_setup.new.page start first)
     c.in_ok-give_piece.ensures.ok c.in_err-take.ensures.err)

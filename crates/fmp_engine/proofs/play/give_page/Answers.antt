@@ -12,5 +12,6 @@ returns-clause-ok g c =
 pub returns-clause-err : goal.returns-clause-err
 returns-clause-err g c =
     on_err_then c.give-given.result
-    (λ h. subst (λ (xs : List ℕ). GivenFront g.T.Outlet.stopped c.args.outlet.now c.give-given.new.self xs) c.bytes.ensures h)
+    (λ h. subst (λ (xs : List ℕ). GivenFront g.T.Outlet.stopped c.args.outlet.now c.give-given.new.self xs)
+    c.bytes.ensures h)
     c.give-given.ensures.err

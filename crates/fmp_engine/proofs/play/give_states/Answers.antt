@@ -15,14 +15,16 @@ returns-clause-ok g c =
     let now = c.args.kernel.now.world.state in
     let before = c.args.text.now.items in
     let count : vec_len c.args.sys.now.tasks ≡ length c.args.sys.now.tasks.items = search rules in
-    let printed : c.print_states.new.out.items ≡ before ++ listed_states_text sys 0 c.as_slice.result.now = search rules in
+    let printed : c.print_states.new.out.items ≡ before ++ listed_states_text sys 0 c.as_slice.result.now = search
+    rules in
     let states : c.print_states.new.out.items ≡ before ++ states_text sys now =
     printed
     ∙ ap (λ (xs : List TaskState). before ++ listed_states_text sys 0 xs) c.as_slice.ensures.value
     ∙ ap (λ (text : List ℕ). before ++ text)
     (listed sys now c.put_states.new.states.items
     (c.put_states.ensures.states ∙ ap (λ (n : ℕ). map (task_state now) (places_from 0 n)) (c.len.ensures ∙ count))) in
-    on_ok_then c.give_all.result (λ h. subst (λ (text : List ℕ). Given g.T.Outlet.gave c.args.outlet.now c.give_all.new.outlet [] text) states h)
+    on_ok_then c.give_all.result (λ h. subst (λ (text : List ℕ). Given g.T.Outlet.gave c.args.outlet.now
+    c.give_all.new.outlet [] text) states h)
     c.give_all.ensures.ok
 
 pub returns-clause-err : goal.returns-clause-err
@@ -31,12 +33,14 @@ returns-clause-err g c =
     let now = c.args.kernel.now.world.state in
     let before = c.args.text.now.items in
     let count : vec_len c.args.sys.now.tasks ≡ length c.args.sys.now.tasks.items = search rules in
-    let printed : c.print_states.new.out.items ≡ before ++ listed_states_text sys 0 c.as_slice.result.now = search rules in
+    let printed : c.print_states.new.out.items ≡ before ++ listed_states_text sys 0 c.as_slice.result.now = search
+    rules in
     let states : c.print_states.new.out.items ≡ before ++ states_text sys now =
     printed
     ∙ ap (λ (xs : List TaskState). before ++ listed_states_text sys 0 xs) c.as_slice.ensures.value
     ∙ ap (λ (text : List ℕ). before ++ text)
     (listed sys now c.put_states.new.states.items
     (c.put_states.ensures.states ∙ ap (λ (n : ℕ). map (task_state now) (places_from 0 n)) (c.len.ensures ∙ count))) in
-    on_err_then c.give_all.result (λ h. subst (λ (text : List ℕ). GivenFront g.T.Outlet.stopped c.args.outlet.now c.give_all.new.outlet text) states h)
+    on_err_then c.give_all.result (λ h. subst (λ (text : List ℕ). GivenFront g.T.Outlet.stopped c.args.outlet.now
+    c.give_all.new.outlet text) states h)
     c.give_all.ensures.err

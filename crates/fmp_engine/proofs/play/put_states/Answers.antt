@@ -12,7 +12,8 @@ loop-t-preserved g c =
     let rest = map (task_state s) (places_from (c.loop-t.t + 1) (c.args.count - (c.loop-t.t + 1))) in
     record {
       items =
-          ap (λ (xs : List TaskState). xs ++ rest) c.push_reserved.ensures.items ∙ append_assoc c.loop-t.states.items _ rest
+          ap (λ (xs : List TaskState). xs ++ rest) c.push_reserved.ensures.items
+          ∙ append_assoc c.loop-t.states.items _ rest
           ∙ ap (λ (x : TaskState). c.loop-t.states.items ++ (x ∷ rest)) c.state.ensures
           ∙ ap (λ (n : ℕ). c.loop-t.states.items ++ map (task_state s) (places_from c.loop-t.t n)) (sym cut)
           ∙ i.items;

@@ -12,12 +12,16 @@ loop-event-preserved-in-Continue-1 g c =
     let gave = g.T.Outlet.gave in
     let i = c.loop-event.invariant in
     let page = c.loop-event.page in
-    let all = c.args.page.now ++ text_of_events g.B.Body.meaning c.args.kernel.now (g.E.Events.left c.args.events.now) in
+    let all = c.args.page.now ++ text_of_events g.B.Body.meaning c.args.kernel.now
+    (g.E.Events.left c.args.events.now) in
     let lines = lines_text (tables_of c.args.sys.now) c.done.result c.lines.result.now in
     let rest = text_of_events g.B.Body.meaning c.step.new.self (g.E.Events.left c.next_event.new.self) in
-    let one : lines ++ rest ≡ text_of_events g.B.Body.meaning c.loop-event.kernel (g.E.Events.left c.loop-event.events) = search rules in
-    let printed : c.print.new.self ++ rest ≡ page ++ text_of_events g.B.Body.meaning c.loop-event.kernel (g.E.Events.left c.loop-event.events) =
-    ap (λ (xs : List ℕ). xs ++ rest) c.print.ensures ∙ append_assoc page lines rest ∙ ap (λ (xs : List ℕ). page ++ xs) one in
+    let one : lines ++ rest ≡ text_of_events g.B.Body.meaning c.loop-event.kernel
+    (g.E.Events.left c.loop-event.events) = search rules in
+    let printed : c.print.new.self ++ rest ≡ page ++ text_of_events g.B.Body.meaning c.loop-event.kernel
+    (g.E.Events.left c.loop-event.events) =
+    ap (λ (xs : List ℕ). xs ++ rest) c.print.ensures ∙ append_assoc page lines rest
+    ∙ ap (λ (xs : List ℕ). page ++ xs) one in
     let before : Given gave c.args.outlet.now c.loop-event.outlet (c.print.new.self ++ rest) all =
     left_is gave _ _ _ _ all (sym printed) i.given in
     record {
@@ -36,12 +40,16 @@ returns-in_err-give_piece-in-Done-clause-err g c =
     let stopped = g.T.Outlet.stopped in
     let i = c.loop-event.invariant in
     let page = c.loop-event.page in
-    let all = c.args.page.now ++ text_of_events g.B.Body.meaning c.args.kernel.now (g.E.Events.left c.args.events.now) in
+    let all = c.args.page.now ++ text_of_events g.B.Body.meaning c.args.kernel.now
+    (g.E.Events.left c.args.events.now) in
     let lines = lines_text (tables_of c.args.sys.now) c.done.result c.lines.result.now in
     let rest = text_of_events g.B.Body.meaning c.step.new.self (g.E.Events.left c.next_event.new.self) in
-    let one : lines ++ rest ≡ text_of_events g.B.Body.meaning c.loop-event.kernel (g.E.Events.left c.loop-event.events) = search rules in
-    let printed : c.print.new.self ++ rest ≡ page ++ text_of_events g.B.Body.meaning c.loop-event.kernel (g.E.Events.left c.loop-event.events) =
-    ap (λ (xs : List ℕ). xs ++ rest) c.print.ensures ∙ append_assoc page lines rest ∙ ap (λ (xs : List ℕ). page ++ xs) one in
+    let one : lines ++ rest ≡ text_of_events g.B.Body.meaning c.loop-event.kernel
+    (g.E.Events.left c.loop-event.events) = search rules in
+    let printed : c.print.new.self ++ rest ≡ page ++ text_of_events g.B.Body.meaning c.loop-event.kernel
+    (g.E.Events.left c.loop-event.events) =
+    ap (λ (xs : List ℕ). xs ++ rest) c.print.ensures ∙ append_assoc page lines rest
+    ∙ ap (λ (xs : List ℕ). page ++ xs) one in
     let before : Given gave c.args.outlet.now c.loop-event.outlet (c.print.new.self ++ rest) all =
     left_is gave _ _ _ _ all (sym printed) i.given in
     on_err_from _
@@ -53,9 +61,12 @@ returns-clause-ok g c =
     let gave = g.T.Outlet.gave in
     let i = c.loop-event.invariant in
     let page = c.loop-event.page in
-    let all = c.args.page.now ++ text_of_events g.B.Body.meaning c.args.kernel.now (g.E.Events.left c.args.events.now) in
-    let none : text_of_events g.B.Body.meaning c.loop-event.kernel (g.E.Events.left c.loop-event.events) ≡ [] = search rules in
-    let left : page ++ text_of_events g.B.Body.meaning c.loop-event.kernel (g.E.Events.left c.loop-event.events) ≡ page =
+    let all = c.args.page.now ++ text_of_events g.B.Body.meaning c.args.kernel.now
+    (g.E.Events.left c.args.events.now) in
+    let none : text_of_events g.B.Body.meaning c.loop-event.kernel (g.E.Events.left c.loop-event.events)
+    ≡ [] = search rules in
+    let left : page ++ text_of_events g.B.Body.meaning c.loop-event.kernel (g.E.Events.left c.loop-event.events)
+    ≡ page =
     ap (λ (xs : List ℕ). page ++ xs) none ∙ append-nil page in
     record {
       given = left_is gave _ _ _ _ all left i.given;

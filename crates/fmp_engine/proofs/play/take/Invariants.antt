@@ -11,7 +11,8 @@ invariant-loop-event g l =
       given : Given g.T.Outlet.gave l.fn.outlet l.outlet
           (l.page ++ text_of_events g.B.Body.meaning l.kernel (g.E.Events.left l.events))
           (l.fn.page ++ text_of_events g.B.Body.meaning l.fn.kernel (g.E.Events.left l.fn.events));
-      state : state_after g.B.Body.meaning l.kernel (g.E.Events.left l.events) ≡ state_after g.B.Body.meaning l.fn.kernel (g.E.Events.left l.fn.events);
+      state : state_after g.B.Body.meaning l.kernel (g.E.Events.left l.events)
+          ≡ state_after g.B.Body.meaning l.fn.kernel (g.E.Events.left l.fn.events);
       system : l.kernel.system ≡ tables_of l.sys;
       short : length l.page < 65536;
       few : l.kernel.taken + length (g.E.Events.left l.events) ≤ 2 ^ 20;

@@ -4,7 +4,8 @@ use Rattle.fmp_engine.proofs.simulation.append_simulated.Goals as goal
 pub returns-in-Ok-clause-ok : goal.returns-in-Ok-clause-ok
 returns-in-Ok-clause-ok c =
     let s = c.in-Ok.ensures.ok in
-    simulates_appended c.args.image.now c.args.steps.now c.args.n c.args.out.now.items c.simulate.new.outlet.items s.given.front s.text
+    simulates_appended c.args.image.now c.args.steps.now c.args.n c.args.out.now.items c.simulate.new.outlet.items
+    s.given.front s.text
     s.simulated s.given.whole_is s.given.is_given
 
 pub returns-in-Err-Refused-clause-refused : goal.returns-in-Err-Refused-clause-refused

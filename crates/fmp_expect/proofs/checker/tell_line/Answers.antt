@@ -5,7 +5,8 @@ use Rattle.fmp_expect.specs.declared.checker.Watch.{Watch}
 use Rattle.fmp_expect.specs.Stages.{next_watch}
 use Rattle.fmp_expect.proofs.checker.tell_line.Goals as goal
 
-watch_row : (f : Watch → Watch) (rows now : List Watch) (i : ℕ) (d z : Watch) → i < length rows → length now ≡ length rows
+watch_row : (f : Watch → Watch) (rows now : List Watch) (i : ℕ) (d z : Watch) → i < length rows → length now
+    ≡ length rows
     → now ≡ map f (take i rows) ++ drop i rows → z ≡ f (get_or now i d)
     → set now i z ≡ map f (take (i + 1) rows) ++ drop (i + 1) rows
 watch_row f rows now i d z within long before is =

@@ -35,13 +35,15 @@ loop-e-preserved g c =
     let one = taken-step k c.tell_one.new.kernel _ c.tell_one.ensures.state in
     record {
       room = omega (arith, c.loop-e.invariant.room, one);
-      state = after-step g.T.Coming.reaction k c.tell_one.new.kernel _ es i c.e-item.result c.loop-e-test.true c.e-item.is c.tell_one.ensures.state
+      state = after-step g.T.Coming.reaction k c.tell_one.new.kernel _ es i c.e-item.result c.loop-e-test.true
+          c.e-item.is c.tell_one.ensures.state
           c.loop-e.invariant.state;
       told = λ xs are.
           let so_far = c.loop-e.invariant.told xs are in (
             told_after k (g.T.Coming.reaction k c.e-item.result) so_far.0,
             c.tell_one.ensures.told xs so_far.0 so_far.1,
-            told_step g.T.Coming.reaction k c.tell_one.new.kernel es i c.e-item.result so_far.0 _ c.loop-e-test.true c.e-item.is
+            told_step g.T.Coming.reaction k c.tell_one.new.kernel es i c.e-item.result so_far.0 _ c.loop-e-test.true
+                c.e-item.is
                 c.tell_one.ensures.state so_far.2,
           );
     }

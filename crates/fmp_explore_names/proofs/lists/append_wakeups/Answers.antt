@@ -7,7 +7,8 @@ unfolding wakeups_text
 returns c =
     let out = c.args.out.now.items in
     let number : List ℕ = decimal c.args.count in
-    let same : c.append_small.new.out.items ++ c.wakeups_word.result.now ≡ out ++ (number ++ wakeups_word c.args.count) =
+    let same : c.append_small.new.out.items ++ c.wakeups_word.result.now ≡ out
+    ++ (number ++ wakeups_word c.args.count) =
     ap (λ (xs : List ℕ). xs ++ c.wakeups_word.result.now) c.in_ok-append_small.ensures
     ∙ ap (λ (xs : List ℕ). (out ++ number) ++ xs) c.wakeups_word.ensures
     ∙ append_assoc out number (wakeups_word c.args.count) in

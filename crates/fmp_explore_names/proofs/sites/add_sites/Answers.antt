@@ -1,4 +1,5 @@
-use Rattle.std.proofs.Common.{◌+◌, ◌++◌, ◌<◌, [], ◌∷◌, append-nil, append_assoc, cond, drop, length, get_or, nat_eq, sym, ap, ◌∙◌, arith}
+use Rattle.std.proofs.Common.{◌+◌, ◌++◌, ◌<◌, [], ◌∷◌, append-nil, append_assoc, cond, drop, length, get_or, nat_eq}
+use Rattle.std.proofs.Common.{sym, ap, ◌∙◌, arith}
 use Rattle.fmp_explore_names.proofs.Bodies.{sites_at_at, sites_at_end}
 use Rattle.fmp_explore_names.proofs.sites.add_sites.Goals as goal
 use Rattle.fmp_explore_names.specs.Sites.{site, sites_at}

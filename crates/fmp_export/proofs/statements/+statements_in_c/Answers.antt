@@ -4,7 +4,8 @@ use Rattle.fmp_tasklang.specs.Views.{expression_view, block_view}
 use Rattle.fmp_scopes.proofs.ViewTrees.{view-If, view-IfElse, view-While}
 use Rattle.fmp_export.specs.declared.source.Landmark.TheVariants as landmark
 use Rattle.fmp_export.specs.Sources.{behind, source_view}
-use Rattle.fmp_export.specs.Statements.{block_end, c_block, c_choice, c_closed, c_head, c_statement, choice_end, statement_end}
+use Rattle.fmp_export.specs.Statements.{block_end, c_block, c_choice, c_closed, c_head, c_statement, choice_end}
+use Rattle.fmp_export.specs.Statements.{statement_end}
 use Rattle.fmp_export.specs.Words.{tab}
 use Rattle.fmp_export.proofs.Appended.{two}
 use Rattle.fmp_export.proofs.statements.+statements_in_c.Goals as goal

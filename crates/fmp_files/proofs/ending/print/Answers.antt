@@ -9,5 +9,6 @@ returns-in-Ok g c = all_printed (prints_one _ _ c.args.bytes.now c.in-Ok.ensures
 pub returns-in-Err-Device : goal.returns-in-Err-Device
 returns-in-Err-Device g c =
     let begun = prints_front _ _ c.args.bytes.now c.in-Err-Device.ensures.err in
-    some_printed c.in-Err-Device.ensures.device begun.front begun.left begun.bytes_are (g.O.Outside.done c.print.new.self)
+    some_printed c.in-Err-Device.ensures.device begun.front begun.left begun.bytes_are
+    (g.O.Outside.done c.print.new.self)
     begun.printed_front c.end.ensures.said c.end.ensures.status

@@ -14,7 +14,8 @@ loop-done-preserved g c =
     let before = c.loop-done.invariant in
     let fits = c.in-Ok.ensures.bound in
     let most = length-take (length all - done) (drop done all) in
-    let joined = ap (λ l. take done all ++ l) (take-take count (length all - done) (drop done all) (omega arith)) ∙ sym (take-add done count all) in
+    let joined = ap (λ l. take done all ++ l) (take-take count (length all - done) (drop done all) (omega arith))
+    ∙ sym (take-add done count all) in
     record {
       within = omega arith;
       written = subst (Appends _ _) joined (Appends-trans _ _ _ _ _ before.written c.in-Ok.ensures.bytes);

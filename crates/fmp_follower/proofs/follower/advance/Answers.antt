@@ -67,7 +67,8 @@ returns-in-Some-clause-text g c =
     let k = c.args.kernel.now in
     prints g.S.Site.image g.S.Site.bound g.S.Site.row_id _ _ _ c.in-Some.event _ _ c.requires f
     (c.take.ensures.text
-    ∙ ap (λ (xs : List ℕ). xs ++ reaction_text k.system (k.done + 1) (reaction_of k c.in-Some.event)) c.reserve.ensures.items)
+    ∙ ap (λ (xs : List ℕ). xs ++ reaction_text k.system (k.done + 1) (reaction_of k c.in-Some.event))
+    c.reserve.ensures.items)
 
 pub returns-in-None-clause-following : goal.returns-in-None-clause-following
 returns-in-None-clause-following g c =

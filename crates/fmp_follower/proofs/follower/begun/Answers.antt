@@ -11,4 +11,5 @@ returns-in-Ok-clause-text g c =
     begins g.S.Site.image g.S.Site.bound (tables_of c.system.result.now) _ _ _
     (c.system.ensures.tables ∙ ap (λ (i : ImageTables). i.system) c.image-image.ensures)
     (made_at _ _ _ _ _ c.image-image.ensures c.bound.ensures.value c.in_ok-kernel.ensures)
-    (c.in-Ok.ensures.ok ∙ ap (λ (ls : List Line). c.args.out.now.items ++ lines_text (tables_of c.system.result.now) 0 ls) c.lines.ensures)
+    (c.in-Ok.ensures.ok ∙ ap (λ (ls : List Line). c.args.out.now.items
+    ++ lines_text (tables_of c.system.result.now) 0 ls) c.lines.ensures)

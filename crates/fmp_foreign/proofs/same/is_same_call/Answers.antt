@@ -12,5 +12,8 @@ returns-then-is_same_service c =
     let sb = c.service-2.ensures in
     let la = c.as_slice.ensures ∙ c.arguments.ensures in
     let lb = c.as_slice-then-is_same_service.ensures ∙ c.arguments-then-is_same_service.ensures in
-    let same : service_of c.args.a ≡ service_of c.args.b = sym sa ∙ s.0 c.if-is_same_service.true ∙ sb in
-    (λ t. same_calls c.args.a c.args.b same (sym la ∙ l.0 t ∙ lb), λ e. l.1 (la ∙ ap (λ (k : Call). arguments_of k) e ∙ sym lb))
+    let same : service_of c.args.a ≡ service_of c.args.b = sym sa ∙ s.0 c.if-is_same_service.true ∙ sb in (
+      λ t. same_calls c.args.a c.args.b same (sym la ∙ l.0 t ∙ lb),
+      λ e. l.1
+          (la ∙ ap (λ (k : Call). arguments_of k) e ∙ sym lb),
+    )

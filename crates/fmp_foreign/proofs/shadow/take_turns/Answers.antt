@@ -10,7 +10,8 @@ returns-then-ne-clause-follows g c =
 
 pub returns-then-ne-clause-stays : goal.returns-then-ne-clause-stays
 returns-then-ne-clause-stays g c =
-    λ h. and_then g.B.Body.meaning c.args.kernel.now c.loop.kernel c.take_turn-verdict.new.kernel [] [] c.loop.invariant.followed
+    λ h. and_then g.B.Body.meaning c.args.kernel.now c.loop.kernel c.take_turn-verdict.new.kernel [] []
+    c.loop.invariant.followed
     (c.take_turn-verdict.ensures.stays h)
 
 pub loop-preserved : goal.loop-preserved

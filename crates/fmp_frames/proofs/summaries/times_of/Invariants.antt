@@ -4,4 +4,5 @@ use Rattle.fmp_frames.proofs.summaries.times_of.Given as goal
 
 -- the times so far, and those of the responses that are left
 abbrev pub invariant-loop-response : goal.invariant-loop-response
-invariant-loop-response l = l.times.items ++ spec.times_of l.handler (drop l.response-index l.all) ≡ spec.times_of l.handler l.all
+invariant-loop-response l = l.times.items ++ spec.times_of l.handler (drop l.response-index l.all)
+    ≡ spec.times_of l.handler l.all

@@ -7,9 +7,11 @@ use Rattle.fmp_frames.proofs.taking.frames.Given as goal
 abbrev pub invariant-loop-e : goal.invariant-loop-e
 invariant-loop-e g l =
     record {
-      frames : map table_of l.all.items ++ frames_of g.B.Body.meaning g.T.Coming.reaction l.kernel (drop l.e-index l.events)
+      frames : map table_of l.all.items ++ frames_of g.B.Body.meaning g.T.Coming.reaction l.kernel
+          (drop l.e-index l.events)
           ≡ frames_of g.B.Body.meaning g.T.Coming.reaction l.fn.kernel l.events;
-      after : view_after_each g.T.Coming.reaction l.kernel (drop l.e-index l.events) ≡ view_after_each g.T.Coming.reaction l.fn.kernel l.events;
+      after : view_after_each g.T.Coming.reaction l.kernel (drop l.e-index l.events)
+          ≡ view_after_each g.T.Coming.reaction l.fn.kernel l.events;
       body : l.kernel.body ≡ l.fn.kernel.body;
       bound : l.kernel.bound ≡ l.fn.kernel.bound;
       system : l.kernel.system ≡ l.fn.kernel.system;

@@ -9,7 +9,8 @@ loop-turn-preserved g c =
     let e = c.in_ok-take_turn.ensures in (
       e.at,
       added_more _ _ _ _ _ _ _ _ _ i.1 e.added,
-      did_more g.B.Feed.image g.B.Feed.bound g.B.Feed.row_id (Run c.args.p) _ c.args.seat.now c.loop-turn.seat _ i.2 e.did,
+      did_more g.B.Feed.image g.B.Feed.bound g.B.Feed.row_id (Run c.args.p) _ c.args.seat.now c.loop-turn.seat _ i.2
+          e.did,
       search rules,
       search rules,
     )

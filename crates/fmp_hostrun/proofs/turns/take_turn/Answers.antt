@@ -8,23 +8,27 @@ pub returns-in-Ok-clause-added : goal.returns-in-Ok-clause-added
 returns-in-Ok-clause-added g c =
     let processor : c.stretch.new.workspace.ticket.processor ≡ c.args.p = search rules in
     added_turn _ _ _ _ _ _ _ _ c.stretch.ensures.visited c.stretch.ensures.mine processor
-    (added_submitted _ _ _ _ _ _ _ c.submit-answer.ensures.visited c.submit-answer.ensures.mine c.submit-answer.ensures.submitted)
+    (added_submitted _ _ _ _ _ _ _ c.submit-answer.ensures.visited c.submit-answer.ensures.mine
+    c.submit-answer.ensures.submitted)
 
 pub returns-in-Err-Stale-clause-added : goal.returns-in-Err-Stale-clause-added
 returns-in-Err-Stale-clause-added g c =
     let processor : c.stretch.new.workspace.ticket.processor ≡ c.args.p = search rules in
     added_turn _ _ _ _ _ _ _ _ c.stretch.ensures.visited c.stretch.ensures.mine processor
-    (added_submitted _ _ _ _ _ _ _ c.submit-answer.ensures.visited c.submit-answer.ensures.mine c.submit-answer.ensures.submitted)
+    (added_submitted _ _ _ _ _ _ _ c.submit-answer.ensures.visited c.submit-answer.ensures.mine
+    c.submit-answer.ensures.submitted)
 
 pub returns-in-Ok-clause-did : goal.returns-in-Ok-clause-did
 returns-in-Ok-clause-did g c =
-    let drew : Drew g.B.Feed.image g.B.Feed.bound c.stretch.new.seat.seen c.args.p (Some c.stretch.new.workspace.ticket) = search rules in
+    let drew : Drew g.B.Feed.image g.B.Feed.bound c.stretch.new.seat.seen c.args.p
+    (Some c.stretch.new.workspace.ticket) = search rules in
     did_submitted _ _ _ _ _ _ _ _ _ c.stretch.ensures.visited c.stretch.ensures.mine drew
     c.submit-answer.ensures.visited c.submit-answer.ensures.mine c.submit-answer.ensures.submitted (search rules)
 
 pub returns-in-Err-Stale-clause-did : goal.returns-in-Err-Stale-clause-did
 returns-in-Err-Stale-clause-did g c =
-    let drew : Drew g.B.Feed.image g.B.Feed.bound c.stretch.new.seat.seen c.args.p (Some c.stretch.new.workspace.ticket) = search rules in
+    let drew : Drew g.B.Feed.image g.B.Feed.bound c.stretch.new.seat.seen c.args.p
+    (Some c.stretch.new.workspace.ticket) = search rules in
     did_submitted _ _ _ _ _ _ _ _ _ c.stretch.ensures.visited c.stretch.ensures.mine drew
     c.submit-answer.ensures.visited c.submit-answer.ensures.mine c.submit-answer.ensures.submitted (search rules)
 
@@ -35,15 +39,18 @@ returns-in-Err g c =
       at = c.submit-answer.ensures.at;
       added =
           added_turn _ _ _ _ _ _ _ _ c.stretch.ensures.visited c.stretch.ensures.mine processor
-          (added_submitted _ _ _ _ _ _ _ c.submit-answer.ensures.visited c.submit-answer.ensures.mine c.submit-answer.ensures.submitted);
+          (added_submitted _ _ _ _ _ _ _ c.submit-answer.ensures.visited c.submit-answer.ensures.mine
+          c.submit-answer.ensures.submitted);
       did = tt;
       mine = tt;
       stopped =
-          turn_refused g.B.Feed.image g.B.Feed.bound g.B.Feed.row_id g.G.Gate.is_open c.args.p c.stretch.new.workspace.ticket c.args.seat.now c.stretch.new.seat c.submit-answer.new.seat c.in-Err.fault
+          turn_refused g.B.Feed.image g.B.Feed.bound g.B.Feed.row_id g.G.Gate.is_open c.args.p
+          c.stretch.new.workspace.ticket c.args.seat.now c.stretch.new.seat c.submit-answer.new.seat c.in-Err.fault
           c.in-Err.ensures.submitted (search rules) c.stretch.ensures.mine c.in-Err.ensures.mine;
     }
 
 pub returns-then-not-is_let-clause-added : goal.returns-then-not-is_let-clause-added
 returns-then-not-is_let-clause-added g c =
     let feed = g.B.Feed in
-    added_none feed.image feed.bound feed.row_id (Run c.args.p) 1 c.args.seat.now c.stretch.new.seat c.stretch.ensures.visited c.stretch.ensures.mine
+    added_none feed.image feed.bound feed.row_id (Run c.args.p) 1 c.args.seat.now c.stretch.new.seat
+    c.stretch.ensures.visited c.stretch.ensures.mine

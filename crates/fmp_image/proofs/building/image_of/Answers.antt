@@ -10,7 +10,10 @@ new-requires c =
     let given = c.requires.lawful in
     let bodies = given.0 in
     subst
-    (λ (version : ℕ). IsImage (image_tables version (tables_of c.build_tables.new.system) c.in_ok-heads.heads.items (code_tables c.args.text.code)))
+    (λ (version : ℕ). IsImage (image_tables version (tables_of c.build_tables.new.system) c.in_ok-heads.heads.items
+    (code_tables c.args.text.code)))
     (sym c.newest.ensures)
-    (lawful_made (tables_of c.build_tables.new.system) c.in_ok-heads.heads.items (code_tables c.args.text.code) (tables_of c.args.system)
-    bodies (c.build_tables.ensures bodies (c.deref-2.ensures.value ∙ given.1)) (c.in_ok-heads.ensures bodies (c.deref.ensures.value ∙ given.1)) given.2 given.3)
+    (lawful_made (tables_of c.build_tables.new.system) c.in_ok-heads.heads.items (code_tables c.args.text.code)
+    (tables_of c.args.system)
+    bodies (c.build_tables.ensures bodies (c.deref-2.ensures.value ∙ given.1))
+    (c.in_ok-heads.ensures bodies (c.deref.ensures.value ∙ given.1)) given.2 given.3)

@@ -6,4 +6,5 @@ pub returns : goal.returns
 returns c = λ cfg src i b.
     let tables = b.configuration.making.tables in
     built_does tables b.tasks.bodies i
-    (λ accepted. c.compiled_stretch.ensures (built_tables b.tasks.bodies tables) b.tasks.bodies accepted) b.accepted b.image
+    (λ accepted. c.compiled_stretch.ensures (built_tables b.tasks.bodies tables) b.tasks.bodies accepted) b.accepted
+    b.image

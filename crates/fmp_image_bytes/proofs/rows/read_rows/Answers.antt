@@ -32,10 +32,13 @@ loop-preserved g c =
     let rows_are : c.push.new.self.items ≡ c.loop.rows.items ++ a ∷ [] = c.in_ok-push.ensures.items in
     let taken_are : c.take.new.taken.keys ≡ c.loop.taken.keys ++ key_of a ∷ [] = search rules in
     record {
-      so_far = rw (rows_are, taken_are) (goes_on row key_of c.loop.rows.items c.args.count c.loop.counter c.loop.taken.keys
-          c.loop.rest.now (rows_at row key_of c.args.count c.args.taken.now.keys c.args.bytes.now) a c.in_ok-row.after.now
+      so_far = rw (rows_are, taken_are) (goes_on row key_of c.loop.rows.items c.args.count c.loop.counter
+          c.loop.taken.keys
+          c.loop.rest.now (rows_at row key_of c.args.count c.args.taken.now.keys c.args.bytes.now) a
+          c.in_ok-row.after.now
           c.loop-test.true c.in_ok-row.ensures free c.loop.invariant.so_far);
-      taken = rw (rows_are, taken_are, c.loop.invariant.taken, map_push key_of c.loop.rows.items a) (append_assoc c.args.taken.now.keys (map key_of c.loop.rows.items) (key_of a ∷ []));
+      taken = rw (rows_are, taken_are, c.loop.invariant.taken, map_push key_of c.loop.rows.items a)
+          (append_assoc c.args.taken.now.keys (map key_of c.loop.rows.items) (key_of a ∷ []));
     }
 
 pub returns-clause-read : goal.returns-clause-read

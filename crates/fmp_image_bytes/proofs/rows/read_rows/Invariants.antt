@@ -9,6 +9,7 @@ invariant-loop g l =
     let row = g.R.Row.field (context_of l.version l.processors l.heads) in
     let key_of = g.R.Row.key_of in
     record {
-      so_far : with_front l.rows.items (rows_at row key_of (l.count - l.counter) l.taken.keys l.rest) ≡ rows_at row key_of l.count l.fn.taken.keys l.bytes;
+      so_far : with_front l.rows.items (rows_at row key_of (l.count - l.counter) l.taken.keys l.rest)
+          ≡ rows_at row key_of l.count l.fn.taken.keys l.bytes;
       taken : l.taken.keys ≡ l.fn.taken.keys ++ map key_of l.rows.items;
     }

@@ -20,9 +20,11 @@ returns-clause-pushed c =
     let o = instruction_in c.args.version (get_or bytes 0 0) number in
     let is : step_at c.args.version bytes ≡ (named o >>= λ i. Ok ((i, get_or bytes 5 0), drop 6 bytes)) =
     step_of_six c.args.version bytes c.requires.bytes
-    ∙ ap (λ (k : ℤ). named (instruction_in c.args.version (get_or bytes 0 0) k) >>= λ i. Ok ((i, get_or bytes 5 0), drop 6 bytes))
+    ∙ ap (λ (k : ℤ). named (instruction_in c.args.version (get_or bytes 0 0) k) >>= λ i. Ok
+    ((i, get_or bytes 5 0), drop 6 bytes))
     (sym (same ∙ value)) in
-    rw is (six_pushed (fits c.args.locals c.args.depths.now c.args.place) o (get_or c.args.depths.now c.args.place 0) (get_or bytes 5 0) (drop 6 bytes)
+    rw is (six_pushed (fits c.args.locals c.args.depths.now c.args.place) o (get_or c.args.depths.now c.args.place 0)
+    (get_or bytes 5 0) (drop 6 bytes)
     c.push_instruction.result _ _ c.push_instruction.ensures.pushed c.requires.depth)
 
 pub returns-clause-refused : goal.returns-clause-refused
@@ -35,7 +37,9 @@ returns-clause-refused c =
     let o = instruction_in c.args.version (get_or bytes 0 0) number in
     let is : step_at c.args.version bytes ≡ (named o >>= λ i. Ok ((i, get_or bytes 5 0), drop 6 bytes)) =
     step_of_six c.args.version bytes c.requires.bytes
-    ∙ ap (λ (k : ℤ). named (instruction_in c.args.version (get_or bytes 0 0) k) >>= λ i. Ok ((i, get_or bytes 5 0), drop 6 bytes))
+    ∙ ap (λ (k : ℤ). named (instruction_in c.args.version (get_or bytes 0 0) k) >>= λ i. Ok
+    ((i, get_or bytes 5 0), drop 6 bytes))
     (sym (same ∙ value)) in
-    rw is (six_refused (fits c.args.locals c.args.depths.now c.args.place) o (get_or c.args.depths.now c.args.place 0) (get_or bytes 5 0) (drop 6 bytes)
+    rw is (six_refused (fits c.args.locals c.args.depths.now c.args.place) o (get_or c.args.depths.now c.args.place 0)
+    (get_or bytes 5 0) (drop 6 bytes)
     c.push_instruction.result _ _ c.push_instruction.ensures.pushed)

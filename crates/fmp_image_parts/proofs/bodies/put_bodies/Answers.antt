@@ -14,7 +14,8 @@ some_head = record { kind = kind.Task; depth = 0 }
 
 pub bounds-heads-place : goal.bounds-heads-place
 bounds-heads-place c =
-    let same = same_length (IsBody c.requires.bodies.0) c.args.heads.now (map body_tables c.args.bodies.now) c.requires.bodies.1 in
+    let same = same_length (IsBody c.requires.bodies.0) c.args.heads.now
+    (map body_tables c.args.bodies.now) c.requires.bodies.1 in
     omega (arith, length-map c.args.bodies.now body_tables)
 
 pub put_body-requires-clause-size : goal.put_body-requires-clause-size
@@ -22,7 +23,8 @@ put_body-requires-clause-size c =
     let b = c.index-bodies-place.result in
     let place = c.loop-place.place in
     let body : IsBody c.requires.bodies.0 (get_or c.args.heads.now place some_head) (body_tables b) =
-    rw c.index-bodies-place.is (holds_at body_tables (IsBody c.requires.bodies.0) c.args.heads.now c.args.bodies.now c.requires.bodies.1
+    rw c.index-bodies-place.is (holds_at body_tables (IsBody c.requires.bodies.0) c.args.heads.now c.args.bodies.now
+    c.requires.bodies.1
     place some_head b c.loop-place-test.true) in
     omega (arith, body.verified.table.size)
 
@@ -31,7 +33,8 @@ put_body-requires-clause-depths c =
     let b = c.index-bodies-place.result in
     let place = c.loop-place.place in
     let body : IsBody c.requires.bodies.0 (get_or c.args.heads.now place some_head) (body_tables b) =
-    rw c.index-bodies-place.is (holds_at body_tables (IsBody c.requires.bodies.0) c.args.heads.now c.args.bodies.now c.requires.bodies.1
+    rw c.index-bodies-place.is (holds_at body_tables (IsBody c.requires.bodies.0) c.args.heads.now c.args.bodies.now
+    c.requires.bodies.1
     place some_head b c.loop-place-test.true) in
     body.verified.table.long
 
@@ -52,9 +55,12 @@ loop-place-preserved c =
 
 pub returns : goal.returns
 returns c =
-    let same = same_length (IsBody c.requires.bodies.0) c.args.heads.now (map body_tables c.args.bodies.now) c.requires.bodies.1 in
-    let heads_end : drop c.loop-place.place c.args.heads.now ≡ [] = drop_of_length-le c.args.heads.now (omega (arith, length-map c.args.bodies.now body_tables)) in
-    let count : length (map body_tables c.args.bodies.now) ≡ length c.args.bodies.now = length-map c.args.bodies.now body_tables in
+    let same = same_length (IsBody c.requires.bodies.0) c.args.heads.now
+    (map body_tables c.args.bodies.now) c.requires.bodies.1 in
+    let heads_end : drop c.loop-place.place c.args.heads.now ≡ [] = drop_of_length-le c.args.heads.now
+    (omega (arith, length-map c.args.bodies.now body_tables)) in
+    let count : length (map body_tables c.args.bodies.now) ≡ length c.args.bodies.now = length-map c.args.bodies.now
+    body_tables in
     let so_far = c.loop-place.invariant in
     let whole : c.loop-place.out.items ++ []
     ≡ (c.args.out.now.items ++ length c.args.bodies.now ∷ []) ++ pairs_spelled body_spelled c.args.heads.now

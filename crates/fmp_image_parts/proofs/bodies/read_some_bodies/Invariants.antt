@@ -6,4 +6,5 @@ use Rattle.fmp_image_parts.proofs.PairLoops.{with_fronts}
 use Rattle.fmp_image_parts.proofs.bodies.read_some_bodies.Given as goal
 
 abbrev pub invariant-loop : goal.invariant-loop
-invariant-loop l = with_fronts l.heads.items (map body_tables l.bodies.items) (pairs_at (body_at l.version) (l.count - l.counter) l.rest) ≡ pairs_at (body_at l.version) l.count l.bytes
+invariant-loop l = with_fronts l.heads.items (map body_tables l.bodies.items)
+    (pairs_at (body_at l.version) (l.count - l.counter) l.rest) ≡ pairs_at (body_at l.version) l.count l.bytes

@@ -6,5 +6,6 @@ store-requires c = (
   c.requires.table.0,
   c.requires.table.1,
   rw c.word.ensures.word
-      (writes _ _ _ _ _ c.args.entry _ c.requires.scribe.0 c.requires.scribe.1 c.requires.table.2 (c.requires.seat, c.word.ensures.bytes)),
+      (writes _ _ _ _ _ c.args.entry _ c.requires.scribe.0 c.requires.scribe.1 c.requires.table.2
+      (c.requires.seat, c.word.ensures.bytes)),
 )

@@ -6,7 +6,8 @@ pub returns-then-end-start-gt-MAX-clause-piece : goal.returns-then-end-start-gt-
 returns-then-end-start-gt-MAX-clause-piece c =
     let text = c.args.text.now in
     let size = range_length text c.args.start c.args.end c.requires.within in
-    name_long (slice_range text c.args.start c.args.end) c.args.end (c.in_default.ensures.word text) (omega (arith, size, c.if-end-start-gt-MAX.true))
+    name_long (slice_range text c.args.start c.args.end) c.args.end (c.in_default.ensures.word text)
+    (omega (arith, size, c.if-end-start-gt-MAX.true))
 
 pub returns-clause-piece : goal.returns-clause-piece
 returns-clause-piece c =
@@ -14,4 +15,5 @@ returns-clause-piece c =
     let some = c.requires.some in
     let whole : c.args.start + (c.args.end - c.args.start) ≡ c.args.end = omega arith in
     let size = range_length text c.args.start c.args.end c.requires.within in
-    rw (c.new.ensures, whole) (name_short (slice_range text c.args.start c.args.end) c.args.end (c.in_default.ensures.word text) (omega (arith, size, c.if-end-start-gt-MAX.false)))
+    rw (c.new.ensures, whole) (name_short (slice_range text c.args.start c.args.end) c.args.end
+    (c.in_default.ensures.word text) (omega (arith, size, c.if-end-start-gt-MAX.false)))

@@ -16,4 +16,5 @@ returns-then-is_text c =
 pub returns-else-is_text : goal.returns-else-is_text
 returns-else-is_text c =
     let may : c.constant_in.result ≡ Some c.in-Some.constant = search rules in
-    other_constant c.args.bytes.now c.constant_in.result c.in-Some.constant c.constant_in.ensures may (λ e. search rules)
+    other_constant c.args.bytes.now c.constant_in.result c.in-Some.constant c.constant_in.ensures may
+    (λ e. search rules)

@@ -8,4 +8,5 @@ use Rattle.fmp_lex.proofs.reading.expect_symbol.Goals as goal
 pub returns-else-is_symbol_at : goal.returns-else-is_symbol_at
 returns-else-is_symbol_at c =
     let within : c.args.at ≤ length (kinds_of c.args.tokens.now) = simp length-map c.requires in
-    token_stopped (Symbol c.args.symbol) (kinds_of c.args.tokens.now) c.args.at (c.is_symbol_at.ensures.no c.if-is_symbol_at.false) within
+    token_stopped (Symbol c.args.symbol) (kinds_of c.args.tokens.now) c.args.at
+    (c.is_symbol_at.ensures.no c.if-is_symbol_at.false) within

@@ -15,8 +15,11 @@ loop-b-preserved c =
     rw (take_more ds i 0 c.loop-b-test.true) (value_from_push base 0 (take i ds) (get_or ds i 0)) in
     rw more (elim c.if-value-le2147483647.branch [
       | then-value-le2147483647 w ↦
-          let is : c.if-value-le2147483647.value ≡ c.loop-b.value * base + digit_of (get_or ds i 0) = cc (w.value-is, w.digit.ensures) in
-          rw is (saturated_step c.loop-b.value old base (digit_of (get_or ds i 0)) w.if-value-le2147483647.true c.loop-b.invariant)
+          let is : c.if-value-le2147483647.value ≡ c.loop-b.value * base
+          + digit_of (get_or ds i 0) = cc (w.value-is, w.digit.ensures) in
+          rw is (saturated_step c.loop-b.value old base (digit_of (get_or ds i 0)) w.if-value-le2147483647.true
+          c.loop-b.invariant)
       | else-value-le2147483647 w ↦
-          rw w.value-is (saturated_stay c.loop-b.value old base (digit_of (get_or ds i 0)) c.requires.base w.if-value-le2147483647.false c.loop-b.invariant)
+          rw w.value-is (saturated_stay c.loop-b.value old base (digit_of (get_or ds i 0)) c.requires.base
+          w.if-value-le2147483647.false c.loop-b.invariant)
     ])

@@ -13,7 +13,8 @@ invariant-loop-at l =
     let waiting = wait_queue l.tables.system l.tables.state (Flag l.f) in
     let waited = wait_queue l.fn.tables.system l.fn.tables.state (Flag l.f) in
     record {
-      progress : walk l.clears l.f l.bits (from_node l.at waiting) (progress l.tables l.lines.items) ≡ walk l.clears l.f l.bits waited (progress l.fn.tables []);
+      progress : walk l.clears l.f l.bits (from_node l.at waiting) (progress l.tables l.lines.items)
+          ≡ walk l.clears l.f l.bits waited (progress l.fn.tables []);
       reached : Reached l.at waiting;
       shape : SameShape l.fn.tables l.tables;
       room : 0 < vec_len l.lines → vec_len l.lines + length (from_node l.at waiting) ≤ vec_capacity l.lines;

@@ -4,4 +4,5 @@ use Rattle.fmp_recording.proofs.printing.append_arguments.Given as goal
 
 abbrev pub invariant-loop-argument : goal.invariant-loop-argument
 invariant-loop-argument l =
-    l.out.items ++ arguments_text (drop l.argument-index l.arguments) ≡ l.initial.out.items ++ arguments_text l.arguments
+    l.out.items ++ arguments_text (drop l.argument-index l.arguments) ≡ l.initial.out.items
+    ++ arguments_text l.arguments

@@ -10,6 +10,7 @@ loop-place-preserved c =
     let four = i.four in
     record {
       four = search rules;
-      said = next_number c.args.count c.loop-place.place c.loop-place.numbers _ c.loop-place.rest.now c.in_ok-number.after.now _ lt
+      said = next_number c.args.count c.loop-place.place c.loop-place.numbers _ c.loop-place.rest.now
+          c.in_ok-number.after.now _ lt
           (omega (arith, few, lt, four)) i.said (λ n. search rules);
     }

@@ -8,5 +8,6 @@ abbrev pub invariant-loop-place : goal.invariant-loop-place
 invariant-loop-place l =
     record {
       four : length l.numbers ≡ 4;
-      said : behind_numbers (take l.place l.numbers) (arguments_in (l.count - l.place) l.rest) ≡ arguments_in l.count l.text;
+      said : behind_numbers (take l.place l.numbers) (arguments_in (l.count - l.place) l.rest)
+          ≡ arguments_in l.count l.text;
     }

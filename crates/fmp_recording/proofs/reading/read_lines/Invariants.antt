@@ -8,7 +8,8 @@ use Rattle.fmp_steps.specs.Steps.{lines_of}
 abbrev pub invariant-loop-rest : goal.invariant-loop-rest
 invariant-loop-rest l = record {
   counted : l.number ≤ 2 ^ 31 + 1;
-  said : behind_all l.lines.items (recorded_from l.processors l.number (lines_of l.rest)) ≡ recorded_of l.processors l.text;
+  said : behind_all l.lines.items (recorded_from l.processors l.number (lines_of l.rest))
+      ≡ recorded_of l.processors l.text;
 }
 
 abbrev pub decreases-loop-rest : goal.decreases-loop-rest

@@ -14,6 +14,7 @@ returns c =
     ∙ ap (λ (s : SystemTables). map (task_state now) (places_from 0 (length s.tasks))) c.requires in
     record {
       ok = on_ok_then c.print_states.result
-          (λ h. h ∙ ap (λ (text : List ℕ). c.args.trace.now.items ++ text) (listed sys now c.as_slice.result.now states))
+          (λ h. h ∙ ap (λ (text : List ℕ). c.args.trace.now.items ++ text)
+          (listed sys now c.as_slice.result.now states))
           c.print_states.ensures.ok;
     }

@@ -14,7 +14,8 @@ loop-given-preserved c =
     let gs = c.args.recording.now in
     let i = c.loop-given.given-index in
     goes_on c.args.hosted.now c.loop-given.hosted gs (drop i gs) c.args.trace.now.items c.loop-given.trace.items
-    c.loop-given.invariant _ (drop (i + 1) gs) c.take_one.new.hosted c.take_one.new.trace.items c.in_ok-take_one.ensures.ok
+    c.loop-given.invariant _ (drop (i + 1) gs) c.take_one.new.hosted c.take_one.new.trace.items
+    c.in_ok-take_one.ensures.ok
     (rw add-one (drop-cons gs i _ c.loop-given-test.true))
 
 pub returns-clause-ok : goal.returns-clause-ok

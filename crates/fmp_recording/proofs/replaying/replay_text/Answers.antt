@@ -30,7 +30,8 @@ returns-clause-ok c =
 pub returns-in_err-replay_lines-clause-err : goal.returns-in_err-replay_lines-clause-err
 returns-in_err-replay_lines-clause-err c =
     let system = c.args.hosted.now.system in
-    let p = err_from_is_err_and c.from_residual-in_err-replay_lines.result c.from_residual-in_err-replay_lines.ensures.1 in
+    let p = err_from_is_err_and c.from_residual-in_err-replay_lines.result
+    c.from_residual-in_err-replay_lines.ensures.1 in
     let recorded : recorded_of system.processors c.args.recording.now ≡ Ok c.as_slice.result.now = search rules in
     rw (p.1, p.2) (not_run system c.args.recording.now c.args.hosted.now.kernel c.as_slice.result.now
     c.in_err-replay_lines.field-0.0 c.requires recorded c.in_err-replay_lines.ensures.err)

@@ -11,5 +11,6 @@ returns c =
     let bodies = c.args.program.now.bodies.items in
     let i = c.loop-body.body-index in
     let last : length bodies ≤ i = omega (arith, c.loop-body-test.false, c.deref-body-items.ensures.len) in
-    let all = c.deref.ensures.value ∙ c.loop-body.invariant ∙ ap (map (λ (b : Body). heading_of (body_view b))) (take_all i bodies last) in
+    let all = c.deref.ensures.value ∙ c.loop-body.invariant ∙ ap (map (λ (b : Body). heading_of (body_view b)))
+    (take_all i bodies last) in
     c.check_headings.ensures (program_view c.args.program.now) (all ∙ all-headed bodies)

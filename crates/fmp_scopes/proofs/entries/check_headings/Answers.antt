@@ -7,4 +7,5 @@ returns-in-Some c = λ bodies are.
     let es = c.args.entries.now in
     let faulty = sym c.in-Some.is ∙ c.entry_fault.ensures bodies are in
     checked-stopped (Unit {0}) c.args.tokens.now bodies es _ c.in-Some.why c.offence_at.result c.offence_at.ensures
-    (entry-here bodies es c.loop-entry.entry-index _ c.in-Some.why c.loop-entry-test.true faulty (c.loop-entry.invariant bodies are))
+    (entry-here bodies es c.loop-entry.entry-index _ c.in-Some.why c.loop-entry-test.true faulty
+    (c.loop-entry.invariant bodies are))

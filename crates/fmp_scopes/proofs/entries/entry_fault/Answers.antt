@@ -19,8 +19,10 @@ returns-then-not-is_kind c = λ bodies are.
     let b = body_at bodies place in
     let at = heading-read c.args.headings.now bodies place are c.in-Some.ensures.below in
     let other : is_kind b.kind u.kind ≡ false = ap (λ x. is_kind x.kind u.kind) (sym at) ∙ (search rules) in
-    sym (ap (entry_fault bodies u) (place-headed c.args.headings.now bodies u.name (Some place) are c.in-Some.ensures.place)
-    ∙ ap (λ (t : Bool). if not t then Some fault.WrongEntryKind else (if not (holds u.stack (body_depth b)) then Some fault.StackTooSmall else None)) other)
+    sym (ap (entry_fault bodies u) (place-headed c.args.headings.now bodies u.name
+    (Some place) are c.in-Some.ensures.place)
+    ∙ ap (λ (t : Bool). if not t then Some fault.WrongEntryKind else (if not
+    (holds u.stack (body_depth b)) then Some fault.StackTooSmall else None)) other)
 
 pub returns-then-not-holds : goal.returns-then-not-holds
 returns-then-not-holds c = λ bodies are.
@@ -32,8 +34,10 @@ returns-then-not-holds c = λ bodies are.
     let kind : is_kind b.kind u.kind ≡ true = ap (λ x. is_kind x.kind u.kind) (sym at) ∙ (search rules) in
     let deep = ap (λ x. x.depth) at in
     let stack : holds u.stack needed ≡ false = sym (c.holds.ensures needed deep) ∙ c.if-not-holds.true in
-    sym (ap (entry_fault bodies u) (place-headed c.args.headings.now bodies u.name (Some place) are c.in-Some.ensures.place)
-    ∙ ap (λ (t : Bool). if not t then Some fault.WrongEntryKind else (if not (holds u.stack needed) then Some fault.StackTooSmall else None)) kind
+    sym (ap (entry_fault bodies u) (place-headed c.args.headings.now bodies u.name
+    (Some place) are c.in-Some.ensures.place)
+    ∙ ap (λ (t : Bool). if not t then Some fault.WrongEntryKind else (if not
+    (holds u.stack needed) then Some fault.StackTooSmall else None)) kind
     ∙ ap (λ (t : Bool). if not t then Some fault.StackTooSmall else None) stack)
 
 pub returns-else-not-holds : goal.returns-else-not-holds
@@ -46,6 +50,8 @@ returns-else-not-holds c = λ bodies are.
     let kind : is_kind b.kind u.kind ≡ true = ap (λ x. is_kind x.kind u.kind) (sym at) ∙ (search rules) in
     let deep = ap (λ x. x.depth) at in
     let stack : holds u.stack needed ≡ true = sym (c.holds.ensures needed deep) ∙ c.if-not-holds.false in
-    sym (ap (entry_fault bodies u) (place-headed c.args.headings.now bodies u.name (Some place) are c.in-Some.ensures.place)
-    ∙ ap (λ (t : Bool). if not t then Some fault.WrongEntryKind else (if not (holds u.stack needed) then Some fault.StackTooSmall else None)) kind
+    sym (ap (entry_fault bodies u) (place-headed c.args.headings.now bodies u.name
+    (Some place) are c.in-Some.ensures.place)
+    ∙ ap (λ (t : Bool). if not t then Some fault.WrongEntryKind else (if not
+    (holds u.stack needed) then Some fault.StackTooSmall else None)) kind
     ∙ ap (λ (t : Bool). if not t then Some fault.StackTooSmall else None) stack)

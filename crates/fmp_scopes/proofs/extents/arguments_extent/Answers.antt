@@ -19,7 +19,18 @@ loop-i-preserved c =
     record {
       size = omega (arith, size, one.size, all.size, was.size, was.small);
       small = omega (arith, all.size);
-      depth = omega (arith, depth, some, one.depth, all.depth, c.greater.ensures, c.cut.ensures, was.depth, was.low, was.above);
+      depth = omega (
+        arith,
+        depth,
+        some,
+        one.depth,
+        all.depth,
+        c.greater.ensures,
+        c.cut.ensures,
+        was.depth,
+        was.low,
+        was.above,
+      );
       low = omega (arith, all.depth);
       above = omega (arith, some, one.depth, all.depth, c.greater.ensures, c.cut.ensures, was.above);
     }

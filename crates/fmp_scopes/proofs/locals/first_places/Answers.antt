@@ -34,5 +34,6 @@ loop-at-preserved c =
     record {
       count = omega (arith, c.in_ok-push-2.ensures.len, c.loop-at.invariant.count);
       next = omega (arith, step, c.places_of_length.ensures.places, c.loop-at.invariant.next);
-      firsts = places-more vars c.loop-at.places.items c.loop-at.next c.loop-at.invariant.firsts next _ c.in_ok-push-2.ensures.items;
+      firsts = places-more vars c.loop-at.places.items c.loop-at.next c.loop-at.invariant.firsts next _
+          c.in_ok-push-2.ensures.items;
     }

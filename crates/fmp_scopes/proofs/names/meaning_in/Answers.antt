@@ -23,4 +23,5 @@ returns-in-None c =
     let n = c.args.name.now in
     let other : bytes_eq (name_text n) (name_text exinf_name) ≡ false = sym c.is_exinf.ensures ∙ c.if-is_exinf.false in
     c.object_in.ensures
-    ∙ declared-object (object_names (tables_of names.objects.system.now)) names.variables.now n other c.in-None.ensures.place
+    ∙ declared-object (object_names (tables_of names.objects.system.now)) names.variables.now n other
+    c.in-None.ensures.place

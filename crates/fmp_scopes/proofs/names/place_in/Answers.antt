@@ -14,7 +14,8 @@ returns-then-eq-clause-place g c =
     let same : bytes_eq text (name_text (g.T.HasName.name_of r)) ≡ true = search rules in
     let step = position-step (λ (n : Name). bytes_eq text (name_text n)) g.T.HasName.name_of c.args.rows.now i r
     c.loop-place-test.true c.index-rows-place.is in
-    let rest = position_from (λ (n : Name). bytes_eq text (name_text n)) (i + 1) (drop (i + 1) (map g.T.HasName.name_of c.args.rows.now)) in
+    let rest = position_from (λ (n : Name). bytes_eq text (name_text n)) (i + 1)
+    (drop (i + 1) (map g.T.HasName.name_of c.args.rows.now)) in
     sym (sym c.loop-place.invariant ∙ step ∙ ap (λ (b : Bool). cond b (Some i) rest) same)
 
 pub loop-place-preserved : goal.loop-place-preserved
@@ -25,5 +26,6 @@ loop-place-preserved g c =
     let other : bytes_eq text (name_text (g.T.HasName.name_of r)) ≡ false = search rules in
     let step = position-step (λ (n : Name). bytes_eq text (name_text n)) g.T.HasName.name_of c.args.rows.now i r
     c.loop-place-test.true c.index-rows-place.is in
-    let rest = position_from (λ (n : Name). bytes_eq text (name_text n)) (i + 1) (drop (i + 1) (map g.T.HasName.name_of c.args.rows.now)) in
+    let rest = position_from (λ (n : Name). bytes_eq text (name_text n)) (i + 1)
+    (drop (i + 1) (map g.T.HasName.name_of c.args.rows.now)) in
     sym (step ∙ ap (λ (b : Bool). cond b (Some i) rest) other) ∙ c.loop-place.invariant

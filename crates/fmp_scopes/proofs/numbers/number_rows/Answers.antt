@@ -19,11 +19,14 @@ loop-place-preserved g c =
       within = omega (arith, within);
       numbered = λ name.
           number-row f rows i c.index-rows-place.result name (object_named c.args.numbers.now name)
-          (get same_bytes c.loop-place.numbers (record { name = name })) (get same_bytes c.insert.new.self (record { name = name }))
+          (get same_bytes c.loop-place.numbers (record { name = name }))
+          (get same_bytes c.insert.new.self (record { name = name }))
           within c.index-rows-place.is
           (c.in_ok-insert.ensures.updates.0 (record { name = name })
-          ∙ same-entry (c.name-name.result.now) (f c.index-rows-place.result) name _ (i + 1) _ c.name-name.ensures c.numbered.ensures)
-          (subst (λ (k : ℕ). object_named c.loop-place.numbers name ≡ number_or (position_from (bears name) k (drop k (map f rows))) (object_named c.args.numbers.now name))
+          ∙ same-entry (c.name-name.result.now) (f c.index-rows-place.result) name _
+          (i + 1) _ c.name-name.ensures c.numbered.ensures)
+          (subst (λ (k : ℕ). object_named c.loop-place.numbers name
+          ≡ number_or (position_from (bears name) k (drop k (map f rows))) (object_named c.args.numbers.now name))
           (sym next) (c.loop-place.invariant.numbered name));
     }
 
@@ -31,6 +34,7 @@ pub returns : goal.returns
 returns g c = λ name.
     let zero : c.loop-place.place ≡ 0 = omega (arith, c.loop-place-test.false) in
     let rows = map g.T.HasName.name_of c.args.rows.now in
-    subst (λ (k : ℕ). object_named c.loop-place.numbers name ≡ number_or (position_from (bears name) k (drop k rows)) (object_named c.args.numbers.now name))
+    subst (λ (k : ℕ). object_named c.loop-place.numbers name ≡ number_or (position_from (bears name) k (drop k rows))
+    (object_named c.args.numbers.now name))
     zero (c.loop-place.invariant.numbered name)
     ∙ ap (λ p. number_or p (object_named c.args.numbers.now name)) (position-start (bears name) rows)

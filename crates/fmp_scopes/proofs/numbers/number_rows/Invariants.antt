@@ -12,7 +12,8 @@ invariant-loop-place g l = record {
   within : l.place ≤ length l.rows;
   numbered :
       (name : Name) → object_named l.numbers name ≡
-      number_or (position_from (λ (n : Name). bytes_eq (name_text name) (name_text n)) l.place (drop l.place (map g.T.HasName.name_of l.rows))) (object_named l.initial.numbers name);
+      number_or (position_from (λ (n : Name). bytes_eq (name_text name) (name_text n)) l.place
+      (drop l.place (map g.T.HasName.name_of l.rows))) (object_named l.initial.numbers name);
 }
 
 abbrev pub decreases-loop-place : goal.decreases-loop-place

@@ -53,18 +53,22 @@ statement_offence-returns-in-IfElse t c =
     two-parts scope test (first ++ second) c.expression_offence-in-IfElse.result c.earlier-in-IfElse.result
     c.earlier-in-IfElse-2.result c.expression_offence-in-IfElse.ensures both c.earlier-in-IfElse-2.ensures
     ∙ ap (λ st. uses_offence scope (statement_uses st))
-    (sym (view-IfElse c.args.s.now c.in-IfElse.condition c.in-IfElse.then c.in-IfElse.otherwise c.deref-in-IfElse.result.now c.deref-in-IfElse-2.result.now
-    c.deref-in-IfElse-3.result.now c.in-IfElse.is c.deref-in-IfElse.ensures c.deref-in-IfElse-2.ensures.value c.deref-in-IfElse-3.ensures.value))
+    (sym (view-IfElse c.args.s.now c.in-IfElse.condition c.in-IfElse.then c.in-IfElse.otherwise
+    c.deref-in-IfElse.result.now c.deref-in-IfElse-2.result.now
+    c.deref-in-IfElse-3.result.now c.in-IfElse.is c.deref-in-IfElse.ensures c.deref-in-IfElse-2.ensures.value
+    c.deref-in-IfElse-3.ensures.value))
 
 pub statement_offence-returns-in-While : goal.statement_offence-returns-in-While
 statement_offence-returns-in-While t c =
     let scope = scope_view c.args.names.now in
     let test = expression_uses (expression_view c.in-While.condition) in
     let block = block_uses (block_view c.deref-in-While.result.now) in
-    two-parts scope test block c.expression_offence-in-While.result c.block_offence-in-While.result c.earlier-in-While.result
+    two-parts scope test block c.expression_offence-in-While.result c.block_offence-in-While.result
+    c.earlier-in-While.result
     c.expression_offence-in-While.ensures c.block_offence-in-While.ensures c.earlier-in-While.ensures
     ∙ ap (λ st. uses_offence scope (statement_uses st))
-    (sym (view-While c.args.s.now c.in-While.condition c.in-While.body c.deref-in-While.result.now c.in-While.is c.deref-in-While.ensures.value))
+    (sym (view-While c.args.s.now c.in-While.condition c.in-While.body c.deref-in-While.result.now c.in-While.is
+    c.deref-in-While.ensures.value))
 
 pub statement_offence-block_offence-requires-in-IfElse : goal.statement_offence-block_offence-requires-in-IfElse
 statement_offence-block_offence-requires-in-IfElse t c = (search (rules, the_lemmas), c.requires)

@@ -16,15 +16,19 @@ returns c =
     let n = found 0 (out_place call.service) in
     let len : length c.as_slice-arguments.result.now ≡ length args = ap length c.as_slice-arguments.ensures in
     let before : c.least-before.result ≡ min n (length args) =
-    c.least-before.ensures ∙ ap (λ m. min m (length c.as_slice-arguments.result.now)) c.before_out.ensures ∙ ap (min n) len in
+    c.least-before.ensures ∙ ap (λ m. min m (length c.as_slice-arguments.result.now)) c.before_out.ensures
+    ∙ ap (min n) len in
     let back = c.as_slice-arguments.result.now in
-    let last : c.arguments_offence-last.result ≡ uses_offence scope (arguments_uses (drop n (map expression_view args))) =
+    let last : c.arguments_offence-last.result ≡ uses_offence scope (arguments_uses
+    (drop n (map expression_view args))) =
     c.arguments_offence-last.ensures
     ∙ ap (λ xs. uses_offence scope (arguments_uses (map expression_view xs)))
-    (take_all (length back - c.least-before.result) (drop c.least-before.result back) (omega (arith, length-drop c.least-before.result back))
+    (take_all (length back - c.least-before.result) (drop c.least-before.result back)
+    (omega (arith, length-drop c.least-before.result back))
     ∙ ap (drop c.least-before.result) c.as_slice-arguments.ensures ∙ ap (λ m. drop m args) before ∙ drop_min n args)
     ∙ ap (λ xs. uses_offence scope (arguments_uses xs)) (sym (drop-map expression_view n args)) in
-    let first : c.arguments_offence-first.result ≡ uses_offence scope (arguments_uses (take n (map expression_view args))) =
+    let first : c.arguments_offence-first.result ≡ uses_offence scope (arguments_uses
+    (take n (map expression_view args))) =
     c.arguments_offence-first.ensures
     ∙ ap (λ xs. uses_offence scope (arguments_uses (map expression_view xs)))
     (ap (take c.least-before.result) c.as_slice-arguments.ensures ∙ ap (λ m. take m args) before ∙ take_min n args)

@@ -10,6 +10,7 @@ returns c =
     let scope = scope_view c.args.names.now in
     let index = expression_uses (expression_view c.args.index.now) in
     let value = expression_uses (expression_view c.args.value.now) in
-    let rest = two-parts scope index value c.expression_offence-first.result c.expression_offence-second.result c.earlier-rest.result
+    let rest = two-parts scope index value c.expression_offence-first.result c.expression_offence-second.result
+    c.earlier-rest.result
     c.expression_offence-first.ensures c.expression_offence-second.ensures c.earlier-rest.ensures in
     c.earlier.ensures ∙ ap₂ first_offence c.write_element_offence.ensures rest

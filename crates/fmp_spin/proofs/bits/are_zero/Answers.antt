@@ -18,5 +18,11 @@ returns c = λ test.
     let all = eqb-true (bit_or four c.args.e) 0 test in
     let in_four = left four c.args.e all in
     let in_three = left three c.args.d in_four in
-    let in_two = left two c.args.c in_three in
-    (left c.args.a c.args.b in_two, right c.args.a c.args.b in_two, right two c.args.c in_three, right three c.args.d in_four, right four c.args.e all)
+    let in_two = left two c.args.c in_three in (
+      left c.args.a c.args.b in_two,
+      right c.args.a c.args.b in_two,
+      right two c.args.c in_three,
+      right three c.args.d
+          in_four,
+      right four c.args.e all,
+    )

@@ -7,7 +7,8 @@ use Rattle.fmp_spin.proofs.pending.interrupt_processors.Given as goal
 abbrev pub invariant-loop-i : goal.invariant-loop-i
 invariant-loop-i l =
     record {
-      items : l.processors.items ++ map (λ i. processor_of (defined_for (i + 1) l.configs)) (places_from l.i (32 - l.i)) ≡ map (λ i. processor_of (defined_for (i + 1) l.configs)) (places_from 0 32);
+      items : l.processors.items ++ map (λ i. processor_of (defined_for (i + 1) l.configs))
+          (places_from l.i (32 - l.i)) ≡ map (λ i. processor_of (defined_for (i + 1) l.configs)) (places_from 0 32);
       long : length l.processors.items ≡ l.i;
       room : vec_capacity l.processors ≡ 32;
     }

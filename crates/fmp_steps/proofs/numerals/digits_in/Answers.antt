@@ -5,7 +5,8 @@ use Rattle.fmp_steps.proofs.numerals.digits_in.Goals as goal
 
 pub returns-then-not-is_ascii_digit : goal.returns-then-not-is_ascii_digit
 returns-then-not-is_ascii_digit c =
-    ap capped (sym (not_digits c.args.text.now c.loop-byte.byte-index c.loop-byte-test.true (sym c.if-not-is_ascii_digit.ensures.value)))
+    ap capped (sym (not_digits c.args.text.now c.loop-byte.byte-index c.loop-byte-test.true
+    (sym c.if-not-is_ascii_digit.ensures.value)))
 
 pub loop-byte-preserved : goal.loop-byte-preserved
 loop-byte-preserved c =

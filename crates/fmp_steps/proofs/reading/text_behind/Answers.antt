@@ -5,4 +5,5 @@ use Rattle.fmp_steps.proofs.reading.text_behind.Goals as goal
 
 pub returns : goal.returns
 returns c =
-    behind_by c.args.front.now c.args.text.now _ (strip_prefix_is Decides-eqb c.args.text.now c.args.front.now _ c.strip_prefix.ensures.cases)
+    behind_by c.args.front.now c.args.text.now _ (strip_prefix_is Decides-eqb c.args.text.now c.args.front.now _
+    c.strip_prefix.ensures.cases)

@@ -9,7 +9,8 @@ abbrev pub invariant-loop-after : goal.invariant-loop-after
 invariant-loop-after l = record {
   counted : l.number ≤ 1048577;
   within : length l.rest ≤ length l.text;
-  agrees : (whole : Result (List Event) StepsFault) → Agrees (events_of l.processors l.initial.number (lines_of l.text)) whole
+  agrees : (whole : Result (List Event) StepsFault) → Agrees (events_of l.processors l.initial.number
+      (lines_of l.text)) whole
       → Agrees (events_of l.processors l.number (lines_of l.rest)) whole;
 }
 

@@ -18,7 +18,8 @@ returns-in_err-one c =
     let is = sym c.in-Some.ensures.value in
     let p = err_from_is_err_and c.from_residual.result c.from_residual.ensures.1 in
     rw (p.1, p.2) (err_as body_view bodies_view c.in_err-one.field-0.0 (RightBody ts k) (RightBodies ts i)
-    (λ j why x. c.bodies.invariant.goes (stopped j why) (bodies_stop ts k c.in-Some.kind is j why x)) c.in_err-one.ensures)
+    (λ j why x. c.bodies.invariant.goes (stopped j why) (bodies_stop ts k c.in-Some.kind is j why x))
+    c.in_err-one.ensures)
 
 pub bodies-smaller : goal.bodies-smaller
 bodies-smaller c =
@@ -42,10 +43,12 @@ bodies-preserved c =
     let x : RightBody ts k (found a n) = c.in_ok-one.ensures in
     let within = simp length-map at x.within in
     let xs = bodies_view c.bodies.found in
-    let pushed : map body_view c.push.new.self.items ≡ xs ++ a ∷ [] = rw c.in_ok-push.ensures.items (map-append body_view c.bodies.found.items (c.in_ok-one.one ∷ [])) in
+    let pushed : map body_view c.push.new.self.items ≡ xs ++ a
+    ∷ [] = rw c.in_ok-push.ensures.items (map-append body_view c.bodies.found.items (c.in_ok-one.one ∷ [])) in
     record {
       within = within;
-      goes = rw pushed (λ o rest. push_before xs a o (RightBodies ts i) (c.bodies.invariant.goes (map_result (λ (more : List BodyTree). a ∷ more) o)
+      goes = rw pushed (λ o rest. push_before xs a o (RightBodies ts i)
+          (c.bodies.invariant.goes (map_result (λ (more : List BodyTree). a ∷ more) o)
           (bodies_more ts k c.in-Some.kind is a n x o rest)));
     }
 

@@ -24,10 +24,12 @@ returns-in_err-next c =
     let is = c.is_symbol_at.ensures.yes (search rules) in
     let p = err_from_is_err_and c.from_residual-in_err-next.result c.from_residual-in_err-next.ensures.1 in
     let f = c.in_err-next.field-0.0 in
-    rw (p.1, p.2) (length_open ts c.args.at is c.in_ok-number.number c.in_ok-number.next c.in_ok-number.ensures f.at f.why c.in_err-next.ensures)
+    rw (p.1, p.2) (length_open ts c.args.at is c.in_ok-number.number c.in_ok-number.next c.in_ok-number.ensures f.at
+    f.why c.in_err-next.ensures)
 
 pub returns : goal.returns
 returns c =
     let ts = kinds_of c.args.tokens.now in
     let is = c.is_symbol_at.ensures.yes (search rules) in
-    length_found ts c.args.at is c.in_ok-number.number c.in_ok-number.next c.in_ok-number.ensures c.in_ok-next.next c.in_ok-next.ensures
+    length_found ts c.args.at is c.in_ok-number.number c.in_ok-number.next c.in_ok-number.ensures c.in_ok-next.next
+    c.in_ok-next.ensures

@@ -44,7 +44,8 @@ variables-preserved c =
     let pushed : c.push.new.self.items ≡ xs ++ a ∷ [] = c.in_ok-push.ensures.items in
     record {
       within = within;
-      goes = rw pushed (λ o rest. push_before xs a o (RightVariables ts i) (c.variables.invariant.goes (map_result (λ (more : List Declaration). a ∷ more) o)
+      goes = rw pushed (λ o rest. push_before xs a o (RightVariables ts i)
+          (c.variables.invariant.goes (map_result (λ (more : List Declaration). a ∷ more) o)
           (variables_more ts k is a n x o rest)));
     }
 
@@ -54,4 +55,5 @@ returns c =
     let i = c.args.at in
     let k = c.variables.i in
     let within : k ≤ length ts = simp length-map c.variables.invariant.within in
-    rw append-nil at (c.variables.invariant.goes (found [] k) (variables_none ts k (c.variables-test.ensures.no refl) within))
+    rw append-nil at (c.variables.invariant.goes (found [] k) (variables_none ts k
+    (c.variables-test.ensures.no refl) within))

@@ -14,6 +14,7 @@ invariant-loop-one l = record {
   values : map expression_view l.call.arguments.items ≡ values_of seen;
   out : l.call.receivers.out ≡ out_of seen;
   result : l.call.receivers.result ≡ None;
-  goes : (o : ParseResult (List ArgumentTree)) → RightParts (kinds_of l.tokens) l.depth (drop l.one-index l.parts) l.i o →
+  goes : (o : ParseResult (List ArgumentTree)) → RightParts (kinds_of l.tokens) l.depth
+      (drop l.one-index l.parts) l.i o →
       RightParts (kinds_of l.tokens) l.depth l.parts l.at (map_result (put_before seen) o);
 }

@@ -8,10 +8,13 @@ use Rattle.fmp_tasklang.specs.Expressions.{loosest}
 use Rattle.fmp_tasklang.specs.Reading.{links_view, RightOperand, RightBracketed, RightExpression, RightLinks}
 use Rattle.fmp_tasklang.specs.Trees.{number}
 use Rattle.fmp_tasklang.specs.Views.{LinkTree, chain_tree, expression_view}
-use Rattle.fmp_tasklang.proofs.Links.{expression_zero, raised, raised_stop, raised_to, chain_then, links_more, links_stop, links_none}
+use Rattle.fmp_tasklang.proofs.Links.{expression_zero, raised, raised_stop, raised_to, chain_then, links_more}
+use Rattle.fmp_tasklang.proofs.Links.{links_stop, links_none}
 use Rattle.fmp_tasklang.proofs.Names.{operand_missing, named_found, element_then}
-use Rattle.fmp_tasklang.proofs.Operands.{right, close_bracket, ended_stop, ended_then, number_found, bracketed_deep, bracketed_then, group_deep, group_then, unary_deep, unary_then}
-use Rattle.fmp_tasklang.proofs.Views.{expression_view-Name, expression_view-Element, expression_view-Unary, expression_view-Chain, links_push}
+use Rattle.fmp_tasklang.proofs.Operands.{right, close_bracket, ended_stop, ended_then, number_found, bracketed_deep}
+use Rattle.fmp_tasklang.proofs.Operands.{bracketed_then, group_deep, group_then, unary_deep, unary_then}
+use Rattle.fmp_tasklang.proofs.Views.{expression_view-Name, expression_view-Element, expression_view-Unary}
+use Rattle.fmp_tasklang.proofs.Views.{expression_view-Chain, links_push}
 use Rattle.fmp_tasklang.proofs.expressions.+expressions.Goals as goal
 
 pub expression-returns-in_err-tree : goal.expression-returns-in_err-tree
@@ -21,8 +24,10 @@ expression-returns-in_err-tree m0 c =
     let i = c.args.at in
     let l = c.args.level in
     let p = err_from_is_err_and c.from_residual.result c.from_residual.ensures.1 in
-    rw (p.1, p.2) (err_as expression_view expression_view c.in_err-tree.field-0.0 (RightOperand ts d i) (RightExpression ts d l i)
-    (λ j why x. raised_stop ts d i j why 0 l l (omega arith) (expression_zero ts d 0 i refl (stopped j why) x)) c.in_err-tree.ensures)
+    rw (p.1, p.2) (err_as expression_view expression_view c.in_err-tree.field-0.0 (RightOperand ts d i)
+    (RightExpression ts d l i)
+    (λ j why x. raised_stop ts d i j why 0 l l (omega arith) (expression_zero ts d 0 i refl (stopped j why) x))
+    c.in_err-tree.ensures)
 
 pub expression-levels-init : goal.expression-levels-init
 expression-levels-init m0 c =
@@ -44,9 +49,11 @@ expression-returns-in_err-rest m0 c =
     let tree = expression_view c.levels.tree in
     let sign = c.in-Some.ensures in
     let here : RightExpression ts d m i (found tree k) =
-    raised_to ts d i tree k c.levels.read m sign.2.0 sign.0 c.levels.invariant.within sign.2.1 c.levels.invariant.right in
+    raised_to ts d i tree k c.levels.read m sign.2.0 sign.0 c.levels.invariant.within sign.2.1
+    c.levels.invariant.right in
     let p = err_from_is_err_and c.from_residual-in_err-rest.result c.from_residual-in_err-rest.ensures.1 in
-    rw (p.1, p.2) (err_as links_view expression_view c.in_err-rest.field-0.0 (RightLinks ts d m k) (RightExpression ts d l i)
+    rw (p.1, p.2) (err_as links_view expression_view c.in_err-rest.field-0.0 (RightLinks ts d m k)
+    (RightExpression ts d l i)
     (λ j why x. raised_stop ts d i j why (m + 1) l (l - (m + 1)) (omega (arith, sign.1))
     (chain_then d m ts (m + 1) i refl tree k here (stopped j why) x)) c.in_err-rest.ensures)
 
@@ -60,9 +67,11 @@ expression-levels-preserved m0 c =
     let tree = expression_view c.levels.tree in
     let sign = c.in-Some.ensures in
     let here : RightExpression ts d m i (found tree k) =
-    raised_to ts d i tree k c.levels.read m sign.2.0 sign.0 c.levels.invariant.within sign.2.1 c.levels.invariant.right in
+    raised_to ts d i tree k c.levels.read m sign.2.0 sign.0 c.levels.invariant.within sign.2.1
+    c.levels.invariant.right in
     let x : RightExpression ts d (m + 1) i (found (chain_tree tree (links_view c.in_ok-rest.rest)) c.in_ok-rest.end) =
-    chain_then d m ts (m + 1) i refl tree k here (found (links_view c.in_ok-rest.rest) c.in_ok-rest.end) c.in_ok-rest.ensures in
+    chain_then d m ts (m + 1) i refl tree k here (found (links_view c.in_ok-rest.rest) c.in_ok-rest.end)
+    c.in_ok-rest.ensures in
     record {
       within = x.within;
       below = omega (arith, sign.1);
@@ -90,8 +99,10 @@ group-returns-in_err-inner m0 c =
     let d = c.args.depth in
     let i = c.args.at in
     let p = err_from_is_err_and c.from_residual.result c.from_residual.ensures.1 in
-    rw (p.1, p.2) (err_as expression_view expression_view c.in_err-inner.field-0.0 (RightExpression ts (d + 1) loosest (i + 1)) (RightOperand ts d i)
-    (λ j why x. group_then ts d i c.requires.first (omega arith) (stopped j why) (ended_stop (d + 1) right (refl, refl) ts (i + 1) j why x)) c.in_err-inner.ensures)
+    rw (p.1, p.2) (err_as expression_view expression_view c.in_err-inner.field-0.0
+    (RightExpression ts (d + 1) loosest (i + 1)) (RightOperand ts d i)
+    (λ j why x. group_then ts d i c.requires.first (omega arith) (stopped j why)
+    (ended_stop (d + 1) right (refl, refl) ts (i + 1) j why x)) c.in_err-inner.ensures)
 
 pub group-returns-in_err-next : goal.group-returns-in_err-next
 group-returns-in_err-next m0 c =
@@ -99,9 +110,11 @@ group-returns-in_err-next m0 c =
     let d = c.args.depth in
     let i = c.args.at in
     let p = err_from_is_err_and c.from_residual-in_err-next.result c.from_residual-in_err-next.ensures.1 in
-    rw (p.1, p.2) (step_as expression_view c.in_err-next.field-0.0 (RightToken ts right c.in_ok-inner.next) (RightOperand ts d i)
+    rw (p.1, p.2) (step_as expression_view c.in_err-next.field-0.0 (RightToken ts right c.in_ok-inner.next)
+    (RightOperand ts d i)
     (λ j why x. group_then ts d i c.requires.first (omega arith) (stopped j why)
-    (ended_then (d + 1) right (refl, refl) ts (i + 1) (expression_view c.in_ok-inner.inner) c.in_ok-inner.next c.in_ok-inner.ensures (stopped j why) x))
+    (ended_then (d + 1) right (refl, refl) ts (i + 1) (expression_view c.in_ok-inner.inner) c.in_ok-inner.next
+    c.in_ok-inner.ensures (stopped j why) x))
     c.in_err-next.ensures)
 
 pub group-returns : goal.group-returns
@@ -110,7 +123,8 @@ group-returns m0 c =
     let d = c.args.depth in
     let i = c.args.at in
     group_then ts d i c.requires.first (omega arith) (found (expression_view c.in_ok-inner.inner) c.in_ok-next.next)
-    (ended_then (d + 1) right (refl, refl) ts (i + 1) (expression_view c.in_ok-inner.inner) c.in_ok-inner.next c.in_ok-inner.ensures (found tt c.in_ok-next.next) c.in_ok-next.ensures)
+    (ended_then (d + 1) right (refl, refl) ts (i + 1) (expression_view c.in_ok-inner.inner) c.in_ok-inner.next
+    c.in_ok-inner.ensures (found tt c.in_ok-next.next) c.in_ok-next.ensures)
 
 pub links-returns-in_err-operand : goal.links-returns-in_err-operand
 links-returns-in_err-operand m0 c =
@@ -120,8 +134,10 @@ links-returns-in_err-operand m0 c =
     let m = c.args.level in
     let k = c.links.i in
     let p = err_from_is_err_and c.from_residual-in_err-operand.result c.from_residual-in_err-operand.ensures.1 in
-    rw (p.1, p.2) (err_as expression_view links_view c.in_err-operand.field-0.0 (RightExpression ts d m (k + 1)) (RightLinks ts d m i)
-    (λ j why x. c.links.invariant.goes (stopped j why) (links_stop d m ts k c.in-Some.operator c.in-Some.ensures.value.0 j why x)) c.in_err-operand.ensures)
+    rw (p.1, p.2) (err_as expression_view links_view c.in_err-operand.field-0.0 (RightExpression ts d m (k + 1))
+    (RightLinks ts d m i)
+    (λ j why x. c.links.invariant.goes (stopped j why) (links_stop d m ts k c.in-Some.operator
+    c.in-Some.ensures.value.0 j why x)) c.in_err-operand.ensures)
 
 pub links-links-preserved : goal.links-links-preserved
 links-links-preserved m0 c =
@@ -136,10 +152,12 @@ links-links-preserved m0 c =
     let within = simp length-map at x.within in
     let a : LinkTree = record { operator = c.in-Some.operator; operand = e } in
     let xs = links_view c.links.found in
-    let pushed : links_view c.push.new.self ≡ xs ++ a ∷ [] = rw c.in_ok-push.ensures.items (links_push c.links.found.items _) in
+    let pushed : links_view c.push.new.self ≡ xs ++ a ∷ [] = rw c.in_ok-push.ensures.items
+    (links_push c.links.found.items _) in
     record {
       within = within;
-      goes = rw pushed (λ o rest. push_before xs a o (RightLinks ts d m i) (c.links.invariant.goes (map_result (λ (more : List LinkTree). a ∷ more) o)
+      goes = rw pushed (λ o rest. push_before xs a o (RightLinks ts d m i)
+          (c.links.invariant.goes (map_result (λ (more : List LinkTree). a ∷ more) o)
           (links_more d m ts k c.in-Some.operator c.in-Some.ensures.value.0 e n x o rest)));
     }
 
@@ -214,8 +232,10 @@ bracketed-returns-in_err-inner m0 c =
     let d = c.args.depth in
     let i = c.args.at in
     let p = err_from_is_err_and c.from_residual.result c.from_residual.ensures.1 in
-    rw (p.1, p.2) (err_as expression_view expression_view c.in_err-inner.field-0.0 (RightExpression ts (d + 1) loosest (i + 1)) (RightBracketed ts d i)
-    (λ j why x. bracketed_then ts d i c.requires.first (omega arith) (stopped j why) (ended_stop (d + 1) close_bracket (refl, refl) ts (i + 1) j why x))
+    rw (p.1, p.2) (err_as expression_view expression_view c.in_err-inner.field-0.0
+    (RightExpression ts (d + 1) loosest (i + 1)) (RightBracketed ts d i)
+    (λ j why x. bracketed_then ts d i c.requires.first (omega arith) (stopped j why)
+    (ended_stop (d + 1) close_bracket (refl, refl) ts (i + 1) j why x))
     c.in_err-inner.ensures)
 
 pub bracketed-returns-in_err-next : goal.bracketed-returns-in_err-next
@@ -224,9 +244,11 @@ bracketed-returns-in_err-next m0 c =
     let d = c.args.depth in
     let i = c.args.at in
     let p = err_from_is_err_and c.from_residual-in_err-next.result c.from_residual-in_err-next.ensures.1 in
-    rw (p.1, p.2) (step_as expression_view c.in_err-next.field-0.0 (RightToken ts close_bracket c.in_ok-inner.next) (RightBracketed ts d i)
+    rw (p.1, p.2) (step_as expression_view c.in_err-next.field-0.0 (RightToken ts close_bracket c.in_ok-inner.next)
+    (RightBracketed ts d i)
     (λ j why x. bracketed_then ts d i c.requires.first (omega arith) (stopped j why)
-    (ended_then (d + 1) close_bracket (refl, refl) ts (i + 1) (expression_view c.in_ok-inner.inner) c.in_ok-inner.next c.in_ok-inner.ensures (stopped j why) x))
+    (ended_then (d + 1) close_bracket (refl, refl) ts (i + 1) (expression_view c.in_ok-inner.inner) c.in_ok-inner.next
+    c.in_ok-inner.ensures (stopped j why) x))
     c.in_err-next.ensures)
 
 pub bracketed-returns : goal.bracketed-returns
@@ -235,7 +257,8 @@ bracketed-returns m0 c =
     let d = c.args.depth in
     let i = c.args.at in
     bracketed_then ts d i c.requires.first (omega arith) (found (expression_view c.in_ok-inner.inner) c.in_ok-next.next)
-    (ended_then (d + 1) close_bracket (refl, refl) ts (i + 1) (expression_view c.in_ok-inner.inner) c.in_ok-inner.next c.in_ok-inner.ensures
+    (ended_then (d + 1) close_bracket (refl, refl) ts (i + 1) (expression_view c.in_ok-inner.inner) c.in_ok-inner.next
+    c.in_ok-inner.ensures
     (found tt c.in_ok-next.next) c.in_ok-next.ensures)
 
 pub unary-returns-then-depth-eq-MAX_DEPTH : goal.unary-returns-then-depth-eq-MAX_DEPTH
@@ -251,8 +274,10 @@ unary-returns-in_err-inner m0 c =
     let d = c.args.depth in
     let i = c.args.at in
     let p = err_from_is_err_and c.from_residual.result c.from_residual.ensures.1 in
-    rw (p.1, p.2) (err_as expression_view expression_view c.in_err-inner.field-0.0 (RightOperand ts (d + 1) (i + 1)) (RightOperand ts d i)
-    (λ j why x. unary_then ts d i c.args.operator c.requires.first (omega arith) (stopped j why) x) c.in_err-inner.ensures)
+    rw (p.1, p.2) (err_as expression_view expression_view c.in_err-inner.field-0.0 (RightOperand ts (d + 1) (i + 1))
+    (RightOperand ts d i)
+    (λ j why x. unary_then ts d i c.args.operator c.requires.first (omega arith) (stopped j why) x)
+    c.in_err-inner.ensures)
 
 pub unary-returns : goal.unary-returns
 unary-returns m0 c =

@@ -1,15 +1,21 @@
-use Rattle.std.proofs.Common.{◌≡◌, ◌+◌, ◌≤◌, ◌++◌, ◌∷◌, [], None, option_and_then, length, slice_get, map, sym, ap, subst, ◌∙◌, arith, rules, true, Ok}
+use Rattle.std.proofs.Common.{◌≡◌, ◌+◌, ◌≤◌, ◌++◌, ◌∷◌, [], None, option_and_then, length, slice_get, map, sym, ap}
+use Rattle.std.proofs.Common.{subst, ◌∙◌, arith, rules, true, Ok}
 use Rattle.std.proofs.lemmas.List.{length-map, map-append}
 use Rattle.std.proofs.lemmas.Result.{err_from_is_err_and}
 use Rattle.fmp_lex.specs.Reading.{kinds_of, found, stopped, RightToken}
 use Rattle.fmp_lex.proofs.Answered.{answers_as, err_as, step_as}
-use Rattle.fmp_tasklang.specs.Reading.{statements_view, block_view, else_view, RightCondition, RightAssignment, RightPlainCall, RightJump, RightStatement, RightIf, RightElse, RightOther, RightBlock, RightStatements}
+use Rattle.fmp_tasklang.specs.Reading.{statements_view, block_view, else_view, RightCondition, RightAssignment}
+use Rattle.fmp_tasklang.specs.Reading.{RightPlainCall, RightJump, RightStatement, RightIf, RightElse, RightOther}
+use Rattle.fmp_tasklang.specs.Reading.{RightBlock, RightStatements}
 use Rattle.fmp_tasklang.specs.Streaming.{Adds}
 use Rattle.fmp_tasklang.specs.Views.{expression_view, statement_view}
 use Rattle.fmp_tasklang.specs.Statements.{jump_of}
 use Rattle.fmp_tasklang.proofs.Adding.{added_none, added_more, added_stopped, added_all, adds_none, adds_stopped}
 use Rattle.fmp_tasklang.proofs.StatementFrames.{close_brace, statement_up}
-use Rattle.fmp_tasklang.proofs.StatementPaths.{statement_call, statement_jump, statement_if, statement_assignment, while_test, while_body, if_test, if_then_stop, if_otherwise, without_else, with_else, block_other, if_other, deep_other, block_missing, block_deep, block_stop, block_open, block_found}
+use Rattle.fmp_tasklang.proofs.StatementPaths.{statement_call, statement_jump, statement_if, statement_assignment}
+use Rattle.fmp_tasklang.proofs.StatementPaths.{while_test, while_body, if_test, if_then_stop, if_otherwise}
+use Rattle.fmp_tasklang.proofs.StatementPaths.{without_else, with_else, block_other, if_other, deep_other}
+use Rattle.fmp_tasklang.proofs.StatementPaths.{block_missing, block_deep, block_stop, block_open, block_found}
 use Rattle.fmp_tasklang.proofs.Views.{while_view}
 use Rattle.fmp_tasklang.proofs.statements.+statements.Goals as goal
 

@@ -21,13 +21,16 @@ returns-in_err-change c =
     let d = c.args.depth in
     let i = c.args.at in
     let p = err_from_is_err_and c.from_residual-in_err-change.result c.from_residual-in_err-change.ensures.1 in
-    rw (p.1, p.2) (err_as change_view statement_view c.in_err-change.field-0.0 (RightChange ts d c.in_ok-target.next) (RightAssignment ts d i)
-    (λ j why x. assignment_then ts d i c.in_ok-target.target c.in_ok-target.next c.in_ok-target.ensures (stopped j why) x) c.in_err-change.ensures)
+    rw (p.1, p.2) (err_as change_view statement_view c.in_err-change.field-0.0 (RightChange ts d c.in_ok-target.next)
+    (RightAssignment ts d i)
+    (λ j why x. assignment_then ts d i c.in_ok-target.target c.in_ok-target.next c.in_ok-target.ensures
+    (stopped j why) x) c.in_err-change.ensures)
 
 pub returns : goal.returns
 returns c =
     let ts = kinds_of c.args.tokens.now in
     let d = c.args.depth in
     let i = c.args.at in
-    rw c.in_ok-statement.ensures.tree (assignment_then ts d i c.in_ok-target.target c.in_ok-target.next c.in_ok-target.ensures
+    rw c.in_ok-statement.ensures.tree (assignment_then ts d i c.in_ok-target.target c.in_ok-target.next
+    c.in_ok-target.ensures
     (found (change_view c.in_ok-change.change) c.in_ok-change.next) c.in_ok-change.ensures)

@@ -23,7 +23,8 @@ returns-in_err-condition c =
     let d = c.args.depth in
     let i = c.args.at in
     let p = err_from_is_err_and c.from_residual-in_err-condition.result c.from_residual-in_err-condition.ensures.1 in
-    rw (p.1, p.2) (err_as expression_view expression_view c.in_err-condition.field-0.0 (RightExpression ts d loosest c.in_ok-next.next) (RightCondition ts d i)
+    rw (p.1, p.2) (err_as expression_view expression_view c.in_err-condition.field-0.0
+    (RightExpression ts d loosest c.in_ok-next.next) (RightCondition ts d i)
     (λ j why x. condition_stop ts d i c.in_ok-next.next c.in_ok-next.ensures j why x) c.in_err-condition.ensures)
 
 pub returns-in_err-next-2 : goal.returns-in_err-next-2
@@ -32,7 +33,8 @@ returns-in_err-next-2 c =
     let d = c.args.depth in
     let i = c.args.at in
     let p = err_from_is_err_and c.from_residual-in_err-next-2.result c.from_residual-in_err-next-2.ensures.1 in
-    rw (p.1, p.2) (step_as expression_view c.in_err-next-2.field-0.0 (RightToken ts right c.in_ok-condition.next) (RightCondition ts d i)
+    rw (p.1, p.2) (step_as expression_view c.in_err-next-2.field-0.0 (RightToken ts right c.in_ok-condition.next)
+    (RightCondition ts d i)
     (λ j why x. condition_open ts d i c.in_ok-next.next c.in_ok-next.ensures
     (expression_view c.in_ok-condition.condition) c.in_ok-condition.next c.in_ok-condition.ensures j why x)
     c.in_err-next-2.ensures)

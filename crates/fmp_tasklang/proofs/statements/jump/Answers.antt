@@ -17,7 +17,8 @@ returns-in_err-next c =
     let s = statement_view c.args.statement in
     let lt : i < length ts = simp length-map c.requires.at in
     let p = err_from_is_err_and c.from_residual.result c.from_residual.ensures.1 in
-    rw (p.1, p.2) (step_as statement_view c.in_err-next.field-0.0 (RightToken ts semicolon (i + 1)) (RightJump ts loop i)
+    rw (p.1, p.2) (step_as statement_view c.in_err-next.field-0.0 (RightToken ts semicolon (i + 1))
+    (RightJump ts loop i)
     (λ j why x. jump_open ts loop i s lt c.requires.first j why x) c.in_err-next.ensures)
 
 pub returns : goal.returns

@@ -2,7 +2,8 @@ use Rattle.std.proofs.Common.{rules}
 use Rattle.std.proofs.lemmas.Result.{err_from_is_err_and}
 use Rattle.fmp_lex.specs.Reading.{kinds_of, found, stopped}
 use Rattle.fmp_lex.proofs.Answered.{err_as}
-use Rattle.fmp_tasklang.specs.Reading.{source_view, element_view, change_view, RightVariableChange, RightElementChange, RightChange}
+use Rattle.fmp_tasklang.specs.Reading.{source_view, element_view, change_view, RightVariableChange, RightElementChange}
+use Rattle.fmp_tasklang.specs.Reading.{RightChange}
 use Rattle.fmp_tasklang.proofs.SimpleStatements.{change_variable, change_element}
 use Rattle.fmp_tasklang.proofs.statements.one_change.Goals as goal
 
@@ -13,7 +14,8 @@ returns-in_err-element c =
     let i = c.args.at in
     let is = c.is_symbol_at.ensures.yes (search rules) in
     let p = err_from_is_err_and c.from_residual.result c.from_residual.ensures.1 in
-    rw (p.1, p.2) (err_as element_view change_view c.in_err-element.field-0.0 (RightElementChange ts d i) (RightChange ts d i)
+    rw (p.1, p.2) (err_as element_view change_view c.in_err-element.field-0.0 (RightElementChange ts d i)
+    (RightChange ts d i)
     (λ j why x. change_element ts d i is (stopped j why) x) c.in_err-element.ensures)
 
 pub returns-then-is_symbol_at : goal.returns-then-is_symbol_at
@@ -30,12 +32,15 @@ returns-in_err-source c =
     let d = c.args.depth in
     let i = c.args.at in
     let p = err_from_is_err_and c.from_residual-in_err-source.result c.from_residual-in_err-source.ensures.1 in
-    rw (p.1, p.2) (err_as source_view change_view c.in_err-source.field-0.0 (RightVariableChange ts d i) (RightChange ts d i)
-    (λ j why x. change_variable ts d i (c.is_symbol_at.ensures.no c.if-is_symbol_at.false) (stopped j why) x) c.in_err-source.ensures)
+    rw (p.1, p.2) (err_as source_view change_view c.in_err-source.field-0.0 (RightVariableChange ts d i)
+    (RightChange ts d i)
+    (λ j why x. change_variable ts d i (c.is_symbol_at.ensures.no c.if-is_symbol_at.false) (stopped j why) x)
+    c.in_err-source.ensures)
 
 pub returns : goal.returns
 returns c =
     let ts = kinds_of c.args.tokens.now in
     let d = c.args.depth in
     let i = c.args.at in
-    change_variable ts d i (c.is_symbol_at.ensures.no c.if-is_symbol_at.false) (found (source_view c.in_ok-source.source) c.in_ok-source.next) c.in_ok-source.ensures
+    change_variable ts d i (c.is_symbol_at.ensures.no c.if-is_symbol_at.false)
+    (found (source_view c.in_ok-source.source) c.in_ok-source.next) c.in_ok-source.ensures

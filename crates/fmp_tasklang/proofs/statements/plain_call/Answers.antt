@@ -22,7 +22,8 @@ returns-in_err-next c =
     let d = c.args.depth in
     let i = c.args.at in
     let p = err_from_is_err_and c.from_residual-in_err-next.result c.from_residual-in_err-next.ensures.1 in
-    rw (p.1, p.2) (step_as statement_view c.in_err-next.field-0.0 (RightToken ts semicolon c.in_ok-call.next) (RightPlainCall ts d i)
+    rw (p.1, p.2) (step_as statement_view c.in_err-next.field-0.0 (RightToken ts semicolon c.in_ok-call.next)
+    (RightPlainCall ts d i)
     (λ j why x. plain_open ts d i (called_view c.in_ok-call.call) c.in_ok-call.next c.in_ok-call.ensures.reads j why x)
     c.in_err-next.ensures)
 

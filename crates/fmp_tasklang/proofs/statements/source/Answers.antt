@@ -24,7 +24,8 @@ returns-in_err-value c =
     let d = c.args.depth in
     let i = c.args.at in
     let p = err_from_is_err_and c.from_residual-in_err-value.result c.from_residual-in_err-value.ensures.1 in
-    rw (p.1, p.2) (err_as expression_view source_view c.in_err-value.field-0.0 (RightExpression ts d loosest i) (RightSource ts d i)
+    rw (p.1, p.2) (err_as expression_view source_view c.in_err-value.field-0.0 (RightExpression ts d loosest i)
+    (RightSource ts d i)
     (λ j why x. source_value ts d i c.in_default.ensures.value (stopped j why) x) c.in_err-value.ensures)
 
 pub returns-in-Some : goal.returns-in-Some
@@ -40,4 +41,5 @@ returns c =
     let ts = kinds_of c.args.tokens.now in
     let d = c.args.depth in
     let i = c.args.at in
-    source_value ts d i c.in_default.ensures.value (found (expression_view c.in_ok-value.value) c.in_ok-value.next) c.in_ok-value.ensures
+    source_value ts d i c.in_default.ensures.value (found (expression_view c.in_ok-value.value) c.in_ok-value.next)
+    c.in_ok-value.ensures

@@ -21,7 +21,8 @@ returns-in_err-source c =
     let d = c.args.depth in
     let i = c.args.at in
     let p = err_from_is_err_and c.from_residual-in_err-source.result c.from_residual-in_err-source.ensures.1 in
-    rw (p.1, p.2) (err_as source_view source_view c.in_err-source.field-0.0 (RightSource ts d c.in_ok-next.next) (RightVariableChange ts d i)
+    rw (p.1, p.2) (err_as source_view source_view c.in_err-source.field-0.0 (RightSource ts d c.in_ok-next.next)
+    (RightVariableChange ts d i)
     (λ j why x. source_stop ts d i c.in_ok-next.next c.in_ok-next.ensures j why x) c.in_err-source.ensures)
 
 pub returns-in_err-next-2 : goal.returns-in_err-next-2
@@ -30,8 +31,10 @@ returns-in_err-next-2 c =
     let d = c.args.depth in
     let i = c.args.at in
     let p = err_from_is_err_and c.from_residual-in_err-next-2.result c.from_residual-in_err-next-2.ensures.1 in
-    rw (p.1, p.2) (step_as source_view c.in_err-next-2.field-0.0 (RightToken ts semicolon c.in_ok-source.next) (RightVariableChange ts d i)
-    (λ j why x. source_open ts d i c.in_ok-next.next c.in_ok-next.ensures (source_view c.in_ok-source.source) c.in_ok-source.next
+    rw (p.1, p.2) (step_as source_view c.in_err-next-2.field-0.0 (RightToken ts semicolon c.in_ok-source.next)
+    (RightVariableChange ts d i)
+    (λ j why x. source_open ts d i c.in_ok-next.next c.in_ok-next.ensures
+    (source_view c.in_ok-source.source) c.in_ok-source.next
     c.in_ok-source.ensures j why x) c.in_err-next-2.ensures)
 
 pub returns : goal.returns

@@ -16,7 +16,8 @@ loop-at-smaller c =
     let past : Past list (Some c.in-Some.u) c.loop-at.count = rw c.in-Some.is at c.loop-at.invariant in
     let follows = c.next-at.ensures.value c.args.x (past-in _ _ _ past) in
     let less = past-shorter _ _ _ _ _ c.first-at.ensures.order past follows in
-    subst (λ (o : Option ℕ). length (from_node c.next-at.result list) < length (from_node o list)) (sym c.in-Some.is) less
+    subst (λ (o : Option ℕ). length (from_node c.next-at.result list) < length (from_node o list))
+    (sym c.in-Some.is) less
 
 pub loop-at-preserved : goal.loop-at-preserved
 loop-at-preserved c =

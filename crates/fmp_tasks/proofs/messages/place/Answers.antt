@@ -11,7 +11,8 @@ returns-then-priority_of c =
     let f = message_priority (tables_of c.args.sys.now) in
     let list = list_at c.args.rings.now.lists c.args.x in
     let walked : Walked f c.args.g list (Some c.in-Some.u) = rw c.in-Some.is at c.loop-at.invariant in
-    let less : f c.args.g < f c.in-Some.u = rw (c.priority_of.ensures, c.priority_of-in-Some.ensures) at c.if-priority_of.true in
+    let less : f c.args.g < f c.in-Some.u = rw (c.priority_of.ensures, c.priority_of-in-Some.ensures) at
+    c.if-priority_of.true in
     Walked-stop _ _ _ _ _ c.first-at.ensures.order walked less
 
 pub loop-at-smaller : goal.loop-at-smaller
@@ -21,13 +22,15 @@ loop-at-smaller c =
     let walked : Walked f c.args.g list (Some c.in-Some.u) = rw c.in-Some.is at c.loop-at.invariant in
     let follows = c.next-at.ensures.value c.args.x (Walked-in _ _ _ _ walked) in
     let less = Walked-shorter _ _ _ _ _ _ c.first-at.ensures.order walked follows in
-    subst (λ (o : Option ℕ). length (from_node c.next-at.result list) < length (from_node o list)) (sym c.in-Some.is) less
+    subst (λ (o : Option ℕ). length (from_node c.next-at.result list) < length (from_node o list))
+    (sym c.in-Some.is) less
 
 pub loop-at-preserved : goal.loop-at-preserved
 loop-at-preserved c =
     let f = message_priority (tables_of c.args.sys.now) in
     let list = list_at c.args.rings.now.lists c.args.x in
     let walked : Walked f c.args.g list (Some c.in-Some.u) = rw c.in-Some.is at c.loop-at.invariant in
-    let least : f c.in-Some.u ≤ f c.args.g = rw (c.priority_of.ensures, c.priority_of-in-Some.ensures) at c.if-priority_of.false in
+    let least : f c.in-Some.u ≤ f c.args.g = rw (c.priority_of.ensures, c.priority_of-in-Some.ensures) at
+    c.if-priority_of.false in
     let follows = c.next-at.ensures.value c.args.x (Walked-in _ _ _ _ walked) in
     Walked-step _ _ _ _ _ _ c.first-at.ensures.order walked least follows

@@ -10,7 +10,8 @@ loop-slot-preserved c =
     let l = c.loop-slot in
     let child = c.first_child-child.result in
     let e = c.first_child-child.ensures in
-    let first = first_of_two (λ (k : ℕ). get_or l.ranks k 0) c.args.count l.slot child e.low e.high (omega (arith, c.loop-slot-test.true)) e.left e.right in
+    let first = first_of_two (λ (k : ℕ). get_or l.ranks k 0) c.args.count l.slot child e.low e.high
+    (omega (arith, c.loop-slot-test.true)) e.left e.right in
     let task = get_or c.args.slots.now c.args.from 0 in
     let rank = get_or c.args.ranks.now c.args.from 0 in
     let low : l.slot * 2 + 1 ≤ child = first.low in
@@ -23,7 +24,8 @@ loop-slot-preserved c =
     record {
       rows = rows_moved before l.slots l.ranks l.positions l.slot child task rank l.invariant.rows here there apart;
       open' = rw (length-set l.slots l.slot (get_or l.slots child 0))
-          (descends _ _ _ _ l.slot child (first_whatever l.ranks c.args.count l.slot child rank first) x l.invariant.open');
+          (descends _ _ _ _ l.slot child (first_whatever l.ranks c.args.count l.slot child rank first) x
+          l.invariant.open');
       more = omega (arith, l.invariant.more, e.steps);
       counted = (
         suc l.invariant.counted.0,
@@ -36,5 +38,12 @@ loop-slot-preserved c =
 pub returns-clause-steps : goal.returns-clause-steps
 returns-clause-steps c =
     let l = c.loop-slot in
-    let depth : l.invariant.counted.0 < 8 = shallow _ 8 (omega (arith, l.invariant.counted.1, l.invariant.open'.here, l.invariant.open'.within, l.invariant.rows.long, c.requires.inverse.few)) in
+    let depth : l.invariant.counted.0 < 8 = shallow _ 8 (omega (
+      arith,
+      l.invariant.counted.1,
+      l.invariant.open'.here,
+      l.invariant.open'.within,
+      l.invariant.rows.long,
+      c.requires.inverse.few,
+    )) in
     (l.invariant.more, omega (arith, depth, l.invariant.counted.2))

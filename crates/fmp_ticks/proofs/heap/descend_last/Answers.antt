@@ -22,5 +22,7 @@ returns-clause-open c =
     let apart : child ≢ a.from = λ z. absurd (omega (arith, z)) in
     λ task rank h.
     rw (c.put.ensures.slots, c.put.ensures.ranks, length-set a.slots.now a.from (get_or a.slots.now child 0))
-    (descends _ _ _ _ a.from child (first_whatever a.ranks.now a.count a.from child rank (only_child (λ (k : ℕ). get_or a.ranks.now k 0) a.count a.from there c.requires.few))
-    (held_moved a.ranks.now a.from child rank (omega (arith, c.requires.here, c.requires.within, c.requires.long)) (omega (arith, there, c.requires.within, c.requires.long)) apart) h)
+    (descends _ _ _ _ a.from child (first_whatever a.ranks.now a.count a.from child rank
+    (only_child (λ (k : ℕ). get_or a.ranks.now k 0) a.count a.from there c.requires.few))
+    (held_moved a.ranks.now a.from child rank (omega (arith, c.requires.here, c.requires.within, c.requires.long))
+    (omega (arith, there, c.requires.within, c.requires.long)) apart) h)

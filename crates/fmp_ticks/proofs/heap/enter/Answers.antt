@@ -8,10 +8,12 @@ pub rise-end-requires-clause-inverse : goal.rise-end-requires-clause-inverse
 rise-end-requires-clause-inverse c =
     let a = c.args in
     let here : a.count < length a.slots.now = omega (arith, c.requires.outside, c.requires.there) in
-    let positions = set (set a.positions.now (get_or a.slots.now a.count 0) a.slot) (get_or a.slots.now a.slot 0) a.count in
+    let positions = set (set a.positions.now (get_or a.slots.now a.count 0) a.slot)
+    (get_or a.slots.now a.slot 0) a.count in
     rw (c.put.ensures.slots, c.put.ensures.positions)
     (subst (λ (xs : List ℕ). AreInverse xs positions) (exchanged_twice a.slots.now a.count a.slot)
-    (AreInverse-exchange a.slots.now a.positions.now a.count a.slot _ _ c.requires.inverse here c.requires.there refl refl))
+    (AreInverse-exchange a.slots.now a.positions.now a.count a.slot _ _ c.requires.inverse here c.requires.there refl
+    refl))
 
 pub returns-clause-ranks : goal.returns-clause-ranks
 returns-clause-ranks c =

@@ -7,12 +7,14 @@ pub descend_last-leaf-requires-clause-tasks : goal.descend_last-leaf-requires-cl
 descend_last-leaf-requires-clause-tasks c =
     let d = c.descend-low in
     let here : d.result < length d.new.slots = omega (arith, d.ensures.open.here, d.ensures.open.within) in
-    λ k inside apart. in_positions (rows_of c.args.slots.now c.args.ranks.now) d.new.slots d.new.ranks d.new.positions d.result k
+    λ k inside apart. in_positions (rows_of c.args.slots.now c.args.ranks.now) d.new.slots d.new.ranks d.new.positions
+    d.result k
     (get_or c.args.slots.now c.args.slot 0) (get_or c.args.ranks.now c.args.slot 0) d.ensures.rows here inside apart
 
 pub rise-end-requires-clause-here : goal.rise-end-requires-clause-here
 rise-end-requires-clause-here c =
-    let open' = c.descend_last-leaf.ensures.open (get_or c.args.slots.now c.args.slot 0) (get_or c.args.ranks.now c.args.slot 0) c.descend-low.ensures.open in
+    let open' = c.descend_last-leaf.ensures.open (get_or c.args.slots.now c.args.slot 0)
+    (get_or c.args.ranks.now c.args.slot 0) c.descend-low.ensures.open in
     omega (arith, open'.here, open'.within)
 
 pub rise-end-requires-clause-inverse : goal.rise-end-requires-clause-inverse

@@ -7,7 +7,8 @@ use Rattle.fmp_base.specs.declared.systems.MailboxConfig.{MailboxConfig}
 use Rattle.fmp_base.specs.declared.systems.SpinLockConfig.{SpinLockConfig}
 use Rattle.fmp_tasklang.specs.Views.{body_view}
 use Rattle.fmp_export.proofs.Appended.{two}
-use Rattle.fmp_toppers.specs.Configuration.{data_queue_line, flag_line, mailbox_line, object_lines, semaphore_line, spin_lock_line}
+use Rattle.fmp_toppers.specs.Configuration.{data_queue_line, flag_line, mailbox_line, object_lines, semaphore_line}
+use Rattle.fmp_toppers.specs.Configuration.{spin_lock_line}
 use Rattle.fmp_toppers.specs.Lines.{lines}
 use Rattle.fmp_toppers.proofs.configuration.append_objects.Goals as goal
 

@@ -18,7 +18,8 @@ loop-line-preserved c =
     let rest = lines_text sys number (drop (k + 1) lines) in
     let one : suc k ≡ k + 1 = omega arith in
     let next : lines_text sys number (drop k lines) ≡ line_text sys number printed ++ rest =
-    ap (λ (ls : List Line). lines_text sys number ls) (drop-cons lines k (line.Tick 0) (omega (arith, c.loop-line-test.true)))
+    ap (λ (ls : List Line). lines_text sys number ls) (drop-cons lines k (line.Tick 0)
+    (omega (arith, c.loop-line-test.true)))
     ∙ ap (λ (j : ℕ). line_text sys number printed ++ lines_text sys number (drop j lines)) one in
     let put : take c.put_line-end.result c.put_line-end.new.line ≡ piece ++ line_text sys number printed =
     c.put_line-end.ensures.text ∙ ap (λ (n : ℕ). piece ++ line_text sys n printed) i.same in

@@ -24,7 +24,8 @@ loop-line-preserved c =
     let one : suc k ≡ k + 1 = omega arith in
     let whole = c.args.out.now.items ++ (take c.args.end c.args.bytes.now ++ lines_text sys number lines) in
     let next : lines_text sys number (drop k lines) ≡ line_text sys number printed ++ rest =
-    ap (λ (ls : List Line). lines_text sys number ls) (drop-cons lines k (line.Tick 0) (omega (arith, c.loop-line-test.true)))
+    ap (λ (ls : List Line). lines_text sys number ls) (drop-cons lines k (line.Tick 0)
+    (omega (arith, c.loop-line-test.true)))
     ∙ ap (λ (j : ℕ). line_text sys number printed ++ lines_text sys number (drop j lines)) one in
     let put : take c.put_line-end.result c.put_line-end.new.line ≡ piece ++ line_text sys number printed =
     c.put_line-end.ensures.text ∙ ap (λ (n : ℕ). piece ++ line_text sys n printed) i.same in

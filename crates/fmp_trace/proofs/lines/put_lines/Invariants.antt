@@ -9,7 +9,8 @@ use Rattle.fmp_trace.proofs.lines.put_lines.Given as goal
 abbrev pub invariant-loop-line : goal.invariant-loop-line
 invariant-loop-line l = record {
   same : l.number ≡ l.initial.number;
-  text : l.out.items ++ (take l.end l.bytes ++ lines_text (tables_of l.sys) l.initial.number (drop l.line-index l.lines))
+  text : l.out.items ++ (take l.end l.bytes ++ lines_text (tables_of l.sys) l.initial.number
+      (drop l.line-index l.lines))
       ≡ l.initial.out.items ++ (take l.fn.end l.initial.bytes ++ lines_text (tables_of l.sys) l.initial.number l.lines);
   kept : Begins l.initial.out.items l.out.items;
   room : l.end + 179 ≤ 1024;

@@ -13,4 +13,5 @@ returns-clause-next c =
     ∙ counted_on n at digits small (search rules) (ap (λ k. take k digits) count ∙ is) (search rules)
 
 pub returns-clause-behind : goal.returns-clause-behind
-returns-clause-behind c = drop-set-lt c.args.count c.args.digits.now (c.args.count - 1) _ (omega (arith, c.requires.some))
+returns-clause-behind c = drop-set-lt c.args.count c.args.digits.now (c.args.count - 1) _
+    (omega (arith, c.requires.some))

@@ -12,7 +12,8 @@ returns-clause-next c =
     let P : ℕ → Type 0 = λ k. 57 ≤ get_or digits k 0 in
     λ n small is _.
     (λ i. take (sym count i) (set (set digits at (get_or digits at 0 + 1)) (sym ones i) 48))
-    ∙ carried_on n at digits small (search rules) (ap (λ k. take k digits) count ∙ is) (subst P (sym ones) c.requires.nine) (search rules)
+    ∙ carried_on n at digits small (search rules) (ap (λ k. take k digits) count ∙ is)
+    (subst P (sym ones) c.requires.nine) (search rules)
 
 pub returns-clause-behind : goal.returns-clause-behind
 returns-clause-behind c =

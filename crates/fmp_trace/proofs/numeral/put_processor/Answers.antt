@@ -1,4 +1,5 @@
-use Rattle.std.proofs.Common.{◌≡◌, ◌+◌, ◌++◌, ◌∷◌, [], ◌∙◌, ap, sym, arith, rules, length, take, drop, length-take-le, take-take, take_at, drop_at}
+use Rattle.std.proofs.Common.{◌≡◌, ◌+◌, ◌++◌, ◌∷◌, [], ◌∙◌, ap, sym, arith, rules, length, take, drop, length-take-le}
+use Rattle.std.proofs.Common.{take-take, take_at, drop_at}
 use Rattle.std.proofs.lemmas.List.{drop-take}
 use Rattle.std.proofs.lemmas.Fmt.{decimal_digit}
 use Rattle.fmp_base.specs.Texts.{processor_text}

@@ -8,5 +8,6 @@ returns-in-Some-clause-text c =
     let count = c.from-length.result in
     let front : c.in-Some.front.now ≡ take 16 bytes = c.in-Some.ensures.cases.same in
     let used : take count c.in-Some.front.now ≡ name_text c.args.name.now =
-    ap (take count) front ∙ take-take count 16 bytes c.if-length-le16.true ∙ ap (λ (k : ℕ). take k bytes) c.from-length.ensures in
+    ap (take count) front ∙ take-take count 16 bytes c.if-length-le16.true
+    ∙ ap (λ (k : ℕ). take k bytes) c.from-length.ensures in
     c.append_front.ensures.text ∙ ap (λ (xs : List ℕ). take c.args.end c.args.line.now ++ xs) used

@@ -35,6 +35,7 @@ pub returns : goal.returns
 returns g c =
     record {
       first = c.in_ok-waves.waves;
-      begins = c.in_ok-waves.ensures ∙ ap (λ (f : FrameTable). values_of f c.in_ok-waves.waves.variables.items) c.in_ok-setup.ensures;
+      begins = c.in_ok-waves.ensures ∙ ap (λ (f : FrameTable). values_of f c.in_ok-waves.waves.variables.items)
+          c.in_ok-setup.ensures;
       frames = c.in_ok-show_all.ensures.shown;
     }

@@ -12,7 +12,8 @@ use Rattle.fmp_view.proofs.Fresh.{drive_room}
 use Rattle.fmp_view.proofs.driving.drive_on.Goals as goal
 
 -- what is driven on, by another name of the kernel and of the number of processors
-driven_so : (k k' after : KernelView (List BodyTables) MachineContext) (p q most : ℕ) (es : List Event) (stop : DriveStop)
+driven_so : (k k' after : KernelView (List BodyTables) MachineContext) (p q most : ℕ) (es : List Event)
+    (stop : DriveStop)
     → k ≡ k' → p ≡ q → IsDriven code_meaning k after p most es stop → IsDriven code_meaning k' after q most es stop
 driven_so k k' after p q most es stop is same h =
     subst (λ (x : KernelView (List BodyTables) MachineContext). IsDriven code_meaning x after q most es stop) is

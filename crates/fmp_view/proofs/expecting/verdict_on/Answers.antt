@@ -15,5 +15,7 @@ returns g c =
     let told = run_told g.T.Coming.reaction c.args.kernel.now c.args.events.now in
     c.verdict.ensures xs told (c.tell_run.ensures.told xs c.in_ok-checker.ensures)
     ∙ ap (λ (s : List TaskState). first_broken xs told s c.done.result) (c.deref.ensures.value ∙ c.in_ok-states.ensures)
-    ∙ ap (λ (n : ℕ). first_broken xs told (each (task_state c.tell_run.new.kernel.world.state) (length c.tell_run.new.kernel.system.tasks)) n) c.done.ensures
-    ∙ ap (λ v. first_broken xs told (each (task_state v.world.state) (length v.system.tasks)) v.done) c.tell_run.ensures.state
+    ∙ ap (λ (n : ℕ). first_broken xs told (each (task_state c.tell_run.new.kernel.world.state)
+    (length c.tell_run.new.kernel.system.tasks)) n) c.done.ensures
+    ∙ ap (λ v. first_broken xs told (each (task_state v.world.state) (length v.system.tasks)) v.done)
+    c.tell_run.ensures.state

@@ -7,4 +7,5 @@ use Rattle.fmp_view.proofs.stuck.advance.Goals as goal
 
 pub returns : goal.returns
 returns c =
-    ap (λ (x : KernelView (List BodyTables) MachineContext). x.body) c.step.ensures.state ∙ body_stays c.args.kernel.now _
+    ap (λ (x : KernelView (List BodyTables) MachineContext). x.body) c.step.ensures.state
+    ∙ body_stays c.args.kernel.now _

@@ -1,10 +1,15 @@
 use Rattle.std.proofs.Common.{◌≤◌, ◌*◌, ◌%◌, ◌^◌, ℕ, refl, ap, get_or, add-one, pow-suc, mul-le-mul_right, arith, lit<}
-use Rattle.fmp_visited.proofs.ReadingLemmas.{power-small, reading-last, reading-there, read-fits, reading-begun, reading-end, reading-more}
+use Rattle.fmp_visited.proofs.ReadingLemmas.{power-small, reading-last, reading-there, read-fits, reading-begun}
+use Rattle.fmp_visited.proofs.ReadingLemmas.{reading-end, reading-more}
 use Rattle.fmp_visited.proofs.numbers.number_at.Goals as goal
 
 pub loop-byte-init : goal.loop-byte-init
 loop-byte-init c =
-    record { power = refl; small = lit< tt; reads = λ number rest e. reading-begun c.args.row.now c.args.place number rest e }
+    record {
+      power = refl;
+      small = lit< tt;
+      reads = λ number rest e. reading-begun c.args.row.now c.args.place number rest e;
+    }
 
 pub overflow_mul-number : goal.overflow_mul-number
 overflow_mul-number c =
@@ -17,7 +22,13 @@ pub overflow_add-number : goal.overflow_add-number
 overflow_add-number c =
     let l = c.loop-byte in
     let low : 128 ^ l._byte ≤ 268435456 = power-small l._byte (omega arith) in
-    omega (arith, l.invariant.power, low, read-fits l._byte l.number l.unit (get_or c.args.row.now l.at 0) l.invariant.power l.invariant.small)
+    omega (
+      arith,
+      l.invariant.power,
+      low,
+      read-fits l._byte l.number l.unit
+          (get_or c.args.row.now l.at 0) l.invariant.power l.invariant.small,
+    )
 
 pub loop-byte-preserved : goal.loop-byte-preserved
 loop-byte-preserved c =
@@ -25,7 +36,8 @@ loop-byte-preserved c =
     record {
       power = omega (arith, l.invariant.power, pow-suc 128 l._byte, ap (λ (n : ℕ). 128 ^ n) (add-one l._byte));
       small = read-fits l._byte l.number l.unit (get_or c.args.row.now l.at 0) l.invariant.power l.invariant.small;
-      reads = λ number rest e. reading-more c.args.row.now l._byte l.number l.unit l.at number rest (omega arith) (omega arith)
+      reads = λ number rest e. reading-more c.args.row.now l._byte l.number l.unit l.at number rest (omega arith)
+          (omega arith)
           (l.invariant.reads number rest e);
     }
 

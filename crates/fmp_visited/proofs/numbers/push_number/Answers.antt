@@ -11,4 +11,5 @@ pub loop-byte-preserved : goal.loop-byte-preserved
 loop-byte-preserved c =
     let l = c.loop-byte in
     ap (λ (row : List ℕ). row ++ number_in (5 - (l._byte + 1)) (l.rest / 128)) c.in_ok-push-2.ensures.items
-    ∙ written-more l.row.items c.args.row.now.items l._byte l.rest (bytes_of c.args.number) (omega arith) (omega arith) l.invariant
+    ∙ written-more l.row.items c.args.row.now.items l._byte l.rest (bytes_of c.args.number) (omega arith)
+    (omega arith) l.invariant

@@ -10,7 +10,8 @@ clipped s v start count a b =
     let left : drop start v ≡ drop s v = ap (λ (n : ℕ). drop n v) a ∙ drop_min s v in
     let size : start + count - start ≡ count = omega arith in
     let few : count ≡ min 8 (length (drop start v)) = b ∙ ap (λ (n : ℕ). min 8 n) (sym (length-drop start v)) in
-    ap (λ (n : ℕ). take n (drop start v)) (size ∙ few) ∙ (take_min 8 (drop start v) ∙ ap (λ (r : List ℕ). take 8 r) left)
+    ap (λ (n : ℕ). take n (drop start v)) (size ∙ few) ∙ (take_min 8 (drop start v)
+    ∙ ap (λ (r : List ℕ). take 8 r) left)
 
 pub returns-clause-group : goal.returns-clause-group
 returns-clause-group c =

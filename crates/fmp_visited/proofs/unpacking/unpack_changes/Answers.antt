@@ -18,13 +18,16 @@ loop-k-preserved c v rest same values mask bytes =
     let within : l.k < length v = omega (arith, lt, same) in
     let tells = mask-tells l.k l.bits first v lt within u.masks in
     let told = unpacking-bytes row first v old l.values.items l.k l.bits l.at rest same lt u in
-    let got = c.value_at-value.ensures (get_or v l.k 0) (changes_of (drop (l.k + 1) first) (drop (l.k + 1) v) ++ rest) (values l.k 0 within)
+    let got = c.value_at-value.ensures (get_or v l.k 0) (changes_of (drop (l.k + 1) first) (drop (l.k + 1) v) ++ rest)
+    (values l.k 0 within)
     tells.0 told in
-    unpacking-more row first v old l.values.items c.push.new.self.items l.k l.bits l.at c.value_at-value.result.0 c.value_at-value.result.1 rest same
+    unpacking-more row first v old l.values.items c.push.new.self.items l.k l.bits l.at c.value_at-value.result.0
+    c.value_at-value.result.1 rest same
     lt u c.in_ok-push.ensures.items got.0 got.1
 
 pub returns : goal.returns
 returns c v rest same values mask bytes =
     let l = c.loop-k in
-    unpacking-end c.args.row.now c.args.first.now v c.args.values.now.items l.values.items l.k l.bits l.at rest same (omega arith)
+    unpacking-end c.args.row.now c.args.first.now v c.args.values.now.items l.values.items l.k l.bits l.at rest same
+    (omega arith)
     (l.invariant v rest same values mask bytes)

@@ -18,4 +18,5 @@ pub returns-in-None : goal.returns-in-None
 returns-in-None c =
     let items = c.args.told.now.texts.items in
     let past : length items ≤ c.args.number = search rules in
-    sym (slice_get-map (λ x. x.items) items c.args.number ∙ ap (option_map (λ x. x.items)) (slice_get_past items c.args.number past))
+    sym (slice_get-map (λ x. x.items) items c.args.number ∙ ap (option_map (λ x. x.items))
+    (slice_get_past items c.args.number past))

@@ -11,11 +11,13 @@ loop-e-preserved g c =
     let k = c.args.kernel.now in
     let es = c.args.events.now in
     let i = c.loop-e.e-index in
-    let one : c.take.new.kernel.taken ≤ c.loop-e.kernel.taken + 1 = taken-step c.loop-e.kernel c.take.new.kernel _ c.take.ensures.state in
+    let one : c.take.new.kernel.taken ≤ c.loop-e.kernel.taken
+    + 1 = taken-step c.loop-e.kernel c.take.new.kernel _ c.take.ensures.state in
     record {
       few = omega arith;
       place = omega arith;
-      after = first-more reaction k c.loop-e.kernel c.take.new.kernel es i c.e-item.result c.loop-e-test.true c.e-item.is c.loop-e.invariant.after c.take.ensures.state;
+      after = first-more reaction k c.loop-e.kernel c.take.new.kernel es i c.e-item.result c.loop-e-test.true
+          c.e-item.is c.loop-e.invariant.after c.take.ensures.state;
       before = further (λ (j : ℕ). (after_first reaction k es j).done < c.args.number) i c.loop-e.invariant.before
           (done-here reaction k c.loop-e.kernel es i c.args.number c.done.result c.loop-e.invariant.after c.done.ensures
           (omega (arith, c.if-done-number.false)));

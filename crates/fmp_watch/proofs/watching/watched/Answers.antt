@@ -26,12 +26,14 @@ returns-in_err-setup g c =
 
 pub returns-in_err-watcher : goal.returns-in_err-watcher
 returns-in_err-watcher g c =
-    let failed = (err_from_is_err_and c.from_residual-in_err-watcher.result c.from_residual-in_err-watcher.ensures.1).1 in
+    let failed = (err_from_is_err_and c.from_residual-in_err-watcher.result
+    c.from_residual-in_err-watcher.ensures.1).1 in
     record { shown = rw failed tt; body = rw failed tt; bound = rw failed tt }
 
 pub returns-in_err-show_all : goal.returns-in_err-show_all
 returns-in_err-show_all g c =
-    let failed = (err_from_is_err_and c.from_residual-in_err-show_all.result c.from_residual-in_err-show_all.ensures.1).1 in
+    let failed = (err_from_is_err_and c.from_residual-in_err-show_all.result
+    c.from_residual-in_err-show_all.ensures.1).1 in
     record { shown = rw failed tt; body = rw failed tt; bound = rw failed tt }
 
 pub returns : goal.returns
@@ -39,7 +41,8 @@ returns g c =
     record {
       shown = record {
         first = c.in_ok-watcher.watcher;
-        begins = subst (λ (f : FrameTable). IsSeen c.in_ok-watcher.watcher f) c.in_ok-setup.ensures c.in_ok-watcher.ensures;
+        begins = subst (λ (f : FrameTable). IsSeen c.in_ok-watcher.watcher f) c.in_ok-setup.ensures
+            c.in_ok-watcher.ensures;
         frames = c.in_ok-show_all.ensures.shown;
       };
       body = c.in_ok-show_all.ensures.body;

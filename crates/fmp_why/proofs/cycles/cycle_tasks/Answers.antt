@@ -18,7 +18,8 @@ loop-link-preserved c =
     let tasks = c.loop-link.tasks.items in
     let k = c.loop-link._link in
     let t = c.in-Some.task in
-    ap (λ (items : List ℕ). items ++ cycle_tasks bs first (length bs - (k + 1)) c.next_but-at.result) c.in_ok-push.ensures.items
+    ap (λ (items : List ℕ). items ++ cycle_tasks bs first (length bs - (k + 1)) c.next_but-at.result)
+    c.in_ok-push.ensures.items
     ∙ ap (λ (at : Option ℕ). (tasks ++ t ∷ []) ++ cycle_tasks bs first (length bs - (k + 1)) at) c.next_but-at.ensures
     ∙ append_assoc tasks (t ∷ []) _
     ∙ ap (λ (rest : List ℕ). tasks ++ rest) (sym (cycle-more bs first (length bs) k t c.loop-link-test.true))

@@ -6,7 +6,8 @@ use Rattle.fmp_why.proofs.history.add.Goals as goal
 pub returns-then-place-len : goal.returns-then-place-len
 returns-then-place-len c =
     let here : c.args.place < length c.args.trails.now.items = omega arith in
-    changed-read (after_deed c.args.way c.args.deed) _ _ c.index.result.now c.with.result here c.index.ensures c.with.ensures
+    changed-read (after_deed c.args.way c.args.deed) _ _ c.index.result.now c.with.result here c.index.ensures
+    c.with.ensures
 
 pub returns-else-place-len : goal.returns-else-place-len
 returns-else-place-len c =

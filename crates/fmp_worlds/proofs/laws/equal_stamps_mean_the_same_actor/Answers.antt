@@ -9,4 +9,5 @@ returns-clause-never_falls g c = λ sys M n es fs p. omega (arith, stamp-append 
 
 pub returns-clause-same : goal.returns-clause-same
 returns-clause-same g c = λ sys M n es fs p a h e.
-    equal_stamps sys M n (setup sys M).world es fs p a (run-settled sys M n (setup sys M).world es (setup-settled sys M)) e h
+    equal_stamps sys M n (setup sys M).world es fs p a (run-settled sys M n (setup sys M).world es
+    (setup-settled sys M)) e h

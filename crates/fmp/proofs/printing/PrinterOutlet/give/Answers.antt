@@ -15,7 +15,8 @@ returns-in-Ok g c =
 
 pub returns-in-Err-Device : goal.returns-in-Err-Device
 returns-in-Err-Device g c =
-    let begun = prints_front (g.O.Outside.done c.args.self.now.outside.now) (g.O.Outside.done c.print.new.self) c.args.piece.now c.in-Err-Device.ensures.err in
+    let begun = prints_front (g.O.Outside.done c.args.self.now.outside.now)
+    (g.O.Outside.done c.print.new.self) c.args.piece.now c.in-Err-Device.ensures.err in
     record {
       ok = tt;
       err = (

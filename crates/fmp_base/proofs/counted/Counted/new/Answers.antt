@@ -4,4 +4,5 @@ use Rattle.fmp_base.proofs.counted.Counted.new.Goals as goal
 
 pub returns : goal.returns
 returns c =
-    rw c.in_ok-links.was at (items_from_collect c.collect.result c.collect.ensures.ran (YieldsList-from_range 0 c.args.length c.args.length refl (omega arith)))
+    rw c.in_ok-links.was at (items_from_collect c.collect.result c.collect.ensures.ran
+    (YieldsList-from_range 0 c.args.length c.args.length refl (omega arith)))

@@ -8,7 +8,8 @@ returns-clause-counted g c =
     let book = c.show_all.ensures.book in
     record {
       journal = c.args.self.book.journal;
-      journal_is = subst (λ (b : BookState). IsJournal g.S.Site.image g.S.Site.bound g.S.Site.row_id.capacity g.S.Site.row_id.seats b.journal) book c.into_closed.ensures.legal;
+      journal_is = subst (λ (b : BookState). IsJournal g.S.Site.image g.S.Site.bound g.S.Site.row_id.capacity
+          g.S.Site.row_id.seats b.journal) book c.into_closed.ensures.legal;
       counted = c.show_all.ensures.counted;
       events_are = c.into_closed.ensures.events ∙ ap (λ (b : BookState). events b.journal) book;
     }

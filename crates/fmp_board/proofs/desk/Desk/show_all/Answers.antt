@@ -26,7 +26,8 @@ loop-seat-preserved g c =
       first = i.first ++ x ∷ [];
       are = append_assoc i.first (x ∷ []) _ ∙ ap (λ (xs : List SeatState). i.first ++ xs) (sym step.0) ∙ i.are;
       counted = All-append P i.first (x ∷ []) i.counted
-          (All-cons P x [] (counted_by _ _ _ x c.show.new.seat _ c.show.ensures.visited c.show.ensures.mine (c.show.ensures.seen ∙ ap (λ b. b.journal) (c.show.ensures.book ∙ i.book))) (All-nil P));
+          (All-cons P x [] (counted_by _ _ _ x c.show.new.seat _ c.show.ensures.visited c.show.ensures.mine
+          (c.show.ensures.seen ∙ ap (λ b. b.journal) (c.show.ensures.book ∙ i.book))) (All-nil P));
       book = search rules;
       at = rest_at _ _ _ _ i.at step.0;
       size = search rules;

@@ -4,7 +4,8 @@ use Rattle.std.specs.declared.vec.Vec.{Vec}
 use Rattle.fmp_schedules.specs.declared.section.Section.{Section}
 use Rattle.fmp_live.specs.LiveLocals.{live_tables}
 use Rattle.fmp_visited.specs.Seen.{Adds}
-use Rattle.fmp_explore.proofs.SearchStepLemmas.{adds_known, adds_new, adds_none, keeps_known, keeps_new, keeps_none, row_of_kernel}
+use Rattle.fmp_explore.proofs.SearchStepLemmas.{adds_known, adds_new, adds_none, keeps_known, keeps_new, keeps_none}
+use Rattle.fmp_explore.proofs.SearchStepLemmas.{row_of_kernel}
 use Rattle.fmp_explore.proofs.searches.Search.keep.Goals as goal
 
 pub returns-in_ok-push-in-New : goal.returns-in_ok-push-in-New

@@ -19,7 +19,8 @@ returns-in-Nothing-clause-state g c =
     let x = applied r.system (g.B.Body.meaning r.body) r.world c.args.p (ending c.args.s) in
     let e = c.apply-effect.ensures in
     let n = by_number r.system (g.B.Body.meaning r.body) r.world c.args.p (ending c.args.s) (omega arith) in
-    rw (← c.self.view_is) (view_nothing x r c.apply-effect.new.self k.stamps k.done k.taken (sym c.in-Nothing.is ∙ e.effect ∙ ap effect_of n) (e.after ∙ ap (done_or (done_of r)) n) e.bodies)
+    rw (← c.self.view_is) (view_nothing x r c.apply-effect.new.self k.stamps k.done k.taken
+    (sym c.in-Nothing.is ∙ e.effect ∙ ap effect_of n) (e.after ∙ ap (done_or (done_of r)) n) e.bodies)
 
 pub returns-in-Done-clause-state : goal.returns-in-Done-clause-state
 returns-in-Done-clause-state g c =
@@ -30,7 +31,8 @@ returns-in-Done-clause-state g c =
     let n = by_number r.system (g.B.Body.meaning r.body) r.world c.args.p (ending c.args.s) (omega arith) in
     rw (← c.self.view_is) (view_done x r c.apply-effect.new.self k.stamps c.count.new.self k.done k.taken
     (sym c.in-Done.is ∙ e.effect ∙ ap effect_of n) (e.after ∙ ap (done_or (done_of r)) n) e.bodies
-    (applied-stamps r.system (g.B.Body.meaning r.body) (done_of r) (done_of c.apply-effect.new.self) _ (ending c.args.s) k.stamps c.count.new.self c.self.invariant.1
+    (applied-stamps r.system (g.B.Body.meaning r.body) (done_of r) (done_of c.apply-effect.new.self) _
+    (ending c.args.s) k.stamps c.count.new.self c.self.invariant.1
     (sym c.in-Done.is ∙ e.effect) e.after (rw (← c.lines.ensures.lines) c.count.ensures)))
 
 pub count-requires-clause-few : goal.count-requires-clause-few
@@ -47,10 +49,13 @@ invariant_of-self-in-Done g c =
     let n = by_number r.system (g.B.Body.meaning r.body) r.world c.args.p (ending c.args.s) (omega arith) in
     let sys : SystemTables = r.system in (
       record { time = omega (arith, early.time, e.clock); few = omega (arith, early.few); early = omega (arith, few) },
-      rw e.bodies.system (settled_applied sys (g.B.Body.meaning r.body) (done_of r) (done_of c.apply-effect.new.self) _ (ending c.args.s) settled
+      rw e.bodies.system (settled_applied sys (g.B.Body.meaning r.body) (done_of r)
+          (done_of c.apply-effect.new.self) _ (ending c.args.s) settled
           (rw (← e.bodies.system) c.world_is_whole.ensures) e.after),
-      rw e.bodies.system (stamps_after k.stamps c.count.new.self sys.processors k.taken (place_run c.apply-effect.new.self.lines) r.world.state c.apply-effect.new.self.world.state stamps
-          (applied-stamps r.system (g.B.Body.meaning r.body) (done_of r) (done_of c.apply-effect.new.self) _ (ending c.args.s) k.stamps c.count.new.self c.self.invariant.1
+      rw e.bodies.system (stamps_after k.stamps c.count.new.self sys.processors k.taken
+          (place_run c.apply-effect.new.self.lines) r.world.state c.apply-effect.new.self.world.state stamps
+          (applied-stamps r.system (g.B.Body.meaning r.body) (done_of r) (done_of c.apply-effect.new.self) _
+          (ending c.args.s) k.stamps c.count.new.self c.self.invariant.1
           (sym c.in-Done.is ∙ e.effect) e.after (rw (← c.lines.ensures.lines) c.count.ensures))),
     )
 
@@ -79,10 +84,12 @@ returns-in-Kept-clause-state g c =
     rw (← c.self.view_is) (view_kept x r c.apply-effect.new.self k.stamps c.count_kept.new.self k.done k.taken ran
     (sym c.in-Kept.is ∙ e.effect ∙ ap effect_of n)
     (subst (λ (y : Reaction _). RanOn ran y) n
-    (ran-applied_by r.system M r.world (c.args.p - 1) (actor_of (processor_at r.world.state (c.args.p - 1))) (ending c.args.s)))
+    (ran-applied_by r.system M r.world (c.args.p - 1) (actor_of (processor_at r.world.state (c.args.p - 1)))
+    (ending c.args.s)))
     (e.after ∙ ap (done_or (done_of r)) n) e.bodies
     (kept_is k.stamps c.count_kept.new.self ran r.world.state c.apply-effect.new.self.world.state
-    (kept_after_stretch r.system (g.B.Body.meaning r.body) (done_of r) (done_of c.apply-effect.new.self) _ (ending c.args.s)
+    (kept_after_stretch r.system (g.B.Body.meaning r.body) (done_of r) (done_of c.apply-effect.new.self) _
+    (ending c.args.s)
     (sym c.in-Kept.is ∙ e.effect) e.after) c.count_kept.ensures))
 
 pub count_kept-requires : goal.count_kept-requires
@@ -98,10 +105,14 @@ invariant_of-self-in-Kept g c =
     let e = c.apply-effect.ensures in
     let sys : SystemTables = r.system in (
       record { time = omega (arith, early.time, e.clock); few = omega (arith, early.few); early = omega (arith, few) },
-      rw e.bodies.system (settled_applied sys (g.B.Body.meaning r.body) (done_of r) (done_of c.apply-effect.new.self) _ (ending c.args.s) settled
+      rw e.bodies.system (settled_applied sys (g.B.Body.meaning r.body) (done_of r)
+          (done_of c.apply-effect.new.self) _ (ending c.args.s) settled
           (rw (← e.bodies.system) c.world_is_whole.ensures) e.after),
-      rw e.bodies.system (stamps_after k.stamps c.count_kept.new.self sys.processors k.taken (Some (c.args.p - 1)) r.world.state c.apply-effect.new.self.world.state stamps
-          (kept_is k.stamps c.count_kept.new.self (Some (c.args.p - 1)) r.world.state c.apply-effect.new.self.world.state
-          (kept_after_stretch r.system (g.B.Body.meaning r.body) (done_of r) (done_of c.apply-effect.new.self) _ (ending c.args.s)
+      rw e.bodies.system (stamps_after k.stamps c.count_kept.new.self sys.processors k.taken
+          (Some (c.args.p - 1)) r.world.state c.apply-effect.new.self.world.state stamps
+          (kept_is k.stamps c.count_kept.new.self (Some (c.args.p - 1)) r.world.state
+          c.apply-effect.new.self.world.state
+          (kept_after_stretch r.system (g.B.Body.meaning r.body) (done_of r) (done_of c.apply-effect.new.self) _
+          (ending c.args.s)
           (sym c.in-Kept.is ∙ e.effect) e.after) c.count_kept.ensures)),
     )

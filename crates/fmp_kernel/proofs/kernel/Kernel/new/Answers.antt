@@ -14,7 +14,8 @@ invariant_of-result g c =
     let M = g.B.Body.meaning r.body in
     let world = ap (λ (d : Done _). d.world) c.set_up.ensures.after in
     let whole = rw (world, c.set_up.ensures.bodies.system) at c.world_is_whole.ensures in
-    let settled = subst (λ (w : World _). IsSettledWorld r.system w) (sym world) (setup-settled_world r.system M whole) in
+    let settled = subst (λ (w : World _). IsSettledWorld r.system w) (sym world)
+    (setup-settled_world r.system M whole) in
     let now = c.set_up.new.self in
     let same : now.system.processors ≡ c.args.sys.now.processors =
     ap (λ (s : SystemTables). s.processors) c.set_up.ensures.bodies.system

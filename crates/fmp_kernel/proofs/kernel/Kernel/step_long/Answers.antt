@@ -15,7 +15,8 @@ returns-in-Nothing-clause-state g c =
     let r = k.runner in
     let x = step r.system (g.B.Body.meaning r.body) r.bound r.world c.args.e in
     let e = c.react-effect.ensures in
-    rw (← c.self.view_is) (view_nothing x r c.react-effect.new.self k.stamps k.done k.taken (sym c.in-Nothing.is ∙ e.effect) e.after e.bodies)
+    rw (← c.self.view_is) (view_nothing x r c.react-effect.new.self k.stamps k.done k.taken
+    (sym c.in-Nothing.is ∙ e.effect) e.after e.bodies)
 
 pub returns-in-Done-clause-state : goal.returns-in-Done-clause-state
 returns-in-Done-clause-state g c =
@@ -23,9 +24,12 @@ returns-in-Done-clause-state g c =
     let r = k.runner in
     let x = step r.system (g.B.Body.meaning r.body) r.bound r.world c.args.e in
     let e = c.react-effect.ensures in
-    rw (← c.self.view_is) (view_done x r c.react-effect.new.self k.stamps c.count.new.self k.done k.taken (sym c.in-Done.is ∙ e.effect) e.after e.bodies
-    (step-stamps r.system (g.B.Body.meaning r.body) r.bound (done_of r) (done_of c.react-effect.new.self) c.args.e k.stamps c.count.new.self c.self.invariant.1
-    (sym c.in-Done.is ∙ e.effect) e.after (rw (← c.run_place-in-Done.ensures, ← c.lines.ensures.lines) c.count.ensures)))
+    rw (← c.self.view_is) (view_done x r c.react-effect.new.self k.stamps c.count.new.self k.done k.taken
+    (sym c.in-Done.is ∙ e.effect) e.after e.bodies
+    (step-stamps r.system (g.B.Body.meaning r.body) r.bound (done_of r)
+    (done_of c.react-effect.new.self) c.args.e k.stamps c.count.new.self c.self.invariant.1
+    (sym c.in-Done.is ∙ e.effect) e.after (rw (← c.run_place-in-Done.ensures, ← c.lines.ensures.lines)
+    c.count.ensures)))
 
 pub count-requires-clause-few : goal.count-requires-clause-few
 count-requires-clause-few g c =
@@ -40,11 +44,15 @@ invariant_of-self-in-Done g c =
     let e = c.react-effect.ensures in
     let sys : SystemTables = r.system in (
       record { time = omega (arith, early.time, e.clock); few = omega (arith, early.few); early = omega (arith, few) },
-      rw e.bodies.system (settled_after sys (g.B.Body.meaning r.body) r.bound (done_of r) (done_of c.react-effect.new.self) c.args.e settled
+      rw e.bodies.system (settled_after sys (g.B.Body.meaning r.body) r.bound (done_of r)
+          (done_of c.react-effect.new.self) c.args.e settled
           (rw (← e.bodies.system) c.world_is_whole.ensures) e.after),
-      rw e.bodies.system (stamps_after k.stamps c.count.new.self sys.processors k.taken (place_run c.react-effect.new.self.lines) r.world.state c.react-effect.new.self.world.state stamps
-          (step-stamps r.system (g.B.Body.meaning r.body) r.bound (done_of r) (done_of c.react-effect.new.self) c.args.e k.stamps c.count.new.self c.self.invariant.1
-          (sym c.in-Done.is ∙ e.effect) e.after (rw (← c.run_place-in-Done.ensures, ← c.lines.ensures.lines) c.count.ensures))),
+      rw e.bodies.system (stamps_after k.stamps c.count.new.self sys.processors k.taken
+          (place_run c.react-effect.new.self.lines) r.world.state c.react-effect.new.self.world.state stamps
+          (step-stamps r.system (g.B.Body.meaning r.body) r.bound (done_of r)
+          (done_of c.react-effect.new.self) c.args.e k.stamps c.count.new.self c.self.invariant.1
+          (sym c.in-Done.is ∙ e.effect) e.after (rw (← c.run_place-in-Done.ensures, ← c.lines.ensures.lines)
+          c.count.ensures))),
     )
 
 pub returns-in-Kept-clause-state : goal.returns-in-Kept-clause-state
@@ -55,7 +63,8 @@ returns-in-Kept-clause-state g c =
     let e = c.react-effect.ensures in
     let ran = run_place c.args.e in
     rw (← c.self.view_is) (view_kept x r c.react-effect.new.self k.stamps c.count_kept.new.self k.done k.taken ran
-    (sym c.in-Kept.is ∙ e.effect) (ran-step r.system (g.B.Body.meaning r.body) r.bound r.world c.args.e) e.after e.bodies
+    (sym c.in-Kept.is ∙ e.effect) (ran-step r.system (g.B.Body.meaning r.body) r.bound r.world c.args.e) e.after
+    e.bodies
     (kept_is k.stamps c.count_kept.new.self ran r.world.state c.react-effect.new.self.world.state
     (kept_after_step r.system (g.B.Body.meaning r.body) r.bound (done_of r) (done_of c.react-effect.new.self) c.args.e
     (sym c.in-Kept.is ∙ e.effect) e.after) (rw (← c.run_place.ensures) c.count_kept.ensures)))
@@ -73,10 +82,13 @@ invariant_of-self-in-Kept g c =
     let e = c.react-effect.ensures in
     let sys : SystemTables = r.system in (
       record { time = omega (arith, early.time, e.clock); few = omega (arith, early.few); early = omega (arith, few) },
-      rw e.bodies.system (settled_after sys (g.B.Body.meaning r.body) r.bound (done_of r) (done_of c.react-effect.new.self) c.args.e settled
+      rw e.bodies.system (settled_after sys (g.B.Body.meaning r.body) r.bound (done_of r)
+          (done_of c.react-effect.new.self) c.args.e settled
           (rw (← e.bodies.system) c.world_is_whole.ensures) e.after),
-      rw e.bodies.system (stamps_after k.stamps c.count_kept.new.self sys.processors k.taken (run_place c.args.e) r.world.state c.react-effect.new.self.world.state stamps
+      rw e.bodies.system (stamps_after k.stamps c.count_kept.new.self sys.processors k.taken
+          (run_place c.args.e) r.world.state c.react-effect.new.self.world.state stamps
           (kept_is k.stamps c.count_kept.new.self (run_place c.args.e) r.world.state c.react-effect.new.self.world.state
-          (kept_after_step r.system (g.B.Body.meaning r.body) r.bound (done_of r) (done_of c.react-effect.new.self) c.args.e
+          (kept_after_step r.system (g.B.Body.meaning r.body) r.bound (done_of r)
+          (done_of c.react-effect.new.self) c.args.e
           (sym c.in-Kept.is ∙ e.effect) e.after) (rw (← c.run_place.ensures) c.count_kept.ensures))),
     )

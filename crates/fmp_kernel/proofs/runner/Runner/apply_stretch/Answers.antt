@@ -14,7 +14,8 @@ returns-clause-effect g c =
     let made = rw (c.take-stop.ensures.kept, c.take-stop.ensures.stop) at c.carry_out_stop.ensures.effect in
     made
     ∙ ap effect_of (stops_so M r c.args.p c.args.who x (ending_hands c.args.stretch)
-    ∙ applies_as r.system M r.world c.args.p c.args.who (context_of r.world.contexts c.args.p c.args.who) x c.requires.goes)
+    ∙ applies_as r.system M r.world c.args.p c.args.who (context_of r.world.contexts c.args.p c.args.who) x
+    c.requires.goes)
 
 pub returns-clause-after : goal.returns-clause-after
 returns-clause-after g c =
@@ -26,4 +27,5 @@ returns-clause-after g c =
     made
     ∙ ap (done_or (done_of (with_stretch r c.args.p c.args.who x))) (stops_so M r c.args.p c.args.who x hands)
     ∙ done_free M r c.args.p c.args.who x hands c.requires.free
-    ∙ ap (done_or (done_of r)) (applies_as r.system M r.world c.args.p c.args.who (context_of r.world.contexts c.args.p c.args.who) x c.requires.goes)
+    ∙ ap (done_or (done_of r)) (applies_as r.system M r.world c.args.p c.args.who
+    (context_of r.world.contexts c.args.p c.args.who) x c.requires.goes)

@@ -13,7 +13,8 @@ carry_out_or_spin-requires-clause-kept g c =
     let r = c.args.self.now in
     let M = g.B.Body.meaning r.body in
     let has = going_has r.world.contexts c.args.p c.args.who c.requires.goes in
-    rw (c.take-stop.ensures.kept, c.take-stop.ensures.stop) (call_there M r c.args.p c.args.who (ending c.args.stretch) has)
+    rw (c.take-stop.ensures.kept, c.take-stop.ensures.stop) (call_there M r c.args.p c.args.who
+    (ending c.args.stretch) has)
 
 pub carry_out_or_spin-requires-clause-context : goal.carry_out_or_spin-requires-clause-context
 carry_out_or_spin-requires-clause-context g c =
@@ -22,7 +23,8 @@ carry_out_or_spin-requires-clause-context g c =
     let first = c.first_context-first.result in
     let has = going_has r.world.contexts c.args.p c.args.who c.requires.goes in
     rw (c.take-stop.ensures.kept, c.take-stop.ensures.stop)
-    (λ e. subst (λ (n : ℕ). g.B.Body.is_context r.body n first) (sym (call_body M r c.args.p c.args.who (ending c.args.stretch) has e))
+    (λ e. subst (λ (n : ℕ). g.B.Body.is_context r.body n first) (sym (call_body M r c.args.p c.args.who
+    (ending c.args.stretch) has e))
     c.first_context-first.ensures.context)
 
 pub returns-clause-effect : goal.returns-clause-effect
@@ -31,7 +33,9 @@ returns-clause-effect g c =
     let M = g.B.Body.meaning r.body in
     let x = ending c.args.stretch in
     let made = rw (c.take-stop.ensures.kept, c.take-stop.ensures.stop) at c.carry_out_or_spin.ensures.effect in
-    made ∙ ap effect_of (stops_so M r c.args.p c.args.who x (ending_hands c.args.stretch) ∙ applies_as r.system M r.world c.args.p c.args.who (context_of r.world.contexts c.args.p c.args.who) x c.requires.goes)
+    made ∙ ap effect_of (stops_so M r c.args.p c.args.who x (ending_hands c.args.stretch)
+    ∙ applies_as r.system M r.world c.args.p c.args.who (context_of r.world.contexts c.args.p c.args.who) x
+    c.requires.goes)
 
 pub returns-clause-after : goal.returns-clause-after
 returns-clause-after g c =
@@ -46,4 +50,5 @@ returns-clause-after g c =
     (with_context (with_stretch r c.args.p c.args.who x).world.contexts c.args.p c.args.who (Some (Goes first)))))
     (stops_so M r c.args.p c.args.who x (ending_hands c.args.stretch))
     ∙ done_again M r c.args.p c.args.who x first (ending_hands c.args.stretch) c.first_context-first.ensures.value has
-    ∙ ap (done_or (done_of r)) (applies_as r.system M r.world c.args.p c.args.who (context_of r.world.contexts c.args.p c.args.who) x c.requires.goes)
+    ∙ ap (done_or (done_of r)) (applies_as r.system M r.world c.args.p c.args.who
+    (context_of r.world.contexts c.args.p c.args.who) x c.requires.goes)

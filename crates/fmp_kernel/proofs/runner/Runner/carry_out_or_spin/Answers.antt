@@ -29,7 +29,8 @@ go_back-requires-clause-context g c =
     let same = e.after ∙ same_after y (done_of r) nothing in
     let first = c.args.first.now in
     rw (e.bodies.body, e.bodies.system)
-    (subst (λ (d : Done _). g.B.Body.is_context r.body (caller_body r.system d.world.contexts c.args.p c.args.who) first) (sym same)
+    (subst (λ (d : Done _). g.B.Body.is_context r.body (caller_body r.system d.world.contexts c.args.p c.args.who)
+    first) (sym same)
     (c.requires.context (nothing_calls r.system M r.world c.args.p c.args.who c.args.stop.now nothing)))
 
 pub returns-in-Nothing-clause-after : goal.returns-in-Nothing-clause-after
@@ -43,7 +44,8 @@ returns-in-Nothing-clause-after g c =
     let first = c.args.first.now in
     rw c.go_back.ensures
     (ap (λ (d : Done _). with_contexts d (with_context d.world.contexts c.args.p c.args.who (Some (Goes first)))) same
-    ∙ sym (same_after y (with_contexts (done_of r) (with_context r.world.contexts c.args.p c.args.who (Some (Goes first)))) nothing))
+    ∙ sym (same_after y (with_contexts (done_of r) (with_context r.world.contexts c.args.p c.args.who
+    (Some (Goes first)))) nothing))
 
 pub returns-in-Done-clause-after : goal.returns-in-Done-clause-after
 returns-in-Done-clause-after g c =

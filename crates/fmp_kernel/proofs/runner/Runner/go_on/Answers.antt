@@ -12,7 +12,8 @@ invariant_of-self g c =
     let (room, places, entries, fitting) = c.self.invariant in
     let goes = rw (← c.self.view_is) at c.requires in
     let after = kept_after (stretched_from (g.B.Body.meaning r.body) c.entry_of-entry.result r.bound held) in
-    let fits = subst (λ (n : ℕ). OfOption (OfHeld (g.B.Body.is_context r.body n)) after) c.entry_of-entry.ensures c.stretch.ensures.fits in
+    let fits = subst (λ (n : ℕ). OfOption (OfHeld (g.B.Body.is_context r.body n)) after) c.entry_of-entry.ensures
+    c.stretch.ensures.fits in
     rw c.stretch.ensures.contexts (
       room,
       places_set cs c.args.p c.args.who after places,

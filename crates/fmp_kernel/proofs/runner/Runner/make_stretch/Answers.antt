@@ -22,6 +22,8 @@ returns-clause-after g c =
     let x = stretch_in g.B.Body.meaning r c.args.p c.args.who in
     let made = rw (c.go_on-stop.ensures.kept, c.go_on-stop.ensures.stop) at c.carry_out_stop.ensures.after in
     made
-    ∙ ap (done_or (done_of (with_stretch r c.args.p c.args.who x))) (stops_so M r c.args.p c.args.who x c.go_on-stop.ensures.hands_over)
+    ∙ ap (done_or (done_of (with_stretch r c.args.p c.args.who x))) (stops_so M r c.args.p c.args.who x
+    c.go_on-stop.ensures.hands_over)
     ∙ done_free M r c.args.p c.args.who x c.go_on-stop.ensures.hands_over c.requires.free
-    ∙ ap (done_or (done_of r)) (runs_as r.system M r.bound r.world c.args.p c.args.who (context_of r.world.contexts c.args.p c.args.who))
+    ∙ ap (done_or (done_of r)) (runs_as r.system M r.bound r.world c.args.p c.args.who
+    (context_of r.world.contexts c.args.p c.args.who))

@@ -12,7 +12,8 @@ carry_out_or_spin-requires-clause-kept g c =
     let r = c.args.self.now in
     let M = g.B.Body.meaning r.body in
     let has = going_has r.world.contexts c.args.p c.args.who c.requires.goes in
-    rw (c.go_on-stop.ensures.kept, c.go_on-stop.ensures.stop) (call_there M r c.args.p c.args.who (stretch_in g.B.Body.meaning r c.args.p c.args.who) has)
+    rw (c.go_on-stop.ensures.kept, c.go_on-stop.ensures.stop) (call_there M r c.args.p c.args.who
+    (stretch_in g.B.Body.meaning r c.args.p c.args.who) has)
 
 pub carry_out_or_spin-requires-clause-context : goal.carry_out_or_spin-requires-clause-context
 carry_out_or_spin-requires-clause-context g c =
@@ -21,7 +22,8 @@ carry_out_or_spin-requires-clause-context g c =
     let first = c.first_context-first.result in
     let has = going_has r.world.contexts c.args.p c.args.who c.requires.goes in
     rw (c.go_on-stop.ensures.kept, c.go_on-stop.ensures.stop)
-    (λ e. subst (λ (n : ℕ). g.B.Body.is_context r.body n first) (sym (call_body M r c.args.p c.args.who (stretch_in g.B.Body.meaning r c.args.p c.args.who) has e))
+    (λ e. subst (λ (n : ℕ). g.B.Body.is_context r.body n first) (sym (call_body M r c.args.p c.args.who
+    (stretch_in g.B.Body.meaning r c.args.p c.args.who) has e))
     c.first_context-first.ensures.context)
 
 pub returns-clause-effect : goal.returns-clause-effect
@@ -30,7 +32,8 @@ returns-clause-effect g c =
     let M = g.B.Body.meaning r.body in
     let x = stretch_in g.B.Body.meaning r c.args.p c.args.who in
     let made = rw (c.go_on-stop.ensures.kept, c.go_on-stop.ensures.stop) at c.carry_out_or_spin.ensures.effect in
-    made ∙ ap effect_of (stops_so M r c.args.p c.args.who x c.go_on-stop.ensures.hands_over ∙ runs_as r.system M r.bound r.world c.args.p c.args.who (context_of r.world.contexts c.args.p c.args.who))
+    made ∙ ap effect_of (stops_so M r c.args.p c.args.who x c.go_on-stop.ensures.hands_over
+    ∙ runs_as r.system M r.bound r.world c.args.p c.args.who (context_of r.world.contexts c.args.p c.args.who))
 
 pub returns-clause-after : goal.returns-clause-after
 returns-clause-after g c =
@@ -45,4 +48,5 @@ returns-clause-after g c =
     (with_context (with_stretch r c.args.p c.args.who x).world.contexts c.args.p c.args.who (Some (Goes first)))))
     (stops_so M r c.args.p c.args.who x c.go_on-stop.ensures.hands_over)
     ∙ done_again M r c.args.p c.args.who x first c.go_on-stop.ensures.hands_over c.first_context-first.ensures.value has
-    ∙ ap (done_or (done_of r)) (runs_as r.system M r.bound r.world c.args.p c.args.who (context_of r.world.contexts c.args.p c.args.who))
+    ∙ ap (done_or (done_of r)) (runs_as r.system M r.bound r.world c.args.p c.args.who
+    (context_of r.world.contexts c.args.p c.args.who))

@@ -9,14 +9,17 @@ loop-line-init c = rising_first c.args.self.now c.args.ran c.args.lines.now
 pub loop-line-preserved : goal.loop-line-preserved
 loop-line-preserved c =
     rw c.count_line.ensures
-    (rising_on c.args.self.now c.loop-line.self c.args.ran c.args.lines.now _ (drop (c.loop-line.line-index + 1) c.args.lines.now)
+    (rising_on c.args.self.now c.loop-line.self c.args.ran c.args.lines.now _
+    (drop (c.loop-line.line-index + 1) c.args.lines.now)
     (subst (λ (xs : List Line). Rising c.args.self.now c.loop-line.self c.args.ran c.args.lines.now xs)
     (rw add-one (drop-cons c.args.lines.now c.loop-line.line-index _ c.loop-line-test.true)) c.loop-line.invariant))
 
 pub count_line-requires : goal.count_line-requires
 count_line-requires c =
-    rising_few c.args.self.now c.loop-line.self c.args.ran c.args.lines.now _ c.loop-line.invariant c.requires.few c.requires.short
+    rising_few c.args.self.now c.loop-line.self c.args.ran c.args.lines.now _ c.loop-line.invariant c.requires.few
+    c.requires.short
 
 pub returns : goal.returns
 returns c =
-    rising_all c.args.self.now c.loop-line.self c.args.ran c.args.lines.now c.loop-line.line-index c.loop-line-test.false c.loop-line.invariant
+    rising_all c.args.self.now c.loop-line.self c.args.ran c.args.lines.now c.loop-line.line-index
+    c.loop-line-test.false c.loop-line.invariant

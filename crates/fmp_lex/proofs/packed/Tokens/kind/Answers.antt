@@ -10,7 +10,8 @@ kind_of-requires c =
 pub returns-then-at-self-clause-value : goal.returns-then-at-self-clause-value
 returns-then-at-self-clause-value c =
     let inside = c.self.inside in
-    rw (← c.self.view_is) (part_kind_absent inside.text.now inside.first inside.packed.items c.args.at c.if-at-self.true)
+    rw (← c.self.view_is) (part_kind_absent inside.text.now inside.first inside.packed.items c.args.at
+    c.if-at-self.true)
 
 pub returns-else-at-self-clause-value : goal.returns-else-at-self-clause-value
 returns-else-at-self-clause-value c =

@@ -9,7 +9,8 @@ pub returns-clause-passed : goal.returns-clause-passed
 returns-clause-passed c = λ before passed.
     let window = c.args.self.now in
     passed_hold window _ before (map (whole_in window.text.now) c.in_ok-part.part.packed.items) c.args.at
-    c.start-start.result refl c.part.ensures (c.start-start.ensures.passed before passed) c.in_ok-part.ensures.cut passed
+    c.start-start.result refl c.part.ensures (c.start-start.ensures.passed before passed) c.in_ok-part.ensures.cut
+    passed
 
 pub returns-clause-within : goal.returns-clause-within
 returns-clause-within c = λ more.

@@ -28,15 +28,23 @@ link-requires-2-clause-to c =
 pub invariant_of-self : goal.invariant_of-self
 invariant_of-self c =
     let there : c.args.h < c.self.inside.heads = rw (← c.self.view_is, length-lists_of) at c.requires.head in
-    let free : is_linked c.args.x (lists_of c.self.inside.nodes c.self.inside.heads c.self.inside.next) ≡ false = rw (← c.self.view_is) at c.requires.free in
+    let free : is_linked c.args.x (lists_of c.self.inside.nodes c.self.inside.heads c.self.inside.next)
+    ≡ false = rw (← c.self.view_is) at c.requires.free in
     let low : c.args.x < c.self.inside.nodes = rw (← c.self.view_is) at c.requires.node in
-    rw (c.link-2.ensures.next, c.link-2.ensures.previous, c.link.ensures.next, c.link.ensures.previous, c.get-last.ensures.link)
+    rw (
+      c.link-2.ensures.next,
+      c.link-2.ensures.previous,
+      c.link.ensures.next,
+      c.link.ensures.previous,
+      c.get-last.ensures.link,
+    )
     (AreRings-pushed _ _ _ _ _ _ c.self.invariant low there free).1
 
 pub returns-clause-lists : goal.returns-clause-lists
 returns-clause-lists c =
     let there : c.args.h < c.self.inside.heads = rw (← c.self.view_is, length-lists_of) at c.requires.head in
-    let free : is_linked c.args.x (lists_of c.self.inside.nodes c.self.inside.heads c.self.inside.next) ≡ false = rw (← c.self.view_is) at c.requires.free in
+    let free : is_linked c.args.x (lists_of c.self.inside.nodes c.self.inside.heads c.self.inside.next)
+    ≡ false = rw (← c.self.view_is) at c.requires.free in
     let low : c.args.x < c.self.inside.nodes = rw (← c.self.view_is) at c.requires.node in
     rw (← c.self.view_is, c.link-2.ensures.next, c.link.ensures.next, c.get-last.ensures.link)
     (ap (lists_for c.self.inside.nodes) (AreRings-pushed _ _ _ _ _ _ c.self.invariant low there free).0)

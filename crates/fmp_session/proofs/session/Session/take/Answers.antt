@@ -2,7 +2,8 @@ use Rattle.std.proofs.Common.{◌≡◌, ◌∙◌, [], ◌∷◌, length, lengt
 use Rattle.fmp_base.specs.Steps.{IsTaken}
 use Rattle.fmp_replay.proofs.Replaying.{step_of_replay}
 use Rattle.fmp_session.specs.Sessions.{taken_by}
-use Rattle.fmp_session.proofs.Following.{Kernels, done_taken, kept_taken, kernel_more, legal_more, step_on, taken_done, taken_kept, taken_nothing}
+use Rattle.fmp_session.proofs.Following.{Kernels, done_taken, kept_taken, kernel_more, legal_more, step_on, taken_done}
+use Rattle.fmp_session.proofs.Following.{taken_kept, taken_nothing}
 use Rattle.fmp_session.proofs.session.Session.take.Goals as goal
 
 pub returns-in-Done-clause-session : goal.returns-in-Done-clause-session
@@ -17,9 +18,11 @@ returns-in-Done-clause-session c =
       few = rw c.in_ok-push.ensures.items
           (omega (arith, length-append es (c.args.e ∷ []), c.taken.ensures.value, was, c.if-taken-ge-MOST.false));
       legal = rw c.in_ok-push.ensures.items
-          (legal_more s.image.now s.bound es c.args.e s.kernel c.step.new.self c.requires.legal c.requires.kernel does c.step.ensures.state);
+          (legal_more s.image.now s.bound es c.args.e s.kernel c.step.new.self c.requires.legal c.requires.kernel does
+          c.step.ensures.state);
       kernel = rw c.in_ok-push.ensures.items
-          (kernel_more s.image.now s.bound es c.args.e s.kernel c.step.new.self c.requires.legal c.requires.kernel does c.step.ensures.state);
+          (kernel_more s.image.now s.bound es c.args.e s.kernel c.step.new.self c.requires.legal c.requires.kernel
+          does c.step.ensures.state);
     }
 
 pub returns-in-Done-clause-exact : goal.returns-in-Done-clause-exact
@@ -40,9 +43,11 @@ returns-in-Kept-clause-session c =
       few = rw c.in_ok-push.ensures.items
           (omega (arith, length-append es (c.args.e ∷ []), c.taken.ensures.value, was, c.if-taken-ge-MOST.false));
       legal = rw c.in_ok-push.ensures.items
-          (legal_more s.image.now s.bound es c.args.e s.kernel c.step.new.self c.requires.legal c.requires.kernel does c.step.ensures.state);
+          (legal_more s.image.now s.bound es c.args.e s.kernel c.step.new.self c.requires.legal c.requires.kernel does
+          c.step.ensures.state);
       kernel = rw c.in_ok-push.ensures.items
-          (kernel_more s.image.now s.bound es c.args.e s.kernel c.step.new.self c.requires.legal c.requires.kernel does c.step.ensures.state);
+          (kernel_more s.image.now s.bound es c.args.e s.kernel c.step.new.self c.requires.legal c.requires.kernel
+          does c.step.ensures.state);
     }
 
 pub returns-in-Kept-clause-exact : goal.returns-in-Kept-clause-exact

@@ -46,5 +46,6 @@ returns-then-not-index-clause-value c =
     let there : c.args.p < c.self.inside.processors = rw (← c.self.view_is) at c.requires in
     rw (← c.self.view_is) (first-is_none _ _ (marks_view c.self.inside) c.args.p c.self.invariant.bitmaps there
     (omega (arith, c.self.invariant.interrupts)) c.self.invariant.few
-    (quiet-clear c.self.inside.words.items c.self.inside.busy.items c.args.p c.index.result.now c.self.invariant.quiet c.index.ensures c.if-not-index.true
+    (quiet-clear c.self.inside.words.items c.self.inside.busy.items c.args.p c.index.result.now c.self.invariant.quiet
+    c.index.ensures c.if-not-index.true
     (omega (arith, there, c.self.invariant.busy))))

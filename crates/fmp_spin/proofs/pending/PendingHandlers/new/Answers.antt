@@ -8,8 +8,10 @@ use Rattle.fmp_spin.proofs.pending.PendingHandlers.new.Goals as goal
 pub invariant_of-result : goal.invariant_of-result
 invariant_of-result c =
     let sys = tables_of c.args.sys.now in
-    let is : c.in_ok-interrupt_processors.interrupt_processors.items ≡ (handler_processors sys).interrupts = rw c.as_slice.ensures.value at c.in_ok-interrupt_processors.ensures in
-    let cs : c.in_ok-cyclic_processors.cyclic_processors.items ≡ (handler_processors sys).cyclics = rw c.as_slice-2.ensures.value at c.in_ok-cyclic_processors.ensures in
+    let is : c.in_ok-interrupt_processors.interrupt_processors.items
+    ≡ (handler_processors sys).interrupts = rw c.as_slice.ensures.value at c.in_ok-interrupt_processors.ensures in
+    let cs : c.in_ok-cyclic_processors.cyclic_processors.items
+    ≡ (handler_processors sys).cyclics = rw c.as_slice-2.ensures.value at c.in_ok-cyclic_processors.ensures in
     let few : length c.in_ok-cyclics.cyclics.items ≡ length sys.cyclics =
     ap length c.in_ok-cyclics.ensures ∙ length-replicate _ _ ∙ c.len.ensures ∙ sym c.as_slice-2.ensures.len ∙ ap
     length c.as_slice-2.ensures.value in
@@ -28,7 +30,10 @@ invariant_of-result c =
                 c.in_ok-interrupt_processors.interrupt_processors.items;
             cyclics = c.in_ok-cyclic_processors.cyclic_processors.items;
           }))
-          c.in_ok-interrupts.interrupts.items c.in_ok-cyclics.cyclics.items (c.args.sys.now.processors * 5) 32 c.len.result c.in_ok-words.ensures c.in_ok-interrupts.ensures c.in_ok-cyclics.ensures;
+          c.in_ok-interrupts.interrupts.items c.in_ok-cyclics.cyclics.items
+          (c.args.sys.now.processors * 5) 32 c.len.result c.in_ok-words.ensures c.in_ok-interrupts.ensures
+          c.in_ok-cyclics.ensures;
       busy = ap length c.in_ok-busy.ensures ∙ length-replicate _ _;
-      quiet = AreQuiet-none c.in_ok-words.words.items c.in_ok-busy.busy.items (c.args.sys.now.processors * 5) c.in_ok-words.ensures;
+      quiet = AreQuiet-none c.in_ok-words.words.items c.in_ok-busy.busy.items
+          (c.args.sys.now.processors * 5) c.in_ok-words.ensures;
     }

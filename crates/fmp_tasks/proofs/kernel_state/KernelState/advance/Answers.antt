@@ -10,7 +10,8 @@ invariant_of-self c =
     let no_cyclic = rw (← c.self.view_is) at c.requires.no_cyclic_due in
     record {
       system = c.self.invariant.system;
-      later = NoneBefore-next _ _ (ap (λ (ds : List (Option ℕ)). first_due (c.self.inside.clock + 1) ds) c.self.invariant.tasks.deadlines_kept ∙ none) c.self.invariant.later;
+      later = NoneBefore-next _ _ (ap (λ (ds : List (Option ℕ)). first_due (c.self.inside.clock + 1) ds)
+          c.self.invariant.tasks.deadlines_kept ∙ none) c.self.invariant.later;
       tasks = c.self.invariant.tasks;
       semaphores = c.self.invariant.semaphores;
       flags = c.self.invariant.flags;

@@ -15,4 +15,5 @@ returns-clause-value c =
     (record
     { processors = on; interrupts = c.self.inside.pending.interrupts; cyclics = c.self.inside.pending.cyclics })
     c.args.p) c.self.invariant.handlers
-    ∙ first_handler-is (tables_of c.self.inside.system) (tables_view c.self.inside).state c.args.p (omega (arith, is)) (omega (arith, cs)))
+    ∙ first_handler-is (tables_of c.self.inside.system) (tables_view c.self.inside).state c.args.p (omega (arith, is))
+    (omega (arith, cs)))

@@ -11,11 +11,16 @@ pub first-requires : goal.first-requires
 first-requires c =
     let tasks = c.self.invariant.tasks in
     let q : IsThere (counts_of (tables_of c.self.inside.system)) c.args.queue = rw (← c.self.view_is) at c.requires in
-    record { lent = lent tasks; queue = subst (λ (n : ObjectCounts). IsThere n c.args.queue) (sym (own_counts tasks)) q }
+    record {
+      lent = lent tasks;
+      queue = subst (λ (n : ObjectCounts). IsThere n c.args.queue) (sym
+          (own_counts tasks)) q;
+    }
 
 pub returns-clause-value : goal.returns-clause-value
 returns-clause-value c =
     let tasks = c.self.invariant.tasks in
     let q : IsThere (counts_of (tables_of c.self.inside.system)) c.args.queue = rw (← c.self.view_is) at c.requires in
-    let there : IsThere c.self.inside.waits.counts c.args.queue = subst (λ (n : ObjectCounts). IsThere n c.args.queue) (sym (own_counts tasks)) q in
+    let there : IsThere c.self.inside.waits.counts c.args.queue = subst (λ (n : ObjectCounts). IsThere n c.args.queue)
+    (sym (own_counts tasks)) q in
     rw (← c.self.view_is) (c.first.ensures.value ∙ ap first_of (wait_list tasks c.args.queue there))

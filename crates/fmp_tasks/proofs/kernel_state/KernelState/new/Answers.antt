@@ -18,7 +18,8 @@ invariant_of-result c =
     record {
       system = subst IsInRange (sym e) c.requires;
       tasks =
-          subst (λ (s : SystemTables). Sound s c.in_ok-blocks.blocks.items c.new-2.result c.in_ok-queues.queues.0 c.wait_queues-waits.result c.in_ok-queues.queues.1 c.in_ok-queues.queues.2) (sym e)
+          subst (λ (s : SystemTables). Sound s c.in_ok-blocks.blocks.items c.new-2.result c.in_ok-queues.queues.0
+          c.wait_queues-waits.result c.in_ok-queues.queues.1 c.in_ok-queues.queues.2) (sym e)
           (rw (
             c.in_ok-blocks.ensures,
             c.as_slice.ensures.value,
@@ -29,18 +30,29 @@ invariant_of-result c =
             c.in_ok-queues.ensures.deadlines,
           ) (Sound-new (tables_of c.args.sys.now) c.requires));
       later = rw c.in_ok-queues.ensures.deadlines (NoneBefore-new _ _);
-      semaphores = ap (λ (l : List ℕ). length l) c.in_ok-values.ensures.semaphores ∙ length-map _ _ ∙ ap (λ (s : SystemTables). length s.semaphores) (sym e);
-      flags = ap (λ (l : List ℕ). length l) c.in_ok-values.ensures.flags ∙ length-map _ _ ∙ ap (λ (s : SystemTables). length s.flags) (sym e);
-      data_queues = ap (λ (l : List (List ℤ)). length l) c.in_ok-contents.ensures.words ∙ length-replicate _ _ ∙ ap (λ (s : SystemTables). length s.data_queues) (sym e);
-      mailboxes = ap (λ (h : RingLists). length h.lists) c.in_ok-contents.ensures.mailboxes ∙ length-replicate _ _ ∙ ap (λ (s : SystemTables). length s.mailboxes) (sym e);
-      messages = ap (λ (h : RingLists). h.nodes) c.in_ok-contents.ensures.mailboxes ∙ ap (λ (s : SystemTables). length s.messages) (sym e);
-      shared_words = ap (λ (l : List ℤ). length l) c.in_ok-values.ensures.shared_words ∙ length-map _ _ ∙ ap (λ (s : SystemTables). length s.shared_words) (sym e);
-      processors = ap (λ (l : List Processor). length l) c.in_ok-processors.ensures ∙ length-replicate _ _ ∙ ap (λ (s : SystemTables). s.processors) (sym e);
-      cyclics = ap (λ (l : List (Option ℕ)). length l) c.in_ok-handlers.ensures.due_times ∙ length-map _ _ ∙ ap (λ (s : SystemTables). length s.cyclics) (sym e);
+      semaphores = ap (λ (l : List ℕ). length l) c.in_ok-values.ensures.semaphores ∙ length-map _ _
+          ∙ ap (λ (s : SystemTables). length s.semaphores) (sym e);
+      flags = ap (λ (l : List ℕ). length l) c.in_ok-values.ensures.flags ∙ length-map _ _
+          ∙ ap (λ (s : SystemTables). length s.flags) (sym e);
+      data_queues = ap (λ (l : List (List ℤ)). length l) c.in_ok-contents.ensures.words ∙ length-replicate _ _
+          ∙ ap (λ (s : SystemTables). length s.data_queues) (sym e);
+      mailboxes = ap (λ (h : RingLists). length h.lists) c.in_ok-contents.ensures.mailboxes ∙ length-replicate _ _
+          ∙ ap (λ (s : SystemTables). length s.mailboxes) (sym e);
+      messages = ap (λ (h : RingLists). h.nodes) c.in_ok-contents.ensures.mailboxes
+          ∙ ap (λ (s : SystemTables). length s.messages) (sym e);
+      shared_words = ap (λ (l : List ℤ). length l) c.in_ok-values.ensures.shared_words ∙ length-map _ _
+          ∙ ap (λ (s : SystemTables). length s.shared_words) (sym e);
+      processors = ap (λ (l : List Processor). length l) c.in_ok-processors.ensures ∙ length-replicate _ _
+          ∙ ap (λ (s : SystemTables). s.processors) (sym e);
+      cyclics = ap (λ (l : List (Option ℕ)). length l) c.in_ok-handlers.ensures.due_times ∙ length-map _ _
+          ∙ ap (λ (s : SystemTables). length s.cyclics) (sym e);
       due_later = rw c.in_ok-handlers.ensures.due_times (due_times_new _);
-      handlers = ap (λ (h : PendingMarks). h.processors) c.in_ok-handlers.ensures.pending ∙ ap handler_processors (sym e);
-      pending_cyclics = ap (λ (h : PendingMarks). length h.cyclics) c.in_ok-handlers.ensures.pending ∙ length-replicate _ _ ∙ ap (λ (s : SystemTables). length s.cyclics) (sym e);
-      pending_interrupts = ap (λ (h : PendingMarks). length h.interrupts) c.in_ok-handlers.ensures.pending ∙ length-replicate 32 false;
+      handlers = ap (λ (h : PendingMarks). h.processors) c.in_ok-handlers.ensures.pending
+          ∙ ap handler_processors (sym e);
+      pending_cyclics = ap (λ (h : PendingMarks). length h.cyclics) c.in_ok-handlers.ensures.pending
+          ∙ length-replicate _ _ ∙ ap (λ (s : SystemTables). length s.cyclics) (sym e);
+      pending_interrupts = ap (λ (h : PendingMarks). length h.interrupts) c.in_ok-handlers.ensures.pending
+          ∙ length-replicate 32 false;
       clock = omega arith;
       at_rest = rw c.all.ensures (at_rest_all _ _ _);
     }

@@ -17,7 +17,8 @@ invariant_of-self c =
       messages = c.self.invariant.messages;
       shared_words = c.self.invariant.shared_words;
       processors =
-          ap (λ (cpus : List Processor). length cpus) c.set.ensures ∙ length-set c.self.inside.processors c.args.p c.args.x
+          ap (λ (cpus : List Processor). length cpus) c.set.ensures
+          ∙ length-set c.self.inside.processors c.args.p c.args.x
           ∙ c.self.invariant.processors;
       cyclics = c.self.invariant.cyclics;
       due_later = c.self.invariant.due_later;

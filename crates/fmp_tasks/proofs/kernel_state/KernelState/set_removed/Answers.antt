@@ -18,7 +18,8 @@ leave-requires c =
     let there : c.args.t < length c.self.inside.system.tasks.items = rw (← c.self.view_is) at c.requires.there in
     let l : c.args.t < length c.self.inside.blocks.items = subst (λ (n : ℕ). c.args.t < n) tasks.configs there in
     let is : task_at c.self.inside.blocks.items c.args.t ≡ c.index-2.result.now = read-at _ _ _ l c.index-2.ensures in
-    let old : Fits (tables_of c.self.inside.system) c.index-2.result.now = subst (Fits (tables_of c.self.inside.system)) is (Fits-at c.args.t tasks.blocks l) in
+    let old : Fits (tables_of c.self.inside.system) c.index-2.result.now = subst
+    (Fits (tables_of c.self.inside.system)) is (Fits-at c.args.t tasks.blocks l) in
     record {
       urgent = old.urgent;
       least = old.least;
@@ -26,8 +27,10 @@ leave-requires c =
       processors = own_processors tasks;
       exact = tasks.exact;
       lent = lent tasks;
-      queue = subst (λ (n : ObjectCounts). IsSomeThere n (queue_of c.index-2.result.now.phase)) (sym (own_counts tasks)) old.queue;
-      there = subst (λ (x : TaskBlock). IsAmong c.args.t c.self.inside.rings.lists (home c.self.inside.waits x)) is (home-among tasks c.args.t l);
+      queue = subst (λ (n : ObjectCounts). IsSomeThere n (queue_of c.index-2.result.now.phase))
+          (sym (own_counts tasks)) old.queue;
+      there = subst (λ (x : TaskBlock). IsAmong c.args.t c.self.inside.rings.lists (home c.self.inside.waits x)) is
+          (home-among tasks c.args.t l);
     }
 
 pub invariant_of-self : goal.invariant_of-self
@@ -37,16 +40,20 @@ invariant_of-self c =
     let l : c.args.t < length c.self.inside.blocks.items = subst (λ (n : ℕ). c.args.t < n) tasks.configs there in
     let f : Fits (tables_of c.self.inside.system) c.args.x = rw (← c.self.view_is) at c.requires.fits in
     let is : task_at c.self.inside.blocks.items c.args.t ≡ c.index-2.result.now = read-at _ _ _ l c.index-2.ensures in
-    let after : IfSome c.args.x.deadline (λ w. c.self.inside.clock + 1 ≤ w) = rw (← c.self.view_is) at c.requires.later in
-    let old : Fits (tables_of c.self.inside.system) c.index-2.result.now = subst (Fits (tables_of c.self.inside.system)) is (Fits-at c.args.t tasks.blocks l) in
+    let after : IfSome c.args.x.deadline (λ w. c.self.inside.clock + 1 ≤ w) = rw
+    (← c.self.view_is) at c.requires.later in
+    let old : Fits (tables_of c.self.inside.system) c.index-2.result.now = subst
+    (Fits (tables_of c.self.inside.system)) is (Fits-at c.args.t tasks.blocks l) in
     let own : c.index.result.now ≡ c.index-2.result.now = sym (read-at _ _ _ l c.index.ensures) ∙ is in
-    let many : c.self.inside.waits.processors ≡ length c.self.inside.processors = own_processors tasks ∙ tasks.processors ∙ sym c.self.invariant.processors in
+    let many : c.self.inside.waits.processors ≡ length c.self.inside.processors = own_processors tasks
+    ∙ tasks.processors ∙ sym c.self.invariant.processors in
     record {
       system = c.self.invariant.system;
       later = rw c.set_deadline.ensures (NoneBefore-set _ _ _ _ after c.self.invariant.later);
       tasks =
           rw (c.leave-2.ensures, c.set_deadline.ensures)
-          (Sound-left tasks c.args.t c.args.x l f c.index-2.result.now c.leave.new.ready c.leave.new.rings c.requires.in_order is c.leave.ensures.processors c.leave.ensures.exact c.leave.ensures.rings);
+          (Sound-left tasks c.args.t c.args.x l f c.index-2.result.now c.leave.new.ready c.leave.new.rings
+          c.requires.in_order is c.leave.ensures.processors c.leave.ensures.exact c.leave.ensures.rings);
       semaphores = c.self.invariant.semaphores;
       flags = c.self.invariant.flags;
       data_queues = c.self.invariant.data_queues;
@@ -71,7 +78,8 @@ mark-requires c =
     let there : c.args.t < length c.self.inside.system.tasks.items = rw (← c.self.view_is) at c.requires.there in
     let l : c.args.t < length c.self.inside.blocks.items = subst (λ (n : ℕ). c.args.t < n) tasks.configs there in
     let is : task_at c.self.inside.blocks.items c.args.t ≡ c.index.result.now = read-at _ _ _ l c.index.ensures in
-    let old : Fits (tables_of c.self.inside.system) c.index.result.now = subst (Fits (tables_of c.self.inside.system)) is (Fits-at c.args.t tasks.blocks l) in
+    let old : Fits (tables_of c.self.inside.system) c.index.result.now = subst
+    (Fits (tables_of c.self.inside.system)) is (Fits-at c.args.t tasks.blocks l) in
     let few : (tables_of c.self.inside.system).processors ≤ 8 = c.self.invariant.system.processors.most in
     let low : c.index.result.now.processor < (tables_of c.self.inside.system).processors = old.processor in
     omega (arith, few, low)

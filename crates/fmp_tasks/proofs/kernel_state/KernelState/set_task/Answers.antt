@@ -10,10 +10,13 @@ use Rattle.fmp_tasks.proofs.kernel_state.KernelState.set_task.Goals as goal
 pub invariant_of-self : goal.invariant_of-self
 invariant_of-self c =
     let there : c.args.t < length c.self.inside.system.tasks.items = rw (← c.self.view_is) at c.requires.there in
-    let l : c.args.t < length c.self.inside.blocks.items = subst (λ (n : ℕ). c.args.t < n) c.self.invariant.tasks.configs there in
+    let l : c.args.t < length c.self.inside.blocks.items = subst (λ (n : ℕ). c.args.t < n)
+    c.self.invariant.tasks.configs there in
     let f : Fits (tables_of c.self.inside.system) c.args.x = rw (← c.self.view_is) at c.requires.fits in
-    let s : Stays (tables_of c.self.inside.system) (task_at c.self.inside.blocks.items c.args.t) c.args.x = rw (← c.self.view_is) at c.requires.stays in
-    let after : IfSome c.args.x.deadline (λ w. c.self.inside.clock + 1 ≤ w) = rw (← c.self.view_is) at c.requires.later in
+    let s : Stays (tables_of c.self.inside.system) (task_at c.self.inside.blocks.items c.args.t) c.args.x = rw
+    (← c.self.view_is) at c.requires.stays in
+    let after : IfSome c.args.x.deadline (λ w. c.self.inside.clock + 1 ≤ w) = rw
+    (← c.self.view_is) at c.requires.later in
     record {
       system = c.self.invariant.system;
       later = rw c.set_deadline.ensures (NoneBefore-set _ _ _ _ after c.self.invariant.later);

@@ -8,6 +8,8 @@ pub returns-clause-value : goal.returns-clause-value
 returns-clause-value c =
     let tasks = c.self.invariant.tasks in
     let p : c.args.p < c.self.inside.system.processors = rw (← c.self.view_is) at c.requires in
-    let there : c.args.p < c.self.inside.waits.processors = subst (λ (n : ℕ). c.args.p < n) (sym (own_processors tasks ∙ tasks.processors)) p in
+    let there : c.args.p < c.self.inside.waits.processors = subst (λ (n : ℕ). c.args.p < n)
+    (sym (own_processors tasks ∙ tasks.processors)) p in
     rw (← c.self.view_is)
-    (c.top.ensures.value ∙ most_urgent-is c.self.inside.waits (tables_of c.self.inside.system) _ _ _ _ tasks.blocks tasks.kept there (lists-enough tasks))
+    (c.top.ensures.value ∙ most_urgent-is c.self.inside.waits (tables_of c.self.inside.system) _ _ _ _ tasks.blocks
+    tasks.kept there (lists-enough tasks))

@@ -14,7 +14,8 @@ invariant_of-self c =
     let l : c.args.p < a.system.processors = rw (← c.self.view_is) at c.requires.there in
     let none : pending_handler (tables_of a.system) (tables_view a).state c.args.p ≡ None =
     rw (← c.self.view_is) at c.requires.none in
-    let same : is_same_task (processor_at (tables_view a).state c.args.p).run (top (tables_view a).state c.args.p) ≡ true =
+    let same : is_same_task (processor_at (tables_view a).state c.args.p).run (top (tables_view a).state c.args.p)
+    ≡ true =
     rw (← c.self.view_is) at c.requires.same in
     record {
       system = c.self.invariant.system;
@@ -35,5 +36,6 @@ invariant_of-self c =
       clock = c.self.invariant.clock;
       at_rest =
           rw c.unmark.ensures
-          (at_rest_unmarked _ _ _ _ c.args.p c.self.invariant.at_rest (resting a c.args.p c.self.invariant l none same));
+          (at_rest_unmarked _ _ _ _ c.args.p c.self.invariant.at_rest (resting a c.args.p c.self.invariant l none
+          same));
     }

@@ -24,6 +24,8 @@ returns-clause-ranks c =
     let deep : length m.new.ranks ≡ c.self.inside.ranks.len =
     omega (arith, m.ensures.slots, m.ensures.long, alike, second.len) in
     λ times r. recount times (rows_of m.new.slots m.new.ranks) _
-    (sym (with_items_is c.self.inside.slots m.new.slots wide)) (sym (with_items_is c.self.inside.ranks m.new.ranks deep))
+    (sym (with_items_is c.self.inside.slots m.new.slots wide)) (sym (with_items_is c.self.inside.ranks m.new.ranks
+    deep))
     (m.ensures.ranks times (recount times (entered c.args.self.now slot)
-    (rows_of (exchanged c.as_mut_slice.result.now slot end) (exchanged c.as_mut_slice-2.result.now slot end)) tasks ranks r))
+    (rows_of (exchanged c.as_mut_slice.result.now slot end) (exchanged c.as_mut_slice-2.result.now slot end)) tasks
+    ranks r))

@@ -13,7 +13,10 @@ returns-clause-ranks c =
     let alike : length c.as_mut_slice-2.result.now ≡ length c.as_mut_slice.result.now =
     ap (λ (l : List ℕ). length l) second.value ∙ c.self.invariant.2 ∙ sym (ap (λ (l : List ℕ). length l) first.value) in
     let wide : length c.mend.new.slots ≡ c.self.inside.slots.len = omega (arith, c.mend.ensures.slots, first.len) in
-    let deep : length c.mend.new.ranks ≡ c.self.inside.ranks.len = omega (arith, c.mend.ensures.slots, c.mend.ensures.long, alike, second.len) in
+    let deep : length c.mend.new.ranks ≡ c.self.inside.ranks.len = omega
+    (arith, c.mend.ensures.slots, c.mend.ensures.long, alike, second.len) in
     λ times r. recount times (rows_of c.mend.new.slots c.mend.new.ranks) _
-    (sym (with_items_is c.self.inside.slots c.mend.new.slots wide)) (sym (with_items_is c.self.inside.ranks c.mend.new.ranks deep))
-    (c.mend.ensures.ranks times (recount times c.args.self.now (rows_of c.as_mut_slice.result.now c.as_mut_slice-2.result.now) tasks ranks r))
+    (sym (with_items_is c.self.inside.slots c.mend.new.slots wide)) (sym
+    (with_items_is c.self.inside.ranks c.mend.new.ranks deep))
+    (c.mend.ensures.ranks times (recount times c.args.self.now (rows_of c.as_mut_slice.result.now
+    c.as_mut_slice-2.result.now) tasks ranks r))

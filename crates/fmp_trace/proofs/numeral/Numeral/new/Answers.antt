@@ -1,4 +1,5 @@
-use Rattle.std.proofs.Common.{◌≡◌, ◌≤◌, ◌<◌, ◌+◌, ◌-◌, ◌∙◌, ap, length, decimal, drop, take, take-take, take_at, arith, rules}
+use Rattle.std.proofs.Common.{◌≡◌, ◌≤◌, ◌<◌, ◌+◌, ◌-◌, ◌∙◌, ap, length, decimal, drop, take, take-take, take_at, arith}
+use Rattle.std.proofs.Common.{rules}
 use Rattle.std.proofs.lemmas.Fmt.{length-decimal-le, decimal_nonempty}
 use Rattle.fmp_trace.proofs.Short.{short_number}
 use Rattle.fmp_trace.proofs.numeral.Numeral.new.Goals as goal
@@ -27,5 +28,6 @@ invariant_of-result c =
 pub put_processor-requires-clause-room : goal.put_processor-requires-clause-room
 put_processor-requires-clause-room c =
     let few : length (decimal c.from.result) ≤ 10 = short_number c.from.result (search rules) in
-    let count : length (decimal c.from.result) ≡ 16 - c.write_digits-start.result = omega (arith, c.write_digits-start.ensures.start) in
+    let count : length (decimal c.from.result) ≡ 16 - c.write_digits-start.result = omega
+    (arith, c.write_digits-start.ensures.start) in
     omega (arith, few, count)

@@ -10,12 +10,14 @@ returns-in-Some c =
     let states : List State = c.deref.result.now in
     let state : State = c.in-Some.state.now in
     let look = c.in-Some.ensures.lookup in
-    let here : slice_get states c.args.i ≡ Some state = slice_get_read states (length states) c.args.i state refl look.3.0 look.1 in
+    let here : slice_get states c.args.i ≡ Some state = slice_get_read states
+    (length states) c.args.i state refl look.3.0 look.1 in
     let kept : slice_get c.self.inside.states.items c.args.i ≡ Some state =
     ap (λ (xs : List State). slice_get xs c.args.i) (sym c.deref.ensures.value) ∙ here in
     let row : c.row_of_state.result.now ≡ row_in c.self.inside.bytes.items state =
     c.row_of_state.ensures ∙ ap (λ (b : List ℕ). row_in b state) c.deref-in-Some.ensures.value in
-    ap Some row ∙ row-found c.self.inside.bytes.items c.self.inside.states.items c.args.i state c.args.self.now c.self.view_is kept
+    ap Some row ∙ row-found c.self.inside.bytes.items c.self.inside.states.items c.args.i state c.args.self.now
+    c.self.view_is kept
 
 pub returns-in-None : goal.returns-in-None
 returns-in-None c =

@@ -7,7 +7,8 @@ returns-clause-checkpoints c =
     let l = c.args.self.now in
     record {
       kernels =
-          kernels_between c.args.image.now c.args.n l.kernels.items l.steps.items _ c.args.e c.requires.checkpoints.kernels
+          kernels_between c.args.image.now c.args.n l.kernels.items l.steps.items _ c.args.e
+          c.requires.checkpoints.kernels
           (search rules) c.in_ok-push.ensures.items;
       top = c.requires.checkpoints.top;
     }

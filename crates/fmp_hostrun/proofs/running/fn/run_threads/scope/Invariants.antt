@@ -11,7 +11,8 @@ invariant-loop-seat g l =
     let first = l.initial.seat-iterator in
     let rest = l.seat-iterator in
     record {
-      started : Started l.refused (into_iter_items first) (seats_of (map (λ h. job_of h.promise.part h.promise.seat.value) l.handles.items)) l.spared.items (into_iter_items rest);
+      started : Started l.refused (into_iter_items first) (seats_of (map
+          (λ h. job_of h.promise.part h.promise.seat.value) l.handles.items)) l.spared.items (into_iter_items rest);
       placed : ArePlaced l.load 0 (map (λ h. job_of h.promise.part h.promise.seat.value) l.handles.items);
       size : into_iter_len rest ≡ length (into_iter_items rest);
       at : All (IsAt g.B.Feed.row_id) (into_iter_items rest);
