@@ -2,30 +2,22 @@
 //! what each code that the programs print means.
 #![tactic(auto)]
 
-mod apis;
-mod around;
+pub mod apis;
+pub mod around;
 mod calls;
-mod contexts;
 mod culprit;
 mod excerpt;
 mod expected_api;
 mod expected_statement;
 mod explanations;
-mod fields;
-mod found;
+pub mod fields;
 mod habits;
-mod indices;
 mod known;
 mod left_out;
 mod limits;
-mod locks;
-mod loops;
-mod mistakes;
 mod names;
 mod nearness;
 mod needs;
-mod objects;
-mod packets;
 mod records;
 mod refusals;
 mod reports;
@@ -33,18 +25,14 @@ mod sentence;
 mod steps;
 mod syntax;
 mod topics;
-mod walk;
-mod wanted;
-mod warnings;
-mod words;
+pub mod words;
 
 pub use excerpt::{Excerpt, excerpt_at};
 pub use explanations::explain;
-pub use found::Warning;
 pub use known::name_meant;
+pub use names::processors;
 pub use nearness::nearest;
-pub use reports::{FaultReport, finding_at};
+pub use reports::{FaultReport, column_behind, finding_at};
 pub use sentence::{Texts, say_fault};
 pub use steps::{StepFlaw, step_finding};
 pub use topics::{TOPICS, Topic, every_topic_is_found, topic_asked, topic_named};
-pub use warnings::warnings_of;

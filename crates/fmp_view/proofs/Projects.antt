@@ -7,7 +7,7 @@ use Rattle.fmp_image.specs.Building.{Builds}
 use Rattle.fmp_image_bytes.specs.Images.{ImageTables}
 use Rattle.fmp_lex.specs.declared.fault.BuildFault.{BuildFault}
 use Rattle.fmp_view.specs.Exports.{IsExportOf}
-use Rattle.fmp_view.proofs.Printing.{does_then}
+use Rattle.fmp_searching.proofs.Printing.{does_then}
 
 -- the C of the system that two texts build is their C
 pub exports_of : (lines : Bool) (cfg src : List ℕ) (i : ImageTables) → Builds cfg src i

@@ -9,7 +9,7 @@ use Rattle.fmp_export.specs.declared.files.ExportedText.{ExportedText}
 use Rattle.fmp_export.specs.declared.project.TheConstants.{MAKEFILE}
 use Rattle.fmp_export.specs.Files.{IsExportedWith}
 use Rattle.fmp_view.specs.declared.exporting.Exporting.{Exporting}
-use Rattle.fmp_view.specs.Claimed.{IsFile}
+use Rattle.fmp_searching.specs.Claimed.{IsFile}
 
 -- the C of the bodies of a text, for the system that it builds with a configuration, with the text's lines or without
 pub record IsExportOf (lines : Bool) (cfg src : List ℕ) (e : ExportedText) : Type 0 where

@@ -1,14 +1,4 @@
-pub mod Called
-pub mod Claimed
-pub mod Drives
-pub mod Exits
-pub mod Expects
-pub mod Explored
+pub mod Commands
 pub mod Exports
-pub mod Faults
-pub mod Fresh
-pub mod Given
-pub mod OpenSystems
 pub mod Stepped
 pub mod Targets
-pub mod Traces

@@ -15,8 +15,8 @@ use Rattle.fmp_session.specs.declared.session.Session.{Session}
 use Rattle.fmp_session.specs.Sessions.{lines_now, records_now}
 use Rattle.fmp_view.specs.declared.answering.Answer.{Answer}
 use Rattle.fmp_view.specs.declared.answering.Answer.TheVariants as answer
-use Rattle.fmp_view.specs.declared.faults.Form.{Form}
-use Rattle.fmp_view.specs.declared.faults.Form.TheVariants as form
+use Rattle.fmp_warnings.specs.declared.verdicts.Form.{Form}
+use Rattle.fmp_warnings.specs.declared.verdicts.Form.TheVariants as form
 
 -- the lines of the last event, or the objects of JSON
 abbrev pub last_lines : Form → KernelView (List BodyTables) MachineContext → List ℕ

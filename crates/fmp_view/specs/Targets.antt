@@ -9,7 +9,7 @@ use Rattle.fmp_toppers.specs.declared.files.ToppersFiles.{ToppersFiles}
 use Rattle.fmp_toppers.specs.declared.target.Target.{Target}
 use Rattle.fmp_toppers.specs.Files.{IsExported}
 use Rattle.fmp_view.specs.declared.targeting.Targeting.{Targeting}
-use Rattle.fmp_view.specs.Claimed.{IsFile}
+use Rattle.fmp_searching.specs.Claimed.{IsFile}
 use Rattle.fmp_view.specs.Exports.{in_folder}
 
 -- the files of a target, for the system that a text builds with a configuration

@@ -4,19 +4,18 @@ ghost use Rattle.fmp_base.specs.Systems.{tables_of};
 ghost use Rattle.fmp_session.specs.Sessions.{IsSession};
 ghost use Rattle.fmp_view.specs.Stepped.{Leaves, last_lines, states_in, states_text_of};
 
-use crate::faults::{FileNames, Form};
-use crate::open_image::OpenImage;
 use crate::session_files::{load, save};
 use crate::session_objects::state_of;
-use crate::why::why_of;
 use fmp_base::{Event, System, TaskBlock, TaskState};
 use fmp_files::{Failure, Outside};
 use fmp_frames::last_frame;
+use fmp_looking::{OpenImage, why_of};
 use fmp_named::{append_state_records, append_states};
 use fmp_session::{
     Command, NamedInterrupt, Session, TakenEvent, append_kept, append_nothing, argument_of, note,
 };
 use fmp_trace::print_steps;
+use fmp_warnings::{FileNames, Form};
 use std::alloc::{AllocError, Global};
 
 /// The commands, as `help` prints them.

@@ -1,25 +1,22 @@
 //! What the program is asked to do.
 ghost use Rattle.std.specs.Prelude.{◌≡◌, IsSomeAnd, List, Some, codes};
 ghost use Rattle.clap.specs.Words.{Row, found_of, rows_of, subcommand_rows_of};
-ghost use Rattle.fmp_view.specs.Explored.{AsksToExplore};
+ghost use Rattle.fmp_view.specs.Commands.{AsksToExplore};
 
-use crate::built::Running;
-use crate::exploration::exploring_of;
 use crate::exporting::Exporting;
-use crate::faults::{FileNames, Form};
-use crate::form::{
-    EVENTS_MAX, export_command, import_command, program, timeline_command, waves_command,
-};
-use crate::given::{bound_of, entered, flag_of, text_of, word_of, word32_of, word64_of, words_of};
+use crate::form::{export_command, import_command, program, timeline_command, waves_command};
 use crate::importing::Importing;
-use crate::sources::Exploring;
-use crate::suggesting::said_of_code;
 use crate::targeting::Targeting;
-use crate::viewing::{Format, TraceFormat};
 use clap::{ArgMatches, Error};
+use fmp_arguments::{
+    EVENTS_MAX, bound_of, entered, flag_of, text_of, word_of, word32_of, word64_of, words_of,
+};
 use fmp_files::{mistake, mistake_of};
+use fmp_looking::{Drawing, Format, Running, TraceFormat};
+use fmp_searching::{Exploring, exploring_of, said_of_code};
 use fmp_timeline::Choice;
 use fmp_toppers::Target;
+use fmp_warnings::{FileNames, Form};
 use std::alloc::{AllocError, Global};
 
 /// The message for a word that is no code.
@@ -76,17 +73,6 @@ pub struct RunPair<'a> {
     pub b: &'a str,
     /// The bound of a stretch, 1 to 2^48; none where the runs are recordings.
     pub bound: Option<u64>,
-}
-
-/// What is drawn of a run.
-#[derive(Clone, Copy)]
-pub struct Drawing {
-    /// The events.
-    pub choice: Choice,
-    /// Whether the objects have lanes too.
-    pub objects: bool,
-    /// Whether the picture stands in a page.
-    pub html: bool,
 }
 
 /// What the program is asked to do.

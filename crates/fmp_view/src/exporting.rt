@@ -5,15 +5,14 @@ ghost use Rattle.fmp_files.specs.Deeds.{Does, wrote};
 ghost use Rattle.fmp_view.specs.Exports.{HasExported, HasExportedTexts, IsExportOf, in_folder, main_file, project};
 
 use crate::asking::files_over_input;
-use crate::faults::{FileNames, Form};
-use crate::reading::read_both;
-use crate::texts::print_fault;
 use fmp_diagnosis::Texts;
 use fmp_export::project::MAKEFILE;
 use fmp_export::{ExportedText, export_c_with_lines};
 use fmp_files::{Failure, Outside, end, failed, refuse_mistake, write_file};
 use fmp_image::build;
 use fmp_lex::BuildFault;
+use fmp_searching::{print_fault, read_both};
+use fmp_warnings::{FileNames, Form};
 use std::alloc::{AllocError, Global};
 use std::fs;
 use std::io::ErrorKind;

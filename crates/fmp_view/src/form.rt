@@ -1,7 +1,11 @@
 //! The form of the command line.
-use clap::builder::ValueParser;
-use clap::{Arg, ArgAction, Command};
-use std::alloc::{AllocError, Global};
+use clap::Command;
+use fmp_arguments::{
+    Argument, ArgumentKind, BOUNDED, CFG, CommandForm, EVENTS_MAX, Made, OptionValue, SRC,
+    command_of,
+};
+use fmp_searching::EXPLORE;
+use std::alloc::Global;
 
 /// What the program is.
 const ABOUT: &str =
@@ -63,10 +67,6 @@ const CALLS: &str =
 const SEED: &str = "Order of processors at random by this number, with ticks and interrupts between;
 without it they run in turn, and the clock ticks where all are idle";
 
-/// What a bound is.
-const BOUND: &str = "How many instructions a body may take in a step, 1 to 2^48; where its next
-service call is farther, its next step goes on from there";
-
 /// What the first event of a picture is.
 const FROM: &str = "First event that is drawn, 0 to 2^20; setup is 0";
 
@@ -99,50 +99,12 @@ const LINES: &str = "Commands, one a line of standard input:
 
 Example: fmp_view step examples/queue.cfg examples/queue.src";
 
-/// What must never happen.
-const NEVER: &str =
-    "What must never happen: an answer, as E_QOVR, or E_TMOUT:12 for the calls in line 12 of SRC;
-or a printed value, as 'put(99)'; it may be given again. That a body stops with a fault must
-never happen anyway";
-
-/// Where one task at a time may be.
-const ALONE: &str =
-    "One task at a time may be between 'put(A)' and 'put(B)': A,B are two different values, as 1,2.
-A task is there from its 'put(A)' to its 'put(B)' or its end. It may be given again, at most 4 times";
-
-/// Which task may wait forever.
-const REST: &str =
-    "Name of a task that may wait forever, as servers do: it makes no deadlock, may be stuck, and may go
-on for ever without a call; it may be given again";
-
-/// When the clock may advance.
-const TICKS: &str =
-    "When the clock may advance: at any time, or only where all processors are idle";
-
-/// The words for when the clock may advance.
-const TICKS_WHEN: &[&str] = &["any", "idle"];
-
 /// The formats of `waves`.
 const FORMAT: &str = "A value change dump, for viewers of waveforms; a trace for Perfetto;
 a log for TraceLogVisualizer; or the resource file of such a log";
 
 /// The words for these formats.
 const FORMATS: &[&str] = &["vcd", "perfetto", "tlv", "res"];
-
-/// How many interrupts there may be.
-const INTS: &str = "How many interrupts there may be, 0 to 255; without it any number";
-
-/// How much may be queued.
-const QUEUED: &str =
-    "How many activations and how many wakeups of a task may be queued, 0 to 255: events that
-would queue more do not come; without it any number";
-
-/// How many states are kept.
-const STATES: &str = "How many states are kept at most, 1 to 2^31";
-
-/// Where the steps of findings go.
-const OUT: &str = "The steps of the findings are written to NAME.1 and on; without it NAME is that
-of CFG, with '.found' in place of '.cfg'";
 
 /// Where exported C goes.
 const DIR: &str =
@@ -169,74 +131,6 @@ const FOREIGN: &str = "Configuration of TOPPERS or uITRON; files that it include
 
 /// Where the configuration goes.
 const IMPORTED: &str = "File that gets the configuration; without it standard output does";
-
-/// The largest bound, 2^48.
-pub const BOUND_MAX: u64 = 281_474_976_710_656;
-
-/// The largest number of events, 2^20.
-pub const EVENTS_MAX: u32 = 1_048_576;
-
-/// What the value of an option is.
-#[derive(Clone, Copy)]
-enum OptionValue {
-    /// A text.
-    Text,
-    /// When the clock may advance.
-    When,
-    /// A format of `waves`.
-    Format,
-    /// A number: the lowest, and the highest.
-    Number(u64, u64),
-    /// Such a number, and the one where none is given.
-    Default(u64, u64, &'static str),
-}
-
-/// What an argument of a command is.
-#[derive(Clone, Copy)]
-enum ArgumentKind {
-    /// A word that has to be there.
-    Word,
-    /// A word that may be left out.
-    MayBeWord,
-    /// A word that has to be there, unless a recording is given: then it must not be there.
-    WordNoRecording,
-    /// A word that has to be there, and may be a negative number.
-    WordOrNegative,
-    /// An option without a value.
-    Flag,
-    /// An option without a value that does not go with this other one.
-    FlagWithout(&'static str),
-    /// An option with a value, which help calls so.
-    Option(&'static str, OptionValue),
-    /// An option with a text, which help calls so, that may be given again.
-    Again(&'static str),
-    /// An option with a text, which help calls so: it or the other option has to be given, and not both.
-    Either(&'static str, &'static str),
-}
-
-/// An argument of a command: its name, what it is, and what help says of it.
-struct Argument(&'static str, ArgumentKind, &'static str);
-
-/// A command as help shows it.
-struct Form {
-    name: &'static str,
-    about: &'static str,
-    arguments: &'static [Argument],
-    /// What stands below the arguments.
-    example: &'static str,
-}
-
-const CFG: Argument = Argument(
-    "CFG",
-    ArgumentKind::Word,
-    "Configuration, as 'fmp check' reads it",
-);
-
-const SRC: Argument = Argument(
-    "SRC",
-    ArgumentKind::Word,
-    "Bodies of its tasks and handlers",
-);
 
 const IMAGE: Argument = Argument(
     "IMAGE",
@@ -268,19 +162,13 @@ const AT_RANDOM: Argument = Argument(
     SEED,
 );
 
-const BOUNDED: Argument = Argument(
-    "bound",
-    ArgumentKind::Option("N", OptionValue::Default(1, BOUND_MAX, "100000")),
-    BOUND,
-);
-
 const JSON: Argument = Argument(
     "json",
     ArgumentKind::Flag,
     "Print an object of JSON a line, for other programs",
 );
 
-static CODE: Form = Form {
+static CODE: CommandForm = CommandForm {
     name: "code",
     about: "Says what a code means, when it comes, and an example",
     arguments: &[Argument(
@@ -291,7 +179,7 @@ static CODE: Form = Form {
     example: "Example: fmp_view code E_PAR",
 };
 
-static FAULT: Form = Form {
+static FAULT: CommandForm = CommandForm {
     name: "fault",
     about: "Shows the fault of two texts and of steps, and what was expected there; else warnings, if any",
     arguments: &[
@@ -303,7 +191,7 @@ static FAULT: Form = Form {
     example: "Example: fmp_view fault examples/queue.cfg examples/queue.src --json",
 };
 
-static RUN: Form = Form {
+static RUN: CommandForm = CommandForm {
     name: "run",
     about: "Prints the trace of two texts with the names of objects, and what each task waits for",
     arguments: &[
@@ -328,21 +216,21 @@ static RUN: Form = Form {
     example: "Example: fmp_view run examples/queue.cfg examples/queue.src",
 };
 
-static STEP: Form = Form {
+static STEP: CommandForm = CommandForm {
     name: "step",
     about: "Takes events one by one as they are typed, and tells what each of them does",
     arguments: &[CFG, SRC, JSON, BOUNDED],
     example: LINES,
 };
 
-static DRIVE: Form = Form {
+static DRIVE: CommandForm = CommandForm {
     name: "drive",
     about: "Prints a steps text that runs a system until it is quiet, or N events are done",
     arguments: &[IMAGE, AT_MOST, AT_RANDOM, BOUNDED],
     example: "Example: fmp_view drive queue.img --events 20 > drive.steps",
 };
 
-static WHY: Form = Form {
+static WHY: CommandForm = CommandForm {
     name: "why",
     about: "Says what each task waits or spins for, who took it, and whether it is a deadlock",
     arguments: &[
@@ -359,52 +247,7 @@ static WHY: Form = Form {
     example: "Example: fmp_view why queue.img drive.steps --at 2",
 };
 
-static EXPLORE: Form = Form {
-    name: "explore",
-    about: "Looks at every schedule for deadlocks, stuck tasks, faults and what must never happen",
-    arguments: &[
-        CFG,
-        SRC,
-        Argument("never", ArgumentKind::Again("WHAT"), NEVER),
-        Argument("alone", ArgumentKind::Again("A,B"), ALONE),
-        Argument("rest", ArgumentKind::Again("TASK"), REST),
-        Argument(
-            "ticks",
-            ArgumentKind::Option("WHEN", OptionValue::When),
-            TICKS,
-        ),
-        Argument(
-            "ints",
-            ArgumentKind::Option("K", OptionValue::Number(0, 255)),
-            INTS,
-        ),
-        Argument(
-            "queued",
-            ArgumentKind::Option("K", OptionValue::Number(0, 255)),
-            QUEUED,
-        ),
-        BOUNDED,
-        Argument(
-            "states",
-            ArgumentKind::Option("S", OptionValue::Default(1, 1 << 31, "16777216")),
-            STATES,
-        ),
-        Argument(
-            "all",
-            ArgumentKind::Flag,
-            "Go on after the first finding, for the first of each kind at each call",
-        ),
-        Argument(
-            "answers",
-            ArgumentKind::Flag,
-            "Print the answers that each call ever gets, by its line of SRC",
-        ),
-        Argument("out", ArgumentKind::Option("NAME", OptionValue::Text), OUT),
-    ],
-    example: "Example: fmp_view explore examples/queue.cfg examples/queue.src --never E_TMOUT",
-};
-
-static EXPORT: Form = Form {
+static EXPORT: CommandForm = CommandForm {
     name: "export",
     about: "Writes the bodies of a text as C, with what builds and runs them on the library for C",
     arguments: &[
@@ -422,7 +265,7 @@ static EXPORT: Form = Form {
     example: "Example: fmp_view export examples/queue.cfg examples/queue.src --c queue",
 };
 
-static IMPORT: Form = Form {
+static IMPORT: CommandForm = CommandForm {
     name: "import",
     about: "Makes a configuration of TOPPERS/FMP, FMP3 or uITRON 4.0 one of this project, and says what is left out",
     arguments: &[
@@ -437,7 +280,7 @@ static IMPORT: Form = Form {
     example: "Example: fmp_view import sample1.cfg --define LOGTASK_PRIORITY=3 --out sample1.fmp.cfg",
 };
 
-static DIFF: Form = Form {
+static DIFF: CommandForm = CommandForm {
     name: "diff",
     about: "Shows the first event in which two runs of a system differ, and the states then",
     arguments: &[
@@ -458,7 +301,7 @@ static DIFF: Form = Form {
     example: "Example: fmp_view diff queue.img drive.steps other.steps",
 };
 
-static EXPECTED: Form = Form {
+static EXPECTED: CommandForm = CommandForm {
     name: "expect",
     about: "Says which line of a text of expectations a run fails first, and in which event",
     arguments: &[
@@ -471,14 +314,14 @@ static EXPECTED: Form = Form {
     example: "Example: fmp_view expect queue.img drive.steps queue.expect",
 };
 
-static STATS: Form = Form {
+static STATS: CommandForm = CommandForm {
     name: "stats",
     about: "Prints a table of what each task of a run did, with its share of the events",
     arguments: &[OF_SYSTEM, OF_RUN, RECORDED, BOUNDED],
     example: "Example: fmp_view stats queue.img drive.steps",
 };
 
-static WAVES: Form = Form {
+static WAVES: CommandForm = CommandForm {
     name: "waves",
     about: "Writes a run for viewers of waveforms and of traces",
     arguments: &[
@@ -489,14 +332,14 @@ static WAVES: Form = Form {
         Argument("OUT", ArgumentKind::WordNoRecording, "File that is written"),
         Argument(
             "format",
-            ArgumentKind::Option("FORMAT", OptionValue::Format),
+            ArgumentKind::Option("FORMAT", OptionValue::OneOf(FORMATS, "vcd")),
             FORMAT,
         ),
     ],
     example: "Example: fmp_view waves queue.img drive.steps queue.vcd",
 };
 
-static TIMELINE: Form = Form {
+static TIMELINE: CommandForm = CommandForm {
     name: "timeline",
     about: "Writes a run as a picture for browsers: states, calls, and who did what to whom",
     arguments: &[
@@ -534,66 +377,6 @@ objects are drawn too",
     example: "Example: fmp_view timeline queue.img drive.steps queue.svg --from 2 --to 5",
 };
 
-/// An option with a number in this range. A number below 0 is no option, but refused as its value.
-fn with_number<'a>(option: Arg<'a>, low: u64, high: u64) -> Arg<'a> {
-    option
-        .value_parser(ValueParser::unsigned(low, high))
-        .allow_negative_numbers(true)
-}
-
-/// An option with a value of this kind.
-fn with_value<'a>(option: Arg<'a>, value: OptionValue) -> Arg<'a> {
-    match value {
-        OptionValue::Text => option,
-        OptionValue::When => option.value_parser(TICKS_WHEN).default_value("any"),
-        OptionValue::Format => option.value_parser(FORMATS).default_value("vcd"),
-        OptionValue::Number(low, high) => with_number(option, low, high),
-        OptionValue::Default(low, high, number) => with_number(option, low, high).default_value(
-            number,
-        ),
-    }
-}
-
-/// An argument as the command line has it.
-fn argument_of<'a>(alloc: Global, argument: &Argument) -> Result<Arg<'a>, AllocError> {
-    let Argument(id, kind, help) = *argument;
-    let made = Arg::new(alloc, id).help(help);
-    Ok(match kind {
-        ArgumentKind::Word => made.required(true),
-        ArgumentKind::MayBeWord => made,
-        ArgumentKind::WordOrNegative => made.required(true).allow_negative_numbers(true),
-        ArgumentKind::Flag => made.long(id).action(ArgAction::SetTrue),
-        ArgumentKind::FlagWithout(other) => made
-            .long(id)
-            .action(ArgAction::SetTrue)
-            .conflicts_with(other)?,
-        ArgumentKind::Option(name, value) => with_value(made.long(id).value_name(name), value),
-        ArgumentKind::Again(name) => made.long(id).value_name(name).action(ArgAction::Append),
-        ArgumentKind::Either(name, other) => made
-            .long(id)
-            .value_name(name)
-            .required_unless_present(other)?
-            .conflicts_with(other)?,
-        ArgumentKind::WordNoRecording => made
-            .required_unless_present("recording")?
-            .conflicts_with("recording")?,
-    })
-}
-
-/// A command, where there was memory for it.
-type Made<'a> = Result<Command<'a>, AllocError>;
-
-/// A command of this form.
-fn command_of<'a>(alloc: Global, form: &Form) -> Made<'a> {
-    let mut command = Command::new(alloc, form.name)
-        .about(form.about)
-        .after_help(form.example);
-    for argument in form.arguments {
-        command = command.arg(argument_of(alloc, argument)?)?;
-    }
-    Ok(command)
-}
-
 /// The command `waves`.
 pub fn waves_command<'a>(alloc: Global) -> Made<'a> {
     command_of(alloc, &WAVES)
@@ -612,11 +395,6 @@ pub fn export_command<'a>(alloc: Global) -> Made<'a> {
 /// The command `import`.
 pub fn import_command<'a>(alloc: Global) -> Made<'a> {
     command_of(alloc, &IMPORT)
-}
-
-/// The command `explore`.
-pub fn explore_command<'a>(alloc: Global) -> Made<'a> {
-    command_of(alloc, &EXPLORE)
 }
 
 /// The command line with none of its commands yet.

@@ -1,33 +1,27 @@
 //! A run of the program, from the words of its command line to its status.
 ghost use Rattle.std.specs.Prelude.{◌≡◌, List, Some, codes};
 ghost use Rattle.clap.specs.Words.{Row, subcommand_rows_of};
-ghost use Rattle.fmp_view.specs.Claimed.{HoldsOfWords};
-ghost use Rattle.fmp_view.specs.Explored.{AsksToExplore};
+ghost use Rattle.fmp_searching.specs.Claimed.{HoldsOfWords};
+ghost use Rattle.fmp_view.specs.Commands.{AsksToExplore};
 
 use crate::asking::{
-    Asked, Cmd, Drawing, RunFiles, RunPair, command, dump_over_input, no_code, parsed,
-    picture_of_nothing, picture_over_input,
+    Asked, Cmd, RunFiles, RunPair, command, dump_over_input, no_code, parsed, picture_of_nothing,
+    picture_over_input,
 };
-use crate::commands::{DrivenText, RunOutput, code, steps};
-use crate::comparing::{diff, diff_recordings};
-use crate::exit::ViewExit;
-use crate::expecting::Expectations;
 use crate::exporting::run_export;
-use crate::faults::Form;
 use crate::importing::run_import;
-use crate::looking::{RunLook, look_at_image, look_at_recording};
-use crate::reading::read_both;
-use crate::searching::run_explore;
 use crate::targeting::run_target;
 use crate::telling::{print_made, print_run};
-use crate::texts::{print_fault, run_step, run_texts};
-use crate::timeline::{Picture, PictureCut, Titled};
-use crate::timing::Stats;
-use crate::viewing::Format;
-use crate::why::Why;
+use crate::texts::{run_step, run_texts};
 use clap::ArgMatches;
 use fmp_engine::SimFault;
 use fmp_files::{Failure, Outside, end, print, read_file, refuse, refuse_mistake, write_file};
+use fmp_looking::{
+    Drawing, DrivenText, Expectations, Format, Picture, PictureCut, RunLook, RunOutput, Stats,
+    Titled, ViewExit, Why, code, diff, diff_recordings, look_at_image, look_at_recording, steps,
+};
+use fmp_searching::{print_fault, read_both, run_explore};
+use fmp_warnings::Form;
 use std::alloc::{AllocError, Global};
 use std::io::{Input, IsTerminal};
 use std::rt::Files;

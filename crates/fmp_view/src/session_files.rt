@@ -4,13 +4,13 @@ ghost use Rattle.fmp_session.specs.Sessions.{IsSession};
 ghost use Rattle.fmp_view.specs.Stepped.{Leaves};
 
 use crate::answering::{Answer, Stepping, append_told, take_one};
-use crate::faults::Form;
-use crate::form::EVENTS_MAX;
-use crate::opening::events_of;
+use fmp_arguments::EVENTS_MAX;
 use fmp_base::Event;
 use fmp_engine::SimFault;
 use fmp_files::{Failure, Outside, read_file, write_file};
+use fmp_looking::events_of;
 use fmp_session::Session;
+use fmp_warnings::Form;
 use std::alloc::{AllocError, Global};
 
 /// Why a line fails that names a file so.

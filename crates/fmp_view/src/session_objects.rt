@@ -2,12 +2,12 @@
 ghost use Rattle.fmp_session.specs.Sessions.{IsSession};
 
 use crate::answering::{Answer, states_text};
-use crate::faults::Form;
 use crate::session_files::refused;
 use fmp_base::{Lock, Name, ObjectKind, Phase, Processor, System, TaskBlock, WaitCause};
 use fmp_frames::{Frame, last_frame};
 use fmp_named::{kind_word, object_name};
 use fmp_session::{Session, object_record};
+use fmp_warnings::Form;
 use std::alloc::{AllocError, Global};
 
 /// The kinds of objects.

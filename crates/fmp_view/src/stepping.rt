@@ -4,12 +4,12 @@ ghost use Rattle.fmp_session.specs.Sessions.{IsSession};
 ghost use Rattle.fmp_view.specs.Stepped.{last_lines};
 
 use crate::answering::{Answer, Stepping, answer_of, append_last};
-use crate::faults::Form;
 use crate::mistakes::mistake_text;
-use crate::ranges::kept_bound;
+use fmp_arguments::kept_bound;
 use fmp_files::{Failure, Outside, end, failed, print};
 use fmp_image_bytes::Image;
 use fmp_session::{Command, Session, answer_line, command_of, failure_line};
+use fmp_warnings::Form;
 use std::alloc::{AllocError, Global};
 use std::io::{BufRead, BufReader, ErrorKind, Input};
 

@@ -5,15 +5,14 @@ ghost use Rattle.fmp_view.specs.Targets.{HasTargeted, HasTargetedTexts, IsTarget
 
 use crate::asking::files_over_input;
 use crate::exporting::{is_over_input, make_folder, write_in};
-use crate::faults::{FileNames, Form};
-use crate::reading::read_both;
-use crate::texts::print_fault;
 use fmp_base::Name;
 use fmp_diagnosis::Texts;
 use fmp_files::{Failure, Outside, end, refuse_mistake};
 use fmp_image::build;
 use fmp_lex::BuildFault;
+use fmp_searching::{print_fault, read_both};
 use fmp_toppers::{Target, ToppersFiles, ToppersRefusal, export_toppers};
+use fmp_warnings::{FileNames, Form};
 use std::alloc::{AllocError, Global};
 use std::rt::Files;
 use std::str;

@@ -1,9 +1,8 @@
 //! What is printed of a run, and what is said of how its drive ended.
-use crate::commands::DriveEnding;
-use crate::exit::ViewExit;
 use fmp_base::Call;
 use fmp_drive::{DriveStop, NextRun};
 use fmp_files::{Failure, Outside, end, print};
+use fmp_looking::{DriveEnding, ViewExit};
 use std::alloc::{AllocError, Global};
 
 /// Says why a drive has stopped.

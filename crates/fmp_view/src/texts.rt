@@ -1,60 +1,20 @@
-//! The commands over the two texts of a system: its fault, a run of it, and a session.
+//! The commands over the two texts of a system: a run of it, and a session.
 use crate::answering::Stepping;
-use crate::built::{NoTrace, Running, Traced, traced_texts};
-use crate::faults::{FileNames, Form, Shown, shown_fault};
-use crate::reading::{read_both, read_named};
 use crate::stepping::step_image;
 use crate::telling::print_run;
 use fmp_base::{Entry, System};
 use fmp_cfgparse::read_cfg;
 use fmp_diagnosis::Texts;
-use fmp_files::{Failure, Outside, end, print, read_file};
+use fmp_files::{Failure, Outside, end, read_file};
 use fmp_image::build;
 use fmp_image_bytes::Image;
 use fmp_lex::BuildFault;
+use fmp_looking::{NoTrace, Running, Traced, traced_texts};
+use fmp_searching::{print_fault, read_both};
 use fmp_session::NamedInterrupt;
+use fmp_warnings::{FileNames, Form};
 use std::alloc::{AllocError, Global};
 use std::io::{Input, IsTerminal};
-
-/// What is shown of two texts, and of the steps of a file if there are steps.
-fn shown_over<O: Outside>(
-    alloc: Global,
-    outside: &O,
-    names: FileNames<'_>,
-    form: Form,
-    texts: Texts<'_>,
-) -> Result<Shown, Failure> {
-    let steps = read_named(alloc, outside, names.steps)?;
-    shown_fault(alloc, form, names, texts, &steps).map_err(|error| Failure::Memory(error))
-}
-
-/// What is shown of the texts of these files.
-fn shown_of<O: Outside>(
-    alloc: Global,
-    outside: &O,
-    names: FileNames<'_>,
-    form: Form,
-) -> Result<Shown, Failure> {
-    let (cfg, src) = read_both(alloc, outside, names.cfg, names.src)?;
-    let texts = Texts {
-        cfg: &cfg,
-        src: &src,
-    };
-    shown_over(alloc, outside, names, form, texts)
-}
-
-/// Prints the fault of the texts of these files, with status 1, or their warnings.
-pub fn print_fault<O: Outside>(
-    alloc: Global,
-    outside: &mut O,
-    names: FileNames<'_>,
-    form: Form,
-) -> u8 {
-    match shown_of(alloc, outside, names, form) {
-        Ok(shown) => print(alloc, outside, shown.text()).max(shown.status()),
-        Err(exit) => end(outside, &exit),
-    }
-}
 
 /// What is printed of a run of two texts over the steps of a file, if there are steps, or why there is nothing.
 fn traced_over<O: Outside>(

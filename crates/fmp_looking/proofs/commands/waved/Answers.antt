@@ -1,0 +1,41 @@
+use Rattle.std.proofs.Common.{◌∙◌, ap}
+use Rattle.std.proofs.lemmas.Result.{err_from_is_err_and}
+use Rattle.fmp_frames.specs.Frames.{FrameTable}
+use Rattle.fmp_frames.specs.Values.{values_of}
+use Rattle.fmp_looking.proofs.commands.waved.Goals as goal
+
+pub last_frame-requires-clause-body : goal.last_frame-requires-clause-body
+last_frame-requires-clause-body g c = c.requires.body
+
+pub last_frame-requires-clause-bound : goal.last_frame-requires-clause-bound
+last_frame-requires-clause-bound g c = c.requires.bound
+
+pub show_all-requires-clause-few : goal.show_all-requires-clause-few
+show_all-requires-clause-few g c = c.requires.few
+
+pub show_all-requires-clause-body : goal.show_all-requires-clause-body
+show_all-requires-clause-body g c = c.requires.body
+
+pub show_all-requires-clause-bound : goal.show_all-requires-clause-bound
+show_all-requires-clause-bound g c = c.requires.bound
+
+pub returns-in_err-setup : goal.returns-in_err-setup
+returns-in_err-setup g c =
+    rw ((err_from_is_err_and c.from_residual.result c.from_residual.ensures.1).1) tt
+
+pub returns-in_err-waves : goal.returns-in_err-waves
+returns-in_err-waves g c =
+    rw ((err_from_is_err_and c.from_residual-in_err-waves.result c.from_residual-in_err-waves.ensures.1).1) tt
+
+pub returns-in_err-show_all : goal.returns-in_err-show_all
+returns-in_err-show_all g c =
+    rw ((err_from_is_err_and c.from_residual-in_err-show_all.result c.from_residual-in_err-show_all.ensures.1).1) tt
+
+pub returns : goal.returns
+returns g c =
+    record {
+      first = c.in_ok-waves.waves;
+      begins = c.in_ok-waves.ensures ∙ ap (λ (f : FrameTable). values_of f c.in_ok-waves.waves.variables.items)
+          c.in_ok-setup.ensures;
+      frames = c.in_ok-show_all.ensures.shown;
+    }

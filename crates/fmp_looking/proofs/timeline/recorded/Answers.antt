@@ -1,0 +1,41 @@
+use Rattle.std.proofs.Common.{◌∙◌, ap}
+use Rattle.std.proofs.lemmas.Result.{err_from_is_err_and}
+use Rattle.fmp_frames.specs.Frames.{FrameTable}
+use Rattle.fmp_timeline.specs.Shown.{tasks_shown}
+use Rattle.fmp_looking.proofs.timeline.recorded.Goals as goal
+
+pub last_frame-requires-clause-body : goal.last_frame-requires-clause-body
+last_frame-requires-clause-body g c = c.requires.body
+
+pub last_frame-requires-clause-bound : goal.last_frame-requires-clause-bound
+last_frame-requires-clause-bound g c = c.requires.bound
+
+pub show_all-requires-clause-few : goal.show_all-requires-clause-few
+show_all-requires-clause-few g c = c.requires.few
+
+pub show_all-requires-clause-body : goal.show_all-requires-clause-body
+show_all-requires-clause-body g c = c.requires.body
+
+pub show_all-requires-clause-bound : goal.show_all-requires-clause-bound
+show_all-requires-clause-bound g c = c.requires.bound
+
+pub returns-in_err-setup : goal.returns-in_err-setup
+returns-in_err-setup g c =
+    rw ((err_from_is_err_and c.from_residual.result c.from_residual.ensures.1).1) tt
+
+pub returns-in_err-recorder : goal.returns-in_err-recorder
+returns-in_err-recorder g c =
+    rw ((err_from_is_err_and c.from_residual-in_err-recorder.result c.from_residual-in_err-recorder.ensures.1).1) tt
+
+pub returns-in_err-show_all : goal.returns-in_err-show_all
+returns-in_err-show_all g c =
+    rw ((err_from_is_err_and c.from_residual-in_err-show_all.result c.from_residual-in_err-show_all.ensures.1).1) tt
+
+pub returns : goal.returns
+returns g c =
+    record {
+      first = c.in_ok-recorder.recorder;
+      begins = c.in_ok-recorder.ensures
+          ∙ ap (λ (f : FrameTable). tasks_shown f.states f.blocks f.processors) c.in_ok-setup.ensures;
+      frames = c.in_ok-show_all.ensures.shown;
+    }

@@ -1,0 +1,19 @@
+-- The statuses that the program ends with.
+use Rattle.std.specs.Prelude.{ℕ}
+use Rattle.fmp_engine.specs.declared.fault.SimFault.TheVariants as sim
+use Rattle.fmp_lex.specs.declared.fault.BuildFault.TheVariants as build
+use Rattle.fmp_recording.specs.declared.faults.RecordingFault.TheVariants as recording
+use Rattle.fmp_looking.specs.declared.exit.ViewExit.{ViewExit}
+use Rattle.fmp_looking.specs.declared.exit.ViewExit.TheVariants.{Sim, Configuration, Recording, Picture, Expect, Failed}
+
+-- 1 for a fault of what was read, 2 if the run has no such picture, 3 for a failure or if memory ran out
+abbrev pub status_of : ViewExit → ℕ
+status_of (Sim sim.Memory) = 3
+status_of (Sim fault) = 1
+status_of (Configuration build.Memory) = 3
+status_of (Configuration fault) = 1
+status_of (Recording recording.Memory) = 3
+status_of (Recording fault) = 1
+status_of (Picture _) = 2
+status_of (Expect text) = 1
+status_of (Failed _) = 3

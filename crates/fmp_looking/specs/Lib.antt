@@ -1,0 +1,6 @@
+pub mod Called
+pub mod Drives
+pub mod Exits
+pub mod Expects
+pub mod OpenSystems
+pub mod Traces

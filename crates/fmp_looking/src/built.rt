@@ -1,0 +1,212 @@
+//! A run of a system that is built from its texts in memory.
+ghost use Rattle.std.specs.Prelude.{◌≡◌, ◌≤◌, ◌^◌, [], IfOk, length};
+ghost use Rattle.fmp_coming.specs.Comings.{reaction_of};
+ghost use Rattle.fmp_image.specs.Building.{Builds};
+ghost use Rattle.fmp_instructions.specs.Machine.{code_meaning};
+ghost use Rattle.fmp_replay.specs.Replays.{kernel_after};
+ghost use Rattle.fmp_looking.specs.Traces.{IsTrace};
+
+use crate::commands::{DriveEnding, RunOutput, output_of};
+use crate::driving::driven;
+use crate::open_image::OpenImage;
+use crate::opening::events_of;
+use crate::tracing::trace_of;
+use crate::why::why_of;
+use fmp_arguments::{kept_bound, kept_events};
+use fmp_base::Event;
+use fmp_engine::SimFault;
+use fmp_image::build;
+use fmp_image_bytes::Image;
+use fmp_lex::BuildFault;
+use fmp_warnings::Form;
+use std::alloc::{AllocError, Global};
+
+/// How a system is run.
+#[derive(Clone, Copy)]
+pub struct Running {
+    pub form: Form,
+    /// Whether the table of calls is printed in place of the trace.
+    pub calls: bool,
+    /// How many events are done at most where there are no steps, 0 to 2^20.
+    pub events: u32,
+    /// Whether processors go at random there, and by which number.
+    pub seed: Option<u64>,
+    /// The bound of a stretch, 1 to 2^48.
+    pub bound: u64,
+}
+
+/// Why there is no trace.
+#[derive(Clone, Copy)]
+pub enum NoTrace {
+    /// A text, or the steps, have a fault.
+    Faulty,
+    /// Memory ran out.
+    Memory,
+}
+
+/// What is printed and said of a run.
+#[derive(Drop)]
+pub struct Traced {
+    /// The trace, and the states at its end.
+    pub text: Vec<u8>,
+    /// How its drive ended, if it was driven.
+    pub ending: Option<DriveEnding>,
+    /// What each task waits or spins for at the end.
+    pub why: Vec<u8>,
+}
+
+/// Steps, and how their drive ended if they were driven.
+#[derive(Drop)]
+struct Stepped {
+    events: Vec<Event>,
+    ending: Option<DriveEnding>,
+}
+
+/// The image that two texts build.
+fn built(alloc: Global, cfg: &[u8], src: &[u8]) -> Result<Image, NoTrace>
+    ensures { IfOk result (Builds cfg.now src.now) }
+{
+    match build(alloc, cfg, src) {
+        Ok(image) => Ok(image),
+        Err(BuildFault::Memory) => Err(NoTrace::Memory),
+        Err(BuildFault::At(..)) => Err(NoTrace::Faulty),
+    }
+}
+
+/// The trace of a run of an image over events. `AllocError` if memory runs out.
+fn image_trace(
+    alloc: Global,
+    form: Form,
+    image: &Image,
+    events: &[Event],
+    n: u64,
+) -> Result<Vec<u8>, AllocError>
+    requires low { 1 ≤ n }
+    requires high { n ≤ 2 ^ 48 }
+    requires few { length events.now ≤ 2 ^ 20 }
+    ensures { IfOk result (λ out. IsTrace form image.now.system code_meaning (reaction_of code_meaning)
+        (kernel_after image.now n []) events.now out.items) }
+{
+    trace_of(alloc, form, &OpenImage::new(image, n), events)
+}
+
+/// The events that a drive of an image takes, and how it ended.
+#[tactic(none)]
+fn driven_events(alloc: Global, image: &Image, run: Running) -> Result<Stepped, AllocError>
+    ensures { IfOk result (λ s. length s.events.items ≤ 2 ^ 20) }
+{
+    let drive = driven(
+        alloc,
+        image,
+        kept_events(run.events),
+        run.seed,
+        kept_bound(run.bound),
+    )?;
+    let next = drive.next;
+    let ending = DriveEnding {
+        stop: drive.driven.stop,
+        next,
+        processors: image.system().processors,
+    };
+    Ok(Stepped {
+        events: drive.driven.steps,
+        ending: Some(ending),
+    })
+}
+
+/// The events of a steps text for an image.
+fn read_events(alloc: Global, image: &Image, text: &[u8]) -> Result<Stepped, NoTrace>
+    ensures { IfOk result (λ s. length s.events.items ≤ 2 ^ 20) }
+{
+    match events_of(alloc, text, image.system().processors) {
+        Ok(events) => Ok(Stepped {
+            events,
+            ending: None,
+        }),
+        Err(SimFault::Memory) => Err(NoTrace::Memory),
+        Err(_) => Err(NoTrace::Faulty),
+    }
+}
+
+/// The events of a steps text for an image, or of a drive of it where there is no text.
+fn steps_for(
+    alloc: Global,
+    image: &Image,
+    steps: Option<&[u8]>,
+    run: Running,
+) -> Result<Stepped, NoTrace>
+    ensures { IfOk result (λ s. length s.events.items ≤ 2 ^ 20) }
+{
+    match steps {
+        Some(text) => read_events(alloc, image, text),
+        None => match driven_events(alloc, image, run) {
+            Ok(stepped) => Ok(stepped),
+            Err(_) => Err(NoTrace::Memory),
+        },
+    }
+}
+
+/// The trace of a run of an image over events, or the table of its calls.
+fn printed(
+    alloc: Global,
+    image: &Image,
+    events: &[Event],
+    run: Running,
+) -> Result<Vec<u8>, AllocError>
+    requires { length events.now ≤ 2 ^ 20 }
+{
+    let bound = kept_bound(run.bound);
+    if run.calls {
+        return output_of(
+            alloc,
+            &OpenImage::new(image, bound),
+            events,
+            RunOutput::Calls,
+        );
+    }
+    image_trace(alloc, run.form, image, events, bound)
+}
+
+/// What is printed of a run of an image over steps.
+fn traced_over(
+    alloc: Global,
+    image: &Image,
+    stepped: &Stepped,
+    run: Running,
+) -> Result<Traced, AllocError>
+    requires { length stepped.now.events.items ≤ 2 ^ 20 }
+{
+    let text = printed(alloc, image, &stepped.events, run)?;
+    let opened = OpenImage::new(image, run.bound);
+    let why = why_of(alloc, &opened, &stepped.events)?;
+    Ok(Traced {
+        text,
+        ending: stepped.ending,
+        why,
+    })
+}
+
+/// What is printed of a run of an image over a steps text, or of a drive of it.
+fn traced_image(
+    alloc: Global,
+    image: &Image,
+    steps: Option<&[u8]>,
+    run: Running,
+) -> Result<Traced, NoTrace> {
+    let stepped = steps_for(alloc, image, steps, run)?;
+    traced_over(alloc, image, &stepped, run).map_err(|_| NoTrace::Memory)
+}
+
+/// What is printed of a run of the system of two texts: over a steps text, or of a drive where there is none.
+pub fn traced_texts(
+    alloc: Global,
+    cfg: &[u8],
+    src: &[u8],
+    steps: Option<&[u8]>,
+    run: Running,
+) -> Result<Traced, NoTrace> {
+    let image = built(alloc, cfg, src)?;
+    let traced = traced_image(alloc, &image, steps, run);
+    drop(image);
+    traced
+}

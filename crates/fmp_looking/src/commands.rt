@@ -1,0 +1,252 @@
+//! What each command reads of bytes and makes of them.
+ghost use Rattle.std.specs.Prelude.{◌≡◌, ◌+◌, ◌≤◌, ◌^◌, IfOk, length};
+ghost use Rattle.fmp_frames.specs.Counting.{counts_of, first_counts};
+ghost use Rattle.fmp_frames.specs.Shown.{WasShown};
+ghost use Rattle.fmp_frames.specs.Values.{values_of};
+
+use crate::calling::calls_on;
+use crate::driving::driven;
+use crate::exit::{ViewExit, memory};
+use crate::looking::RunLook;
+use crate::open_image::OpenImage;
+use crate::opened::Opened;
+use crate::opening::image_of;
+use crate::why::why_of;
+use fmp_arguments::{kept_bound, kept_events};
+use fmp_base::System;
+use fmp_coming::Coming;
+use fmp_diagnosis::{explain, topic_asked};
+use fmp_drive::{DriveStop, NextRun};
+use fmp_engine::SimFault;
+use fmp_frames::{Tallies, Viewer, Waves, last_frame, show_all};
+use fmp_image_bytes::Image;
+use fmp_kernel::{Body, Kernel};
+use fmp_trace::print_steps;
+use std::alloc::{AllocError, Global};
+
+/// Out of memory, as a fault.
+pub fn made<T>(outcome: Result<T, AllocError>) -> Result<T, SimFault> {
+    outcome.map_err(|_| SimFault::Memory)
+}
+
+/// What the code that this word asks for means; none if there is none.
+pub fn code(alloc: Global, word: &str) -> Result<Option<Vec<u8>>, AllocError> {
+    let Some(topic) = topic_asked(alloc, word.as_bytes())? else {
+        return Ok(None);
+    };
+    let mut out = Vec::new(alloc);
+    explain(alloc, topic, &mut out)?;
+    Ok(Some(out))
+}
+
+/// How a drive ended.
+#[derive(Clone, Copy)]
+pub struct DriveEnding {
+    pub stop: DriveStop,
+    /// How the next run of each processor ends, by places from 0.
+    pub next: [NextRun; 8],
+    /// How many processors there are, at most 8.
+    pub processors: u8,
+}
+
+/// What a drive prints and says.
+#[derive(Drop)]
+pub struct DrivenText {
+    /// The text of the steps.
+    pub steps: Vec<u8>,
+    pub ending: DriveEnding,
+    /// What each task waits or spins for at the end.
+    pub why: Vec<u8>,
+}
+
+/// The text of steps that run an image, why they stop, what each processor would do next, and what tasks wait for then.
+#[tactic(none)]
+fn driven_text(
+    alloc: Global,
+    image: &Image,
+    events: u32,
+    seed: Option<u64>,
+    bound: u64,
+) -> Result<DrivenText, AllocError> {
+    let drive = driven(alloc, image, kept_events(events), seed, kept_bound(bound))?;
+    let mut steps = Vec::new(alloc);
+    print_steps(&drive.driven.steps, &mut steps)?;
+    let why = why_of(alloc, &OpenImage::new(image, bound), &drive.driven.steps)?;
+    let next = drive.next;
+    let ending = DriveEnding {
+        stop: drive.driven.stop,
+        next,
+        processors: image.system().processors,
+    };
+    Ok(DrivenText { steps, ending, why })
+}
+
+/// Steps that run the image of these bytes, why they stop, and what each processor would do next.
+#[tactic(none)]
+pub fn steps(
+    alloc: Global,
+    image: &[u8],
+    events: u32,
+    seed: Option<u64>,
+    bound: u64,
+) -> Result<DrivenText, SimFault> {
+    let image = image_of(alloc, image)?;
+    let driven = driven_text(alloc, &image, events, seed, bound);
+    drop(image);
+    made(driven)
+}
+
+/// What is counted of a run of a kernel over what comes to it.
+#[tactic(none)]
+fn tallied<B: Body, T: Coming<B>>(
+    alloc: Global,
+    kernel: &mut Kernel<B>,
+    body: &B,
+    n: u64,
+    events: &[T],
+) -> Result<Tallies, AllocError>
+    requires few { kernel.old.taken + length events.now ≤ 2 ^ 31 }
+    requires body { body.now ≡ kernel.old.body }
+    requires bound { n ≡ kernel.old.bound }
+    ensures { IfOk result (λ tallies. WasShown (λ x f. counts_of x ≡ first_counts f)
+        ⟦<Tallies as Viewer>⟧.shown B.meaning T.reaction kernel.old events.now tallies) }
+{
+    let setup = last_frame(alloc, kernel, body, n)?;
+    let mut tallies = Tallies::new(alloc, &setup)?;
+    drop(setup);
+    show_all(alloc, kernel, body, n, events, &mut tallies)?;
+    Ok(tallies)
+}
+
+/// The table of a run of a kernel of this system over what comes to it.
+#[tactic(none)]
+fn table_on<B: Body, T: Coming<B>>(
+    alloc: Global,
+    sys: &System,
+    kernel: &mut Kernel<B>,
+    body: &B,
+    n: u64,
+    events: &[T],
+) -> Result<Vec<u8>, AllocError>
+    requires few { kernel.old.taken + length events.now ≤ 2 ^ 31 }
+    requires body { body.now ≡ kernel.old.body }
+    requires bound { n ≡ kernel.old.bound }
+{
+    let tallies = tallied(alloc, kernel, body, n, events)?;
+    let mut out = Vec::new(alloc);
+    tallies.append_table(alloc, sys, &mut out)?;
+    Ok(out)
+}
+
+/// The waves of a run of a kernel of this system over what comes to it.
+#[tactic(none)]
+fn waved<B: Body, T: Coming<B>>(
+    alloc: Global,
+    sys: &System,
+    kernel: &mut Kernel<B>,
+    body: &B,
+    n: u64,
+    events: &[T],
+) -> Result<Waves, AllocError>
+    requires few { kernel.old.taken + length events.now ≤ 2 ^ 31 }
+    requires body { body.now ≡ kernel.old.body }
+    requires bound { n ≡ kernel.old.bound }
+    ensures { IfOk result (λ waves. WasShown (λ x f. x.values.items ≡ values_of f x.variables.items)
+        ⟦<Waves as Viewer>⟧.shown B.meaning T.reaction kernel.old events.now waves) }
+{
+    let setup = last_frame(alloc, kernel, body, n)?;
+    let mut waves = Waves::new(alloc, sys, &setup)?;
+    drop(setup);
+    show_all(alloc, kernel, body, n, events, &mut waves)?;
+    Ok(waves)
+}
+
+/// The waveform of a run of a kernel of this system over what comes to it.
+#[tactic(none)]
+fn dump_on<B: Body, T: Coming<B>>(
+    alloc: Global,
+    sys: &System,
+    kernel: &mut Kernel<B>,
+    body: &B,
+    n: u64,
+    events: &[T],
+) -> Result<Vec<u8>, AllocError>
+    requires few { kernel.old.taken + length events.now ≤ 2 ^ 31 }
+    requires body { body.now ≡ kernel.old.body }
+    requires bound { n ≡ kernel.old.bound }
+{
+    waved(alloc, sys, kernel, body, n, events)?.finish()
+}
+
+/// What is made of a run.
+#[derive(Clone, Copy)]
+pub enum RunOutput {
+    /// The table of what each task did.
+    Table,
+    /// The waveform, as a value change dump.
+    Dump,
+    /// The table of calls.
+    Calls,
+}
+
+/// What is made of a run of a kernel of this system over what comes to it.
+#[tactic(none)]
+fn output_on<B: Body, T: Coming<B>>(
+    alloc: Global,
+    sys: &System,
+    kernel: &mut Kernel<B>,
+    body: &B,
+    n: u64,
+    events: &[T],
+    output: RunOutput,
+) -> Result<Vec<u8>, AllocError>
+    requires few { kernel.old.taken + length events.now ≤ 2 ^ 31 }
+    requires body { body.now ≡ kernel.old.body }
+    requires bound { n ≡ kernel.old.bound }
+{
+    match output {
+        RunOutput::Table => table_on(alloc, sys, kernel, body, n, events),
+        RunOutput::Dump => dump_on(alloc, sys, kernel, body, n, events),
+        RunOutput::Calls => calls_on(alloc, sys, kernel, body, n, events),
+    }
+}
+
+/// What is made of what comes to a system.
+#[tactic(none)]
+pub fn output_of<O: Opened, T: Coming<O::Bodies>>(
+    alloc: Global,
+    opened: &O,
+    events: &[T],
+    output: RunOutput,
+) -> Result<Vec<u8>, AllocError>
+    requires { length events.now ≤ 2 ^ 31 }
+{
+    let mut kernel = opened.kernel(alloc)?;
+    let bodies = opened.bodies();
+    let made = output_on(
+        alloc,
+        opened.system(),
+        &mut kernel,
+        &bodies,
+        opened.bound(),
+        events,
+        output,
+    );
+    drop(bodies);
+    drop(kernel);
+    made
+}
+
+impl RunLook for RunOutput {
+    type Made = Vec<u8>;
+
+    fn of<O: Opened, T: Coming<O::Bodies>>(
+        &self,
+        alloc: Global,
+        opened: &O,
+        events: &[T],
+        _times: &[Option<u64>],
+    ) -> Result<Vec<u8>, ViewExit> {
+        output_of(alloc, opened, events, *self).map_err(|error| memory(error))
+    }
+}

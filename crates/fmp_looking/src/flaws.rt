@@ -1,0 +1,108 @@
+//! What is said of a flaw of a text of expectations: what is expected, what stands there, and the nearest known word.
+use fmp_arguments::{add_deeds, add_name, add_tasks, question_text};
+use fmp_base::{Name, System};
+use fmp_diagnosis::nearest;
+use fmp_expect::{ExpectationFlaw, Expects, STATES, faulty_word, state_name};
+use std::alloc::{AllocError, Global};
+
+fn add_states(known: &mut Vec<Name>) -> Result<(), AllocError> {
+    for state in STATES {
+        add_name(known, state_name(state))?;
+    }
+    Ok(())
+}
+
+/// Adds the tasks and the cyclic handlers.
+fn add_actors(known: &mut Vec<Name>, sys: &System) -> Result<(), AllocError> {
+    add_tasks(known, &sys.tasks)?;
+    for cyclic in &sys.cyclics {
+        known.push(cyclic.name)?;
+    }
+    Ok(())
+}
+
+/// Adds the words that may begin a sentence.
+fn add_beginnings(known: &mut Vec<Name>, sys: &System) -> Result<(), AllocError> {
+    add_name(known, "never")?;
+    add_name(known, "end")?;
+    add_deeds(known)?;
+    add_actors(known, sys)
+}
+
+fn add_before_or_by(known: &mut Vec<Name>) -> Result<(), AllocError> {
+    add_name(known, "before")?;
+    add_name(known, "by")
+}
+
+/// Adds the words of a system that are known where this is expected.
+fn add_known(known: &mut Vec<Name>, sys: &System, expects: Expects) -> Result<(), AllocError> {
+    match expects {
+        Expects::Sentence => add_beginnings(known, sys),
+        Expects::Deed => add_deeds(known),
+        Expects::Actor => add_actors(known, sys),
+        Expects::Task => add_tasks(known, &sys.tasks),
+        Expects::State => add_states(known),
+        Expects::Runs => add_name(known, "runs"),
+        Expects::Within => add_name(known, "within"),
+        Expects::Ticks => add_name(known, "ticks"),
+        Expects::Of => add_name(known, "of"),
+        Expects::Int => add_name(known, "int"),
+        Expects::Before => add_name(known, "before"),
+        Expects::BeforeOrBy => add_before_or_by(known),
+        Expects::EndOrBy => add_name(known, "by"),
+        Expects::End | Expects::Count | Expects::Interrupt => Ok(()),
+    }
+}
+
+/// The known word that is nearest to a word where this is expected, if one is near.
+fn meant(
+    alloc: Global,
+    sys: &System,
+    expects: Expects,
+    word: &[u8],
+) -> Result<Option<Name>, AllocError> {
+    let Some(name) = Name::new(word) else {
+        return Ok(None);
+    };
+    let mut known = Vec::new(alloc);
+    add_known(&mut known, sys, expects)?;
+    match nearest(alloc, &name, &known)? {
+        Some(place) => Ok(known.get(place).copied()),
+        None => Ok(None),
+    }
+}
+
+/// Whether a word can be shown as it is: it has no control byte.
+fn is_shown(word: &[u8]) -> bool {
+    word.iter().all(|byte| *byte >= b' ' && *byte != 127)
+}
+
+/// What stands where a flaw is, in words.
+fn found_text(alloc: Global, word: Option<&[u8]>) -> Result<String, AllocError> {
+    match word {
+        Some(word) if is_shown(word) => {
+            let word = String::from_utf8_lossy(alloc, word)?;
+            format!(in alloc; "found `{word}`")
+        }
+        Some(_) => String::from_str(alloc, "found a word with a control byte"),
+        None => String::from_str(alloc, "found the end of the line"),
+    }
+}
+
+/// What is said of a flaw of the line of this number, for a run of this system. `AllocError` if memory runs out.
+pub fn flaw_text(
+    alloc: Global,
+    sys: &System,
+    number: usize,
+    line: &[u8],
+    flaw: ExpectationFlaw,
+) -> Result<String, AllocError> {
+    let word = faulty_word(line, flaw);
+    let near = match word {
+        Some(word) => meant(alloc, sys, flaw.expects, word)?,
+        None => None,
+    };
+    let found = found_text(alloc, word)?;
+    let question = question_text(alloc, near)?;
+    format!(in alloc; "expect:{number}: {flaw}; {found}{question}")
+}

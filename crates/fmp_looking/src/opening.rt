@@ -1,0 +1,28 @@
+//! The image, and the events of a steps text.
+ghost use Rattle.std.specs.Prelude.{◌≤◌, ◌^◌, IfOk, length};
+
+use fmp_base::Event;
+use fmp_engine::SimFault;
+use fmp_image_bytes::{Image, LoadFault, load};
+use fmp_trace::{StepsFault, read_steps};
+use std::alloc::Global;
+
+/// The image that these bytes spell, or the fault that `fmp sim` has of them.
+pub fn image_of(alloc: Global, bytes: &[u8]) -> Result<Image, SimFault> {
+    match load(alloc, bytes) {
+        Ok(image) => Ok(image),
+        Err(LoadFault::Memory) => Err(SimFault::Memory),
+        Err(fault) => Err(SimFault::Load(fault)),
+    }
+}
+
+/// The events of a steps text for this many processors, or the fault that `fmp sim` reports of it.
+pub fn events_of(alloc: Global, text: &[u8], processors: u8) -> Result<Vec<Event>, SimFault>
+    ensures { IfOk result (λ events. length events.items ≤ 2 ^ 20) }
+{
+    match read_steps(alloc, text, processors) {
+        Ok(events) => Ok(events),
+        Err(StepsFault::Memory) => Err(SimFault::Memory),
+        Err(fault) => Err(SimFault::Steps(fault)),
+    }
+}

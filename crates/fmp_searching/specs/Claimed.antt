@@ -1,0 +1,127 @@
+-- What the status 0 of `explore` claims, and what it prints.
+use Rattle.std.specs.Prelude.{◌≡◌, ℕ, List, [], ◌++◌, All, Bool, IfSome, Option, false, map, true}
+use Rattle.std.specs.List.{list_any}
+use Rattle.clap.specs.Words.{Row}
+use Rattle.fmp_files.specs.Deeds.{Deed, Does, printed}
+use Rattle.fmp_files.specs.Endings.{EndsPrinting}
+use Rattle.fmp_files.specs.Outside.{Files}
+use Rattle.fmp_files.specs.Prints.{Prints}
+use Rattle.fmp_image.specs.Building.{Builds}
+use Rattle.fmp_image_bytes.specs.Images.{ImageTables}
+use Rattle.fmp_question.specs.declared.question.Question.{Question}
+use Rattle.fmp_witness.specs.declared.finding.Finding.{Finding}
+use Rattle.fmp_witness.specs.Findings.{IsFound}
+use Rattle.fmp_steps.specs.Steps.{steps_text}
+use Rattle.fmp_explore.specs.declared.exploring.Report.{Report}
+use Rattle.fmp_explore.specs.Searching.{NothingIsFound}
+use Rattle.fmp_explore_names.specs.Claims.{ending_text, status_of}
+use Rattle.fmp_explore_names.specs.Questions.{IsQuestionOf}
+use Rattle.fmp_explore_names.specs.Sites.{AreBodiesOf, TextBody}
+use Rattle.fmp_searching.specs.declared.sources.Exploring.{Exploring}
+use Rattle.fmp_searching.specs.declared.exploring.Explored.{Explored}
+use Rattle.fmp_searching.specs.Explored.{IsExploring}
+
+-- what is printed of a report: first its findings, then what is claimed of this question or why the search ended
+pub record IsReportText (i : ImageTables) (bodies : List TextBody) (q : Question) (n : ℕ) (r : Report) (text : List ℕ) :
+    Type 0 where
+  pub findings : List ℕ
+  pub extent : List ℕ
+  pub none : r.findings.items ≡ [] → findings ≡ []
+  pub is : text ≡ findings ++ (ending_text i bodies q n r ++ extent)
+
+-- a search found nothing, has looked for stuck tasks too, and claims what holds
+pub record IsClean (r : Report) : Type 0 where
+  pub none : r.findings.items ≡ []
+  pub holds : r.holds ≡ true
+  pub looked : r.looked ≡ true
+
+-- the steps text of a finding
+abbrev pub text_of : Finding → List ℕ
+text_of f = steps_text f.steps.items
+
+-- what is printed, the steps of the findings, and the status, are those of this report
+pub record Tells (i : ImageTables) (bodies : List TextBody) (q : Question) (n : ℕ) (r : Report) (e : Explored) :
+    Type 0 where
+  pub text : IsReportText i bodies q n r e.text.items
+  pub steps : map (λ text. text.items) e.steps.items ≡ map text_of r.findings.items
+  pub status : e.status ≡ status_of r
+  pub clean : e.status ≡ 0 → IsClean r
+
+-- they are those of a report that finds what is so, and claims what holds
+pub record IsExplored (i : ImageTables) (bodies : List TextBody) (q : Question) (n : ℕ) (e : Explored) : Type 0 where
+  pub report : Report
+  pub tells : Tells i bodies q n report e
+  pub found : All (IsFound i n q) report.findings.items
+  pub nothing : report.holds ≡ true → NothingIsFound i n q
+
+abbrev pub is_print : Deed → Bool
+is_print (printed bytes) = true
+is_print _ = false
+
+-- nothing was printed: files were written, and texts were said
+pub record PrintsNothing (before after : Option (List Deed)) : Type 0 where
+  pub deeds : List Deed
+  pub none : list_any is_print deeds ≡ false
+  pub done : Does before deeds after
+
+-- a text was printed, as far as that works, and then nothing more
+pub record PrintsOnly (text : List ℕ) (before after : Option (List Deed)) : Type 0 where
+  pub between : Option (List Deed)
+  pub can_fail : Bool
+  pub status : ℕ
+  pub printed : EndsPrinting text can_fail before between status
+  pub then : PrintsNothing between after
+
+-- what was printed last is what a search came to, whatever that is
+pub record HasShown (i : ImageTables) (bodies : List TextBody) (q : Question) (n : ℕ) (done : Option (List Deed)) :
+    Type 0 where
+  pub explored : Explored
+  pub is : IsExplored i bodies q n explored
+  pub before : Option (List Deed)
+  pub prints : PrintsOnly explored.text.items before done
+
+-- the last that was done is to print this text
+abbrev pub HasPrinted : (text : List ℕ) → (done : Option (List Deed)) → Type 0
+HasPrinted text done = (before : Option (List Deed)) × Prints before text done
+
+-- of an image nothing is found that a question asks about, and this was printed of it last
+pub record HasClaimed (i : ImageTables) (bodies : List TextBody) (q : Question) (n : ℕ) (done : Option (List Deed)) :
+    Type 0 where
+  pub nothing : NothingIsFound i n q
+  pub report : Report
+  pub clean : IsClean report
+  pub text : List ℕ
+  pub is : IsReportText i bodies q n report text
+  pub printed : HasPrinted text done
+
+-- the same of an image whose bodies have this text, and of what the words ask
+pub record HoldsOfImage (i : ImageTables) (src : List ℕ) (e : Exploring) (done : Option (List Deed)) : Type 0 where
+  pub bodies : List TextBody
+  pub are : AreBodiesOf src bodies
+  pub question : Question
+  pub asks : IsQuestionOf e.asked i.system i.code bodies question
+  pub claimed : HasClaimed i bodies question e.bound done
+
+-- the same of the image that two texts build
+pub record HoldsOfTexts (cfg src : List ℕ) (e : Exploring) (done : Option (List Deed)) : Type 0 where
+  pub image : ImageTables
+  pub builds : Builds cfg src image
+  pub holds : HoldsOfImage image src e done
+
+-- a file has these bytes, where they are known
+abbrev pub IsFile : Files → (name bytes : List ℕ) → Type 0
+IsFile files name bytes = IfSome (files.bytes name) (λ all. bytes ≡ all)
+
+-- the same of the texts of two files
+pub record HoldsOfFiles (files : Files) (e : Exploring) (done : Option (List Deed)) : Type 0 where
+  pub cfg : List ℕ
+  pub is_cfg : IsFile files e.cfg.now cfg
+  pub src : List ℕ
+  pub is_src : IsFile files e.src.now src
+  pub holds : HoldsOfTexts cfg src e done
+
+-- the same of what these words ask for
+pub record HoldsOfWords (files : Files) (rows : List Row) (done : Option (List Deed)) : Type 0 where
+  pub exploring : Exploring
+  pub is : IsExploring rows exploring
+  pub holds : HoldsOfFiles files exploring done

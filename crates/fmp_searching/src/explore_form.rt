@@ -1,0 +1,94 @@
+//! The form of the command `explore`.
+use fmp_arguments::{
+    Argument, ArgumentKind, BOUNDED, CFG, CommandForm, Made, OptionValue, SRC, command_of,
+};
+use std::alloc::Global;
+
+/// What must never happen.
+const NEVER: &str =
+    "What must never happen: an answer, as E_QOVR, or E_TMOUT:12 for the calls in line 12 of SRC;
+or a printed value, as 'put(99)'; it may be given again. That a body stops with a fault must
+never happen anyway";
+
+/// Where one task at a time may be.
+const ALONE: &str =
+    "One task at a time may be between 'put(A)' and 'put(B)': A,B are two different values, as 1,2.
+A task is there from its 'put(A)' to its 'put(B)' or its end. It may be given again, at most 4 times";
+
+/// Which task may wait forever.
+const REST: &str =
+    "Name of a task that may wait forever, as servers do: it makes no deadlock, may be stuck, and may go
+on for ever without a call; it may be given again";
+
+/// When the clock may advance.
+const TICKS: &str =
+    "When the clock may advance: at any time, or only where all processors are idle";
+
+/// The words for when the clock may advance.
+const TICKS_WHEN: &[&str] = &["any", "idle"];
+
+/// How many interrupts there may be.
+const INTS: &str = "How many interrupts there may be, 0 to 255; without it any number";
+
+/// How much may be queued.
+const QUEUED: &str =
+    "How many activations and how many wakeups of a task may be queued, 0 to 255: events that
+would queue more do not come; without it any number";
+
+/// How many states are kept.
+const STATES: &str = "How many states are kept at most, 1 to 2^31";
+
+/// Where the steps of findings go.
+const OUT: &str = "The steps of the findings are written to NAME.1 and on; without it NAME is that
+of CFG, with '.found' in place of '.cfg'";
+
+/// The command `explore` as help shows it.
+pub static EXPLORE: CommandForm = CommandForm {
+    name: "explore",
+    about: "Looks at every schedule for deadlocks, stuck tasks, faults and what must never happen",
+    arguments: &[
+        CFG,
+        SRC,
+        Argument("never", ArgumentKind::Again("WHAT"), NEVER),
+        Argument("alone", ArgumentKind::Again("A,B"), ALONE),
+        Argument("rest", ArgumentKind::Again("TASK"), REST),
+        Argument(
+            "ticks",
+            ArgumentKind::Option("WHEN", OptionValue::OneOf(TICKS_WHEN, "any")),
+            TICKS,
+        ),
+        Argument(
+            "ints",
+            ArgumentKind::Option("K", OptionValue::Number(0, 255)),
+            INTS,
+        ),
+        Argument(
+            "queued",
+            ArgumentKind::Option("K", OptionValue::Number(0, 255)),
+            QUEUED,
+        ),
+        BOUNDED,
+        Argument(
+            "states",
+            ArgumentKind::Option("S", OptionValue::Default(1, 1 << 31, "16777216")),
+            STATES,
+        ),
+        Argument(
+            "all",
+            ArgumentKind::Flag,
+            "Go on after the first finding, for the first of each kind at each call",
+        ),
+        Argument(
+            "answers",
+            ArgumentKind::Flag,
+            "Print the answers that each call ever gets, by its line of SRC",
+        ),
+        Argument("out", ArgumentKind::Option("NAME", OptionValue::Text), OUT),
+    ],
+    example: "Example: fmp_view explore examples/queue.cfg examples/queue.src --never E_TMOUT",
+};
+
+/// The command `explore`.
+pub fn explore_command<'a>(alloc: Global) -> Made<'a> {
+    command_of(alloc, &EXPLORE)
+}

@@ -1,6 +1,0 @@
-use Rattle.std.proofs.Common.{◌≡◌, take}
-use Rattle.fmp_view.specs.Faults.{warnings_text}
-use Rattle.fmp_view.proofs.faults.printed_warnings.Given as goal
-
-abbrev pub invariant-loop-warning : goal.invariant-loop-warning
-invariant-loop-warning l = l.out.items ≡ warnings_text l.form l.names (take l.warning-index l.warnings)

@@ -1,6 +1,0 @@
-use Rattle.fmp_view.proofs.faults.shown_behind.Goals as goal
-
-pub returns-in-Some : goal.returns-in-Some
-returns-in-Some c =
-    let found = rw c.in-Some.is at c.in_ok-fault.ensures in
-    (c.in-Some.fault, c.in_ok-finding.finding, found, c.in_ok-finding.ensures, c.in_ok-printed.ensures)

@@ -1,5 +1,0 @@
-use Rattle.fmp_view.proofs.faults.shown_of.Goals as goal
-
-pub returns : goal.returns
-returns c =
-    (c.in_ok-finding.finding, c.in_ok-finding.ensures, rw c.name_of-name.ensures at c.in_ok-printed.ensures)

@@ -1,4 +1,0 @@
-use Rattle.fmp_view.proofs.given.bound_of.Goals as goal
-
-pub returns : goal.returns
-returns c = (c.word64_of.result, c.word64_of.ensures, c.unwrap_or.ensures)

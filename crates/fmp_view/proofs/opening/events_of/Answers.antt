@@ -1,5 +1,0 @@
-use Rattle.fmp_engine.proofs.StepLemmas.{few_events}
-use Rattle.fmp_view.proofs.opening.events_of.Goals as goal
-
-pub returns-in-Ok : goal.returns-in-Ok
-returns-in-Ok c = few_events c.args.processors c.args.text.now _ c.in-Ok.ensures.ok

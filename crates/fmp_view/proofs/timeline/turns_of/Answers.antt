@@ -1,5 +1,0 @@
-use Rattle.fmp_view.proofs.Fresh.{room}
-use Rattle.fmp_view.proofs.timeline.turns_of.Goals as goal
-
-pub idle_turns-turns-requires : goal.idle_turns-turns-requires
-idle_turns-turns-requires g c = room _ _ c.in_ok-kernel.ensures.taken c.requires

@@ -1,0 +1,94 @@
+//! The warnings of two texts, as they are found.
+ghost use Rattle.std.specs.Prelude.{◌≡◌, ◌+◌, ◌++◌, ◌∷◌, [], length, IfOk, OnOk, OnErr};
+ghost use Rattle.fmp_diagnosis.specs.Reports as spec;
+ghost use Rattle.fmp_diagnosis.specs.Reports.{IsWarning};
+
+use fmp_diagnosis::apis::is_symbol;
+use fmp_diagnosis::{FaultReport, Texts, column_behind, excerpt_at};
+use fmp_lex::{Place, Symbol, TextFile, Tokens};
+use std::alloc::{AllocError, Global};
+
+/// A warning: which text it is about, and what is said of it.
+#[derive(Drop)]
+pub struct Warning {
+    pub file: TextFile,
+    pub finding: FaultReport,
+}
+
+/// The warnings of two texts so far.
+#[derive(Drop)]
+pub struct FoundWarnings<'a> {
+    texts: Texts<'a>,
+    pub list: Vec<Warning>,
+}
+
+/// Where the token at a place stands, with the number behind it in its line if it is a minus.
+fn place_at(tokens: &Tokens<'_>, at: usize) -> Place {
+    let Some(place) = tokens.place(at) else {
+        return Place {
+            line: 1,
+            start: 0,
+            end: 0,
+        };
+    };
+    if !is_symbol(tokens, at, Symbol::Minus) {
+        return place;
+    }
+    match tokens.place(at.saturating_add(1)) {
+        Some(behind) if behind.line == place.line => Place {
+            end: behind.end,
+            ..place
+        },
+        _ => place,
+    }
+}
+
+/// A warning of what stands at a place of a text.
+fn warning_at(
+    alloc: Global,
+    text: &[u8],
+    place: Place,
+    sentence: Vec<u8>,
+) -> Result<FaultReport, AllocError>
+    ensures { IfOk result (IsWarning text.now place sentence.items) }
+{
+    let at = (place.start as usize).min(text.len());
+    let excerpt = excerpt_at(alloc, text, at, place.end as usize)?;
+    Ok(FaultReport {
+        line: place.line,
+        end: column_behind(excerpt.column, at, place.end as usize),
+        excerpt,
+        code: "warning",
+        refusal: "",
+        sentence,
+    })
+}
+
+impl<'a> FoundWarnings<'a> {
+    /// No warnings of these texts.
+    pub fn new(alloc: Global, texts: Texts<'a>) -> FoundWarnings<'a>
+        ensures { result.list.items ≡ [] }
+    {
+        FoundWarnings {
+            texts,
+            list: Vec::new(alloc),
+        }
+    }
+
+    /// One more warning: of the token at a place of a text, with this sentence.
+    pub fn warn(
+        &mut self,
+        alloc: Global,
+        file: TextFile,
+        tokens: &Tokens<'_>,
+        at: usize,
+        sentence: Vec<u8>,
+    ) -> Result<(), AllocError>
+        ensures { OnOk result (length self.new.list.items ≡ length self.old.list.items + 1) }
+    {
+        let place = place_at(tokens, at);
+        let finding = warning_at(alloc, self.texts.of(file), place, sentence)?;
+        self.list.push(Warning { file, finding })?;
+        Ok(())
+    }
+}

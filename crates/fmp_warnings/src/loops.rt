@@ -1,0 +1,103 @@
+//! Warnings of loops that nothing in them can end.
+use crate::found::FoundWarnings;
+use fmp_cfgparse::ObjectName;
+use fmp_diagnosis::apis::is_symbol;
+use fmp_diagnosis::around::name_at;
+use fmp_diagnosis::words::{Word, say};
+use fmp_lex::{Keyword, Symbol, TextFile, TokenKind, Tokens};
+use indexmap::IndexSet;
+use std::alloc::{AllocError, Global};
+
+/// The place behind the group that begins at a place, of which the first of these symbols opens a level and the second
+/// closes one.
+fn behind_group(tokens: &Tokens<'_>, begin: usize, opens: Symbol, closes: Symbol) -> usize {
+    let mut open = 0usize;
+    for at in begin..tokens.len() {
+        if is_symbol(tokens, at, opens) {
+            open = open.saturating_add(1);
+        } else if is_symbol(tokens, at, closes) {
+            open = open.saturating_sub(1);
+        }
+        if open == 0 {
+            return at.saturating_add(1);
+        }
+    }
+    tokens.len()
+}
+
+/// The names that stand from a place up to another.
+fn names_in(
+    alloc: Global,
+    tokens: &Tokens<'_>,
+    from: usize,
+    to: usize,
+) -> Result<IndexSet<ObjectName>, AllocError> {
+    let mut names = IndexSet::new(alloc);
+    for at in from..to {
+        if let Some(name) = name_at(tokens, at) {
+            names.insert(ObjectName { name })?;
+        }
+    }
+    Ok(names)
+}
+
+/// Whether a statement begins at a place of a block.
+fn begins_statement(tokens: &Tokens<'_>, at: usize) -> bool {
+    match tokens.kind(at.saturating_sub(1)) {
+        Some(TokenKind::Symbol(symbol)) => matches!(
+            symbol,
+            Symbol::Semicolon | Symbol::LeftBrace | Symbol::RightBrace
+        ),
+        _ => false,
+    }
+}
+
+/// Whether the token at a place of a loop's block may end the loop: a call, a jump out of it, or an assignment to one
+/// of the names of its condition.
+fn may_end(tokens: &Tokens<'_>, at: usize, condition: &IndexSet<ObjectName>) -> bool {
+    match tokens.kind(at) {
+        Some(TokenKind::Service(_)) => true,
+        Some(TokenKind::Keyword(keyword)) => { matches!(keyword, Keyword::Break | Keyword::Return) }
+        Some(TokenKind::Name(name)) => {
+            begins_statement(tokens, at) && condition.contains(&ObjectName { name })
+        }
+        _ => false,
+    }
+}
+
+/// Whether nothing in the loop at a place can end it.
+fn is_endless(alloc: Global, tokens: &Tokens<'_>, at: usize) -> Result<bool, AllocError> {
+    if tokens.kind(at) != Some(TokenKind::Keyword(Keyword::While)) {
+        return Ok(false);
+    }
+    let begin = at.saturating_add(1);
+    let block = behind_group(tokens, begin, Symbol::LeftParen, Symbol::RightParen);
+    let end = behind_group(tokens, block, Symbol::LeftBrace, Symbol::RightBrace);
+    let condition = names_in(alloc, tokens, begin, block)?;
+    for place in block..end {
+        if may_end(tokens, place, &condition) {
+            return Ok(false);
+        }
+    }
+    Ok(true)
+}
+
+/// Warns of the loops of a task text that make no call, do not change what their condition reads, and have no jump out
+/// of them.
+pub fn warn_of_loops(
+    alloc: Global,
+    src: &Tokens<'_>,
+    found: &mut FoundWarnings<'_>,
+) -> Result<(), AllocError> {
+    for at in 0..src.len() {
+        if is_endless(alloc, src, at)? {
+            let words = [Word::Text(
+                "nothing in this loop ends it: it makes no call, has no jump out, and does not change its condition",
+            )];
+            let mut sentence = Vec::new(alloc);
+            say(&words, &mut sentence)?;
+            found.warn(alloc, TextFile::Source, src, at, sentence)?;
+        }
+    }
+    Ok(())
+}

@@ -1,0 +1,310 @@
+//! What is legal in two texts but usually a mistake: a call that its body may never make; a number in place of an
+//! object's name, an object of another kind or a number out of range as the argument of a call; a shared word in an
+//! expression; an index out of range; a loop that nothing ends; a spin lock within another; a constant in a packet for
+//! which it is not; bodies and objects that nothing uses; semaphores that nothing signals, flags that nothing sets.
+ghost use Rattle.std.specs.Prelude.{◌≡◌, ◌<◌, ◌+◌, length, OnOk};
+
+use crate::found::{FoundWarnings, Warning};
+use crate::indices::warn_of_indices;
+use crate::locks::warn_of_locks;
+use crate::loops::warn_of_loops;
+use crate::mistakes::{Mistake, Wrong, say_mistake};
+use crate::objects::{NamedObject, NamedObjects};
+use crate::packets::warn_of_constants;
+use crate::walk::{CallWalk, Lone, WalkedArgument, lone_argument};
+use crate::wanted::{WantedArgument, raised_by, range_at, takes_caller};
+use fmp_base::{Name, Service};
+use fmp_diagnosis::apis::{api_at, entry_of, value_of};
+use fmp_diagnosis::around::{begins_body_at, is_among, list_of, name_at};
+use fmp_diagnosis::fields::Field;
+use fmp_diagnosis::words::{Word, say};
+use fmp_diagnosis::{Texts, processors};
+use fmp_lex::{Api, Constant, TextFile, Tokens};
+use std::alloc::{AllocError, Global};
+
+/// The maximum number of warnings about calls and arguments.
+const CALLS: u32 = 100;
+
+/// What is seen of the texts.
+#[derive(Drop)]
+struct Warnings {
+    objects: NamedObjects,
+    /// Whether some call signals a semaphore that is not given by its name.
+    signals_any: bool,
+    /// Whether some call sets a flag that is not given by its name.
+    sets_any: bool,
+    /// How many processors there are.
+    processors: i64,
+    /// The number of warnings about calls and arguments that are left.
+    room: u32,
+}
+
+impl Warnings {
+    /// Warns of a mistake at a call, which stands at a token of the task text, if there is room.
+    fn warn(
+        &mut self,
+        alloc: Global,
+        tokens: &Tokens<'_>,
+        at: usize,
+        mistake: Mistake,
+        found: &mut FoundWarnings<'_>,
+    ) -> Result<(), AllocError>
+        ensures { OnOk result (0 < self.old.room → length found.new.list.items ≡ length found.old.list.items + 1) }
+    {
+        if self.room == 0 {
+            return Ok(());
+        }
+        self.room -= 1;
+        let mut sentence = Vec::new(alloc);
+        say_mistake(mistake, &mut sentence)?;
+        found.warn(alloc, TextFile::Source, tokens, at, sentence)
+    }
+
+    /// A call signals or sets an object that is not given by its name.
+    fn note_any(&mut self, service: Service) {
+        match raised_by(service) {
+            Some(Api::CreSem) => self.signals_any = true,
+            Some(Api::CreFlg) => self.sets_any = true,
+            _ => {}
+        }
+    }
+
+    /// What is wrong with a name as an argument, if anything is.
+    fn wrong_name(&mut self, argument: WalkedArgument, name: Name) -> Option<Wrong> {
+        let found = self.objects.api_of(name);
+        match (found, argument.wanted) {
+            (Some(api), WantedArgument::Object(wanted)) if api == wanted => {
+                self.objects.note_call(argument.service, name);
+                None
+            }
+            (Some(api), wanted) => {
+                self.note_argument(argument.service, wanted);
+                Some(Wrong::Object(name, api))
+            }
+            (None, wanted) => {
+                self.note_argument(argument.service, wanted);
+                None
+            }
+        }
+    }
+
+    /// A call has an argument that is not the name of an object of the kind that it takes there.
+    fn note_argument(&mut self, service: Service, wanted: WantedArgument) {
+        if let WantedArgument::Object(_) = wanted {
+            self.note_any(service);
+        }
+    }
+
+    /// What is wrong with the number that an argument stands for, where the call takes no object, if anything is.
+    fn wrong_number(&self, argument: WalkedArgument, lone: Lone) -> Option<Wrong> {
+        let number = lone.number()?;
+        let (low, high) = range_at(argument.service, argument.place, self.processors)?;
+        if low <= number && number <= high {
+            return None;
+        }
+        Some(Wrong::Range(number, (low, high)))
+    }
+
+    /// What is wrong with an argument, if anything is.
+    fn wrong(&mut self, tokens: &Tokens<'_>, argument: WalkedArgument) -> Option<Wrong> {
+        let lone = lone_argument(tokens, argument.at);
+        if let Some(Lone::Name(name)) = lone {
+            return self.wrong_name(argument, name);
+        }
+        self.note_argument(argument.service, argument.wanted);
+        match (lone?, argument.wanted) {
+            (lone, WantedArgument::Number(_)) => self.wrong_number(argument, lone),
+            (Lone::Number(0) | Lone::Constant(Constant::TskSelf), _)
+                if takes_caller(argument.service) => { None }
+            (Lone::Number(number), _) => Some(Wrong::Number(number)),
+            (Lone::Constant(constant), _) => Some(Wrong::Constant(constant)),
+            (Lone::Name(_), _) => None,
+        }
+    }
+
+    /// Notes the object whose name stands at a place. Bodies have names of their own. Of a shared word whose number is
+    /// used as a value there, its name.
+    fn note_name(&mut self, tokens: &Tokens<'_>, at: usize, walk: CallWalk) -> Option<Name> {
+        let name = name_at(tokens, at)?;
+        if at > 0 && begins_body_at(tokens, at - 1) {
+            return None;
+        }
+        self.objects.note_named(name);
+        match self.objects.api_of(name) {
+            Some(Api::CreShr) if walk.is_value(tokens, at) => Some(name),
+            _ => None,
+        }
+    }
+
+    /// Walks over the calls of a task text.
+    fn calls(
+        &mut self,
+        alloc: Global,
+        tokens: &Tokens<'_>,
+        found: &mut FoundWarnings<'_>,
+    ) -> Result<(), AllocError> {
+        let mut walk = CallWalk::new();
+        for at in 0..tokens.len() {
+            if let Some(kind) = tokens.kind(at) {
+                walk = walk.behind(kind);
+                if let Some(name) = self.note_name(tokens, at, walk) {
+                    self.warn(alloc, tokens, at, Mistake::SharedWord(name), found)?;
+                }
+                if let Some(barred) = walk.barred(kind) {
+                    self.warn(alloc, tokens, at, Mistake::Barred(barred), found)?;
+                }
+                if let Some(argument) = walk.argument_behind(at, kind) {
+                    if let Some(wrong) = self.wrong(tokens, argument) {
+                        let mistake = Mistake::Argument(argument, wrong);
+                        self.warn(alloc, tokens, argument.at, mistake, found)?;
+                    }
+                }
+            }
+        }
+        Ok(())
+    }
+}
+
+/// The bodies that the static APIs of a configuration name.
+fn entries(alloc: Global, tokens: &Tokens<'_>) -> Result<Vec<Name>, AllocError> {
+    let mut names = Vec::new(alloc);
+    for at in 0..tokens.len() {
+        if let Some(api) = api_at(tokens, at) {
+            if let Some(name) = entry_of(tokens, at, api) {
+                names.push(name)?;
+            }
+        }
+    }
+    Ok(names)
+}
+
+/// The name of the body whose first word stands at a place, if it is none of these.
+fn body_beside(tokens: &Tokens<'_>, at: usize, entries: &[Name]) -> Option<Name> {
+    if !begins_body_at(tokens, at) {
+        return None;
+    }
+    let name = name_at(tokens, at.saturating_add(1))?;
+    if is_among(entries, &name) {
+        return None;
+    }
+    Some(name)
+}
+
+/// Warns of the bodies of a task text that no static API names.
+fn warn_of_bodies(
+    alloc: Global,
+    entries: &[Name],
+    src: &Tokens<'_>,
+    found: &mut FoundWarnings<'_>,
+) -> Result<(), AllocError> {
+    for at in 0..src.len() {
+        if let Some(body) = body_beside(src, at, entries) {
+            let words = [
+                Word::Text("no static API names the body "),
+                Word::Name(body),
+            ];
+            let mut sentence = Vec::new(alloc);
+            say(&words, &mut sentence)?;
+            found.warn(alloc, TextFile::Source, src, at.saturating_add(1), sentence)?;
+        }
+    }
+    Ok(())
+}
+
+/// Whether an object starts without a call: a task or a cyclic handler that is started at setup.
+fn is_started(cfg: &Tokens<'_>, object: &NamedObject) -> bool {
+    match object.api {
+        Api::CreTsk | Api::CreCyc => value_of(cfg, object.at, object.api, Field::Attribute) == 2,
+        _ => false,
+    }
+}
+
+/// What is said of an object whose name stands nowhere in the task text.
+fn unnamed(cfg: &Tokens<'_>, object: &NamedObject) -> Option<&'static str> {
+    if is_started(cfg, object) {
+        return None;
+    }
+    match object.api {
+        Api::CreTsk | Api::CreCyc => Some(" is not started at setup, and no body names it"),
+        _ => Some(" is not named in the task text"),
+    }
+}
+
+impl Warnings {
+    /// What is said of an object that is not used as it should be.
+    fn neglect(&self, cfg: &Tokens<'_>, object: &NamedObject) -> Option<&'static str> {
+        if !object.is_named {
+            return unnamed(cfg, object);
+        }
+        match object.api {
+            Api::CreSem if !(object.is_raised || self.signals_any) => {
+                Some(" is a semaphore that nothing signals")
+            }
+            Api::CreFlg if !(object.is_raised || self.sets_any) => {
+                Some(" is an eventflag that nothing sets")
+            }
+            _ => None,
+        }
+    }
+
+    /// Warns of the objects of a configuration that nothing uses, signals or sets.
+    fn neglected(
+        &self,
+        alloc: Global,
+        cfg: &Tokens<'_>,
+        found: &mut FoundWarnings<'_>,
+    ) -> Result<(), AllocError> {
+        for object in &self.objects.list {
+            if let Some(text) = self.neglect(cfg, object) {
+                let words = [Word::Name(object.name), Word::Text(text)];
+                let mut sentence = Vec::new(alloc);
+                say(&words, &mut sentence)?;
+                let name = object.at.saturating_add(2);
+                found.warn(alloc, TextFile::Configuration, cfg, name, sentence)?;
+            }
+        }
+        Ok(())
+    }
+}
+
+impl Warnings {
+    /// The objects of a configuration, and no warnings.
+    fn new(alloc: Global, cfg: &Tokens<'_>) -> Result<Warnings, AllocError> {
+        Ok(Warnings {
+            objects: NamedObjects::of(alloc, cfg)?,
+            signals_any: false,
+            sets_any: false,
+            processors: i64::from(processors(cfg)),
+            room: CALLS,
+        })
+    }
+
+    /// Looks at the tokens of both texts.
+    fn look(
+        &mut self,
+        alloc: Global,
+        cfg: &Tokens<'_>,
+        src: &Tokens<'_>,
+        found: &mut FoundWarnings<'_>,
+    ) -> Result<(), AllocError> {
+        self.calls(alloc, src, found)?;
+        warn_of_indices(alloc, src, found)?;
+        warn_of_loops(alloc, src, found)?;
+        warn_of_locks(alloc, src, found)?;
+        let entries = entries(alloc, cfg)?;
+        warn_of_bodies(alloc, &entries, src, found)?;
+        warn_of_constants(alloc, cfg, found)?;
+        self.neglected(alloc, cfg, found)
+    }
+}
+
+/// The warnings of two texts that have no fault. Each kind comes in order of text: at most 100 of calls, their
+/// arguments and shared words in expressions; of indices; of loops; of spin locks; of bodies; of the constants and then
+/// of the objects of the configuration. `AllocError` if memory runs out.
+pub fn warnings_of(alloc: Global, texts: Texts<'_>) -> Result<Vec<Warning>, AllocError> {
+    let cfg = list_of(alloc, texts.cfg)?;
+    let src = list_of(alloc, texts.src)?;
+    let mut found = FoundWarnings::new(alloc, texts);
+    Warnings::new(alloc, &cfg.tokens)?.look(alloc, &cfg.tokens, &src.tokens, &mut found)?;
+    Ok(found.list)
+}
