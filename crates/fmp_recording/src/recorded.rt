@@ -2,7 +2,7 @@
 use fmp_outside::Given;
 
 /// What a line of a recording says.
-#[derive(Clone, Copy, PartialEq, Eq)]
+#[derive(Clone, Copy)]
 pub enum RecordedLine {
     /// This came.
     Came(Given),
