@@ -5,7 +5,8 @@ fault of the texts, and what is changed in images.
     checks/rows/rows.py [PROGRAM]
 
 PROGRAM is crates/fmp/out/fmp where it is not given, as `rt ci` or `rt run` leaves it. The rows stand in row_texts.py,
-row_images.py, row_runs.py and row_calls.py, and every expected answer is worked out by hand from the rules.
+row_images.py and row_runs.py, and those of service calls in the files that row_calls.py puts together. Every expected
+answer is worked out by hand from the rules.
 
 It prints how many answers were compared; each that differs it prints before that, and its status is then 1.
 """
