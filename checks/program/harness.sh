@@ -1,5 +1,5 @@
 # shellcheck shell=sh
-# What examples.sh, program.sh and view.sh share: a folder to work in, how a program is run and judged, the last line.
+# What examples.sh and program.sh share: a folder to work in, how a program is run and judged, the last line.
 #
 #   . "$(dirname "$0")/harness.sh"     at the head of a script
 #   subject=$(located fmp "${1:-}")    the program that the cases run

@@ -1,7 +1,7 @@
 #!/usr/bin/env python3
 """Reads what `fmp_view run --json` prints, and prints the trace and the states that it tells, as `fmp sim` prints them.
 
-    fmp_view run CFG SRC STEPS --json | checks/program/records.py
+    fmp_view run CFG SRC STEPS --json | checks/view/records.py
 """
 
 import json

@@ -1,7 +1,7 @@
 #!/usr/bin/env python3
-"""Prints what a picture of `fmp_view timeline` shows, for view.sh to compare.
+"""Prints what a picture of `fmp_view timeline` shows, for the rows of this folder.
 
-    checks/program/pictures.py lanes|marks|waits|looks PICTURE
+    checks/view/pictures.py lanes|marks|waits|looks PICTURE
 
 `lanes`: each lane, and the first line of each of its titles. `marks`: the shape of each mark, and the first line of its
 title. `waits`: the second line of each title of a bar that waits or spins. `looks`: the lane of each task, with the

@@ -1,8 +1,8 @@
 #!/usr/bin/env python3
-"""Prints what a trace of `fmp_view waves` shows, for view.sh to compare.
+"""Prints what a trace of `fmp_view waves` shows, for the rows of this folder.
 
-    checks/program/slices.py perfetto TRACE
-    checks/program/slices.py tlv LOG RESOURCES
+    checks/view/slices.py perfetto TRACE
+    checks/view/slices.py tlv LOG RESOURCES
 
 `perfetto`: each track with its slices, from a time to another, and its instants; and then the arrows. Slices of a track
 must follow one another. `tlv`: the lines of the log, once each is of the standard form, none goes back in time, and
