@@ -256,9 +256,8 @@ class Search:
         self.view, self.program, self.folder = view, program, Path(folder)
         self.name, self.options = name, options
         self.bound = options[options.index("--bound") :][:2] if "--bound" in options else ()
-        for source in FOLDERS:
-            for file in (*source.glob("*.cfg"), *source.glob("*.src")):
-                shutil.copy(file, self.folder)
+        for kind in ("cfg", "src"):
+            shutil.copy(next(it / f"{name}.{kind}" for it in FOLDERS if (it / f"{name}.{kind}").exists()), self.folder)
 
     def run(self, *words):
         """What a program ends with and prints."""
