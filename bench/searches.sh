@@ -7,9 +7,9 @@
 #                                            where none is named. A search of over 15 seconds is run once.
 #
 # It wants the program as `rt run` leaves it in crates/fmp_view/out, and builds it where it is not there. VIEW names
-# another one. It stops a search at MOST seconds, 300 where that is not given. The command `time` of GNU tells times and
-# memory. For the columns of SPIN it wants spin and a C compiler: it installs spin by apt-get where it may, and leaves
-# the columns empty where there is none.
+# another one. A search may take MOST seconds of a processor, 300 where that is not given. GNU's command `time` tells
+# times and memory. For the columns of SPIN it wants spin and a C compiler: it installs spin by apt-get where it may,
+# and leaves the columns empty where there is none.
 #
 # The systems stand in bench/searches and in checks/schedules/systems, and the models, *.pml, in bench/searches. In a
 # model a transition is a service call or an access of a shared word, with the local work in front of it, as an event
@@ -55,9 +55,9 @@ pipe|--ticks idle --ints 4||
 
 # least COMMAND..: runs it; its output is in the file `out`, and the least seconds and the kilobytes are in `spent`.
 least() {
-    local least_seconds= seconds kilobytes run
-    for run in $(seq "$runs"); do
-        /usr/bin/time -f '%U %S %M' -o times timeout "$most" "$@" > out 2> errors || :
+    local least_seconds='' seconds kilobytes
+    for _ in $(seq "$runs"); do
+        (ulimit -t "$most" && exec /usr/bin/time -f '%U %S %M' -o times "$@" > out 2> errors) || :
         read -r seconds kilobytes < <(tail -n 1 times | awk '{ printf "%.2f %d\n", $1 + $2, $3 }')
         if [ -z "$least_seconds" ] || awk "BEGIN { exit !($seconds < $least_seconds) }"; then
             least_seconds=$seconds
@@ -113,10 +113,11 @@ fi
 echo '| System | States | SPIN | Seconds | SPIN | Times SPIN | Bytes a state | SPIN |'
 echo '|---|---|---|---|---|---|---|---|'
 while IFS='|' read -r system options model defines; do
-    [ -n "$system" ] && { [ "$named" = '  ' ] || [[ $named == *" $system "* ]]; } || continue
+    [ -n "$system" ] || continue
+    [ "$named" = '  ' ] || [[ $named == *" $system "* ]] || continue
     # shellcheck disable=SC2086 # words of the command lines
     IFS='|' read -r states seconds bytes < <(searched "$system" $options)
-    their_states= their_seconds= their_bytes= times=
+    their_states='' their_seconds='' their_bytes='' times=''
     if [ -n "$model" ] && command -v spin > /dev/null; then
         # shellcheck disable=SC2086
         IFS='|' read -r their_states their_seconds their_bytes < <(modelled "$model" $defines)
