@@ -4,10 +4,10 @@ found nothing: nor do they.
 
     checks/model/lists.py [COUNT [SEED]] [--view PATH] [--program PATH]
 
-Of each system it is asked whether one code is ever answered, and tasks may wait forever, since most random systems have
-a deadlock; and of every third system in lists of events in which few activations and wakeups are queued: its lists end
-before an event that would queue more. COUNT is the number of systems that were searched whole and have nothing to be
-found. Each has LISTS lists of up to LONG events, and every other system runs at a small bound.
+Of each system it is asked whether one code is ever answered or one value ever put, and tasks may wait forever, since
+most random systems have a deadlock; and of every third system in lists of events in which few activations and wakeups
+are queued: its lists end before an event that would queue more. COUNT is the number of systems that were searched whole
+and have nothing to be found. Each has LISTS lists of up to LONG events, and every other system runs at a small bound.
 """
 
 import copy
@@ -28,7 +28,7 @@ from model.systems import Generator  # noqa: E402
 
 LISTS = 1_000  # of each system
 LONG = 60  # events at most
-CODES = ("E_CTX", "E_ILUSE", "E_OBJ", "E_QOVR", "E_RLWAI", "E_TMOUT")
+NEVERS = ("E_CTX", "E_ILUSE", "E_OBJ", "E_QOVR", "E_RLWAI", "E_TMOUT", "put(0)", "put(1)", "put(-5)")
 
 
 def has_nothing(trial, case, bound, never, question):
@@ -69,7 +69,7 @@ def check(trial):
         case.system.queue_limit = 255
         bound = trial.bound(seed, BOUND)
         chosen, tries = random.Random(f"lists {seed}"), tries_of(case.system)
-        never = chosen.choice(CODES)
+        never = chosen.choice(NEVERS)
         question = Question(queued=chosen.choice((0, 1, 2)) if seed % 3 == 0 else None)
         if has_nothing(trial, case, bound, never, question):
             start = Kernel(case.system, bound)
