@@ -35,6 +35,8 @@ ASSIGNED = "; only `=` changes a variable, as in `x = x + 1`"
 FUNCTION = "there are no functions; a body begins `task NAME {` or `handler NAME {`"
 VARIABLE = "a variable stands in a body; `CRE_SHR` makes a word that bodies share"
 PARAMETERS = "expected `{`, found `(`; a body has no parameters: `exinf` is its first variable"
+SEPARATED = "; tokens are separated by spaces, tabs and line ends"
+BRACES = "; the statements of `if`, `else` and `while` stand in braces"
 FLAG = "made of `TA_TPRI`, `TA_WMUL` and `TA_CLR`, 0 to 7"
 
 # A configuration; the line, the column and the bytes that are marked; the code; the sentence.
@@ -52,9 +54,6 @@ CONFIGURATIONS = [
     ("task m { }", 1, 1, 4, "B1", "expected `NUM_PRC`, found `task`; this is a task text, which comes second"),
     ("run 1\ntick\n", 1, 1, 3, "B1", "expected `NUM_PRC`, found the name `run`; this is a steps text"),
     ("FMPI\x03\x00", 1, 1, 4, "B1", "expected `NUM_PRC`, found the name `FMPI`; this is an image"),
-    ("INCLUDE(\"target.cfg\");", 1, 1, 7, "B1",
-     "expected `NUM_PRC`, found the name `INCLUDE`; no file is included, but `fmp_view import` makes one configuration "
-     "of several"),
     (ONE + "CRE_TSK(T, { 0, 0, m, 1, 256 + 256, NULL }); }", 1, 57, 1, "B1",
      "expected `,` and `NULL` of `CRE_TSK`, found `+`; only `|` joins values"),
     (ONE + "CRE_SHR(W, { 1 + 1 }); }", 1, 43, 1, "B1",
@@ -230,13 +229,20 @@ SOURCES = [
     ("task m { } }", 1, 12, 1, "B1", "expected `task`, `handler` or the end of the text, found `}`"),
     ("task m { retrun; }", 1, 16, 1, "B1", "expected `=` or `[`, found `;`; did you mean `return`?"),
     ("task m { whlie (1) { } }", 1, 10, 5, "B1", "`whlie` is no service call; did you mean `while`?"),
-    ("task m { else { } }", 1, 10, 4, "B1", "expected a statement or `}`, found `else`"),
+    ("task m { else { } }", 1, 10, 4, "B1",
+     "expected a statement or `}`, found `else`; an `else` follows the block of an `if`"),
     ("task m { while (1) { } continue; }", 1, 24, 8, "B1", "`continue` stands in no loop"),
     ("task m { if (1 { } }", 1, 16, 1, "B1", "expected an operator or `)`, found `{`"),
     ("task m { put(1 + ); }", 1, 18, 1, "B1", "expected an operand: a number, a constant, a name or `(`, found `)`"),
     ("task m { put(&exinf); }", 1, 14, 1, "B1", "expected an expression, argument 1 of `put`, found `&`"),
     ("task m { break; }", 1, 10, 5, "B1", "`break` stands in no loop"),
-    ("task m { if (1) put(1); }", 1, 17, 3, "B1", "expected `{`, found the service call `put`"),
+    ("task m { if (1) put(1); }", 1, 17, 3, "B1", "expected `{`, found the service call `put`" + BRACES),
+    ("task m { if (1) { } else put(1); }", 1, 26, 3, "B1",
+     "expected `{` or `if`, found the service call `put`" + BRACES),
+    ("task m { while (1); }", 1, 19, 1, "B1", "expected `{`, found `;`" + BRACES),
+    ("task m { return 1; }", 1, 16, 1, "B1", "expected `;`, found the number 1; a body gives no value"),
+    ("task m { return -exinf; }", 1, 16, 1, "B1", "expected `;`, found `-`; a body gives no value"),
+    ("task m { return\nexinf = 1; }", 1, 16, 1, "B1", "expected `;`, found the name `exinf`"),
     ("task m { put(1); var x; }", 1, 18, 3, "B1",
      "variables are declared at the head of a body, before its statements"),
     ("task m { put(act_tsk(1)); }", 1, 14, 7, "B1", "a service call is a statement, and no part of an expression"),
@@ -254,6 +260,18 @@ SOURCES = [
     ("task m { var put; }", 1, 14, 3, "B1", "expected the name of a variable, found the service call `put`"),
     ("put(1);", 1, 1, 3, "B1", "expected `task` or `handler`, found the service call `put`"),
     ("\ufefftask m { }", 1, 1, 1, "B1", "a byte order mark stands here; save the text without it"),
+    ("task m { put(1);\u00a0}", 1, 17, 1, "B1", "a no-break space stands here" + SEPARATED),
+    ("task m {\u200b }", 1, 9, 1, "B1", "an invisible character stands here" + SEPARATED),
+    ("task m { put(1 \u2013 2); }", 1, 16, 1, "B1", "a dash stands here; minus is written `-`"),
+    ("task m { put(\u201cx\u201d); }", 1, 14, 1, "B1",
+     "a quotation mark stands here; there are no strings, and `put` prints a number"),
+    ("task m { var gr\u00f6\u00dfe; }", 1, 16, 1, "B1",
+     "no token begins with a byte of value 195; names are of ASCII letters"),
+    ("task m { var Ma\u00df; }", 1, 16, 1, "B1",
+     "no token begins with a byte of value 195; names are of ASCII letters"),
+    ("task m { put(\u00e9t\u00e9); }", 1, 14, 1, "B1",
+     "no token begins with a byte of value 195; names are of ASCII letters"),
+    ("task m { put(1); } \u20ac", 1, 20, 1, "B1", "no token begins with a byte of value 226"),
     ("task m { put(2147483648); }", 1, 14, 1, "B5", "`2147483648` " + GREAT),
     ("task m { put([41 times: 9]); }", 1, 14, 1, "B5", "a number of 41 characters " + GREAT),
     ("task a_name_of_more_than_31_bytes_is_a_fault { }", 1, 6, 1, "B5", LONG_NAME),
@@ -270,13 +288,16 @@ SOURCES = [
      "`lopo` is neither a variable of this body, an object nor a constant; did you mean `loop`?"),
     ("task m { put(sem); }", 1, 14, 3, "B3",
      "`sem` is neither a variable of this body, an object nor a constant; did you mean `SEM`?"),
+    ("task m { act_tsk(SELF); }", 1, 18, 4, "B3",
+     "`SELF` is neither a variable of this body, an object nor a constant; did you mean `TSK_SELF`?"),
+    ("task m { put(LF); }", 1, 14, 2, "B3", "`LF` is neither a variable of this body, an object nor a constant"),
     ("task m { put(TA_ACTT); }", 1, 14, 7, "B3",
      "`TA_ACTT` is neither a variable of this body, an object nor a constant; did you mean `TA_ACT`?"),
     ("task run { act_tsk(run); }", 1, 20, 3, "B3",
      "`run` is a body; what stands here is a variable of this body, an object or a constant"),
     ("task m { x = 1; }", 1, 10, 1, "B3", "`x` is no variable of this body"),
-    ("task m { SEM = 1; }", 1, 10, 3, "B3", "`SEM` is an object; only a variable is written"),
-    ("task m { get_tid(&SEM); }", 1, 19, 3, "B3", "`SEM` is an object; only a variable is written"),
+    ("task m { SEM = 1; }", 1, 10, 3, "B3", "`SEM` is a semaphore; only a variable is written"),
+    ("task m { get_tid(&SEM); }", 1, 19, 3, "B3", "`SEM` is a semaphore; only a variable is written"),
     ("task m {\n[64 times: var v#;\n]}", 65, 5, 3, "B5",
      "`v64` passes the 64 places of a body: `exinf` and a plain variable take 1, an array its length"),
     ("task m { var a[63]; var b; }", 1, 25, 1, "B5",
@@ -291,10 +312,88 @@ SOURCES = [
     ("task m { var x; put(x[0]); }", 1, 21, 1, "B9", "`x` is no array; only an array has an index"),
     ("task m { put(SEM[0]); }", 1, 14, 3, "B9", "`SEM` is no array; only an array has an index"),
     ("task m { exinf[0] = 1; }", 1, 10, 5, "B9", "`exinf` is no array; only an array has an index"),
-    ("task m { SEM[0] = 1; }", 1, 10, 3, "B3", "`SEM` is an object; only a variable is written"),
+    ("task m { SEM[0] = 1; }", 1, 10, 3, "B3", "`SEM` is a semaphore; only a variable is written"),
     ("[256 times: task t# { }\n]", 256, 1, 4, "B5", "this is the 256th body; a text has at most 255"),
     ("task ok { }\ntask long {\n[32768 times: put(1); ]}", 2, 1, 4, "B5", LONG_BODY),
     ("task deep {\nput([64 times: 1+(]1[64 times: )]); }", 1, 1, 4, "B5", DEEP_BODY),
+]
+
+INCLUDED = ("expected `NUM_PRC`, found the name `INCLUDE`; no file is included, but `fmp_view import` makes one "
+            "configuration of several")
+COUNT = "the initial count of `CRE_SEM` is 2; it must be 0 to 1"
+PATTERN = "the attribute of `CRE_FLG` is 8; it must be " + FLAG
+UNKNOWN = "is neither a variable of this body, an object nor a constant"
+
+# A configuration and a task text with several faults; of each, in the order in which they are told: the file, the line,
+# the column and the bytes that are marked; the code; the sentence.
+SEVERAL = [
+    ("INCLUDE(\"target.cfg\");", BODIES,
+     ("t.cfg", 1, 1, 7, "B1", INCLUDED),
+     ("t.cfg", 1, 23, 1, "B1", "expected `NUM_PRC`, but the text ends here")),
+    ("#include <t_cfg.h>\nINCLUDE(\"a.cfg\");\nNUM_PRC(1);\nCLASS(TCL_1) { CRE_FLG(F, { 8, 0 }); }", BODIES,
+     ("t.cfg", 1, 1, 1, "B1", "no token begins with `#`; there is no preprocessor"),
+     ("t.cfg", 2, 1, 7, "B1", INCLUDED),
+     ("t.cfg", 4, 29, 1, "B4 E_RSATR", PATTERN)),
+    # Syntax comes before values, and no name is missed that stands in what is left out.
+    ("NUM_PRC(2);\nCLASS(TCL_1) {\n  CRE_SEM(S, { 0, 2, 1 });\n  CRE_FLG(F, { 8, 0 });\n"
+     "  CRE_ALM(A, { 0, 0, h });\n  CRE_DTQ(D, { 0, 256, NULL });\n}\n", "task m { wai_sem(S); put(none); }",
+     ("t.cfg", 5, 3, 7, "B1", "`CRE_ALM` is left out on purpose: there are no alarm handlers"),
+     ("t.cfg", 3, 19, 1, "B4 E_PAR", COUNT),
+     ("t.cfg", 4, 16, 1, "B4 E_RSATR", PATTERN),
+     ("t.cfg", 6, 19, 3, "B4 E_PAR", "the capacity of `CRE_DTQ` is 256; it must be 0 to 255")),
+    # A missing semicolon takes no more than its own static API.
+    ("NUM_PRC(1);\nCLASS(TCL_1) {\nCRE_SEM(S, { 0, 0, 1 })\nCRE_FLG(F, { 8, 0 });\n}", BODIES,
+     ("t.cfg", 3, 24, 1, "B1", "expected `;`, found the static API `CRE_FLG`"),
+     ("t.cfg", 4, 14, 1, "B4 E_RSATR", PATTERN)),
+    ("NUM_PRC(1);\nCLASS(TCL_1) {\nCRE_SEM(S, { 0, 0, 1 }) }\nCLASS(TCL_1) { CRE_FLG(F, { 8, 0 }); }", BODIES,
+     ("t.cfg", 3, 24, 1, "B1", "expected `;`, found `}`"),
+     ("t.cfg", 4, 29, 1, "B4 E_RSATR", PATTERN)),
+    # A class is left out whole: one that there is not, or that is not closed.
+    ("NUM_PRC(1);\nCLASS(MAIN) {\nCRE_SEM(S, { 0, 2, 1 });\n}\nCLASS(TCL_1) {\nCRE_FLG(F, { 8, 0 });\n}", BODIES,
+     ("t.cfg", 2, 7, 4, "B3", "there is no class `MAIN`: with 1 processor they are `TCL_1` and `TCL_1_ONLY`"),
+     ("t.cfg", 6, 14, 1, "B4 E_RSATR", PATTERN)),
+    ("NUM_PRC(1);\nCLASS(TCL_1) {\nCRE_SEM(S, { 0, 2, 1 });\nCLASS(TCL_1) {\nCRE_FLG(F, { 8, 0 });\n}", BODIES,
+     ("t.cfg", 4, 1, 5, "B1",
+      "expected a static API or `}`, found `CLASS`; the class `TCL_1` at line 2 is not closed"),
+     ("t.cfg", 5, 14, 1, "B4 E_RSATR", PATTERN)),
+    # Statements; `y` has no meaning, and `x` has one in what is left out.
+    (OBJECT, "task m {\n    var x = 1;\n    x = x + ;\n    put(x);\n    put(y);\n    wup_tks(1);\n}\n",
+     ("t.src", 2, 10, 1, "B1",
+      "expected `;` or `[`, found `=`; a variable is 0 at first, and a statement gives it another value"),
+     ("t.src", 3, 13, 1, "B1", "expected an operand: a number, a constant, a name or `(`, found `;`"),
+     ("t.src", 6, 5, 7, "B1", "`wup_tks` is no service call; did you mean `wup_tsk`?"),
+     ("t.src", 5, 9, 1, "B3", "`y` " + UNKNOWN)),
+    (OBJECT, "task m {\n    for (exinf = 0; exinf < 3; ) { put(1); }\n    do { } while (1);\n    put(1.5);\n"
+     "    if (exinf = 1) { } else { put(y); }\n    put(\"a;b\");\n    put(z);\n}",
+     ("t.src", 2, 5, 3, "B1", "`for` is left out on purpose: the only loop is `while`"),
+     ("t.src", 3, 5, 2, "B1", "`do` is left out on purpose: the only loop is `while`"),
+     ("t.src", 4, 10, 1, "B1", "no token begins with `.`; numbers are whole, and there are no structures"),
+     ("t.src", 5, 15, 1, "B1", "expected an operator or `)`, found `=`; `==` compares"),
+     ("t.src", 6, 9, 1, "B1", "no token begins with `\"`; there are no strings, and `put` prints a number"),
+     ("t.src", 7, 9, 1, "B3", "`z` " + UNKNOWN)),
+    # What stands between bodies, a heading, and a body that is not closed.
+    (OBJECT, "void f(void) { g(); }\nint n;\ntask m { x++; }\ntask k() { put(x); }\nhandler h { put(y); }",
+     ("t.src", 1, 1, 4, "B1", FUNCTION),
+     ("t.src", 3, 11, 1, "B1", "expected `=` or `[`, found `+`" + ASSIGNED),
+     ("t.src", 4, 7, 1, "B1", PARAMETERS),
+     ("t.src", 5, 17, 1, "B3", "`y` " + UNKNOWN)),
+    (OBJECT, "task m {\n    while (1) {\n        put(1);\n}\ntask n { put(y); }\n",
+     ("t.src", 5, 1, 4, "B1",
+      "expected a statement or `}`, found `task`; the `{` at line 1 is not closed"),
+     ("t.src", 5, 14, 1, "B3", "`y` " + UNKNOWN)),
+    # An entry without a body comes last, with those behind it.
+    (ONE + "\nCRE_TSK(T, { 0, 0, gone, 1, 64, NULL });\nCRE_TSK(U, { 0, 0, lost, 1, 64, NULL }); }",
+     "task m { act_tsk(T); }",
+     ("t.cfg", 2, 20, 4, "B3", "no body of the task text has the name `gone`"),
+     ("t.cfg", 3, 20, 4, "B3", "no body of the task text has the name `lost`")),
+    # A shared word is written by a call.
+    (ONE + "CRE_SHR(LEVEL, { 0 }); }", "task m { LEVEL = 1; }",
+     ("t.src", 1, 10, 5, "B3", "`LEVEL` is a shared word; `st_shr` writes it")),
+    (ONE + "CRE_DTQ(Q, { 0, 1, NULL }); CRE_SHR(LEVEL, { 0 }); }", "task m { Q = rcv_dtq(Q, &LEVEL); }",
+     ("t.src", 1, 10, 1, "B3", "`Q` is a data queue; only a variable is written")),
+    # At most 20 are told.
+    (OBJECT, "task m {\n[25 times: put();\n]}",
+     *[("t.src", line, 5, 1, "B1", "expected an expression, argument 1 of `put`, found `)`") for line in range(2, 22)]),
 ]
 
 TASK = ONE + "CRE_TSK(T, { TA_ACT, 0, m, 1, 64, NULL });"
@@ -306,6 +405,9 @@ SHARED = "`VALUE` is the number of a shared word here; `ld_shr` reads its value"
 WITH_LOCKS = TASK + " CRE_SPN(L, { 0 }); CRE_SPN(M, { 0 }); }"
 ON_TWO = "NUM_PRC(2); CLASS(TCL_1) { CRE_TSK(T, { TA_ACT, 0, m, 1, 64, NULL });\nCRE_SEM(S, { 0, 1, 1 });\n" \
     "CRE_FLG(F, { 0, 0 }); }"
+WITH_LOCK_AND_SEM = TASK + " CRE_SPN(L, { 0 }); CRE_SEM(S, { 0, 1, 1 }); }"
+DIVISION = "the divisor is 0: this is F_DIV"
+CHAIN = "this compares the outcome of a comparison, 0 or 1; `&&` joins two comparisons"
 ENDLESS = "nothing in this loop ends it: it makes no call, has no jump out, and does not change its condition"
 
 # Texts without a fault: the configuration, the bodies, and of each warning the file, the line, the column, the bytes
@@ -346,7 +448,8 @@ WARNINGS = [
      ("t.src", 10, 5, 7, "`wai_sem` answers E_CTX in a handler"),
      ("t.src", 11, 9, 7, "`act_tsk` answers E_CTX in a handler; there it is `iact_tsk`"),
      ("t.src", 11, 17, 1, "the argument 1 is no name; `act_tsk` takes a task"),
-     ("t.src", 12, 5, 7, "`loc_cpu` answers E_CTX in a handler")),
+     ("t.src", 12, 5, 7, "`loc_cpu` answers E_CTX in a handler"),
+     ("t.src", 6, 1, 1, "the task ends here while the CPU is locked by line 4")),
     (WITH_HANDLER,
      "task m {\n    sig_sem(S);\n    mrot_rdq(TPRI_SELF, 1);\n    mrot_rdq(S, S);\n}\n"
      "handler h { mrot_rdq(1, 1); }\n",
@@ -375,7 +478,8 @@ WARNINGS = [
      ("t.src", 8, 16, 5, "the argument 65536 is out of range; `set_flg` takes a bit pattern, 0 to 65535"),
      ("t.src", 9, 16, 1, "the argument 0 is out of range; `wai_flg` takes a bit pattern, 1 to 65535"),
      ("t.src", 9, 19, 1, "the argument 2 is out of range; `wai_flg` takes `TWF_ANDW` or `TWF_ORW`, 0 to 1"),
-     ("t.src", 10, 13, 8, "the argument -1 is out of range; `dly_tsk` takes a time, 0 to 1073741824")),
+     ("t.src", 10, 13, 8, "the argument -1 is out of range; `dly_tsk` takes a time, 0 to 1073741824"),
+     ("t.src", 17, 17, 5, "nothing sets the bits 65535 of `F`, for which `twai_flg` waits")),
     (TASK + " }",
      "task m {\n    var i;\n    var a[2];\n    while (1) { }\n    while (i < 3) { i = i + 1; }\n"
      "    while (i == 0) { put(i); }\n    while (exinf) {\n        while (i < 9) { exinf = 1; }\n    }\n"
@@ -393,7 +497,63 @@ WARNINGS = [
      ("t.cfg", 1, 41, 6, "`TA_STA` is no attribute of `CRE_TSK`; its attribute must be 0 or `TA_ACT`"),
      ("t.cfg", 2, 24, 6,
       "`TA_ACT` is no attribute of `CRE_MBX`; its attribute must be made of `TA_TPRI` and `TA_MPRI`, 0 to 3"),
-     ("t.cfg", 3, 23, 7, "`TA_TPRI` is an attribute, but it stands for the initial count of `CRE_SEM`")),
+     ("t.cfg", 3, 23, 7, "`TA_TPRI` is an attribute, but it stands for the initial count of `CRE_SEM`"),
+     ("t.cfg", 2, 9, 1, "`X` is a mailbox that nothing sends to")),
+    # Expressions that fault, and comparisons of a comparison: not where a sum is of more than two numbers.
+    (TASK + " }",
+     "task m {\n    var x;\n    x = x / 0;\n    x = x % TA_NULL + 1;\n    put(1 < x < 3);\n    put(1 < x && x < 3);\n"
+     "    put((1 < x) < 3);\n    put(2147483647 + 1);\n    put(x - 2147483647 + 1);\n    put(x + 65536 * 32768);\n"
+     "    put(65536 * 32767);\n    put(1 + 2147483647 / 2);\n    put(0 <= x + (x < 3) * 2 >= x);\n}\n",
+     ("t.src", 3, 13, 1, DIVISION),
+     ("t.src", 4, 13, 7, DIVISION),
+     ("t.src", 5, 15, 1, CHAIN),
+     ("t.src", 8, 20, 1, "2147483647 + 1 does not fit into 32 bits: this is F_OVF"),
+     ("t.src", 10, 19, 1, "65536 * 32768 does not fit into 32 bits: this is F_OVF"),
+     ("t.src", 13, 30, 2, CHAIN)),
+    # Statements behind a jump.
+    (TASK + " }",
+     "task m {\n    while (exinf) {\n        if (exinf == 1) { break; put(1); }\n        continue;\n        put(2);\n"
+     "    }\n    if (exinf) { ext_tsk(); put(3); }\n    return;\n    put(4);\n}\n",
+     ("t.src", 3, 34, 3, "nothing reaches this statement: `break` stands before it"),
+     ("t.src", 5, 9, 3, "nothing reaches this statement: `continue` stands before it"),
+     ("t.src", 7, 29, 3, "nothing reaches this statement: `ext_tsk` stands before it"),
+     ("t.src", 9, 5, 3, "nothing reaches this statement: `return` stands before it")),
+    # What a task holds bars calls, and is given back before the task ends.
+    (WITH_LOCK_AND_SEM,
+     "task m {\n    wai_sem(S);\n    loc_spn(L);\n    sig_sem(S);\n    if (exinf) { return; }\n    unl_spn(L);\n"
+     "    dis_dsp();\n    sig_sem(S);\n    wai_sem(S);\n    ena_dsp();\n    loc_cpu();\n    put(1);\n    dly_tsk(1);\n"
+     "    if (exinf) { unl_cpu(); }\n    wai_sem(S);\n    loc_cpu();\n}\n",
+     ("t.src", 4, 5, 7, "`sig_sem` answers E_CTX here: the spin lock that line 3 takes is held"),
+     ("t.src", 5, 18, 6, "the task ends here while the spin lock that line 3 takes is held"),
+     ("t.src", 9, 5, 7, "`wai_sem` answers E_CTX here: dispatching is disabled by line 7"),
+     ("t.src", 13, 5, 7, "`dly_tsk` answers E_CTX here: the CPU is locked by line 11"),
+     ("t.src", 17, 1, 1, "the task ends here while the CPU is locked by line 16")),
+    (WITH_LOCK_AND_SEM,
+     "task m {\n    var x;\n    x = loc_spn(L);\n    if (x != E_OK) { return; }\n    unl_spn(L);\n    dis_dsp();\n"
+     "    if (exinf) { ena_dsp(); }\n    wai_sem(S);\n    sig_sem(S);\n    dis_dsp();\n    pol_sem(S);\n}\n"),
+    (WITH_LOCK_AND_SEM, "task m { wai_sem(S); sig_sem(S); loc_spn(L); while (1) { put(1); } }"),
+    # Bits that nothing sets: all of them for TWF_ORW, some of them for TWF_ANDW.
+    (TASK + "\nCRE_FLG(F, { 0, 1 }); CRE_FLG(G, { 0, 0 }); }",
+     "task m {\n    var v;\n    set_flg(F, 2);\n    wai_flg(F, 7, TWF_ANDW, &v);\n    wai_flg(F, 7, TWF_ORW, &v);\n"
+     "    wai_flg(F, 3, TWF_ANDW, &v);\n    pol_flg(F, 12, TWF_ORW, &v);\n    set_flg(G, v);\n"
+     "    wai_flg(G, 8, TWF_ORW, &v);\n}\n",
+     ("t.src", 4, 16, 1, "nothing sets the bits 4 of `F`, for which `wai_flg` waits"),
+     ("t.src", 7, 16, 2, "nothing sets the bits 12 of `F`, for which `pol_flg` waits")),
+    # Sleeps that nothing ends.
+    (ONE + "CRE_TSK(T, { TA_ACT, 0, m, 1, 64, NULL });\nCRE_TSK(U, { TA_ACT, 0, n, 1, 64, NULL }); }",
+     "task m { slp_tsk(); }\ntask n { slp_tsk(); wup_tsk(U); tslp_tsk(1); }",
+     ("t.src", 1, 10, 7, "nothing ends this sleep: no call wakes a task of this body")),
+    (ONE + "CRE_TSK(T, { TA_ACT, 0, m, 1, 64, NULL }); CRE_TSK(U, { TA_ACT, 0, m, 1, 64, NULL }); }",
+     "task m { slp_tsk(); ter_tsk(U); }"),
+    # Queues of which one end is not used.
+    (TASK + "\nCRE_DTQ(D, { 0, 1, NULL });\nCRE_DTQ(E, { 0, 1, NULL });\nCRE_MBX(X, { 0, 1, NULL });\n"
+     "CRE_MBX(Y, { 0, 1, NULL });\nCRE_MSG(G, { 1 }); }",
+     "task m { var v; snd_dtq(D, 1); prcv_dtq(E, &v); snd_mbx(X, G); rcv_mbx(Y, &v); }",
+     ("t.cfg", 2, 9, 1, "`D` is a data queue that nothing receives from"),
+     ("t.cfg", 3, 9, 1, "`E` is a data queue that nothing sends to"),
+     ("t.cfg", 4, 9, 1, "`X` is a mailbox that nothing receives from"),
+     ("t.cfg", 5, 9, 1, "`Y` is a mailbox that nothing sends to")),
+    (TASK + " CRE_DTQ(D, { 0, 1, NULL }); }", "task m { var q; q = D; snd_dtq(q, 1); rcv_dtq(q, &q); }"),
 ]
 
 # A system of two processors, whose texts have no fault and no warning.
@@ -445,6 +605,9 @@ def findings():
     for row, *place in SOURCES:
         text = expanded(row)
         yield (OBJECT, text, ""), 1, [("t.src", text, *place)]
+    for row, body, *told in SEVERAL:
+        texts = {"t.cfg": expanded(row), "t.src": expanded(body)}
+        yield (texts["t.cfg"], texts["t.src"], ""), 1, [(name, texts[name], *place) for name, *place in told]
     for row, *place in STEPS:
         text = expanded(row)
         yield (*TWO, text), 1, [("t.steps", text, *place)]

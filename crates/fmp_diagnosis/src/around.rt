@@ -3,7 +3,7 @@ ghost use Rattle.std.specs.Prelude.{◌≡◌, ◌-◌, length, min, slice_range
 ghost use Rattle.fmp_diagnosis.specs.Culprits.{HasTokens};
 
 use fmp_base::Name;
-use fmp_lex::{Keyword, TokenKind, TokenList, Tokens, tokens};
+use fmp_lex::{Keyword, Place, TokenKind, TokenList, Tokens, tokens};
 use std::alloc::{AllocError, Global};
 
 /// The greatest number of bytes of a text that is cut into tokens.
@@ -32,7 +32,8 @@ pub struct Around<'a> {
 
 /// The text around a place.
 pub fn around_place<'a>(alloc: Global, text: &'a [u8], at: usize) -> Result<Around<'a>, AllocError>
-    ensures { IfOk result (λ around. HasTokens (slice_range text.now 0 (min at (length text.now))) around.before.tokens) }
+    ensures { IfOk result (λ around.
+        HasTokens (slice_range text.now 0 (min at (length text.now))) around.before.tokens) }
 {
     let at = at.min(text.len());
     let bytes = &text[at..];
@@ -47,6 +48,24 @@ impl<'a> Around<'a> {
     /// The token at the place.
     pub fn here(&self) -> Option<TokenKind> {
         self.rest.tokens.kind(0)
+    }
+
+    /// Whether the token before the place stands in the same line.
+    pub fn is_in_line(&self) -> bool {
+        self.last_place()
+            .is_some_and(|place| place.line == self.before.end.line)
+    }
+
+    /// Whether the token before the place ends there.
+    pub fn is_joined(&self) -> bool {
+        self.last_place()
+            .is_some_and(|place| place.end == self.before.end.start)
+    }
+
+    /// Where the token before the place stands.
+    fn last_place(&self) -> Option<Place> {
+        let at = self.before.tokens.len().checked_sub(1)?;
+        self.before.tokens.place(at)
     }
 
     /// The token this far before the place, 1 for the last one.

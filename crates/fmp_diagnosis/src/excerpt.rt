@@ -1,5 +1,6 @@
 //! The line of a text that holds a place, with marks under the token there.
-ghost use Rattle.std.specs.Prelude.{◌≡◌, ℕ, ◌+◌, ◌-◌, ◌^◌, ◌<◌, ◌≤◌, ◌==◌, nat_lt, true, false, ◌++◌, flat_map, length, max, min, replicate, slice_index, slice_range, IfOk, OnOk};
+ghost use Rattle.std.specs.Prelude.{◌≡◌, ℕ, ◌+◌, ◌-◌, ◌^◌, ◌<◌, ◌≤◌, ◌==◌, ◌++◌, nat_lt, true, false, IfOk, OnOk};
+ghost use Rattle.std.specs.Prelude.{flat_map, length, max, min, replicate, slice_index, slice_range};
 ghost use Rattle.fmp_diagnosis.specs.Excerpts as spec;
 ghost use Rattle.fmp_diagnosis.specs.Excerpts.{IsExcerpt, IsLine};
 

@@ -45,7 +45,7 @@ static IN_CONFIGURATIONS: [Habit; 8] = [
 ];
 
 /// Habits in task texts.
-static IN_TASK_TEXTS: [Habit; 13] = [
+static IN_TASK_TEXTS: [Habit; 14] = [
     Habit(
         "`task` or",
         &["NUM_PRC"],
@@ -81,6 +81,11 @@ static IN_TASK_TEXTS: [Habit; 13] = [
     ),
     Habit("a statement", &[";"], "; there is no empty statement"),
     Habit(
+        "a statement",
+        &["else"],
+        "; an `else` follows the block of an `if`",
+    ),
+    Habit(
         "an operand",
         &["+"],
         "; only `=` changes a variable, as in `x = x + 1`",
@@ -96,7 +101,7 @@ static IN_TASK_TEXTS: [Habit; 13] = [
 ];
 
 /// Whether bytes begin with one of these texts.
-fn begins_with_one(bytes: &[u8], texts: &[&str]) -> bool {
+pub fn begins_with_one(bytes: &[u8], texts: &[&str]) -> bool {
     texts.iter().any(|text| bytes.starts_with(text.as_bytes()))
 }
 
@@ -163,6 +168,46 @@ fn say_open_brace(
     }
 }
 
+/// Whether a value may begin with this token.
+fn begins_value(kind: TokenKind) -> bool {
+    matches!(
+        kind,
+        TokenKind::Number(_)
+            | TokenKind::Name(_)
+            | TokenKind::Constant(_)
+            | TokenKind::Symbol(Symbol::LeftParen | Symbol::Minus | Symbol::Not | Symbol::Tilde)
+    )
+}
+
+/// What is said of a value behind `return` in its line, and of statements without braces behind a condition or `else`;
+/// nothing of anything else.
+fn said_of_statement(around: &Around<'_>, expected: &[u8]) -> &'static str {
+    match (around.back(1), around.here()) {
+        (_, None) => "",
+        (Some(TokenKind::Keyword(Keyword::Return)), Some(kind))
+            if around.is_in_line() && begins_value(kind) => "; a body gives no value",
+        (Some(TokenKind::Keyword(Keyword::Else) | TokenKind::Symbol(Symbol::RightParen)), _)
+            if expected.starts_with(b"`{`") => {
+            "; the statements of `if`, `else` and `while` stand in braces"
+        }
+        _ => "",
+    }
+}
+
+/// What is said of what is written by habit at the place of a text, behind the words that say what is expected there;
+/// nothing of anything else.
+fn said_of_place(file: TextFile, around: &Around<'_>, expected: &[u8]) -> &'static str {
+    let said = match file {
+        TextFile::Configuration => "",
+        TextFile::Source => said_of_statement(around, expected),
+    };
+    if said.is_empty() {
+        said_of_habit(file, expected, around.bytes)
+    } else {
+        said
+    }
+}
+
 /// Says what stands in the place of what is written by habit at the place of a text, behind the words that say what is
 /// expected there; or which brace is to be closed first.
 pub fn say_habit(
@@ -178,10 +223,7 @@ pub fn say_habit(
             return say_open_brace(file, &around.before.tokens, at, out);
         }
     }
-    say(
-        &[Word::Text(said_of_habit(file, expected, around.bytes))],
-        out,
-    )
+    say(&[Word::Text(said_of_place(file, around, expected))], out)
 }
 
 /// How many names stand at the head of tokens, or `var` in the place of one.

@@ -11,6 +11,7 @@ mod expected_api;
 mod expected_statement;
 mod explanations;
 pub mod fields;
+mod foreign;
 mod habits;
 mod known;
 mod left_out;
@@ -27,6 +28,7 @@ mod syntax;
 mod topics;
 pub mod words;
 
+pub use culprit::culprit_of;
 pub use excerpt::{Excerpt, excerpt_at};
 pub use explanations::explain;
 pub use known::name_meant;

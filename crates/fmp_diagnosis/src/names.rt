@@ -1,13 +1,15 @@
 //! Sentences on a name that is used twice, and on one that nothing has.
 ghost use Rattle.std.specs.Prelude.{◌<◌, length, OnOk};
-ghost use Rattle.fmp_diagnosis.specs.Words.{IsSaid, IsSaidFirst, quoted};
+ghost use Rattle.fmp_diagnosis.specs.Words.{IsSaid, IsSaidFirst, MaySay, quoted};
 ghost use Rattle.fmp_base.specs.Names.{name_text};
 
 use crate::apis::{api_at, entry_of, is_symbol, object_name, unknown_constant};
-use crate::around::{Around, is_among, is_same, last_body, line_of, list_of, name_at};
-use crate::fields::Field;
-use crate::known::{bodies, constants, objects, say_nearest, say_unknown_of, variables};
-use crate::words::{Word, say, say_of, say_text};
+use crate::around::{Around, is_same, last_body, line_of, list_of, name_at};
+use crate::fields::{Field, object_of};
+use crate::known::{
+    bodies, constants, name_meant, objects, say_nearest, say_unknown_of, variables,
+};
+use crate::words::{Word, ask_whether, say, say_of, say_text};
 use fmp_base::Name;
 use fmp_lex::{Api, Keyword, Symbol, TextFile, TokenKind, Tokens};
 use std::alloc::{AllocError, Global};
@@ -18,16 +20,26 @@ const TWICE: &str = "a name is used twice";
 /// The sentence if no name is found that nothing has.
 const UNKNOWN: &str = "nothing has this name";
 
-/// Where the first object of this name is made, by its line.
-fn line_of_object(tokens: &Tokens<'_>, name: &Name) -> Option<u32> {
+/// Where the first object of this name is made.
+fn place_of_object(tokens: &Tokens<'_>, name: &Name) -> Option<usize> {
     for at in 0..tokens.len() {
         if let Some(one) = object_name(tokens, at) {
             if is_same(&one, name) {
-                return line_of(tokens, at);
+                return Some(at);
             }
         }
     }
     None
+}
+
+/// The line in which the first object of this name is made.
+fn line_of_object(tokens: &Tokens<'_>, name: &Name) -> Option<u32> {
+    line_of(tokens, place_of_object(tokens, name)?)
+}
+
+/// The static API that makes the first object of this name.
+fn maker_of(tokens: &Tokens<'_>, name: &Name) -> Option<Api> {
+    api_at(tokens, place_of_object(tokens, name)?)
 }
 
 /// Whether this name stands at a place.
@@ -254,16 +266,28 @@ fn is_written(around: &Around<'_>) -> bool {
     is_out && around.back(1) == Some(TokenKind::Symbol(Symbol::And))
 }
 
-/// The names of the objects of a configuration.
-fn objects_of(alloc: Global, cfg: &[u8]) -> Result<Vec<Name>, AllocError> {
-    let list = list_of(alloc, cfg)?;
-    objects(alloc, &list.tokens)
+/// Says that a name which is written is an object that this static API makes.
+fn say_object_written(name: &Name, api: Api, out: &mut Vec<u8>) -> Result<(), AllocError>
+    ensures said { OnOk result (IsSaid out.old.items out.new.items) }
+    ensures names { OnOk result (IsSaidFirst (quoted (name_text name.now)) out.old.items out.new.items) }
+{
+    let instead = if matches!(api, Api::CreShr) {
+        "; `st_shr` writes it"
+    } else {
+        "; only a variable is written"
+    };
+    let words = [
+        Word::Text(" is "),
+        Word::Text(object_of(api)),
+        Word::Text(instead),
+    ];
+    say_of(name, &words, out)
 }
 
 /// Says that a name which is written is no variable.
 fn say_written(
     alloc: Global,
-    objects: &[Name],
+    cfg: &Tokens<'_>,
     around: &Around<'_>,
     name: Name,
     out: &mut Vec<u8>,
@@ -271,9 +295,8 @@ fn say_written(
     ensures said { OnOk result (IsSaid out.old.items out.new.items) }
     ensures names { OnOk result (IsSaidFirst (quoted (name_text name)) out.old.items out.new.items) }
 {
-    if is_among(objects, &name) {
-        let words = [Word::Text(" is an object; only a variable is written")];
-        return say_of(&name, &words, out);
+    if let Some(api) = maker_of(cfg, &name) {
+        return say_object_written(&name, api, out);
     }
     let known = variables(alloc, &around.before.tokens)?;
     let words = [Word::Text(" is no variable of this body")];
@@ -288,18 +311,50 @@ fn is_body(around: &Around<'_>, name: &Name) -> bool {
 }
 
 /// The names that can be read at the place: variables, objects and constants.
-fn readable(alloc: Global, objects: &[Name], around: &Around<'_>) -> Result<Vec<Name>, AllocError> {
+fn readable(alloc: Global, cfg: &Tokens<'_>, around: &Around<'_>) -> Result<Vec<Name>, AllocError> {
     let mut known = variables(alloc, &around.before.tokens)?;
-    known.extend_from_slice(objects)?;
+    let objects = objects(alloc, cfg)?;
+    known.extend_from_slice(&objects)?;
     let constants = constants(alloc)?;
     known.extend_from_slice(&constants)?;
     Ok(known)
 }
 
+/// Whether a name is the last part of a known one, as `SELF` is of `TSK_SELF`.
+fn is_last_part(known: &Name, name: &Name) -> bool {
+    match known.as_bytes().strip_suffix(name.as_bytes()) {
+        Some(front) => front.ends_with(b"_"),
+        None => false,
+    }
+}
+
+/// The first known name of which a name is the last part.
+fn whole_of(known: &[Name], name: &Name) -> Option<Name> {
+    for one in known {
+        if is_last_part(one, name) {
+            return Some(*one);
+        }
+    }
+    None
+}
+
+/// Asks which known name was meant: one that resembles a name, or else the first one of which it is the last part.
+fn ask_for(alloc: Global, name: &Name, known: &[Name], out: &mut Vec<u8>) -> Result<(), AllocError>
+    ensures { OnOk result (MaySay out.old.items out.new.items) }
+{
+    if name_meant(alloc, name, known)?.is_some() {
+        return say_nearest(alloc, name, known, out);
+    }
+    match whole_of(known, name) {
+        Some(whole) => ask_whether(&whole, out),
+        None => Ok(()),
+    }
+}
+
 /// Says that a name which is read is neither a variable, an object nor a constant.
 fn say_read(
     alloc: Global,
-    objects: &[Name],
+    cfg: &Tokens<'_>,
     around: &Around<'_>,
     name: Name,
     out: &mut Vec<u8>,
@@ -313,9 +368,10 @@ fn say_read(
         )];
         return say_of(&name, &words, out);
     }
-    let known = readable(alloc, objects, around)?;
+    let known = readable(alloc, cfg, around)?;
     let words = [Word::Text(" is neither a variable of this body, an object nor a constant")];
-    say_unknown_of(alloc, &name, &words, &known, out)
+    say_of(&name, &words, out)?;
+    ask_for(alloc, &name, &known, out)
 }
 
 /// Says which name of a body nothing has.
@@ -329,11 +385,11 @@ fn say_unknown_in_source(
     ensures said { OnOk result (IsSaid out.old.items out.new.items) }
     ensures names { OnOk result (IsSaidFirst (quoted (name_text name)) out.old.items out.new.items) }
 {
-    let objects = objects_of(alloc, cfg)?;
+    let list = list_of(alloc, cfg)?;
     if is_written(around) {
-        say_written(alloc, &objects, around, name, out)
+        say_written(alloc, &list.tokens, around, name, out)
     } else {
-        say_read(alloc, &objects, around, name, out)
+        say_read(alloc, &list.tokens, around, name, out)
     }
 }
 

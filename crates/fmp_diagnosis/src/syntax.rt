@@ -4,6 +4,7 @@ ghost use Rattle.fmp_diagnosis.specs.Words.{IsSaid, IsSaidFirst, MaySay, quoted}
 ghost use Rattle.fmp_base.specs.Names.{name_text};
 
 use crate::around::{Around, name_at};
+use crate::foreign::say_foreign;
 use crate::habits::{said_of_declaration, say_habit};
 use crate::known::{apis, keywords, say_nearest, say_unknown_of, services};
 use crate::left_out::{say_left_out, why_left_out};
@@ -56,10 +57,11 @@ fn in_place_of(first: u8) -> &'static str {
     }
 }
 
-/// Says why no token begins with these bytes.
-fn say_no_token(bytes: &[u8], out: &mut Vec<u8>) -> Result<(), AllocError>
+/// Says why no token begins at the place.
+fn say_no_token(around: &Around<'_>, out: &mut Vec<u8>) -> Result<(), AllocError>
     ensures { OnOk result (IsSaid out.old.items out.new.items) }
 {
+    let bytes = around.bytes;
     let first = first_of(bytes);
     if first.is_ascii_digit() {
         let number = &bytes[..word_length(bytes).min(bytes.len())];
@@ -81,6 +83,9 @@ fn say_no_token(bytes: &[u8], out: &mut Vec<u8>) -> Result<(), AllocError>
     if first.is_ascii_graphic() {
         say_text("no token begins with ", out)?;
         return say_quoted(&[first], &[Word::Text(in_place_of(first))], out);
+    }
+    if !first.is_ascii() {
+        return say_foreign(around, first, out);
     }
     say(
         &[
@@ -413,7 +418,7 @@ pub fn say_syntax(
     ensures { OnOk result (IsSaid out.old.items out.new.items) }
 {
     match (around.here(), file) {
-        (Some(TokenKind::Bad(LexFault::Syntax)), _) => say_no_token(around.bytes, out),
+        (Some(TokenKind::Bad(LexFault::Syntax)), _) => say_no_token(around, out),
         (Some(TokenKind::Bad(LexFault::Limit)), _) => say_too_great(around.bytes, out),
         _ => say_in_text(alloc, file, around, out),
     }

@@ -2,7 +2,8 @@
 ghost use Rattle.std.specs.Prelude.{◌≡◌, find, IfOk};
 ghost use Rattle.std.specs.Str.{bytes_eq};
 ghost use Rattle.fmp_diagnosis.specs.Topics as spec;
-ghost use Rattle.fmp_diagnosis.specs.Topics.{EveryTopicIsFound, is_numbered, topic_asked as topic_asked_by, topic_named, topic_word};
+ghost use Rattle.fmp_diagnosis.specs.Topics.{EveryTopicIsFound, is_numbered, topic_named, topic_word};
+ghost use Rattle.fmp_diagnosis.specs.Topics.{topic_asked as topic_asked_by};
 
 use fmp_base::Er;
 use itoa::Buffer;

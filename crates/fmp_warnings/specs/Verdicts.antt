@@ -1,5 +1,5 @@
 -- What is shown of the texts of a system, and of the steps of a run of it.
-use Rattle.std.specs.Prelude.{◌≡◌, ℕ, List, Option, Some, None, Ok, Err, flat_map}
+use Rattle.std.specs.Prelude.{◌≡◌, ℕ, List, ◌++◌, Option, Some, None, Ok, Err, flat_map}
 use Rattle.fmp_base.specs.declared.events.Event.{Event}
 use Rattle.fmp_lex.specs.declared.fault.BuildFault.TheVariants as build
 use Rattle.fmp_lex.specs.declared.fault.TextFile.{TextFile}
@@ -10,6 +10,7 @@ use Rattle.fmp_steps.specs.declared.faults.StepsFault.{StepsFault}
 use Rattle.fmp_steps.specs.declared.faults.StepsFault.TheVariants as fault
 use Rattle.fmp_steps.specs.Steps.{steps_of}
 use Rattle.fmp_warnings.specs.declared.found.Warning.{Warning}
+use Rattle.fmp_warnings.specs.declared.further.ToldFault.{ToldFault}
 use Rattle.fmp_diagnosis.specs.declared.reports.FaultReport.{FaultReport}
 use Rattle.fmp_diagnosis.specs.declared.sentence.Texts.{Texts}
 use Rattle.fmp_diagnosis.specs.declared.steps.StepFlaw.{StepFlaw}
@@ -25,6 +26,7 @@ use Rattle.fmp_warnings.specs.declared.verdicts.TextsVerdict.TheVariants as foun
 use Rattle.fmp_warnings.specs.declared.verdicts.Shown.{Shown}
 use Rattle.fmp_warnings.specs.declared.verdicts.Shown.TheVariants as shown
 use Rattle.fmp_warnings.specs.declared.verdicts.StepFault.{StepFault}
+use Rattle.fmp_warnings.specs.Further.{AreFurther, both_of}
 
 -- this is the first fault of two texts; or they build the image of a system with this number of processors
 abbrev pub IsFound : (cfg src : List ℕ) → TextsVerdict → Type 0
@@ -57,6 +59,10 @@ printed form.Json name f = record_text name f
 abbrev pub warnings_text : Form → FileNames → List Warning → List ℕ
 warnings_text form names = flat_map (λ w. printed form (name_of names w.file) w.finding)
 
+-- faults, as they are printed
+abbrev pub faults_text : Form → FileNames → List ToldFault → List ℕ
+faults_text form names = flat_map (λ f. printed form (name_of names f.file) f.finding)
+
 -- the first fault of a steps text is reported, under the name of its file
 abbrev pub IsStepShown : Form → FileNames → (processors : ℕ) → (text : List ℕ) → (out : List ℕ) → Type 0
 IsStepShown form names processors text out =
@@ -65,13 +71,15 @@ IsStepShown form names processors text out =
     × IsStepFinding text s.line s.flaw f
     × (out ≡ printed form names.steps.now f)
 
--- Of two texts with a fault their first one is reported, under the name of its file; of others the first fault of the
--- steps, and if they have none, warnings.
+-- Of two texts with a fault their first one is reported, under the name of its file, and then what is told of them
+-- behind it; of others the first fault of the steps, and if they have none, warnings.
 abbrev pub IsShownOf : Form → FileNames → Texts → (steps : List ℕ) → TextsVerdict → Shown → Type 0
 IsShownOf form names t steps (found.Faulty f) (shown.Faulty out) =
     (x : FaultReport)
+    × (more : List ToldFault)
     × IsFinding (text_of t f.file) f.place f.kind x
-    × (out.items ≡ printed form (name_of names f.file) x)
+    × AreFurther (both_of t) f more
+    × (out.items ≡ printed form (name_of names f.file) x ++ faults_text form names more)
 IsShownOf form names t steps (found.Faulty f) (shown.Sound out) = ⊥
 IsShownOf form names t steps (found.Sound processors) (shown.Faulty out) =
     IsStepShown form names processors steps out.items

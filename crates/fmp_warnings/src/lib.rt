@@ -1,20 +1,33 @@
 //! What is legal in two texts but usually a mistake. And what is shown of the texts of a system and of the steps of a
-//! run: their first fault, or these warnings.
+//! run: their faults, or these warnings.
 #![tactic(auto)]
 
+mod arithmetic;
+mod before;
+mod behind;
+mod bits;
+mod constructs;
 mod contexts;
 mod found;
+mod further;
 mod indices;
+mod left;
 mod locks;
 mod loops;
 mod mistakes;
 mod objects;
 mod packets;
+mod pieces;
+mod sleeps;
+mod unreached;
 mod verdicts;
 mod walk;
 mod wanted;
 mod warnings;
 
 pub use found::Warning;
-pub use verdicts::{FileNames, Form, Shown, StepFault, TextsFault, TextsVerdict, shown_fault};
+pub use further::{ToldFault, further_faults};
+pub use verdicts::{
+    FileNames, Form, Shown, StepFault, TextsFault, TextsVerdict, found_in, shown_fault,
+};
 pub use warnings::warnings_of;

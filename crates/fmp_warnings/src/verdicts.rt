@@ -1,10 +1,11 @@
-//! What is shown of the texts of a system, and of the steps of a run of it: the first fault, or the warnings.
-ghost use Rattle.std.specs.Prelude.{◌≡◌, IfOk, Ok, Some};
+//! What is shown of the texts of a system, and of the steps of a run of it: the faults, or the warnings.
+ghost use Rattle.std.specs.Prelude.{◌≡◌, ◌++◌, IfOk, Ok, Some};
 ghost use Rattle.fmp_warnings.specs.declared.verdicts.TextsVerdict.TheVariants as found;
 ghost use Rattle.fmp_warnings.specs.Verdicts as spec;
-ghost use Rattle.fmp_warnings.specs.Verdicts.{HasStepFault, IsFound, IsShown, IsShownOf, warnings_text};
+ghost use Rattle.fmp_warnings.specs.Verdicts.{HasStepFault, IsFound, IsShown, IsShownOf, faults_text, warnings_text};
 
 use crate::found::Warning;
+use crate::further::{ToldFault, further_faults};
 use crate::warnings::warnings_of;
 use fmp_diagnosis::{FaultReport, StepFlaw, Texts, finding_at, step_finding};
 use fmp_image::build;
@@ -85,7 +86,7 @@ impl Shown {
 }
 
 /// The first fault of two texts, or how many processors their system has.
-fn found_in(alloc: Global, cfg: &[u8], src: &[u8]) -> Result<TextsVerdict, AllocError>
+pub fn found_in(alloc: Global, cfg: &[u8], src: &[u8]) -> Result<TextsVerdict, AllocError>
     ensures { IfOk result (IsFound cfg.now src.now) }
 {
     match build(alloc, cfg, src) {
@@ -185,7 +186,42 @@ fn shown_behind(
     Ok(Shown::Sound(printed_warnings(alloc, form, names, &warnings)?))
 }
 
-/// What is shown of the first fault of two texts.
+/// The faults of two texts, as they are printed, one after the other.
+fn printed_faults(
+    alloc: Global,
+    form: Form,
+    names: FileNames<'_>,
+    faults: &[ToldFault],
+) -> Result<Vec<u8>, AllocError>
+    ensures { IfOk result (λ out. out.items ≡ faults_text form names.entry faults.now) }
+{
+    let mut out = Vec::new(alloc);
+    for fault in faults {
+        let text = printed(alloc, form, name_of(names, fault.file), &fault.finding)?;
+        out.extend_from_slice(&text)?;
+    }
+    Ok(out)
+}
+
+/// A fault of this text and those behind it, as they are printed.
+fn printed_with(
+    alloc: Global,
+    form: Form,
+    names: FileNames<'_>,
+    file: TextFile,
+    finding: &FaultReport,
+    further: &[ToldFault],
+) -> Result<Vec<u8>, AllocError>
+    ensures { IfOk result (λ out. out.items ≡ spec.printed form (spec.name_of names.entry file) finding.now
+        ++ faults_text form names.entry further.now) }
+{
+    let mut out = printed(alloc, form, name_of(names, file), finding)?;
+    let text = printed_faults(alloc, form, names, further)?;
+    out.extend_from_slice(&text)?;
+    Ok(out)
+}
+
+/// What is shown of two texts with this first fault: the fault, and those behind it.
 fn shown_of(
     alloc: Global,
     form: Form,
@@ -196,13 +232,14 @@ fn shown_of(
 ) -> Result<Shown, AllocError>
     ensures { IfOk result (IsShownOf form names.entry texts.entry steps.now (found.Faulty fault)) }
 {
-    let name = name_of(names, fault.file);
     let finding = finding_at(alloc, texts, fault.file, fault.place, fault.kind)?;
-    Ok(Shown::Faulty(printed(alloc, form, name, &finding)?))
+    let further = further_faults(alloc, texts, fault)?;
+    let out = printed_with(alloc, form, names, fault.file, &finding, &further)?;
+    Ok(Shown::Faulty(out))
 }
 
-/// What is said of the first fault of two texts, or else of steps, which are empty where there are none; or the
-/// warnings of the texts. `AllocError` if memory runs out.
+/// What is said of the faults of two texts, the first one first, or else of the first fault of steps, which are empty
+/// where there are none; or the warnings of the texts. `AllocError` if memory runs out.
 pub fn shown_fault(
     alloc: Global,
     form: Form,

@@ -1,5 +1,5 @@
 //! What the service calls take as arguments.
-use fmp_base::{Action, ObjectKind, Parameter, Service};
+use fmp_base::{ObjectKind, Parameter, Service};
 use fmp_diagnosis::fields::object_of;
 use fmp_lex::Api;
 
@@ -62,7 +62,7 @@ pub fn wanted_at(service: Service, place: usize) -> Option<WantedArgument> {
 const LONGEST: i64 = 1_073_741_824;
 
 /// Whether a call waits for bits of an eventflag.
-fn waits_for_bits(service: Service) -> bool {
+pub fn waits_for_bits(service: Service) -> bool {
     matches!(
         service,
         Service::WaiFlg | Service::PolFlg | Service::TwaiFlg
@@ -87,12 +87,4 @@ pub fn range_at(service: Service, place: usize, processors: i64) -> Option<(i64,
 /// Whether a call on a task takes 0 for the task that makes it.
 pub fn takes_caller(service: Service) -> bool {
     matches!(service.parameters().first(), Some(Parameter::TaskOrCaller))
-}
-
-/// The static API of the objects that a call signals or sets, or to which it sends.
-pub fn raised_by(service: Service) -> Option<Api> {
-    match service.action()? {
-        Action::Gives => Some(api_of(service.parameters().first()?.object_kind()?)),
-        _ => None,
-    }
 }

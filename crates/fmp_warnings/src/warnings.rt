@@ -1,9 +1,12 @@
 //! What is legal in two texts but usually a mistake: a call that its body may never make; a number in place of an
 //! object's name, an object of another kind or a number out of range as the argument of a call; a shared word in an
-//! expression; an index out of range; a loop that nothing ends; a spin lock within another; a constant in a packet for
-//! which it is not; bodies and objects that nothing uses; semaphores that nothing signals, flags that nothing sets.
+//! expression; an index out of range; an expression that faults; a loop, a sleep or a wait for bits that nothing ends;
+//! a statement that nothing reaches; a call that a lock bars; a constant in a packet for which it is not; bodies and
+//! objects that nothing uses, signals, sets, sends to or receives from.
 ghost use Rattle.std.specs.Prelude.{◌≡◌, ◌<◌, ◌+◌, length, OnOk};
 
+use crate::arithmetic::warn_of_arithmetic;
+use crate::bits::{note_bits, warn_of_bits};
 use crate::found::{FoundWarnings, Warning};
 use crate::indices::warn_of_indices;
 use crate::locks::warn_of_locks;
@@ -11,9 +14,11 @@ use crate::loops::warn_of_loops;
 use crate::mistakes::{Mistake, Wrong, say_mistake};
 use crate::objects::{NamedObject, NamedObjects};
 use crate::packets::warn_of_constants;
+use crate::sleeps::warn_of_sleeps;
+use crate::unreached::warn_of_unreached;
 use crate::walk::{CallWalk, Lone, WalkedArgument, lone_argument};
-use crate::wanted::{WantedArgument, raised_by, range_at, takes_caller};
-use fmp_base::{Name, Service};
+use crate::wanted::{WantedArgument, range_at, takes_caller};
+use fmp_base::Name;
 use fmp_diagnosis::apis::{api_at, entry_of, value_of};
 use fmp_diagnosis::around::{begins_body_at, is_among, list_of, name_at};
 use fmp_diagnosis::fields::Field;
@@ -29,10 +34,6 @@ const CALLS: u32 = 100;
 #[derive(Drop)]
 struct Warnings {
     objects: NamedObjects,
-    /// Whether some call signals a semaphore that is not given by its name.
-    signals_any: bool,
-    /// Whether some call sets a flag that is not given by its name.
-    sets_any: bool,
     /// How many processors there are.
     processors: i64,
     /// The number of warnings about calls and arguments that are left.
@@ -60,38 +61,34 @@ impl Warnings {
         found.warn(alloc, TextFile::Source, tokens, at, sentence)
     }
 
-    /// A call signals or sets an object that is not given by its name.
-    fn note_any(&mut self, service: Service) {
-        match raised_by(service) {
-            Some(Api::CreSem) => self.signals_any = true,
-            Some(Api::CreFlg) => self.sets_any = true,
-            _ => {}
-        }
-    }
-
     /// What is wrong with a name as an argument, if anything is.
     fn wrong_name(&mut self, argument: WalkedArgument, name: Name) -> Option<Wrong> {
         let found = self.objects.api_of(name);
         match (found, argument.wanted) {
             (Some(api), WantedArgument::Object(wanted)) if api == wanted => {
-                self.objects.note_call(argument.service, name);
+                if argument.place == 0 {
+                    self.objects.note_call(argument.service, name);
+                }
                 None
             }
-            (Some(api), wanted) => {
-                self.note_argument(argument.service, wanted);
+            (Some(api), _) => {
+                self.note_argument(argument);
                 Some(Wrong::Object(name, api))
             }
-            (None, wanted) => {
-                self.note_argument(argument.service, wanted);
+            (None, _) => {
+                self.note_argument(argument);
                 None
             }
         }
     }
 
     /// A call has an argument that is not the name of an object of the kind that it takes there.
-    fn note_argument(&mut self, service: Service, wanted: WantedArgument) {
-        if let WantedArgument::Object(_) = wanted {
-            self.note_any(service);
+    fn note_argument(&mut self, argument: WalkedArgument) {
+        match argument.wanted {
+            WantedArgument::Object(api) if argument.place == 0 => {
+                self.objects.note_any(argument.service, api);
+            }
+            _ => {}
         }
     }
 
@@ -111,7 +108,7 @@ impl Warnings {
         if let Some(Lone::Name(name)) = lone {
             return self.wrong_name(argument, name);
         }
-        self.note_argument(argument.service, argument.wanted);
+        self.note_argument(argument);
         match (lone?, argument.wanted) {
             (lone, WantedArgument::Number(_)) => self.wrong_number(argument, lone),
             (Lone::Number(0) | Lone::Constant(Constant::TskSelf), _)
@@ -154,6 +151,7 @@ impl Warnings {
                     self.warn(alloc, tokens, at, Mistake::Barred(barred), found)?;
                 }
                 if let Some(argument) = walk.argument_behind(at, kind) {
+                    note_bits(&mut self.objects, tokens, argument);
                     if let Some(wrong) = self.wrong(tokens, argument) {
                         let mistake = Mistake::Argument(argument, wrong);
                         self.warn(alloc, tokens, argument.at, mistake, found)?;
@@ -236,18 +234,19 @@ impl Warnings {
         if !object.is_named {
             return unnamed(cfg, object);
         }
+        let uses = self.objects.uses_of(object);
         match object.api {
-            Api::CreSem if !(object.is_raised || self.signals_any) => {
-                Some(" is a semaphore that nothing signals")
-            }
-            Api::CreFlg if !(object.is_raised || self.sets_any) => {
-                Some(" is an eventflag that nothing sets")
-            }
+            Api::CreSem if !uses.is_raised => Some(" is a semaphore that nothing signals"),
+            Api::CreFlg if !uses.is_raised => Some(" is an eventflag that nothing sets"),
+            Api::CreDtq if !uses.is_raised => Some(" is a data queue that nothing sends to"),
+            Api::CreDtq if !uses.is_taken => Some(" is a data queue that nothing receives from"),
+            Api::CreMbx if !uses.is_raised => Some(" is a mailbox that nothing sends to"),
+            Api::CreMbx if !uses.is_taken => Some(" is a mailbox that nothing receives from"),
             _ => None,
         }
     }
 
-    /// Warns of the objects of a configuration that nothing uses, signals or sets.
+    /// Warns of the objects of a configuration that nothing uses, signals, sets, sends to or receives from.
     fn neglected(
         &self,
         alloc: Global,
@@ -272,8 +271,6 @@ impl Warnings {
     fn new(alloc: Global, cfg: &Tokens<'_>) -> Result<Warnings, AllocError> {
         Ok(Warnings {
             objects: NamedObjects::of(alloc, cfg)?,
-            signals_any: false,
-            sets_any: false,
             processors: i64::from(processors(cfg)),
             room: CALLS,
         })
@@ -289,8 +286,12 @@ impl Warnings {
     ) -> Result<(), AllocError> {
         self.calls(alloc, src, found)?;
         warn_of_indices(alloc, src, found)?;
+        warn_of_arithmetic(alloc, src, found)?;
         warn_of_loops(alloc, src, found)?;
-        warn_of_locks(alloc, src, found)?;
+        warn_of_unreached(alloc, src, found)?;
+        warn_of_locks(alloc, src, &self.objects, found)?;
+        warn_of_bits(alloc, src, &self.objects, found)?;
+        warn_of_sleeps(alloc, cfg, src, &self.objects, found)?;
         let entries = entries(alloc, cfg)?;
         warn_of_bodies(alloc, &entries, src, found)?;
         warn_of_constants(alloc, cfg, found)?;
@@ -299,8 +300,9 @@ impl Warnings {
 }
 
 /// The warnings of two texts that have no fault. Each kind comes in order of text: at most 100 of calls, their
-/// arguments and shared words in expressions; of indices; of loops; of spin locks; of bodies; of the constants and then
-/// of the objects of the configuration. `AllocError` if memory runs out.
+/// arguments and shared words in expressions; of indices; of expressions; of loops; of statements that nothing reaches;
+/// of locks; of bits; of sleeps; of bodies; of the constants and then of the objects of the configuration. `AllocError`
+/// if memory runs out.
 pub fn warnings_of(alloc: Global, texts: Texts<'_>) -> Result<Vec<Warning>, AllocError> {
     let cfg = list_of(alloc, texts.cfg)?;
     let src = list_of(alloc, texts.src)?;

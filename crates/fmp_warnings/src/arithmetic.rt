@@ -1,0 +1,189 @@
+//! Warnings of expressions that fault whenever they are evaluated, and of comparisons of the outcome of a comparison.
+ghost use Rattle.std.specs.Prelude.{OnOk};
+ghost use Rattle.fmp_diagnosis.specs.Words.{IsSaid};
+
+use crate::found::FoundWarnings;
+use fmp_diagnosis::words::{Word, say};
+use fmp_lex::{Symbol, TextFile, TokenKind, Tokens};
+use std::alloc::{AllocError, Global};
+
+/// What is wrong with an expression.
+#[derive(Clone, Copy)]
+enum Flaw {
+    /// It divides by 0.
+    Division,
+    /// It compares the outcome of a comparison.
+    Chain,
+    /// The sum or the product of these numbers does not fit into 32 bits.
+    Overflow(i64, &'static str, i64),
+}
+
+/// The symbol at a place.
+fn symbol_at(tokens: &Tokens<'_>, at: usize) -> Option<Symbol> {
+    match tokens.kind(at)? {
+        TokenKind::Symbol(symbol) => Some(symbol),
+        _ => None,
+    }
+}
+
+/// The number at a place, also that of a constant.
+fn number_at(tokens: &Tokens<'_>, at: usize) -> Option<i64> {
+    match tokens.kind(at)? {
+        TokenKind::Number(number) => Some(i64::from(number)),
+        TokenKind::Constant(constant) => Some(i64::from(constant.value())),
+        _ => None,
+    }
+}
+
+/// Whether a symbol orders its operands.
+fn is_order(symbol: Symbol) -> bool {
+    matches!(
+        symbol,
+        Symbol::Less | Symbol::LessEqual | Symbol::Greater | Symbol::GreaterEqual
+    )
+}
+
+/// Whether a symbol binds its operands closer than an order does.
+fn is_arithmetic(symbol: Symbol) -> bool {
+    matches!(
+        symbol,
+        Symbol::Plus
+            | Symbol::Minus
+            | Symbol::Star
+            | Symbol::Slash
+            | Symbol::Percent
+            | Symbol::Not
+            | Symbol::Tilde
+    )
+}
+
+/// Whether a symbol multiplies or divides.
+fn is_factor(symbol: Symbol) -> bool {
+    matches!(symbol, Symbol::Star | Symbol::Slash | Symbol::Percent)
+}
+
+/// How many parentheses and brackets of an operand of an order are open behind a symbol, where so many were open before
+/// it; none where the operand ends there.
+fn depth_behind(depth: usize, symbol: Symbol) -> Option<usize> {
+    match symbol {
+        Symbol::LeftParen | Symbol::LeftBracket => Some(depth.saturating_add(1)),
+        Symbol::RightParen | Symbol::RightBracket => depth.checked_sub(1),
+        _ if depth > 0 || is_arithmetic(symbol) => Some(depth),
+        _ => None,
+    }
+}
+
+/// The place of the order whose left operand has the order at a place as its outermost operator, if there is one.
+fn chained_at(tokens: &Tokens<'_>, at: usize) -> Option<usize> {
+    if !is_order(symbol_at(tokens, at)?) {
+        return None;
+    }
+    let mut depth = 0;
+    for place in at.saturating_add(1)..tokens.len() {
+        if let Some(TokenKind::Symbol(symbol)) = tokens.kind(place) {
+            if depth == 0 && is_order(symbol) {
+                return Some(place);
+            }
+            depth = depth_behind(depth, symbol)?;
+        }
+    }
+    None
+}
+
+/// Whether an expression begins behind the token at a place, or an operand of an operator that binds less than a sum.
+fn begins_sum(tokens: &Tokens<'_>, at: usize) -> bool {
+    match symbol_at(tokens, at) {
+        Some(Symbol::RightParen | Symbol::RightBracket) => false,
+        Some(symbol) => !is_arithmetic(symbol),
+        None => false,
+    }
+}
+
+/// Whether the numbers beside the operator at a place are its operands.
+fn has_both(tokens: &Tokens<'_>, at: usize, operator: Symbol) -> bool {
+    let before = at.saturating_sub(2);
+    let goes_on = match symbol_at(tokens, at.saturating_add(2)) {
+        Some(symbol) => is_factor(symbol),
+        None => false,
+    };
+    match operator {
+        Symbol::Star => begins_sum(tokens, before)
+            || symbol_at(tokens, before) == Some(Symbol::Plus),
+        _ => begins_sum(tokens, before) && !goes_on,
+    }
+}
+
+/// The numbers that the operator at a place adds or multiplies, where the outcome does not fit into 32 bits.
+fn overflow_at(tokens: &Tokens<'_>, at: usize) -> Option<Flaw> {
+    let operator = symbol_at(tokens, at)?;
+    let left = number_at(tokens, at.saturating_sub(1))?;
+    let right = number_at(tokens, at.saturating_add(1))?;
+    let (outcome, written) = match operator {
+        Symbol::Plus => (left.saturating_add(right), " + "),
+        Symbol::Star => (left.saturating_mul(right), " * "),
+        _ => return None,
+    };
+    if outcome <= i64::from(i32::MAX) || !has_both(tokens, at, operator) {
+        return None;
+    }
+    Some(Flaw::Overflow(left, written, right))
+}
+
+/// Whether the operator at a place divides by a 0 that is written there.
+fn divides_by_zero(tokens: &Tokens<'_>, at: usize) -> bool {
+    matches!(symbol_at(tokens, at), Some(Symbol::Slash | Symbol::Percent))
+        && number_at(tokens, at.saturating_add(1)) == Some(0)
+}
+
+/// What is wrong with the operator at a place, and where that is shown.
+fn flaw_at(tokens: &Tokens<'_>, at: usize) -> Option<(usize, Flaw)> {
+    if divides_by_zero(tokens, at) {
+        return Some((at.saturating_add(1), Flaw::Division));
+    }
+    if let Some(place) = chained_at(tokens, at) {
+        return Some((place, Flaw::Chain));
+    }
+    Some((at, overflow_at(tokens, at)?))
+}
+
+/// Says what is wrong with an expression.
+fn say_flaw(flaw: Flaw, out: &mut Vec<u8>) -> Result<(), AllocError>
+    ensures { OnOk result (IsSaid out.old.items out.new.items) }
+{
+    match flaw {
+        Flaw::Division => say(&[Word::Text("the divisor is 0: this is F_DIV")], out),
+        Flaw::Chain => say(
+            &[Word::Text(
+                "this compares the outcome of a comparison, 0 or 1; `&&` joins two comparisons",
+            )],
+            out,
+        ),
+        Flaw::Overflow(left, operator, right) => say(
+            &[
+                Word::Number(left),
+                Word::Text(operator),
+                Word::Number(right),
+                Word::Text(" does not fit into 32 bits: this is F_OVF"),
+            ],
+            out,
+        ),
+    }
+}
+
+/// Warns of the expressions of a task text that divide by a 0, that add or multiply two numbers whose sum or product
+/// does not fit into 32 bits, or that compare the outcome of a comparison. That is certain: the operands are written
+/// there.
+pub fn warn_of_arithmetic(
+    alloc: Global,
+    src: &Tokens<'_>,
+    found: &mut FoundWarnings<'_>,
+) -> Result<(), AllocError> {
+    for at in 0..src.len() {
+        if let Some((place, flaw)) = flaw_at(src, at) {
+            let mut sentence = Vec::new(alloc);
+            say_flaw(flaw, &mut sentence)?;
+            found.warn(alloc, TextFile::Source, src, place, sentence)?;
+        }
+    }
+    Ok(())
+}

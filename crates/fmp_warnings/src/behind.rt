@@ -1,0 +1,131 @@
+//! Where the construct ends that has a fault.
+use crate::before::{begins_unit, is_of_block};
+use crate::pieces::{Piece, Pieces, byte_at, is_word, word_at};
+use fmp_lex::TextFile;
+use fmp_lex::words::find_api;
+
+/// How far a construct was gone through.
+#[derive(Clone, Copy)]
+struct Behind {
+    file: TextFile,
+    /// Where the construct begins.
+    from: usize,
+    /// Whether semicolons in its parentheses are its own, as in `for (;;)`.
+    is_for: bool,
+    /// Whether a condition follows its block, as in `do { } while (1);`.
+    is_do: bool,
+    parens: usize,
+    /// How many blocks of it are open.
+    blocks: usize,
+    /// Behind its last block, which is closed.
+    closed: Option<usize>,
+}
+
+impl Behind {
+    /// The construct that begins at a place.
+    fn new(text: &[u8], from: usize, file: TextFile) -> Behind {
+        let word = word_at(text, from);
+        Behind {
+            file,
+            from,
+            is_for: is_word(word, b"for"),
+            is_do: is_word(word, b"do"),
+            parens: 0,
+            blocks: 0,
+            closed: None,
+        }
+    }
+
+    /// Whether the word at a place begins another construct: a body or a class, or outside blocks a static API.
+    fn is_next(&self, text: &[u8], at: usize) -> bool {
+        let word = word_at(text, at);
+        at > self.from
+            && (begins_unit(word, self.file) || self.blocks == 0 && find_api(word).is_some())
+    }
+
+    /// A block of the construct opens.
+    fn open(&mut self) {
+        self.blocks = self.blocks.saturating_add(1);
+        self.parens = 0;
+    }
+
+    /// A block closes before this place: the construct ends where that is none of its own.
+    fn close(&mut self, at: usize) -> Option<usize> {
+        if self.blocks == 0 {
+            return Some(at);
+        }
+        self.blocks = self.blocks.saturating_sub(1);
+        if self.blocks == 0 && !self.is_do {
+            self.closed = Some(at.saturating_add(1));
+        }
+        None
+    }
+
+    /// A semicolon stands at this place.
+    fn semicolon(&self, at: usize) -> Option<usize> {
+        if self.blocks == 0 && !(self.is_for && self.parens > 0) {
+            return Some(at.saturating_add(1));
+        }
+        None
+    }
+
+    /// Where the construct ends, if it does at the piece that begins at this place or before it.
+    fn end(&mut self, text: &[u8], at: usize, piece: Piece) -> Option<usize> {
+        match piece {
+            Piece::Semicolon => return self.semicolon(at),
+            Piece::LeftBrace if is_of_block(self.file, self.parens) => self.open(),
+            Piece::RightBrace if is_of_block(self.file, self.parens) => return self.close(at),
+            Piece::LeftParen => self.parens = self.parens.saturating_add(1),
+            Piece::RightParen => self.parens = self.parens.saturating_sub(1),
+            Piece::Word if self.is_next(text, at) => return Some(at),
+            _ => {}
+        }
+        None
+    }
+
+    /// The same, where a block may have been closed: then `else` alone goes on.
+    fn take(&mut self, text: &[u8], at: usize, piece: Piece) -> Option<usize> {
+        match self.closed {
+            Some(_) if is_word(word_at(text, at), b"else") => self.closed = None,
+            Some(end) => return Some(end),
+            None => {}
+        }
+        self.end(text, at, piece)
+    }
+}
+
+/// Where the construct ends that begins at a place of one of the texts; nowhere if the text ends first.
+pub fn end_behind(text: &[u8], from: usize, file: TextFile) -> Option<usize> {
+    let mut behind = Behind::new(text, from, file);
+    let mut pieces = Pieces::new();
+    for at in from..text.len() {
+        if let Some(piece) = pieces.take(byte_at(text, at), byte_at(text, at.saturating_add(1))) {
+            if let Some(end) = behind.take(text, at, piece) {
+                return Some(end);
+            }
+        }
+    }
+    behind.closed
+}
+
+/// Where the next body begins, from a place on.
+pub fn next_body(text: &[u8], from: usize) -> Option<usize> {
+    let mut pieces = Pieces::new();
+    for at in from..text.len() {
+        let piece = pieces.take(byte_at(text, at), byte_at(text, at.saturating_add(1)));
+        if piece == Some(Piece::Word) && begins_unit(word_at(text, at), TextFile::Source) {
+            return Some(at);
+        }
+    }
+    None
+}
+
+/// Where the line ends in which a place stands.
+pub fn line_end(text: &[u8], from: usize) -> usize {
+    for at in from..text.len() {
+        if byte_at(text, at) == b'\n' {
+            return at;
+        }
+    }
+    text.len()
+}

@@ -1,0 +1,90 @@
+//! The construct that is left out where it has a fault, so that the faults behind it are told too: a static API or a
+//! class, a statement, a declaration or a body.
+ghost use Rattle.std.specs.Prelude.{◌≤◌, IfSome, length};
+
+use crate::before::{Before, before_place, begins_unit};
+use crate::behind::{end_behind, line_end, next_body};
+use crate::pieces::{byte_at, word_at};
+use crate::verdicts::TextsFault;
+use fmp_lex::TextFile;
+
+/// A stretch of a text, from a byte up to another one.
+#[derive(Clone, Copy)]
+pub struct Stretch {
+    pub from: usize,
+    pub to: usize,
+}
+
+/// A stretch, if it has an end.
+fn from_to(from: usize, to: Option<usize>) -> Option<Stretch> {
+    Some(Stretch { from, to: to? })
+}
+
+/// Whether a file is included at a place, as by `INCLUDE("target.cfg");` for other kernels.
+fn is_inclusion(text: &[u8], at: usize) -> bool {
+    let behind = at.saturating_add(word_at(text, at).len());
+    behind > at && text.get(behind..).unwrap_or(&[]).starts_with(b"(\"")
+}
+
+/// What is left out of the head of a configuration: a line of a preprocessor, or the inclusion of a file; else nothing,
+/// since the classes depend on the head.
+fn head_stretch(text: &[u8], from: usize) -> Option<Stretch> {
+    if byte_at(text, from) == b'#' {
+        return from_to(from, Some(line_end(text, from)));
+    }
+    if is_inclusion(text, from) {
+        return from_to(from, end_behind(text, from, TextFile::Configuration));
+    }
+    None
+}
+
+/// What is left out of a configuration: the static API or the class with the fault at this place, or a class before it
+/// that is not closed.
+fn configuration_stretch(text: &[u8], at: usize, before: &Before) -> Option<Stretch> {
+    let from = before.construct.unwrap_or(at);
+    if !before.ended {
+        return head_stretch(text, from);
+    }
+    if byte_at(text, from) == b'#' {
+        return from_to(from, Some(line_end(text, from)));
+    }
+    if before.blocks > 0 && from == at && begins_unit(word_at(text, at), TextFile::Configuration) {
+        return from_to(before.unit?, Some(at));
+    }
+    from_to(from, end_behind(text, from, TextFile::Configuration))
+}
+
+/// What is left out of a task text: the statement or the declaration with the fault at this place, a body whose heading
+/// has it or that is not closed, or what stands between bodies.
+fn source_stretch(text: &[u8], at: usize, before: &Before) -> Option<Stretch> {
+    let from = before.construct.unwrap_or(at);
+    if before.blocks == 0 {
+        return from_to(from, next_body(text, at.saturating_add(1)));
+    }
+    if from == at && begins_unit(word_at(text, at), TextFile::Source) {
+        return from_to(before.unit?, Some(at));
+    }
+    from_to(from, end_behind(text, from, TextFile::Source))
+}
+
+/// What is left out of a text with a fault: the construct in which it stands. Nothing if the rest depends on it, or if
+/// it goes on to the end of the text.
+pub fn stretch_of(text: &[u8], fault: TextsFault) -> Option<Stretch>
+    ensures begin { IfSome result (λ s. s.from ≤ fault.place.start) }
+    ensures order { IfSome result (λ s. s.from ≤ s.to) }
+    ensures within { IfSome result (λ s. s.to ≤ length text.now) }
+{
+    let at = fault.place.start as usize;
+    if at >= text.len() {
+        return None;
+    }
+    let before = before_place(text, at, fault.file);
+    let found = match fault.file {
+        TextFile::Configuration => configuration_stretch(text, at, &before)?,
+        TextFile::Source => source_stretch(text, at, &before)?,
+    };
+    if found.from <= at && found.from < found.to && found.to <= text.len() {
+        return Some(found);
+    }
+    None
+}
