@@ -2,6 +2,7 @@
 //! `fmp_instructions`, and are given out here too.
 #![tactic(auto)]
 
+mod contexts;
 mod decoded;
 mod decoded_code;
 mod delivery;

@@ -6,6 +6,7 @@ mod CyclicLemmas
 pub mod FrontLemmas
 mod PlaceLemmas
 mod RestartLemmas
+mod RestoredLemmas
 mod SettleLemmas
 mod SpinLemmas
 mod StampLemmas

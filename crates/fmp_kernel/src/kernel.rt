@@ -27,6 +27,8 @@ use std::marker::Model;
 use thiserror::Error;
 
 mod copying;
+mod laws;
+mod restoring;
 
 /// Why there is no kernel.
 #[derive(Debug, Drop, Error)]

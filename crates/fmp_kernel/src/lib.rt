@@ -7,6 +7,7 @@ pub mod actors;
 mod events;
 pub mod kernel;
 pub mod laws;
+mod restoring;
 mod runner;
 mod settling;
 mod spins;
@@ -16,5 +17,7 @@ mod ticks;
 
 pub use actors::Actor;
 pub use fmp_base::Body;
+pub use fmp_contexts::{ContextTest, SavedContexts};
 pub use kernel::{Kernel, KernelFault};
+pub use restoring::Saved;
 pub use stamps::run_place;

@@ -22,6 +22,8 @@ use std::alloc::{AllocError, Global};
 use std::marker::Model;
 
 mod copying;
+mod laws;
+mod restoring;
 
 /// The bodies with their contexts over the tables of a system, and the lines of an event: those that it has caused so
 /// far, and all of the last event that was done, or of setup.

@@ -8,11 +8,7 @@ use Rattle.fmp_base.specs.MailboxCalls.{behind_equals, enqueued}
 use Rattle.fmp_ring.specs.OrderLaws.{IsOrder-push, nat_same, nat_eq-flip}
 use Rattle.fmp_ring.specs.Orders.{IsOrder}
 use Rattle.fmp_ring.specs.RingLists.{is_in, is_linked}
-
--- each list has each of its numbers once, and none of those behind it has one of them
-abbrev pub AreApart : ℕ → List (List ℕ) → Type 0
-AreApart n [] = Unit {0}
-AreApart n (l ∷ ls) = IsOrder n l × ((g : ℕ) → is_in g l ≡ true → is_linked g ls ≡ false) × AreApart n ls
+use Rattle.fmp_reachable.specs.Sound.{AreApart}
 
 pub apart-at : (n : ℕ) (boxes : List (List ℕ)) (x : ℕ) → AreApart n boxes → IsOrder n (get_or boxes x [])
 apart-at n [] x h = tt

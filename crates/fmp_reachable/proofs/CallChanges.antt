@@ -49,15 +49,16 @@ use Rattle.fmp_ring.specs.LinkedLaws.{is_linked-queued}
 use Rattle.fmp_tasks.specs.Homes.{is_in_order, is_waiting}
 use Rattle.fmp_reachable.specs.Numbers.{IsAhead}
 use Rattle.fmp_reachable.specs.Sizes.{AreWithinCapacity}
-use Rattle.fmp_reachable.proofs.Apart.{AreApart, apart-at, new-enqueued, new-rest, order-enqueued, order-rest}
+use Rattle.fmp_reachable.proofs.Apart.{apart-at, new-enqueued, new-rest, order-enqueued, order-rest}
 use Rattle.fmp_reachable.proofs.Apart.{unlinked-at}
 use Rattle.fmp_reachable.proofs.Capacities.{room-for, room-forced, room-refilled, room-taken}
-use Rattle.fmp_reachable.proofs.Changes.{AreFine, Change, Count, Cpu, Due, InPlace, IsFair, IsFine, IsFineBlock}
+use Rattle.fmp_reachable.proofs.Changes.{Change, Count, Cpu, Due, InPlace, IsFair}
 use Rattle.fmp_reachable.proofs.Changes.{Messages, Moves, Out, Pattern, ToEnd, Word, Words, changed}
 use Rattle.fmp_reachable.proofs.Stands.{first-ready, first-true, first-waits, goes_last-stands, named-there}
 use Rattle.fmp_reachable.proofs.Stands.{numbered-there, off, ready-joins, ready-leaves, ready-on, there, waits-on}
 use Rattle.fmp_reachable.proofs.Stands.{waits-stands}
 use Rattle.fmp_reachable.proofs.TaskChanges.{ended-comes, released-comes, started-comes, walk-comes}
+use Rattle.fmp_reachable.specs.Sound.{IsFine, IsFineBlock, AreFine, AreApart}
 
 -- a call that waits leaves what W says, and P holds where any other leads
 abbrev pub ComesBy : (P W : Progress → Type 0) → Answer → Progress → Type 0

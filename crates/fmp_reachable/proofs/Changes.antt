@@ -25,17 +25,9 @@ use Rattle.fmp_tasks.proofs.StandLemmas.{Standing-last, Standing-left, Standing-
 use Rattle.fmp_worlds.proofs.Assigned.{set_at}
 use Rattle.fmp_reachable.specs.Numbers.{IsAhead}
 use Rattle.fmp_reachable.specs.Sizes.{AreWithinCapacity}
-use Rattle.fmp_reachable.proofs.Apart.{AreApart, AreNew, apart-set}
+use Rattle.fmp_reachable.proofs.Apart.{AreNew, apart-set}
 use Rattle.fmp_reachable.proofs.Capacities.{within-set}
-
--- a dormant task has no deadline and is not suspended, and no deadline is below the bound
-pub record IsFine (low : ℕ) (phase : Phase) (suspended : Bool) (deadline : Option ℕ) : Type 0 where
-  pub rest : is_dormant phase ≡ true → deadline ≡ None
-  pub calm : is_dormant phase ≡ true → suspended ≡ false
-  pub ahead : IsAhead low deadline
-
-abbrev pub IsFineBlock : ℕ → TaskBlock → Type 0
-IsFineBlock low x = IsFine low x.phase x.suspended x.deadline
+use Rattle.fmp_reachable.specs.Sound.{IsFineBlock, AreFine, AreAllAhead, IsQuiet, sizes, sizes_of, AreApart, IsSteady}
 
 -- whether a line starts task t, or brings it a reply
 abbrev pub tells : ℕ → Line → Bool
@@ -117,65 +109,11 @@ IsFair sys s (Moves m t y) = IsMove s m t y
 IsFair sys s (Says ls) = (t : ℕ) → is_told t ls ≡ true → is_waiting (task_at s.tasks t).phase ≡ false
 IsFair sys s _ = Unit {0}
 
--- the blocks are fine, and the order has each task that stands there, once
-pub record AreFine (low : ℕ) (tasks : List TaskBlock) (order : List ℕ) : Type 0 where
-  pub each : (t : ℕ) → IsFineBlock low (task_at tasks t)
-  pub distinct : IsOrder (length tasks) order
-  pub standing : Standing tasks order
-
-pub record AreAllAhead (low : ℕ) (times : List (Option ℕ)) : Type 0 where
-  pub each : (c : ℕ) → IsAhead low (found None (slice_get times c))
-
-pub record IsQuiet (sys : SystemTables) (pending : List Bool) : Type 0 where
-  pub each : (i : ℕ) → interrupt_config sys i ≡ None → is_pending pending i ≡ false
-
 -- who waits has waited before, and no line has told it anything
 pub record Lasts (before tasks : List TaskBlock) (lines : List Line) : Type 0 where
   pub each :
       (t : ℕ) → is_waiting (task_at tasks t).phase ≡ true →
       (is_waiting (task_at before t).phase ≡ true) × (is_told t lines ≡ false)
-
-pub record Sizes : Type 0 where
-  pub tasks : ℕ
-  pub processors : ℕ
-  pub cyclics : ℕ
-  pub semaphores : ℕ
-  pub flags : ℕ
-  pub data_queues : ℕ
-  pub mailboxes : ℕ
-  pub shared_words : ℕ
-  pub pending_cyclics : ℕ
-  pub pending_interrupts : ℕ
-
-abbrev pub sizes : KernelState → Sizes
-sizes s =
-    record {
-      tasks = length s.tasks;
-      processors = length s.processors;
-      cyclics = length s.due_times;
-      semaphores = length s.semaphores;
-      flags = length s.flags;
-      data_queues = length s.data_queues;
-      mailboxes = length s.mailboxes;
-      shared_words = length s.shared_words;
-      pending_cyclics = length s.pending_cyclics;
-      pending_interrupts = length s.pending_interrupts;
-    }
-
-abbrev pub sizes_of : SystemTables → Sizes
-sizes_of sys =
-    record {
-      tasks = length sys.tasks;
-      processors = sys.processors;
-      cyclics = length sys.cyclics;
-      semaphores = length sys.semaphores;
-      flags = length sys.flags;
-      data_queues = length sys.data_queues;
-      mailboxes = length sys.mailboxes;
-      shared_words = length sys.shared_words;
-      pending_cyclics = length sys.cyclics;
-      pending_interrupts = 32;
-    }
 
 -- on the way from tasks `before`, at the clock `now`: no time is below the bound
 pub record Keeps (sys : SystemTables) (low now : ℕ) (before : List TaskBlock) (g : Progress) : Type 0 where
@@ -352,15 +290,6 @@ module _ (sys : SystemTables) (low now : ℕ) (before : List TaskBlock) where
         clock = clock-changed g c ∙ h.clock;
         early = h.early;
       }
-
--- what holds of the state between events
-pub record IsSteady (sys : SystemTables) (s : KernelState) : Type 0 where
-  pub blocks : AreFine (s.clock + 1) s.tasks s.order
-  pub cyclics : AreAllAhead (s.clock + 1) s.due_times
-  pub messages : AreApart (length sys.messages) s.mailboxes
-  pub words : AreWithinCapacity sys s.data_queues
-  pub quiet : IsQuiet sys s.pending_interrupts
-  pub sizes : sizes s ≡ sizes_of sys
 
 pub keeps-start : (sys : SystemTables) (s : KernelState) → IsSteady sys s
     → Keeps sys (s.clock + 1) s.clock s.tasks (unchanged s)

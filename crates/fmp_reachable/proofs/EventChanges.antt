@@ -28,10 +28,11 @@ use Rattle.fmp_worlds.proofs.Assigned.{set_over}
 use Rattle.fmp_reachable.proofs.Apart.{apart-empty}
 use Rattle.fmp_reachable.proofs.Capacities.{within-empty}
 use Rattle.fmp_reachable.specs.Numbers.{IsAhead}
-use Rattle.fmp_reachable.proofs.Changes.{Change, Cpu, Due, Interrupts, IsFair, IsFineBlock, IsSteady, Keeps, Pends}
-use Rattle.fmp_reachable.proofs.Changes.{Says, changed, is_told, Sizes, keeps-changed, keeps-start, sizes, sizes_of}
+use Rattle.fmp_reachable.proofs.Changes.{Change, Cpu, Due, Interrupts, IsFair, Keeps, Pends}
+use Rattle.fmp_reachable.proofs.Changes.{Says, changed, is_told, keeps-changed, keeps-start}
 use Rattle.fmp_reachable.proofs.Stands.{off}
 use Rattle.fmp_reachable.proofs.TaskChanges.{released-comes, started-comes}
+use Rattle.fmp_reachable.specs.Sound.{IsFineBlock, Sizes, sizes, sizes_of, IsSteady}
 
 -- what is due is there
 task-there : (now : ℕ) (tasks : List TaskBlock) (t : ℕ) → is_due now (task_at tasks t).deadline ≡ true

@@ -343,7 +343,7 @@ module _ {C : Type 0} (sys : SystemTables) (M : Meaning C) where
         caused-matched w.state w.contexts (line.Int i) (unchanged (with_interrupt_pending w.state i)) m tt tt
         (λ q. refl)
 
-  step-matched : (n : ℕ) (w : World C) (e : Event) → IsSettled sys w.state → HasSizes sys w.state → IsMatched w
+  pub step-matched : (n : ℕ) (w : World C) (e : Event) → IsSettled sys w.state → HasSizes sys w.state → IsMatched w
       → LeavesMatched (step sys M n w e)
   step-matched n w (Run zero) h sizes m = tt
   step-matched n w (Run (suc p)) h sizes m =

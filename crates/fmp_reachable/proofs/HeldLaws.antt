@@ -19,15 +19,7 @@ use Rattle.fmp_tasks.specs.Homes.{is_waiting}
 use Rattle.fmp_worlds.proofs.Assigned.{set_at, set_other, set_over}
 use Rattle.fmp_reachable.proofs.Changes.{Lasts, is_told, tells}
 use Rattle.fmp_reachable.proofs.Stands.{off}
-
--- what is kept of a body, if anything, awaits a reply
-abbrev pub GoesNot : {C : Type 0} → Option (Held C) → Type 0
-GoesNot None = Unit {0}
-GoesNot (Some (Goes c)) = ⊥
-GoesNot (Some (Awaits c)) = Unit {0}
-
-pub record AreHeld {C : Type 0} (tasks : List TaskBlock) (cs : List (Option (Held C))) : Type 0 where
-  pub each : (t : ℕ) → is_waiting (task_at tasks t).phase ≡ true → GoesNot (context_at cs t)
+use Rattle.fmp_reachable.specs.Sound.{GoesNot, AreHeld}
 
 -- as many contexts
 pub record SameLengths {C : Type 0} (cs ds : Contexts C) : Type 0 where

@@ -19,9 +19,11 @@ pub mod ReplayLaws
 pub mod ReplayRooms
 pub mod RowLaws
 pub mod SameBodies
+pub mod SoundLaws
 pub mod Stands
 pub mod StepLaws
 pub mod TaskChanges
+mod TestedLaws
 pub mod TiedRooms
 pub mod ToldLaws
 pub mod ValueLaws

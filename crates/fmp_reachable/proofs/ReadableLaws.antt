@@ -14,7 +14,8 @@ use Rattle.fmp_replay.specs.Replays.{replay}
 use Rattle.fmp_reachable.specs.Rooms.{HasSizes}
 use Rattle.fmp_reachable.proofs.ReplayRooms.{replay-within}
 
-sized : (sys : SystemTables) (s : KernelState) → IsOfSystem sys s → AreWithinCapacity sys s.data_queues → IsSized sys s
+pub sized : (sys : SystemTables) (s : KernelState) → IsOfSystem sys s → AreWithinCapacity sys s.data_queues
+    → IsSized sys s
 sized sys s h words =
     record {
       tasks = h.tasks;
@@ -30,7 +31,7 @@ sized sys s h words =
       words = words;
     }
 
-has-sizes : (sys : SystemTables) (s : KernelState) → IsOfSystem sys s → HasSizes sys s
+pub has-sizes : (sys : SystemTables) (s : KernelState) → IsOfSystem sys s → HasSizes sys s
 has-sizes sys s h = record { processors = h.processors; cyclics = h.pending_cyclics }
 
 module _ (i : ImageTables) (n : ℕ) (lawful : IsImage i) where

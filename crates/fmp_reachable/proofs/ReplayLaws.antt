@@ -10,7 +10,8 @@ use Rattle.fmp_instructions.specs.Machine.{code_meaning}
 use Rattle.fmp_image_bytes.specs.Images.{ImageTables}
 use Rattle.fmp_kernel.specs.KernelViews.{done_or}
 use Rattle.fmp_replay.specs.Replays.{done_after, replay}
-use Rattle.fmp_reachable.proofs.WorldLaws.{IsReached, LeavesReached, setup-reached, step-reached}
+use Rattle.fmp_reachable.proofs.WorldLaws.{LeavesReached, setup-reached, step-reached}
+use Rattle.fmp_reachable.specs.Sound.{IsReached}
 
 module _ {C : Type 0} (sys : SystemTables) (M : Meaning C) where
   done_or-reached : (d : Done C) (x : Reaction C) → IsReached sys d.world → LeavesReached sys M x

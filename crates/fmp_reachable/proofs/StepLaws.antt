@@ -42,13 +42,14 @@ use Rattle.fmp_tasks.specs.Homes.{is_waiting}
 use Rattle.fmp_worlds.specs.Settled.{IsSettled}
 use Rattle.fmp_reachable.proofs.CallChanges.{ComesBy, handler-comes, task-comes}
 use Rattle.fmp_reachable.specs.Numbers.{IsAhead}
-use Rattle.fmp_reachable.proofs.Changes.{Change, Cpu, Interrupts, IsFair, IsSteady, Keeps, changed, is_told}
+use Rattle.fmp_reachable.proofs.Changes.{Change, Cpu, Interrupts, IsFair, Keeps, changed, is_told}
 use Rattle.fmp_reachable.proofs.Changes.{keeps-changed, keeps-end, keeps-own, keeps-start, steady-waits}
 use Rattle.fmp_reachable.proofs.EventChanges.{settled-comes, ticked-keeps}
-use Rattle.fmp_reachable.proofs.HeldLaws.{AreHeld, SameLengths, held-but, held-waits, lengths-lines, lengths-task}
+use Rattle.fmp_reachable.proofs.HeldLaws.{SameLengths, held-but, held-waits, lengths-lines, lengths-task}
 use Rattle.fmp_reachable.proofs.HeldLaws.{lines-held, same-lengths}
 use Rattle.fmp_reachable.proofs.Stands.{off, there}
 use Rattle.fmp_reachable.proofs.TaskChanges.{ended-comes}
+use Rattle.fmp_reachable.specs.Sound.{IsSteady, AreHeld, IsSteadyWorld}
 
 -- the period of a cyclic handler is not 0
 period-at : (processors : ℕ) (none : CyclicConfig) (cs : List CyclicConfig) (c : ℕ) → 1 ≤ none.period
@@ -62,13 +63,6 @@ periods sys h c =
     let table = h.cyclics in
     let one : 1 ≤ 1 = omega arith in
     period-at sys.processors _ sys.cyclics c one table.each
-
--- between events, with as many contexts as the system has tasks and processors
-pub record IsSteadyWorld {C : Type 0} (sys : SystemTables) (w : World C) : Type 0 where
-  pub state : IsSteady sys w.state
-  pub held : AreHeld w.state.tasks w.contexts.tasks
-  pub tasks : length w.contexts.tasks ≡ length sys.tasks
-  pub handlers : length w.contexts.handlers ≡ sys.processors
 
 -- a task that waits has gone to the end
 record IsGone (s : KernelState) (me : ℕ) (g : Progress) : Type 0 where

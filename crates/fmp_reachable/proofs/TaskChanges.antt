@@ -14,8 +14,9 @@ use Rattle.fmp_base.specs.States.{Progress, task_at}
 use Rattle.fmp_base.specs.Systems.{SystemTables}
 use Rattle.fmp_tasks.specs.Homes.{is_waiting}
 use Rattle.fmp_reachable.specs.Numbers.{IsAhead}
-use Rattle.fmp_reachable.proofs.Changes.{Change, IsFair, IsFineBlock, Moves, Out, Pattern, Says, ToEnd, changed}
+use Rattle.fmp_reachable.proofs.Changes.{Change, IsFair, Moves, Out, Pattern, Says, ToEnd, changed}
 use Rattle.fmp_reachable.proofs.Stands.{off, said, satisfied-waits, there, waits-on}
+use Rattle.fmp_reachable.specs.Sound.{IsFineBlock}
 
 module _ (sys : SystemTables) (P : Progress → Type 0)
     (go : (g : Progress) (c : Change) → P g → IsFair sys g.state c → P (changed c g)) where

@@ -45,7 +45,7 @@ module _ (sys : SystemTables) (bodies : List BodyTables) (rooms : HasRooms bodie
   abbrev pub Fits : ℕ → MachineContext → Type 0
   Fits k c = (body : BodyTables) → slice_get bodies k ≡ Some body → IsWithin bodies k c
 
-  abbrev Same : ℕ → MachineContext → MachineContext → Type 0
+  abbrev pub Same : ℕ → MachineContext → MachineContext → Type 0
   Same k c d = (c ≡ d) × Fits k c
 
   abbrev Once : ℕ → MachineContext → MachineContext → Type 0
@@ -77,7 +77,7 @@ module _ (sys : SystemTables) (bodies : List BodyTables) (rooms : HasRooms bodie
             (ending k ((code_meaning bodies).stretch k n c) (λ body e. stretch-within bodies rooms k n c (h.1 body e)));
       }
 
-  abbrev Tied : ℕ → Held MachineContext → Held MachineContext → Type 0
+  abbrev pub Tied : ℕ → Held MachineContext → Held MachineContext → Type 0
   Tied = HeldTied Same Same
 
   -- all that is kept fits
@@ -96,7 +96,7 @@ module _ (sys : SystemTables) (bodies : List BodyTables) (rooms : HasRooms bodie
             cs.handlers ds.handlers h.handlers;
       }
 
-  abbrev LeavesFit : Reaction MachineContext → Type 0
+  abbrev pub LeavesFit : Reaction MachineContext → Type 0
   LeavesFit Nothing = Unit {0}
   LeavesFit (Did d) = AllFit d.world.contexts
   LeavesFit (Kept p v) = AllFit v.contexts
@@ -114,7 +114,7 @@ module _ (sys : SystemTables) (bodies : List BodyTables) (rooms : HasRooms bodie
   leaves-fit w e (Did d) h = h.1.contexts
   leaves-fit w e (Kept p v) h = kept-fits w e v h
 
-  step-fits : (w : World MachineContext) (e : Event) → AllFit w.contexts
+  pub step-fits : (w : World MachineContext) (e : Event) → AllFit w.contexts
       → LeavesFit (step sys (code_meaning bodies) n w e)
   step-fits w e h =
       leaves-fit w e (step sys (code_meaning bodies) n w e)

@@ -24,11 +24,11 @@ use Rattle.fmp_reachable.specs.Rows.{IsRegular}
 use Rattle.fmp_reachable.specs.Values.{SameSizes}
 use Rattle.fmp_reachable.specs.Worlds.{IsHeldBy, IsRegularWorld}
 use Rattle.fmp_reachable.specs.Sizes.{AreWithinCapacity, IsOfSystem, IsWorldOfSystem}
-use Rattle.fmp_reachable.proofs.Apart.{AreApart, apart-at, linked-at}
-use Rattle.fmp_reachable.proofs.Changes.{IsSteady, Sizes}
+use Rattle.fmp_reachable.proofs.Apart.{apart-at, linked-at}
 use Rattle.fmp_reachable.proofs.EventChanges.{setup-keeps}
-use Rattle.fmp_reachable.proofs.HeldLaws.{GoesNot, created-held}
-use Rattle.fmp_reachable.proofs.StepLaws.{IsSteadyWorld, Leaves, finished-steady, step-steady}
+use Rattle.fmp_reachable.proofs.HeldLaws.{created-held}
+use Rattle.fmp_reachable.proofs.StepLaws.{Leaves, finished-steady, step-steady}
+use Rattle.fmp_reachable.specs.Sound.{Sizes, AreApart, IsSteady, GoesNot, IsSteadyWorld, IsReached}
 
 -- a state between events is regular
 
@@ -106,11 +106,6 @@ held-by Ready (Some (Goes c)) w r = tt
 held-by Ready (Some (Awaits c)) w r = r refl
 held-by (Waiting z) (Some (Goes c)) w r = w refl
 held-by (Waiting z) (Some (Awaits c)) w r = tt
-
--- what each world has that setup and events reach
-pub record IsReached {C : Type 0} (sys : SystemTables) (w : World C) : Type 0 where
-  pub steady : IsSteadyWorld sys w
-  pub settled : IsSettledWorld sys w
 
 pub reached-regular : {C : Type 0} (sys : SystemTables) (w : World C) → IsReached sys w → IsRegularWorld sys w
 reached-regular sys w h =

@@ -4,6 +4,8 @@ pub mod Readable
 pub mod Rooms
 pub mod Rows
 pub mod Sizes
+pub mod Sound
+pub mod Tested
 pub mod Told
 pub mod Values
 pub mod Worlds

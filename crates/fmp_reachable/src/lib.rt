@@ -6,4 +6,6 @@
 pub mod numbers;
 pub mod room_laws;
 pub mod row_laws;
+pub mod sound_laws;
+pub mod soundness;
 pub mod world_laws;

@@ -1,5 +1,5 @@
 //! What holds of the state of every tables, each the contract of a function that does nothing, or next to nothing.
-ghost use Rattle.std.specs.Prelude.{◌+◌, ◌<◌, length, map};
+ghost use Rattle.std.specs.Prelude.{◌≡◌, ◌+◌, ◌<◌, length, map};
 ghost use Rattle.fmp_base.specs.MailboxCalls.{messages_at};
 ghost use Rattle.fmp_ring.specs.Orders.{IsOrder};
 ghost use Rattle.fmp_ring.specs.RingLists.{AreDisjoint};
@@ -23,6 +23,13 @@ impl KernelState {
     pub fn times_lie_ahead(&self)
         ensures deadlines { NoneBefore (self.now.state.clock + 1) (map (λ x. x.deadline) self.now.state.tasks) }
         ensures due_times { NoneBefore (self.now.state.clock + 1) self.now.state.due_times }
+    {
+        let _ = &self.blocks;
+    }
+
+    /// It is known of each of the 32 interrupts whether it is pending.
+    pub fn interrupts_are_all_there(&self)
+        ensures { length self.now.state.pending_interrupts ≡ 32 }
     {
         let _ = &self.blocks;
     }
