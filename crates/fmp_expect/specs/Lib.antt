@@ -1,5 +1,7 @@
 pub mod Words
+pub mod Parts
+pub mod Conditions
 pub mod Grammar
 pub mod Meaning
-pub mod Stages
+pub mod Watches
 pub mod Runs

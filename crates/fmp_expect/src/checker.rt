@@ -1,14 +1,18 @@
-//! Whether a run meets expectations, line by line.
-ghost use Rattle.std.specs.Prelude.{◌≡◌, [], List, IfOk, map};
+//! Whether a run meets expectations, one thing that it shows after the other.
+ghost use Rattle.std.specs.Prelude.{◌≡◌, ◌++◌, [], List, IfOk, OnOk, map};
 ghost use Rattle.fmp_expect.specs.declared.expectation.Expected.{Expected};
-ghost use Rattle.fmp_expect.specs.Meaning.{Told, fails_at_end as fails_at, first_broken, with_lines};
-ghost use Rattle.fmp_expect.specs.Stages as spec;
-ghost use Rattle.fmp_expect.specs.Stages.{AreTold};
+ghost use Rattle.fmp_expect.specs.Meaning.{Told, breaks_at_end as breaks_then, empty_lines, first_broken, with_lines, with_state};
+ghost use Rattle.fmp_expect.specs.Watches as spec;
+ghost use Rattle.fmp_expect.specs.Watches.{AreTold};
+ghost use Rattle.fmp_monitors.specs.Meaning.{OfLine, OfState};
 
-use crate::expectation::{Expectation, Expected};
-use crate::lines::is_state;
-use crate::stages::{Stage, after_line};
-use fmp_base::{Line, StateWord, TaskState};
+use crate::expectation::Expected;
+use fmp_base::{Line, TaskState};
+use fmp_monitors::{
+    Sentence, Standing, breaks_by_line, breaks_in_state, has_premise, is_premise, is_state,
+    next_standing,
+};
+use fmp_tasks::KernelState;
 use std::alloc::{AllocError, Global};
 use std::marker::Model;
 
@@ -21,11 +25,15 @@ pub struct BrokenExpectation {
     pub event: u32,
 }
 
-/// An expectation, and how far it is.
+/// An expectation, and what is kept of it.
 #[derive(Clone, Copy)]
 pub struct Watch {
     pub expected: Expected,
-    pub stage: Stage,
+    pub standing: Standing,
+    /// The first event in which it failed.
+    pub failed: Option<u32>,
+    /// What the sentence speaks of has come.
+    pub came: bool,
 }
 
 /// Expectations while a run goes on. It keeps as much as there are expectations, however long the run is.
@@ -44,22 +52,57 @@ impl Model for Checker {
     ghost view = { λ checker. checker.watches.items };
 }
 
-/// An expectation after one more line, which is of the event of this number.
-fn next_watch(watch: Watch, number: u32, line: Line) -> Watch
-    ensures { result ≡ spec.next_watch number line watch }
+/// The event in which an expectation failed, where this one may break it.
+fn failed_by(failed: Option<u32>, broken: bool, number: u32) -> Option<u32>
+    ensures { result ≡ spec.failed_by failed broken number }
 {
+    match failed {
+        Some(event) => Some(event),
+        None if broken => Some(number),
+        None => None,
+    }
+}
+
+/// An expectation after one more line, which is of the event of this number.
+fn after_line(watch: &Watch, number: u32, line: Line) -> Watch
+    ensures { result ≡ spec.next_watch number (OfLine line) watch.now }
+{
+    let sentence = &watch.expected.sentence;
+    let broken = breaks_by_line(sentence, watch.standing, line);
     Watch {
         expected: watch.expected,
-        stage: after_line(watch.expected.expectation, watch.stage, number, line),
+        standing: next_standing(sentence, watch.standing, line),
+        failed: failed_by(watch.failed, broken, number),
+        came: is_premise(sentence, line) || watch.came,
+    }
+}
+
+/// An expectation after the state that the event of this number left.
+fn after_state(watch: &Watch, number: u32, state: &KernelState) -> Watch
+    ensures { result ≡ spec.next_watch number (OfState state.now.state) watch.now }
+{
+    let broken = breaks_in_state(&watch.expected.sentence, state);
+    Watch {
+        failed: failed_by(watch.failed, broken, number),
+        ..*watch
     }
 }
 
 /// Tells one line.
 fn tell_line(watches: &mut [Watch], number: u32, line: Line)
-    ensures { watches.new ≡ map (spec.next_watch number line) watches.old }
+    ensures { watches.new ≡ map (spec.next_watch number (OfLine line)) watches.old }
 {
     for watch in watches.iter_mut() {
-        *watch = next_watch(*watch, number, line);
+        *watch = after_line(watch, number, line);
+    }
+}
+
+/// Tells a state.
+fn tell_state(watches: &mut [Watch], number: u32, state: &KernelState)
+    ensures { watches.new ≡ map (spec.next_watch number (OfState state.now.state)) watches.old }
+{
+    for watch in watches.iter_mut() {
+        *watch = after_state(watch, number, state);
     }
 }
 
@@ -72,33 +115,28 @@ fn tell_lines(watches: &mut [Watch], number: u32, lines: &[Line])
     }
 }
 
-/// Whether the end of a run fails an expectation, where its tasks are in these states.
-fn fails_at_end(expectation: Expectation, states: &[TaskState]) -> bool
-    ensures { result ≡ fails_at expectation states.now }
+/// Whether the end of a run breaks a sentence, where its tasks are in these states.
+fn breaks_at_end(sentence: &Sentence, states: &[TaskState]) -> bool
+    ensures { result ≡ breaks_then sentence.now states.now }
 {
-    match expectation {
-        Expectation::End { word, task } => match states.get(task) {
+    match *sentence {
+        Sentence::End { word, task } => match states.get(task) {
             Some(state) => !is_state(state.word, word),
             None => true,
         },
-        Expectation::Never(_) | Expectation::Before { .. } | Expectation::Within { .. } => false,
+        _ => false,
     }
 }
 
-/// The event in which a run fails an expectation, where its last event is the one of this number.
-fn outcome(watch: Watch, states: &[TaskState], number: u32) -> Option<u32>
-    ensures { result ≡ spec.watch_outcome watch states.now number }
+/// The event in which a run breaks an expectation, where its last event is the one of this number.
+fn outcome(watch: &Watch, states: &[TaskState], number: u32) -> Option<u32>
+    ensures { result ≡ spec.watch_outcome watch.now states.now number }
 {
-    match watch.stage {
-        Stage::Failed(event) => Some(event),
-        Stage::Open | Stage::Waiting(_) | Stage::Held => {
-            if fails_at_end(watch.expected.expectation, states) {
-                Some(number)
-            } else {
-                None
-            }
-        }
-    }
+    failed_by(
+        watch.failed,
+        breaks_at_end(&watch.expected.sentence, states),
+        number,
+    )
 }
 
 /// The first of these expectations that failed.
@@ -106,7 +144,7 @@ fn first_failed(watches: &[Watch], states: &[TaskState], number: u32) -> Option<
     ensures { result ≡ spec.first_failed watches.now states.now number }
 {
     for watch in watches {
-        if let Some(event) = outcome(*watch, states, number) {
+        if let Some(event) = outcome(watch, states, number) {
             return Some(BrokenExpectation {
                 line: watch.expected.line,
                 event,
@@ -116,8 +154,36 @@ fn first_failed(watches: &[Watch], states: &[TaskState], number: u32) -> Option<
     None
 }
 
+/// Whether an expectation says nothing of what was told: what it speaks of never came.
+fn is_empty(watch: &Watch) -> bool
+    ensures { result ≡ spec.is_empty watch.now }
+{
+    has_premise(&watch.expected.sentence) && !watch.came
+}
+
+/// Adds the line of an expectation, if it says nothing of what was told.
+fn add_empty(lines: &mut Vec<usize>, watch: &Watch) -> Result<(), AllocError>
+    ensures { OnOk result (lines.new.items ≡ lines.old.items ++ spec.empty_line watch.now) }
+{
+    if is_empty(watch) {
+        lines.push(watch.expected.line)?;
+    }
+    Ok(())
+}
+
+/// The lines of the expectations that say nothing of what was told.
+fn lines_of_empty(alloc: Global, watches: &[Watch]) -> Result<Vec<usize>, AllocError>
+    ensures { IfOk result (λ lines. lines.items ≡ spec.lines_of_empty watches.now) }
+{
+    let mut lines = Vec::new(alloc);
+    for watch in watches {
+        add_empty(&mut lines, watch)?;
+    }
+    Ok(lines)
+}
+
 impl Checker {
-    /// These expectations before any line. `AllocError` if memory runs out.
+    /// These expectations before anything is told. `AllocError` if memory runs out.
     pub fn new(alloc: Global, expected: &[Expected]) -> Result<Checker, AllocError>
         ensures { IfOk result (λ checker. AreTold expected.now [] checker) }
     {
@@ -125,7 +191,9 @@ impl Checker {
         for one in expected {
             watches.push(Watch {
                 expected: *one,
-                stage: Stage::Open,
+                standing: Standing::Open,
+                failed: None,
+                came: false,
             })?;
         }
         Ok(Checker { watches })
@@ -137,6 +205,12 @@ impl Checker {
         tell_lines(&mut self.watches, number, lines);
     }
 
+    fn tell_one(&mut self, number: u32, state: &KernelState)
+        ensures { self.new ≡ map (spec.next_watch number (OfState state.now.state)) self.old }
+    {
+        tell_state(&mut self.watches, number, state);
+    }
+
     /// Tells the lines of the event of this number, or of setup, which has number 0.
     pub fn tell(&mut self, number: u32, lines: &[Line])
         ensures { (xs : List Expected) → (told : List Told) → AreTold xs told self.old
@@ -145,12 +219,30 @@ impl Checker {
         self.tell_all(number, lines);
     }
 
-    /// The first of the expectations that the run fails, where its last event is the one of this number and its tasks
+    /// Tells the state after the event of this number, or after setup, which has number 0.
+    pub fn tell_state(&mut self, number: u32, state: &KernelState)
+        ensures { (xs : List Expected) → (told : List Told) → AreTold xs told self.old
+            → AreTold xs (with_state number state.now.state told) self.new }
+    {
+        self.tell_one(number, state);
+    }
+
+    /// The first of the expectations that the run breaks, where its last event is the one of this number and its tasks
     /// are in these states; none if it meets them all.
     pub fn verdict(&self, states: &[TaskState], number: u32) -> Option<BrokenExpectation>
         ensures { (xs : List Expected) → (told : List Told) → AreTold xs told self.now
             → result ≡ first_broken xs told states.now number }
     {
         first_failed(&self.watches, states, number)
+    }
+
+    /// The lines of the expectations that say nothing of the run, since what they speak of never came: of `A before B`
+    /// the second, of `never A after B` the opening, of a time within which something is to come its trigger, and of
+    /// `between A and B` a task that enters. `AllocError` if memory runs out.
+    pub fn empty_claims(&self, alloc: Global) -> Result<Vec<usize>, AllocError>
+        ensures { (xs : List Expected) → (told : List Told) → AreTold xs told self.now
+            → IfOk result (λ lines. lines.items ≡ empty_lines xs told) }
+    {
+        lines_of_empty(alloc, &self.watches)
     }
 }

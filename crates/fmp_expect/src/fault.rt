@@ -5,7 +5,7 @@ use thiserror::Error;
 #[derive(Clone, Copy, Debug, PartialEq, Eq, Error)]
 pub enum Expects {
     /// The first word of a sentence.
-    #[error("a sentence: 'never DEED', 'DEED before DEED', 'TASK runs within N ticks of int I' or 'end STATE TASK'")]
+    #[error("a sentence: 'never DEED', 'DEED before DEED', 'TASK runs within N ticks of int I', 'always TEST', 'between DEED and DEED one at a time', 'TASK rests' or 'end STATE TASK'")]
     Sentence,
     /// A deed.
     #[error("a deed: a code as E_QOVR, a value as put(7), or a fault as F_IDX")]
@@ -37,15 +37,72 @@ pub enum Expects {
     /// The word `of`.
     #[error("`of`")]
     Of,
-    /// The word `int`.
-    #[error("`int`")]
+    /// The word `int`, or a deed.
+    #[error("`int` or a deed")]
     Int,
-    /// The word `before`.
-    #[error("`before`")]
+    /// The word `before` or `within`.
+    #[error("`before` or `within`")]
     Before,
-    /// The word `before`, or `by` with an actor.
-    #[error("`before` or `by`")]
+    /// The word `before` or `within`, or `by` with an actor.
+    #[error("`before`, `within` or `by`")]
     BeforeOrBy,
+    /// Nothing, `after` or `until`.
+    #[error("the end of the line, `after` or `until`")]
+    NeverEnd,
+    /// Nothing, `after` or `until`, or `by` with an actor.
+    #[error("the end of the line, `after`, `until` or `by`")]
+    NeverEndOrBy,
+    /// Nothing, or `until`.
+    #[error("the end of the line or `until`")]
+    UntilEnd,
+    /// Nothing, or `until`, or `by` with an actor.
+    #[error("the end of the line, `until` or `by`")]
+    UntilEndOrBy,
+    /// The word `runs` or `rests`.
+    #[error("`runs` or `rests`")]
+    RunsOrRests,
+    /// The word `and`.
+    #[error("`and`")]
+    And,
+    /// The word `and`, or `by` with an actor.
+    #[error("`and` or `by`")]
+    AndOrBy,
+    /// The word `one`.
+    #[error("`one`")]
+    One,
+    /// The word `one`, or `by` with an actor.
+    #[error("`one` or `by`")]
+    OneOrBy,
+    /// The word `at`.
+    #[error("`at`")]
+    At,
+    /// The word `a`.
+    #[error("`a`")]
+    A,
+    /// The word `time`.
+    #[error("`time`")]
+    Time,
+    /// A test of a condition.
+    #[error("a condition: 'NAME < 5', 'priority TASK < 5', 'TASK is STATE' or 'TASK runs on 2'")]
+    Test,
+    /// A relation of numbers.
+    #[error("a relation: ==, !=, <, <=, > or >=")]
+    Relation,
+    /// A number of 32 bits.
+    #[error("a number, -2147483648 to 2147483647")]
+    Value,
+    /// The word `on`.
+    #[error("`on`")]
+    On,
+    /// The number of a processor.
+    #[error("the number of a processor, 1 to 8")]
+    Processor,
+    /// Nothing, or one more test.
+    #[error("the end of the line, `and` or `or`")]
+    AndOr,
+    /// Not another test.
+    #[error("at most 8 tests")]
+    FewerTests,
     /// Nothing.
     #[error("the end of the line")]
     End,

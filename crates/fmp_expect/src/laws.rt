@@ -3,14 +3,14 @@ ghost use Rattle.std.specs.Prelude.{◌≡◌, List};
 ghost use Rattle.fmp_base.specs.declared.events.Event.{Event};
 ghost use Rattle.fmp_coming.specs.Comings.{reaction_of};
 ghost use Rattle.fmp_expect.specs.Meaning.{Told};
-ghost use Rattle.fmp_expect.specs.Runs.{events_told, rest_told};
+ghost use Rattle.fmp_expect.specs.Runs.{events_told, lines_told, rest_told};
 ghost use Rattle.fmp_kernel.specs.KernelViews.{KernelView};
 
 use fmp_kernel::Body;
 
-/// What is told of events that come to a kernel is what its run over them tells.
+/// The lines that are told of events that come to a kernel are those of its run over them.
 #[tactic(auto, using(crate::proofs::Events::same_told))]
 pub fn events_tell_as_their_run<B: Body>()
     ensures { (k : KernelView B B.Ctx) (es : List Event) (told : List Told) →
-        rest_told (reaction_of B.meaning) k es told ≡ events_told B.meaning k es told }
+        lines_told (rest_told (reaction_of B.meaning) k es told) ≡ events_told B.meaning k es (lines_told told) }
 {}

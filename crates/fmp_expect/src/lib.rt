@@ -2,22 +2,23 @@
 #![tactic(auto)]
 
 mod checker;
+mod conditions;
 mod expectation;
 mod fault;
 mod laws;
-mod lines;
 mod named;
 mod numbers;
+mod parts;
 mod reading;
 mod running;
-mod stages;
+mod sentences;
 mod words;
 
 pub use checker::{BrokenExpectation, Checker, Watch};
-pub use expectation::{Expectation, Expected, ExpectedActor, ExpectedDeed, Happening};
+pub use expectation::Expected;
 pub use fault::{ExpectFault, ExpectationFlaw, Expects};
 pub use laws::events_tell_as_their_run;
 pub use named::{CODES, FAULTS, STATES, fault_name, state_name};
-pub use reading::{faulty_word, read_expectations};
+pub use parts::faulty_word;
+pub use reading::read_expectations;
 pub use running::tell_run;
-pub use stages::Stage;

@@ -4,12 +4,12 @@ ghost use Rattle.fmp_base.specs.Codes.{code_name};
 ghost use Rattle.fmp_base.specs.Names.{name_text};
 ghost use Rattle.fmp_base.specs.Systems.{tables_of};
 ghost use Rattle.fmp_base.specs.Texts.{fault_text, word_text};
-ghost use Rattle.fmp_expect.specs.Grammar as spec;
+ghost use Rattle.fmp_expect.specs.Parts as spec;
 ghost use Rattle.fmp_expect.specs.Words as words;
 
-use crate::expectation::{ExpectedActor, ExpectedDeed};
 use crate::numbers::signed_in;
 use fmp_base::{CyclicConfig, Er, Fault, StateWord, System, TaskConfig};
+use fmp_monitors::{ExpectedActor, ExpectedDeed};
 
 /// All codes.
 pub const CODES: [Er; 12] = [

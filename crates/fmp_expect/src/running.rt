@@ -3,8 +3,8 @@ ghost use Rattle.std.specs.Prelude.{◌≡◌, ◌+◌, ◌<◌, ◌≤◌, ◌^
 ghost use Rattle.fmp_coming.specs.Comings.{view_after_each};
 ghost use Rattle.fmp_expect.specs.declared.expectation.Expected.{Expected};
 ghost use Rattle.fmp_expect.specs.Meaning.{Told};
-ghost use Rattle.fmp_expect.specs.Runs.{run_told, told_after};
-ghost use Rattle.fmp_expect.specs.Stages.{AreTold};
+ghost use Rattle.fmp_expect.specs.Runs.{last_told, run_told, told_after};
+ghost use Rattle.fmp_expect.specs.Watches.{AreTold};
 ghost use Rattle.fmp_kernel.specs.KernelViews.{view_after};
 
 use crate::checker::Checker;
@@ -12,7 +12,17 @@ use fmp_base::Effect;
 use fmp_coming::Coming;
 use fmp_kernel::{Body, Kernel};
 
-/// Takes what comes to a kernel, and tells its lines.
+/// Tells the lines of a kernel's last event that was done, or of setup, and the state after it.
+#[tactic(none)]
+fn tell_last<B: Body>(kernel: &Kernel<B>, checker: &mut Checker)
+    ensures { (xs : List Expected) → (told : List Told) → AreTold xs told checker.old
+        → AreTold xs (last_told kernel.now told) checker.new }
+{
+    checker.tell(kernel.done(), kernel.lines());
+    checker.tell_state(kernel.done(), kernel.tables());
+}
+
+/// Takes what comes to a kernel, and tells what it shows.
 #[tactic(none)]
 fn tell_one<B: Body, T: Coming<B>>(kernel: &mut Kernel<B>, e: T, checker: &mut Checker)
     requires { kernel.old.taken < 2 ^ 31 }
@@ -21,21 +31,21 @@ fn tell_one<B: Body, T: Coming<B>>(kernel: &mut Kernel<B>, e: T, checker: &mut C
         → AreTold xs (told_after kernel.old (T.reaction kernel.old e) told) checker.new }
 {
     match e.take(kernel) {
-        Effect::Done => checker.tell(kernel.done(), kernel.lines()),
+        Effect::Done => tell_last(kernel, checker),
         Effect::Kept => {}
         Effect::Nothing => {}
     }
 }
 
-/// Takes what comes to a kernel, and tells the lines: first those of its last event, or of setup, and then those of each
-/// event that is done.
+/// Takes what comes to a kernel, and tells the lines and the states: first those of its last event, or of setup, and then
+/// those of each event that is done.
 pub fn tell_run<B: Body, T: Coming<B>>(kernel: &mut Kernel<B>, events: &[T], checker: &mut Checker)
     requires { kernel.old.taken + length events.now ≤ 2 ^ 31 }
     ensures state { kernel.new ≡ view_after_each T.reaction kernel.old events.now }
     ensures told { (xs : List Expected) → AreTold xs [] checker.old
         → AreTold xs (run_told T.reaction kernel.old events.now) checker.new }
 {
-    checker.tell(kernel.done(), kernel.lines());
+    tell_last(kernel, checker);
     for e in events {
         tell_one(kernel, *e, checker);
     }

@@ -1,5 +1,5 @@
 use Rattle.std.proofs.Common.{◌≡◌, drop}
-use Rattle.fmp_expect.specs.Stages.{first_failed}
+use Rattle.fmp_expect.specs.Watches.{first_failed}
 use Rattle.fmp_expect.proofs.checker.first_failed.Given as goal
 
 abbrev pub invariant-loop-watch : goal.invariant-loop-watch

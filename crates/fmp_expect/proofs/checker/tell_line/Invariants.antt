@@ -1,8 +1,10 @@
 use Rattle.std.proofs.Common.{◌≡◌, ◌++◌, map, take, drop}
-use Rattle.fmp_expect.specs.Stages.{next_watch}
+use Rattle.fmp_monitors.specs.Meaning.{OfLine}
+use Rattle.fmp_expect.specs.Watches.{next_watch}
 use Rattle.fmp_expect.proofs.checker.tell_line.Given as goal
 
 abbrev pub invariant-loop-watch : goal.invariant-loop-watch
 invariant-loop-watch l =
     let rows = l.initial.watches in
-    l.watches ≡ map (next_watch l.number l.line) (take l.watch-index rows) ++ drop l.watch-index rows
+    let next = next_watch l.number (OfLine l.line) in
+    l.watches ≡ map next (take l.watch-index rows) ++ drop l.watch-index rows

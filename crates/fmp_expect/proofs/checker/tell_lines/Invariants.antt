@@ -1,5 +1,5 @@
 use Rattle.std.proofs.Common.{◌≡◌, drop}
-use Rattle.fmp_expect.specs.Stages.{next_watches}
+use Rattle.fmp_expect.specs.Watches.{next_watches}
 use Rattle.fmp_expect.proofs.checker.tell_lines.Given as goal
 
 abbrev pub invariant-loop-line : goal.invariant-loop-line

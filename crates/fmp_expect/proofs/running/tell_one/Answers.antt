@@ -1,8 +1,7 @@
-use Rattle.std.proofs.Common.{◌≡◌, ◌∙◌, ℕ, List, ap, subst, sym}
-use Rattle.fmp_base.specs.declared.events.Line.{Line}
-use Rattle.fmp_expect.specs.Meaning.{Told, with_lines}
-use Rattle.fmp_expect.specs.Runs.{told_after}
-use Rattle.fmp_expect.specs.Stages.{AreTold}
+use Rattle.std.proofs.Common.{◌≡◌, ◌∙◌, List, ap, subst, sym}
+use Rattle.fmp_expect.specs.Meaning.{Told}
+use Rattle.fmp_expect.specs.Runs.{last_told, told_after}
+use Rattle.fmp_expect.specs.Watches.{AreTold}
 use Rattle.fmp_expect.proofs.Events.{told_done, told_kept, told_nothing}
 use Rattle.fmp_expect.proofs.running.tell_one.Goals as goal
 
@@ -16,12 +15,9 @@ returns-in-Done g c =
     record {
       state = c.take.ensures.state;
       told = λ xs told are.
-          let lines : with_lines c.done.result c.lines.result.now told ≡ told_after k r told =
-          ap (λ (n : ℕ). with_lines n c.lines.result.now told) c.done.ensures
-          ∙ ap (λ (ls : List Line). with_lines c.take.new.kernel.done ls told) c.lines.ensures
-          ∙ ap (λ v. with_lines v.done v.lines told) c.take.ensures.state
-          ∙ told_done k told r (sym c.in-Done.is ∙ c.take.ensures.effect) in
-          subst (λ (ts : List Told). AreTold xs ts c.tell.new.self) lines (c.tell.ensures xs told are);
+          let all : last_told c.take.new.kernel told ≡ told_after k r told =
+          ap (λ v. last_told v told) c.take.ensures.state ∙ told_done k told r (sym c.in-Done.is ∙ c.take.ensures.effect) in
+          subst (λ (ts : List Told). AreTold xs ts c.tell_last.new.checker) all (c.tell_last.ensures xs told are);
     }
 
 pub returns-in-Kept : goal.returns-in-Kept

@@ -4,8 +4,8 @@ use Rattle.fmp_base.specs.declared.events.Line.{Line}
 use Rattle.fmp_coming.specs.Comings.{view_after_each}
 use Rattle.fmp_coming.proofs.Comings.{after-step, taken-step}
 use Rattle.fmp_expect.specs.Meaning.{Told, with_lines}
-use Rattle.fmp_expect.specs.Runs.{rest_told, told_after}
-use Rattle.fmp_expect.specs.Stages.{AreTold}
+use Rattle.fmp_expect.specs.Runs.{last_told, rest_told, told_after}
+use Rattle.fmp_expect.specs.Watches.{AreTold}
 use Rattle.fmp_expect.proofs.Events.{told_step}
 use Rattle.fmp_expect.proofs.running.tell_run.Goals as goal
 
@@ -14,14 +14,7 @@ loop-e-init g c = record {
   room = c.requires;
   state = refl;
   told = λ xs are.
-      let k = c.args.kernel.now in
-      let lines : with_lines c.done.result c.lines.result.now [] ≡ with_lines k.done k.lines [] =
-      ap (λ (n : ℕ). with_lines n c.lines.result.now []) c.done.ensures
-      ∙ ap (λ (ls : List Line). with_lines k.done ls []) c.lines.ensures in (
-        with_lines k.done k.lines [],
-        subst (λ (ts : List Told). AreTold xs ts c.tell.new.self) lines (c.tell.ensures xs [] are),
-        refl,
-      );
+      (last_told c.args.kernel.now [], c.tell_last.ensures xs [] are, refl);
 }
 
 pub tell_one-requires : goal.tell_one-requires

@@ -3,7 +3,7 @@ use Rattle.fmp_coming.specs.Comings.{view_after_each}
 use Rattle.fmp_expect.specs.declared.expectation.Expected.{Expected}
 use Rattle.fmp_expect.specs.Meaning.{Told}
 use Rattle.fmp_expect.specs.Runs.{rest_told, run_told}
-use Rattle.fmp_expect.specs.Stages.{AreTold}
+use Rattle.fmp_expect.specs.Watches.{AreTold}
 use Rattle.fmp_expect.proofs.running.tell_run.Given as goal
 
 -- the lines that were told, and those of the events that are left, are those of the run

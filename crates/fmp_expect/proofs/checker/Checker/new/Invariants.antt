@@ -1,5 +1,5 @@
 use Rattle.std.proofs.Common.{◌≡◌, [], map, take}
-use Rattle.fmp_expect.specs.Stages.{watch_of}
+use Rattle.fmp_expect.specs.Watches.{watch_of}
 use Rattle.fmp_expect.proofs.checker.Checker.new.Given as goal
 
 abbrev pub invariant-loop-one : goal.invariant-loop-one

@@ -1,8 +1,8 @@
 //! What a line of a trace tells.
 ghost use Rattle.std.specs.Prelude.{◌≡◌};
-ghost use Rattle.fmp_expect.specs.Meaning as spec;
+ghost use Rattle.fmp_monitors.specs.Happenings as spec;
 
-use crate::expectation::{ExpectedActor, ExpectedDeed, Happening};
+use crate::happening::{ExpectedActor, ExpectedDeed, Happening};
 use fmp_base::{Call, Caller, Er, Fault, Handler, Line, Reply, StateWord};
 
 fn is_same(a: i32, b: i32) -> bool
@@ -169,4 +169,82 @@ pub fn is_tick(line: Line) -> bool
     ensures { result ≡ spec.is_tick line }
 {
     matches!(line, Line::Tick(_))
+}
+
+/// The task of a caller, if it is one.
+fn task_of(who: Caller) -> Option<u8>
+    ensures { result ≡ spec.task_of who }
+{
+    match who {
+        Caller::Task(task) => Some(task),
+        Caller::Handler(_) => None,
+    }
+}
+
+/// The task of whose deed a line tells, if it tells of one.
+fn task_in(line: Line) -> Option<u8>
+    ensures { result ≡ spec.task_in line }
+{
+    match line {
+        Line::Call { caller, .. } | Line::End { caller, .. } | Line::Fault { caller, .. } => {
+            task_of(caller)
+        }
+        Line::Gets { task, .. } => Some(task),
+        _ => None,
+    }
+}
+
+/// The task that does this by a line, if one does.
+pub fn entering(happening: Happening, line: Line) -> Option<u8>
+    ensures { result ≡ spec.entering happening line }
+{
+    if tells(happening, line) {
+        task_in(line)
+    } else {
+        None
+    }
+}
+
+fn is_this(task: u8, other: Option<u8>) -> bool
+    ensures { result ≡ spec.is_this task other }
+{
+    match other {
+        Some(other) => other == task,
+        None => false,
+    }
+}
+
+/// Whether a call terminates this task if it is answered `E_OK`.
+fn terminates(task: u8, call: Call) -> bool
+    ensures { result ≡ spec.terminates task call }
+{
+    match call {
+        Call::TerTsk { task: number } => is_same(number, i32::from(task) + 1),
+        _ => false,
+    }
+}
+
+/// Whether a line tells that this task ends, stops with a fault or is terminated.
+fn is_over(task: u8, line: Line) -> bool
+    ensures { result ≡ spec.is_over task line }
+{
+    match line {
+        Line::Call { call, reply, .. } => terminates(task, call) && has_code(Er::Ok, reply),
+        Line::End { caller, .. } | Line::Fault { caller, .. } => is_this(task, task_of(caller)),
+        _ => false,
+    }
+}
+
+/// Whether a line tells that this task does this.
+fn does(happening: Happening, task: u8, line: Line) -> bool
+    ensures { result ≡ spec.does happening task line }
+{
+    tells(happening, line) && is_this(task, task_in(line))
+}
+
+/// Whether by a line this task leaves: it does what lets it, or it is over.
+pub fn leaves(happening: Happening, task: u8, line: Line) -> bool
+    ensures { result ≡ spec.leaves happening task line }
+{
+    does(happening, task, line) || is_over(task, line)
 }

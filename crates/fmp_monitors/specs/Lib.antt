@@ -1,0 +1,5 @@
+pub mod Happenings
+pub mod Conditions
+pub mod Meaning
+pub mod Standings
+pub mod Monitors
