@@ -27,7 +27,7 @@ sys.path[0] = str(Path(__file__).resolve().parents[1])  # the folder `checks`, w
 from model.bodies import Call, Statement  # noqa: E402
 from model.harness import SECONDS, expect, main, replayed  # noqa: E402
 from model.schedules import (  # noqa: E402
-    Question, Search, goes_on_for_ever, inside_after, is_deadlock, state_key, tells,
+    Question, goes_on_for_ever, inside_after, is_deadlock, searched, state_key, tells,
 )
 from model.systems import Generator  # noqa: E402
 
@@ -142,8 +142,7 @@ def compare(trial, case, bound, question):
     status, text = explored(trial, bound, question)
     if status == 5:
         return None
-    second = Search(case.system, bound, question, MOST)
-    result = second.run()
+    second, result = searched(case.system, bound, question, MOST)
     if not result.found and not result.is_whole:
         return None
     is_found = result.found or result.endless

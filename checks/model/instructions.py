@@ -1,7 +1,8 @@
 """The instructions of a body in the model, as docs/LANGUAGE.md counts them: where a body stands among them, with which
 operands, and which of its locals are live there. The array counts as one local.
 
-A local is live where it may be read before it is written anew, whichever way the conditions go; else it is dead.
+A local is live where it may be read before it is written anew, whichever way the conditions go; else it is dead. The
+local at the out place of a call is written by E_OK alone, or, where out places count as written, by every reply.
 """
 
 from dataclasses import dataclass
@@ -132,8 +133,8 @@ class Code:
     """The instructions of a body: for each statement, and for the end behind them, the place of its first one, and
     for each place the locals that are live there."""
 
-    def __init__(self, body):
-        self.instructions, self.firsts = [], []
+    def __init__(self, body, outs=False):
+        self.instructions, self.firsts, self.outs = [], [], outs
         if body.repeats:
             self.instructions += [Number(1), None]
         for statement in body.statements:
@@ -157,7 +158,7 @@ class Code:
             case Write(local):
                 return live[place + 1] - {local}
             case Ask(call):
-                return live[place + 1] - ({"r"} if call.keeps_answer else set())
+                return live[place + 1] - self.answered(call)
             case GoTo(target):
                 return live[target]
             case GoToIfZero(target):
@@ -166,6 +167,10 @@ class Code:
                 return frozenset()
             case _:
                 return live[place + 1]
+
+    def answered(self, call):
+        """The locals that every reply to a call writes."""
+        return ({"r"} if call.keeps_answer else set()) | ({"v"} if self.outs and call.has_place else set())
 
     def traced(self):
         """The live locals of each place: none at first, and then all that have to be, until no more do."""
@@ -203,11 +208,10 @@ class Code:
                 return (place + 1 if operands[-1] else target), operands[:-1]
 
     def standing(self, context, is_waiting):
-        """Where a body stands, its operands, and its locals with 0 for those that are dead. While it waits, the local
-        that takes the answer of its call is dead too. The context is the caller's no more."""
+        """Where a body stands, its operands, and its locals with 0 for those that are dead. While it waits, the locals
+        that every reply to its call writes are dead too. The context is the caller's no more."""
         place, operands = self.firsts[context.position], []
         for _ in range(context.spent):
             place, operands = self.follow(place, operands, context)
-        answered = {"r"} if is_waiting and context.call.keeps_answer else set()
-        live = self.live[place] - answered
+        live = self.live[place] - (self.answered(context.call) if is_waiting else set())
         return place, tuple(operands), tuple(getattr(context, local) if local in live else 0 for local in LOCALS)

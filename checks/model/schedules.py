@@ -12,6 +12,7 @@ from model.instructions import Code
 from model.kernel import Kernel
 from model.world import Handler, State
 
+REFUSED = re.compile(r"\d+ p(\d) (\S+) .*\b(?!E_OK)E_[A-Z]+")  # a line with another code: its processor, and who
 OF_TASK = re.compile(r"\d+ p\d T(\d+) (.*)")  # a line of a task: its number, and what it tells
 
 
@@ -198,16 +199,43 @@ def is_deadlock(kernel, question, came):
     return is_stuck(kernel.world, question.rest) and not any(after(kernel, event) for event in events)
 
 
+def is_behind_place(kernel, number, name):
+    """Whether the task of this name, or the handler on the processor of this number, stands behind a call with an out
+    place. A dormant task counts as one."""
+    tasks = [task for task in kernel.world.tasks if task.name == name]
+    if tasks and tasks[0].state is State.DORMANT:
+        return True
+    actor = tasks[0] if tasks else kernel.world.processors[number - 1].handler
+    return bool(actor and actor.context.call and actor.context.call.has_place)
+
+
+def leaves_place(kernel):
+    """Whether a reply that was just told left the local at the out place of its call as it was."""
+    told = [found.groups() for line in kernel.world.lines if (found := REFUSED.fullmatch(line))]
+    return any(is_behind_place(kernel, int(number), name) for number, name in told)
+
+
+def searched(system, bound, question, most):
+    """A search that was made, and what it came to. Out places count as written by every reply; where one left an out
+    place as it was, the search is made again without."""
+    for outs in (True, False):
+        search = Search(system, bound, question, most, outs)
+        result = search.run()
+        if not search.is_lost:
+            return search, result
+
+
 class Search:
     """A search under way. The keys of the states that were seen, in the order in which they were, have the key before
     them, the event between, and the depth. The key of a state has who is in each section, and how many interrupts came
     where that is limited. An edge has the key before an event that did something, the one after it, and the tasks that
     went on by it. Of the states in which an event was left out, since it would queue too much, the keys are kept."""
 
-    def __init__(self, system, bound, question, most):
+    def __init__(self, system, bound, question, most, outs):
         self.start, self.question, self.most = Kernel(system, bound), question, most
         self.tries = tries_of(system)
-        self.codes = [Code(body) for body in system.bodies]
+        self.codes = [Code(body, outs) for body in system.bodies]
+        self.outs, self.is_lost = outs, False
         self.first = state_key(self.start, self.codes), len(question.sections) * (None,), 0
         self.seen = {self.first: (None, None, 0)}
         self.edges, self.cut = [], set()
@@ -239,6 +267,7 @@ class Search:
         of these."""
         result, lines = self.result, kernel.world.lines
         result.events += 1
+        self.is_lost |= self.outs and leaves_place(kernel)
         for line in lines:
             if any(tells(line, never) for never in self.question.nevers):
                 result.found.append((line.split(" ", 1)[1], [*self.path(key), event]))
@@ -296,7 +325,8 @@ class Search:
         while self.queue:
             kernel, key = self.queue.popleft()
             depth = self.seen[key][2]
-            if any(len(events) <= depth for _, events in result.found) or len(self.seen) > self.most:
+            is_enough = any(len(events) <= depth for _, events in result.found)
+            if self.is_lost or is_enough or len(self.seen) > self.most:
                 result.is_whole = False
                 break
             self.examine(kernel, key)

@@ -31,7 +31,7 @@ from common.services import SERVICES  # noqa: E402
 from common.tally import Tally  # noqa: E402
 
 BOUND = "100000"  # where the options give none
-MEMORY = (30_000, 24_000, 18_000, 15_000, 12_000, 9_000, 7_000)  # kilobytes that a search may take, less and less
+MEMORY = (30_000, 18_000, 12_000, 9_000, 7_000, 6_000, 5_400, 5_000)  # kilobytes that a search may take, less and less
 FURTHER = 300  # events after those of a task that can never go on
 FOLDERS = (ROOT / "checks/schedules/systems", ROOT / "examples")
 SECONDS = 120
@@ -95,7 +95,7 @@ class Several:
 @dataclass(frozen=True)
 class Nothing:
     """Nothing is found, and the first line says so of all lists of events that may come. The states, events and depth
-    are these, where they are given, calls of these lines are never made, and calls get these answers, by line."""
+    are these, as many as are given, calls of these lines are never made, and calls get these answers, by line."""
 
     numbers: tuple = ()
     unmade: tuple = ()
@@ -143,6 +143,7 @@ ROWS = [
     ("slow", never("E_QOVR"), Line(6, (3,), "isig_sem(1) E_QOVR")),
     ("wakeup", (), Deadlock(4, "SLEEPER (wakeup.src:4)")),
     ("untested", never("E_QOVR"), Line(6, (4, 8), "sig_sem(1) E_QOVR")),
+    ("stale", never("put(5)"), Line(4, (6,), "put(5) E_OK")),
     # An answer at one line, and the answers at all.
     ("untested", never("E_QOVR:4"), Line(6, (4,), "OWNER sig_sem(1) E_QOVR")),
     ("untested", never("E_QOVR:8"), Line(6, (8,), "GUEST sig_sem(1) E_QOVR")),
@@ -161,12 +162,12 @@ ROWS = [
     ("locked", never("put(99)"), Nothing(unmade=(20,))),
     ("alarm", never("put(99)"), Line(9, (10,), "put(99) E_OK")),
     ("alarm", never("put(99)", "--ticks", "idle"), Nothing(unmade=(10,))),
-    ("peterson", never("put(99)"), Nothing((652, 1956, 25))),
+    ("peterson", never("put(99)"), Nothing((234, 702))),
     ("meet", never("put(99)"), Nothing((45, 121, 10))),
-    ("server", never("put(99)"), Nothing((2_236, 5_920, 32))),
+    ("server", never("put(99)"), Nothing((1_371, 3_689))),
     ("ring", never("put(99)"), Nothing((10_169, 31_098, 54))),
-    ("rwlock", never("put(99)"), Nothing((64_777, 171_799, 82))),
-    ("prodcons", never("put(99)"), Nothing((183_811, 494_147, 71))),
+    ("rwlock", never("put(99)"), Nothing((9_779, 26_445))),
+    ("prodcons", never("put(99)"), Nothing((122_589, 329_478))),
     ("spins", (), Nothing(unmade=(10, 11, 12, 13, 22, 23, 24, 25))),
     # RIGHT polls for ever under the lock, which is refused. LEFT waits for nobody before it spins, so IDLE1 never runs.
     ("spinsem", (), Stuck(0, 27, "IDLE1 is ready")),
@@ -427,18 +428,17 @@ def shows_all(search, text, rows, numbers):
     return (
         lines[: len(rows) + len(ending)] == findings + ending and told == ending and len(findings) == len(rows)
         and not (search.folder / f"found.{len(rows) + 1}").exists()
-        and (not numbers or numbers_of(text) == numbers)
+        and numbers_of(text)[:len(numbers)] == numbers
         and all(SHOWS[type(row)](search, line, number, row)
                 for number, (line, row) in enumerate(zip(findings, rows), 1)))
 
 
 def shows_nothing(search, text, row):
     """Whether it is said that nothing is found, in as many states and events, and these calls are never made."""
-    unmade = re.search(r"^calls never made: (.*)$", text, re.MULTILINE)
-    places = " ".join(f"{search.name}.src:{line}" for line in row.unmade)
+    unmade = re.findall(rf"^call never made: {search.name}\.src:(\d+):\d+$", text, re.MULTILINE)
     answers = re.findall(rf"^answers at {search.name}\.src:(\d+): (.*)$", text, re.MULTILINE)
     return (shows_all(search, text, (), row.numbers) and numbers_of(text) != ()
-            and (not row.unmade or (bool(unmade) and unmade[1] == places))
+            and (not row.unmade or tuple(dict.fromkeys(map(int, unmade))) == row.unmade)
             and tuple((int(line), codes) for line, codes in answers) == row.answers)
 
 

@@ -1,8 +1,6 @@
-pub mod HeldLemmas
+pub mod KernelLemmas
 pub mod MarkLemmas
 pub mod NextLemmas
-pub mod OverLemmas
-pub mod PathLemmas
 pub mod SearchLemmas
 pub mod SearchStepLemmas
 pub mod SectionLemmas

@@ -1,8 +1,9 @@
 -- A search that has examined each of its states shows what holds along all schedules.
-use Rattle.std.proofs.Common.{◌≡◌, ◌+◌, ◌<◌, ◌≤◌, ◌⊎◌, ◌||◌, inl, inr, ℕ, List, [], Some, None, Bool, true, false, refl}
-use Rattle.std.proofs.Common.{sym, ap, subst, ◌∙◌, arith, length, slice_get}
+use Rattle.std.proofs.Common.{◌≡◌, ◌+◌, ◌<◌, ◌≤◌, ◌⊎◌, ◌||◌, inl, inr, ℕ, zero, suc, List, [], ◌∷◌, ◌++◌, Some, true}
+use Rattle.std.proofs.Common.{Bool, false}
+use Rattle.std.proofs.Common.{sym, ap, subst, ◌∙◌, arith, count_by, length, slice_get}
 use Rattle.std.proofs.lemmas.Bool.{cases_lt}
-use Rattle.std.proofs.lemmas.Option.{slice_get_cases, slice_get_within}
+use Rattle.std.proofs.lemmas.Option.{slice_get_within}
 use Rattle.fmp_bisimulation.specs.Closed.{IsCovered}
 use Rattle.fmp_base.specs.declared.events.Event.{Event}
 use Rattle.fmp_base.specs.Meanings.{World}
@@ -13,225 +14,274 @@ use Rattle.fmp_explore.specs.declared.searches.Search.{Search}
 use Rattle.fmp_question.specs.Forbidden.{forbids}
 use Rattle.fmp_question.specs.Places.{forbids_there}
 use Rattle.fmp_question.specs.Rules.{rules_of}
-use Rattle.fmp_explore.specs.Searching.{HasExamined, IsAt, IsBegun, IsSearching, IsSearch, IsWhole, NothingIsFound}
-use Rattle.fmp_explore.specs.States.{IsExamined, IsKnown, IsReached, path_to, watched_of}
-use Rattle.fmp_image_bytes.specs.Images.{ImageTables, IsImage}
+use Rattle.fmp_explore.specs.Searching.{Grows, HasExamined, HasTriedOut, IsBegun, IsSearching, IsSearch, IsWhole}
+use Rattle.fmp_explore.specs.Searching.{NothingIsFound, StandsAt, Stays, rows_of, sections_at_setup, watched_first}
+use Rattle.fmp_explore.specs.Searching.{watched_in}
+use Rattle.fmp_explore.specs.States.{HasRow, IsExamined, IsKept, IsStuckIn, KeptRows, MayCome, reaction_in}
+use Rattle.fmp_explore.specs.States.{watched_with}
+use Rattle.fmp_explore.specs.declared.trying.ExaminedState.{ExaminedState}
+use Rattle.fmp_image_bytes.specs.Images.{ImageTables}
 use Rattle.fmp_instructions.specs.Machine.{code_meaning}
 use Rattle.fmp_instructions.specs.declared.instructions.MachineContext.{MachineContext}
+use Rattle.fmp_live.specs.Fits.{IsFit}
 use Rattle.fmp_live.specs.Zeroed.{IsLike}
-use Rattle.fmp_live.proofs.LikeLaws.{like-chained, like-keeps, like-states}
-use Rattle.fmp_replay.specs.Replays.{reaction, replay}
-use Rattle.fmp_schedules.specs.Deadlocks.{IsDeadlock}
+use Rattle.fmp_live.proofs.FitLaws.{like-always, like-keeps}
+use Rattle.fmp_live.proofs.LikeLaws.{like-chained, like-states}
+use Rattle.fmp_replay.specs.Replays.{replay}
+use Rattle.fmp_schedules.specs.Deadlocks.{is_interrupt}
 use Rattle.fmp_schedules.specs.Likeness.{IsLikeness}
 use Rattle.fmp_schedules.specs.Schedules.{Watched, may_come, may_still, watch, watched_at_setup}
 use Rattle.fmp_schedules.specs.Tried.{IsSearched, IsTried, IsTriedSilent, NoneIsDeadlock, is_event_of}
+use Rattle.fmp_schedules.proofs.DeadlockLaws.{deadlock-alike}
 use Rattle.fmp_schedules.proofs.HoldLaws.{searched-holds}
+use Rattle.fmp_schedules.proofs.RuleLaws.{may_come-same}
 use Rattle.fmp_schedules.proofs.SilentLaws.{searched-silent}
-use Rattle.fmp_visited.specs.declared.link.StateLink.{StateLink}
-use Rattle.fmp_visited.specs.Links.{AreLinked}
-use Rattle.fmp_reachable.proofs.ReadableLaws.{readable}
 use Rattle.fmp_question.proofs.ForbiddenLemmas.{forbids-timeless}
-use Rattle.fmp_explore.proofs.MarkLemmas.{still_may}
-use Rattle.fmp_explore.proofs.PathLemmas.{path_to-depth, path_to-stays}
 use Rattle.fmp_question.proofs.PlaceLemmas.{there-even}
-use Rattle.fmp_explore.proofs.StateLemmas.{alike_self, covered_more, examined_more}
-
-pub past_none : {X : Type 0} (xs : List X) (k : ℕ) → slice_get xs k ≡ None → length xs ≤ k
-past_none xs k none =
-    elim (slice_get_cases xs k).1 [
-      | inl found ↦ absurd (cc (found.2, none))
-      | inr past ↦ past.0
-    ]
-
--- a state that is not too deep
-pub at_depth : (q : Question) (links : List StateLink) (k : ℕ) (link : StateLink) → AreLinked links
-    → slice_get links k ≡ Some link → length q.after.items + link.depth < 1048575 → IsAt q links k (path_to q links k)
-at_depth q links k link linked found low =
-    let same : length (path_to q links k) ≡ length q.after.items + link.depth =
-    path_to-depth q links k link linked found in
-    record { there = slice_get_within links k link found; path = refl; deep = omega (arith, same, low) }
+use Rattle.fmp_visited.specs.Seen.{SeenStates}
+use Rattle.fmp_witness.proofs.OverLemmas.{Kernels}
+use Rattle.fmp_explore.proofs.StateLemmas.{Leads, alike_self, examined_grown, kept_grown, readable, row_alike}
+use Rattle.fmp_explore.proofs.StateLemmas.{row_grown}
+use Rattle.fmp_explore.proofs.StateLemmas.{row_watch}
+use Rattle.fmp_explore.proofs.SearchStepLemmas.{grows_on, grows_rows, grows_search, stays_grows}
 
 -- worlds that are alike but for dead locals show the same to a search
-pub likeness : (i : ImageTables) (n : ℕ) → IsLikeness i.system (code_meaning i.code) n (IsLike i.system i.code)
-likeness i n =
+pub likeness : (outs : Bool) (i : ImageTables) (n : ℕ)
+    → IsLikeness i.system (code_meaning i.code) n (IsLike outs i.system i.code) (IsFit outs i.system i.code n)
+likeness outs i n =
     record {
-      keeps = like-keeps i.system i.code n;
-      chained = like-chained i.system i.code;
-      states = like-states i.system i.code;
+      keeps = like-keeps outs i.system i.code n;
+      always = like-always i.system i.code outs n;
+      chained = like-chained outs i.system i.code;
+      states = like-states outs i.system i.code;
     }
 
+-- where a list is longer, its first elements are the same
+element_before : {X : Type 0} (xs ys : List X) (k : ℕ) (x : X) → k < length xs → slice_get (xs ++ ys) k ≡ Some x
+    → slice_get xs k ≡ Some x
+element_before [] ys k x lt e = absurd (omega (arith, lt))
+element_before (z ∷ xs) ys zero x lt e = e
+element_before (z ∷ xs) ys (suc k) x lt e = element_before xs ys k x (omega (arith, lt)) e
+
 module _ (i : ImageTables) (n : ℕ) (q : Question) where
+  -- ---- one state
+
+  -- a state is examined where the kernel that has its row is tried out
+  pub state_examined : (a b c : Search) (at : ExaminedState) (k : Kernels) → Stays a b → StandsAt i n q b at k
+      → HasTriedOut i n q b c k.world (watched_in q at) → HasExamined i n q a c at.state
+  state_examined a b c at k stays stands tried =
+      record {
+        survey = tried.survey;
+        grows = grows_on a b c (stays_grows a b stays) tried.grows;
+        examined = λ sure row there.
+            let same : Some stands.row ≡ Some row =
+            sym stands.there ∙ ap (λ (s : SeenStates). slice_get s.rows at.state) stays.seen ∙ there in
+            subst (λ (r : List ℕ). IsExamined i n q (rows_of c) r) (cc (same))
+            (record {
+              world = k.world;
+              watched = watched_in q at;
+              has =
+                  subst (λ (kept : KeptRows). HasRow i q kept k.world (watched_in q at) stands.row)
+                  (sym (grows_rows b c tried.grows))
+                  (row_grown i n q (rows_of b) tried.grows.more k.world (watched_in q at) stands.row stands.has);
+              tried = tried.tried sure;
+            });
+      }
+
+  -- a state that could not be reached is not
+  pub state_lost : (a b : Search) (state : ℕ) → IsSearch i q a → Stays a b → b.sure ≡ false
+      → HasExamined i n q a b state
+  state_lost a b state h stays lost =
+      record {
+        survey = grows_search i q a b (stays_grows a b stays) h;
+        grows = stays_grows a b stays;
+        examined = λ sure. absurd (cc (sure, lost));
+      }
+
+  -- ---- one state after the other
+
   -- no state is examined yet
   pub none_examined : (s : Search) → IsBegun i n q s → IsSearching i n q 0 s
-  none_examined s h = record { begun = h; each = λ sure k lt. absurd (omega (arith, lt)) }
+  none_examined s h = record { begun = h; each = λ sure k row lt. absurd (omega (arith, lt)) }
+
+  begun_later : (a b : Search) → Grows a b → IsBegun i n q a → IsSearch i q b → IsBegun i n q b
+  begun_later a b g h survey =
+      record {
+        survey = survey;
+        clean = λ sure. h.clean (g.sure sure);
+        first = λ sure.
+            subst (λ (kept : KeptRows). IsKept i q kept (replay i n q.after.items).world (watched_first i q))
+            (sym (grows_rows a b g))
+            (kept_grown i n q (rows_of a) g.more (replay i n q.after.items).world (watched_first i q)
+            (h.first (g.sure sure)));
+      }
 
   -- one more state is examined
-  pub one_examined : (k : ℕ) (a b : Search) → IsSearching i n q k a → k < length a.seen.links
-      → HasExamined i n q a b (path_to q a.seen.links k) → IsSearching i n q (k + 1) b
+  pub one_examined : (k : ℕ) (a b : Search) → IsSearching i n q k a → k < length a.seen.rows
+      → HasExamined i n q a b k → IsSearching i n q (k + 1) b
   one_examined k a b h lt x =
       record {
-        begun =
-            record {
-              survey = x.survey;
-              clean = λ sure. h.begun.clean (x.grows.sure sure);
-              first = λ sure.
-                  subst (λ (links : List StateLink). IsKnown i n q links q.after.items) (sym x.grows.links)
-                  (covered_more i n q a.seen.links x.grows.more (replay i n q.after.items).world
-                  (watched_of i n q q.after.items) linked (h.begun.first (x.grows.sure sure)));
-            };
-        each = λ sure j within there. by_order sure j within (cases_lt j k);
+        begun = begun_later a b x.grows h.begun x.survey;
+        each = λ sure j row within there. by_order sure j row within there (cases_lt j k);
       } where
-        linked : AreLinked a.seen.links
-        linked = h.begun.survey.kept.linked
+        there_before : (j : ℕ) (row : List ℕ) → j < length a.seen.rows → slice_get b.seen.rows j ≡ Some row
+            → slice_get a.seen.rows j ≡ Some row
+        there_before j row low there =
+            element_before a.seen.rows x.grows.more j row low
+            (ap (λ (rs : List (List ℕ)). slice_get rs j) (sym x.grows.rows) ∙ there)
 
-        same_path : (j : ℕ) → j < length a.seen.links → path_to q b.seen.links j ≡ path_to q a.seen.links j
-        same_path j low =
-            subst (λ (links : List StateLink). path_to q links j ≡ path_to q a.seen.links j) (sym x.grows.links)
-            (path_to-stays q a.seen.links x.grows.more j linked low)
-
-        by_order : b.sure ≡ true → (j : ℕ) → j < k + 1 → (j < k) ⊎ (k ≤ j)
-            → IsExamined i n q b.seen.links (path_to q b.seen.links j)
-        by_order sure j within (inl low) =
-            let there : j < length a.seen.links = omega (arith, low, lt) in
-            subst (λ (es : List Event). IsExamined i n q b.seen.links es) (sym (same_path j there))
-            (subst (λ (links : List StateLink). IsExamined i n q links (path_to q a.seen.links j)) (sym x.grows.links)
-            (examined_more i n q a.seen.links x.grows.more (path_to q a.seen.links j) linked
-            (h.each (x.grows.sure sure) j low there)))
-        by_order sure j within (inr past) =
+        by_order : b.sure ≡ true → (j : ℕ) (row : List ℕ) → j < k + 1 → slice_get b.seen.rows j ≡ Some row
+            → (j < k) ⊎ (k ≤ j) → IsExamined i n q (rows_of b) row
+        by_order sure j row within there (inl low) =
+            let below : j < length a.seen.rows = omega (arith, low, lt) in
+            subst (λ (kept : KeptRows). IsExamined i n q kept row) (sym (grows_rows a b x.grows))
+            (examined_grown i n q (rows_of a) x.grows.more row
+            (h.each (x.grows.sure sure) j row low (there_before j row below there)))
+        by_order sure j row within there (inr past) =
             let last : j ≡ k = omega (arith, within, past) in
-            subst (λ (m : ℕ). IsExamined i n q b.seen.links (path_to q b.seen.links m)) (sym last)
-            (subst (λ (es : List Event). IsExamined i n q b.seen.links es) (sym (same_path k lt)) (x.examined sure))
+            x.examined sure row
+            (ap (λ (m : ℕ). slice_get a.seen.rows m) (sym last)
+            ∙ there_before j row (omega (arith, last, lt)) there)
 
-  module _ (image : IsImage i) (s : Search) (h : IsSearch i n q s) where
+  -- where no state is left, each was examined
+  pub all_examined : (s : Search) (states : ℕ) → IsSearching i n q states s → length s.seen.rows ≤ states
+      → IsWhole i n q s
+  all_examined s states h all =
+      record {
+        begun = h.begun;
+        each = λ sure k row there.
+            let low : k < length s.seen.rows = slice_get_within s.seen.rows k row there in
+            h.each sure k row (omega (arith, low, all)) there;
+      }
+
+  -- ---- all states
+
+  module _ (s : Search) (h : IsSearch i q s) where
+    abbrev kept : KeptRows
+    kept = rows_of s
+
     abbrev pub K : World MachineContext → Watched → Type 0
-    K w a = IsReached i n q s.seen.links w a
+    K w a = IsKept i q kept w a
 
     abbrev pub Examined : Type 0
-    Examined = (k : ℕ) → k < length s.seen.links → IsExamined i n q s.seen.links (path_to q s.seen.links k)
+    Examined = (k : ℕ) (row : List ℕ) → slice_get s.seen.rows k ≡ Some row → IsExamined i n q kept row
+
+    abbrev Like : World MachineContext → World MachineContext → Type 0
+    Like = IsLike kept.outs i.system i.code
+
+    abbrev Fit : World MachineContext → Event → Type 0
+    Fit = IsFit kept.outs i.system i.code n
 
     abbrev pub Tried : World MachineContext → Watched → Event → Type 0
     Tried w a e =
-        IsTried (IsLike i.system i.code) (watch (rules_of q) (forbids q.nevers.items))
-        (step i.system (code_meaning i.code) n) K w a e
+        IsTried Like Fit (watch (rules_of q) (forbids q.nevers.items)) (step i.system (code_meaning i.code) n) K w a e
 
     pub whole : (w : World MachineContext) (a : Watched) → K w a → length w.state.processors ≡ i.system.processors
-    whole w a k =
-        ap (λ (x : World MachineContext). length x.state.processors) k.world
-        ∙ (readable i n (path_to q s.seen.links k.state) image).sizes.processors
+    whole w a k = (readable i n q w k.has.sound).sizes.processors
 
-    tried_at : Examined → (k : ℕ) → k < length s.seen.links → (e : Event) → is_event_of i.system e ≡ true
-        → may_come (rules_of q) i.system (code_meaning i.code) n (replay i n (path_to q s.seen.links k)).world
-        (watched_of i n q (path_to q s.seen.links k)) e ≡ true
-        → Tried (replay i n (path_to q s.seen.links k)).world (watched_of i n q (path_to q s.seen.links k)) e
-    unfolding reaction
-    tried_at x k lt e is may =
-        record {
-          world = (replay i n (path_to q s.seen.links k)).world;
-          alike = alike_self i n q image s.rows.fields.items h.survey.fields (path_to q s.seen.links k);
-          leads = (let l = (x k lt).each e is may in l.leads);
-        }
+    -- the world that was tried out for a row is like each that has the row, and the same is watched there
+    alike_at : (w : World MachineContext) (a : Watched) (k : K w a) (x : IsExamined i n q kept k.row)
+        → Like w x.world
+    alike_at w a k x = row_alike i n q kept h.survey.fields h.first w x.world a x.watched k.row k.has x.has
+
+    watch_at : (w : World MachineContext) (a : Watched) (k : K w a) (x : IsExamined i n q kept k.row)
+        → x.watched ≡ a
+    watch_at w a k x = sym (row_watch i n q kept h.survey.fields h.first w x.world a x.watched k.row k.has x.has)
+
+    -- what may come to a world may come to one that is like it
+    may_at : (w : World MachineContext) (a : Watched) (k : K w a) (x : IsExamined i n q kept k.row) (e : Event)
+        → MayCome i n q w a e → MayCome i n q x.world x.watched e
+    may_at w a k x e may =
+        subst (λ (b : Watched). MayCome i n q x.world b e) (sym (watch_at w a k x))
+        (sym (may_come-same i.system (code_meaning i.code) n Like Fit (likeness kept.outs i n) (rules_of q) w x.world a
+        e (alike_at w a k x)) ∙ may)
 
     pub tried : Examined → (w : World MachineContext) (a : Watched) (e : Event) → K w a → is_event_of i.system e ≡ true
         → may_come (rules_of q) i.system (code_meaning i.code) n w a e ≡ true → Tried w a e
-    tried x w a e k is =
-        subst
-        (λ (v : World MachineContext). may_come (rules_of q) i.system (code_meaning i.code) n v a e ≡ true
-        → Tried v a e)
-        (sym k.world)
-        (subst
-        (λ (b : Watched). may_come (rules_of q) i.system (code_meaning i.code) n
-        (replay i n (path_to q s.seen.links k.state)).world b e ≡ true
-        → Tried (replay i n (path_to q s.seen.links k.state)).world b e)
-        (sym k.watch) (tried_at x k.state k.there e is))
+    tried each w a e k is may =
+        let x : IsExamined i n q kept k.row = each k.state k.row k.there in
+        record {
+          world = x.world;
+          alike = alike_at w a k x;
+          fit = (let l = x.tried.each e is (may_at w a k x e may) in l.fit);
+          leads =
+              subst (λ (b : Watched). Leads i n q kept b (reaction_in i n x.world e)) (watch_at w a k x)
+              (let l = x.tried.each e is (may_at w a k x e may) in l.leads);
+        }
 
     abbrev Silent : World MachineContext → Event → Type 0
     Silent w e =
-        IsTriedSilent (IsLike i.system i.code) i.system (code_meaning i.code) n
-        (forbids_there i.system q.nevers_at.items) w e
-
-    silent_at : Examined → (k : ℕ) → k < length s.seen.links → (e : Event) → is_event_of i.system e ≡ true
-        → may_come (rules_of q) i.system (code_meaning i.code) n (replay i n (path_to q s.seen.links k)).world
-        (watched_of i n q (path_to q s.seen.links k)) e ≡ true
-        → Silent (replay i n (path_to q s.seen.links k)).world e
-    unfolding reaction
-    silent_at x k lt e is may =
-        record {
-          world = (replay i n (path_to q s.seen.links k)).world;
-          alike = alike_self i n q image s.rows.fields.items h.survey.fields (path_to q s.seen.links k);
-          silent = (let l = (x k lt).each e is may in l.silent);
-        }
+        IsTriedSilent Like Fit i.system (code_meaning i.code) n (forbids_there i.system q.nevers_at.items) w e
 
     silent : Examined → (w : World MachineContext) (a : Watched) (e : Event) → K w a → is_event_of i.system e ≡ true
         → may_come (rules_of q) i.system (code_meaning i.code) n w a e ≡ true → Silent w e
-    silent x w a e k is =
-        subst
-        (λ (v : World MachineContext). may_come (rules_of q) i.system (code_meaning i.code) n v a e ≡ true
-        → Silent v e)
-        (sym k.world)
-        (subst
-        (λ (b : Watched). may_come (rules_of q) i.system (code_meaning i.code) n
-        (replay i n (path_to q s.seen.links k.state)).world b e ≡ true
-        → Silent (replay i n (path_to q s.seen.links k.state)).world e)
-        (sym k.watch) (silent_at x k.state k.there e is))
+    silent each w a e k is may =
+        let x : IsExamined i n q kept k.row = each k.state k.row k.there in
+        record {
+          world = x.world;
+          alike = alike_at w a k x;
+          fit = (let l = x.tried.each e is (may_at w a k x e may) in l.fit);
+          silent = (let l = x.tried.each e is (may_at w a k x e may) in l.silent);
+        }
 
     pub clean : (w : World MachineContext) (a : Watched) → K w a → (a.told || a.met) ≡ false
-    clean w a k = ap (λ (b : Watched). b.told || b.met) k.watch
+    clean w a k = ap (λ (b : Watched). b.told || b.met) k.has.watch
 
     free : Examined → NoneIsDeadlock (rules_of q) i.system (code_meaning i.code) n q.rest.items K
-    free x w a k d =
-        let es : List Event = path_to q s.seen.links k.state in
-        (x k.state k.there).free
-        (subst (λ (b : Bool). IsDeadlock i.system (code_meaning i.code) n
-        (replay i n (path_to q s.seen.links k.state)).world q.rest.items b)
-        (ap (λ (b : Watched). may_still q.interrupts b.came) k.watch
-        ∙ still_may q.interrupts (path_to q s.seen.links k.state))
-        (subst (λ (v : World MachineContext). IsDeadlock i.system (code_meaning i.code) n v q.rest.items
-        (may_still q.interrupts a.came))
-        k.world d))
-
-  -- where no state is left, each was examined
-  pub all_examined : (s : Search) (states : ℕ) → IsSearching i n q states s → length s.seen.links ≤ states
-      → IsWhole i n q s
-  all_examined s states h all =
-      record { begun = h.begun; each = λ sure k lt. h.each sure k (omega (arith, lt, all)) lt }
+    free each w a k d =
+        let x : IsExamined i n q kept k.row = each k.state k.row k.there in
+        x.tried.free
+        (subst (λ (b : Watched). IsStuckIn i n q x.world b) (sym (watch_at w a k x))
+        (deadlock-alike i.system (code_meaning i.code) n Like Fit (likeness kept.outs i n) w x.world q.rest.items
+        (may_still q.interrupts a.came) d (alike_at w a k x)))
 
   -- the search began at setup
   first_covered : (s : Search) → IsBegun i n q s → q.after.items ≡ [] → s.sure ≡ true
-      → IsCovered (IsLike i.system i.code) (IsReached i n q s.seen.links) (setup i.system (code_meaning i.code)).world
+      → IsCovered (IsLike s.rows.outs i.system i.code) (IsKept i q (rows_of s))
+      (setup i.system (code_meaning i.code)).world
       (watched_at_setup (rules_of q) i.system (code_meaning i.code) (forbids q.nevers.items))
   unfolding replay
   first_covered s h none sure =
-      subst
-      (λ (a : Watched). IsCovered (IsLike i.system i.code) (IsReached i n q s.seen.links)
-      (setup i.system (code_meaning i.code)).world a)
-      (h.clean sure) (subst (λ (es : List Event). IsKnown i n q s.seen.links es) none (h.first sure))
+      let first : IsKept i q (rows_of s) (replay i n []).world
+      (watched_at_setup (rules_of q) i.system (code_meaning i.code) (forbids q.nevers.items)) =
+      subst (λ (a : Watched). IsKept i q (rows_of s) (replay i n []).world a) (h.clean sure)
+      (subst (λ (es : List Event). IsKept i q (rows_of s) (replay i n es).world
+      (watched_with q (count_by is_interrupt es) (sections_at_setup i q))) none (h.first sure)) in
+      record {
+        world = (setup i.system (code_meaning i.code)).world;
+        alike =
+            alike_self i n q (rows_of s) h.survey.survey.fields (setup i.system (code_meaning i.code)).world
+            first.has.sound;
+        kept = first;
+      }
 
   -- where each state is examined, nothing is found
-  pub nothing_found : (s : Search) → IsImage i → IsWhole i n q s → q.after.items ≡ [] → s.sure ≡ true
-      → NothingIsFound i n q
-  nothing_found s image h none sure =
-      let survey : IsSearch i n q s = h.begun.survey in
-      let examined : (k : ℕ) → k < length s.seen.links → IsExamined i n q s.seen.links (path_to q s.seen.links k) =
+  pub nothing_found : (s : Search) → IsWhole i n q s → q.after.items ≡ [] → s.sure ≡ true → NothingIsFound i n q
+  nothing_found s h none sure =
+      let survey : IsSearch i q s = h.begun.survey in
+      let examined : (k : ℕ) (row : List ℕ) → slice_get s.seen.rows k ≡ Some row → IsExamined i n q (rows_of s) row =
       h.each sure in
       let K : World MachineContext → Watched → Type 0 =
-      λ (w : World MachineContext) (a : Watched). IsReached i n q s.seen.links w a in
-      let searched : IsSearched (IsLike i.system i.code) (rules_of q) i.system (code_meaning i.code) n
+      λ (w : World MachineContext) (a : Watched). IsKept i q (rows_of s) w a in
+      let R : World MachineContext → World MachineContext → Type 0 = IsLike s.rows.outs i.system i.code in
+      let F : World MachineContext → Event → Type 0 = IsFit s.rows.outs i.system i.code n in
+      let searched : IsSearched R F (rules_of q) i.system (code_meaning i.code) n
       (forbids q.nevers.items) q.rest.items K =
       record {
-        like = likeness i n;
-        whole = whole image s survey;
+        like = likeness s.rows.outs i n;
+        whole = whole s survey;
         first = first_covered s h.begun none sure;
-        tried = tried image s survey examined;
-        clean = clean image s survey;
-        free = free image s survey examined;
+        tried = tried s survey examined;
+        clean = clean s survey;
+        free = free s survey examined;
       } in
       record {
         holds =
             searched-holds (rules_of q) i.system (code_meaning i.code) n (forbids q.nevers.items) q.rest.items K
-            (forbids-timeless q.nevers.items) (IsLike i.system i.code) searched;
+            (forbids-timeless q.nevers.items) R F searched;
         there =
             searched-silent (rules_of q) i.system (code_meaning i.code) n (forbids q.nevers.items) q.rest.items K
-            (forbids-timeless q.nevers.items) (IsLike i.system i.code) searched
-            (forbids_there i.system q.nevers_at.items) (there-even i.system i.code q.nevers_at.items)
-            (silent image s survey examined);
+            (forbids-timeless q.nevers.items) R F searched
+            (forbids_there i.system q.nevers_at.items) (there-even s.rows.outs i.system i.code q.nevers_at.items)
+            (silent s survey examined);
       }

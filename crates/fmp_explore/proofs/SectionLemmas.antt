@@ -1,50 +1,35 @@
--- The sections after one more event, and what the numbers of their holders tell.
-use Rattle.std.proofs.Common.{◌≡◌, ℕ, suc, List, [], ◌∷◌, ◌++◌, Option, Some, None, refl, sym, ap, ◌∙◌, append-nil}
-use Rattle.std.proofs.Common.{length, map}
-use Rattle.std.proofs.lemmas.List.{length-map}
-use Rattle.fmp_base.specs.declared.events.Event.{Event}
+-- Sections that differ in their holders, and what the numbers of these tell.
+use Rattle.std.proofs.Common.{◌≡◌, ◌+◌, ◌<◌, ℕ, suc, List, [], ◌∷◌, ◌++◌, Option, Some, None, refl, sym, ap, subst}
+use Rattle.std.proofs.Common.{◌∙◌, get_or, length, map, take}
+use Rattle.std.proofs.lemmas.List.{take_more}
 use Rattle.fmp_base.specs.declared.events.Line.{Line}
-use Rattle.fmp_base.specs.Meanings.{World}
-use Rattle.fmp_base.specs.Setups.{setup}
-use Rattle.fmp_base.specs.Steps.{Done, Did, Kept}
-use Rattle.fmp_question.specs.declared.question.Question.{Question}
-use Rattle.fmp_explore.specs.States.{holder_number, holder_place, sections_of}
-use Rattle.fmp_image_bytes.specs.Images.{ImageTables}
-use Rattle.fmp_instructions.specs.Machine.{code_meaning}
-use Rattle.fmp_instructions.specs.declared.instructions.MachineContext.{MachineContext}
-use Rattle.fmp_replay.specs.Replays.{reaction}
+use Rattle.fmp_explore.specs.States.{AreHeldBy, holder_number, holder_place}
 use Rattle.fmp_schedules.specs.declared.section.Section.{Section}
-use Rattle.fmp_witness.proofs.LineLemmas.{lines_last, lines_to}
-use Rattle.fmp_schedules.specs.Schedules.{lines_after, sections_after}
-use Rattle.fmp_schedules.specs.Sections.{section_after, section_along, section_on}
-use Rattle.fmp_schedules.proofs.SectionLaws.{sections-last}
+use Rattle.fmp_schedules.specs.Schedules.{sections_after}
+use Rattle.fmp_schedules.specs.Sections.{section_after, section_on}
 
-module _ (i : ImageTables) (n : ℕ) (q : Question) where
-  pub sections_done : (es : List Event) (e : Event) (d : Done MachineContext) → reaction i n es e ≡ Did d
-      → sections_of i n q (es ++ e ∷ []) ≡ sections_after (sections_of i n q es) d.lines
-  unfolding sections_of
-  sections_done es e d did =
-      ap (λ (events : List (List Line)). map (λ (s : Section). section_along s events) q.sections.items)
-      (lines_last i n es e (Did d) did)
-      ∙ sections-last q.sections.items (lines_to i n es) d.lines
+after-same : (s : Section) (ls : List Line) → section_after s ls ≡ record s { holder = (section_after s ls).holder }
+after-same s [] = refl
+after-same s (l ∷ ls) = after-same (section_on s l) ls
 
-  pub sections_kept : (es : List Event) (e : Event) (p : ℕ) (w : World MachineContext)
-      → reaction i n es e ≡ Kept p w → sections_of i n q (es ++ e ∷ []) ≡ sections_of i n q es
-  unfolding sections_of
-  sections_kept es e p w keeps =
-      ap (λ (events : List (List Line)). map (λ (s : Section). section_along s events) q.sections.items)
-      (lines_last i n es e (Kept p w) keeps ∙ append-nil (lines_to i n es))
+pub held-self : (ss : List Section) → AreHeldBy ss ss
+held-self [] = tt
+held-self (s ∷ ss) = (refl, held-self ss)
 
-  pub sections_first :
-      sections_of i n q [] ≡ sections_after q.sections.items (setup i.system (code_meaning i.code)).lines
-  unfolding sections_of
-  sections_first = refl
+-- lines change who holds them alone
+pub held-after : (ss ts : List Section) (ls : List Line) → AreHeldBy ss ts → AreHeldBy ss (sections_after ts ls)
+held-after [] [] ls h = tt
+held-after (s ∷ ss) (t ∷ ts) ls h =
+    let x : Option ℕ = (section_after t ls).holder in
+    (after-same t ls ∙ ap (λ (y : Section). record y { holder = x }) h.0, held-after ss ts ls h.1)
+held-after [] (t ∷ ts) ls h = absurd h
+held-after (s ∷ ss) [] ls h = absurd h
 
-  pub sections_length : (es : List Event) → length (sections_of i n q es) ≡ length q.sections.items
-  unfolding sections_of
-  sections_length es = length-map q.sections.items _
-
--- ---- what their holders tell
+pub held-length : (ss ts : List Section) → AreHeldBy ss ts → length ts ≡ length ss
+held-length [] [] h = refl
+held-length (s ∷ ss) (t ∷ ts) h = ap (λ (k : ℕ). suc k) (held-length ss ts h.1)
+held-length [] (t ∷ ts) h = absurd h
+held-length (s ∷ ss) [] h = absurd h
 
 apart : (t : ℕ) → 0 ≡ suc t → None ≡ Some t
 apart t e = absurd (cc (e))
@@ -55,34 +40,35 @@ holder-told (Some a) (Some b) e = let same : a ≡ b = cc in ap (λ (n : ℕ). S
 holder-told None (Some b) e = apart b e
 holder-told (Some a) None e = sym (apart a (sym e))
 
-after-same : (s : Section) (ls : List Line) → section_after s ls ≡ record s { holder = (section_after s ls).holder }
-after-same s [] = refl
-after-same s (l ∷ ls) = after-same (section_on s l) ls
+pub held-told : (ss ts us : List Section) → AreHeldBy ss ts → AreHeldBy ss us
+    → map holder_number ts ≡ map holder_number us → ts ≡ us
+held-told [] [] [] h k e = refl
+held-told (s ∷ ss) (t ∷ ts) (u ∷ us) h k e =
+    let first : holder_number t ≡ holder_number u = cc in
+    let rest : map holder_number ts ≡ map holder_number us = cc in
+    let same : t ≡ u =
+    h.0 ∙ ap (λ (x : Option ℕ). record s { holder = x }) (holder-told t.holder u.holder first) ∙ sym k.0 in
+    ap (λ (x : Section). x ∷ ts) same
+    ∙ ap (λ (xs : List Section). u ∷ xs) (held-told ss ts us h.1 k.1 rest)
+held-told [] [] (u ∷ us) h k e = absurd k
+held-told [] (t ∷ ts) us h k e = absurd h
+held-told (s ∷ ss) [] us h k e = absurd h
+held-told (s ∷ ss) (t ∷ ts) [] h k e = absurd k
 
-along-same : (s : Section) (events : List (List Line))
-    → section_along s events ≡ record s { holder = (section_along s events).holder }
-along-same s [] = refl
-along-same s (ls ∷ events) =
-    let h : Option ℕ = (section_along (section_after s ls) events).holder in
-    along-same (section_after s ls) events
-    ∙ ap (λ (x : Section). record x { holder = h }) (after-same s ls)
+-- one more section, held by whom it is
+pub held-push : (ss ts : List Section) (s t : Section) → AreHeldBy ss ts → t ≡ record s { holder = t.holder }
+    → AreHeldBy (ss ++ s ∷ []) (ts ++ t ∷ [])
+held-push [] [] s t h e = (e, tt)
+held-push (x ∷ ss) (y ∷ ts) s t h e = (h.0, held-push ss ts s t h.1 e)
+held-push [] (y ∷ ts) s t h e = absurd h
+held-push (x ∷ ss) [] s t h e = absurd h
 
-pub sections-told : (ss : List Section) (a b : List (List Line))
-    → map holder_number (map (λ s. section_along s a) ss) ≡ map holder_number (map (λ s. section_along s b) ss)
-    → map (λ s. section_along s a) ss ≡ map (λ s. section_along s b) ss
-sections-told [] a b e = refl
-sections-told (s ∷ ss) a b e =
-    let first : holder_number (section_along s a) ≡ holder_number (section_along s b) = cc in
-    let rest : map holder_number (map (λ s. section_along s a) ss)
-    ≡ map holder_number (map (λ s. section_along s b) ss) =
-    cc in
-    let same : section_along s a ≡ section_along s b =
-    along-same s a
-    ∙ ap (λ (h : Option ℕ). record s { holder = h })
-    (holder-told (section_along s a).holder (section_along s b).holder first)
-    ∙ sym (along-same s b) in
-    ap (λ (x : Section). x ∷ map (λ s. section_along s a) ss) same
-    ∙ ap (λ (xs : List Section). section_along s b ∷ xs) (sections-told ss a b rest)
+-- the first sections, held by whom they are, and one more
+pub held-more : (ss ts : List Section) (i : ℕ) (d t : Section) → i < length ss → AreHeldBy (take i ss) ts
+    → t ≡ record (get_or ss i d) { holder = t.holder } → AreHeldBy (take (i + 1) ss) (ts ++ t ∷ [])
+held-more ss ts i d t lt h e =
+    subst (λ (xs : List Section). AreHeldBy xs (ts ++ t ∷ [])) (sym (take_more ss i d lt))
+    (held-push (take i ss) ts (get_or ss i d) t h e)
 
 pub append-parts : {X : Type 0} (a b c d : List X) → length a ≡ length b → a ++ c ≡ b ++ d → (a ≡ b) × (c ≡ d)
 append-parts [] [] c d h e = (refl, e)

@@ -1,7 +1,7 @@
 -- A search behind events that is whole shows that a task never acts after them.
-use Rattle.std.proofs.Common.{◌≡◌, ◌≢◌, ℕ, List, [], Option, Some, None, Bool, true, refl, sym, ap, subst, ◌∙◌}
+use Rattle.std.proofs.Common.{◌≡◌, ◌≢◌, ℕ, List, Option, Some, None, Bool, true, refl, sym, ap, subst, ◌∙◌}
 use Rattle.std.proofs.Common.{count_by, not}
-use Rattle.fmp_bisimulation.specs.Closed.{IsClosed, IsCovered}
+use Rattle.fmp_bisimulation.specs.Closed.{IsCovered}
 use Rattle.fmp_base.specs.declared.events.Event.{Event}
 use Rattle.fmp_base.specs.Meanings.{World}
 use Rattle.fmp_base.specs.declared.states.Phase.{Phase}
@@ -18,14 +18,17 @@ use Rattle.fmp_explore.specs.Behind.{IsAbout, NeverActs, NoneFollows}
 use Rattle.fmp_witness.specs.Followed.{IsFollowed}
 use Rattle.fmp_question.specs.Forbidden.{forbids}
 use Rattle.fmp_question.specs.Rules.{is_idle, rules_of}
-use Rattle.fmp_explore.specs.Searching.{IsWhole}
-use Rattle.fmp_explore.specs.States.{IsReached, came_of, watched_of}
-use Rattle.fmp_image_bytes.specs.Images.{ImageTables, IsImage}
+use Rattle.fmp_explore.specs.Searching.{IsWhole, rows_of, watched_first}
+use Rattle.fmp_explore.specs.States.{IsKept, counted}
+use Rattle.fmp_image_bytes.specs.Images.{ImageTables}
 use Rattle.fmp_instructions.specs.Machine.{code_meaning}
 use Rattle.fmp_instructions.specs.declared.instructions.MachineContext.{MachineContext}
 use Rattle.fmp_instructions.specs.Instructions.{BodyTables}
 use Rattle.fmp_kernel.specs.KernelViews.{KernelView}
+use Rattle.fmp_live.specs.Fits.{IsFit}
 use Rattle.fmp_live.specs.Zeroed.{IsLike}
+use Rattle.fmp_schedules.specs.Likeness.{IsClosedUnder}
+use Rattle.fmp_replay.specs.Replays.{replay}
 use Rattle.fmp_replay.proofs.Replaying.{world_of}
 use Rattle.fmp_schedules.specs.Deadlocks.{is_interrupt}
 use Rattle.fmp_schedules.specs.Schedules.{Watched, is_told, may_come, reached, watch}
@@ -34,41 +37,51 @@ use Rattle.fmp_schedules.specs.Stuck.{MayFollow, acts}
 use Rattle.fmp_schedules.proofs.HoldLaws.{or-none, rules_with}
 use Rattle.fmp_schedules.proofs.RuleLaws.{watch-blind}
 use Rattle.fmp_schedules.proofs.StuckLaws.{SameCame, none-behind, told-too}
-use Rattle.fmp_schedules.proofs.TriedLaws.{tried-closed}
+use Rattle.fmp_schedules.proofs.TriedLaws.{tried-under}
 use Rattle.fmp_question.proofs.ForbiddenLemmas.{forbids-timeless}
 use Rattle.fmp_explore.proofs.SearchLemmas.{clean, likeness, tried, whole}
+use Rattle.fmp_explore.proofs.StateLemmas.{alike_self}
 
-came_counted : (most : Option ℕ) (es : List Event) → SameCame most (count_by is_interrupt es) (came_of most es)
-came_counted None es = tt
-came_counted (Some most) es = refl
+came_counted : (most : Option ℕ) (came : ℕ) → SameCame most came (counted most came)
+came_counted None came = tt
+came_counted (Some most) came = refl
 
-module _ (i : ImageTables) (n : ℕ) (q : Question) (image : IsImage i) (s : Search) (h : IsWhole i n q s)
-    (sure : s.sure ≡ true) where
+module _ (i : ImageTables) (n : ℕ) (q : Question) (s : Search) (h : IsWhole i n q s) (sure : s.sure ≡ true) where
   abbrev K : World MachineContext → Watched → Type 0
-  K w a = IsReached i n q s.seen.links w a
+  K w a = IsKept i q (rows_of s) w a
 
-  closed : IsClosed (IsLike i.system i.code) (watch (rules_of q) (forbids q.nevers.items))
+  closed : IsClosedUnder (IsLike s.rows.outs i.system i.code) (watch (rules_of q) (forbids q.nevers.items))
       (may_come (rules_of q) i.system (code_meaning i.code) n) (step i.system (code_meaning i.code) n) K
   closed =
-      tried-closed i.system (code_meaning i.code) n (IsLike i.system i.code) (likeness i n)
+      tried-under i.system (code_meaning i.code) n (IsLike s.rows.outs i.system i.code)
+      (IsFit s.rows.outs i.system i.code n) (likeness s.rows.outs i n)
       (watch (rules_of q) (forbids q.nevers.items))
       (may_come (rules_of q) i.system (code_meaning i.code) n) K
       (watch-blind (forbids q.nevers.items) (forbids-timeless q.nevers.items) (rules_of q))
-      (whole i n q image s h.begun.survey) (tried i n q image s h.begun.survey (h.each sure))
+      (whole i n q s h.begun.survey) (tried i n q s h.begun.survey (h.each sure))
 
-  first : IsCovered (IsLike i.system i.code) K (reached i.system (code_meaning i.code) n q.after.items)
-      (watched_of i n q q.after.items)
+  first : IsCovered (IsLike s.rows.outs i.system i.code) K (reached i.system (code_meaning i.code) n q.after.items)
+      (watched_first i q)
   first =
-      subst (λ (w : World MachineContext). IsCovered (IsLike i.system i.code) K w (watched_of i n q q.after.items))
-      (world_of i n q.after.items) (h.begun.first sure)
+      let known : IsKept i q (rows_of s) (replay i n q.after.items).world (watched_first i q) = h.begun.first sure in
+      subst (λ (w : World MachineContext). IsCovered (IsLike s.rows.outs i.system i.code) K w (watched_first i q))
+      (world_of i n q.after.items)
+      (record {
+        world = (replay i n q.after.items).world;
+        alike =
+            alike_self i n q (rows_of s) h.begun.survey.survey.fields (replay i n q.after.items).world
+            known.has.sound;
+        kept = known;
+      })
 
   -- no forbidden line is told behind the events where the search began
   pub none_follows : NoneFollows i n q
   none_follows more follow =
       none-behind (rules_of q) i.system (code_meaning i.code) n (forbids q.nevers.items) K
-      (forbids-timeless q.nevers.items) (IsLike i.system i.code) (likeness i n) closed
-      (clean i n q image s h.begun.survey) q.after.items more
-      (watched_of i n q q.after.items) refl (came_counted q.interrupts q.after.items) first follow
+      (forbids-timeless q.nevers.items) (IsLike s.rows.outs i.system i.code) (IsFit s.rows.outs i.system i.code n)
+      (likeness s.rows.outs i n) closed
+      (clean i n q s h.begun.survey) q.after.items more
+      (watched_first i q) refl (came_counted q.interrupts (count_by is_interrupt q.after.items)) first follow
 
 -- the rules let the same events follow, whatever sections are watched
 follow_too : (i : ImageTables) (n : ℕ) (idle : Bool) (most queued : Option ℕ) (ss ts : List Section)

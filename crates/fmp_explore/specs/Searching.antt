@@ -1,133 +1,182 @@
 -- What holds of a search under way.
-use Rattle.std.specs.Prelude.{ℕ, ◌≡◌, ◌+◌, ◌<◌, ◌≤◌, List, [], ◌∷◌, ◌++◌, Some, true, false, is_some, length, slice_get}
-use Rattle.std.specs.declared.alloc.Global.{Global}
-use Rattle.std.specs.declared.vec.Vec.{Vec}
+use Rattle.std.specs.Prelude.{ℕ, ◌≡◌, ◌+◌, ◌<◌, ◌≤◌, ◌^◌, List, [], ◌++◌, Option, Some, None, true, false, count_by}
+use Rattle.std.specs.Prelude.{is_some, length}
+use Rattle.std.specs.Prelude.{slice_get}
+use Rattle.fmp_base.specs.declared.events.Effect.{Effect}
 use Rattle.fmp_base.specs.declared.events.Event.{Event}
 use Rattle.fmp_base.specs.declared.events.Event.TheVariants as event
-use Rattle.fmp_base.specs.Steps.{Nothing}
+use Rattle.fmp_base.specs.Meanings.{World}
+use Rattle.fmp_base.specs.Setups.{setup}
+use Rattle.fmp_base.specs.Steps.{Done, Did, Kept, Nothing, effect_of}
 use Rattle.fmp_question.specs.declared.question.Question.{Question}
 use Rattle.fmp_explore.specs.declared.searching.Ending.{Ending}
 use Rattle.fmp_explore.specs.declared.searching.Ending.TheVariants as ending
 use Rattle.fmp_explore.specs.declared.searches.Search.{Search}
+use Rattle.fmp_explore.specs.declared.trying.ExaminedState.{ExaminedState}
 use Rattle.fmp_explore.specs.declared.trying.StateMarks.{StateMarks}
-use Rattle.fmp_witness.specs.Followed.{IsFollowed}
+use Rattle.fmp_witness.specs.Followed.{IsOver}
 use Rattle.fmp_question.specs.Forbidden.{forbids}
 use Rattle.fmp_question.specs.Places.{forbids_there}
 use Rattle.fmp_question.specs.Rules.{rules_of}
-use Rattle.fmp_explore.specs.States.{AreFew, AreKept, IsExamined, IsKnown, IsStuckAfter, LeadsOn, MayCome, path_by}
-use Rattle.fmp_explore.specs.States.{path_to, sections_of, watched_of}
+use Rattle.fmp_explore.specs.States.{HasRow, IsExamined, IsKept, IsStuckIn, IsTriedOut, KeptRows, LeadsOn, MayCome}
+use Rattle.fmp_explore.specs.States.{reaction_in, watched_with}
 use Rattle.fmp_schedules.specs.Tries.{all_tries}
 use Rattle.fmp_fields.specs.Fields.{AreAllFields}
 use Rattle.fmp_image_bytes.specs.Images.{ImageTables}
 use Rattle.fmp_instructions.specs.Instructions.{BodyTables}
 use Rattle.fmp_instructions.specs.Machine.{code_meaning}
 use Rattle.fmp_instructions.specs.declared.instructions.MachineContext.{MachineContext}
-use Rattle.fmp_kernel.specs.KernelViews.{KernelView}
-use Rattle.fmp_replay.specs.Replays.{reaction, replay}
-use Rattle.fmp_schedules.specs.Deadlocks.{may_interrupt}
+use Rattle.fmp_kernel.specs.KernelViews.{KernelView, view_after}
+use Rattle.fmp_live.specs.LiveLocals.{AreLiveTables, live_tables}
+use Rattle.fmp_reachable.specs.Sound.{IsSound}
+use Rattle.fmp_replay.specs.Replays.{replay}
+use Rattle.fmp_schedules.specs.Deadlocks.{is_interrupt}
 use Rattle.fmp_schedules.specs.declared.section.Section.{Section}
-use Rattle.fmp_schedules.specs.Schedules.{Holds, HoldsThere, none_runs, watched_at_setup}
-use Rattle.fmp_visited.specs.declared.link.StateLink.{StateLink}
-use Rattle.fmp_visited.specs.Links.{IsLink}
+use Rattle.fmp_schedules.specs.Schedules.{Holds, HoldsThere, Watched, may_still, none_runs, sections_after}
+use Rattle.fmp_schedules.specs.Schedules.{watched_at_setup}
 
--- the sections in each of the states are kept, too
-pub record AreHeld (i : ImageTables) (n : ℕ) (q : Question) (held : List (Vec Section Global))
-    (links : List StateLink) :
-    Type 0 where
-  pub size : length held ≡ length links
-  pub each :
-      (k : ℕ) (sections : Vec Section Global) → slice_get held k ≡ Some sections →
-      sections.items ≡ sections_of i n q (path_to q links k)
+-- ---- kernels
 
--- the fields and the events of a search are those of its image
+-- a kernel of the image that can take an event, in a sound world
+pub record CanStep (i : ImageTables) (n : ℕ) (k : KernelView (List BodyTables) MachineContext) : Type 0 where
+  pub over : IsOver i n k
+  pub early : k.taken < 2 ^ 20
+  pub sound : IsSound i.system i.code k.world
+
+-- what an event has done on a kernel, and the kernel then
+pub record HasStepped (i : ImageTables) (n : ℕ) (before : KernelView (List BodyTables) MachineContext) (e : Event)
+    (k : KernelView (List BodyTables) MachineContext) (x : Effect) : Type 0 where
+  pub could : CanStep i n before
+  pub effect : x ≡ effect_of (reaction_in i n before.world e)
+  pub kernel : k ≡ view_after before (reaction_in i n before.world e)
+
+-- an event was done in a world
+pub record HasDone (i : ImageTables) (n : ℕ) (w : World MachineContext) (e : Event)
+    (k : KernelView (List BodyTables) MachineContext) : Type 0 where
+  pub done : Done MachineContext
+  pub did : reaction_in i n w e ≡ Did done
+  pub lines : k.lines ≡ done.lines
+  pub world : k.world ≡ done.world
+
+-- an event kept a place in a world
+pub record HasKeptPlace (i : ImageTables) (n : ℕ) (w : World MachineContext) (e : Event)
+    (k : KernelView (List BodyTables) MachineContext) : Type 0 where
+  pub place : ℕ
+  pub keeps : reaction_in i n w e ≡ Kept place k.world
+
+-- ---- searches
+
+-- the rows that a search keeps
+abbrev pub rows_of : Search → KeptRows
+rows_of s =
+    record { outs = s.rows.outs; fields = s.rows.fields.items; first = s.rows.first.items; rows = s.seen.rows }
+
+-- the fields, the live locals and the events of a search are those of its image
 pub record IsSearchOf (i : ImageTables) (q : Question) (s : Search) : Type 0 where
   pub tries : s.tries.items ≡ all_tries i.system
   pub fields : AreAllFields i.system i.code (is_some q.interrupts) s.rows.fields.items
+  pub live : AreLiveTables s.rows.outs i.code (live_tables s.rows.live)
 
 -- a search that has no state yet
 pub record IsFresh (i : ImageTables) (q : Question) (s : Search) : Type 0 where
   pub survey : IsSearchOf i q s
-  pub no_rows : s.seen.rows ≡ []
-  pub no_links : s.seen.links ≡ []
-  pub no_sections : s.rows.held.items ≡ []
+  pub none : s.seen.rows ≡ []
 
 -- a search that keeps states
-pub record IsSearch (i : ImageTables) (n : ℕ) (q : Question) (s : Search) : Type 0 where
+pub record IsSearch (i : ImageTables) (q : Question) (s : Search) : Type 0 where
   pub survey : IsSearchOf i q s
   pub first : length s.rows.first.items ≡ length s.rows.fields.items + length q.sections.items
-  pub kept : AreKept i n q s.rows.first.items s.rows.fields.items s.seen
-  pub held : AreHeld i n q s.rows.held.items s.seen.links
+
+-- two searches have the same events, fields, live locals and first numbers
+pub record SameTable (old new : Search) : Type 0 where
+  pub tries : new.tries.items ≡ old.tries.items
+  pub fields : new.rows.fields.items ≡ old.rows.fields.items
+  pub first : new.rows.first.items ≡ old.rows.first.items
+  pub outs : new.rows.outs ≡ old.rows.outs
+  pub live : new.rows.live ≡ old.rows.live
 
 -- a search has gone on: it keeps more states, or as many
 pub record Grows (old new : Search) : Type 0 where
-  pub more : List StateLink
-  pub links : new.seen.links ≡ old.seen.links ++ more
+  pub same : SameTable old new
+  pub more : List (List ℕ)
+  pub rows : new.seen.rows ≡ old.seen.rows ++ more
   pub sure : new.sure ≡ true → old.sure ≡ true
 
 -- a search keeps the same states
 pub record Stays (old new : Search) : Type 0 where
-  pub tries : new.tries.items ≡ old.tries.items
-  pub rows : new.rows ≡ old.rows
+  pub same : SameTable old new
   pub seen : new.seen ≡ old.seen
   pub sure : new.sure ≡ true → old.sure ≡ true
 
--- a kernel is in the state of one more link
-pub record IsNext (i : ImageTables) (n : ℕ) (q : Question) (links : List StateLink) (link : StateLink)
-    (k : KernelView (List BodyTables) MachineContext) : Type 0 where
-  pub linked : IsLink links link
-  pub followed : IsFollowed i n (path_by q links link) k
-  pub few : AreFew q (path_by q links link)
+-- a world is kept
+pub record HasKept (i : ImageTables) (q : Question) (old new : Search) (w : World MachineContext) (a : Watched) : Type 0
+  where
+    pub grows : Grows old new
+    pub known : new.sure ≡ true → IsKept i q (rows_of new) w a
 
--- the state after these events is kept, or one that is alike
-pub record HasKept (i : ImageTables) (n : ℕ) (q : Question) (old new : Search) (es : List Event) : Type 0 where
-  pub survey : IsSearch i n q new
-  pub grows : Grows old new
-  pub known : new.sure ≡ true → IsKnown i n q new.seen.links es
+-- the sections after setup
+abbrev pub sections_at_setup : ImageTables → Question → List Section
+sections_at_setup i q = sections_after q.sections.items (setup i.system (code_meaning i.code)).lines
+
+-- what is watched in the state in which a search begins
+abbrev pub watched_first : ImageTables → Question → Watched
+watched_first i q = watched_with q (count_by is_interrupt q.after.items) (sections_at_setup i q)
 
 -- no line of setup is forbidden, and by none a task enters a section that another holds
-abbrev pub IsClean : ImageTables → (n : ℕ) → Question → Type 0
-IsClean i n q =
-    watched_of i n q []
+abbrev pub IsClean : ImageTables → Question → Type 0
+IsClean i q =
+    watched_with q 0 (sections_at_setup i q)
     ≡ watched_at_setup (rules_of q) i.system (code_meaning i.code) (forbids q.nevers.items)
 
 -- the state in which the search begins is kept
 pub record IsBegun (i : ImageTables) (n : ℕ) (q : Question) (s : Search) : Type 0 where
-  pub survey : IsSearch i n q s
-  pub clean : s.sure ≡ true → IsClean i n q
-  pub first : s.sure ≡ true → IsKnown i n q s.seen.links q.after.items
+  pub survey : IsSearch i q s
+  pub clean : s.sure ≡ true → IsClean i q
+  pub first : s.sure ≡ true → IsKept i q (rows_of s) (replay i n q.after.items).world (watched_first i q)
 
--- a state, and the events that lead to it
-pub record IsAt (q : Question) (links : List StateLink) (state : ℕ) (es : List Event) : Type 0 where
-  pub there : state < length links
-  pub path : es ≡ path_to q links state
-  pub deep : length es < 1048575
+-- what is watched in a state that is examined
+abbrev pub watched_in : Question → ExaminedState → Watched
+watched_in q at = watched_with q at.came at.sections.items
+
+-- a kernel is in the state that is examined: it has the row that is kept of it
+pub record StandsAt (i : ImageTables) (n : ℕ) (q : Question) (s : Search) (at : ExaminedState)
+    (k : KernelView (List BodyTables) MachineContext) : Type 0 where
+  pub ready : CanStep i n k
+  pub row : List ℕ
+  pub there : slice_get s.seen.rows at.state ≡ Some row
+  pub has : HasRow i q (rows_of s) k.world (watched_in q at) row
 
 -- what an event leads to is kept, if it may come
-pub record HasDealt (i : ImageTables) (n : ℕ) (q : Question) (old new : Search) (es : List Event) (e : Event) :
-    Type 0 where
-  pub survey : IsSearch i n q new
+pub record HasDealt (i : ImageTables) (n : ℕ) (q : Question) (old new : Search) (w : World MachineContext)
+    (a : Watched) (e : Event) : Type 0 where
   pub grows : Grows old new
-  pub leads : new.sure ≡ true → MayCome i n q es e → LeadsOn i n q new.seen.links es e
+  pub leads : new.sure ≡ true → MayCome i n q w a e → LeadsOn i n q (rows_of new) w a e
 
--- an interrupt that may come after these events does something
-pub record HasRequest (i : ImageTables) (n : ℕ) (q : Question) (es : List Event) : Type 0 where
+-- an interrupt that may come does something
+pub record HasRequest (i : ImageTables) (n : ℕ) (q : Question) (w : World MachineContext) (a : Watched) : Type 0 where
   pub number : ℕ
   pub first : 1 ≤ number
   pub last : number < 33
-  pub may : may_interrupt q.interrupts es ≡ true
-  pub does : reaction i n es (event.Int number) ≡ Nothing → ⊥
+  pub may : may_still q.interrupts a.came ≡ true
+  pub does : reaction_in i n w (event.Int number) ≡ Nothing → ⊥
 
--- what was done in a state is so
-pub record AreMarks (i : ImageTables) (n : ℕ) (q : Question) (es : List Event) (m : StateMarks) : Type 0 where
+-- what was done in a world is so
+pub record AreMarks (i : ImageTables) (n : ℕ) (q : Question) (w : World MachineContext) (a : Watched) (m : StateMarks)
+    : Type 0 where
   pub idle :
-      m.idle ≡ false →
-      none_runs i.system (code_meaning i.code) n (replay i n es).world i.system.processors ≡ false
-  pub interrupted : m.interrupted ≡ true → HasRequest i n q es
+      m.idle ≡ false → none_runs i.system (code_meaning i.code) n w i.system.processors ≡ false
+  pub interrupted : m.interrupted ≡ true → HasRequest i n q w a
 
--- where the event is an interrupt, it may come after these
-abbrev pub MayRequest : Question → List Event → Event → Type 0
-MayRequest q es (event.Int number) = may_interrupt q.interrupts es ≡ true
-MayRequest q es _ = Unit {0}
+-- how many interrupts came after an event, where their number is limited
+abbrev pub came_on : Option ℕ → (came : ℕ) → Event → ℕ
+came_on None came e = 0
+came_on (Some most) came (event.Int number) = came + 1
+came_on (Some most) came _ = came
+
+-- where the event is an interrupt, it may come
+abbrev pub MayRequest : Question → Watched → Event → Type 0
+MayRequest q a (event.Int number) = may_still q.interrupts a.came ≡ true
+MayRequest q a _ = Unit {0}
 
 -- the marks after an event that did something
 abbrev pub marked : StateMarks → Event → StateMarks
@@ -135,46 +184,55 @@ marked m (event.Run p) = record m { idle = false }
 marked m event.Tick = m
 marked m (event.Int i) = record m { interrupted = true }
 
--- the first events of those that are tried in a state were tried, this many
-pub record IsTrying (i : ImageTables) (n : ℕ) (q : Question) (state : ℕ) (es : List Event) (m : StateMarks) (tried : ℕ)
-    (s : Search) : Type 0 where
-  pub survey : IsSearch i n q s
-  pub at : IsAt q s.seen.links state es
-  pub marks : AreMarks i n q es m
+-- the first events of those that are tried were tried in a world, this many
+pub record IsTrying (i : ImageTables) (n : ℕ) (q : Question) (w : World MachineContext) (a : Watched) (m : StateMarks)
+    (tried : ℕ) (s : Search) : Type 0 where
+  pub survey : IsSearch i q s
+  pub marks : AreMarks i n q w a m
   pub each :
       s.sure ≡ true → (place : ℕ) (e : Event) → place < tried → slice_get (all_tries i.system) place ≡ Some e →
-      MayCome i n q es e → LeadsOn i n q s.seen.links es e
+      MayCome i n q w a e → LeadsOn i n q (rows_of s) w a e
 
--- this many events were tried in a state
-pub record HasTried (i : ImageTables) (n : ℕ) (q : Question) (state : ℕ) (es : List Event) (m : StateMarks)
+-- this many events were tried in a world
+pub record HasTried (i : ImageTables) (n : ℕ) (q : Question) (w : World MachineContext) (a : Watched) (m : StateMarks)
     (old new : Search) (tried : ℕ) : Type 0 where
-  pub trying : IsTrying i n q state es m tried new
+  pub trying : IsTrying i n q w a m tried new
   pub grows : Grows old new
 
--- the state after these events was looked at: it is no deadlock
-pub record HasLooked (i : ImageTables) (n : ℕ) (q : Question) (old new : Search) (es : List Event) : Type 0 where
+-- a world was looked at: it is no deadlock
+pub record HasLooked (i : ImageTables) (n : ℕ) (q : Question) (old new : Search) (w : World MachineContext)
+    (a : Watched) : Type 0 where
   pub stays : Stays old new
-  pub free : new.sure ≡ true → IsStuckAfter i n q es → ⊥
+  pub free : new.sure ≡ true → IsStuckIn i n q w a → ⊥
 
--- the state after these events was examined
-pub record HasExamined (i : ImageTables) (n : ℕ) (q : Question) (old new : Search) (es : List Event) : Type 0 where
-  pub survey : IsSearch i n q new
+-- a world was tried out
+pub record HasTriedOut (i : ImageTables) (n : ℕ) (q : Question) (old new : Search) (w : World MachineContext)
+    (a : Watched) : Type 0 where
+  pub survey : IsSearch i q new
   pub grows : Grows old new
-  pub examined : new.sure ≡ true → IsExamined i n q new.seen.links es
+  pub tried : new.sure ≡ true → IsTriedOut i n q (rows_of new) w a
+
+-- the state at a place was examined
+pub record HasExamined (i : ImageTables) (n : ℕ) (q : Question) (old new : Search) (state : ℕ) : Type 0 where
+  pub survey : IsSearch i q new
+  pub grows : Grows old new
+  pub examined :
+      new.sure ≡ true → (row : List ℕ) → slice_get old.seen.rows state ≡ Some row →
+      IsExamined i n q (rows_of new) row
 
 -- the first states were examined, this many
 pub record IsSearching (i : ImageTables) (n : ℕ) (q : Question) (states : ℕ) (s : Search) : Type 0 where
   pub begun : IsBegun i n q s
   pub each :
-      s.sure ≡ true → (k : ℕ) → k < states → k < length s.seen.links →
-      IsExamined i n q s.seen.links (path_to q s.seen.links k)
+      s.sure ≡ true → (k : ℕ) (row : List ℕ) → k < states → slice_get s.seen.rows k ≡ Some row →
+      IsExamined i n q (rows_of s) row
 
 -- every state was examined
 pub record IsWhole (i : ImageTables) (n : ℕ) (q : Question) (s : Search) : Type 0 where
   pub begun : IsBegun i n q s
   pub each :
-      s.sure ≡ true → (k : ℕ) → k < length s.seen.links →
-      IsExamined i n q s.seen.links (path_to q s.seen.links k)
+      s.sure ≡ true → (k : ℕ) (row : List ℕ) → slice_get s.seen.rows k ≡ Some row →
+      IsExamined i n q (rows_of s) row
 
 -- a search that ended because no state is left has examined every state
 abbrev pub HasEnded : ImageTables → (n : ℕ) → Question → Search → Ending → Type 0

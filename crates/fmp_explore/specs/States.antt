@@ -1,9 +1,12 @@
--- The states that a search keeps. Each is the world to which a list of events leads.
-use Rattle.std.specs.Prelude.{ℕ, zero, suc, ◌≡◌, ◌<◌, List, [], ◌∷◌, ◌++◌, Option, Some, None, true, false, count_by}
-use Rattle.std.specs.Prelude.{is_some, length, map, slice_get}
-use Rattle.fmp_bisimulation.specs.Closed.{IsCovered, LeadsIn}
+-- The states that a search keeps: rows. A row tells the numbers of a world, and who holds the sections there.
+use Rattle.std.specs.Prelude.{Bool}
+use Rattle.std.specs.Prelude.{ℕ, suc, ◌≡◌, ◌<◌, List, [], ◌∷◌, ◌++◌, Option, Some, None, true, false, is_some, map}
+use Rattle.std.specs.Prelude.{slice_get}
+use Rattle.fmp_bisimulation.specs.Closed.{LeadsIn}
 use Rattle.fmp_base.specs.declared.events.Event.{Event}
 use Rattle.fmp_base.specs.Meanings.{World}
+use Rattle.fmp_base.specs.Steps.{Reaction, step}
+use Rattle.fmp_base.specs.Systems.{SystemTables}
 use Rattle.fmp_question.specs.declared.question.Question.{Question}
 use Rattle.fmp_question.specs.Forbidden.{forbids}
 use Rattle.fmp_question.specs.Places.{forbids_there}
@@ -13,37 +16,37 @@ use Rattle.fmp_fields.specs.FieldNumbers.{number_of}
 use Rattle.fmp_image_bytes.specs.Images.{ImageTables}
 use Rattle.fmp_instructions.specs.Machine.{code_meaning}
 use Rattle.fmp_instructions.specs.declared.instructions.MachineContext.{MachineContext}
+use Rattle.fmp_live.specs.Fits.{IsFit}
 use Rattle.fmp_live.specs.LiveLocals.{AreLiveTables, LiveTable}
 use Rattle.fmp_live.specs.Zeroed.{IsLike, zeroed}
-use Rattle.fmp_replay.specs.Replays.{IsLegal, reaction, replay}
-use Rattle.fmp_schedules.specs.Deadlocks.{IsDeadlock, is_interrupt, may_interrupt}
+use Rattle.fmp_reachable.specs.Sound.{IsSound}
+use Rattle.fmp_schedules.specs.Deadlocks.{IsDeadlock}
 use Rattle.fmp_schedules.specs.declared.section.Section.{Section}
-use Rattle.fmp_schedules.specs.Schedules.{IsSilent, Watched, lines_after, may_come, watch}
-use Rattle.fmp_schedules.specs.Sections.{section_along}
+use Rattle.fmp_schedules.specs.Schedules.{IsSilent, Watched, may_come, may_still, watch}
 use Rattle.fmp_schedules.specs.Tried.{is_event_of}
-use Rattle.fmp_visited.specs.declared.link.StateLink.{StateLink}
-use Rattle.fmp_visited.specs.Links.{AreLinked, path_of}
 use Rattle.fmp_visited.specs.Rows.{AreValues, row_of}
-use Rattle.fmp_visited.specs.Seen.{SeenStates}
 
 -- how many interrupts came, where their number is limited
-abbrev pub came_of : Option ℕ → List Event → ℕ
-came_of None es = 0
-came_of (Some most) es = count_by is_interrupt es
+abbrev pub counted : Option ℕ → (came : ℕ) → ℕ
+counted None came = 0
+counted (Some most) came = came
 
--- the sections after these events
-unfoldable pub sections_of : ImageTables → (n : ℕ) → Question → List Event → List Section
-sections_of i n q es =
-    map (λ s. section_along s (lines_after i.system (code_meaning i.code) n es)) q.sections.items
-
--- what is watched after events that told no forbidden line, and by which no task entered a section that another held
-abbrev pub watched_of : ImageTables → (n : ℕ) → Question → List Event → Watched
-watched_of i n q es =
-    record { came = came_of q.interrupts es; told = false; sections = sections_of i n q es; met = false }
+-- what is watched where this many interrupts came, no forbidden line was told, and no task entered a section that
+-- another held
+abbrev pub watched_with : Question → (came : ℕ) → List Section → Watched
+watched_with q came sections =
+    record { came = counted q.interrupts came; told = false; sections = sections; met = false }
 
 -- where the number of interrupts is limited, it fits a byte
-abbrev pub AreFew : Question → List Event → Type 0
-AreFew q es = is_some q.interrupts ≡ true → count_by is_interrupt es < 256
+abbrev pub AreFew : Question → (came : ℕ) → Type 0
+AreFew q came = is_some q.interrupts ≡ true → came < 256
+
+-- the second sections are the first ones, but for who holds them
+abbrev pub AreHeldBy : (sections held : List Section) → Type 0
+AreHeldBy [] [] = Unit {0}
+AreHeldBy (s ∷ ss) (t ∷ ts) = (t ≡ record s { holder = t.holder }) × AreHeldBy ss ts
+AreHeldBy [] (t ∷ ts) = ⊥
+AreHeldBy (s ∷ ss) [] = ⊥
 
 abbrev pub holder_place : Option ℕ → ℕ
 holder_place None = 0
@@ -53,81 +56,78 @@ holder_place (Some t) = suc t
 abbrev pub holder_number : Section → ℕ
 holder_number s = holder_place s.holder
 
--- the world after these events, with 0 for each local that these tables call dead
-abbrev pub zeroed_after : ImageTables → (n : ℕ) → List LiveTable → List Event → World MachineContext
-zeroed_after i n tables es = zeroed i.system tables (replay i n es).world
-
--- the numbers of the fields there, and of the tasks that hold the sections
-abbrev pub numbers_after : ImageTables → (n : ℕ) → Question → List LiveTable → List What → List Event → List ℕ
-numbers_after i n q tables fields es =
-    map (number_of i.system (zeroed_after i n tables es) (count_by is_interrupt es)) fields
-    ++ map holder_number (sections_of i n q es)
+-- the numbers of the fields in a world, with 0 for each local that these tables call dead, and of the tasks that hold
+-- the sections
+abbrev pub numbers_in : SystemTables → List LiveTable → List What → World MachineContext → (came : ℕ) → List Section
+    → List ℕ
+numbers_in sys tables fields w came sections =
+    map (number_of sys (zeroed sys tables w) came) fields ++ map holder_number sections
 
 -- the row of these numbers, each of which is one of 32 bits
 pub record IsRowOf (first numbers row : List ℕ) : Type 0 where
   pub values : AreValues numbers
   pub is : row ≡ row_of first numbers
 
--- legal events lead to a state of this row, by tables of live locals
-pub record HasRow (i : ImageTables) (n : ℕ) (q : Question) (first : List ℕ) (fields : List What) (es : List Event)
+-- whether out places count as written by every reply; the fields, the numbers of the first state, and the rows that are
+-- kept
+pub record KeptRows : Type 0 where
+  pub outs : Bool
+  pub fields : List What
+  pub first : List ℕ
+  pub rows : List (List ℕ)
+
+-- a sound world, where this is watched, has a row, by tables of live locals
+pub record HasRow (i : ImageTables) (q : Question) (kept : KeptRows) (w : World MachineContext) (a : Watched)
     (row : List ℕ) : Type 0 where
-  pub legal : IsLegal i n es
-  pub few : AreFew q es
+  pub sound : IsSound i.system i.code w
+  pub came : ℕ
+  pub few : AreFew q came
+  pub held : AreHeldBy q.sections.items a.sections
+  pub watch : a ≡ watched_with q came a.sections
   pub tables : List LiveTable
-  pub live : AreLiveTables i.code tables
-  pub is : IsRowOf first (numbers_after i n q tables fields es) row
+  pub live : AreLiveTables kept.outs i.code tables
+  pub is : IsRowOf kept.first (numbers_in i.system tables kept.fields w came a.sections) row
 
--- the events that lead to the state at a place, with those behind which the search begins
-abbrev pub path_to : Question → List StateLink → (state : ℕ) → List Event
-path_to q links state = q.after.items ++ path_of links state
+-- such a world has one of the rows that are kept
+pub record IsKept (i : ImageTables) (q : Question) (kept : KeptRows) (w : World MachineContext) (a : Watched) : Type 0
+  where
+    pub state : ℕ
+    pub row : List ℕ
+    pub there : slice_get kept.rows state ≡ Some row
+    pub has : HasRow i q kept w a row
 
--- the path to each state that is kept leads to a state of its row
-pub record AreKept (i : ImageTables) (n : ℕ) (q : Question) (first : List ℕ) (fields : List What) (seen : SeenStates) :
-    Type 0 where
-  pub linked : AreLinked seen.links
-  pub rows : length seen.rows ≡ length seen.links
-  pub each :
-      (k : ℕ) (row : List ℕ) → slice_get seen.rows k ≡ Some row →
-      HasRow i n q first fields (path_to q seen.links k) row
+-- what an event does in a world
+abbrev pub reaction_in : ImageTables → (n : ℕ) → World MachineContext → Event → Reaction MachineContext
+reaction_in i n w e = step i.system (code_meaning i.code) n w e
 
--- the events that lead to the state of one more link
-abbrev pub path_by : Question → List StateLink → StateLink → List Event
-path_by q links link = path_to q (links ++ link ∷ []) (length links)
-
--- the path to one of the states leads to this world, where this is watched
-pub record IsReached (i : ImageTables) (n : ℕ) (q : Question) (links : List StateLink) (w : World MachineContext)
-    (a : Watched) : Type 0 where
-  pub state : ℕ
-  pub there : state < length links
-  pub world : w ≡ (replay i n (path_to q links state)).world
-  pub watch : a ≡ watched_of i n q (path_to q links state)
-
--- one of the states is alike to that after these events, but for dead locals
-abbrev pub IsKnown : ImageTables → (n : ℕ) → Question → List StateLink → List Event → Type 0
-IsKnown i n q links es =
-    IsCovered (IsLike i.system i.code) (IsReached i n q links) (replay i n es).world (watched_of i n q es)
-
--- what this does after these events leads to a state, if it leads to any, and tells no answer that must never be given
--- to its call
-pub record LeadsOn (i : ImageTables) (n : ℕ) (q : Question) (links : List StateLink) (es : List Event) (e : Event) :
-    Type 0 where
+-- an event leads to a world with a row that is kept, if it leads to any, and tells no answer that must never be given
+-- to its call; and the event fits
+pub record LeadsOn (i : ImageTables) (n : ℕ) (q : Question) (kept : KeptRows) (w : World MachineContext) (a : Watched)
+    (e : Event) : Type 0 where
+  pub fit : IsFit kept.outs i.system i.code n w e
   pub leads :
-      LeadsIn (IsLike i.system i.code) (watch (rules_of q) (forbids q.nevers.items)) (IsReached i n q links)
-      (watched_of i n q es) (reaction i n es e)
-  pub silent : IsSilent (forbids_there i.system q.nevers_at.items) (reaction i n es e)
+      LeadsIn (IsLike kept.outs i.system i.code) (watch (rules_of q) (forbids q.nevers.items)) (IsKept i q kept) a
+      (reaction_in i n w e)
+  pub silent : IsSilent (forbids_there i.system q.nevers_at.items) (reaction_in i n w e)
 
--- the rules let an event come after others
-abbrev pub MayCome : ImageTables → (n : ℕ) → Question → List Event → Event → Type 0
-MayCome i n q es e =
-    may_come (rules_of q) i.system (code_meaning i.code) n (replay i n es).world (watched_of i n q es) e ≡ true
+-- the rules let an event come to a world
+abbrev pub MayCome : ImageTables → (n : ℕ) → Question → World MachineContext → Watched → Event → Type 0
+MayCome i n q w a e = may_come (rules_of q) i.system (code_meaning i.code) n w a e ≡ true
 
--- the state after these events is a deadlock
-abbrev pub IsStuckAfter : ImageTables → (n : ℕ) → Question → List Event → Type 0
-IsStuckAfter i n q es =
-    IsDeadlock i.system (code_meaning i.code) n (replay i n es).world q.rest.items (may_interrupt q.interrupts es)
+-- a world is a deadlock
+abbrev pub IsStuckIn : ImageTables → (n : ℕ) → Question → World MachineContext → Watched → Type 0
+IsStuckIn i n q w a =
+    IsDeadlock i.system (code_meaning i.code) n w q.rest.items (may_still q.interrupts a.came)
 
--- each event that may come after these leads to a state, and they lead to no deadlock
-pub record IsExamined (i : ImageTables) (n : ℕ) (q : Question) (links : List StateLink) (es : List Event) : Type 0 where
-  pub each :
-      (e : Event) → is_event_of i.system e ≡ true → MayCome i n q es e → LeadsOn i n q links es e
-  pub free : IsStuckAfter i n q es → ⊥
+-- each event that may come to a world leads to a row that is kept, and the world is no deadlock
+pub record IsTriedOut (i : ImageTables) (n : ℕ) (q : Question) (kept : KeptRows) (w : World MachineContext)
+    (a : Watched) : Type 0 where
+  pub each : (e : Event) → is_event_of i.system e ≡ true → MayCome i n q w a e → LeadsOn i n q kept w a e
+  pub free : IsStuckIn i n q w a → ⊥
+
+-- so it is of some world with this row
+pub record IsExamined (i : ImageTables) (n : ℕ) (q : Question) (kept : KeptRows) (row : List ℕ) : Type 0 where
+  pub world : World MachineContext
+  pub watched : Watched
+  pub has : HasRow i q kept world watched row
+  pub tried : IsTriedOut i n q kept world watched

@@ -1,15 +1,17 @@
 //! How a search begins: the state behind the events where it does is kept.
-ghost use Rattle.std.specs.Prelude.{◌≡◌, [], OnOk, false, true};
+ghost use Rattle.std.specs.Prelude.{◌≡◌, [], OnOk, count_by, false, true};
 ghost use Rattle.std.specs.List.{list_any};
+ghost use Rattle.fmp_live.specs.LiveLocals.{AreLiveTables, live_tables};
 ghost use Rattle.fmp_replay.specs.Replays.{kernel_after};
+ghost use Rattle.fmp_schedules.specs.Deadlocks.{is_interrupt as is_request};
 ghost use Rattle.fmp_schedules.specs.Schedules.{is_any_met};
-ghost use Rattle.fmp_explore.specs.States.{AreFew, sections_of};
+ghost use Rattle.fmp_explore.specs.States.{AreFew, AreHeldBy, watched_with};
 ghost use Rattle.fmp_witness.specs.Followed.{IsFollowed};
 ghost use Rattle.fmp_question.specs.Places.{is_bad};
-ghost use Rattle.fmp_explore.specs.Searching.{HasKept, IsBegun, IsClean, IsFresh, IsSearch, Stays};
+ghost use Rattle.fmp_explore.specs.Searching.{HasKept, IsBegun, IsClean, IsFresh, IsSearch, Stays, sections_at_setup};
 
 use crate::holding::sections_after;
-use crate::notes::Path;
+use crate::notes::PathEnd;
 use crate::searches::Search;
 use crate::subject::SearchSubject;
 use fmp_base::Event;
@@ -37,11 +39,13 @@ impl Search {
         ensures alone { OnOk result (self.new.sure ≡ true →
             is_any_met subject.now.question.now.sections.items kernel.now.lines ≡ false) }
     {
-        let setup = Path {
-            steps: &[],
+        let setup = PathEnd {
+            after: &[],
+            state: 0,
             last: None,
         };
-        let found = self.notes.note_lines(alloc, subject, kernel, setup, None)?;
+        let path = setup.among(&self.seen);
+        let found = self.notes.note_lines(alloc, subject, kernel, path, None)?;
         self.sure &= !found;
         self.note_meetings(
             alloc,
@@ -59,17 +63,16 @@ impl Search {
         alloc: Global,
         subject: &SearchSubject<'_>,
         kernel: &Kernel<Vm<'_>>,
-        sections: Vec<Section>,
+        sections: &[Section],
     ) -> Result<(), AllocError>
-        requires survey { IsSearch subject.now.image.now subject.now.n subject.now.question.now self.old }
-        requires none { self.old.seen.links ≡ [] }
+        requires live { AreLiveTables self.old.rows.outs subject.now.image.now.code (live_tables self.old.rows.live) }
+        requires few { AreFew subject.now.question.now (count_by is_request subject.now.question.now.after.items) }
         requires followed { IsFollowed subject.now.image.now subject.now.n subject.now.question.now.after.items
             kernel.now }
-        requires few { AreFew subject.now.question.now subject.now.question.now.after.items }
-        requires sections { sections.items ≡ sections_of subject.now.image.now subject.now.n subject.now.question.now
-            subject.now.question.now.after.items }
-        ensures { OnOk result (HasKept subject.now.image.now subject.now.n subject.now.question.now self.old self.new
-            subject.now.question.now.after.items) }
+        requires held { AreHeldBy subject.now.question.now.sections.items sections.now }
+        ensures { OnOk result (HasKept subject.now.image.now subject.now.question.now self.old self.new
+            kernel.now.world (watched_with subject.now.question.now
+            (count_by is_request subject.now.question.now.after.items) sections.now)) }
     {
         let link = StateLink {
             parent: 0,
@@ -78,6 +81,7 @@ impl Search {
             depth: 0,
         };
         let came = interrupt_count(&subject.question.after);
+        subject.image.keeps_rules();
         self.keep(alloc, subject, kernel, came, sections, link)
     }
 
@@ -88,14 +92,12 @@ impl Search {
         alloc: Global,
         subject: &SearchSubject<'_>,
         kernel: &mut Kernel<Vm<'_>>,
-        sections: Vec<Section>,
+        sections: &[Section],
     ) -> Result<(), AllocError>
-        requires survey { IsSearch subject.now.image.now subject.now.n subject.now.question.now self.old }
-        requires none { self.old.seen.links ≡ [] }
+        requires survey { IsSearch subject.now.image.now subject.now.question.now self.old }
         requires kernel { kernel.old ≡ kernel_after subject.now.image.now subject.now.n [] }
-        requires sections { sections.items ≡ sections_of subject.now.image.now subject.now.n
-            subject.now.question.now [] }
-        requires clean { self.old.sure ≡ true → IsClean subject.now.image.now subject.now.n subject.now.question.now }
+        requires sections { sections.now ≡ sections_at_setup subject.now.image.now subject.now.question.now }
+        requires clean { self.old.sure ≡ true → IsClean subject.now.image.now subject.now.question.now }
         ensures { OnOk result (IsBegun subject.now.image.now subject.now.n subject.now.question.now self.new) }
     {
         let question = subject.question;
@@ -125,8 +127,8 @@ impl Search {
         self.notes.cover(alloc, subject, kernel)?;
         self.note_setup(alloc, subject, kernel)?;
         let sections = sections_after(alloc, &subject.question.sections, kernel.lines())?;
-        self.rows.begin(kernel, &subject.live, &sections)?;
-        self.begin_behind(alloc, subject, kernel, sections)
+        self.rows.begin(kernel, &sections)?;
+        self.begin_behind(alloc, subject, kernel, &sections)
     }
 
     /// Keeps the state after the events behind which the search begins. `AllocError` if memory runs out.

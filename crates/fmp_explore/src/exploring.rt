@@ -1,5 +1,5 @@
 //! Exploring every schedule of an image.
-ghost use Rattle.std.specs.Prelude.{◌≡◌, ◌≤◌, ◌^◌, [], All, IfOk, IsTrue, true};
+ghost use Rattle.std.specs.Prelude.{◌≡◌, ◌≤◌, ◌^◌, [], All, IfOk, IfSome, IsTrue, true};
 ghost use Rattle.fmp_instructions.specs.Machine.{code_meaning};
 ghost use Rattle.fmp_schedules.specs.Schedules.{Holds, HoldsThere};
 ghost use Rattle.fmp_witness.specs.Findings.{IsFound};
@@ -13,7 +13,7 @@ use crate::notes::is_beside;
 use crate::searches::Search;
 use crate::searching::{Ending, SearchWatcher};
 use crate::stuck::{Suspicions, suspected};
-use crate::subject::{SearchSubject, live_in};
+use crate::subject::SearchSubject;
 use crate::values::Variety;
 use fmp_image_bytes::Image;
 use fmp_question::Question;
@@ -51,7 +51,7 @@ pub struct Report {
 fn table(alloc: Global, survey: &Search, ending: Ending) -> Vec<Variety> {
     match ending {
         Ending::Whole | Ending::Enough => Vec::new(alloc),
-        Ending::States | Ending::Depth | Ending::Memory => {
+        Ending::States | Ending::Memory => {
             match survey.varieties(alloc) {
                 Ok(table) => table,
                 Err(_) => Vec::new(alloc),
@@ -77,7 +77,7 @@ fn asked_for(
 fn is_whole(ending: Ending) -> bool {
     match ending {
         Ending::Whole => true,
-        Ending::Enough | Ending::States | Ending::Depth | Ending::Memory => false,
+        Ending::Enough | Ending::States | Ending::Memory => false,
     }
 }
 
@@ -154,7 +154,7 @@ fn shows_all(survey: &Search, question: &Question, ending: Ending) -> bool
 {
     match ending {
         Ending::Whole => survey.sure && question.after.is_empty(),
-        Ending::Enough | Ending::States | Ending::Depth | Ending::Memory => false,
+        Ending::Enough | Ending::States | Ending::Memory => false,
     }
 }
 
@@ -190,11 +190,16 @@ fn make_report(
     })
 }
 
-/// Starts a search: it has seen the state in which it begins.
-pub fn start_search(alloc: Global, subject: &SearchSubject<'_>) -> Result<Search, AllocError>
+/// Starts a search, in which the local at the out place of a call counts as written by every reply, or by E_OK alone.
+/// It has seen the state in which it begins.
+pub fn start_search(
+    alloc: Global,
+    outs: bool,
+    subject: &SearchSubject<'_>,
+) -> Result<Search, AllocError>
     ensures { IfOk result (IsBegun subject.now.image.now subject.now.n subject.now.question.now) }
 {
-    let mut survey = Search::new(alloc, subject)?;
+    let mut survey = Search::new(alloc, outs, subject)?;
     survey.begin(alloc, subject)?;
     Ok(survey)
 }
@@ -212,6 +217,75 @@ pub fn run_search<W: SearchWatcher>(
     match survey.run(alloc, subject, watcher) {
         Ok(ending) => ending,
         Err(_) => Ending::Memory,
+    }
+}
+
+/// Explores the schedules of an image in one search, in which the local at the out place of a call counts as written by
+/// every reply. None where a reply left one as it was.
+fn explore_written<W: SearchWatcher>(
+    alloc: Global,
+    subject: &SearchSubject<'_>,
+    watcher: &mut W,
+) -> Result<Option<Report>, AllocError>
+    ensures findings { IfOk result (λ found. IfSome found (λ r. All (IsFound subject.now.image.now subject.now.n
+        subject.now.question.now) r.findings.items)) }
+    ensures holds { IfOk result (λ found. IfSome found (λ r. r.holds ≡ true → NothingIsFound subject.now.image.now
+        subject.now.n subject.now.question.now)) }
+{
+    let mut survey = start_search(alloc, true, subject)?;
+    let ending = run_search(alloc, &mut survey, subject, watcher);
+    if survey.unwritten {
+        return Ok(None);
+    }
+    let question = subject.question;
+    let report = make_report(
+        alloc,
+        subject.image,
+        subject.n,
+        question,
+        &mut survey,
+        ending,
+    )?;
+    Ok(Some(report))
+}
+
+/// The same, in a search in which it counts as written by E_OK alone.
+fn explore_plainly<W: SearchWatcher>(
+    alloc: Global,
+    subject: &SearchSubject<'_>,
+    watcher: &mut W,
+) -> Result<Report, AllocError>
+    ensures findings { IfOk result (λ r. All (IsFound subject.now.image.now subject.now.n subject.now.question.now)
+        r.findings.items) }
+    ensures holds { IfOk result (λ r. r.holds ≡ true → NothingIsFound subject.now.image.now subject.now.n
+        subject.now.question.now) }
+{
+    let mut survey = start_search(alloc, false, subject)?;
+    let ending = run_search(alloc, &mut survey, subject, watcher);
+    make_report(
+        alloc,
+        subject.image,
+        subject.n,
+        subject.question,
+        &mut survey,
+        ending,
+    )
+}
+
+/// Explores the schedules of an image in one search; in another one too, where a reply left an out place as it was.
+fn explore_subject<W: SearchWatcher>(
+    alloc: Global,
+    subject: &SearchSubject<'_>,
+    watcher: &mut W,
+) -> Result<Report, AllocError>
+    ensures findings { IfOk result (λ r. All (IsFound subject.now.image.now subject.now.n subject.now.question.now)
+        r.findings.items) }
+    ensures holds { IfOk result (λ r. r.holds ≡ true → NothingIsFound subject.now.image.now subject.now.n
+        subject.now.question.now) }
+{
+    match explore_written(alloc, subject, watcher)? {
+        Some(report) => Ok(report),
+        None => explore_plainly(alloc, subject, watcher),
     }
 }
 
@@ -236,15 +310,6 @@ pub fn explore<W: SearchWatcher>(
         (code_meaning image.now.code) n (forbids question.now.nevers.items)
         (forbids_there image.now.system question.now.nevers_at.items)) }
 {
-    image.keeps_rules();
-    let live = live_in(alloc, image);
-    let subject = SearchSubject {
-        image,
-        n,
-        question,
-        live,
-    };
-    let mut survey = start_search(alloc, &subject)?;
-    let ending = run_search(alloc, &mut survey, &subject, watcher);
-    make_report(alloc, image, n, question, &mut survey, ending)
+    let subject = SearchSubject { image, n, question };
+    explore_subject(alloc, &subject, watcher)
 }

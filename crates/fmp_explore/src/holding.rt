@@ -1,9 +1,10 @@
 //! The sections in the states of a search: who holds each of them.
 ghost use Rattle.std.specs.Prelude.{◌≡◌, ◌++◌, IfOk, OnOk, map};
 ghost use Rattle.fmp_schedules.specs.Schedules as spec;
-ghost use Rattle.fmp_explore.specs.States.{holder_number as number_of};
+ghost use Rattle.fmp_explore.specs.States.{AreHeldBy, holder_number as number_of};
 
 use fmp_base::Line;
+use fmp_fields::low_byte;
 use fmp_schedules::Section;
 use std::alloc::{AllocError, Global};
 
@@ -40,4 +41,42 @@ pub fn push_holders(values: &mut Vec<u32>, sections: &[Section]) -> Result<(), A
         values.push(holder_number(section))?;
     }
     Ok(())
+}
+
+/// The place of the task of this number, from 1 on; none of 0.
+fn holder_of(number: u32) -> Option<u8> {
+    match number {
+        0 => None,
+        task => Some(low_byte((task - 1) as usize)),
+    }
+}
+
+/// A section that is held by the task of this number, from 1 on, or by none.
+fn section_held(section: &Section, number: u32) -> Section
+    ensures { result ≡ record section.now { holder = result.holder } }
+{
+    Section {
+        enters: section.enters,
+        leaves: section.leaves,
+        holder: holder_of(number),
+    }
+}
+
+/// These sections, held by the tasks of these numbers. `AllocError` if memory runs out.
+pub fn held_by(
+    alloc: Global,
+    sections: &[Section],
+    numbers: &[u32],
+) -> Result<Vec<Section>, AllocError>
+    ensures { IfOk result (λ held. AreHeldBy sections.now held.items) }
+{
+    let mut held = Vec::new(alloc);
+    for section in sections {
+        let number = match numbers.get(held.len()) {
+            Some(number) => *number,
+            None => 0,
+        };
+        held.push(section_held(section, number))?;
+    }
+    Ok(held)
 }

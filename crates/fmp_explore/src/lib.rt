@@ -12,6 +12,7 @@ mod outlooks;
 mod rows;
 mod searches;
 mod searching;
+mod standing;
 mod stretching;
 mod stuck;
 mod subject;

@@ -12,6 +12,7 @@ use fmp_code::Vm;
 use fmp_kernel::Kernel;
 use fmp_question::{CallSite, first_bad_at, first_forbidden, is_bad};
 use fmp_schedules::Section;
+use fmp_visited::Seen;
 use fmp_witness::{Coverage, Finding, FindingKind, Together};
 use std::alloc::{AllocError, Global};
 use std::mem;
@@ -45,20 +46,39 @@ pub struct Notes {
     pub events: u64,
 }
 
-/// A list of events: those that lead to a state, and one more, if there is one.
+/// Where a list of events ends: with those that lead to a state from those behind which a search begins, or with one
+/// more.
 #[derive(Clone, Copy)]
-pub struct Path<'a> {
-    pub steps: &'a [Event],
+pub struct PathEnd<'a> {
+    pub after: &'a [Event],
+    pub state: u32,
     pub last: Option<Event>,
 }
 
-/// Those events. `AllocError` if memory runs out.
-fn events_of(alloc: Global, path: Path<'_>) -> Result<Vec<Event>, AllocError> {
-    let mut events = Vec::from_slice(alloc, path.steps)?;
-    if let Some(e) = path.last {
-        events.push(e)?;
+impl<'a> PathEnd<'a> {
+    /// The list, where these states were seen. Where none was, no events lead to the state.
+    pub fn among(self, seen: &'a Seen) -> Path<'a> {
+        Path { end: self, seen }
     }
-    Ok(events)
+}
+
+/// A list of events.
+#[derive(Clone, Copy)]
+pub struct Path<'a> {
+    end: PathEnd<'a>,
+    seen: &'a Seen,
+}
+
+impl Path<'_> {
+    /// The events. `AllocError` if memory runs out.
+    pub fn events(&self, alloc: Global) -> Result<Vec<Event>, AllocError> {
+        let mut events = Vec::from_slice(alloc, self.end.after)?;
+        events.extend_from_slice(&self.seen.path(alloc, self.end.state)?)?;
+        if let Some(e) = self.end.last {
+            events.push(e)?;
+        }
+        Ok(events)
+    }
 }
 
 /// Whether a search goes on beside a finding where only the first is asked for: a body that goes on for ever hides
@@ -158,7 +178,7 @@ impl Notes {
         if is_known {
             return Ok(());
         }
-        let steps = events_of(alloc, path)?;
+        let steps = path.events(alloc)?;
         let finding = Finding { steps, kind, site };
         self.candidates.push(Candidate { finding, broken })?;
         Ok(())

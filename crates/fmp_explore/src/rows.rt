@@ -1,94 +1,122 @@
 //! Rows of the states of a system.
-ghost use Rattle.std.specs.Prelude.{◌≡◌, ◌+◌, ◌++◌, [], IfOk, IfSome, OnOk, is_some, length, map, slice_get};
-ghost use Rattle.fmp_fields.specs.FieldNumbers.{number_of};
+ghost use Rattle.std.specs.Prelude.{◌≡◌, ◌+◌, ◌<◌, ◌^◌, IfOk, OnOk, is_some, length, true};
 ghost use Rattle.fmp_fields.specs.Fields.{AreAllFields};
-ghost use Rattle.fmp_live.specs.LiveLocals.{live_tables};
-ghost use Rattle.fmp_live.specs.Zeroed.{zeroed};
-ghost use Rattle.fmp_explore.specs.States.{IsRowOf, holder_number};
+ghost use Rattle.fmp_live.specs.LiveLocals.{AreLiveTables, live_tables};
+ghost use Rattle.fmp_explore.specs.States.{AreFew, AreHeldBy, IsRowOf, numbers_in};
+ghost use Rattle.fmp_explore.specs.Searching.{CanStep};
+ghost use Rattle.fmp_witness.specs.Followed.{IsOver};
 
-use crate::holding::push_holders;
-use crate::subject::SearchSubject;
+use crate::holding::{held_by, push_holders};
+use crate::subject::{CodeTest, SearchSubject};
+use crate::trying::ExaminedState;
 use fmp_code::Vm;
-use fmp_fields::{What, fields_of, read};
+use fmp_fields::{SavedRow, What, fields_of, read};
+use fmp_image_bytes::Image;
 use fmp_kernel::Kernel;
-use fmp_live::LiveLocals;
+use fmp_live::{LiveLocals, live_locals};
+use fmp_reachable::soundness::is_sound;
 use fmp_schedules::Section;
-use fmp_visited::pack;
+use fmp_visited::{pack, unpack};
 use std::alloc::{AllocError, Global};
 
-/// The fields of the states, who holds the sections in each of them, and room for the values and the row of one.
+/// The live locals of the bodies of an image, where the local at the out place of a call counts as written by every
+/// reply, or by E_OK alone. Where there is no memory to trace them, all locals count as live.
+fn live_in(alloc: Global, outs: bool, image: &Image) -> LiveLocals
+    ensures { AreLiveTables outs image.now.code (live_tables result) }
+{
+    live_locals(alloc, outs, image.code())
+}
+
+/// The fields of the states, and room for the numbers and the row of one.
 #[derive(Drop)]
 pub struct Rows {
     pub fields: Vec<What>,
-    /// The sections in each state that is kept, by its place.
-    pub held: Vec<Vec<Section>>,
-    /// The values in the first state, and in the one that was looked at last.
+    /// Whether the local at the out place of a call counts as written by every reply, not by E_OK alone.
+    pub outs: bool,
+    /// The live locals of the bodies.
+    pub live: LiveLocals,
+    /// The numbers in the first state, and in the one that was looked at last.
     pub first: Vec<u32>,
-    values: Vec<u32>,
+    numbers: Vec<u32>,
     pub row: Vec<u8>,
+    /// The state that was restored last.
+    saved: SavedRow,
 }
 
-/// Writes the row of these values into the place of another one. `AllocError` if memory runs out.
-fn write_row(values: &[u32], first: &[u32], row: &mut Vec<u8>) -> Result<(), AllocError>
-    ensures { OnOk result (IsRowOf first.now values.now row.new.items) }
+/// Writes the row of these numbers into the place of another one. `AllocError` if memory runs out.
+fn write_row(numbers: &[u32], first: &[u32], row: &mut Vec<u8>) -> Result<(), AllocError>
+    ensures { OnOk result (IsRowOf first.now numbers.now row.new.items) }
 {
-    pack(values, first, row)
+    pack(numbers, first, row)
+}
+
+/// How many interrupts came, where their number is limited: that is the first of these numbers.
+fn came_in(numbers: &[u32], limited: bool) -> usize
+    ensures { limited ≡ true → result < 256 }
+{
+    match numbers.first() {
+        Some(came) if limited => (*came % 256) as usize,
+        _ => 0,
+    }
+}
+
+/// The numbers behind as many as there are fields.
+fn behind_fields(numbers: &[u32], fields: usize) -> &[u32] {
+    &numbers[fields.min(numbers.len())..]
 }
 
 impl Rows {
     /// Rows of the states of a system, of which none was looked at. `AllocError` if memory runs out.
-    pub fn new(alloc: Global, subject: &SearchSubject<'_>) -> Result<Rows, AllocError>
+    pub fn new(alloc: Global, outs: bool, subject: &SearchSubject<'_>) -> Result<Rows, AllocError>
+        ensures live { IfOk result (λ rows. AreLiveTables rows.outs subject.now.image.now.code
+            (live_tables rows.live)) }
         ensures fields { IfOk result (λ rows. AreAllFields subject.now.image.now.system subject.now.image.now.code
             (is_some subject.now.question.now.interrupts) rows.fields.items) }
-        ensures none { IfOk result (λ rows. rows.held.items ≡ []) }
     {
         let sys = subject.image.system();
         let code = subject.image.code();
         let fields = fields_of(alloc, sys, code, subject.question.interrupts.is_some())?;
         Ok(Rows {
             fields,
-            held: Vec::new(alloc),
+            outs,
+            live: live_in(alloc, outs, subject.image),
             first: Vec::new(alloc),
-            values: Vec::new(alloc),
+            numbers: Vec::new(alloc),
             row: Vec::new(alloc),
+            saved: SavedRow::new(alloc),
         })
     }
 
-    /// Takes the values of a kernel's state, with those of its sections, as those of the first one. `AllocError` if
+    /// Takes the numbers of a kernel's state, with those of its sections, as those of the first one. `AllocError` if
     /// memory runs out.
-    pub fn begin(
-        &mut self,
-        kernel: &Kernel<Vm<'_>>,
-        live: &LiveLocals,
-        sections: &[Section],
-    ) -> Result<(), AllocError>
+    pub fn begin(&mut self, kernel: &Kernel<Vm<'_>>, sections: &[Section]) -> Result<(), AllocError>
         ensures fields { self.new.fields.items ≡ self.old.fields.items }
-        ensures held { self.new.held ≡ self.old.held }
+        ensures outs { self.new.outs ≡ self.old.outs }
+        ensures live { self.new.live ≡ self.old.live }
         ensures first { OnOk result
             (length self.new.first.items ≡ length self.new.fields.items + length sections.now) }
     {
-        read(kernel, live, 0, &self.fields, &mut self.first)?;
+        read(kernel, &self.live, 0, &self.fields, &mut self.first)?;
         push_holders(&mut self.first, sections)
     }
 
-    /// Writes the values of a kernel's state, where this many interrupts came, with 0 for each dead local, and of its
+    /// Writes the numbers of a kernel's state, where this many interrupts came, with 0 for each dead local, and of its
     /// sections.
-    fn write_values(
+    fn write_numbers(
         &mut self,
         kernel: &Kernel<Vm<'_>>,
-        live: &LiveLocals,
         came: usize,
         sections: &[Section],
     ) -> Result<(), AllocError>
         ensures fields { self.new.fields.items ≡ self.old.fields.items }
+        ensures outs { self.new.outs ≡ self.old.outs }
+        ensures live { self.new.live ≡ self.old.live }
         ensures first { self.new.first.items ≡ self.old.first.items }
-        ensures held { self.new.held ≡ self.old.held }
-        ensures values { OnOk result (self.new.values.items ≡ map (number_of kernel.now.system
-            (zeroed kernel.now.system (live_tables live.now) kernel.now.world) came)
-            self.old.fields.items ++ map holder_number sections.now) }
+        ensures numbers { OnOk result (self.new.numbers.items ≡ numbers_in kernel.now.system (live_tables self.old.live)
+            self.old.fields.items kernel.now.world came sections.now) }
     {
-        read(kernel, live, came, &self.fields, &mut self.values)?;
-        push_holders(&mut self.values, sections)
+        read(kernel, &self.live, came, &self.fields, &mut self.numbers)?;
+        push_holders(&mut self.numbers, sections)
     }
 
     /// Writes the row of a kernel's state, where this many interrupts came, with 0 for each dead local and with its
@@ -96,29 +124,75 @@ impl Rows {
     pub fn write(
         &mut self,
         kernel: &Kernel<Vm<'_>>,
-        live: &LiveLocals,
         came: usize,
         sections: &[Section],
     ) -> Result<(), AllocError>
         ensures fields { self.new.fields.items ≡ self.old.fields.items }
+        ensures outs { self.new.outs ≡ self.old.outs }
+        ensures live { self.new.live ≡ self.old.live }
         ensures first { self.new.first.items ≡ self.old.first.items }
-        ensures held { self.new.held ≡ self.old.held }
         ensures row { OnOk result (IsRowOf self.old.first.items
-            (map (number_of kernel.now.system (zeroed kernel.now.system (live_tables live.now) kernel.now.world) came)
-            self.old.fields.items ++ map holder_number sections.now) self.new.row.items) }
+            (numbers_in kernel.now.system (live_tables self.old.live) self.old.fields.items kernel.now.world came
+            sections.now) self.new.row.items) }
     {
-        self.write_values(kernel, live, came, sections)?;
-        write_row(&self.values, &self.first, &mut self.row)
+        self.write_numbers(kernel, came, sections)?;
+        write_row(&self.numbers, &self.first, &mut self.row)
     }
 
-    /// The sections in the state at a place. `AllocError` if memory runs out.
-    pub fn sections_at(&self, alloc: Global, state: u32) -> Result<Vec<Section>, AllocError>
-        ensures { IfOk result (λ sections. IfSome (slice_get self.now.held.items state)
-            (λ held. sections.items ≡ held.items)) }
+    /// Takes the numbers of a row, which is that of the state at this place and depth: what is watched there, as they
+    /// tell. `AllocError` if memory runs out.
+    pub fn examined(
+        &mut self,
+        alloc: Global,
+        subject: &SearchSubject<'_>,
+        row: &[u8],
+        state: u32,
+        depth: u32,
+    ) -> Result<ExaminedState, AllocError>
+        ensures fields { self.new.fields.items ≡ self.old.fields.items }
+        ensures outs { self.new.outs ≡ self.old.outs }
+        ensures live { self.new.live ≡ self.old.live }
+        ensures first { self.new.first.items ≡ self.old.first.items }
+        ensures state { IfOk result (λ at. at.state ≡ state) }
+        ensures few { IfOk result (λ at. AreFew subject.now.question.now at.came) }
+        ensures held { IfOk result
+            (λ at. AreHeldBy subject.now.question.now.sections.items at.sections.items) }
     {
-        match self.held.get(state as usize) {
-            Some(held) => Vec::from_slice(alloc, held),
-            None => Ok(Vec::new(alloc)),
+        unpack(row, &self.first, &mut self.numbers)?;
+        let question = subject.question;
+        let came = came_in(&self.numbers, question.interrupts.is_some());
+        let holders = behind_fields(&self.numbers, self.fields.len());
+        let sections = held_by(alloc, &question.sections, holders)?;
+        Ok(ExaminedState {
+            state,
+            depth,
+            came,
+            sections,
+        })
+    }
+
+    /// Puts a kernel into the state of which the numbers were taken last, if it can be restored: whether it was, and
+    /// can take an event. Else the kernel is left in some state. `AllocError` if memory runs out.
+    pub fn restore<'a>(
+        &mut self,
+        subject: &SearchSubject<'a>,
+        fallback: &Kernel<Vm<'a>>,
+        kernel: &mut Kernel<Vm<'a>>,
+    ) -> Result<bool, AllocError>
+        requires fallback { IsOver subject.now.image.now subject.now.n fallback.now }
+        requires kernel { IsOver subject.now.image.now subject.now.n kernel.old }
+        ensures fields { self.new.fields.items ≡ self.old.fields.items }
+        ensures outs { self.new.outs ≡ self.old.outs }
+        ensures live { self.new.live ≡ self.old.live }
+        ensures first { self.new.first.items ≡ self.old.first.items }
+        ensures over { IsOver subject.now.image.now subject.now.n kernel.new }
+        ensures restored { IfOk result (λ restored. restored ≡ true →
+            CanStep subject.now.image.now subject.now.n kernel.new) }
+    {
+        self.saved.fill(&self.fields, &self.numbers)?;
+        if !kernel.restore(fallback, self.saved.saved(), &CodeTest) {
+            return Ok(false);
         }
+        Ok(is_sound(kernel))
     }
 }

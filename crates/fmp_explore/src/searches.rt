@@ -1,17 +1,33 @@
 //! What a search keeps: the states that it has seen, and what it has noted on its way.
-ghost use Rattle.std.specs.Prelude.{◌≡◌, [], ◌∷◌, ◌++◌, IfOk, OnOk, count_by, false, true};
-ghost use Rattle.std.specs.List.{list_any};
-ghost use Rattle.fmp_schedules.specs.Deadlocks.{is_interrupt as is_request};
+ghost use Rattle.std.specs.Prelude.{◌≡◌, List, IfOk, OnOk, false, true};
+ghost use Rattle.std.specs.List.{list_all, list_any};
+ghost use Rattle.fmp_base.specs.Meanings.{World};
+ghost use Rattle.fmp_instructions.specs.Instructions.{BodyTables};
+ghost use Rattle.fmp_instructions.specs.declared.instructions.MachineContext.{MachineContext};
+ghost use Rattle.fmp_kernel.specs.KernelViews.{KernelView};
+ghost use Rattle.fmp_reachable.specs.Sound.{IsSound};
 ghost use Rattle.fmp_schedules.specs.Schedules.{is_any_met};
-ghost use Rattle.fmp_explore.specs.States.{AreFew, path_by, path_to, sections_of};
-ghost use Rattle.fmp_witness.specs.Followed.{IsFollowed};
+ghost use Rattle.fmp_explore.specs.States.{AreFew, AreHeldBy, watched_with};
+ghost use Rattle.fmp_live.specs.Fits.{is_written};
+ghost use Rattle.fmp_live.specs.LiveLocals.{AreLiveTables, live_tables};
 ghost use Rattle.fmp_question.specs.Places.{is_bad};
-ghost use Rattle.fmp_explore.specs.Searching.{HasDealt, HasKept, IsAt, IsFresh, IsNext, IsSearch, Stays};
-ghost use Rattle.fmp_witness.specs.Followed.{HasDone, HasKeptPlace, HasStepped};
+ghost use Rattle.fmp_explore.specs.Searching.{
+  HasDealt,
+  HasDone,
+  HasKept,
+  HasKeptPlace,
+  HasStepped,
+  IsFresh,
+  IsSearch,
+  Stays,
+  came_on,
+  watched_in,
+};
+ghost use Rattle.fmp_witness.specs.Followed.{IsOver};
 
 use crate::edges::Edges;
 use crate::holding::sections_after;
-use crate::notes::{Notes, Path};
+use crate::notes::{Notes, PathEnd};
 use crate::rows::Rows;
 use crate::stretching::{Ahead, NextStretch, next_stretch, task_on};
 use crate::subject::SearchSubject;
@@ -20,7 +36,7 @@ use crate::values::{Variety, varieties};
 use fmp_base::{Effect, Event, Line};
 use fmp_code::Vm;
 use fmp_kernel::Kernel;
-use fmp_question::{CallSite, Outlook, Question, may_rest, queues_within};
+use fmp_question::{CallSite, Outlook, Question, are_written, may_rest, queues_within};
 use fmp_schedules::{Section, tries_of};
 use fmp_visited::{RowEntry, Seen, StateLink};
 use fmp_witness::{Coverage, Finding, FindingKind};
@@ -37,19 +53,23 @@ pub struct Search {
     pub edges: Edges,
     /// Whether a state could not be kept, since as many are as are allowed.
     pub full: bool,
-    /// Whether nothing was found, and each event was followed and led to a state that is kept.
+    /// Whether an answer left the local at the out place of its call as it was, where it counts as written.
+    pub unwritten: bool,
+    /// Whether nothing was found, and each event was followed, led to a state that is kept, and wrote the out places
+    /// that count as written.
     pub sure: bool,
 }
 
 impl Search {
-    /// A search with no state yet. `AllocError` if memory runs out.
-    pub fn new(alloc: Global, subject: &SearchSubject<'_>) -> Result<Search, AllocError>
+    /// A search with no state yet, where the local at the out place of a call counts as written by every reply, or by
+    /// E_OK alone. `AllocError` if memory runs out.
+    pub fn new(alloc: Global, outs: bool, subject: &SearchSubject<'_>) -> Result<Search, AllocError>
         ensures { IfOk result (IsFresh subject.now.image.now subject.now.question.now) }
     {
         let sys = subject.image.system();
         let tries = tries_of(alloc, sys)?;
         let seen = Seen::new(alloc, subject.question.states)?;
-        let rows = Rows::new(alloc, subject)?;
+        let rows = Rows::new(alloc, outs, subject)?;
         Ok(Search {
             rows,
             tries,
@@ -57,6 +77,7 @@ impl Search {
             notes: Notes::new(alloc),
             edges: Edges::new(alloc, sys.tasks.len()),
             full: false,
+            unwritten: false,
             sure: true,
         })
     }
@@ -83,16 +104,21 @@ impl Search {
         alloc: Global,
         question: &Question,
         state: u32,
-    ) -> Result<Vec<Event>, AllocError>
-        ensures { IfOk result (λ steps. steps.items ≡ path_to question.now self.now.seen.links state) }
-    {
-        let path = self.seen.path(alloc, state)?;
-        if question.after.is_empty() {
-            return Ok(path);
+    ) -> Result<Vec<Event>, AllocError> {
+        let end = PathEnd {
+            after: &question.after,
+            state,
+            last: None,
+        };
+        end.among(&self.seen).events(alloc)
+    }
+
+    /// How many events lead to a state from the one in which the search began.
+    pub fn depth_of(&self, state: u32) -> u32 {
+        match self.seen.link(state) {
+            Some(link) => link.depth,
+            None => 0,
         }
-        let mut steps = Vec::from_slice(alloc, &question.after)?;
-        steps.extend_from_slice(&path)?;
-        Ok(steps)
     }
 
     /// How many events lead to the state that was reached last.
@@ -111,25 +137,22 @@ impl Search {
         subject: &SearchSubject<'_>,
         kernel: &Kernel<Vm<'_>>,
         came: usize,
-        sections: Vec<Section>,
+        sections: &[Section],
         link: StateLink,
     ) -> Result<(), AllocError>
-        requires survey { IsSearch subject.now.image.now subject.now.n subject.now.question.now self.old }
-        requires next { IsNext subject.now.image.now subject.now.n subject.now.question.now self.old.seen.links link
-            kernel.now }
-        requires came { came ≡ count_by is_request (path_by subject.now.question.now self.old.seen.links link) }
-        requires sections { sections.items ≡ sections_of subject.now.image.now subject.now.n subject.now.question.now
-            (path_by subject.now.question.now self.old.seen.links link) }
-        ensures { OnOk result (HasKept subject.now.image.now subject.now.n subject.now.question.now self.old self.new
-            (path_by subject.now.question.now self.old.seen.links link)) }
+        requires live { AreLiveTables self.old.rows.outs subject.now.image.now.code (live_tables self.old.rows.live) }
+        requires over { IsOver subject.now.image.now subject.now.n kernel.now }
+        requires sound { IsSound subject.now.image.now.system subject.now.image.now.code kernel.now.world }
+        requires few { AreFew subject.now.question.now came }
+        requires held { AreHeldBy subject.now.question.now.sections.items sections.now }
+        ensures { OnOk result (HasKept subject.now.image.now subject.now.question.now self.old self.new
+            kernel.now.world (watched_with subject.now.question.now came sections.now)) }
     {
-        subject.image.keeps_rules();
-        self.rows.write(kernel, &subject.live, came, &sections)?;
+        self.rows.write(kernel, came, sections)?;
         let entry = self.seen.add(alloc, &self.rows.row, link)?;
         self.edges.note_entry(alloc, entry);
         match entry {
             RowEntry::New(_) => {
-                self.rows.held.push(sections)?;
                 self.notes.coverage.note_state(kernel.tables());
                 Ok(())
             }
@@ -148,13 +171,14 @@ impl Search {
         &mut self,
         alloc: Global,
         lines: &[Line],
-        path: Path<'_>,
+        end: PathEnd<'_>,
         sections: &[Section],
         made: Option<CallSite>,
     ) -> Result<(), AllocError>
         ensures stays { OnOk result (Stays self.old self.new) }
         ensures clean { OnOk result (self.new.sure ≡ true → is_any_met sections.now lines.now ≡ false) }
     {
+        let path = end.among(&self.seen);
         let found = self
             .notes
             .note_meetings(alloc, lines, path, sections, made)?;
@@ -170,26 +194,38 @@ impl Search {
         kernel: &Kernel<Vm<'_>>,
         attempt: Attempt<'_>,
         kept: bool,
-        sections: Vec<Section>,
+        sections: &[Section],
     ) -> Result<(), AllocError>
-        requires survey { IsSearch subject.now.image.now subject.now.n subject.now.question.now self.old }
-        requires at { IsAt subject.now.question.now self.old.seen.links attempt.state attempt.steps.now }
-        requires followed { IsFollowed subject.now.image.now subject.now.n (attempt.steps.now ++ attempt.event ∷ [])
-            kernel.now }
-        requires few { AreFew subject.now.question.now (attempt.steps.now ++ attempt.event ∷ []) }
-        requires sections { sections.items ≡ sections_of subject.now.image.now subject.now.n subject.now.question.now
-            (attempt.steps.now ++ attempt.event ∷ []) }
-        ensures { OnOk result (HasKept subject.now.image.now subject.now.n subject.now.question.now self.old self.new
-            (attempt.entry.steps.now ++ attempt.entry.event ∷ [])) }
+        requires live { AreLiveTables self.old.rows.outs subject.now.image.now.code (live_tables self.old.rows.live) }
+        requires over { IsOver subject.now.image.now subject.now.n kernel.now }
+        requires sound { IsSound subject.now.image.now.system subject.now.image.now.code kernel.now.world }
+        requires before { AreFew subject.now.question.now attempt.at.now.came }
+        requires few { AreFew subject.now.question.now
+            (came_on subject.now.question.now.interrupts attempt.at.now.came attempt.event) }
+        requires held { AreHeldBy subject.now.question.now.sections.items sections.now }
+        ensures { OnOk result (HasKept subject.now.image.now subject.now.question.now self.old self.new
+            kernel.now.world (watched_with subject.now.question.now
+            (came_on subject.now.question.now.interrupts attempt.entry.at.now.came attempt.entry.event)
+            sections.now)) }
     {
         self.keep(
             alloc,
             subject,
             kernel,
-            attempt.interrupts(),
+            attempt.came(subject.question),
             sections,
-            attempt.link(kept, subject.question.after.len()),
+            attempt.link(kept),
         )
+    }
+
+    /// Whether a reply that an event told left the local at the out place of its call as it was, where that counts as
+    /// written.
+    fn leaves_place(&self, subject: &SearchSubject<'_>, kernel: &Kernel<Vm<'_>>) -> bool
+        ensures { result ≡ false → self.now.rows.outs ≡ true → list_all (is_written
+            subject.now.image.now.system subject.now.image.now.code kernel.now.world) kernel.now.lines ≡ true }
+    {
+        let image = subject.image;
+        self.rows.outs && !are_written(kernel, image.system(), image.code())
     }
 
     /// Notes the lines of an event that is done, by a stretch that made this call, if it made one, and that found these
@@ -208,16 +244,21 @@ impl Search {
             list_any (is_bad subject.now.image.now.system subject.now.question.now kernel.now.world) kernel.now.lines
             ≡ false) }
         ensures alone { OnOk result (self.new.sure ≡ true → is_any_met sections.now kernel.now.lines ≡ false) }
+        ensures written { OnOk result (self.new.sure ≡ true → self.new.rows.outs ≡ true → list_all (is_written
+            subject.now.image.now.system subject.now.image.now.code kernel.now.world) kernel.now.lines ≡ true) }
     {
+        let left = self.leaves_place(subject, kernel);
+        self.unwritten |= left;
+        self.sure &= !left;
         if let Some(site) = made {
             self.notes.coverage.note_call(site);
         }
         self.edges.note_lines(kernel.lines());
-        let found = self
-            .notes
-            .note_lines(alloc, subject, kernel, attempt.path(), made)?;
+        let end = attempt.end(subject.question);
+        let path = end.among(&self.seen);
+        let found = self.notes.note_lines(alloc, subject, kernel, path, made)?;
         self.sure &= !found;
-        self.note_meetings(alloc, kernel.lines(), attempt.path(), sections, made)
+        self.note_meetings(alloc, kernel.lines(), end, sections, made)
     }
 
     /// An event is done, by a stretch that made this call, if it made one.
@@ -229,17 +270,22 @@ impl Search {
         attempt: Attempt<'_>,
         made: Option<CallSite>,
     ) -> Result<(), AllocError>
-        requires survey { IsSearch subject.now.image.now subject.now.n subject.now.question.now self.old }
-        requires at { IsAt subject.now.question.now self.old.seen.links attempt.state attempt.steps.now }
-        requires few { AreFew subject.now.question.now (attempt.steps.now ++ attempt.event ∷ []) }
-        requires done { HasDone subject.now.image.now subject.now.n attempt.steps.now attempt.event kernel.now }
-        ensures { OnOk result (HasDealt subject.now.image.now subject.now.n subject.now.question.now self.old self.new
-            attempt.entry.steps.now attempt.entry.event) }
+        requires survey { IsSearch subject.now.image.now subject.now.question.now self.old }
+        requires over { IsOver subject.now.image.now subject.now.n kernel.now }
+        requires sound { IsSound subject.now.image.now.system subject.now.image.now.code kernel.now.world }
+        requires before { AreFew subject.now.question.now attempt.at.now.came }
+        requires few { AreFew subject.now.question.now
+            (came_on subject.now.question.now.interrupts attempt.at.now.came attempt.event) }
+        requires held { AreHeldBy subject.now.question.now.sections.items attempt.at.now.sections.items }
+        ensures { (w : World MachineContext) →
+            HasDone subject.now.image.now subject.now.n w attempt.entry.event kernel.now →
+            OnOk result (HasDealt subject.now.image.now subject.now.n subject.now.question.now self.old self.new w
+            (watched_in subject.now.question.now attempt.entry.at.now) attempt.entry.event) }
     {
-        let before = self.rows.sections_at(alloc, attempt.state)?;
-        self.note_lines(alloc, subject, kernel, attempt, made, &before)?;
-        let sections = sections_after(alloc, &before, kernel.lines())?;
-        self.keep_next(alloc, subject, kernel, attempt, false, sections)
+        let before = &attempt.at.sections;
+        self.note_lines(alloc, subject, kernel, attempt, made, before)?;
+        let sections = sections_after(alloc, before, kernel.lines())?;
+        self.keep_next(alloc, subject, kernel, attempt, false, &sections)
     }
 
     /// An event is done, by a stretch that made this call, if it made one. If it leaves more queued than may be, it may
@@ -252,12 +298,17 @@ impl Search {
         attempt: Attempt<'_>,
         made: Option<CallSite>,
     ) -> Result<(), AllocError>
-        requires survey { IsSearch subject.now.image.now subject.now.n subject.now.question.now self.old }
-        requires at { IsAt subject.now.question.now self.old.seen.links attempt.state attempt.steps.now }
-        requires few { AreFew subject.now.question.now (attempt.steps.now ++ attempt.event ∷ []) }
-        requires done { HasDone subject.now.image.now subject.now.n attempt.steps.now attempt.event kernel.now }
-        ensures { OnOk result (HasDealt subject.now.image.now subject.now.n subject.now.question.now self.old self.new
-            attempt.entry.steps.now attempt.entry.event) }
+        requires survey { IsSearch subject.now.image.now subject.now.question.now self.old }
+        requires over { IsOver subject.now.image.now subject.now.n kernel.now }
+        requires sound { IsSound subject.now.image.now.system subject.now.image.now.code kernel.now.world }
+        requires before { AreFew subject.now.question.now attempt.at.now.came }
+        requires few { AreFew subject.now.question.now
+            (came_on subject.now.question.now.interrupts attempt.at.now.came attempt.event) }
+        requires held { AreHeldBy subject.now.question.now.sections.items attempt.at.now.sections.items }
+        ensures { (w : World MachineContext) →
+            HasDone subject.now.image.now subject.now.n w attempt.entry.event kernel.now →
+            OnOk result (HasDealt subject.now.image.now subject.now.n subject.now.question.now self.old self.new w
+            (watched_in subject.now.question.now attempt.entry.at.now) attempt.entry.event) }
     {
         if !queues_within(kernel, subject.question) {
             self.edges.note_end(alloc);
@@ -270,7 +321,7 @@ impl Search {
     fn note_endless(
         &mut self,
         alloc: Global,
-        attempt: Attempt<'_>,
+        end: PathEnd<'_>,
         p: u8,
         task: Option<u8>,
         body: Option<CallSite>,
@@ -280,10 +331,7 @@ impl Search {
         if let Some(t) = task {
             self.edges.note_act(t);
         }
-        let path = Path {
-            steps: attempt.steps,
-            last: None,
-        };
+        let path = end.among(&self.seen);
         self.notes
             .note_kind(alloc, path, FindingKind::Endless(p), body)
     }
@@ -310,7 +358,7 @@ impl Search {
         }
         let seen = self.notes.outlooks.on(kernel, &subject.image.vm(), p)?;
         if seen == Outlook::Endless {
-            self.note_endless(alloc, attempt, p, task, body)?;
+            self.note_endless(alloc, attempt.at.end(subject.question), p, task, body)?;
         }
         Ok(Some(seen))
     }
@@ -364,16 +412,20 @@ impl Search {
         attempt: Attempt<'_>,
         outlook: Option<Outlook>,
     ) -> Result<(), AllocError>
-        requires survey { IsSearch subject.now.image.now subject.now.n subject.now.question.now self.old }
-        requires at { IsAt subject.now.question.now self.old.seen.links attempt.state attempt.steps.now }
-        requires few { AreFew subject.now.question.now (attempt.steps.now ++ attempt.event ∷ []) }
-        requires kept { HasKeptPlace subject.now.image.now subject.now.n attempt.steps.now attempt.event kernel.now }
-        ensures { OnOk result (HasDealt subject.now.image.now subject.now.n subject.now.question.now self.old self.new
-            attempt.entry.steps.now attempt.entry.event) }
+        requires survey { IsSearch subject.now.image.now subject.now.question.now self.old }
+        requires over { IsOver subject.now.image.now subject.now.n kernel.now }
+        requires sound { IsSound subject.now.image.now.system subject.now.image.now.code kernel.now.world }
+        requires before { AreFew subject.now.question.now attempt.at.now.came }
+        requires few { AreFew subject.now.question.now
+            (came_on subject.now.question.now.interrupts attempt.at.now.came attempt.event) }
+        requires held { AreHeldBy subject.now.question.now.sections.items attempt.at.now.sections.items }
+        ensures { (w : World MachineContext) →
+            HasKeptPlace subject.now.image.now subject.now.n w attempt.entry.event kernel.now →
+            OnOk result (HasDealt subject.now.image.now subject.now.n subject.now.question.now self.old self.new w
+            (watched_in subject.now.question.now attempt.entry.at.now) attempt.entry.event) }
     {
         self.note_place(kernel, attempt.event, outlook)?;
-        let sections = self.rows.sections_at(alloc, attempt.state)?;
-        self.keep_next(alloc, subject, kernel, attempt, true, sections)
+        self.keep_next(alloc, subject, kernel, attempt, true, &attempt.at.sections)
     }
 
     /// Notes what an event did, which did this, and of whose stretch this was known before.
@@ -386,14 +438,19 @@ impl Search {
         effect: Effect,
         ahead: Ahead,
     ) -> Result<(), AllocError>
-        requires survey { IsSearch subject.now.image.now subject.now.n subject.now.question.now self.old }
-        requires at { IsAt subject.now.question.now self.old.seen.links attempt.state attempt.steps.now }
-        requires few { AreFew subject.now.question.now (attempt.steps.now ++ attempt.event ∷ []) }
-        requires stepped { HasStepped subject.now.image.now subject.now.n attempt.steps.now attempt.event kernel.now
-            effect }
-        ensures { OnOk result (HasDealt subject.now.image.now subject.now.n subject.now.question.now self.old self.new
-            attempt.entry.steps.now attempt.entry.event) }
+        requires survey { IsSearch subject.now.image.now subject.now.question.now self.old }
+        requires over { IsOver subject.now.image.now subject.now.n kernel.now }
+        requires sound { IsSound subject.now.image.now.system subject.now.image.now.code kernel.now.world }
+        requires before { AreFew subject.now.question.now attempt.at.now.came }
+        requires few { AreFew subject.now.question.now
+            (came_on subject.now.question.now.interrupts attempt.at.now.came attempt.event) }
+        requires held { AreHeldBy subject.now.question.now.sections.items attempt.at.now.sections.items }
+        ensures { (before : KernelView (List BodyTables) MachineContext) →
+            HasStepped subject.now.image.now subject.now.n before attempt.entry.event kernel.now effect →
+            OnOk result (HasDealt subject.now.image.now subject.now.n subject.now.question.now self.old self.new
+            before.world (watched_in subject.now.question.now attempt.entry.at.now) attempt.entry.event) }
     {
+        subject.image.keeps_rules();
         match effect {
             Effect::Nothing => Ok(()),
             Effect::Done => self.note_done_within(alloc, subject, kernel, attempt, ahead.made),

@@ -1,38 +1,40 @@
-//! The search: breadth first over the states of a system, each reached again from the kernels kept along the last path.
-ghost use Rattle.std.specs.Prelude.{◌≡◌, ◌≢◌, ◌+◌, ◌<◌, ◌≤◌, [], ◌∷◌, ◌++◌, IfNone, IfOk, IfSome, IsTrue, OnOk, false, length, true};
+//! The search: breadth first over the states of a system, each restored from its row.
+ghost use Rattle.std.specs.Prelude.{◌≡◌, ◌≢◌, ◌+◌, ◌<◌, IfOk, IfSome, IsTrue, OnOk, false, is_some, length, true};
 ghost use Rattle.fmp_base.specs.Steps.{Nothing};
-ghost use Rattle.fmp_replay.specs.Replays.{kernel_after, reaction};
-ghost use Rattle.fmp_witness.specs.Followed.{IsFollowed};
-ghost use Rattle.fmp_witness.specs.Checkpoints.{AreCheckpoints, IsOver};
+ghost use Rattle.fmp_base.specs.Meanings.{World};
+ghost use Rattle.fmp_instructions.specs.declared.instructions.MachineContext.{MachineContext};
+ghost use Rattle.fmp_witness.specs.Followed.{IsOver};
 ghost use Rattle.fmp_explore.specs.Searching.{
   AreMarks,
+  CanStep,
   Grows,
   HasDealt,
   HasEnded,
   HasExamined,
   HasLooked,
   HasTried,
-  IsAt,
+  HasTriedOut,
   IsBegun,
   IsSearch,
   IsTrying,
   MayRequest,
+  came_on,
+  watched_in,
 };
-ghost use Rattle.fmp_explore.specs.States.{AreFew, MayCome, path_to};
+ghost use Rattle.fmp_explore.specs.States.{AreFew, AreHeldBy, MayCome, counted, reaction_in};
+ghost use Rattle.fmp_schedules.specs.Schedules.{may_still};
 ghost use Rattle.fmp_schedules.specs.Tries.{all_tries};
 
-use crate::notes::Path;
 use crate::searches::Search;
 use crate::stretching::{Ahead, task_sites};
 use crate::subject::SearchSubject;
-use crate::trying::{Attempt, DEEPEST, StateMarks};
+use crate::trying::{Attempt, ExaminedState, StateMarks};
 use fmp_base::{Effect, Event};
 use fmp_code::Vm;
 use fmp_kernel::Kernel;
 use fmp_question::{Question, Ticks, stands_still};
 use fmp_replay::kernel_of;
-use fmp_visited::StateLink;
-use fmp_witness::{Checkpoints, FindingKind};
+use fmp_witness::FindingKind;
 use std::alloc::{AllocError, Global};
 
 /// How many states there are when it is told first how far the search has come.
@@ -53,28 +55,48 @@ pub enum Ending {
     Enough,
     /// As many states were kept as are allowed.
     States,
-    /// A state is as deep as the search goes.
-    Depth,
     /// There was no more memory.
     Memory,
 }
 
+/// Whether one more interrupt may come where this many came.
+fn may_interrupt(question: &Question, came: usize) -> bool
+    ensures may { result ≡ may_still question.now.interrupts (counted question.now.interrupts came) }
+    ensures few { IsTrue result → is_some question.now.interrupts ≡ true → came < 255 }
+{
+    match question.interrupts {
+        Some(most) => came < usize::from(most),
+        None => true,
+    }
+}
+
+/// Whether the clock may advance in a state where this was done.
+fn may_tick(question: &Question, marks: StateMarks) -> bool
+    ensures ticks { result ≡ false → question.now.ticks ≢ Ticks.Any }
+    ensures marks { result ≡ false → marks.idle ≡ false }
+{
+    match question.ticks {
+        Ticks::Any => true,
+        Ticks::Idle => marks.idle,
+    }
+}
+
 /// Whether an event may be tried in a state where this was done.
-fn may_try(subject: &SearchSubject<'_>, steps: &[Event], marks: StateMarks, event: Event) -> bool
-    requires marks { AreMarks subject.now.image.now subject.now.n subject.now.question.now steps.now marks }
-    requires few { AreFew subject.now.question.now steps.now }
-    ensures few { IsTrue result → AreFew subject.now.question.now (steps.now ++ event ∷ []) }
-    ensures no { result ≡ false → MayCome subject.now.image.now subject.now.n subject.now.question.now steps.now event
-        → ⊥ }
-    ensures request { result ≡ true → MayRequest subject.now.question.now steps.now event }
+fn may_try(subject: &SearchSubject<'_>, at: &ExaminedState, marks: StateMarks, event: Event) -> bool
+    requires few { AreFew subject.now.question.now at.now.came }
+    ensures few { IsTrue result →
+        AreFew subject.now.question.now (came_on subject.now.question.now.interrupts at.now.came event) }
+    ensures no { (w : World MachineContext) → result ≡ false → AreMarks subject.now.image.now subject.now.n
+        subject.now.question.now w (watched_in subject.now.question.now at.now) marks →
+        MayCome subject.now.image.now subject.now.n subject.now.question.now w
+        (watched_in subject.now.question.now at.now) event → ⊥ }
+    ensures request { result ≡ true →
+        MayRequest subject.now.question.now (watched_in subject.now.question.now at.now) event }
 {
     match event {
         Event::Run(_) => true,
-        Event::Tick => match subject.question.ticks {
-            Ticks::Any => true,
-            Ticks::Idle => marks.idle,
-        },
-        Event::Int(_) => subject.question.may_interrupt(steps),
+        Event::Tick => may_tick(subject.question, marks),
+        Event::Int(_) => may_interrupt(subject.question, at.came),
     }
 }
 
@@ -89,16 +111,9 @@ fn has_done(effect: Effect) -> bool
     }
 }
 
-/// How many events lead to the state of a link, with those behind which the search began.
-fn depth_of(question: &Question, link: StateLink) -> usize
-    ensures { result < 1048575 → length question.now.after.items + link.depth < 1048575 }
-{
-    question.after.len().saturating_add(link.depth as usize)
-}
-
 impl Search {
     /// Tries an event on a kernel in its state, where this is known of its stretch: whether it does something.
-    #[tactic(auto, using(crate::proofs::OverLemmas::over_step))]
+    #[tactic(auto, using(crate::proofs::KernelLemmas::step_over))]
     fn attempt_ahead<'a>(
         &mut self,
         alloc: Global,
@@ -107,23 +122,28 @@ impl Search {
         attempt: Attempt<'_>,
         ahead: Ahead,
     ) -> Result<bool, AllocError>
-        requires survey { IsSearch subject.now.image.now subject.now.n subject.now.question.now self.old }
-        requires at { IsAt subject.now.question.now self.old.seen.links attempt.state attempt.steps.now }
-        requires few { AreFew subject.now.question.now (attempt.steps.now ++ attempt.event ∷ []) }
-        requires followed { IsFollowed subject.now.image.now subject.now.n attempt.steps.now kernel.old }
+        requires survey { IsSearch subject.now.image.now subject.now.question.now self.old }
+        requires ready { CanStep subject.now.image.now subject.now.n kernel.old }
+        requires before { AreFew subject.now.question.now attempt.at.now.came }
+        requires few { AreFew subject.now.question.now
+            (came_on subject.now.question.now.interrupts attempt.at.now.came attempt.event) }
+        requires held { AreHeldBy subject.now.question.now.sections.items attempt.at.now.sections.items }
         ensures dealt { OnOk result (HasDealt subject.now.image.now subject.now.n subject.now.question.now self.old
-            self.new attempt.entry.steps.now attempt.entry.event) }
+            self.new kernel.old.world (watched_in subject.now.question.now attempt.entry.at.now)
+            attempt.entry.event) }
         ensures still { IfOk result (λ did. did ≡ false → kernel.new ≡ kernel.old) }
         ensures does { IfOk result (λ did. did ≡ true →
-            reaction subject.now.image.now subject.now.n attempt.entry.steps.now attempt.entry.event ≢ Nothing) }
+            reaction_in subject.now.image.now subject.now.n kernel.old.world attempt.entry.event ≢ Nothing) }
         ensures over { IsOver subject.now.image.now subject.now.n kernel.new }
     {
+        subject.image.keeps_rules();
         let effect = kernel.step(attempt.event);
         self.note_effect(alloc, subject, kernel, attempt, effect, ahead)?;
         Ok(has_done(effect))
     }
 
     /// The same, where nothing is known yet of its stretch.
+    #[tactic(auto, using(crate::proofs::KernelLemmas::ready_over))]
     fn attempt<'a>(
         &mut self,
         alloc: Global,
@@ -131,15 +151,18 @@ impl Search {
         kernel: &mut Kernel<Vm<'a>>,
         attempt: Attempt<'_>,
     ) -> Result<bool, AllocError>
-        requires survey { IsSearch subject.now.image.now subject.now.n subject.now.question.now self.old }
-        requires at { IsAt subject.now.question.now self.old.seen.links attempt.state attempt.steps.now }
-        requires few { AreFew subject.now.question.now (attempt.steps.now ++ attempt.event ∷ []) }
-        requires followed { IsFollowed subject.now.image.now subject.now.n attempt.steps.now kernel.old }
+        requires survey { IsSearch subject.now.image.now subject.now.question.now self.old }
+        requires ready { CanStep subject.now.image.now subject.now.n kernel.old }
+        requires before { AreFew subject.now.question.now attempt.at.now.came }
+        requires few { AreFew subject.now.question.now
+            (came_on subject.now.question.now.interrupts attempt.at.now.came attempt.event) }
+        requires held { AreHeldBy subject.now.question.now.sections.items attempt.at.now.sections.items }
         ensures dealt { OnOk result (HasDealt subject.now.image.now subject.now.n subject.now.question.now self.old
-            self.new attempt.entry.steps.now attempt.entry.event) }
+            self.new kernel.old.world (watched_in subject.now.question.now attempt.entry.at.now)
+            attempt.entry.event) }
         ensures still { IfOk result (λ did. did ≡ false → kernel.new ≡ kernel.old) }
         ensures does { IfOk result (λ did. did ≡ true →
-            reaction subject.now.image.now subject.now.n attempt.entry.steps.now attempt.entry.event ≢ Nothing) }
+            reaction_in subject.now.image.now subject.now.n kernel.old.world attempt.entry.event ≢ Nothing) }
         ensures over { IsOver subject.now.image.now subject.now.n kernel.new }
     {
         let ahead = self.note_ahead(alloc, subject, kernel, attempt)?;
@@ -147,36 +170,33 @@ impl Search {
     }
 
     /// Tries the event at a place of those that are tried, if it may come now: whether it does something.
-    #[tactic(auto, using(crate::proofs::OverLemmas::over_after))]
+    #[tactic(auto, using(crate::proofs::KernelLemmas::ready_over))]
     fn try_at<'a>(
         &mut self,
         alloc: Global,
         subject: &SearchSubject<'a>,
         kernel: &mut Kernel<Vm<'a>>,
-        state: u32,
-        steps: &[Event],
+        at: &ExaminedState,
         marks: &mut StateMarks,
         place: usize,
     ) -> Result<bool, AllocError>
         requires place { place < length self.old.tries.items }
-        requires trying { IsTrying subject.now.image.now subject.now.n subject.now.question.now state steps.now
-            marks.old place self.old }
-        requires followed { IsFollowed subject.now.image.now subject.now.n steps.now kernel.old }
-        ensures trying { OnOk result (IsTrying subject.now.image.now subject.now.n subject.now.question.now state
-            steps.now marks.new (place + 1) self.new) }
+        requires ready { CanStep subject.now.image.now subject.now.n kernel.old }
+        requires few { AreFew subject.now.question.now at.now.came }
+        requires held { AreHeldBy subject.now.question.now.sections.items at.now.sections.items }
+        requires trying { IsTrying subject.now.image.now subject.now.n subject.now.question.now kernel.old.world
+            (watched_in subject.now.question.now at.now) marks.old place self.old }
+        ensures trying { OnOk result (IsTrying subject.now.image.now subject.now.n subject.now.question.now
+            kernel.old.world (watched_in subject.now.question.now at.now) marks.new (place + 1) self.new) }
         ensures grows { OnOk result (Grows self.old self.new) }
         ensures still { IfOk result (λ did. did ≡ false → kernel.new ≡ kernel.old) }
         ensures over { IsOver subject.now.image.now subject.now.n kernel.new }
     {
         let event = self.tries[place];
-        if !may_try(subject, steps, *marks, event) {
+        if !may_try(subject, at, *marks, event) {
             return Ok(false);
         }
-        let attempt = Attempt {
-            state,
-            steps,
-            event,
-        };
+        let attempt = Attempt { at, event };
         if !self.attempt(alloc, subject, kernel, attempt)? {
             return Ok(false);
         }
@@ -186,31 +206,32 @@ impl Search {
         Ok(true)
     }
 
-    /// Tries the events from this place on, in the state of a kernel to which these steps led, until one does
-    /// something. Gives the place behind it, or behind the last.
-    #[tactic(auto, using(crate::proofs::OverLemmas::over_after))]
+    /// Tries the events from this place on, on a kernel in the state that is examined, until one does something. Gives
+    /// the place behind it, or behind the last.
+    #[tactic(auto, using(crate::proofs::KernelLemmas::ready_over))]
     fn try_from<'a>(
         &mut self,
         alloc: Global,
         subject: &SearchSubject<'a>,
         kernel: &mut Kernel<Vm<'a>>,
-        state: u32,
-        steps: &[Event],
+        at: &ExaminedState,
         marks: &mut StateMarks,
         first: usize,
     ) -> Result<usize, AllocError>
         requires first { first < length self.old.tries.items }
-        requires trying { IsTrying subject.now.image.now subject.now.n subject.now.question.now state steps.now
-            marks.old first self.old }
-        requires followed { IsFollowed subject.now.image.now subject.now.n steps.now kernel.old }
-        ensures tried { IfOk result (HasTried subject.now.image.now subject.now.n subject.now.question.now state
-            steps.now marks.new self.old self.new) }
+        requires ready { CanStep subject.now.image.now subject.now.n kernel.old }
+        requires few { AreFew subject.now.question.now at.now.came }
+        requires held { AreHeldBy subject.now.question.now.sections.items at.now.sections.items }
+        requires trying { IsTrying subject.now.image.now subject.now.n subject.now.question.now kernel.old.world
+            (watched_in subject.now.question.now at.now) marks.old first self.old }
+        ensures tried { IfOk result (HasTried subject.now.image.now subject.now.n subject.now.question.now
+            kernel.old.world (watched_in subject.now.question.now at.now) marks.new self.old self.new) }
         ensures above { IfOk result (λ next. first < next) }
         ensures over { IsOver subject.now.image.now subject.now.n kernel.new }
     {
         let end = self.tries.len();
         for place in first..end {
-            if self.try_at(alloc, subject, kernel, state, steps, marks, place)? {
+            if self.try_at(alloc, subject, kernel, at, marks, place)? {
                 return Ok(place + 1);
             }
         }
@@ -224,41 +245,43 @@ impl Search {
         subject: &SearchSubject<'a>,
         from: &Kernel<Vm<'a>>,
         kernel: &mut Kernel<Vm<'a>>,
-        state: u32,
-        steps: &[Event],
+        at: &ExaminedState,
         marks: &mut StateMarks,
         first: usize,
     ) -> Result<usize, AllocError>
         requires first { first < length self.old.tries.items }
-        requires trying { IsTrying subject.now.image.now subject.now.n subject.now.question.now state steps.now
-            marks.old first self.old }
-        requires followed { IsFollowed subject.now.image.now subject.now.n steps.now from.now }
+        requires ready { CanStep subject.now.image.now subject.now.n from.now }
+        requires few { AreFew subject.now.question.now at.now.came }
+        requires held { AreHeldBy subject.now.question.now.sections.items at.now.sections.items }
+        requires trying { IsTrying subject.now.image.now subject.now.n subject.now.question.now from.now.world
+            (watched_in subject.now.question.now at.now) marks.old first self.old }
         requires over { IsOver subject.now.image.now subject.now.n kernel.old }
-        ensures tried { IfOk result (HasTried subject.now.image.now subject.now.n subject.now.question.now state
-            steps.now marks.new self.old self.new) }
+        ensures tried { IfOk result (HasTried subject.now.image.now subject.now.n subject.now.question.now
+            from.now.world (watched_in subject.now.question.now at.now) marks.new self.old self.new) }
         ensures above { IfOk result (λ next. first < next) }
         ensures over { IsOver subject.now.image.now subject.now.n kernel.new }
     {
         kernel.put_back(from);
-        self.try_from(alloc, subject, kernel, state, steps, marks, first)
+        self.try_from(alloc, subject, kernel, at, marks, first)
     }
 
-    /// Tries each event in the state to which these steps lead, in which `from` is: what was done there.
+    /// Tries each event in the state that is examined, in which `from` is: what was done there.
     fn try_all<'a>(
         &mut self,
         alloc: Global,
         subject: &SearchSubject<'a>,
         from: &Kernel<Vm<'a>>,
         kernel: &mut Kernel<Vm<'a>>,
-        state: u32,
-        steps: &[Event],
+        at: &ExaminedState,
     ) -> Result<StateMarks, AllocError>
-        requires survey { IsSearch subject.now.image.now subject.now.n subject.now.question.now self.old }
-        requires at { IsAt subject.now.question.now self.old.seen.links state steps.now }
-        requires followed { IsFollowed subject.now.image.now subject.now.n steps.now from.now }
+        requires survey { IsSearch subject.now.image.now subject.now.question.now self.old }
+        requires ready { CanStep subject.now.image.now subject.now.n from.now }
+        requires few { AreFew subject.now.question.now at.now.came }
+        requires held { AreHeldBy subject.now.question.now.sections.items at.now.sections.items }
         requires over { IsOver subject.now.image.now subject.now.n kernel.old }
         ensures tried { IfOk result (λ marks. HasTried subject.now.image.now subject.now.n subject.now.question.now
-            state steps.now marks self.old self.new (length (all_tries subject.now.image.now.system))) }
+            from.now.world (watched_in subject.now.question.now at.now) marks self.old self.new
+            (length (all_tries subject.now.image.now.system))) }
         ensures over { IsOver subject.now.image.now subject.now.n kernel.new }
     {
         let mut marks = StateMarks {
@@ -273,7 +296,7 @@ impl Search {
             if next >= end {
                 return Ok(marks);
             }
-            next = self.try_on(alloc, subject, from, kernel, state, steps, &mut marks, next)?;
+            next = self.try_on(alloc, subject, from, kernel, at, &mut marks, next)?;
         }
         Ok(marks)
     }
@@ -285,13 +308,14 @@ impl Search {
         alloc: Global,
         subject: &SearchSubject<'_>,
         kernel: &Kernel<Vm<'_>>,
-        steps: &[Event],
+        at: &ExaminedState,
         marks: StateMarks,
     ) -> Result<(), AllocError>
-        requires followed { IsFollowed subject.now.image.now subject.now.n steps.now kernel.now }
-        requires marks { AreMarks subject.now.image.now subject.now.n subject.now.question.now steps.now marks }
+        requires over { IsOver subject.now.image.now subject.now.n kernel.now }
+        requires marks { AreMarks subject.now.image.now subject.now.n subject.now.question.now kernel.now.world
+            (watched_in subject.now.question.now at.now) marks }
         ensures { OnOk result (HasLooked subject.now.image.now subject.now.n subject.now.question.now self.old
-            self.new steps.now) }
+            self.new kernel.now.world (watched_in subject.now.question.now at.now)) }
     {
         if !stands_still(kernel, subject.question) {
             return Ok(());
@@ -302,95 +326,96 @@ impl Search {
         }
         self.sure = false;
         self.edges.note_end(alloc);
-        let path = Path { steps, last: None };
+        let path = at.end(subject.question).among(&self.seen);
         self.notes
             .note_kind(alloc, path, FindingKind::Deadlock, None)
     }
 
-    /// Looks whether the state to which these steps lead, in which this was done, is a deadlock.
+    /// Looks whether the state that is examined, in which this was done, is a deadlock.
     fn look_if_idle(
         &mut self,
         alloc: Global,
         subject: &SearchSubject<'_>,
         kernel: &Kernel<Vm<'_>>,
-        steps: &[Event],
+        at: &ExaminedState,
         marks: StateMarks,
     ) -> Result<(), AllocError>
-        requires followed { IsFollowed subject.now.image.now subject.now.n steps.now kernel.now }
-        requires marks { AreMarks subject.now.image.now subject.now.n subject.now.question.now steps.now marks }
+        requires over { IsOver subject.now.image.now subject.now.n kernel.now }
+        requires marks { AreMarks subject.now.image.now subject.now.n subject.now.question.now kernel.now.world
+            (watched_in subject.now.question.now at.now) marks }
         ensures { OnOk result (HasLooked subject.now.image.now subject.now.n subject.now.question.now self.old
-            self.new steps.now) }
+            self.new kernel.now.world (watched_in subject.now.question.now at.now)) }
     {
         if marks.idle {
-            self.look(alloc, subject, kernel, steps, marks)
+            self.look(alloc, subject, kernel, at, marks)
         } else {
             Ok(())
         }
     }
 
-    /// Examines the state to which these steps lead: tries each event in it, and looks whether it is a deadlock.
+    /// Examines a state, in which `from` is: tries each event in it, and looks whether it is a deadlock.
     fn examine_on<'a>(
         &mut self,
         alloc: Global,
         subject: &SearchSubject<'a>,
         from: &Kernel<Vm<'a>>,
         kernel: &mut Kernel<Vm<'a>>,
-        state: u32,
-        steps: &[Event],
+        at: &ExaminedState,
     ) -> Result<(), AllocError>
-        requires survey { IsSearch subject.now.image.now subject.now.n subject.now.question.now self.old }
-        requires at { IsAt subject.now.question.now self.old.seen.links state steps.now }
-        requires followed { IsFollowed subject.now.image.now subject.now.n steps.now from.now }
+        requires survey { IsSearch subject.now.image.now subject.now.question.now self.old }
+        requires ready { CanStep subject.now.image.now subject.now.n from.now }
+        requires few { AreFew subject.now.question.now at.now.came }
+        requires held { AreHeldBy subject.now.question.now.sections.items at.now.sections.items }
         requires over { IsOver subject.now.image.now subject.now.n kernel.old }
-        ensures examined { OnOk result (HasExamined subject.now.image.now subject.now.n subject.now.question.now
-            self.old self.new steps.now) }
+        ensures tried { OnOk result (HasTriedOut subject.now.image.now subject.now.n subject.now.question.now
+            self.old self.new from.now.world (watched_in subject.now.question.now at.now)) }
         ensures over { IsOver subject.now.image.now subject.now.n kernel.new }
     {
         subject.image.keeps_rules();
-        let marks = self.try_all(alloc, subject, from, kernel, state, steps)?;
-        self.look_if_idle(alloc, subject, from, steps, marks)
+        let marks = self.try_all(alloc, subject, from, kernel, at)?;
+        self.look_if_idle(alloc, subject, from, at, marks)
     }
 
-    /// Examines a state, with the kernels of checkpoints and one on which events are tried.
+    /// Examines the state at a place, with a kernel that is put into the state and one on which events are tried.
     fn examine<'a>(
         &mut self,
         alloc: Global,
         subject: &SearchSubject<'a>,
-        checkpoints: &mut Checkpoints<'a>,
+        top: &mut Kernel<Vm<'a>>,
         work: &mut Kernel<Vm<'a>>,
         state: u32,
     ) -> Result<(), AllocError>
-        requires survey { IsSearch subject.now.image.now subject.now.n subject.now.question.now self.old }
-        requires at { IsAt subject.now.question.now self.old.seen.links state
-            (path_to subject.now.question.now self.old.seen.links state) }
-        requires checkpoints { AreCheckpoints subject.now.image.now subject.now.n checkpoints.old }
+        requires survey { IsSearch subject.now.image.now subject.now.question.now self.old }
+        requires there { state < length self.old.seen.rows }
+        requires top { IsOver subject.now.image.now subject.now.n top.old }
         requires work { IsOver subject.now.image.now subject.now.n work.old }
         ensures examined { OnOk result (HasExamined subject.now.image.now subject.now.n subject.now.question.now
-            self.old self.new (path_to subject.now.question.now self.old.seen.links state)) }
-        ensures checkpoints { OnOk result (AreCheckpoints subject.now.image.now subject.now.n checkpoints.new) }
+            self.old self.new state) }
+        ensures top { IsOver subject.now.image.now subject.now.n top.new }
         ensures work { IsOver subject.now.image.now subject.now.n work.new }
     {
-        let steps = self.steps_to(alloc, subject.question, state)?;
-        if !checkpoints.reach(alloc, subject.image, subject.n, &steps)? {
+        let at = self.examined(alloc, subject, state)?;
+        if !self.stand_at(alloc, subject, work, top, &at)? {
             self.sure = false;
             self.edges.give_up(alloc);
             return Ok(());
         }
-        self.examine_on(alloc, subject, &checkpoints.top, work, state, &steps)
+        self.examine_on(alloc, subject, top, work, &at)
     }
 
     /// Why the search ends before the state at a place, if it does.
-    fn ending_before(&self, subject: &SearchSubject<'_>, link: StateLink) -> Option<Ending>
-        ensures ends { IfSome result (λ ending. ending ≢ Ending.Whole) }
-        ensures goes_on { IfNone result (length subject.now.question.now.after.items + link.depth < 1048575) }
+    fn ending_before(&self, subject: &SearchSubject<'_>, state: u32) -> Option<Ending>
+        ensures { IfSome result (λ ending. ending ≢ Ending.Whole) }
     {
-        let depth = depth_of(subject.question, link);
-        if !subject.question.all && self.notes.has_within(depth) {
+        let depth = subject
+            .question
+            .after
+            .len()
+            .saturating_add(self.depth_of(state) as usize);
+        if self.unwritten || !subject.question.all && self.notes.has_within(depth) {
             Some(Ending::Enough)
         } else if self.full {
             Some(Ending::States)
-        } else if depth >= DEEPEST as usize {
-            Some(Ending::Depth)
         } else {
             None
         }
@@ -415,30 +440,30 @@ impl Search {
         self.seen.len()
     }
 
-    /// Examines the states in order until none is left, or the search ends, with the kernels of checkpoints and one on
-    /// which events are tried.
+    /// Examines the states in order until none is left, or the search ends, with a kernel that is put into each of them
+    /// and one on which events are tried.
     fn examine_all<'a, W: SearchWatcher>(
         &mut self,
         alloc: Global,
         subject: &SearchSubject<'a>,
-        checkpoints: &mut Checkpoints<'a>,
+        top: &mut Kernel<Vm<'a>>,
         work: &mut Kernel<Vm<'a>>,
         watcher: &mut W,
     ) -> Result<Ending, AllocError>
         requires begun { IsBegun subject.now.image.now subject.now.n subject.now.question.now self.old }
-        requires checkpoints { AreCheckpoints subject.now.image.now subject.now.n checkpoints.old }
+        requires top { IsOver subject.now.image.now subject.now.n top.old }
         requires work { IsOver subject.now.image.now subject.now.n work.old }
         ensures { IfOk result (HasEnded subject.now.image.now subject.now.n subject.now.question.now self.new) }
     {
         let mut told = TOLD_FIRST / 2;
         for i in 0..u32::MAX {
-            let Some(link) = self.seen.link(i) else {
+            if i as usize >= self.seen.len() {
                 return Ok(self.last_ending());
-            };
-            if let Some(ending) = self.ending_before(subject, link) {
+            }
+            if let Some(ending) = self.ending_before(subject, i) {
                 return Ok(ending);
             }
-            self.examine(alloc, subject, checkpoints, work, i)?;
+            self.examine(alloc, subject, top, work, i)?;
             told = self.tell(watcher, told, i as usize + 1);
         }
         Ok(Ending::States)
@@ -450,20 +475,20 @@ impl Search {
         &mut self,
         alloc: Global,
         subject: &SearchSubject<'a>,
-        checkpoints: &mut Checkpoints<'a>,
+        top: &mut Kernel<Vm<'a>>,
         watcher: &mut W,
     ) -> Result<Ending, AllocError>
         requires begun { IsBegun subject.now.image.now subject.now.n subject.now.question.now self.old }
-        requires checkpoints { AreCheckpoints subject.now.image.now subject.now.n checkpoints.old }
+        requires top { IsOver subject.now.image.now subject.now.n top.old }
         ensures { IfOk result (HasEnded subject.now.image.now subject.now.n subject.now.question.now self.new) }
     {
         let mut work = kernel_of(alloc, subject.image, subject.n)?;
-        let ending = self.examine_all(alloc, subject, checkpoints, &mut work, watcher);
+        let ending = self.examine_all(alloc, subject, top, &mut work, watcher);
         drop(work);
         ending
     }
 
-    /// The same, with checkpoints of its own. `AllocError` if memory runs out.
+    /// The same, with both kernels of its own. `AllocError` if memory runs out.
     #[tactic(none)]
     pub fn run<W: SearchWatcher>(
         &mut self,
@@ -474,9 +499,9 @@ impl Search {
         requires { IsBegun subject.now.image.now subject.now.n subject.now.question.now self.old }
         ensures { IfOk result (HasEnded subject.now.image.now subject.now.n subject.now.question.now self.new) }
     {
-        let mut checkpoints = Checkpoints::new(alloc, subject.image, subject.n)?;
-        let ending = self.run_on(alloc, subject, &mut checkpoints, watcher);
-        drop(checkpoints);
+        let mut top = kernel_of(alloc, subject.image, subject.n)?;
+        let ending = self.run_on(alloc, subject, &mut top, watcher);
+        drop(top);
         ending
     }
 }

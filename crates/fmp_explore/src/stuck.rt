@@ -1,5 +1,5 @@
 //! Tasks that can never go on: where to look for one, and whether it is so.
-ghost use Rattle.std.specs.Prelude.{◌≡◌, ◌≢◌, ◌≤◌, ◌^◌, [], ◌∷◌, IfOk, IsTrue};
+ghost use Rattle.std.specs.Prelude.{◌≡◌, ◌≢◌, ◌≤◌, ◌^◌, [], ◌∷◌, IfOk, IfSome, IsTrue};
 ghost use Rattle.fmp_base.specs.States.{task_at};
 ghost use Rattle.fmp_instructions.specs.Machine.{code_meaning};
 ghost use Rattle.fmp_replay.specs.Replays.{kernel_after};
@@ -13,7 +13,7 @@ use crate::edges::{Predecessors, goes_on_from};
 use crate::exploring::{run_search, start_search};
 use crate::searches::Search;
 use crate::searching::{Ending, SearchWatcher};
-use crate::subject::{SearchSubject, live_in};
+use crate::subject::SearchSubject;
 use fmp_base::{Event, Phase, System};
 use fmp_code::Vm;
 use fmp_fields::{What, low_byte};
@@ -283,17 +283,41 @@ fn shows_silence(
     match run_search(alloc, survey, subject, &mut Nobody) {
         Ending::Whole => Ok(survey.sure),
         Ending::Enough => Ok(false),
-        Ending::States | Ending::Depth | Ending::Memory => Err(AllocError),
+        Ending::States | Ending::Memory => Err(AllocError),
     }
 }
 
-/// The same of a search that is now made. `AllocError` if it ends before it knows, as where memory runs out.
+/// The same of a search that is now made, in which the local at the out place of a call counts as written by every
+/// reply, or by E_OK alone. None where a reply left one as it was that counts as written. `AllocError` if the search
+/// ends before it knows, as where memory runs out.
+fn is_silent_so(
+    alloc: Global,
+    outs: bool,
+    subject: &SearchSubject<'_>,
+) -> Result<Option<bool>, AllocError>
+    ensures { IfOk result (λ known. IfSome known (λ yes. IsTrue yes →
+        NoneFollows subject.now.image.now subject.now.n subject.now.question.now)) }
+{
+    let mut survey = start_search(alloc, outs, subject)?;
+    let yes = shows_silence(alloc, subject, &mut survey)?;
+    if survey.unwritten {
+        return Ok(None);
+    }
+    Ok(Some(yes))
+}
+
+/// The same of a search that is made once more where a reply left an out place as it was.
 fn is_silent(alloc: Global, subject: &SearchSubject<'_>) -> Result<bool, AllocError>
     ensures { IfOk result (λ yes. IsTrue yes →
         NoneFollows subject.now.image.now subject.now.n subject.now.question.now) }
 {
-    let mut survey = start_search(alloc, subject)?;
-    shows_silence(alloc, subject, &mut survey)
+    if let Some(yes) = is_silent_so(alloc, true, subject)? {
+        return Ok(yes);
+    }
+    match is_silent_so(alloc, false, subject)? {
+        Some(yes) => Ok(yes),
+        None => Ok(false),
+    }
 }
 
 /// The same of what is asked about an image.
@@ -307,13 +331,7 @@ fn is_silent_about(
     requires high { n ≤ 2 ^ 48 }
     ensures { IfOk result (λ yes. IsTrue yes → NoneFollows image.now n question.now) }
 {
-    let live = live_in(alloc, image);
-    let subject = SearchSubject {
-        image,
-        n,
-        question,
-        live,
-    };
+    let subject = SearchSubject { image, n, question };
     is_silent(alloc, &subject)
 }
 

@@ -1,11 +1,10 @@
 //! What is searched: an image, the bound of its stretches, and the question.
 ghost use Rattle.std.specs.Prelude.{◌≤◌, ◌^◌};
-ghost use Rattle.fmp_live.specs.LiveLocals.{AreLiveTables, live_tables};
 
+use fmp_code::{MachineContext, Vm};
 use fmp_image_bytes::Image;
-use fmp_live::{LiveLocals, live_locals};
+use fmp_kernel::ContextTest;
 use fmp_question::Question;
-use std::alloc::Global;
 
 /// The image whose schedules are searched, the most instructions of a stretch of its bodies, and what is asked.
 #[derive(Drop)]
@@ -13,16 +12,16 @@ pub struct SearchSubject<'a> {
     pub image: &'a Image,
     pub n: u64,
     pub question: &'a Question,
-    /// The live locals of the image's bodies.
-    pub live: LiveLocals,
     ghost low: { 1 ≤ n },
     ghost high: { n ≤ 2 ^ 48 },
-    ghost live_is: { AreLiveTables image.now.code (live_tables live) },
 }
 
-/// The live locals of the bodies of an image. Where there is no memory to trace them, all locals count as live.
-pub fn live_in(alloc: Global, image: &Image) -> LiveLocals
-    ensures { AreLiveTables image.now.code (live_tables result) }
-{
-    live_locals(alloc, image.code())
+/// Tells the contexts of bodies of code from other values.
+#[derive(Clone, Copy)]
+pub struct CodeTest;
+
+impl<'a> ContextTest<Vm<'a>> for CodeTest {
+    fn accepts(&self, body: &Vm<'a>, entry: u8, context: &MachineContext) -> bool {
+        body.is_context(entry, context)
+    }
 }

@@ -1,54 +1,73 @@
 //! The events that are tried in each state, and what they did there.
-ghost use Rattle.std.specs.Prelude.{◌≡◌, ◌+◌, ◌-◌, ◌<◌, [], ◌∷◌, ◌++◌, count_by, length};
-ghost use Rattle.fmp_schedules.specs.Deadlocks.{is_interrupt as is_request};
-ghost use Rattle.fmp_explore.specs.Searching.{marked};
+ghost use Rattle.std.specs.Prelude.{◌≡◌, ◌<◌, is_some, true};
+ghost use Rattle.fmp_explore.specs.Searching.{came_on, marked};
 
-use crate::notes::Path;
+use crate::notes::PathEnd;
 use fmp_base::Event;
-use fmp_question::interrupt_count;
+use fmp_question::Question;
+use fmp_schedules::Section;
 use fmp_visited::StateLink;
 
-/// The most events that lead to a state.
-pub const DEEPEST: u32 = (1 << 20) - 1;
+/// A state that is examined.
+#[derive(Drop)]
+pub struct ExaminedState {
+    /// Its place among the states that are kept.
+    pub state: u32,
+    /// How many events lead to it.
+    pub depth: u32,
+    /// How many interrupts came, where their number is limited.
+    pub came: usize,
+    /// The sections in it.
+    pub sections: Vec<Section>,
+}
 
-/// An event that is tried in a state: the place of that, the events that lead to it, and the event.
+impl ExaminedState {
+    /// The events that lead to it.
+    pub fn end<'a>(&self, question: &'a Question) -> PathEnd<'a> {
+        PathEnd {
+            after: &question.after,
+            state: self.state,
+            last: None,
+        }
+    }
+}
+
+/// An event that is tried in a state.
 #[derive(Clone, Copy)]
 pub struct Attempt<'a> {
-    pub state: u32,
-    pub steps: &'a [Event],
+    pub at: &'a ExaminedState,
     pub event: Event,
 }
 
 impl<'a> Attempt<'a> {
-    /// How the state is reached to which the event leads, where the search begins behind this many events.
-    pub fn link(&self, kept: bool, before: usize) -> StateLink
-        requires { length self.now.steps.now < 1048575 }
-        ensures parent { result.parent ≡ self.now.state }
-        ensures event { result.event ≡ self.now.event }
-        ensures kept { result.kept ≡ kept }
-        ensures depth { result.depth ≡ (length self.now.steps.now - before) + 1 }
-    {
+    /// How the state is reached to which the event leads.
+    pub fn link(&self, kept: bool) -> StateLink {
         StateLink {
-            parent: self.state,
+            parent: self.at.state,
             event: self.event,
             kept,
-            depth: self.steps.len().saturating_sub(before) as u32 + 1,
+            depth: self.at.depth.saturating_add(1),
         }
     }
 
-    /// How many of the events are interrupts.
-    pub fn interrupts(&self) -> usize
-        requires { length self.now.steps.now < 1048575 }
-        ensures { result ≡ count_by is_request (self.now.steps.now ++ self.now.event ∷ []) }
-    {
-        interrupt_count(self.steps) + interrupt_count(&[self.event])
+    /// The events that lead to the state, with this one.
+    pub fn end<'q>(&self, question: &'q Question) -> PathEnd<'q> {
+        PathEnd {
+            after: &question.after,
+            state: self.at.state,
+            last: Some(self.event),
+        }
     }
 
-    /// The events, with this one.
-    pub fn path(&self) -> Path<'a> {
-        Path {
-            steps: self.steps,
-            last: Some(self.event),
+    /// How many interrupts came after the event, where their number is limited.
+    pub fn came(&self, question: &Question) -> usize
+        requires { is_some question.now.interrupts ≡ true → self.now.at.now.came < 256 }
+        ensures { result ≡ came_on question.now.interrupts self.now.at.now.came self.now.event }
+    {
+        match (question.interrupts, self.event) {
+            (None, _) => 0,
+            (Some(_), Event::Int(_)) => self.at.came + 1,
+            (Some(_), _) => self.at.came,
         }
     }
 }

@@ -227,7 +227,6 @@ unconfirmed_text false =
 -- how a search ended that claims nothing
 unfoldable pub end_text : Ending → (found : Bool) → List ℕ
 end_text ending.States found = codes "stopped: as many states as are allowed\n"
-end_text ending.Depth found = codes "stopped: as deep as the search goes\n"
 end_text ending.Memory found = codes "stopped: out of memory\n"
 end_text ending.Whole found = unconfirmed_text found
 end_text ending.Enough found = unconfirmed_text found

@@ -69,7 +69,6 @@ fn append_end(ending: Ending, found: bool, out: &mut Vec<u8>) -> Result<(), Allo
 {
     match ending {
         Ending::States => append(b"stopped: as many states as are allowed\n", out),
-        Ending::Depth => append(b"stopped: as deep as the search goes\n", out),
         Ending::Memory => append(b"stopped: out of memory\n", out),
         Ending::Whole | Ending::Enough if found => Ok(()),
         Ending::Whole | Ending::Enough => append(UNCONFIRMED, out),

@@ -35,14 +35,14 @@ fields-told sys bodies limited fields v w came other all a b e =
     worlds-told sys v w a.regular b.regular row (bodies-same sys bodies v w a.rooms b.rooms told)
 
 -- so are worlds whose fields have the same numbers once dead locals are 0, but for these locals
-pub live-fields-told : (sys : SystemTables) (bodies : List BodyTables) (limited : Bool) (fields : List What)
-    (v w : World MachineContext) (tables others : List LiveTable) (came other : ℕ)
-    → AreAllFields sys bodies limited fields → AreLiveTables bodies tables → AreLiveTables bodies others
+pub live-fields-told : (outs : Bool) (sys : SystemTables) (bodies : List BodyTables) (limited : Bool)
+    (fields : List What) (v w : World MachineContext) (tables others : List LiveTable) (came other : ℕ)
+    → AreAllFields sys bodies limited fields → AreLiveTables outs bodies tables → AreLiveTables outs bodies others
     → IsReadable sys bodies v → IsReadable sys bodies w
     → map (number_of sys (zeroed sys tables v) came) fields ≡ map (number_of sys (zeroed sys others w) other) fields
-    → IsLike sys bodies v w
-live-fields-told sys bodies limited fields v w tables others came other all live also a b e =
-    zeroed-like sys bodies v w tables others live also a.regular.settled b.regular.settled
+    → IsLike outs sys bodies v w
+live-fields-told outs sys bodies limited fields v w tables others came other all live also a b e =
+    zeroed-like outs sys bodies v w tables others live also a.regular.settled b.regular.settled
     (fields-told sys bodies limited fields (zeroed sys tables v) (zeroed sys others w) came other all
     (readable-zeroed sys tables v bodies a) (readable-zeroed sys others w bodies b) e)
 

@@ -23,12 +23,12 @@ pub fn worlds_of_the_same_numbers_are_alike()
 /// Worlds in which each field has the same number once dead locals are 0, each by tables of its own, are alike but for
 /// dead locals.
 pub fn worlds_of_the_same_live_numbers_are_like()
-    ensures { (sys : SystemTables) (bodies : List BodyTables) (limited : Bool) (fields : List What)
+    ensures { (outs : Bool) (sys : SystemTables) (bodies : List BodyTables) (limited : Bool) (fields : List What)
         (v w : World MachineContext) (tables others : List LiveTable) (came other : ℕ) →
-        AreAllFields sys bodies limited fields → AreLiveTables bodies tables → AreLiveTables bodies others →
-        IsReadable sys bodies v → IsReadable sys bodies w →
+        AreAllFields sys bodies limited fields → AreLiveTables outs bodies tables →
+        AreLiveTables outs bodies others → IsReadable sys bodies v → IsReadable sys bodies w →
         map (number_of sys (zeroed sys tables v) came) fields
-        ≡ map (number_of sys (zeroed sys others w) other) fields → IsLike sys bodies v w }
+        ≡ map (number_of sys (zeroed sys others w) other) fields → IsLike outs sys bodies v w }
 {}
 
 /// Where their number is limited, the numbers of the fields tell how many interrupts came, if these were fewer than 256.

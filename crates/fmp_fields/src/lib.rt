@@ -1,8 +1,10 @@
 //! The fields of a state: everything in it that a later event can show, and their values.
 #![tactic(auto)]
 
+mod blocks;
 mod body_values;
 mod field;
+mod filling;
 pub mod laws;
 mod listing;
 mod owner;
@@ -11,5 +13,6 @@ mod room;
 mod state_values;
 
 pub use field::{What, low_byte};
+pub use filling::SavedRow;
 pub use listing::fields_of;
 pub use reading::read;

@@ -12,7 +12,6 @@ use Rattle.fmp_base.specs.Systems.{SystemTables}
 use Rattle.fmp_base.specs.Ties.{OptionTied, AllTied, HandlerTied, HeldTied}
 use Rattle.fmp_instructions.specs.declared.instructions.MachineContext.{MachineContext}
 use Rattle.fmp_instructions.specs.Instructions.{BodyTables, instructions_at}
-use Rattle.fmp_instructions.specs.Machine.{code_meaning}
 use Rattle.fmp_bisimulation.specs.Alike.{Alike, AlikeStates}
 use Rattle.fmp_bisimulation.specs.Closed.{all_timeless, BothAlike, IsChained, KeepsAlike}
 use Rattle.fmp_worlds.specs.Settled.{IsSettled}
@@ -22,7 +21,7 @@ use Rattle.fmp_bisimulation.proofs.WorldLaws.{worlds-refl, worlds-sym}
 use Rattle.fmp_live.specs.LiveLocals.{AreLiveTables, LiveTable, table_at}
 use Rattle.fmp_live.specs.Zeroed.{IsLike, IsLikeBy, ByTables, Through, each_at, zeroed, zeroed_by, zeroed_context}
 use Rattle.fmp_live.specs.Zeroed.{zeroed_contexts, zeroed_handler, zeroed_held, zeroed_task}
-use Rattle.fmp_live.proofs.MachineLaws.{SameLive}
+use Rattle.fmp_live.proofs.MachineLaws.{SameLive, meaning_so}
 use Rattle.fmp_live.proofs.RowLaws.{agree-zeroed, zeroed-agree}
 use Rattle.fmp_live.proofs.Tables.{all-live}
 use Rattle.fmp_live.proofs.StepLaws.{BothAwait, BothGo, SameReaction, SameWorlds, step-like}
@@ -232,14 +231,14 @@ module _ (sys : SystemTables) (tables : List LiveTable) where
     by-both (Kept p u) (Did c) y' y a h b = absurd a
 
     -- each event does the same in worlds that are alike but for dead locals
-    pub likes-same : (bodies : List BodyTables) → AreLiveTables bodies tables
-        → KeepsAlike (IsLikeBy sys tables) (step sys (code_meaning bodies) n)
-    likes-same bodies live v w e h =
-        by-both (step sys (code_meaning bodies) n v e) (step sys (code_meaning bodies) n (zeroed sys tables v) e)
-        (step sys (code_meaning bodies) n (zeroed sys tables w) e) (step sys (code_meaning bodies) n w e)
-        (step-like sys tables bodies n live v (zeroed sys tables v) e (world-zeroed v))
-        (step-same sys (code_meaning bodies) n (zeroed sys tables v) (zeroed sys tables w) e h)
-        (step-like sys tables bodies n live w (zeroed sys tables w) e (world-zeroed w))
+    pub likes-same : (outs : Bool) (bodies : List BodyTables) → AreLiveTables outs bodies tables
+        → KeepsAlike (IsLikeBy sys tables) (step sys (meaning_so outs bodies) n)
+    likes-same outs bodies live v w e h =
+        by-both (step sys (meaning_so outs bodies) n v e) (step sys (meaning_so outs bodies) n (zeroed sys tables v) e)
+        (step sys (meaning_so outs bodies) n (zeroed sys tables w) e) (step sys (meaning_so outs bodies) n w e)
+        (step-like sys tables outs bodies n live v (zeroed sys tables v) e (world-zeroed v))
+        (step-same sys (meaning_so outs bodies) n (zeroed sys tables v) (zeroed sys tables w) e h)
+        (step-like sys tables outs bodies n live w (zeroed sys tables w) e (world-zeroed w))
 
   -- a world is like what it is with dead locals as 0
   pub like-zeroed : (w : World MachineContext) → IsSettled sys w.state → IsLikeBy sys tables w (zeroed sys tables w)
@@ -247,7 +246,7 @@ module _ (sys : SystemTables) (tables : List LiveTable) where
       subst (λ (x : World MachineContext). Alike sys (zeroed sys tables w) x)
       (zeroed-same w (zeroed sys tables w) (world-zeroed w)) (worlds-refl sys (zeroed sys tables w) h)
 
-both-chained : {C : Type 0} (R : World C → World C → Type 0) → IsChained R → (x y z : Reaction C) → BothAlike R x y
+pub both-chained : {C : Type 0} (R : World C → World C → Type 0) → IsChained R → (x y z : Reaction C) → BothAlike R x y
     → BothAlike R y z → BothAlike R x z
 both-chained R chain Nothing Nothing z a b = b
 both-chained R chain (Did c) (Did d) (Did e) a b = (a.0 ∙ b.0, chain c.world d.world e.world a.1 b.1)
@@ -263,7 +262,7 @@ both-chained R chain (Did c) (Kept q v) z a b = absurd a
 both-chained R chain (Kept p u) Nothing z a b = absurd a
 both-chained R chain (Kept p u) (Did d) z a b = absurd a
 
-both-weaker : {C : Type 0} (Q R : World C → World C → Type 0) → ((v w : World C) → Q v w → R v w) → (x y : Reaction C)
+pub both-weaker : {C : Type 0} (Q R : World C → World C → Type 0) → ((v w : World C) → Q v w → R v w) → (x y : Reaction C)
     → BothAlike Q x y → BothAlike R x y
 both-weaker Q R g Nothing Nothing a = tt
 both-weaker Q R g (Did c) (Did d) a = (a.0, g c.world d.world a.1)
@@ -275,22 +274,22 @@ both-weaker Q R g (Did c) (Kept q v) a = absurd a
 both-weaker Q R g (Kept p u) Nothing a = absurd a
 both-weaker Q R g (Kept p u) (Did d) a = absurd a
 
-module _ (sys : SystemTables) (bodies : List BodyTables) where
-  pub alike-like : (v w : World MachineContext) → Alike sys v w → IsLike sys bodies v w
-  alike-like v w h = ByTables v w [] (λ body. all-live (instructions_at bodies body)) (alike-zeroed sys [] v w h)
+module _ (outs : Bool) (sys : SystemTables) (bodies : List BodyTables) where
+  pub alike-like : (v w : World MachineContext) → Alike sys v w → IsLike outs sys bodies v w
+  alike-like v w h = ByTables v w [] (λ body. all-live outs (instructions_at bodies body)) (alike-zeroed sys [] v w h)
 
-  pub like-chained : IsChained (IsLike sys bodies)
+  pub like-chained : IsChained (IsLike outs sys bodies)
   like-chained u v w h k = Through u v w h k
 
-  pub like-sym : (v w : World MachineContext) → IsLike sys bodies v w → IsLike sys bodies w v
+  pub like-sym : (v w : World MachineContext) → IsLike outs sys bodies v w → IsLike outs sys bodies w v
   like-sym _ _ (ByTables v w tables live h) =
       ByTables w v tables live (worlds-sym sys (zeroed sys tables v) (zeroed sys tables w) h)
   like-sym _ _ (Through u v w h k) = Through w v u (like-sym v w k) (like-sym u v h)
 
   -- worlds that are alike with dead locals as 0, each by tables of its own
-  pub zeroed-like : (v w : World MachineContext) (tables others : List LiveTable) → AreLiveTables bodies tables
-      → AreLiveTables bodies others → IsSettled sys v.state → IsSettled sys w.state
-      → Alike sys (zeroed sys tables v) (zeroed sys others w) → IsLike sys bodies v w
+  pub zeroed-like : (v w : World MachineContext) (tables others : List LiveTable) → AreLiveTables outs bodies tables
+      → AreLiveTables outs bodies others → IsSettled sys v.state → IsSettled sys w.state
+      → Alike sys (zeroed sys tables v) (zeroed sys others w) → IsLike outs sys bodies v w
   zeroed-like v w tables others live also settled too h =
       let first = ByTables v (zeroed sys tables v) tables live (like-zeroed sys tables v settled) in
       let last =
@@ -299,19 +298,19 @@ module _ (sys : SystemTables) (bodies : List BodyTables) where
       (Through (zeroed sys tables v) (zeroed sys others w) w
       (alike-like (zeroed sys tables v) (zeroed sys others w) h) last)
 
-  -- each event does the same in worlds that are alike but for dead locals
-  pub like-keeps : (n : ℕ) → KeepsAlike (IsLike sys bodies) (step sys (code_meaning bodies) n)
-  like-keeps n _ _ e (ByTables v w tables live h) =
-      both-weaker (IsLikeBy sys tables) (IsLike sys bodies) (λ v' w' k. ByTables v' w' tables live k)
-      (step sys (code_meaning bodies) n v e) (step sys (code_meaning bodies) n w e)
-      (likes-same sys tables n bodies live v w e h)
-  like-keeps n _ _ e (Through u v w h k) =
-      both-chained (IsLike sys bodies) like-chained (step sys (code_meaning bodies) n u e)
-      (step sys (code_meaning bodies) n v e) (step sys (code_meaning bodies) n w e) (like-keeps n u v e h)
-      (like-keeps n v w e k)
+  -- each event does the same in such worlds where every reply writes out places, if they count as written
+  pub like-keeps_so : (n : ℕ) → KeepsAlike (IsLike outs sys bodies) (step sys (meaning_so outs bodies) n)
+  like-keeps_so n _ _ e (ByTables v w tables live h) =
+      both-weaker (IsLikeBy sys tables) (IsLike outs sys bodies) (λ v' w' k. ByTables v' w' tables live k)
+      (step sys (meaning_so outs bodies) n v e) (step sys (meaning_so outs bodies) n w e)
+      (likes-same sys tables n outs bodies live v w e h)
+  like-keeps_so n _ _ e (Through u v w h k) =
+      both-chained (IsLike outs sys bodies) like-chained (step sys (meaning_so outs bodies) n u e)
+      (step sys (meaning_so outs bodies) n v e) (step sys (meaning_so outs bodies) n w e) (like-keeps_so n u v e h)
+      (like-keeps_so n v w e k)
 
   -- the states of such worlds are alike
-  pub like-states : (v w : World MachineContext) → IsLike sys bodies v w → AlikeStates sys v.state w.state
+  pub like-states : (v w : World MachineContext) → IsLike outs sys bodies v w → AlikeStates sys v.state w.state
   like-states _ _ (ByTables v w tables live h) = h.states
   like-states _ _ (Through u v w h k) =
       alike-chained sys u.state v.state w.state (like-states u v h) (like-states v w k)

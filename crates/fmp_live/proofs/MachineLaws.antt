@@ -1,6 +1,6 @@
 -- The machine does the same with locals that agree where they are live.
 use Rattle.std.proofs.Common.{◌≡◌, ℕ, zero, suc, ◌+◌, ◌<◌, ℤ, pos, negsuc, Bool, true, false, not, ◌&&◌, if◌then◌else◌}
-use Rattle.std.proofs.Common.{nat_eq, nat_le, nat_lt, List, [], ◌∷◌, slice_get, slice_set, Option, Some, None, Result}
+use Rattle.std.proofs.Common.{◌||◌, nat_eq, nat_le, nat_lt, List, [], ◌∷◌, slice_get, slice_set, Option, Some, None, Result}
 use Rattle.std.proofs.Common.{Ok, Err, refl, ◌∙◌, ap, subst, arith}
 use Rattle.std.proofs.lemmas.Bool.{and_from, eq-eqb, le-leb, lt-ltb, ltb-true, ne_eqb, not_from_false, or_left}
 use Rattle.std.proofs.lemmas.Bool.{or_right}
@@ -9,6 +9,7 @@ use Rattle.fmp_base.specs.declared.calls.Reply.{Reply}
 use Rattle.fmp_base.specs.declared.codes.Er.{Er}
 use Rattle.fmp_base.specs.declared.codes.Er.TheVariants as er
 use Rattle.fmp_base.specs.Deliveries.{out_written, result_value, value_or_zero, written}
+use Rattle.fmp_base.specs.Meanings.{Meaning}
 use Rattle.fmp_base.specs.Operators.{Value, is_zero, place_in, truth_of, unary_value, binary_value}
 use Rattle.fmp_base.specs.Services.{gives_count}
 use Rattle.fmp_base.specs.Stretches.{Ending}
@@ -18,7 +19,8 @@ use Rattle.fmp_instructions.specs.declared.instructions.Instruction.TheVariants.
 use Rattle.fmp_instructions.specs.declared.instructions.Instruction.TheVariants.{StoreIndexed, Unary, Truth, Binary}
 use Rattle.fmp_instructions.specs.declared.instructions.Instruction.TheVariants.{Jump, JumpIfZero, Call, End}
 use Rattle.fmp_instructions.specs.declared.instructions.MachineContext.{MachineContext}
-use Rattle.fmp_instructions.specs.Machine.{Next, act, call_before, code_deliver, code_stretch, exec, gives, on_place}
+use Rattle.fmp_instructions.specs.Instructions.{BodyTables, instructions_at}
+use Rattle.fmp_instructions.specs.Machine.{Next, act, call_before, code_start, code_stretch, exec, gives, on_place}
 use Rattle.fmp_instructions.specs.Machine.{replied, stack_of, tops}
 use Rattle.fmp_live.specs.LiveLocals.{IsLiveTable, LiveTable, is_awaited, is_live, is_named, is_needed, is_replied}
 use Rattle.fmp_live.specs.LiveLocals.{is_within}
@@ -47,7 +49,47 @@ flip false b h e = absurd (cc (h refl, e))
 and_not : (a b : Bool) → a ≡ true → b ≡ false → (a && not b) ≡ true
 and_not a b h k = and_from a (not b) h (not_from_false b k)
 
-module _ (code : List Instruction) (t : LiveTable) (h : IsLiveTable code t) where
+-- the same reply, where `outs` says whether the out place is written by every one
+abbrev pub replied_so : (outs : Bool) → Option Instruction → List ℤ → Reply → List ℤ
+replied_so false call locals reply = replied call locals reply
+replied_so true (Some (Call service out result)) locals reply =
+    written (written locals out (value_or_zero reply.value)) result
+    (result_value reply.code (gives_count service) (value_or_zero reply.value))
+replied_so true _ locals reply = locals
+
+abbrev pub deliver_so : (outs : Bool) → List Instruction → MachineContext → Reply → MachineContext
+deliver_so outs code context reply =
+    record context { locals = replied_so outs (call_before code context.pc) context.locals reply }
+
+-- what bodies mean where every reply writes out places, or E_OK alone
+abbrev pub meaning_so : (outs : Bool) → List BodyTables → Meaning MachineContext
+meaning_so outs bodies =
+    record {
+      start = λ body exinf. code_start exinf;
+      stretch = λ body bound context. code_stretch (instructions_at bodies body) bound context;
+      deliver = λ body context reply. deliver_so outs (instructions_at bodies body) context reply;
+    }
+
+and-parts : (a b : Bool) → (a && not b) ≡ true → (a ≡ true) × (b ≡ false)
+and-parts true false h = (refl, refl)
+and-parts true true h = cc
+and-parts false b h = cc
+
+or-neither : (a b : Bool) → a ≡ false → b ≡ false → (a || b) ≡ false
+or-neither false b h k = k
+or-neither true b h k = cc
+
+-- the local before `=`, if it is one
+abbrev is_result : Option Instruction → ℕ → Bool
+is_result (Some (Call service out result)) v = is_named result v
+is_result _ v = false
+
+not_out : (call : Option Instruction) (u : ℕ) → is_result call u ≡ false → is_replied false call u ≡ false
+not_out (Some (Call service out result)) u h = or-neither (is_named result u) (false && is_named out u) h refl
+not_out None u h = refl
+not_out (Some _) u h = refl
+
+module _ (outs : Bool) (code : List Instruction) (t : LiveTable) (h : IsLiveTable outs code t) where
   abbrev Live : ℕ → List ℤ → List ℤ → Type 0
   Live pc xs ys = Agree (is_live t.goes pc) xs ys
 
@@ -198,28 +240,50 @@ module _ (code : List Instruction) (t : LiveTable) (h : IsLiveTable code t) wher
   result-same live after xs ys (Some w) x g a =
       agree-set live after xs ys w x (λ u l ne. g u l (ne_eqb u w ne)) a
 
-  replied-same : (live after : ℕ → Bool) (call : Option Instruction) (xs ys : List ℤ) (reply : Reply)
-      → ((u : ℕ) → after u ≡ true → is_replied call u ≡ false → live u ≡ true) → Agree live xs ys
+  plain-same : (live after : ℕ → Bool) (call : Option Instruction) (xs ys : List ℤ) (reply : Reply)
+      → ((u : ℕ) → after u ≡ true → is_result call u ≡ false → live u ≡ true) → Agree live xs ys
       → Agree after (replied call xs reply) (replied call ys reply)
-  replied-same live after (Some (Call service out result)) xs ys reply g a =
+  plain-same live after (Some (Call service out result)) xs ys reply g a =
       result-same live after _ _ result
       (result_value reply.code (gives_count service) (value_or_zero reply.value)) g
       (out-same live reply.code xs ys out (value_or_zero reply.value) a)
-  replied-same live after None xs ys reply g a = agree-less live after xs ys (λ u l. g u l refl) a
-  replied-same live after (Some _) xs ys reply g a = agree-less live after xs ys (λ u l. g u l refl) a
+  plain-same live after None xs ys reply g a = agree-less live after xs ys (λ u l. g u l refl) a
+  plain-same live after (Some _) xs ys reply g a = agree-less live after xs ys (λ u l. g u l refl) a
+
+  written-out-same : (live after : ℕ → Bool) (call : Option Instruction) (xs ys : List ℤ) (reply : Reply)
+      → ((u : ℕ) → after u ≡ true → is_replied true call u ≡ false → live u ≡ true) → Agree live xs ys
+      → Agree after (replied_so true call xs reply) (replied_so true call ys reply)
+  written-out-same live after (Some (Call service out result)) xs ys reply g a =
+      let mid : ℕ → Bool = λ u. after u && not (is_named result u) in
+      result-same mid after _ _ result (result_value reply.code (gives_count service) (value_or_zero reply.value))
+      (λ u l r. and_not (after u) (is_named result u) l r)
+      (result-same live mid xs ys out (value_or_zero reply.value)
+      (λ u m o. let both = and-parts (after u) (is_named result u) m in
+      g u both.0 (or-neither (is_named result u) (true && is_named out u) both.1 o)) a)
+  written-out-same live after None xs ys reply g a = agree-less live after xs ys (λ u l. g u l refl) a
+  written-out-same live after (Some _) xs ys reply g a = agree-less live after xs ys (λ u l. g u l refl) a
+
+  replied-same : (live after : ℕ → Bool) (call : Option Instruction) (xs ys : List ℤ) (reply : Reply)
+      → ((u : ℕ) → after u ≡ true → is_replied outs call u ≡ false → live u ≡ true) → Agree live xs ys
+      → Agree after (replied_so outs call xs reply) (replied_so outs call ys reply)
+  replied-same live after call xs ys reply g a = by_outs outs g where
+    by_outs : (b : Bool) → ((u : ℕ) → after u ≡ true → is_replied b call u ≡ false → live u ≡ true)
+        → Agree after (replied_so b call xs reply) (replied_so b call ys reply)
+    by_outs false g = plain-same live after call xs ys reply (λ u l r. g u l (not_out call u r)) a
+    by_outs true g = written-out-same live after call xs ys reply g a
 
   -- after a reply to both, their live locals are the same
   pub deliver-same : (c d : MachineContext) (reply : Reply) → SameLive t.awaits c d
-      → SameLive t.goes (code_deliver code c reply) (code_deliver code d reply)
+      → SameLive t.goes (deliver_so outs code c reply) (deliver_so outs code d reply)
   deliver-same c d reply k =
       record {
         pc = k.pc;
         count = k.count;
         operands = k.operands;
         locals =
-            subst (λ (pc : ℕ). Agree (is_live t.goes c.pc) (replied (call_before code c.pc) c.locals reply)
-            (replied (call_before code pc) d.locals reply)) k.pc
+            subst (λ (pc : ℕ). Agree (is_live t.goes c.pc) (replied_so outs (call_before code c.pc) c.locals reply)
+            (replied_so outs (call_before code pc) d.locals reply)) k.pc
             (replied-same (is_live t.awaits c.pc) (is_live t.goes c.pc) (call_before code c.pc) c.locals d.locals reply
-            (λ u l r. flip (is_live t.awaits c.pc u) (is_awaited t code c.pc u) (h.awaits c.pc u)
-            (and_not (is_live t.goes c.pc u) (is_replied (call_before code c.pc) u) l r)) k.locals);
+            (λ u l r. flip (is_live t.awaits c.pc u) (is_awaited outs t code c.pc u) (h.awaits c.pc u)
+            (and_not (is_live t.goes c.pc u) (is_replied outs (call_before code c.pc) u) l r)) k.locals);
       }

@@ -18,9 +18,9 @@ use Rattle.fmp_base.specs.Ties.{AllTied, StretchTied, over, kept, call, end_, fa
 use Rattle.fmp_base.specs.Ties.{HeldTied, WorldTied, KeptOn, DoneTied}
 use Rattle.fmp_instructions.specs.declared.instructions.MachineContext.{MachineContext}
 use Rattle.fmp_instructions.specs.Instructions.{BodyTables, instructions_at}
-use Rattle.fmp_instructions.specs.Machine.{code_meaning, code_start}
+use Rattle.fmp_instructions.specs.Machine.{code_start}
 use Rattle.fmp_live.specs.LiveLocals.{AreLiveTables, LiveTable, is_live, table_at}
-use Rattle.fmp_live.proofs.MachineLaws.{SameEnding, SameLive, deliver-same, stretch-same}
+use Rattle.fmp_live.proofs.MachineLaws.{SameEnding, SameLive, deliver-same, meaning_so, stretch-same}
 use Rattle.fmp_live.proofs.RowLaws.{Agree, agree-refl, agree-sym}
 
 live-refl : (rows : List (List Bool)) (c : MachineContext) → SameLive rows c c
@@ -98,9 +98,9 @@ module _ (sys : SystemTables) (tables : List LiveTable) where
   SameReaction (Kept p v) (Kept q w) = (p ≡ q) × SameWorlds v w
   SameReaction _ _ = ⊥
 
-  module _ (bodies : List BodyTables) (n : ℕ) (live : AreLiveTables bodies tables) where
+  module _ (outs : Bool) (bodies : List BodyTables) (n : ℕ) (live : AreLiveTables outs bodies tables) where
     abbrev meaning : Meaning MachineContext
-    meaning = code_meaning bodies
+    meaning = meaning_so outs bodies
 
     -- a stretch of the first ends over its bound with the second
     abbrev leads : ℕ → MachineContext → MachineContext → Type 0
@@ -130,10 +130,10 @@ module _ (sys : SystemTables) (tables : List LiveTable) where
           grows = λ body c d k. k;
           starts = λ body exinf. live-refl (table_at tables body).goes (code_start exinf);
           delivers = λ body c d reply k.
-              deliver-same (instructions_at bodies body) (table_at tables body) (live body) c d reply k;
+              deliver-same outs (instructions_at bodies body) (table_at tables body) (live body) c d reply k;
           stretches = λ body c d k.
               tied-ending body d (meaning.stretch body n c) (meaning.stretch body n d) refl
-              (stretch-same (instructions_at bodies body) (table_at tables body) (live body) n c d k);
+              (stretch-same outs (instructions_at bodies body) (table_at tables body) (live body) n c d k);
         }
 
     -- an event keeps a place in a world, too, and leaves it such as u

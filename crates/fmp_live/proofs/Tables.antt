@@ -1,6 +1,6 @@
 -- The tables of bodies, one by one.
-use Rattle.std.proofs.Common.{◌≡◌, ◌+◌, ◌<◌, ◌≤◌, ℕ, zero, suc, List, [], ◌∷◌, ◌++◌, length, get_or, map, Some, refl}
-use Rattle.std.proofs.Common.{sym, ◌∙◌, ap, subst, arith, ⊎_elim, slice_get, option_map}
+use Rattle.std.proofs.Common.{◌≡◌, ◌+◌, ◌<◌, ◌≤◌, ℕ, zero, suc, Bool, List, [], ◌∷◌, ◌++◌, length, get_or, map, Some}
+use Rattle.std.proofs.Common.{refl, sym, ◌∙◌, ap, subst, arith, ⊎_elim, slice_get, option_map}
 use Rattle.std.proofs.lemmas.Bool.{cases_lt}
 use Rattle.std.proofs.lemmas.List.{length-append}
 use Rattle.std.proofs.lemmas.Option.{slice_get-map}
@@ -29,38 +29,38 @@ abbrev no_table : LiveTable
 no_table = record { goes = []; awaits = [] }
 
 -- where there is no row every local is live
-pub all-live : (code : List Instruction) → IsLiveTable code no_table
-all-live code = record { goes = λ place v i e dead. cc; awaits = λ place v dead. cc }
+pub all-live : (outs : Bool) (code : List Instruction) → IsLiveTable outs code no_table
+all-live outs code = record { goes = λ place v i e dead. cc; awaits = λ place v dead. cc }
 
 -- the first bodies have their tables
-abbrev pub HaveTables : List BodyTables → List LiveRows → Type 0
-HaveTables bodies rows =
-    (k : ℕ) → k < length rows → IsLiveTable (instructions_at bodies k) (table_at (map live_table rows) k)
+abbrev pub HaveTables : (outs : Bool) → List BodyTables → List LiveRows → Type 0
+HaveTables outs bodies rows =
+    (k : ℕ) → k < length rows → IsLiveTable outs (instructions_at bodies k) (table_at (map live_table rows) k)
 
-pub one-more : (bodies : List BodyTables) (rows : List LiveRows) (r : LiveRows)
-    → IsLiveTable (instructions_at bodies (length rows)) (live_table r) → HaveTables bodies rows
-    → HaveTables bodies (rows ++ r ∷ [])
-one-more bodies rows r h have k lt =
+pub one-more : (outs : Bool) (bodies : List BodyTables) (rows : List LiveRows) (r : LiveRows)
+    → IsLiveTable outs (instructions_at bodies (length rows)) (live_table r) → HaveTables outs bodies rows
+    → HaveTables outs bodies (rows ++ r ∷ [])
+one-more outs bodies rows r h have k lt =
     ⊎_elim
     (λ below.
-    subst (λ (t : LiveTable). IsLiveTable (instructions_at bodies k) t)
+    subst (λ (t : LiveTable). IsLiveTable outs (instructions_at bodies k) t)
     (sym (read-left live_table rows (r ∷ []) k no_table below)) (have k below))
     (λ le.
     let long : length (rows ++ r ∷ []) ≡ length rows + 1 = length-append rows (r ∷ []) in
     let last : length rows ≡ k = omega (arith, lt, le, long) in
-    subst (λ (i : ℕ). IsLiveTable (instructions_at bodies i) (table_at (map live_table (rows ++ r ∷ [])) i)) last
-    (subst (λ (t : LiveTable). IsLiveTable (instructions_at bodies (length rows)) t)
+    subst (λ (i : ℕ). IsLiveTable outs (instructions_at bodies i) (table_at (map live_table (rows ++ r ∷ [])) i)) last
+    (subst (λ (t : LiveTable). IsLiveTable outs (instructions_at bodies (length rows)) t)
     (sym (read-last live_table rows r no_table)) h))
     (cases_lt k (length rows))
 
 -- a body behind them has none
-pub have-all : (bodies : List BodyTables) (rows : List LiveRows) → HaveTables bodies rows
-    → AreLiveTables bodies (map live_table rows)
-have-all bodies rows have k =
+pub have-all : (outs : Bool) (bodies : List BodyTables) (rows : List LiveRows) → HaveTables outs bodies rows
+    → AreLiveTables outs bodies (map live_table rows)
+have-all outs bodies rows have k =
     ⊎_elim (λ below. have k below)
     (λ le.
-    subst (λ (t : LiveTable). IsLiveTable (instructions_at bodies k) t) (sym (read-past live_table rows k no_table le))
-    (all-live (instructions_at bodies k)))
+    subst (λ (t : LiveTable). IsLiveTable outs (instructions_at bodies k) t) (sym (read-past live_table rows k no_table le))
+    (all-live outs (instructions_at bodies k)))
     (cases_lt k (length rows))
 
 -- the instructions of the body at a place

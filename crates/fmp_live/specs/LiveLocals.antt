@@ -53,14 +53,15 @@ abbrev pub is_named : Option ℕ → ℕ → Bool
 is_named None v = false
 is_named (Some w) v = nat_eq v w
 
--- whether every reply to this call writes a local: the one before `=`, but not the one at the out place
-abbrev pub is_replied : Option Instruction → ℕ → Bool
-is_replied (Some (Call service out result)) v = is_named result v
-is_replied _ v = false
+-- whether every reply to this call writes a local: the one before `=`, and, where out places count as written by every
+-- reply, the one at the out place
+abbrev pub is_replied : (outs : Bool) → Option Instruction → ℕ → Bool
+is_replied outs (Some (Call service out result)) v = is_named result v || outs && is_named out v
+is_replied outs _ v = false
 
 -- whether a local must be live where a body awaits a reply at a place: it is live afterwards and not written
-abbrev pub is_awaited : LiveTable → List Instruction → (place v : ℕ) → Bool
-is_awaited t code place v = is_live t.goes place v && not (is_replied (call_before code place) v)
+abbrev pub is_awaited : (outs : Bool) → LiveTable → List Instruction → (place v : ℕ) → Bool
+is_awaited outs t code place v = is_live t.goes place v && not (is_replied outs (call_before code place) v)
 
 -- no local that is dead at a place must be live before its instruction
 abbrev pub KeepsGoes : List Instruction → LiveTable → (place : ℕ) → Type 0
@@ -69,14 +70,15 @@ KeepsGoes code t place =
     is_needed t place i v ≡ false
 
 -- nor, where it is dead while a reply is awaited, then
-abbrev pub KeepsAwaits : List Instruction → LiveTable → (place : ℕ) → Type 0
-KeepsAwaits code t place = (v : ℕ) → is_live t.awaits place v ≡ false → is_awaited t code place v ≡ false
+abbrev pub KeepsAwaits : (outs : Bool) → List Instruction → LiveTable → (place : ℕ) → Type 0
+KeepsAwaits outs code t place = (v : ℕ) → is_live t.awaits place v ≡ false → is_awaited outs t code place v ≡ false
 
 -- no local that the table calls dead has to be live
-pub record IsLiveTable (code : List Instruction) (t : LiveTable) : Type 0 where
+pub record IsLiveTable (outs : Bool) (code : List Instruction) (t : LiveTable) : Type 0 where
   pub goes : (place : ℕ) → KeepsGoes code t place
-  pub awaits : (place : ℕ) → KeepsAwaits code t place
+  pub awaits : (place : ℕ) → KeepsAwaits outs code t place
 
 -- the tables of all bodies are such ones
-abbrev pub AreLiveTables : List BodyTables → List LiveTable → Type 0
-AreLiveTables bodies tables = (body : ℕ) → IsLiveTable (instructions_at bodies body) (table_at tables body)
+abbrev pub AreLiveTables : (outs : Bool) → List BodyTables → List LiveTable → Type 0
+AreLiveTables outs bodies tables =
+    (body : ℕ) → IsLiveTable outs (instructions_at bodies body) (table_at tables body)

@@ -60,10 +60,12 @@ abbrev pub IsLikeBy : SystemTables → List LiveTable → World MachineContext �
 IsLikeBy sys tables v w = Alike sys (zeroed sys tables v) (zeroed sys tables w)
 
 -- worlds that are alike but for dead locals: by tables of live locals, or through another world
-pub data IsLike (sys : SystemTables) (bodies : List BodyTables) : World MachineContext → World MachineContext → Type 0
+pub data IsLike (outs : Bool) (sys : SystemTables) (bodies : List BodyTables)
+    : World MachineContext → World MachineContext → Type 0
   where
     ByTables :
-        (v w : World MachineContext) (tables : List LiveTable) → AreLiveTables bodies tables →
-        IsLikeBy sys tables v w → IsLike sys bodies v w
+        (v w : World MachineContext) (tables : List LiveTable) → AreLiveTables outs bodies tables →
+        IsLikeBy sys tables v w → IsLike outs sys bodies v w
     Through :
-        (u v w : World MachineContext) → IsLike sys bodies u v → IsLike sys bodies v w → IsLike sys bodies u w
+        (u v w : World MachineContext) → IsLike outs sys bodies u v → IsLike outs sys bodies v w →
+        IsLike outs sys bodies u w

@@ -1,7 +1,7 @@
 //! Whether a table of live locals keeps to the code.
 ghost use Rattle.std.specs.Prelude.{◌≡◌, ◌+◌, ◌<◌, ◌^◌, ℕ, IsTrue, Some, false, length, slice_get};
 ghost use Rattle.fmp_instructions.specs.Machine.{call_before as instruction_before};
-ghost use Rattle.fmp_live.specs.LiveLocals.{IsLiveTable, KeepsAwaits, KeepsGoes, is_awaited as awaited, is_needed as needed, is_replied as replied, is_within as within, live_table};
+ghost use Rattle.fmp_live.specs.LiveLocals.{IsLiveTable, KeepsAwaits, KeepsGoes, is_awaited as awaited, is_named as named, is_needed as needed, is_replied as replied, is_within as within, live_table};
 
 use crate::live_rows::{LiveRows, is_live, row_at};
 use fmp_instructions::Instruction;
@@ -38,7 +38,7 @@ pub fn is_needed(rows: &LiveRows, place: usize, instruction: Instruction, local:
 }
 
 /// The instruction before a place.
-fn call_before(code: &[Instruction], place: usize) -> Option<Instruction>
+pub fn call_before(code: &[Instruction], place: usize) -> Option<Instruction>
     ensures { result ≡ instruction_before code.now place }
 {
     match place.checked_sub(1) {
@@ -47,26 +47,40 @@ fn call_before(code: &[Instruction], place: usize) -> Option<Instruction>
     }
 }
 
-/// Whether every reply to this call writes a local.
-fn is_replied(call: Option<Instruction>, local: usize) -> bool
-    ensures { result ≡ replied call local }
+/// Whether a place of a call names a local.
+fn is_named(place: Option<u8>, local: usize) -> bool
+    ensures { result ≡ named place local }
+{
+    match place {
+        Some(place) => local == place as usize,
+        None => false,
+    }
+}
+
+/// Whether every reply to this call writes a local, where out places count as written by every reply or not.
+fn is_replied(outs: bool, call: Option<Instruction>, local: usize) -> bool
+    ensures { result ≡ replied outs call local }
 {
     match call {
-        Some(
-            Instruction::Call {
-                result: Some(place),
-                ..
-            },
-        ) => local == place as usize,
+        Some(Instruction::Call { out, result, .. }) => {
+            is_named(result, local) || outs && is_named(out, local)
+        }
         _ => false,
     }
 }
 
-/// Whether a local must be live where a body awaits a reply at a place.
-pub fn is_awaited(rows: &LiveRows, code: &[Instruction], place: usize, local: usize) -> bool
-    ensures { result ≡ awaited (live_table rows.now) code.now place local }
+/// Whether a local must be live where a body awaits a reply at a place, where out places count as written by every
+/// reply or not.
+pub fn is_awaited(
+    outs: bool,
+    rows: &LiveRows,
+    code: &[Instruction],
+    place: usize,
+    local: usize,
+) -> bool
+    ensures { result ≡ awaited outs (live_table rows.now) code.now place local }
 {
-    is_live(&rows.goes, place, local) && !is_replied(call_before(code, place), local)
+    is_live(&rows.goes, place, local) && !is_replied(outs, call_before(code, place), local)
 }
 
 /// Whether no local that is dead at a place must be live before its instruction.
@@ -84,11 +98,11 @@ fn keeps_goes(rows: &LiveRows, code: &[Instruction], place: usize) -> bool
 }
 
 /// Whether no local that is dead where a reply is awaited must be live then.
-fn keeps_awaits(rows: &LiveRows, code: &[Instruction], place: usize) -> bool
-    ensures { IsTrue result → KeepsAwaits code.now (live_table rows.now) place }
+fn keeps_awaits(outs: bool, rows: &LiveRows, code: &[Instruction], place: usize) -> bool
+    ensures { IsTrue result → KeepsAwaits outs code.now (live_table rows.now) place }
 {
     for (local, live) in row_at(&rows.awaits, place).iter().enumerate() {
-        if !*live && is_awaited(rows, code, place, local) {
+        if !*live && is_awaited(outs, rows, code, place, local) {
             return false;
         }
     }
@@ -108,20 +122,21 @@ fn all_keep_goes(rows: &LiveRows, code: &[Instruction]) -> bool
 }
 
 /// Whether no local is dead that must be live where a reply is awaited.
-fn all_keep_awaits(rows: &LiveRows, code: &[Instruction]) -> bool
-    ensures { IsTrue result → (place : ℕ) → KeepsAwaits code.now (live_table rows.now) place }
+fn all_keep_awaits(outs: bool, rows: &LiveRows, code: &[Instruction]) -> bool
+    ensures { IsTrue result → (place : ℕ) → KeepsAwaits outs code.now (live_table rows.now) place }
 {
     for place in 0..rows.awaits.len() {
-        if !keeps_awaits(rows, code, place) {
+        if !keeps_awaits(outs, rows, code, place) {
             return false;
         }
     }
     true
 }
 
-/// Whether no local that the table of a body calls dead has to be live.
-pub fn is_live_table(rows: &LiveRows, code: &[Instruction]) -> bool
-    ensures { IsTrue result → IsLiveTable code.now (live_table rows.now) }
+/// Whether no local that the table of a body calls dead has to be live, where out places count as written by every
+/// reply or not.
+pub fn is_live_table(outs: bool, rows: &LiveRows, code: &[Instruction]) -> bool
+    ensures { IsTrue result → IsLiveTable outs code.now (live_table rows.now) }
 {
-    all_keep_goes(rows, code) && all_keep_awaits(rows, code)
+    all_keep_goes(rows, code) && all_keep_awaits(outs, rows, code)
 }

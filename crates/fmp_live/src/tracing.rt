@@ -29,6 +29,7 @@ fn revive(rows: &mut [[bool; 64]], place: usize, local: usize) {
 
 /// Makes live what must be before an instruction, and where a reply is awaited before it. Whether it was dead.
 fn trace_place(
+    outs: bool,
     rows: &mut LiveRows,
     code: &[Instruction],
     place: usize,
@@ -42,7 +43,7 @@ fn trace_place(
             revive(&mut rows.goes, place, local);
             grown = true;
         }
-        if !is_live(&rows.awaits, place, local) && is_awaited(rows, code, place, local) {
+        if !is_live(&rows.awaits, place, local) && is_awaited(outs, rows, code, place, local) {
             revive(&mut rows.awaits, place, local);
             grown = true;
         }
@@ -51,10 +52,10 @@ fn trace_place(
 }
 
 /// Goes through the code once, from its end to its start. Whether anything became live.
-fn trace_round(rows: &mut LiveRows, code: &[Instruction]) -> bool {
+fn trace_round(outs: bool, rows: &mut LiveRows, code: &[Instruction]) -> bool {
     let mut grown = false;
     for (place, instruction) in code.iter().enumerate().rev() {
-        if trace_place(rows, code, place, *instruction) {
+        if trace_place(outs, rows, code, place, *instruction) {
             grown = true;
         }
     }
@@ -62,13 +63,13 @@ fn trace_round(rows: &mut LiveRows, code: &[Instruction]) -> bool {
 }
 
 /// A table of live locals. `AllocError` if memory runs out.
-fn traced(alloc: Global, code: &[Instruction]) -> Result<LiveRows, AllocError> {
+fn traced(alloc: Global, outs: bool, code: &[Instruction]) -> Result<LiveRows, AllocError> {
     let mut rows = LiveRows {
         goes: dead_rows(alloc, code.len())?,
         awaits: dead_rows(alloc, code.len())?,
     };
     for _ in 0..ROUNDS {
-        if !trace_round(&mut rows, code) {
+        if !trace_round(outs, &mut rows, code) {
             break;
         }
     }
@@ -87,10 +88,10 @@ fn all_live(alloc: Global) -> LiveRows
 }
 
 /// A table, or one in which all locals are live where it does not keep to the code.
-fn judged(alloc: Global, rows: LiveRows, code: &[Instruction]) -> LiveRows
-    ensures { IsLiveTable code.now (live_table result) }
+fn judged(alloc: Global, outs: bool, rows: LiveRows, code: &[Instruction]) -> LiveRows
+    ensures { IsLiveTable outs code.now (live_table result) }
 {
-    if is_live_table(&rows, code) {
+    if is_live_table(outs, &rows, code) {
         rows
     } else {
         all_live(alloc)
@@ -98,30 +99,31 @@ fn judged(alloc: Global, rows: LiveRows, code: &[Instruction]) -> LiveRows
 }
 
 /// The table of the live locals of a body. `AllocError` if memory runs out.
-fn live_rows(alloc: Global, code: &[Instruction]) -> Result<LiveRows, AllocError>
-    ensures { IfOk result (λ rows. IsLiveTable code.now (live_table rows)) }
+fn live_rows(alloc: Global, outs: bool, code: &[Instruction]) -> Result<LiveRows, AllocError>
+    ensures { IfOk result (λ rows. IsLiveTable outs code.now (live_table rows)) }
 {
-    let rows = traced(alloc, code)?;
-    Ok(judged(alloc, rows, code))
+    let rows = traced(alloc, outs, code)?;
+    Ok(judged(alloc, outs, rows, code))
 }
 
 /// The tables of all bodies. `AllocError` if memory runs out.
-fn tables(alloc: Global, code: &Code) -> Result<LiveLocals, AllocError>
-    ensures { IfOk result (λ live. AreLiveTables (code_tables code.now) (live_tables live)) }
+fn tables(alloc: Global, outs: bool, code: &Code) -> Result<LiveLocals, AllocError>
+    ensures { IfOk result (λ live. AreLiveTables outs (code_tables code.now) (live_tables live)) }
 {
     let mut bodies = Vec::new(alloc);
     for body in &code.bodies {
-        let rows = live_rows(alloc, &body.instructions)?;
+        let rows = live_rows(alloc, outs, &body.instructions)?;
         bodies.push(rows)?;
     }
     Ok(LiveLocals { bodies })
 }
 
-/// The live locals of all bodies of the code; where memory runs out, all are live.
-pub fn live_locals(alloc: Global, code: &Code) -> LiveLocals
-    ensures { AreLiveTables (code_tables code.now) (live_tables result) }
+/// The live locals of all bodies of the code, where the local at the out place of a call counts as written by every
+/// reply, or by E_OK alone. Where memory runs out, all are live.
+pub fn live_locals(alloc: Global, outs: bool, code: &Code) -> LiveLocals
+    ensures { AreLiveTables outs (code_tables code.now) (live_tables result) }
 {
-    match tables(alloc, code) {
+    match tables(alloc, outs, code) {
         Ok(live) => live,
         Err(_) => LiveLocals {
             bodies: Vec::new(alloc),

@@ -178,8 +178,8 @@ module _ (sys : SystemTables) (tables : List LiveTable) (w : World MachineContex
   any-zeroed [] l = refl
   any-zeroed (never ∷ rest) l = ap₂ (λ (a b : Bool). a || b) (told-zeroed never l) (any-zeroed rest l)
 
-module _ (sys : SystemTables) (bodies : List BodyTables) (nevers : List NeverAt) (l : Line) where
-  like-there : (v w : World MachineContext) → IsLike sys bodies v w
+module _ (outs : Bool) (sys : SystemTables) (bodies : List BodyTables) (nevers : List NeverAt) (l : Line) where
+  like-there : (v w : World MachineContext) → IsLike outs sys bodies v w
       → forbids_there sys nevers v l ≡ forbids_there sys nevers w l
   like-there _ _ (ByTables v w tables live h) =
       sym (any-zeroed sys tables v nevers l)
@@ -207,10 +207,10 @@ module _ (sys : SystemTables) (w : World MachineContext) where
   any-timeless (never ∷ rest) l = ap₂ (λ (a b : Bool). a || b) (told-timeless never l) (any-timeless rest l)
 
 -- the same is forbidden in worlds that are alike but for dead locals, whatever the number of the clock
-pub there-even : (sys : SystemTables) (bodies : List BodyTables) (nevers : List NeverAt)
-    → IsEven (IsLike sys bodies) (forbids_there sys nevers)
-there-even sys bodies nevers v w l m alike same =
+pub there-even : (outs : Bool) (sys : SystemTables) (bodies : List BodyTables) (nevers : List NeverAt)
+    → IsEven (IsLike outs sys bodies) (forbids_there sys nevers)
+there-even outs sys bodies nevers v w l m alike same =
     any-timeless sys v nevers l
     ∙ ap (λ (x : Line). forbids_there sys nevers v x) same
     ∙ sym (any-timeless sys v nevers m)
-    ∙ like-there sys bodies nevers m v w alike
+    ∙ like-there outs sys bodies nevers m v w alike

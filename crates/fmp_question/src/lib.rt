@@ -2,6 +2,7 @@
 #![tactic(auto)]
 
 mod endless;
+mod fitting;
 mod placing;
 mod question;
 mod queueing;
@@ -9,6 +10,7 @@ mod site;
 mod standing;
 
 pub use endless::{Outlook, is_endless, is_same, outlook_of};
+pub use fitting::are_written;
 pub use placing::{body_of, first_bad_at, is_bad, is_started, last_call};
 pub use question::{ANSWERS, Never, NeverAt, Question, Ticks, first_forbidden, interrupt_count};
 pub use queueing::queues_within;

@@ -10,7 +10,7 @@ use Rattle.fmp_base.specs.Systems.{SystemTables}
 use Rattle.fmp_bisimulation.specs.Alike.{AlikeStates, SameTime}
 use Rattle.fmp_bisimulation.specs.Closed.{BothAlike}
 use Rattle.fmp_bisimulation.proofs.TimeLaws.{blocks-at, times-at}
-use Rattle.fmp_schedules.specs.Likeness.{IsLikeness}
+use Rattle.fmp_schedules.specs.Likeness.{IsLikeness, StatesAlike}
 use Rattle.fmp_schedules.specs.Deadlocks.{IsDeadlock, IsStuck}
 
 nothing-too : {C : Type 0} (R : World C → World C → Type 0) (x y : Reaction C) → BothAlike R x y → x ≡ Nothing
@@ -38,14 +38,14 @@ stuck-too sys s u rest tasks h d =
     }
 
 pub deadlock-alike : {C : Type 0} (sys : SystemTables) (M : Meaning C) (n : ℕ) (R : World C → World C → Type 0)
-    → IsLikeness sys M n R → (v w : World C) (rest : List Bool) (interrupts : Bool)
+    (F : World C → Event → Type 0) → IsLikeness sys M n R F → (v w : World C) (rest : List Bool) (interrupts : Bool)
     → IsDeadlock sys M n v rest interrupts → R v w → IsDeadlock sys M n w rest interrupts
-deadlock-alike sys M n R like v w rest interrupts d h =
+deadlock-alike sys M n R F like v w rest interrupts d h =
     let s = v.state in
     let u = w.state in
     let k : AlikeStates sys s u = like.states v w h in
     let stands : (e : Event) → step sys M n v e ≡ Nothing → step sys M n w e ≡ Nothing =
-    λ e. nothing-too R (step sys M n v e) (step sys M n w e) (like.keeps v w e h) in
+    λ e. nothing-too (StatesAlike sys) (step sys M n v e) (step sys M n w e) (like.always v w e h) in
     record {
       runs = λ p from to. stands (event.Run p) (d.runs p from to);
       requests = λ on i from to. stands (event.Int i) (d.requests on i from to);

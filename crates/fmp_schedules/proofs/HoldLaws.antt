@@ -9,9 +9,8 @@ use Rattle.fmp_base.specs.Meanings.{Meaning, World}
 use Rattle.fmp_base.specs.Setups.{setup}
 use Rattle.fmp_base.specs.Steps.{step}
 use Rattle.fmp_base.specs.Systems.{SystemTables}
-use Rattle.fmp_bisimulation.specs.Closed.{IsClosed, IsCovered, NoneIsBad, watched}
-use Rattle.fmp_bisimulation.proofs.ClosedLaws.{run-covers}
-use Rattle.fmp_schedules.specs.Likeness.{IsLikeness}
+use Rattle.fmp_bisimulation.specs.Closed.{IsCovered, NoneIsBad, watched}
+use Rattle.fmp_schedules.specs.Likeness.{IsClosedUnder, IsLikeness}
 use Rattle.fmp_schedules.specs.Deadlocks.{IsDeadlock}
 use Rattle.fmp_schedules.specs.Schedules.{Holds, IsSchedule, Rules, Watched, at_first, watched_at_setup, is_any_met}
 use Rattle.fmp_schedules.specs.Schedules.{is_request, is_told, lines_after, may_come, may_still, requests}
@@ -21,7 +20,7 @@ use Rattle.fmp_schedules.specs.Tried.{IsSearched, IsTimeless, NoneIsDeadlock}
 use Rattle.fmp_schedules.proofs.DeadlockLaws.{deadlock-alike}
 use Rattle.fmp_schedules.proofs.RuleLaws.{may_come-same, watch-blind}
 use Rattle.fmp_schedules.proofs.SectionLaws.{any-along, any_met_along, none-along}
-use Rattle.fmp_schedules.proofs.TriedLaws.{tried-closed}
+use Rattle.fmp_schedules.proofs.TriedLaws.{tried-under, under-covers}
 
 pub or-none : (a : Bool) → a ≡ (a || false)
 or-none true = refl
@@ -78,8 +77,8 @@ still-watched idle (Some most) queued sections forbidden a events =
 
 module _ {C : Type 0} (rules : Rules) (sys : SystemTables) (M : Meaning C) (n : ℕ) (forbidden : Line → Bool)
     (rest : List Bool) (K : World C → Watched → Type 0) (even : IsTimeless forbidden) (R : World C → World C → Type 0)
-    (like : IsLikeness sys M n R)
-    (closed : IsClosed R (watch rules forbidden) (may_come rules sys M n) (step sys M n) K)
+    (F : World C → Event → Type 0) (like : IsLikeness sys M n R F)
+    (closed : IsClosedUnder R (watch rules forbidden) (may_come rules sys M n) (step sys M n) K)
     (first : IsCovered R K (setup sys M).world (watched_at_setup rules sys M forbidden)) where
   abbrev pub watched_after : List Event → Watched
   watched_after es = watched (watch rules forbidden) (at_first rules.sections) (lines_after sys M n es)
@@ -87,8 +86,8 @@ module _ {C : Type 0} (rules : Rules) (sys : SystemTables) (M : Meaning C) (n : 
   pub covered : (es : List Event) → IsSchedule rules sys M n forbidden es
       → IsCovered R K (reached sys M n es) (watched_after es)
   covered es schedule =
-      run-covers R (watch rules forbidden) like.chained (watch-blind forbidden even rules) K (may_come rules sys M n)
-      (may_come-same sys M n R like rules) sys M n like.keeps closed (setup sys M).world
+      under-covers R (watch rules forbidden) K (may_come rules sys M n) (may_come-same sys M n R F like rules) sys M n
+      closed (setup sys M).world
       (watched_at_setup rules sys M forbidden) es schedule first
 
   still-after : (es : List Event)
@@ -112,17 +111,17 @@ module _ {C : Type 0} (rules : Rules) (sys : SystemTables) (M : Meaning C) (n : 
             ∙ (neither (watched_after es).told (watched_after es).met (clean k.world (watched_after es) k.kept)).1;
         free = λ es schedule d. let k = covered es schedule in
             free k.world (watched_after es) k.kept
-            (deadlock-alike sys M n R like (reached sys M n es) k.world rest
+            (deadlock-alike sys M n R F like (reached sys M n es) k.world rest
             (may_still rules.most (watched_after es).came)
             (subst (λ (b : Bool). IsDeadlock sys M n (reached sys M n es) rest b) (still-after es) d) k.alike);
       }
 
 module _ {C : Type 0} (rules : Rules) (sys : SystemTables) (M : Meaning C) (n : ℕ) (forbidden : Line → Bool)
     (rest : List Bool) (K : World C → Watched → Type 0) (even : IsTimeless forbidden) (R : World C → World C → Type 0)
-    (h : IsSearched R rules sys M n forbidden rest K) where
-  searched-closed : IsClosed R (watch rules forbidden) (may_come rules sys M n) (step sys M n) K
+    (F : World C → Event → Type 0) (h : IsSearched R F rules sys M n forbidden rest K) where
+  searched-closed : IsClosedUnder R (watch rules forbidden) (may_come rules sys M n) (step sys M n) K
   searched-closed =
-      tried-closed sys M n R h.like (watch rules forbidden) (may_come rules sys M n) K
+      tried-under sys M n R F h.like (watch rules forbidden) (may_come rules sys M n) K
       (watch-blind forbidden even rules) h.whole h.tried
 
   -- a search that tried each event has a world like the one that any schedule reaches
@@ -130,8 +129,8 @@ module _ {C : Type 0} (rules : Rules) (sys : SystemTables) (M : Meaning C) (n : 
       → IsCovered R K (reached sys M n es)
       (watched (watch rules forbidden) (at_first rules.sections) (lines_after sys M n es))
   searched-covered es schedule =
-      covered rules sys M n forbidden rest K even R h.like searched-closed h.first es schedule
+      covered rules sys M n forbidden rest K even R F h.like searched-closed h.first es schedule
 
   -- a search that tried each event and found nothing shows that all schedules hold
   pub searched-holds : Holds rules sys M n forbidden rest
-  searched-holds = closed-holds rules sys M n forbidden rest K even R h.like searched-closed h.first h.clean h.free
+  searched-holds = closed-holds rules sys M n forbidden rest K even R F h.like searched-closed h.first h.clean h.free

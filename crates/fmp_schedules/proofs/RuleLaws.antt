@@ -12,10 +12,10 @@ use Rattle.fmp_base.specs.Meanings.{Meaning, World}
 use Rattle.fmp_base.specs.Setups.{setup}
 use Rattle.fmp_base.specs.Steps.{Reaction, Nothing, Did, Kept, step}
 use Rattle.fmp_base.specs.Systems.{SystemTables}
-use Rattle.fmp_bisimulation.specs.Alike.{AlikeStates, SameBlocks}
+use Rattle.fmp_bisimulation.specs.Alike.{SameBlocks}
 use Rattle.fmp_bisimulation.specs.Closed.{AreAllowed, BothAlike, IsBlind, IsRule, Watch, all_timeless, allowed_after}
 use Rattle.fmp_bisimulation.specs.Closed.{timeless}
-use Rattle.fmp_schedules.specs.Likeness.{IsLikeness}
+use Rattle.fmp_schedules.specs.Likeness.{IsLikeness, StatesAlike}
 use Rattle.fmp_schedules.specs.Schedules.{IsSchedule, Rules, Watched, watched_at_setup, came_after, are_within}
 use Rattle.fmp_schedules.specs.Schedules.{is_any_met, is_nothing, is_request, is_within, may_come, may_still, may_try}
 use Rattle.fmp_schedules.specs.Schedules.{none_runs, sections_after, stays_within, watch, watched_on}
@@ -50,13 +50,13 @@ within-same None now other xs ys h = refl
 within-same (Some most) now other xs ys h = all_within-same most now other xs ys h
 
 module _ {C : Type 0} (sys : SystemTables) (M : Meaning C) (n : ℕ) (R : World C → World C → Type 0)
-    (like : IsLikeness sys M n R) where
+    (F : World C → Event → Type 0) (like : IsLikeness sys M n R F) where
   -- as much is queued after what the same event does in alike worlds
-  stays-same : (most : Option ℕ) (x y : Reaction C) → BothAlike R x y → stays_within most x ≡ stays_within most y
+  stays-same : (most : Option ℕ) (x y : Reaction C) → BothAlike (StatesAlike sys) x y
+      → stays_within most x ≡ stays_within most y
   stays-same most Nothing Nothing h = refl
-  stays-same most (Did c) (Did d) (lines, r) =
-      within-same most _ _ c.world.state.tasks d.world.state.tasks
-      (let s : AlikeStates sys c.world.state d.world.state = like.states c.world d.world r in s.tasks)
+  stays-same most (Did c) (Did d) (lines, s) =
+      within-same most _ _ c.world.state.tasks d.world.state.tasks s.tasks
   stays-same most (Kept p v) (Kept q w) h = refl
   stays-same most Nothing (Did d) h = absurd h
   stays-same most Nothing (Kept q w) h = absurd h
@@ -70,8 +70,8 @@ module _ {C : Type 0} (sys : SystemTables) (M : Meaning C) (n : ℕ) (R : World 
   none_runs-same v w h zero = refl
   none_runs-same v w h (suc p) =
       ap (λ (b : Bool). b && none_runs sys M n v p)
-      (nothing-same R (step sys M n v (event.Run (suc p))) (step sys M n w (event.Run (suc p)))
-      (like.keeps v w (event.Run (suc p)) h))
+      (nothing-same (StatesAlike sys) (step sys M n v (event.Run (suc p))) (step sys M n w (event.Run (suc p)))
+      (like.always v w (event.Run (suc p)) h))
       ∙ ap (λ (b : Bool). is_nothing (step sys M n w (event.Run (suc p))) && b) (none_runs-same v w h p)
 
   may_try-same : (rules : Rules) → IsRule R (may_try rules sys M n)
@@ -83,7 +83,7 @@ module _ {C : Type 0} (sys : SystemTables) (M : Meaning C) (n : ℕ) (R : World 
   pub may_come-same : (rules : Rules) → IsRule R (may_come rules sys M n)
   may_come-same rules v w a e h =
       ap₂ (λ (b c : Bool). b && c) (may_try-same rules v w a e h)
-      (stays-same rules.queued (step sys M n v e) (step sys M n w e) (like.keeps v w e h))
+      (stays-same rules.queued (step sys M n v e) (step sys M n w e) (like.always v w e h))
 
 request-timeless : (l : Line) → is_request l ≡ is_request (timeless l)
 request-timeless (line.Tick clock) = refl

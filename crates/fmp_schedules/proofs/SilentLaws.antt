@@ -9,12 +9,13 @@ use Rattle.fmp_base.specs.Setups.{setup}
 use Rattle.fmp_base.specs.Steps.{Reaction, Nothing, Did, Kept, step}
 use Rattle.fmp_base.specs.Systems.{SystemTables}
 use Rattle.fmp_bisimulation.specs.Closed.{AreAllowed, BothAlike, Watch, all_timeless, allowed_after, timeless, watched}
+use Rattle.fmp_schedules.specs.Likeness.{StatesAlike}
 use Rattle.fmp_schedules.specs.Schedules.{HoldsThere, IsSilent, Rules, Watched, at_first, lines_after, may_come}
 use Rattle.fmp_schedules.specs.Schedules.{reached, watch, watched_at_setup}
 use Rattle.fmp_schedules.specs.Tried.{AreSilent, IsEven, IsSearched, IsTimeless, IsTriedSilent, is_event_of}
 use Rattle.fmp_schedules.proofs.HoldLaws.{searched-covered}
 use Rattle.fmp_schedules.proofs.RuleLaws.{may_come-same}
-use Rattle.fmp_schedules.proofs.TriedLaws.{other-nothing}
+use Rattle.fmp_schedules.proofs.TriedLaws.{nothing-back, other-nothing}
 
 -- the last event of a list that is allowed may come to the world that the others leave, and they are allowed
 module _ {C S : Type 0} (W : Watch S) (may : World C → S → Event → Bool) (sys : SystemTables) (M : Meaning C) (n : ℕ)
@@ -69,23 +70,24 @@ module _ {C : Type 0} (R : World C → World C → Type 0) (forbidden : World C 
 
 module _ {C : Type 0} (rules : Rules) (sys : SystemTables) (M : Meaning C) (n : ℕ) (forbidden : Line → Bool)
     (rest : List Bool) (K : World C → Watched → Type 0) (even : IsTimeless forbidden) (R : World C → World C → Type 0)
-    (h : IsSearched R rules sys M n forbidden rest K)
-    (there : World C → Line → Bool) (level : IsEven R there) (silent : AreSilent R rules sys M n there K) where
+    (F : World C → Event → Type 0) (h : IsSearched R F rules sys M n forbidden rest K)
+    (there : World C → Line → Bool) (level : IsEven R there) (silent : AreSilent R F rules sys M n there K) where
   abbrev Silent : World C → Event → Type 0
   Silent w e = IsSilent there (step sys M n w e)
 
-  alike-silent : (v w : World C) (e : Event) → R v w → Silent w e → Silent v e
-  alike-silent v w e alike s =
-      silent-too R there level (step sys M n v e) (step sys M n w e) (h.like.keeps v w e alike) s
-
-  kept-silent : (w : World C) (a : Watched) (e : Event) → K w a → may_come rules sys M n w a e ≡ true → Silent w e
-  kept-silent w a e k now = by_event (is_event_of sys e) refl where
-    by_event : (b : Bool) → is_event_of sys e ≡ b → Silent w e
+  -- an event that may come to a world of the set is silent in each world that is like it
+  kept-silent : (v w : World C) (a : Watched) (e : Event) → R v w → K w a → may_come rules sys M n w a e ≡ true
+      → Silent v e
+  kept-silent v w a e r k now = by_event (is_event_of sys e) refl where
+    by_event : (b : Bool) → is_event_of sys e ≡ b → Silent v e
     by_event true is =
-        let t : IsTriedSilent R sys M n there w e = silent w a e k is now in
-        alike-silent w t.world e t.alike t.silent
+        let t : IsTriedSilent R F sys M n there w e = silent w a e k is now in
+        silent-too R there level (step sys M n v e) (step sys M n t.world e)
+        (h.like.keeps v t.world e (h.like.chained v w t.world r t.alike) t.fit) t.silent
     by_event false is =
-        subst (λ (x : Reaction C). IsSilent there x) (sym (other-nothing sys M n w e (h.whole w a k) is)) tt
+        subst (λ (x : Reaction C). IsSilent there x)
+        (sym (nothing-back (StatesAlike sys) (step sys M n v e) (step sys M n w e) (h.like.always v w e r)
+        (other-nothing sys M n w e (h.whole w a k) is))) tt
 
   -- a search in which each event that was tried was silent shows that every event of a schedule is
   pub searched-silent : HoldsThere rules sys M n forbidden there
@@ -94,10 +96,9 @@ module _ {C : Type 0} (rules : Rules) (sys : SystemTables) (M : Meaning C) (n : 
         silent = λ es e schedule.
             let last = last-allowed (watch rules forbidden) (may_come rules sys M n) sys M n (setup sys M).world
             (watched_at_setup rules sys M forbidden) es e schedule in
-            let k = searched-covered rules sys M n forbidden rest K even R h es last.0 in
+            let k = searched-covered rules sys M n forbidden rest K even R F h es last.0 in
             let v = reached sys M n es in
             let a = watched (watch rules forbidden) (at_first rules.sections) (lines_after sys M n es) in
-            alike-silent v k.world e k.alike
-            (kept-silent k.world a e k.kept
-            (sym (may_come-same sys M n R h.like rules v k.world a e k.alike) ∙ last.1));
+            kept-silent v k.world a e k.alike k.kept
+            (sym (may_come-same sys M n R F h.like rules v k.world a e k.alike) ∙ last.1);
       }

@@ -9,16 +9,16 @@ use Rattle.fmp_base.specs.Meanings.{Meaning, World}
 use Rattle.fmp_base.specs.Runs.{run}
 use Rattle.fmp_base.specs.Steps.{Reaction, Nothing, Did, Kept, step}
 use Rattle.fmp_base.specs.Systems.{SystemTables}
-use Rattle.fmp_bisimulation.specs.Closed.{AreAllowed, IsClosed, IsCovered, NoneIsBad, allowed_after, watched}
-use Rattle.fmp_bisimulation.proofs.ClosedLaws.{run-covers}
-use Rattle.fmp_schedules.specs.Likeness.{IsLikeness}
+use Rattle.fmp_bisimulation.specs.Closed.{AreAllowed, IsCovered, NoneIsBad, allowed_after, watched}
+use Rattle.fmp_schedules.specs.Likeness.{IsClosedUnder, IsLikeness}
 use Rattle.fmp_schedules.specs.Deadlocks.{is_interrupt}
 use Rattle.fmp_schedules.specs.Schedules.{Rules, Watched, came_after, is_request, is_told, may_come, may_still, may_try}
 use Rattle.fmp_schedules.specs.Schedules.{reached, stays_within, watch, watched_on}
 use Rattle.fmp_schedules.specs.Stuck.{MayFollow}
 use Rattle.fmp_schedules.specs.Tried.{IsTimeless}
 use Rattle.fmp_schedules.proofs.HoldLaws.{neither, told-watched}
-use Rattle.fmp_schedules.proofs.RuleLaws.{may_come-same, watch-blind}
+use Rattle.fmp_schedules.proofs.RuleLaws.{may_come-same}
+use Rattle.fmp_schedules.proofs.TriedLaws.{under-covers}
 
 -- as many interrupts came, where their number is limited
 abbrev pub SameCame : Option ℕ → (came other : ℕ) → Type 0
@@ -71,8 +71,8 @@ module _ {C : Type 0} (rules : Rules) (sys : SystemTables) (M : Meaning C) (n : 
 
 module _ {C : Type 0} (rules : Rules) (sys : SystemTables) (M : Meaning C) (n : ℕ) (forbidden : Line → Bool)
     (K : World C → Watched → Type 0) (even : IsTimeless forbidden) (R : World C → World C → Type 0)
-    (like : IsLikeness sys M n R)
-    (closed : IsClosed R (watch rules forbidden) (may_come rules sys M n) (step sys M n) K)
+    (F : World C → Event → Type 0) (like : IsLikeness sys M n R F)
+    (closed : IsClosedUnder R (watch rules forbidden) (may_come rules sys M n) (step sys M n) K)
     (clean : NoneIsBad (watch rules forbidden) K) where
   -- behind events whose world is like one of the set, no forbidden line is told
   pub none-behind : (es more : List Event) (a : Watched) → a.told ≡ false
@@ -82,8 +82,8 @@ module _ {C : Type 0} (rules : Rules) (sys : SystemTables) (M : Meaning C) (n : 
       let w : World C = reached sys M n es in
       let events : List (List Line) = (run sys M n (reached sys M n es) more).events in
       let b : Watched = watched (watch rules forbidden) a (run sys M n (reached sys M n es) more).events in
-      let k = run-covers R (watch rules forbidden) like.chained (watch-blind forbidden even rules) K
-      (may_come rules sys M n) (may_come-same sys M n R like rules) sys M n like.keeps closed
+      let k = under-covers R (watch rules forbidden) K (may_come rules sys M n)
+      (may_come-same sys M n R F like rules) sys M n closed
       (reached sys M n es) a more
       (allowed-too rules sys M n (λ (l : Line). false) forbidden (reached sys M n es)
       (record { came = count_by is_interrupt es; told = false; sections = []; met = false }) a more same follow)

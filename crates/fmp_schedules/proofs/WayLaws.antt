@@ -70,9 +70,9 @@ no-sections None k = tt
 no-sections (Some most) k = refl
 
 module _ {C : Type 0} (rules : Rules) (sys : SystemTables) (M : Meaning C) (n : ℕ) (forbidden : Line → Bool)
-    (R : World C → World C → Type 0) (like : IsLikeness sys M n R) (even : IsTimeless forbidden) (t : ℕ)
-    (Far : ℕ → World C → Watched → Type 0)
-    (way : (k : ℕ) (w : World C) (a : Watched) → Far k w a → HasWay R rules sys M n forbidden t Far k w a) where
+    (R : World C → World C → Type 0) (F : World C → Event → Type 0) (like : IsLikeness sys M n R F)
+    (even : IsTimeless forbidden) (t : ℕ) (Far : ℕ → World C → Watched → Type 0)
+    (way : (k : ℕ) (w : World C) (a : Watched) → Far k w a → HasWay R F rules sys M n forbidden t Far k w a) where
   abbrev Allowed : World C → Watched → List Event → Type 0
   Allowed v a es = AreAllowed (watch rules forbidden) (may_come rules sys M n) (step sys M n) v a es
 
@@ -167,13 +167,13 @@ module _ {C : Type 0} (rules : Rules) (sys : SystemTables) (M : Meaning C) (n : 
       let h = way k w a far in
       step-on fuel k v a h.event (step sys M n v h.event) (step sys M n h.world h.event) below
       (λ j x y b less near r. goes-on fuel j x y b less near r) refl
-      (may_come-same sys M n R like rules v w a h.event alike ∙ h.may)
-      (like.keeps v h.world h.event (like.chained v w h.world alike h.alike)) h.leads
+      (may_come-same sys M n R F like rules v w a h.event alike ∙ h.may)
+      (like.keeps v h.world h.event (like.chained v w h.world alike h.alike) h.fit) h.leads
 
 module _ {C : Type 0} (rules : Rules) (sys : SystemTables) (M : Meaning C) (n : ℕ) (forbidden : Line → Bool)
     (rest : List Bool) (K : World C → Watched → Type 0) (even : IsTimeless forbidden) (R : World C → World C → Type 0)
-    (h : IsSearched R rules sys M n forbidden rest K) (resting : List Bool) (Far : ℕ → ℕ → World C → Watched → Type 0)
-    (ways : HaveWays R rules sys M n forbidden resting K Far) where
+    (F : World C → Event → Type 0) (h : IsSearched R F rules sys M n forbidden rest K) (resting : List Bool)
+    (Far : ℕ → ℕ → World C → Watched → Type 0) (ways : HaveWays R F rules sys M n forbidden resting K Far) where
   phase-too : (v w : World C) (t : ℕ) → R v w → (task_at v.state.tasks t).phase ≢ Dormant
       → (task_at w.state.tasks t).phase ≢ Dormant
   phase-too v w t alike started =
@@ -190,11 +190,11 @@ module _ {C : Type 0} (rules : Rules) (sys : SystemTables) (M : Meaning C) (n : 
       allowed-too rules sys M n (λ l. false) forbidden (setup sys M).world (watched_at_setup rules sys M (λ l. false))
       (watched_at_setup rules sys M forbidden) es (no-sections rules.most (watched_at_setup rules sys M forbidden).came)
       schedule in
-      let c = searched-covered rules sys M n forbidden rest K even R h es here in
+      let c = searched-covered rules sys M n forbidden rest K even R F h es here in
       let a = watched (watch rules forbidden) (at_first rules.sections) (lines_after sys M n es) in
       let far = ways.distance t c.world a there may_not c.kept (phase-too v c.world t c.alike started) in
       let g =
-      goes-on rules sys M n forbidden R h.like even t (Far t) (λ k w b f. ways.way t k w b f) (suc far.0) far.0 c.world
+      goes-on rules sys M n forbidden R F h.like even t (Far t) (λ k w b f. ways.way t k w b f) (suc far.0) far.0 c.world
       v a (omega arith) far.1 c.alike in
       record {
         more = g.more;

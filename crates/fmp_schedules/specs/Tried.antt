@@ -25,11 +25,13 @@ is_event_of sys event.Tick = true
 is_event_of sys (event.Int zero) = false
 is_event_of sys (event.Int (suc i)) = is_some (interrupt_config sys i)
 
--- an event was tried on some world that is like w, with what is watched at w, and led to what K has, if to anything
-pub record IsTried {C S : Type 0} (R : World C → World C → Type 0) (W : Watch S) (go : World C → Event → Reaction C)
-    (K : World C → S → Type 0) (w : World C) (a : S) (e : Event) : Type 0 where
+-- an event was tried on some world that is like w and that it fits, with what is watched at w, and led to what K has,
+-- if to anything
+pub record IsTried {C S : Type 0} (R : World C → World C → Type 0) (F : World C → Event → Type 0) (W : Watch S)
+    (go : World C → Event → Reaction C) (K : World C → S → Type 0) (w : World C) (a : S) (e : Event) : Type 0 where
   pub world : World C
   pub alike : R w world
+  pub fit : F world e
   pub leads : LeadsIn R W K a (go world e)
 
 -- none of a set is a deadlock
@@ -41,16 +43,17 @@ NoneIsDeadlock {C} rules sys M n rest K =
 -- What a search has to show of the set of worlds that it has seen, each with what is watched there. Each has the
 -- processors of the system. The world after setup is like one of them. Each of the system's events that may come to one
 -- of them was tried, and led to nothing new. In none was a forbidden line told, or did a task enter a section that
--- another held, and none is a deadlock. R says which worlds are like one another.
-pub record IsSearched {C : Type 0} (R : World C → World C → Type 0) (rules : Rules) (sys : SystemTables)
-    (M : Meaning C) (n : ℕ) (forbidden : Line → Bool) (rest : List Bool) (K : World C → Watched → Type 0) : Type 0 where
-  pub like : IsLikeness sys M n R
+-- another held, and none is a deadlock. R says which worlds are like one another, F which events fit a world.
+pub record IsSearched {C : Type 0} (R : World C → World C → Type 0) (F : World C → Event → Type 0) (rules : Rules)
+    (sys : SystemTables) (M : Meaning C) (n : ℕ) (forbidden : Line → Bool) (rest : List Bool)
+    (K : World C → Watched → Type 0) : Type 0 where
+  pub like : IsLikeness sys M n R F
   pub whole : (w : World C) (a : Watched) → K w a → length w.state.processors ≡ sys.processors
   pub first : IsCovered R K (setup sys M).world (watched_at_setup rules sys M forbidden)
   pub tried :
       (w : World C) (a : Watched) (e : Event) → K w a → is_event_of sys e ≡ true →
       may_come rules sys M n w a e ≡ true →
-      IsTried R (watch rules forbidden) (step sys M n) K w a e
+      IsTried R F (watch rules forbidden) (step sys M n) K w a e
   pub clean : NoneIsBad (watch rules forbidden) K
   pub free : NoneIsDeadlock rules sys M n rest K
 
@@ -59,16 +62,19 @@ abbrev pub IsEven : {C : Type 0} → (World C → World C → Type 0) → (World
 IsEven {C} R forbidden =
     (v w : World C) (l m : Line) → R v w → timeless l ≡ timeless m → forbidden v l ≡ forbidden w m
 
--- an event was tried on some world that is like w, and told no line that is forbidden in the world that it left
-pub record IsTriedSilent {C : Type 0} (R : World C → World C → Type 0) (sys : SystemTables) (M : Meaning C) (n : ℕ)
-    (forbidden : World C → Line → Bool) (w : World C) (e : Event) : Type 0 where
+-- an event was tried on some world that is like w and that it fits, and told no line that is forbidden in the world
+-- that it left
+pub record IsTriedSilent {C : Type 0} (R : World C → World C → Type 0) (F : World C → Event → Type 0)
+    (sys : SystemTables) (M : Meaning C) (n : ℕ) (forbidden : World C → Line → Bool) (w : World C) (e : Event)
+    : Type 0 where
   pub world : World C
   pub alike : R w world
+  pub fit : F world e
   pub silent : IsSilent forbidden (step sys M n world e)
 
 -- each of the system's events that may come to one of a set of worlds was tried so
-abbrev pub AreSilent : {C : Type 0} → (World C → World C → Type 0) → Rules → SystemTables → Meaning C → (n : ℕ)
-    → (forbidden : World C → Line → Bool) → (World C → Watched → Type 0) → Type 0
-AreSilent {C} R rules sys M n forbidden K =
+abbrev pub AreSilent : {C : Type 0} → (World C → World C → Type 0) → (World C → Event → Type 0) → Rules → SystemTables
+    → Meaning C → (n : ℕ) → (forbidden : World C → Line → Bool) → (World C → Watched → Type 0) → Type 0
+AreSilent {C} R F rules sys M n forbidden K =
     (w : World C) (a : Watched) (e : Event) → K w a → is_event_of sys e ≡ true →
-    may_come rules sys M n w a e ≡ true → IsTriedSilent R sys M n forbidden w e
+    may_come rules sys M n w a e ≡ true → IsTriedSilent R F sys M n forbidden w e

@@ -29,26 +29,28 @@ LeadsNearer R rules forbidden t Far k a (Did d) =
     (list_any (acts t) d.lines ≡ true) ⊎ IsNearer R Far k d.world (watched_on rules forbidden a d.lines)
 LeadsNearer R rules forbidden t Far k a (Kept p w) = IsNearer R Far k w a
 
--- an event that may come to w was tried on some world that is like w: it told an act of task t, or led nearer to one
-pub record HasWay {C : Type 0} (R : World C → World C → Type 0) (rules : Rules) (sys : SystemTables) (M : Meaning C)
-    (n : ℕ) (forbidden : Line → Bool) (t : ℕ) (Far : ℕ → World C → Watched → Type 0) (k : ℕ) (w : World C)
-    (a : Watched) : Type 0 where
+-- an event that may come to w was tried on some world that is like w and that it fits: it told an act of task t, or led
+-- nearer to one
+pub record HasWay {C : Type 0} (R : World C → World C → Type 0) (F : World C → Event → Type 0) (rules : Rules)
+    (sys : SystemTables) (M : Meaning C) (n : ℕ) (forbidden : Line → Bool) (t : ℕ)
+    (Far : ℕ → World C → Watched → Type 0) (k : ℕ) (w : World C) (a : Watched) : Type 0 where
   pub event : Event
   pub may : may_come rules sys M n w a event ≡ true
   pub world : World C
   pub alike : R w world
+  pub fit : F world event
   pub leads : LeadsNearer R rules forbidden t Far k a (step sys M n world event)
 
 -- Far t k says which worlds are k events away from an act of task t. In each world of the set, each task that is
 -- started and may not rest is at some distance from an act, and there is a way on.
-pub record HaveWays {C : Type 0} (R : World C → World C → Type 0) (rules : Rules) (sys : SystemTables) (M : Meaning C)
-    (n : ℕ) (forbidden : Line → Bool) (rest : List Bool) (K : World C → Watched → Type 0)
-    (Far : ℕ → ℕ → World C → Watched → Type 0) : Type 0 where
+pub record HaveWays {C : Type 0} (R : World C → World C → Type 0) (F : World C → Event → Type 0) (rules : Rules)
+    (sys : SystemTables) (M : Meaning C) (n : ℕ) (forbidden : Line → Bool) (rest : List Bool)
+    (K : World C → Watched → Type 0) (Far : ℕ → ℕ → World C → Watched → Type 0) : Type 0 where
   pub distance :
       (t : ℕ) (w : World C) (a : Watched) → t < length sys.tasks → slice_index_or rest t false ≡ false → K w a →
       (task_at w.state.tasks t).phase ≢ Dormant → (k : ℕ) × Far t k w a
   pub way :
-      (t k : ℕ) (w : World C) (a : Watched) → Far t k w a → HasWay R rules sys M n forbidden t (Far t) k w a
+      (t k : ℕ) (w : World C) (a : Watched) → Far t k w a → HasWay R F rules sys M n forbidden t (Far t) k w a
 
 -- a list has this world with this watch at a place at which this distance is noted
 pub record IsNoted {C : Type 0} (seen : List (Seen C Watched)) (distances : ℕ → Option ℕ) (k : ℕ) (w : World C)

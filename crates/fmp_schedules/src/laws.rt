@@ -14,6 +14,7 @@ ghost use Rattle.fmp_base.specs.Systems.{SystemTables};
 ghost use Rattle.fmp_bisimulation.specs.Alike.{Alike};
 ghost use Rattle.fmp_bisimulation.specs.Closed.{IsBlind, IsClosed, IsCovered, IsListed, IsRule, NoneIsBad, Seen, Watch};
 ghost use Rattle.fmp_schedules.specs.Deadlocks.{IsDeadlock, is_interrupt};
+ghost use Rattle.fmp_schedules.specs.Likeness.{AnyFits};
 ghost use Rattle.fmp_schedules.specs.Schedules.{
   Holds,
   HoldsThere,
@@ -91,7 +92,7 @@ pub fn tried_lists_are_closed<C, S>()
         (seen : List (Seen C S)) → IsBlind W →
         ((w : World C) (a : S) → IsListed seen w a → length w.state.processors ≡ sys.processors) →
         ((w : World C) (a : S) (e : Event) → IsListed seen w a → is_event_of sys e ≡ true → may w a e ≡ true →
-        IsTried (Alike sys) W (step sys M n) (IsListed seen) w a e) →
+        IsTried (Alike sys) (λ v f. AnyFits v f) W (step sys M n) (IsListed seen) w a e) →
         IsClosed (Alike sys) W may (step sys M n) (IsListed seen) }
 {}
 
@@ -111,7 +112,8 @@ pub fn closed_lists_hold<C>()
 pub fn complete_searches_hold<C>()
     ensures { (rules : Rules) (sys : SystemTables) (M : Meaning C) (n : ℕ) (forbidden : Line → Bool)
         (rest : List Bool) (seen : List (Seen C Watched)) → IsTimeless forbidden →
-        IsSearched (Alike sys) rules sys M n forbidden rest (IsListed seen) → Holds rules sys M n forbidden rest }
+        IsSearched (Alike sys) (λ w e. AnyFits w e) rules sys M n forbidden rest (IsListed seen) →
+        Holds rules sys M n forbidden rest }
 {}
 
 /// A search that tried each event, and in which none told a line that is forbidden in the world that it left, shows
@@ -119,8 +121,9 @@ pub fn complete_searches_hold<C>()
 pub fn silent_searches_hold<C>()
     ensures { (rules : Rules) (sys : SystemTables) (M : Meaning C) (n : ℕ) (forbidden : Line → Bool)
         (rest : List Bool) (seen : List (Seen C Watched)) → IsTimeless forbidden →
-        IsSearched (Alike sys) rules sys M n forbidden rest (IsListed seen) → (there : World C → Line → Bool) →
-        IsEven (Alike sys) there → AreSilent (Alike sys) rules sys M n there (IsListed seen) →
+        IsSearched (Alike sys) (λ w e. AnyFits w e) rules sys M n forbidden rest (IsListed seen) →
+        (there : World C → Line → Bool) → IsEven (Alike sys) there →
+        AreSilent (Alike sys) (λ w e. AnyFits w e) rules sys M n there (IsListed seen) →
         HoldsThere rules sys M n forbidden there }
 {}
 
@@ -132,7 +135,8 @@ pub fn ways_on_leave_none_stuck<C>()
     ensures { (rules : Rules) (sys : SystemTables) (M : Meaning C) (n : ℕ) (forbidden : Line → Bool)
         (rest resting : List Bool) (seen : List (Seen C Watched)) (distances : ℕ → ℕ → Option ℕ) →
         IsTimeless forbidden →
-        IsSearched (Alike sys) rules sys M n forbidden rest (IsListed seen) →
-        HaveWays (Alike sys) rules sys M n forbidden resting (IsListed seen) (λ t. IsNoted seen (distances t)) →
+        IsSearched (Alike sys) (λ w e. AnyFits w e) rules sys M n forbidden rest (IsListed seen) →
+        HaveWays (Alike sys) (λ w e. AnyFits w e) rules sys M n forbidden resting (IsListed seen)
+        (λ t. IsNoted seen (distances t)) →
         NoneIsStuck rules sys M n resting }
 {}

@@ -10,13 +10,13 @@ use Rattle.fmp_base.specs.Steps.{Reaction, Nothing, Did, Kept, effect_of, interr
 use Rattle.fmp_base.specs.Systems.{SystemTables, interrupt_config}
 use Rattle.fmp_base.specs.Ticks.{is_pending}
 use Rattle.fmp_witness.specs.Followed.{IsFollowed}
-use Rattle.fmp_witness.specs.Followed.{HasDone, HasKeptPlace, HasStepped}
+use Rattle.fmp_witness.specs.Followed.{HasDone, HasStepped}
 use Rattle.fmp_image_bytes.specs.Images.{ImageTables}
 use Rattle.fmp_instructions.specs.Instructions.{BodyTables}
 use Rattle.fmp_instructions.specs.Machine.{code_meaning}
 use Rattle.fmp_instructions.specs.declared.instructions.MachineContext.{MachineContext}
 use Rattle.fmp_kernel.specs.KernelViews.{KernelView, view_after}
-use Rattle.fmp_replay.specs.Replays.{kernel_after, reaction, replay}
+use Rattle.fmp_replay.specs.Replays.{kernel_after, reaction}
 use Rattle.fmp_replay.proofs.Replaying.{kernel_last, legal_last, step_of_replay}
 use Rattle.fmp_schedules.specs.Deadlocks.{is_interrupt}
 
@@ -33,17 +33,13 @@ module _ {C : Type 0} (sys : SystemTables) (M : Meaning C) (w : World C) (p : �
   interrupt_kept None i e = absurd (cc)
   interrupt_kept (Some config) i e = pending_kept (is_pending w.state.pending_interrupts i) i e
 
-  kept_by_run : (n : ℕ) (e : Event) → step sys M n w e ≡ Kept p v → is_interrupt e ≡ false
+  pub kept_by_run : (n : ℕ) (e : Event) → step sys M n w e ≡ Kept p v → is_interrupt e ≡ false
   kept_by_run n (event.Run k) h = refl
   kept_by_run n event.Tick h = refl
   kept_by_run n (event.Int zero) h = absurd (cc)
   kept_by_run n (event.Int (suc i)) h = absurd (interrupt_kept (interrupt_config sys i) i h)
 
 module _ (i : ImageTables) (n : ℕ) (es : List Event) (e : Event) where
-  pub kept_by_no_interrupt : (p : ℕ) (v : World MachineContext) → reaction i n es e ≡ Kept p v → is_interrupt e ≡ false
-  unfolding reaction
-  kept_by_no_interrupt p v h = kept_by_run i.system (code_meaning i.code) (replay i n es).world p v n e h
-
   -- what a kernel did is what the event does
   pub stepped : (k k' : Kernels) (x : Effect) → IsFollowed i n es k
       → x ≡ effect_of (step k.system (code_meaning k.body) k.bound k.world e)
@@ -87,25 +83,6 @@ module _ (i : ImageTables) (n : ℕ) (es : List Event) (e : Event) where
 
     pub stepped_done : HasStepped i n es e k effect.Done → HasDone i n es e k
     stepped_done h = done_by (reaction i n es e) refl h
-
-    kept_by : (r : Reaction MachineContext) → reaction i n es e ≡ r → HasStepped i n es e k effect.Kept
-        → HasKeptPlace i n es e k
-    kept_by Nothing is h = absurd (cc (effect_at Nothing effect.Kept h is))
-    kept_by (Did d) is h = absurd (cc (effect_at (Did d) effect.Kept h is))
-    kept_by (Kept p v) is h =
-        record {
-          place = p;
-          world = v;
-          keeps = is;
-          followed =
-              record {
-                legal = legal_last i n es e (Kept p v) h.legal is tt;
-                kernel = seen_at (Kept p v) effect.Kept h is ∙ kernel_last i n es e (Kept p v) is tt;
-              };
-        }
-
-    pub stepped_kept : HasStepped i n es e k effect.Kept → HasKeptPlace i n es e k
-    stepped_kept h = kept_by (reaction i n es e) refl h
 
     none_by : (r : Reaction MachineContext) → reaction i n es e ≡ r → HasStepped i n es e k effect.Nothing
         → reaction i n es e ≡ Nothing

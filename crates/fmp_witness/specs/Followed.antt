@@ -2,13 +2,18 @@
 use Rattle.std.specs.Prelude.{ℕ, ◌≡◌, List, [], ◌∷◌, ◌++◌}
 use Rattle.fmp_base.specs.declared.events.Effect.{Effect}
 use Rattle.fmp_base.specs.declared.events.Event.{Event}
-use Rattle.fmp_base.specs.Meanings.{World}
-use Rattle.fmp_base.specs.Steps.{Done, Did, Kept, effect_of}
+use Rattle.fmp_base.specs.Steps.{Done, Did, effect_of}
 use Rattle.fmp_image_bytes.specs.Images.{ImageTables}
 use Rattle.fmp_instructions.specs.Instructions.{BodyTables}
 use Rattle.fmp_instructions.specs.declared.instructions.MachineContext.{MachineContext}
 use Rattle.fmp_kernel.specs.KernelViews.{KernelView, view_after}
 use Rattle.fmp_replay.specs.Replays.{IsLegal, kernel_after, reaction}
+
+-- a kernel of an image, at a bound, in whatever state
+pub record IsOver (i : ImageTables) (n : ℕ) (k : KernelView (List BodyTables) MachineContext) : Type 0 where
+  pub body : k.body ≡ i.code
+  pub bound : k.bound ≡ n
+  pub system : k.system ≡ i.system
 
 -- the kernel of an image that has taken these events
 pub record IsFollowed (i : ImageTables) (n : ℕ) (es : List Event) (k : KernelView (List BodyTables) MachineContext) :
@@ -30,12 +35,4 @@ pub record HasDone (i : ImageTables) (n : ℕ) (es : List Event) (e : Event)
   pub did : reaction i n es e ≡ Did done
   pub lines : k.lines ≡ done.lines
   pub world : k.world ≡ done.world
-  pub followed : IsFollowed i n (es ++ e ∷ []) k
-
--- an event keeps a place after others
-pub record HasKeptPlace (i : ImageTables) (n : ℕ) (es : List Event) (e : Event)
-    (k : KernelView (List BodyTables) MachineContext) : Type 0 where
-  pub place : ℕ
-  pub world : World MachineContext
-  pub keeps : reaction i n es e ≡ Kept place world
   pub followed : IsFollowed i n (es ++ e ∷ []) k

@@ -1,3 +1,2 @@
-pub mod Checkpoints
 pub mod Findings
 pub mod Followed

@@ -1,16 +1,14 @@
-//! What a search shows for what it says. These are findings and whether they are so when their events are replayed,
-//! kernels that are kept along a list of events, and all calls and values that ever came.
+//! What a search shows for what it says. These are findings and whether they are so when their events are replayed, and
+//! all calls and values that ever came.
 #![tactic(auto)]
 
-mod checkpoints;
 mod coverage;
 mod finding;
 mod meeting;
 mod replaying;
 mod started;
 
-pub use checkpoints::Checkpoints;
 pub use coverage::{Coverage, Peaks, RunCoverage};
 pub use finding::{Finding, FindingKind, Left, Together, is_so, left_by};
-pub use replaying::follow;
+pub use replaying::{TAKEN_MOST, follow};
 pub use started::Started;

@@ -8,8 +8,8 @@ returns c =
     IfOk-weaker c.pack.result _ _
     (λ _ e. record {
       values = λ k d lt.
-          let same = get_or_default_zero c.args.values.now k d lt in
-          let fits = c.type_inv.values k in
+          let same = get_or_default_zero c.args.numbers.now k d lt in
+          let fits = c.type_inv.numbers k in
           omega (arith, same, fits);
       is = e;
     }) c.pack.ensures

@@ -1,9 +1,36 @@
-use Rattle.fmp_explore.proofs.MarkLemmas.{few_more}
+use Rattle.std.proofs.Common.{◌∙◌, refl, sym}
+use Rattle.fmp_base.specs.declared.events.Event.TheVariants as event
+use Rattle.fmp_explore.specs.Searching.{watched_in}
+use Rattle.fmp_explore.proofs.MarkLemmas.{few_more, few_still, interrupt_never, tick_never}
 use Rattle.fmp_explore.proofs.searching.may_try.Goals as goal
+
+pub returns-in-Run-clause-few : goal.returns-in-Run-clause-few
+returns-in-Run-clause-few c = λ yes limited.
+    rw c.in-Run.is
+    (few_still c.args.subject.now.question.now c.args.at.now.came (event.Run c.in-Run.field-0) refl c.requires.few
+    limited)
+
+pub returns-in-Tick-clause-few : goal.returns-in-Tick-clause-few
+returns-in-Tick-clause-few c = λ yes limited.
+    rw c.in-Tick.is
+    (few_still c.args.subject.now.question.now c.args.at.now.came event.Tick refl c.requires.few limited)
 
 pub returns-in-Int-clause-few : goal.returns-in-Int-clause-few
 returns-in-Int-clause-few c = λ yes limited.
+    rw c.in-Int.is
+    (few_more c.args.subject.now.question.now c.args.at.now.came c.in-Int.field-0 (c.may_interrupt.ensures.few yes)
+    limited)
+
+pub returns-in-Tick-clause-no : goal.returns-in-Tick-clause-no
+returns-in-Tick-clause-no c = λ w no marks.
+    let s = c.args.subject.now in
+    rw c.in-Tick.is
+    (tick_never s.image.now s.n s.question.now w (watched_in s.question.now c.args.at.now) c.args.marks marks
+    (c.may_tick.ensures.ticks no) (c.may_tick.ensures.marks no))
+
+pub returns-in-Int-clause-no : goal.returns-in-Int-clause-no
+returns-in-Int-clause-no c = λ w no marks.
     let s = c.args.subject.now in
     rw c.in-Int.is
-    (few_more s.image.now s.n s.question.now c.args.steps.now c.in-Int.field-0
-    (c.may_interrupt.ensures.few yes limited))
+    (interrupt_never s.image.now s.n s.question.now w (watched_in s.question.now c.args.at.now) c.in-Int.field-0
+    (sym c.may_interrupt.ensures.may ∙ no))

@@ -22,14 +22,14 @@ loop-body-preserved c =
     let same : c.deref.result.now ≡ instructions_at (code_tables code) (length before) =
     own ∙ sym (instructions-there code.bodies.items c.loop-body.body-index c.body-item.result there)
     ∙ sym (ap (λ (k : ℕ). instructions_at (code_tables code) k) c.loop-body.invariant.0) in
-    let live : IsLiveTable (instructions_at (code_tables code) (length before)) (live_table rows) =
-    subst (λ (xs : List Instruction). IsLiveTable xs (live_table rows)) same c.in_ok-rows.ensures in
+    let live : IsLiveTable c.args.outs (instructions_at (code_tables code) (length before)) (live_table rows) =
+    subst (λ (xs : List Instruction). IsLiveTable c.args.outs xs (live_table rows)) same c.in_ok-rows.ensures in
     let pushed : c.push.new.self.items ≡ before ++ rows ∷ [] = c.in_ok-push.ensures.items in
     let long : length (before ++ rows ∷ []) ≡ length before + 1 = length-append before (rows ∷ []) in (
       ap (λ (rs : List LiveRows). length rs) pushed ∙ long ∙ ap (λ (n : ℕ). n + 1) c.loop-body.invariant.0,
-      subst (λ (rs : List LiveRows). HaveTables (code_tables code) rs) (sym pushed)
-          (one-more (code_tables code) before rows live c.loop-body.invariant.1),
+      subst (λ (rs : List LiveRows). HaveTables c.args.outs (code_tables code) rs) (sym pushed)
+          (one-more c.args.outs (code_tables code) before rows live c.loop-body.invariant.1),
     )
 
 pub returns : goal.returns
-returns c = have-all (code_tables c.args.code.now) c.loop-body.bodies.items c.loop-body.invariant.1
+returns c = have-all c.args.outs (code_tables c.args.code.now) c.loop-body.bodies.items c.loop-body.invariant.1

@@ -4,4 +4,4 @@ use Rattle.fmp_live.proofs.Tables.{HaveTables}
 use Rattle.fmp_live.proofs.tracing.tables.Given as goal
 
 abbrev pub invariant-loop-body : goal.invariant-loop-body
-invariant-loop-body l = (length l.bodies.items ≡ l.body-index) × HaveTables (code_tables l.code) l.bodies.items
+invariant-loop-body l = (length l.bodies.items ≡ l.body-index) × HaveTables l.outs (code_tables l.code) l.bodies.items

@@ -1,9 +1,59 @@
-use Rattle.std.proofs.Common.{◌∙◌, IsTrue, rules}
-use Rattle.fmp_explore.proofs.NextLemmas.{sections_behind}
+use Rattle.std.proofs.Common.{IsTrue, List, refl, rules, subst, sym}
+use Rattle.std.proofs.lemmas.Result.{IfOk-weaker}
+use Rattle.fmp_base.specs.declared.events.Event.{Event}
+use Rattle.fmp_base.specs.Setups.{setup}
+use Rattle.fmp_instructions.specs.Machine.{code_meaning}
+use Rattle.fmp_schedules.specs.declared.section.Section.{Section}
+use Rattle.fmp_witness.specs.Followed.{IsFollowed}
+use Rattle.fmp_explore.specs.States.{AreHeldBy}
+use Rattle.fmp_explore.proofs.NextLemmas.{begun_nowhere, begun_of}
+use Rattle.fmp_explore.proofs.SectionLemmas.{held-after, held-self}
 use Rattle.fmp_explore.proofs.searches.Search.begin_behind.Goals as goal
 
-pub keep_first-requires-clause-sections : goal.keep_first-requires-clause-sections
-keep_first-requires-clause-sections c =
-    let s = c.args.subject.now in
+pub keep_first-requires-clause-live : goal.keep_first-requires-clause-live
+keep_first-requires-clause-live c = c.requires.survey.survey.live
+
+pub keep_first-requires-clause-few : goal.keep_first-requires-clause-few
+keep_first-requires-clause-few c = λ _.
     let yes : IsTrue c.can_begin.result = search rules in
-    c.requires.sections ∙ sections_behind s.image.now s.n s.question.now (c.can_begin.ensures yes)
+    (c.can_begin.ensures yes).few
+
+pub keep_first-requires-clause-held : goal.keep_first-requires-clause-held
+keep_first-requires-clause-held c =
+    let s = c.args.subject.now in
+    subst (λ (ss : List Section). AreHeldBy s.question.now.sections.items ss) (sym c.requires.sections)
+    (held-after s.question.now.sections.items s.question.now.sections.items
+    (setup s.image.now.system (code_meaning s.image.now.code)).lines
+    (held-self s.question.now.sections.items))
+
+pub returns-then-not-can_begin : goal.returns-then-not-can_begin
+returns-then-not-can_begin c =
+    let s = c.args.subject.now in
+    begun_nowhere s.image.now s.n s.question.now c.args.self.now _
+    (record {
+      same = record { tries = refl; fields = refl; first = refl; outs = refl; live = refl };
+      seen = refl;
+      sure = λ e. absurd (cc (e));
+    })
+    c.requires.survey refl
+
+pub returns-then-not-follow : goal.returns-then-not-follow
+returns-then-not-follow c =
+    let s = c.args.subject.now in
+    begun_nowhere s.image.now s.n s.question.now c.args.self.now _
+    (record {
+      same = record { tries = refl; fields = refl; first = refl; outs = refl; live = refl };
+      seen = refl;
+      sure = λ e. absurd (cc (e));
+    })
+    c.requires.survey refl
+
+pub returns : goal.returns
+returns c =
+    let s = c.args.subject.now in
+    let followed = subst (λ (es : List Event). IsFollowed s.image.now s.n es c.follow.new.kernel) c.deref.ensures.value
+    (c.follow.ensures c.if-not-follow.false) in
+    IfOk-weaker c.keep_first.result _ _
+    (λ _ kept. begun_of s.image.now s.n s.question.now c.args.self.now c.keep_first.new.self c.follow.new.kernel
+    c.args.sections.now c.requires.survey c.requires.clean followed c.requires.sections kept)
+    c.keep_first.ensures

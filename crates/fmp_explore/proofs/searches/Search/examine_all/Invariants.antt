@@ -1,4 +1,4 @@
-use Rattle.fmp_witness.specs.Checkpoints.{AreCheckpoints, IsOver}
+use Rattle.fmp_witness.specs.Followed.{IsOver}
 use Rattle.fmp_explore.specs.Searching.{IsSearching}
 use Rattle.fmp_explore.proofs.searches.Search.examine_all.Given as goal
 
@@ -6,6 +6,6 @@ abbrev pub invariant-loop-i : goal.invariant-loop-i
 invariant-loop-i g l =
     record {
       searching : IsSearching l.subject.image.now l.subject.n l.subject.question.now l.i l.self;
-      checkpoints : AreCheckpoints l.subject.image.now l.subject.n l.checkpoints;
+      top : IsOver l.subject.image.now l.subject.n l.top;
       work : IsOver l.subject.image.now l.subject.n l.work;
     }

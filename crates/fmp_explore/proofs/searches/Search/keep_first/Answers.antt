@@ -1,38 +1,35 @@
-use Rattle.std.proofs.Common.{◌∙◌, List, OnOk, ap, count_by, refl, subst, sym}
+use Rattle.std.proofs.Common.{◌∙◌, List, OnOk, ap, count_by, subst, sym, ℕ}
 use Rattle.fmp_base.specs.declared.events.Event.{Event}
 use Rattle.fmp_explore.specs.Searching.{HasKept}
-use Rattle.fmp_explore.specs.States.{sections_of}
+use Rattle.fmp_explore.specs.States.{AreFew, watched_with}
 use Rattle.fmp_schedules.specs.Deadlocks.{is_interrupt}
-use Rattle.fmp_explore.proofs.NextLemmas.{first_linked, next_of}
-use Rattle.fmp_explore.proofs.PathLemmas.{first_path}
+use Rattle.fmp_explore.proofs.KernelLemmas.{followed_sound}
+use Rattle.fmp_witness.proofs.OverLemmas.{over_after}
 use Rattle.fmp_explore.proofs.searches.Search.keep_first.Goals as goal
 
-pub keep-requires-clause-next : goal.keep-requires-clause-next
-keep-requires-clause-next c =
+pub keep-requires-clause-over : goal.keep-requires-clause-over
+keep-requires-clause-over c =
     let s = c.args.subject.now in
-    let links = c.args.self.now.seen.links in
-    next_of s.image.now s.n s.question.now links _ s.question.now.after.items c.args.kernel.now
-    (first_linked s.image.now s.n s.question.now links _ c.requires.none refl)
-    (first_path s.question.now links _ c.requires.none refl) c.requires.followed c.requires.few
+    over_after s.image.now s.n s.question.now.after.items c.args.kernel.now c.requires.followed
 
-pub keep-requires-clause-came : goal.keep-requires-clause-came
-keep-requires-clause-came c =
-    let q = c.args.subject.now.question.now in
-    c.interrupt_count-came.ensures
-    ∙ ap (λ (es : List Event). count_by is_interrupt es)
-    (c.deref.ensures.value ∙ sym (first_path q c.args.self.now.seen.links _ c.requires.none refl))
-
-pub keep-requires-clause-sections : goal.keep-requires-clause-sections
-keep-requires-clause-sections c =
+pub keep-requires-clause-sound : goal.keep-requires-clause-sound
+keep-requires-clause-sound c =
     let s = c.args.subject.now in
-    c.requires.sections
-    ∙ ap (λ (es : List Event). sections_of s.image.now s.n s.question.now es)
-    (sym (first_path s.question.now c.args.self.now.seen.links _ c.requires.none refl))
+    followed_sound s.image.now s.n c.keeps_rules.ensures s.question.now.after.items c.args.kernel.now
+    c.requires.followed
+
+pub keep-requires-clause-few : goal.keep-requires-clause-few
+keep-requires-clause-few c =
+    let s = c.args.subject.now in
+    subst (λ (came : ℕ). AreFew s.question.now came)
+    (sym (c.interrupt_count-came.ensures ∙ ap (λ (es : List Event). count_by is_interrupt es) c.deref.ensures.value))
+    c.requires.few
 
 pub returns : goal.returns
 returns c =
     let s = c.args.subject.now in
     subst
-    (λ (es : List Event). OnOk c.keep.result
-    (HasKept s.image.now s.n s.question.now c.args.self.now c.keep.new.self es))
-    (first_path s.question.now c.args.self.now.seen.links _ c.requires.none refl) c.keep.ensures
+    (λ (came : ℕ). OnOk c.keep.result (HasKept s.image.now s.question.now c.args.self.now c.keep.new.self
+    c.args.kernel.now.world (watched_with s.question.now came c.args.sections.now)))
+    (c.interrupt_count-came.ensures ∙ ap (λ (es : List Event). count_by is_interrupt es) c.deref.ensures.value)
+    c.keep.ensures

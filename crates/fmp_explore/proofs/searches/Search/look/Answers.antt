@@ -6,8 +6,13 @@ pub returns-then-marks : goal.returns-then-marks
 returns-then-marks c =
     let s = c.args.subject.now in
     record {
-      stays = record { tries = refl; rows = refl; seen = refl; sure = λ e. e };
+      stays =
+          record {
+            same = record { tries = refl; fields = refl; first = refl; outs = refl; live = refl };
+            seen = refl;
+            sure = λ e. e;
+          };
       free = λ _ d.
-          interrupted_free s.image.now s.n s.question.now c.args.steps.now c.args.marks c.requires.marks c.if-marks.true
-          d;
+          interrupted_free s.image.now s.n s.question.now c.args.kernel.now.world _ c.args.marks c.requires.marks
+          c.if-marks.true d;
     }

@@ -6,7 +6,13 @@ pub returns-else-marks : goal.returns-else-marks
 returns-else-marks c =
     let s = c.args.subject.now in
     record {
-      stays = record { tries = refl; rows = refl; seen = refl; sure = λ e. e };
+      stays =
+          record {
+            same = record { tries = refl; fields = refl; first = refl; outs = refl; live = refl };
+            seen = refl;
+            sure = λ e. e;
+          };
       free = λ _ d.
-          running_free s.image.now s.n s.question.now c.args.steps.now c.args.marks c.requires.marks c.if-marks.false d;
+          running_free s.image.now s.n s.question.now c.args.kernel.now.world _ c.args.marks c.requires.marks
+          c.if-marks.false d;
     }

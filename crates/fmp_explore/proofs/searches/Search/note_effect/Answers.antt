@@ -1,37 +1,37 @@
 use Rattle.std.proofs.Common.{subst}
 use Rattle.fmp_base.specs.declared.events.Effect.{Effect}
-use Rattle.fmp_witness.specs.Followed.{HasStepped}
+use Rattle.fmp_explore.specs.Searching.{HasStepped, rows_of}
+use Rattle.fmp_explore.proofs.KernelLemmas.{stepped_done, stepped_kept, stepped_none}
 use Rattle.fmp_explore.proofs.StateLemmas.{leads_nowhere}
-use Rattle.fmp_witness.proofs.StepLemmas.{stepped_done, stepped_kept, stepped_none}
 use Rattle.fmp_explore.proofs.SearchStepLemmas.{same_grows}
 use Rattle.fmp_explore.proofs.searches.Search.note_effect.Goals as goal
 
 pub returns-in-Nothing : goal.returns-in-Nothing
-returns-in-Nothing c =
+returns-in-Nothing c = λ before stepped.
     let s = c.args.subject.now in
     let a = c.args.attempt in
-    let at = subst (λ (x : Effect). HasStepped s.image.now s.n a.steps.now a.event c.args.kernel.now x) c.in-Nothing.is
-    c.requires.stepped in
+    let at = subst (λ (x : Effect). HasStepped s.image.now s.n before a.event c.args.kernel.now x) c.in-Nothing.is
+    stepped in
     record {
-      survey = c.requires.survey;
       grows = same_grows c.args.self.now;
       leads = λ _ may.
-          leads_nowhere s.image.now s.n s.question.now c.args.self.now.seen.links a.steps.now a.event
-          (stepped_none s.image.now s.n a.steps.now a.event c.args.kernel.now at);
+          leads_nowhere s.image.now s.n s.question.now (rows_of c.args.self.now) c.requires.survey.survey.fields
+          before.world _ a.event
+          (stepped_none s.image.now s.n c.keeps_rules.ensures before a.event c.args.kernel.now at);
     }
 
-pub note_done_within-requires-clause-done : goal.note_done_within-requires-clause-done
-note_done_within-requires-clause-done c =
+pub returns-in-Done : goal.returns-in-Done
+returns-in-Done c = λ before stepped.
     let s = c.args.subject.now in
     let a = c.args.attempt in
-    stepped_done s.image.now s.n a.steps.now a.event c.args.kernel.now
-    (subst (λ (x : Effect). HasStepped s.image.now s.n a.steps.now a.event c.args.kernel.now x) c.in-Done.is
-    c.requires.stepped)
+    c.note_done_within.ensures before.world
+    (stepped_done s.image.now s.n c.keeps_rules.ensures before a.event c.args.kernel.now
+    (subst (λ (x : Effect). HasStepped s.image.now s.n before a.event c.args.kernel.now x) c.in-Done.is stepped))
 
-pub note_kept-requires-clause-kept : goal.note_kept-requires-clause-kept
-note_kept-requires-clause-kept c =
+pub returns-in-Kept : goal.returns-in-Kept
+returns-in-Kept c = λ before stepped.
     let s = c.args.subject.now in
     let a = c.args.attempt in
-    stepped_kept s.image.now s.n a.steps.now a.event c.args.kernel.now
-    (subst (λ (x : Effect). HasStepped s.image.now s.n a.steps.now a.event c.args.kernel.now x) c.in-Kept.is
-    c.requires.stepped)
+    c.note_kept.ensures before.world
+    (stepped_kept s.image.now s.n c.keeps_rules.ensures before a.event c.args.kernel.now
+    (subst (λ (x : Effect). HasStepped s.image.now s.n before a.event c.args.kernel.now x) c.in-Kept.is stepped))

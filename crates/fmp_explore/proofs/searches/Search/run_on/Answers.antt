@@ -1,5 +1,5 @@
 use Rattle.std.proofs.lemmas.Result.{err_from_is_err_and}
-use Rattle.fmp_witness.proofs.CheckpointLemmas.{over_first}
+use Rattle.fmp_witness.proofs.OverLemmas.{over_first}
 use Rattle.fmp_explore.proofs.searches.Search.run_on.Goals as goal
 
 pub kernel_of-requires-clause-low : goal.kernel_of-requires-clause-low
@@ -14,8 +14,8 @@ returns-in_err-work g c = rw ((err_from_is_err_and c.from_residual.result c.from
 pub examine_all-ending-requires-clause-begun : goal.examine_all-ending-requires-clause-begun
 examine_all-ending-requires-clause-begun g c = c.requires.begun
 
-pub examine_all-ending-requires-clause-checkpoints : goal.examine_all-ending-requires-clause-checkpoints
-examine_all-ending-requires-clause-checkpoints g c = c.requires.checkpoints
+pub examine_all-ending-requires-clause-top : goal.examine_all-ending-requires-clause-top
+examine_all-ending-requires-clause-top g c = c.requires.top
 
 pub examine_all-ending-requires-clause-work : goal.examine_all-ending-requires-clause-work
 examine_all-ending-requires-clause-work g c =

@@ -10,9 +10,8 @@ returns-then-next-end-clause-tried c =
     let same = ap (λ (es : List Event). length es) c.requires.survey.survey.tries in
     let long = c.args.self.now.tries.ok.0 in
     let far : length (all_tries s.image.now.system) ≤ c.loop-try.next = omega (arith, same, long) in
-    enough_tried s.image.now s.n s.question.now c.args.state c.args.steps.now c.args.self.now c.loop-try.self
-    c.loop-try.marks
-    c.loop-try.next far c.loop-try.invariant.tried
+    enough_tried s.image.now s.n s.question.now c.args.from.now.world _ c.args.self.now c.loop-try.self
+    c.loop-try.marks c.loop-try.next far c.loop-try.invariant.tried
 
 pub returns-clause-tried : goal.returns-clause-tried
 returns-clause-tried c =
@@ -20,6 +19,5 @@ returns-clause-tried c =
     let same = ap (λ (es : List Event). length es) c.requires.survey.survey.tries in
     let long = c.args.self.now.tries.ok.0 in
     let far : length (all_tries s.image.now.system) ≤ c.loop-try.next = omega (arith, same, long) in
-    enough_tried s.image.now s.n s.question.now c.args.state c.args.steps.now c.args.self.now c.loop-try.self
-    c.loop-try.marks
-    c.loop-try.next far c.loop-try.invariant.tried
+    enough_tried s.image.now s.n s.question.now c.args.from.now.world _ c.args.self.now c.loop-try.self
+    c.loop-try.marks c.loop-try.next far c.loop-try.invariant.tried

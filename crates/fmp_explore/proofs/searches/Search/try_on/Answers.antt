@@ -1,27 +1,38 @@
-use Rattle.std.proofs.Common.{subst, sym}
-use Rattle.fmp_witness.specs.Followed.{IsFollowed}
-use Rattle.fmp_witness.proofs.CheckpointLemmas.{Kernels, over_after, same_body, same_bound, same_system}
+use Rattle.std.proofs.Common.{IfOk, subst, sym}
+use Rattle.fmp_explore.specs.Searching.{CanStep, HasTried, IsTrying, watched_in}
+use Rattle.fmp_witness.proofs.OverLemmas.{Kernels, same_body, same_bound, same_system}
 use Rattle.fmp_explore.proofs.searches.Search.try_on.Goals as goal
 
 pub put_back-requires-clause-body : goal.put_back-requires-clause-body
 put_back-requires-clause-body c =
     let s = c.args.subject.now in
-    same_body s.image.now s.n c.args.kernel.now c.args.from.now c.requires.over
-    (over_after s.image.now s.n c.args.steps.now c.args.from.now c.requires.followed)
+    same_body s.image.now s.n c.args.kernel.now c.args.from.now c.requires.over c.requires.ready.over
 
 pub put_back-requires-clause-bound : goal.put_back-requires-clause-bound
 put_back-requires-clause-bound c =
     let s = c.args.subject.now in
-    same_bound s.image.now s.n c.args.kernel.now c.args.from.now c.requires.over
-    (over_after s.image.now s.n c.args.steps.now c.args.from.now c.requires.followed)
+    same_bound s.image.now s.n c.args.kernel.now c.args.from.now c.requires.over c.requires.ready.over
 
 pub put_back-requires-clause-system : goal.put_back-requires-clause-system
 put_back-requires-clause-system c =
     let s = c.args.subject.now in
-    same_system s.image.now s.n c.args.kernel.now c.args.from.now c.requires.over
-    (over_after s.image.now s.n c.args.steps.now c.args.from.now c.requires.followed)
+    same_system s.image.now s.n c.args.kernel.now c.args.from.now c.requires.over c.requires.ready.over
 
-pub try_from-requires-clause-followed : goal.try_from-requires-clause-followed
-try_from-requires-clause-followed c =
+pub try_from-requires-clause-ready : goal.try_from-requires-clause-ready
+try_from-requires-clause-ready c =
     let s = c.args.subject.now in
-    subst (λ (k : Kernels). IsFollowed s.image.now s.n c.args.steps.now k) (sym c.put_back.ensures) c.requires.followed
+    subst (λ (k : Kernels). CanStep s.image.now s.n k) (sym c.put_back.ensures) c.requires.ready
+
+pub try_from-requires-clause-trying : goal.try_from-requires-clause-trying
+try_from-requires-clause-trying c =
+    let s = c.args.subject.now in
+    subst (λ (k : Kernels). IsTrying s.image.now s.n s.question.now k.world
+    (watched_in s.question.now c.args.at.now) c.args.marks.now c.args.first c.args.self.now) (sym c.put_back.ensures)
+    c.requires.trying
+
+pub returns-clause-tried : goal.returns-clause-tried
+returns-clause-tried c =
+    let s = c.args.subject.now in
+    subst (λ (k : Kernels). IfOk c.try_from.result (HasTried s.image.now s.n s.question.now k.world
+    (watched_in s.question.now c.args.at.now) c.try_from.new.marks c.args.self.now c.try_from.new.self))
+    c.put_back.ensures c.try_from.ensures.tried

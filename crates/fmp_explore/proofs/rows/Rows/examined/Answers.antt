@@ -1,0 +1,12 @@
+use Rattle.std.proofs.Common.{◌∙◌, List, subst}
+use Rattle.fmp_explore.specs.States.{AreHeldBy}
+use Rattle.fmp_schedules.specs.declared.section.Section.{Section}
+use Rattle.fmp_explore.proofs.rows.Rows.examined.Goals as goal
+
+pub returns-clause-few : goal.returns-clause-few
+returns-clause-few c = λ limited. c.came_in-came.ensures (c.is_some.ensures ∙ limited)
+
+pub returns-clause-held : goal.returns-clause-held
+returns-clause-held c =
+    subst (λ (ss : List Section). AreHeldBy ss c.in_ok-sections.sections.items) c.deref-4.ensures.value
+    c.in_ok-sections.ensures

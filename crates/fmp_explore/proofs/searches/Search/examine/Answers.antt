@@ -1,0 +1,53 @@
+use Rattle.std.proofs.Common.{◌<◌, length, refl, subst, sym, ℕ}
+use Rattle.std.proofs.lemmas.Result.{IfOk-weaker}
+use Rattle.fmp_explore.specs.Searching.{HasExamined}
+use Rattle.fmp_explore.proofs.SearchLemmas.{state_examined, state_lost}
+use Rattle.fmp_explore.proofs.SearchStepLemmas.{same_live, stays_on, stays_search}
+use Rattle.fmp_visited.specs.Seen.{SeenStates}
+use Rattle.fmp_explore.proofs.searches.Search.examine.Goals as goal
+
+pub stand_at-requires-clause-live : goal.stand_at-requires-clause-live
+stand_at-requires-clause-live c =
+    same_live c.args.subject.now.image.now c.args.self.now c.examined.new.self c.examined.ensures.stays.same
+    c.requires.survey.survey.live
+
+pub stand_at-requires-clause-there : goal.stand_at-requires-clause-there
+stand_at-requires-clause-there c =
+    subst (λ (s : SeenStates). c.in_ok-at.at.state < length s.rows) (sym c.examined.ensures.stays.seen)
+    (subst (λ (state : ℕ). state < length c.args.self.now.seen.rows) (sym c.in_ok-at.ensures.state) c.requires.there)
+
+pub examine_on-requires-clause-survey : goal.examine_on-requires-clause-survey
+examine_on-requires-clause-survey c =
+    let s = c.args.subject.now in
+    stays_search s.image.now s.question.now c.args.self.now c.stand_at.new.self
+    (stays_on c.args.self.now c.examined.new.self c.stand_at.new.self c.examined.ensures.stays
+    c.stand_at.ensures.stays) c.requires.survey
+
+pub examine_on-requires-clause-ready : goal.examine_on-requires-clause-ready
+examine_on-requires-clause-ready c = (c.in_ok-stand_at.ensures.stands c.if-not-branch.false).ready
+
+pub returns-then-not-branch-clause-examined : goal.returns-then-not-branch-clause-examined
+returns-then-not-branch-clause-examined c =
+    let s = c.args.subject.now in
+    state_lost s.image.now s.n s.question.now c.args.self.now _ c.args.state c.requires.survey
+    (stays_on c.args.self.now c.examined.new.self _ c.examined.ensures.stays
+    (stays_on c.examined.new.self c.stand_at.new.self _ c.stand_at.ensures.stays
+    (record {
+      same = record { tries = refl; fields = refl; first = refl; outs = refl; live = refl };
+      seen = refl;
+      sure = λ e. absurd (cc (e));
+    })))
+    refl
+
+pub returns-clause-examined : goal.returns-clause-examined
+returns-clause-examined c =
+    let s = c.args.subject.now in
+    let at = c.in_ok-at.at in
+    IfOk-weaker c.examine_on.result _ _
+    (λ _ tried. subst (λ (state : ℕ). HasExamined s.image.now s.n s.question.now c.args.self.now c.examine_on.new.self
+    state) c.in_ok-at.ensures.state
+    (state_examined s.image.now s.n s.question.now c.args.self.now c.stand_at.new.self c.examine_on.new.self at
+    c.stand_at.new.kernel
+    (stays_on c.args.self.now c.examined.new.self c.stand_at.new.self c.examined.ensures.stays
+    c.stand_at.ensures.stays) (c.in_ok-stand_at.ensures.stands c.if-not-branch.false) tried))
+    c.examine_on.ensures.tried

@@ -1,0 +1,48 @@
+use Rattle.std.proofs.Common.{refl}
+use Rattle.fmp_explore.proofs.SearchStepLemmas.{live_on, stays_rows}
+use Rattle.fmp_explore.proofs.searches.Search.restore_to.Goals as goal
+
+pub has_row-requires-clause-live : goal.has_row-requires-clause-live
+has_row-requires-clause-live c =
+    let a = c.args.self.now in
+    let r = c.restore.new.self in
+    live_on c.args.subject.now.image.now a.rows.outs r.outs a.rows.live r.live c.restore.ensures.outs
+    c.restore.ensures.live c.requires.live
+
+pub has_row-requires-clause-ready : goal.has_row-requires-clause-ready
+has_row-requires-clause-ready c = c.in_ok-restore.ensures.restored c.if-not-branch.false
+
+pub returns-clause-stays : goal.returns-clause-stays
+returns-clause-stays c =
+    stays_rows c.args.self.now c.has_row.new.self c.restore.new.self c.restore.ensures.fields c.restore.ensures.first
+    c.restore.ensures.outs c.restore.ensures.live c.has_row.ensures.stays
+
+pub returns-then-not-branch-clause-stays : goal.returns-then-not-branch-clause-stays
+returns-then-not-branch-clause-stays c =
+    record {
+      same =
+          record {
+            tries = refl;
+            fields = c.restore.ensures.fields;
+            first = c.restore.ensures.first;
+            outs = c.restore.ensures.outs;
+            live = c.restore.ensures.live;
+          };
+      seen = refl;
+      sure = λ e. e;
+    }
+
+pub returns-in_err-restore-clause-stays : goal.returns-in_err-restore-clause-stays
+returns-in_err-restore-clause-stays c =
+    record {
+      same =
+          record {
+            tries = refl;
+            fields = c.restore.ensures.fields;
+            first = c.restore.ensures.first;
+            outs = c.restore.ensures.outs;
+            live = c.restore.ensures.live;
+          };
+      seen = refl;
+      sure = λ e. e;
+    }

@@ -1,0 +1,292 @@
+//! The numbers of a row as a saved state, in one walk over the fields. Nothing is promised of it: whoever restores a
+//! kernel from the saved state reads the kernel's numbers again, and compares.
+use crate::blocks::{
+    block_of, byte_of, half_of, is_dormant, is_queued, number_at, processor_of, signed, ticks_of,
+};
+use crate::field::{What, low_byte};
+use fmp_instructions::MachineContext;
+use fmp_kernel::{Saved, SavedContexts};
+use fmp_tasks::{SavedMessage, SavedState, SavedWord};
+use std::alloc::{AllocError, Global};
+
+/// How many interrupts there are.
+const INTERRUPTS: usize = 32;
+
+/// A saved state that is filled by one row after the other, and keeps its room.
+#[derive(Drop)]
+pub struct SavedRow {
+    saved: Saved<MachineContext>,
+    /// For each task the one behind it in its queue, with 1 added, or 0.
+    behind: Vec<u8>,
+    /// For each task whether it stands behind another one.
+    is_behind: Vec<bool>,
+    /// For each mailbox its first message, with 1 added, or 0.
+    first_messages: Vec<u8>,
+    /// For each message the one behind it in its mailbox, with 1 added, or 0.
+    messages_behind: Vec<u8>,
+}
+
+/// A saved state of nothing.
+fn nothing_saved(alloc: Global) -> SavedState {
+    SavedState {
+        blocks: Vec::new(alloc),
+        order: Vec::new(alloc),
+        semaphores: Vec::new(alloc),
+        flags: Vec::new(alloc),
+        words: Vec::new(alloc),
+        messages: Vec::new(alloc),
+        shared_words: Vec::new(alloc),
+        processors: Vec::new(alloc),
+        due_times: Vec::new(alloc),
+        pending_cyclics: Vec::new(alloc),
+        pending_interrupts: Vec::new(alloc),
+    }
+}
+
+/// Forgets a saved state, and keeps its room. No interrupt is pending. `AllocError` if memory runs out.
+fn clear_state(state: &mut SavedState) -> Result<(), AllocError> {
+    state.blocks.clear();
+    state.order.clear();
+    state.semaphores.clear();
+    state.flags.clear();
+    state.words.clear();
+    state.messages.clear();
+    state.shared_words.clear();
+    state.processors.clear();
+    state.due_times.clear();
+    state.pending_cyclics.clear();
+    state.pending_interrupts.clear();
+    state.pending_interrupts.resize(INTERRUPTS, false)
+}
+
+/// Puts a number with a sign into its place, if there is one.
+fn put_signed(numbers: &mut [i32; 64], place: u8, number: u32) {
+    if let Some(found) = numbers.get_mut(usize::from(place)) {
+        *found = signed(number);
+    }
+}
+
+/// Puts the number of a field into a context: whether it is a field of one, behind its first.
+fn put_number(context: &mut MachineContext, what: What, number: u32) -> bool {
+    match what {
+        What::Local(_, l) | What::HandlerLocal(_, l) => put_signed(&mut context.locals, l, number),
+        What::Operands(_) | What::HandlerOperands(_) => context.count = byte_of(number),
+        What::Operand(_, i) | What::HandlerOperand(_, i) => {
+            put_signed(&mut context.operands, i, number);
+        }
+        _ => return false,
+    }
+    true
+}
+
+/// The context whose fields these begin with, each with its number.
+fn context_of(fields: &[What], numbers: &[u32]) -> MachineContext {
+    let mut context = MachineContext {
+        pc: half_of(number_at(numbers, 0)),
+        count: 0,
+        locals: [0; 64],
+        operands: [0; 64],
+    };
+    for at in 1..fields.len().min(numbers.len()) {
+        if !put_number(&mut context, fields[at], numbers[at]) {
+            return context;
+        }
+    }
+    context
+}
+
+/// What is behind a place, with 1 added; 0 if nothing is.
+fn behind_of(behind: &[u8], place: usize) -> usize {
+    match behind.get(place) {
+        Some(next) => usize::from(*next),
+        None => 0,
+    }
+}
+
+impl SavedRow {
+    /// Nothing is saved yet.
+    pub fn new(alloc: Global) -> SavedRow {
+        SavedRow {
+            saved: Saved {
+                state: nothing_saved(alloc),
+                contexts: SavedContexts {
+                    tasks: Vec::new(alloc),
+                    handlers: Vec::new(alloc),
+                },
+            },
+            behind: Vec::new(alloc),
+            is_behind: Vec::new(alloc),
+            first_messages: Vec::new(alloc),
+            messages_behind: Vec::new(alloc),
+        }
+    }
+
+    /// What was saved last.
+    pub fn saved(&self) -> &Saved<MachineContext> {
+        &self.saved
+    }
+
+    /// Forgets what was saved last.
+    fn clear(&mut self) -> Result<(), AllocError> {
+        self.saved.contexts.tasks.clear();
+        self.saved.contexts.handlers.clear();
+        self.behind.clear();
+        self.is_behind.clear();
+        self.first_messages.clear();
+        self.messages_behind.clear();
+        clear_state(&mut self.saved.state)
+    }
+
+    /// Takes the context of a task whose block was taken last.
+    fn take_task(&mut self, fields: &[What], numbers: &[u32]) -> Result<(), AllocError> {
+        let context = match self.saved.state.blocks.last() {
+            Some(block) if !is_dormant(block) => Some(context_of(fields, numbers)),
+            _ => None,
+        };
+        self.saved.contexts.tasks.push(context)?;
+        Ok(())
+    }
+
+    /// Takes the context of the handler of a processor that was taken last.
+    fn take_handler(&mut self, fields: &[What], numbers: &[u32]) -> Result<(), AllocError> {
+        let context = match self.saved.state.processors.last() {
+            Some(cpu) if cpu.handler.is_some() => Some(context_of(fields, numbers)),
+            _ => None,
+        };
+        self.saved.contexts.handlers.push(context)?;
+        Ok(())
+    }
+
+    /// Takes the words of a data queue, whose number stands in front of them.
+    fn take_words(&mut self, queue: u8, numbers: &[u32]) -> Result<(), AllocError> {
+        let count = number_at(numbers, 0) as usize;
+        for at in 1..numbers.len() {
+            if at > count {
+                return Ok(());
+            }
+            let word = signed(numbers[at]);
+            self.saved.state.words.push(SavedWord { queue, word })?;
+        }
+        Ok(())
+    }
+
+    /// Takes whether an interrupt is pending.
+    fn take_interrupt(&mut self, place: u8, number: u32) {
+        if let Some(pending) = self
+            .saved
+            .state
+            .pending_interrupts
+            .get_mut(usize::from(place))
+        {
+            *pending = number == 1;
+        }
+    }
+
+    /// Takes the first of these fields, each with its number, and what belongs to it.
+    fn take(&mut self, fields: &[What], numbers: &[u32]) -> Result<(), AllocError> {
+        let Some(what) = fields.first() else {
+            return Ok(());
+        };
+        let number = number_at(numbers, 0);
+        let state = &mut self.saved.state;
+        match *what {
+            What::Phase(_) => state.blocks.push(block_of(numbers))?,
+            What::Behind(_) => self.behind.push(byte_of(number))?,
+            What::Pc(_) => self.take_task(fields, numbers)?,
+            What::Runs(_) => state.processors.push(processor_of(numbers))?,
+            What::HandlerPc(_) => self.take_handler(fields, numbers)?,
+            What::Count(_) => state.semaphores.push(half_of(number))?,
+            What::Pattern(_) => state.flags.push(half_of(number))?,
+            What::Words(d) => self.take_words(d, numbers)?,
+            What::FirstMessage(_) => self.first_messages.push(byte_of(number))?,
+            What::MessageBehind(_) => self.messages_behind.push(byte_of(number))?,
+            What::SharedWord(_) => state.shared_words.push(signed(number))?,
+            What::TicksToDue(_) => state.due_times.push(ticks_of(number))?,
+            What::PendingCyclic(_) => state.pending_cyclics.push(number == 1)?,
+            What::PendingInterrupt(i) => self.take_interrupt(i, number),
+            _ => {}
+        }
+        Ok(())
+    }
+
+    /// Marks the task at a place, with 1 added, if there is one.
+    fn mark(&mut self, next: usize) {
+        if next == 0 {
+            return;
+        }
+        if let Some(mark) = self.is_behind.get_mut(next - 1) {
+            *mark = true;
+        }
+    }
+
+    /// Marks the tasks that stand behind others.
+    fn mark_behind(&mut self) -> Result<(), AllocError> {
+        self.is_behind.resize(self.behind.len(), false)?;
+        for t in 0..self.behind.len() {
+            let next = behind_of(&self.behind, t);
+            self.mark(next);
+        }
+        Ok(())
+    }
+
+    /// Adds a task and all behind it to the order.
+    fn order_from(&mut self, first: usize) -> Result<(), AllocError> {
+        let mut at = first;
+        for _task in 0..self.behind.len() {
+            self.saved.state.order.push(low_byte(at))?;
+            match behind_of(&self.behind, at) {
+                0 => return Ok(()),
+                next => at = next - 1,
+            }
+        }
+        Ok(())
+    }
+
+    /// Whether a task is the first of a queue.
+    fn is_first(&self, t: usize) -> bool {
+        match (self.saved.state.blocks.get(t), self.is_behind.get(t)) {
+            (Some(block), Some(is_behind)) => is_queued(block) && !*is_behind,
+            _ => false,
+        }
+    }
+
+    /// Puts the tasks in order, one queue after the other.
+    fn order_tasks(&mut self) -> Result<(), AllocError> {
+        self.mark_behind()?;
+        for t in 0..self.behind.len() {
+            if self.is_first(t) {
+                self.order_from(t)?;
+            }
+        }
+        Ok(())
+    }
+
+    /// Puts the messages of a mailbox in order.
+    fn order_messages(&mut self, mailbox: usize) -> Result<(), AllocError> {
+        let mut next = behind_of(&self.first_messages, mailbox);
+        for _message in 0..self.messages_behind.len() {
+            if next == 0 {
+                return Ok(());
+            }
+            self.saved.state.messages.push(SavedMessage {
+                mailbox: low_byte(mailbox),
+                message: low_byte(next - 1),
+            })?;
+            next = behind_of(&self.messages_behind, next - 1);
+        }
+        Ok(())
+    }
+
+    /// Takes the numbers of these fields in the place of what was saved last. `AllocError` if memory runs out.
+    pub fn fill(&mut self, fields: &[What], numbers: &[u32]) -> Result<(), AllocError> {
+        self.clear()?;
+        for at in 0..fields.len().min(numbers.len()) {
+            self.take(&fields[at..], &numbers[at..])?;
+        }
+        self.order_tasks()?;
+        for mailbox in 0..self.first_messages.len() {
+            self.order_messages(mailbox)?;
+        }
+        Ok(())
+    }
+}
