@@ -43,6 +43,8 @@ pub enum ArgumentKind {
     FlagWithout(&'static str),
     /// An option with a value, which help calls so.
     Option(&'static str, OptionValue),
+    /// An option with a text, which help calls so, that does not go with this other one.
+    TextWithout(&'static str, &'static str),
     /// An option with a text, which help calls so, that may be given again.
     Again(&'static str),
     /// An option with a text, which help calls so: it or the other option has to be given, and not both.
@@ -115,6 +117,9 @@ fn argument_of<'a>(alloc: Global, argument: &Argument) -> Result<Arg<'a>, AllocE
             .action(ArgAction::SetTrue)
             .conflicts_with(other)?,
         ArgumentKind::Option(name, value) => with_value(made.long(id).value_name(name), value),
+        ArgumentKind::TextWithout(name, other) => {
+            made.long(id).value_name(name).conflicts_with(other)?
+        }
         ArgumentKind::Again(name) => made.long(id).value_name(name).action(ArgAction::Append),
         ArgumentKind::Either(name, other) => made
             .long(id)

@@ -4,12 +4,15 @@ use Rattle.fmp_engine.specs.declared.fault.SimFault.TheVariants as sim
 use Rattle.fmp_lex.specs.declared.fault.BuildFault.TheVariants as build
 use Rattle.fmp_recording.specs.declared.faults.RecordingFault.TheVariants as recording
 use Rattle.fmp_looking.specs.declared.exit.ViewExit.{ViewExit}
-use Rattle.fmp_looking.specs.declared.exit.ViewExit.TheVariants.{Sim, Configuration, Recording, Picture, Expect, Failed}
+use Rattle.fmp_looking.specs.declared.exit.ViewExit.TheVariants.{Sim, Misplaced, OtherText, Configuration, Recording}
+use Rattle.fmp_looking.specs.declared.exit.ViewExit.TheVariants.{Picture, Expect, Failed}
 
 -- 1 for a fault of what was read, 2 if the run has no such picture, 3 for a failure or if memory ran out
 abbrev pub status_of : ViewExit → ℕ
 status_of (Sim sim.Memory) = 3
 status_of (Sim fault) = 1
+status_of (Misplaced file) = 1
+status_of OtherText = 1
 status_of (Configuration build.Memory) = 3
 status_of (Configuration fault) = 1
 status_of (Recording recording.Memory) = 3

@@ -1,5 +1,6 @@
 -- The trace of a run in the names of its objects.
-use Rattle.std.specs.Prelude.{◌≡◌, ℕ, ◌+◌, ◌-◌, ◌^◌, List, Option, Some, None, ◌++◌, min}
+use Rattle.std.specs.Prelude.{◌≡◌, ℕ, ◌+◌, ◌-◌, ◌^◌, List, [], Option, Some, None, ◌++◌, Bool, true, false, get_or, min}
+use Rattle.fmp_base.specs.declared.events.Event.{Event}
 use Rattle.fmp_base.specs.declared.events.Line.{Line}
 use Rattle.fmp_base.specs.declared.events.TaskState.{TaskState}
 use Rattle.fmp_base.specs.declared.states.TaskBlock.{TaskBlock}
@@ -8,18 +9,30 @@ use Rattle.fmp_base.specs.Steps.{Reaction}
 use Rattle.fmp_base.specs.Systems.{SystemTables, tables_of}
 use Rattle.fmp_frames.specs.Frames.{FrameTable}
 use Rattle.fmp_kernel.specs.KernelViews.{KernelView}
-use Rattle.fmp_named.specs.Lines.{named_lines}
-use Rattle.fmp_named.specs.Records.{line_records, state_records}
+use Rattle.fmp_named.specs.Records.{state_records}
 use Rattle.fmp_named.specs.States.{named_states}
 use Rattle.fmp_frames.specs.Shown.{WasShown}
 use Rattle.fmp_warnings.specs.declared.verdicts.Form.{Form}
 use Rattle.fmp_warnings.specs.declared.verdicts.Form.TheVariants as form
 use Rattle.fmp_looking.specs.declared.tracing.Tracer.{Tracer}
+use Rattle.fmp_image_bytes.specs.Images.{ImageTables}
+use Rattle.fmp_instructions.specs.Machine.{code_meaning}
+use Rattle.fmp_places.specs.declared.calls.CallPlace.{CallPlace}
+use Rattle.fmp_places.specs.declared.lines.LineForm.{LineForm}
+use Rattle.fmp_places.specs.declared.lines.LineForm.TheVariants as written
+use Rattle.fmp_places.specs.Lines.{placed}
+use Rattle.fmp_places.specs.Made.{places_made}
+use Rattle.fmp_places.specs.Places.{AreCallsOf}
+use Rattle.fmp_replay.specs.Replays.{kernel_after}
 
--- the lines of event k, as they are printed
-abbrev pub lines_text : Form → SystemTables → ℕ → List Line → List ℕ
-lines_text form.Text sys k ls = named_lines sys k ls
-lines_text form.Json sys k ls = line_records sys k ls
+-- the form of a line that says where its call stands
+abbrev pub line_form : Form → LineForm
+line_form form.Text = written.Text
+line_form form.Json = written.Record
+
+-- the lines of event k, as they are printed, with where its call stands
+abbrev pub lines_text : Form → SystemTables → ℕ → Option CallPlace → List Line → List ℕ
+lines_text f sys k place ls = placed (line_form f) sys k place ls
 
 -- the states of the tasks, as they are printed
 abbrev pub states_text : Form → SystemTables → List TaskState → List TaskBlock → List ℕ
@@ -31,12 +44,14 @@ abbrev pub number_after : ℕ → Option ℕ → ℕ
 number_after n None = min (n + 1) (2 ^ 32 - 1)
 number_after n (Some p) = n
 
--- a tracer of this system has the lines of setup, and the states after it
-pub record IsBegun (form : Form) (sys : SystemTables) (x : Tracer) (f : FrameTable) : Type 0 where
+-- a tracer of this system, with these places of calls, has the lines of setup, and the states after it
+pub record IsBegun (form : Form) (sys : SystemTables) (places : List (Option CallPlace)) (x : Tracer) (f : FrameTable)
+    : Type 0 where
   pub form_is : x.form ≡ form
   pub system : tables_of x.sys.now ≡ sys
+  pub places_are : x.places.now ≡ places
   pub number : x.number ≡ 0
-  pub text : x.out.items ≡ lines_text form sys 0 f.lines
+  pub text : x.out.items ≡ lines_text form sys 0 None f.lines
   pub states : x.states.items ≡ f.states
   pub blocks : x.blocks.items ≡ f.blocks
 
@@ -44,14 +59,33 @@ pub record IsBegun (form : Form) (sys : SystemTables) (x : Tracer) (f : FrameTab
 pub record Traces (x : Tracer) (f : FrameTable) (y : Tracer) : Type 0 where
   pub form : y.form ≡ x.form
   pub system : tables_of y.sys.now ≡ tables_of x.sys.now
+  pub places : y.places.now ≡ x.places.now
   pub number : y.number ≡ number_after x.number f.kept
-  pub text : y.out.items ≡ x.out.items ++ lines_text x.form (tables_of x.sys.now) y.number f.lines
+  pub text : y.out.items
+      ≡ x.out.items
+      ++ lines_text x.form (tables_of x.sys.now) y.number (get_or x.places.now (y.number - 1) None) f.lines
   pub states : y.states.items ≡ f.states
   pub blocks : y.blocks.items ≡ f.blocks
 
--- what is printed of a run of a kernel: the lines of setup, those of what comes to it, and the states at the end
-pub record IsTrace {B C X : Type 0} (form : Form) (sys : SystemTables) (meaning : B → Meaning C)
+-- what is printed of a run of a kernel: the lines of setup, those of what comes to it, with the places of its calls, of
+-- which the first is that of event 1, and the states at the end
+pub record IsTrace {B C X : Type 0} (form : Form) (sys : SystemTables) (places : List (Option CallPlace))
+    (meaning : B → Meaning C)
     (reaction : KernelView B C → X → Reaction C) (k : KernelView B C) (xs : List X) (out : List ℕ) : Type 0 where
   pub last : Tracer
-  pub shown : WasShown (IsBegun form sys) Traces meaning reaction k xs last
+  pub shown : WasShown (IsBegun form sys places) Traces meaning reaction k xs last
   pub whole : out ≡ last.out.items ++ states_text last.form (tables_of last.sys.now) last.states.items last.blocks.items
+
+-- for each event of a run of an image that is done where the call stands that it makes in this text of its bodies
+pub record ArePlaced (src : List ℕ) (i : ImageTables) (n : ℕ) (es : List Event) (made : List (Option CallPlace))
+    : Type 0 where
+  pub bodies : List (List CallPlace)
+  pub calls : AreCallsOf src bodies
+  pub made_so : made ≡ places_made code_meaning i.code bodies (kernel_after i n []) es
+
+-- the same where they are shown: in lines if that is asked for, in objects of JSON always
+abbrev pub AreShown : Form → (asked : Bool) → (src : List ℕ) → ImageTables → (n : ℕ) → List Event
+    → List (Option CallPlace) → Type 0
+AreShown form.Json asked src i n es made = ArePlaced src i n es made
+AreShown form.Text true src i n es made = ArePlaced src i n es made
+AreShown form.Text false src i n es made = made ≡ []

@@ -4,12 +4,13 @@ ghost use Rattle.fmp_coming.specs.Comings.{reaction_of};
 ghost use Rattle.fmp_image.specs.Building.{Builds};
 ghost use Rattle.fmp_instructions.specs.Machine.{code_meaning};
 ghost use Rattle.fmp_replay.specs.Replays.{kernel_after};
-ghost use Rattle.fmp_looking.specs.Traces.{IsTrace};
+ghost use Rattle.fmp_looking.specs.Traces.{AreShown, IsTrace};
 
 use crate::commands::{DriveEnding, RunOutput, output_of};
 use crate::driving::driven;
 use crate::open_image::OpenImage;
 use crate::opening::events_of;
+use crate::placing::placed;
 use crate::tracing::trace_of;
 use crate::why::why_of;
 use fmp_arguments::{kept_bound, kept_events};
@@ -18,6 +19,7 @@ use fmp_engine::SimFault;
 use fmp_image::build;
 use fmp_image_bytes::Image;
 use fmp_lex::BuildFault;
+use fmp_places::CallPlace;
 use fmp_warnings::Form;
 use std::alloc::{AllocError, Global};
 
@@ -27,6 +29,8 @@ pub struct Running {
     pub form: Form,
     /// Whether the table of calls is printed in place of the trace.
     pub calls: bool,
+    /// Whether the lines of a trace say where their calls stand; objects of JSON always do.
+    pub places: bool,
     /// How many events are done at most where there are no steps, 0 to 2^20.
     pub events: u32,
     /// Whether processors go at random there, and by which number.
@@ -73,10 +77,11 @@ fn built(alloc: Global, cfg: &[u8], src: &[u8]) -> Result<Image, NoTrace>
     }
 }
 
-/// The trace of a run of an image over events. `AllocError` if memory runs out.
+/// The trace of a run of an image over events, whose calls stand at these places. `AllocError` if memory runs out.
 fn image_trace(
     alloc: Global,
     form: Form,
+    places: &[Option<CallPlace>],
     image: &Image,
     events: &[Event],
     n: u64,
@@ -84,10 +89,10 @@ fn image_trace(
     requires low { 1 ≤ n }
     requires high { n ≤ 2 ^ 48 }
     requires few { length events.now ≤ 2 ^ 20 }
-    ensures { IfOk result (λ out. IsTrace form image.now.system code_meaning (reaction_of code_meaning)
+    ensures { IfOk result (λ out. IsTrace form image.now.system places.now code_meaning (reaction_of code_meaning)
         (kernel_after image.now n []) events.now out.items) }
 {
-    trace_of(alloc, form, &OpenImage::new(image, n), events)
+    trace_of(alloc, form, places, &OpenImage::new(image, n), events)
 }
 
 /// The events that a drive of an image takes, and how it ended.
@@ -146,10 +151,38 @@ fn steps_for(
     }
 }
 
-/// The trace of a run of an image over events, or the table of its calls.
+/// Where the calls of a run of an image stand in the text of its bodies, if that is shown: in objects of JSON it always
+/// is.
+fn shown_places(
+    alloc: Global,
+    image: &Image,
+    src: &[u8],
+    events: &[Event],
+    run: Running,
+    bound: u64,
+) -> Result<Vec<Option<CallPlace>>, AllocError>
+    requires low { 1 ≤ bound }
+    requires high { bound ≤ 2 ^ 48 }
+    requires few { length events.now ≤ 2 ^ 20 }
+    ensures { IfOk result (λ made. AreShown run.form run.places src.now image.now bound events.now made.items) }
+{
+    match run.form {
+        Form::Json => placed(alloc, image, src, events, bound),
+        Form::Text => {
+            if run.places {
+                placed(alloc, image, src, events, bound)
+            } else {
+                Ok(Vec::new(alloc))
+            }
+        }
+    }
+}
+
+/// The trace of a run of an image over events, or the table of its calls. Its bodies are those of this text.
 fn printed(
     alloc: Global,
     image: &Image,
+    src: &[u8],
     events: &[Event],
     run: Running,
 ) -> Result<Vec<u8>, AllocError>
@@ -164,19 +197,21 @@ fn printed(
             RunOutput::Calls,
         );
     }
-    image_trace(alloc, run.form, image, events, bound)
+    let places = shown_places(alloc, image, src, events, run, bound)?;
+    image_trace(alloc, run.form, &places, image, events, bound)
 }
 
 /// What is printed of a run of an image over steps.
 fn traced_over(
     alloc: Global,
     image: &Image,
+    src: &[u8],
     stepped: &Stepped,
     run: Running,
 ) -> Result<Traced, AllocError>
     requires { length stepped.now.events.items ≤ 2 ^ 20 }
 {
-    let text = printed(alloc, image, &stepped.events, run)?;
+    let text = printed(alloc, image, src, &stepped.events, run)?;
     let opened = OpenImage::new(image, run.bound);
     let why = why_of(alloc, &opened, &stepped.events)?;
     Ok(Traced {
@@ -190,11 +225,12 @@ fn traced_over(
 fn traced_image(
     alloc: Global,
     image: &Image,
+    src: &[u8],
     steps: Option<&[u8]>,
     run: Running,
 ) -> Result<Traced, NoTrace> {
     let stepped = steps_for(alloc, image, steps, run)?;
-    traced_over(alloc, image, &stepped, run).map_err(|_| NoTrace::Memory)
+    traced_over(alloc, image, src, &stepped, run).map_err(|_| NoTrace::Memory)
 }
 
 /// What is printed of a run of the system of two texts: over a steps text, or of a drive where there is none.
@@ -206,7 +242,7 @@ pub fn traced_texts(
     run: Running,
 ) -> Result<Traced, NoTrace> {
     let image = built(alloc, cfg, src)?;
-    let traced = traced_image(alloc, &image, steps, run);
+    let traced = traced_image(alloc, &image, src, steps, run);
     drop(image);
     traced
 }

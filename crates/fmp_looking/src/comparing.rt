@@ -2,13 +2,13 @@
 ghost use Rattle.std.specs.Prelude.{◌≤◌, ◌^◌, IfOk, length};
 
 use crate::exit::{ViewExit, memory};
+use crate::kinds::exit_over;
 use crate::looking::recording_of;
 use crate::open_image::OpenImage;
 use crate::open_system::OpenSystem;
 use crate::opened::Opened;
-use crate::opening::{events_of, image_of};
+use crate::opening::{events_for, image_of};
 use fmp_coming::Coming;
-use fmp_engine::SimFault;
 use fmp_image_bytes::Image;
 use fmp_watch::{ToldRun, append_difference, count_up_to, first_difference, told_on};
 use std::alloc::{AllocError, Global};
@@ -137,12 +137,11 @@ fn difference_over(
     a: &[u8],
     b: &[u8],
     bound: u64,
-) -> Result<Option<Vec<u8>>, SimFault> {
-    let processors = image.system().processors;
-    let a = events_of(alloc, a, processors)?;
-    let b = events_of(alloc, b, processors)?;
+) -> Result<Option<Vec<u8>>, ViewExit> {
+    let a = events_for(alloc, image, a)?;
+    let b = events_for(alloc, image, b)?;
     let opened = OpenImage::new(image, bound);
-    difference(alloc, &opened, &a, &b).map_err(|_| SimFault::Memory)
+    difference(alloc, &opened, &a, &b).map_err(|error| memory(error))
 }
 
 /// The difference of the runs of the image of these bytes over two steps texts; none if they tell the same.
@@ -157,9 +156,9 @@ pub fn diff(
         Ok(image) => {
             let difference = difference_over(alloc, &image, a, b, bound);
             drop(image);
-            difference.map_err(|fault| ViewExit::Sim(fault))
+            difference
         }
-        Err(fault) => Err(ViewExit::Sim(fault)),
+        Err(fault) => Err(exit_over(alloc, fault, image)),
     }
 }
 

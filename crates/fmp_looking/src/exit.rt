@@ -1,6 +1,7 @@
 //! Why the program ends with nothing printed.
 ghost use Rattle.fmp_looking.specs.Exits.{status_of};
 
+use crate::kinds::Misplaced;
 use crate::timeline::TimelineFault;
 use fmp_engine::SimFault;
 use fmp_files::{Failure, Reason};
@@ -9,11 +10,15 @@ use fmp_recording::RecordingFault;
 use std::alloc::AllocError;
 use std::fmt;
 
-/// Why the program ends with nothing printed: its message is one line.
+/// Why the program ends with nothing printed: its message is one line, and a second one of a file in a wrong place.
 #[derive(Drop)]
 pub enum ViewExit {
     /// The image is not run.
     Sim(SimFault),
+    /// The image is not run, since a file of another kind is given.
+    Misplaced(Misplaced),
+    /// The task text is not that of the image: they have not the same calls.
+    OtherText,
     /// The configuration of a recorded run has this fault.
     Configuration(BuildFault),
     /// The recording is not read.
@@ -36,6 +41,11 @@ impl fmt::Display for ViewExit {
     fn fmt<W: fmt::Write>(&self, f: &mut fmt::Formatter<W>) -> fmt::Result {
         match self {
             ViewExit::Sim(fault) => write!(f, "{fault}"),
+            ViewExit::Misplaced(misplaced) => write!(f, "{misplaced}"),
+            ViewExit::OtherText => write!(
+                f,
+                "SRC is not the task text of the image: their calls differ"
+            ),
             ViewExit::Configuration(fault) => write!(f, "{fault}"),
             ViewExit::Recording(fault) => write!(f, "{fault}"),
             ViewExit::Picture(fault) => write!(f, "{fault}"),
@@ -57,6 +67,8 @@ impl Reason for ViewExit {
             | ViewExit::Recording(RecordingFault::Memory)
             | ViewExit::Failed(_) => 3,
             ViewExit::Sim(_)
+            | ViewExit::Misplaced(_)
+            | ViewExit::OtherText
             | ViewExit::Configuration(_)
             | ViewExit::Recording(_)
             | ViewExit::Expect(_) => 1,

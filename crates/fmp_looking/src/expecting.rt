@@ -29,30 +29,43 @@ fn states_of<B: Body>(alloc: Global, kernel: &Kernel<B>) -> Result<Vec<TaskState
     Ok(states)
 }
 
-/// The first of the expectations that a run of a kernel fails.
+/// What a run comes to, where something is expected of it.
+#[derive(Drop)]
+struct Verdict {
+    /// The first expectation that it breaks.
+    broken: Option<BrokenExpectation>,
+    /// The lines of the expectations that say nothing of it, since what they speak of never comes.
+    empty: Vec<usize>,
+}
+
+/// What a run of a kernel comes to, where this is expected of it.
 fn verdict_on<B: Body, T: Coming<B>>(
     alloc: Global,
     kernel: &mut Kernel<B>,
     events: &[T],
     expected: &[Expected],
-) -> Result<Option<BrokenExpectation>, AllocError>
+) -> Result<Verdict, AllocError>
     requires { kernel.old.taken + length events.now ≤ 2 ^ 31 }
-    ensures { IfOk result (λ broken. broken ≡ spec.verdict T.reaction kernel.old events.now expected.now) }
+    ensures broken { IfOk result (λ v. v.broken ≡ spec.verdict T.reaction kernel.old events.now expected.now) }
+    ensures empty { IfOk result (λ v. v.empty.items
+        ≡ spec.empty_claims T.reaction kernel.old events.now expected.now) }
 {
     let mut checker = Checker::new(alloc, expected)?;
     tell_run(kernel, events, &mut checker);
     let states = states_of(alloc, kernel)?;
-    Ok(checker.verdict(&states, kernel.done()))
+    let broken = checker.verdict(&states, kernel.done());
+    let empty = checker.empty_claims(alloc)?;
+    Ok(Verdict { broken, empty })
 }
 
-/// The first of the expectations that a run of a system fails.
+/// What a run of a system comes to, where this is expected of it.
 #[tactic(none)]
 fn verdict_of<O: Opened, T: Coming<O::Bodies>>(
     alloc: Global,
     opened: &O,
     events: &[T],
     expected: &[Expected],
-) -> Result<Option<BrokenExpectation>, AllocError>
+) -> Result<Verdict, AllocError>
     requires { length events.now ≤ 2 ^ 31 }
 {
     let mut kernel = opened.kernel(alloc)?;
@@ -142,22 +155,54 @@ fn report_of<O: Opened, T: Coming<O::Bodies>>(
     broken_text(alloc, name, text, broken, &event)
 }
 
+/// Appends that the expectation of the line of this number of a text says nothing of a run.
+fn append_empty(
+    alloc: Global,
+    (name, text): (&str, &[u8]),
+    line: usize,
+    out: &mut Vec<u8>,
+) -> Result<(), AllocError> {
+    let head = format!(in alloc; "{name}:{line}: never happens at all: ")?;
+    out.extend_from_slice(head.as_bytes())?;
+    out.extend_from_slice(line_of(text, line))?;
+    out.push(b'\n')?;
+    Ok(())
+}
+
+/// What is printed of a run of which the expectations of these lines say nothing; none if there are none of these.
+fn empty_text(
+    alloc: Global,
+    named: (&str, &[u8]),
+    lines: &[usize],
+) -> Result<Option<Vec<u8>>, AllocError> {
+    if lines.is_empty() {
+        return Ok(None);
+    }
+    let mut out = Vec::new(alloc);
+    for line in lines {
+        append_empty(alloc, named, *line, &mut out)?;
+    }
+    Ok(Some(out))
+}
+
 /// What is printed of a run of a system, if it does not meet these expectations.
 fn checked<O: Opened, T: Coming<O::Bodies>>(
     alloc: Global,
     opened: &O,
     events: &[T],
-    name: &str,
-    text: &[u8],
+    expectations: &Expectations<'_>,
     expected: &[Expected],
 ) -> Result<Option<Vec<u8>>, AllocError>
     requires { length events.now ≤ 2 ^ 31 }
 {
-    match verdict_of(alloc, opened, events, expected)? {
+    let Expectations { name, text, strict } = *expectations;
+    let verdict = verdict_of(alloc, opened, events, expected)?;
+    match verdict.broken {
         Some(broken) => {
             let text = report_of(alloc, opened, events, name, text, broken)?;
             Ok(Some(text))
         }
+        None if strict => empty_text(alloc, (name, text), &verdict.empty),
         None => Ok(None),
     }
 }
@@ -190,10 +235,13 @@ fn expected_of(alloc: Global, sys: &System, text: &[u8]) -> Result<Vec<Expected>
 pub struct Expectations<'a> {
     pub name: &'a str,
     pub text: &'a [u8],
+    /// Whether a run fails an expectation that says nothing of it, since what it speaks of never comes.
+    pub strict: bool,
 }
 
 impl RunLook for Expectations<'_> {
-    /// What is printed of a run that does not meet the text: the first line that fails, and the event in which it does.
+    /// What is printed of a run that does not meet the text: the first line that fails, and the event in which it does;
+    /// or the lines that say nothing of the run, if these fail too.
     type Made = Option<Vec<u8>>;
 
     fn of<O: Opened, T: Coming<O::Bodies>>(
@@ -204,6 +252,6 @@ impl RunLook for Expectations<'_> {
         _times: &[Option<u64>],
     ) -> Result<Option<Vec<u8>>, ViewExit> {
         let expected = expected_of(alloc, opened.system(), self.text)?;
-        checked(alloc, opened, events, self.name, self.text, &expected).map_err(|e| memory(e))
+        checked(alloc, opened, events, self, &expected).map_err(|e| memory(e))
     }
 }

@@ -21,17 +21,82 @@ fn add_actors(known: &mut Vec<Name>, sys: &System) -> Result<(), AllocError> {
     Ok(())
 }
 
+/// Adds words, if they can be names.
+fn add_names(known: &mut Vec<Name>, words: &[&str]) -> Result<(), AllocError> {
+    for word in words {
+        add_name(known, word)?;
+    }
+    Ok(())
+}
+
 /// Adds the words that may begin a sentence.
 fn add_beginnings(known: &mut Vec<Name>, sys: &System) -> Result<(), AllocError> {
-    add_name(known, "never")?;
-    add_name(known, "end")?;
+    add_names(known, &["never", "always", "between", "end"])?;
     add_deeds(known)?;
     add_actors(known, sys)
 }
 
-fn add_before_or_by(known: &mut Vec<Name>) -> Result<(), AllocError> {
-    add_name(known, "before")?;
-    add_name(known, "by")
+/// Adds the objects whose values and lengths a test may compare.
+fn add_objects(known: &mut Vec<Name>, sys: &System) -> Result<(), AllocError> {
+    for word in &sys.shared_words {
+        known.push(word.name)?;
+    }
+    for semaphore in &sys.semaphores {
+        known.push(semaphore.name)?;
+    }
+    for flag in &sys.flags {
+        known.push(flag.name)?;
+    }
+    for queue in &sys.data_queues {
+        known.push(queue.name)?;
+    }
+    for mailbox in &sys.mailboxes {
+        known.push(mailbox.name)?;
+    }
+    Ok(())
+}
+
+/// Adds the words that may begin a test.
+fn add_tests(known: &mut Vec<Name>, sys: &System) -> Result<(), AllocError> {
+    add_names(known, &["not", "priority", "nobody"])?;
+    add_tasks(known, &sys.tasks)?;
+    add_objects(known, sys)
+}
+
+/// Adds the words that are known where this is expected in every system.
+fn add_fixed(known: &mut Vec<Name>, expects: Expects) -> Result<(), AllocError> {
+    match expects {
+        Expects::Runs => add_name(known, "runs"),
+        Expects::RunsOrRests => add_names(known, &["runs", "rests"]),
+        Expects::Within => add_name(known, "within"),
+        Expects::Ticks => add_name(known, "ticks"),
+        Expects::Of => add_name(known, "of"),
+        Expects::Int => add_name(known, "int"),
+        Expects::Before => add_names(known, &["before", "within"]),
+        Expects::BeforeOrBy => add_names(known, &["before", "within", "by"]),
+        Expects::NeverEnd => add_names(known, &["after", "until"]),
+        Expects::NeverEndOrBy => add_names(known, &["after", "until", "by"]),
+        Expects::UntilEnd => add_name(known, "until"),
+        Expects::UntilEndOrBy => add_names(known, &["until", "by"]),
+        _ => add_rarer(known, expects),
+    }
+}
+
+/// Adds the words of `between`, of tests, and of what ends a sentence.
+fn add_rarer(known: &mut Vec<Name>, expects: Expects) -> Result<(), AllocError> {
+    match expects {
+        Expects::And => add_name(known, "and"),
+        Expects::AndOrBy => add_names(known, &["and", "by"]),
+        Expects::One => add_name(known, "one"),
+        Expects::OneOrBy => add_names(known, &["one", "by"]),
+        Expects::At => add_name(known, "at"),
+        Expects::A => add_name(known, "a"),
+        Expects::Time => add_name(known, "time"),
+        Expects::On => add_name(known, "on"),
+        Expects::AndOr => add_names(known, &["and", "or"]),
+        Expects::EndOrBy => add_name(known, "by"),
+        _ => Ok(()),
+    }
 }
 
 /// Adds the words of a system that are known where this is expected.
@@ -42,15 +107,8 @@ fn add_known(known: &mut Vec<Name>, sys: &System, expects: Expects) -> Result<()
         Expects::Actor => add_actors(known, sys),
         Expects::Task => add_tasks(known, &sys.tasks),
         Expects::State => add_states(known),
-        Expects::Runs => add_name(known, "runs"),
-        Expects::Within => add_name(known, "within"),
-        Expects::Ticks => add_name(known, "ticks"),
-        Expects::Of => add_name(known, "of"),
-        Expects::Int => add_name(known, "int"),
-        Expects::Before => add_name(known, "before"),
-        Expects::BeforeOrBy => add_before_or_by(known),
-        Expects::EndOrBy => add_name(known, "by"),
-        Expects::End | Expects::Count | Expects::Interrupt => Ok(()),
+        Expects::Test => add_tests(known, sys),
+        _ => add_fixed(known, expects),
     }
 }
 
@@ -89,11 +147,10 @@ fn found_text(alloc: Global, word: Option<&[u8]>) -> Result<String, AllocError> 
     }
 }
 
-/// What is said of a flaw of the line of this number, for a run of this system. `AllocError` if memory runs out.
-pub fn flaw_text(
+/// What is said of a flaw of a line, for a run of this system. `AllocError` if memory runs out.
+pub fn flaw_words(
     alloc: Global,
     sys: &System,
-    number: usize,
     line: &[u8],
     flaw: ExpectationFlaw,
 ) -> Result<String, AllocError> {
@@ -104,5 +161,18 @@ pub fn flaw_text(
     };
     let found = found_text(alloc, word)?;
     let question = question_text(alloc, near)?;
-    format!(in alloc; "expect:{number}: {flaw}; {found}{question}")
+    format!(in alloc; "{flaw}; {found}{question}")
+}
+
+/// What is said of a flaw of the line of this number of a text, for a run of this system. `AllocError` if memory runs
+/// out.
+pub fn flaw_text(
+    alloc: Global,
+    sys: &System,
+    number: usize,
+    line: &[u8],
+    flaw: ExpectationFlaw,
+) -> Result<String, AllocError> {
+    let words = flaw_words(alloc, sys, line, flaw)?;
+    format!(in alloc; "expect:{number}: {words}")
 }

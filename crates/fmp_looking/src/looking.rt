@@ -2,10 +2,11 @@
 ghost use Rattle.std.specs.Prelude.{◌≤◌, ◌^◌, IfOk, length};
 
 use crate::exit::{ViewExit, memory};
+use crate::kinds::exit_over;
 use crate::open_image::OpenImage;
 use crate::open_system::OpenSystem;
 use crate::opened::Opened;
-use crate::opening::{events_of, image_of};
+use crate::opening::{events_for, image_of};
 use fmp_coming::Coming;
 use fmp_frames::known_times;
 use fmp_image_bytes::Image;
@@ -38,9 +39,9 @@ fn over_steps<L: RunLook>(
     steps: &[u8],
     bound: u64,
 ) -> Result<L::Made, ViewExit> {
-    match events_of(alloc, steps, image.system().processors) {
+    match events_for(alloc, image, steps) {
         Ok(events) => look.of(alloc, &OpenImage::new(image, bound), &events, &[]),
-        Err(fault) => Err(ViewExit::Sim(fault)),
+        Err(exit) => Err(exit),
     }
 }
 
@@ -58,7 +59,7 @@ pub fn look_at_image<L: RunLook>(
             drop(image);
             made
         }
-        Err(fault) => Err(ViewExit::Sim(fault)),
+        Err(fault) => Err(exit_over(alloc, fault, image)),
     }
 }
 

@@ -1,6 +1,8 @@
 //! The image, and the events of a steps text.
 ghost use Rattle.std.specs.Prelude.{◌≤◌, ◌^◌, IfOk, length};
 
+use crate::exit::ViewExit;
+use crate::kinds::exit_over;
 use fmp_base::Event;
 use fmp_engine::SimFault;
 use fmp_image_bytes::{Image, LoadFault, load};
@@ -24,5 +26,15 @@ pub fn events_of(alloc: Global, text: &[u8], processors: u8) -> Result<Vec<Event
         Ok(events) => Ok(events),
         Err(StepsFault::Memory) => Err(SimFault::Memory),
         Err(fault) => Err(SimFault::Steps(fault)),
+    }
+}
+
+/// The events of a steps text for an image, or why there are none.
+pub fn events_for(alloc: Global, image: &Image, text: &[u8]) -> Result<Vec<Event>, ViewExit>
+    ensures { IfOk result (λ events. length events.items ≤ 2 ^ 20) }
+{
+    match events_of(alloc, text, image.system().processors) {
+        Ok(events) => Ok(events),
+        Err(fault) => Err(exit_over(alloc, fault, text)),
     }
 }

@@ -2,19 +2,31 @@
 ghost use Rattle.std.specs.Prelude.{◌≡◌, IfOk, OnOk};
 ghost use Rattle.fmp_timeline.specs.Shown as spec;
 
+use crate::placing::{place_at, with_place};
 use fmp_base::System;
 use fmp_frames::{Frame, Viewer};
+use fmp_places::CallPlace;
 use fmp_timeline::{Moment, Run, TaskShown, tasks_shown};
 use fmp_trace::print;
 use fmp_watch::IdleTurn;
 use std::alloc::{AllocError, Global};
 
+/// What is recorded of a run beside its frames.
+#[derive(Clone, Copy)]
+pub struct Beside<'a> {
+    /// Whether the histories of objects are recorded.
+    pub objects: bool,
+    /// All turns that do nothing, in order.
+    pub turns: &'a [IdleTurn],
+    /// Where the calls of the events stand, from the first event on; none are known behind the last one here.
+    pub places: &'a [Option<CallPlace>],
+}
+
 /// A run so far.
 #[derive(Drop)]
 pub struct Recorder<'a> {
     sys: &'a System,
-    /// All turns that do nothing, in order.
-    turns: &'a [IdleTurn],
+    beside: Beside<'a>,
     /// How many of them are recorded.
     taken: usize,
     run: Run,
@@ -23,13 +35,11 @@ pub struct Recorder<'a> {
 }
 
 impl<'a> Recorder<'a> {
-    /// A run of a system after setup, with its objects or without; these turns of it do nothing. `AllocError` if memory
-    /// runs out.
+    /// A run of a system after setup, with this beside its frames. `AllocError` if memory runs out.
     pub fn new(
         alloc: Global,
         sys: &'a System,
-        objects: bool,
-        turns: &'a [IdleTurn],
+        beside: Beside<'a>,
         setup: &Frame,
     ) -> Result<Recorder<'a>, AllocError>
         ensures { IfOk result (λ made. made.shown.items
@@ -37,9 +47,9 @@ impl<'a> Recorder<'a> {
     {
         let mut recorder = Recorder {
             sys,
-            turns,
+            beside,
             taken: 0,
-            run: Run::new(alloc, sys, objects)?,
+            run: Run::new(alloc, sys, beside.objects)?,
             shown: Vec::new(alloc),
         };
         recorder.record(alloc, setup)?;
@@ -49,7 +59,7 @@ impl<'a> Recorder<'a> {
     /// Records the turns that do nothing before the next event.
     fn take_turns(&mut self) {
         let next = self.run.next_event();
-        for turn in self.turns.get(self.taken..).unwrap_or(&[]) {
+        for turn in self.beside.turns.get(self.taken..).unwrap_or(&[]) {
             if turn.event >= next {
                 break;
             }
@@ -73,8 +83,11 @@ impl<'a> Recorder<'a> {
             ≡ spec.tasks_shown frame.now.states.items frame.now.blocks.items frame.now.processors.items) }
     {
         self.take_turns();
+        let event = self.run.next_event();
         let mut text = Vec::new(alloc);
-        print(self.sys, self.run.next_event(), &frame.lines, &mut text)?;
+        print(self.sys, event, &frame.lines, &mut text)?;
+        let place = place_at(self.beside.places, event);
+        let text = with_place(alloc, &frame.lines, place, text)?;
         let shown = tasks_shown(alloc, &frame.states, &frame.blocks, &frame.processors)?;
         self.run.show(
             alloc,

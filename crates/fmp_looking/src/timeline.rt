@@ -6,7 +6,7 @@ ghost use Rattle.fmp_frames.specs.Shown.{WasShown};
 use crate::exit::{ViewExit, exit_of, memory};
 use crate::looking::{RunLook, known_of};
 use crate::opened::Opened;
-use crate::recording::Recorder;
+use crate::recording::{Beside, Recorder};
 use fmp_base::System;
 use fmp_coming::Coming;
 use fmp_drawing::{DrawFault, MOST_BYTES, draw_timed};
@@ -14,6 +14,7 @@ use fmp_engine::SimFault;
 use fmp_frames::{Viewer, last_frame, show_all};
 use fmp_kernel::{Body, Kernel};
 use fmp_page::page_of;
+use fmp_places::CallPlace;
 use fmp_timeline::{Choice, PicturePage, Run};
 use fmp_watch::{IdleTurn, idle_turns};
 use std::alloc::{AllocError, Global};
@@ -82,8 +83,7 @@ fn recorded<'a, B: Body, T: Coming<B>>(
     body: &B,
     n: u64,
     events: &[T],
-    objects: bool,
-    turns: &'a [IdleTurn],
+    beside: Beside<'a>,
 ) -> Result<Recorder<'a>, AllocError>
     requires few { kernel.old.taken + length events.now ≤ 2 ^ 31 }
     requires body { body.now ≡ kernel.old.body }
@@ -93,7 +93,7 @@ fn recorded<'a, B: Body, T: Coming<B>>(
         ⟦<Recorder<'a> as Viewer>⟧.shown B.meaning T.reaction kernel.old events.now recorder) }
 {
     let setup = last_frame(alloc, kernel, body, n)?;
-    let mut recorder = Recorder::new(alloc, sys, objects, turns, &setup)?;
+    let mut recorder = Recorder::new(alloc, sys, beside, &setup)?;
     drop(setup);
     show_all(alloc, kernel, body, n, events, &mut recorder)?;
     Ok(recorder)
@@ -108,14 +108,13 @@ fn run_on<B: Body, T: Coming<B>>(
     body: &B,
     n: u64,
     events: &[T],
-    objects: bool,
-    turns: &[IdleTurn],
+    beside: Beside<'_>,
 ) -> Result<Run, AllocError>
     requires few { kernel.old.taken + length events.now ≤ 2 ^ 31 }
     requires body { body.now ≡ kernel.old.body }
     requires bound { n ≡ kernel.old.bound }
 {
-    let recorder = recorded(alloc, sys, kernel, body, n, events, objects, turns)?;
+    let recorder = recorded(alloc, sys, kernel, body, n, events, beside)?;
     Ok(recorder.finish())
 }
 
@@ -134,14 +133,13 @@ fn turns_of<O: Opened, T: Coming<O::Bodies>>(
     turns
 }
 
-/// A run of a system, in which these turns do nothing.
+/// A run of a system, with this beside its frames.
 #[tactic(none)]
 fn run_with<O: Opened, T: Coming<O::Bodies>>(
     alloc: Global,
     opened: &O,
     events: &[T],
-    objects: bool,
-    turns: &[IdleTurn],
+    beside: Beside<'_>,
 ) -> Result<Run, AllocError>
     requires { length events.now ≤ 2 ^ 31 }
 {
@@ -154,25 +152,31 @@ fn run_with<O: Opened, T: Coming<O::Bodies>>(
         &bodies,
         opened.bound(),
         events,
-        objects,
-        turns,
+        beside,
     );
     drop(bodies);
     drop(kernel);
     run
 }
 
-/// A run of a system.
+/// A run of a system, with its objects or without. The calls of its events stand at these places, from the first event
+/// on, as far as they are known.
 pub fn run_of<O: Opened, T: Coming<O::Bodies>>(
     alloc: Global,
     opened: &O,
     events: &[T],
     objects: bool,
+    places: &[Option<CallPlace>],
 ) -> Result<Run, AllocError>
     requires { length events.now ≤ 2 ^ 31 }
 {
     let turns = turns_of(alloc, opened, events)?;
-    run_with(alloc, opened, events, objects, &turns)
+    let beside = Beside {
+        objects,
+        turns: &turns,
+        places,
+    };
+    run_with(alloc, opened, events, beside)
 }
 
 /// These times, if they are those of a run's events.
@@ -238,6 +242,8 @@ fn picture_of(
 pub struct Titled<'a> {
     pub title: &'a [u8],
     pub drawing: Drawing,
+    /// Where the calls of the events stand, from the first event on, as far as they are known.
+    pub places: &'a [Option<CallPlace>],
 }
 
 impl RunLook for Titled<'_> {
@@ -251,7 +257,7 @@ impl RunLook for Titled<'_> {
         times: &[Option<u64>],
     ) -> Result<Picture, ViewExit> {
         let times = known_of(alloc, times)?;
-        match run_of(alloc, opened, events, self.drawing.objects) {
+        match run_of(alloc, opened, events, self.drawing.objects, self.places) {
             Ok(run) => {
                 let sys = opened.system();
                 let picture = picture_of(alloc, sys, &run, self.title, self.drawing, &times);

@@ -1,20 +1,21 @@
 //! The trace of a run in the names of its objects, and the states at its end.
-ghost use Rattle.std.specs.Prelude.{◌≡◌, ◌+◌, ◌≤◌, ◌^◌, ◌++◌, IfOk, OnOk, length};
+ghost use Rattle.std.specs.Prelude.{◌≡◌, ◌+◌, ◌-◌, ◌≤◌, ◌^◌, ◌++◌, IfOk, None, OnOk, get_or, length};
 ghost use Rattle.fmp_base.specs.Systems.{tables_of};
 ghost use Rattle.fmp_frames.specs.Frames.{table_of};
 ghost use Rattle.fmp_frames.specs.Shown.{WasShown};
 ghost use Rattle.fmp_looking.specs.Traces as spec;
-ghost use Rattle.fmp_looking.specs.Traces.{IsBegun, IsTrace, Traces, lines_text, states_text};
+ghost use Rattle.fmp_looking.specs.Traces.{IsBegun, IsTrace, Traces, states_text};
 
 use crate::exit::{ViewExit, memory};
 use crate::looking::RunLook;
 use crate::opened::Opened;
 use crate::why::why_of;
-use fmp_base::{Line, System, TaskBlock, TaskState};
+use fmp_base::{System, TaskBlock, TaskState};
 use fmp_coming::Coming;
 use fmp_frames::{Frame, Viewer, last_frame, show_all};
 use fmp_kernel::{Body, Kernel};
-use fmp_named::{append_lines, append_records, append_state_records, append_states};
+use fmp_named::{append_state_records, append_states};
+use fmp_places::{CallPlace, LineForm, append_placed};
 use fmp_warnings::Form;
 use std::alloc::{AllocError, Global};
 
@@ -23,6 +24,8 @@ use std::alloc::{AllocError, Global};
 pub struct Tracer<'a> {
     form: Form,
     sys: &'a System,
+    /// Where the calls of the events stand, from the first event on; none are shown behind the last one here.
+    places: &'a [Option<CallPlace>],
     /// The number of the last event.
     number: u32,
     out: Vec<u8>,
@@ -30,21 +33,13 @@ pub struct Tracer<'a> {
     blocks: Vec<TaskBlock>,
 }
 
-/// Appends the lines of the event of this number.
-fn append_event(
-    alloc: Global,
-    form: Form,
-    sys: &System,
-    number: u32,
-    lines: &[Line],
-    out: &mut Vec<u8>,
-) -> Result<(), AllocError>
-    ensures { OnOk result (out.new.items
-        ≡ out.old.items ++ lines_text form (tables_of sys.now) number lines.now) }
+/// The form of a line that says where its call stands.
+fn line_form(form: Form) -> LineForm
+    ensures { result ≡ spec.line_form form }
 {
     match form {
-        Form::Text => append_lines(sys, number, lines, out),
-        Form::Json => append_records(alloc, sys, number, lines, out),
+        Form::Text => LineForm::Text,
+        Form::Json => LineForm::Record,
     }
 }
 
@@ -76,21 +71,35 @@ fn number_after(number: u32, kept: Option<u8>) -> u32
     }
 }
 
+/// Where the call of the event of this number stands, by the places from the first event on.
+fn place_of(places: &[Option<CallPlace>], number: u32) -> Option<CallPlace>
+    ensures { result ≡ get_or places.now (number - 1) None }
+{
+    match places.get((number as usize).saturating_sub(1)) {
+        Some(place) => *place,
+        None => None,
+    }
+}
+
 impl<'a> Tracer<'a> {
-    /// The trace of a system after setup. `AllocError` if memory runs out.
+    /// The trace of a system after setup. The calls of its events stand at these places. `AllocError` if memory runs
+    /// out.
     fn new(
         alloc: Global,
         form: Form,
         sys: &'a System,
+        places: &'a [Option<CallPlace>],
         setup: &Frame,
     ) -> Result<Tracer<'a>, AllocError>
-        ensures { IfOk result (λ made. IsBegun form (tables_of sys.now) made (table_of setup.now)) }
+        ensures { IfOk result
+            (λ made. IsBegun form (tables_of sys.now) places.now made (table_of setup.now)) }
     {
         let mut out = Vec::new(alloc);
-        append_event(alloc, form, sys, 0, &setup.lines, &mut out)?;
+        append_placed(alloc, line_form(form), sys, 0, None, &setup.lines, &mut out)?;
         Ok(Tracer {
             form,
             sys,
+            places,
             number: 0,
             out,
             states: Vec::from_slice(alloc, &setup.states)?,
@@ -123,11 +132,12 @@ impl Viewer for Tracer<'_> {
     /// One event more.
     fn show(&mut self, alloc: Global, frame: &Frame) -> Result<(), AllocError> {
         self.number = number_after(self.number, frame.kept);
-        append_event(
+        append_placed(
             alloc,
-            self.form,
+            line_form(self.form),
             self.sys,
             self.number,
+            place_of(self.places, self.number),
             &frame.lines,
             &mut self.out,
         )?;
@@ -137,12 +147,13 @@ impl Viewer for Tracer<'_> {
     }
 }
 
-/// What is traced of a run of a kernel of this system over what comes to it.
+/// What is traced of a run of a kernel of this system over what comes to it, whose calls stand at these places.
 #[tactic(none)]
 fn traced<'a, B: Body, T: Coming<B>>(
     alloc: Global,
     form: Form,
     sys: &'a System,
+    places: &'a [Option<CallPlace>],
     kernel: &mut Kernel<B>,
     body: &B,
     n: u64,
@@ -151,11 +162,11 @@ fn traced<'a, B: Body, T: Coming<B>>(
     requires few { kernel.old.taken + length events.now ≤ 2 ^ 31 }
     requires body { body.now ≡ kernel.old.body }
     requires bound { n ≡ kernel.old.bound }
-    ensures { IfOk result (λ tracer. WasShown (IsBegun form (tables_of sys.now))
+    ensures { IfOk result (λ tracer. WasShown (IsBegun form (tables_of sys.now) places.now)
         ⟦<Tracer<'a> as Viewer>⟧.shown B.meaning T.reaction kernel.old events.now tracer) }
 {
     let setup = last_frame(alloc, kernel, body, n)?;
-    let mut tracer = Tracer::new(alloc, form, sys, &setup)?;
+    let mut tracer = Tracer::new(alloc, form, sys, places, &setup)?;
     drop(setup);
     show_all(alloc, kernel, body, n, events, &mut tracer)?;
     Ok(tracer)
@@ -167,6 +178,7 @@ fn trace_on<B: Body, T: Coming<B>>(
     alloc: Global,
     form: Form,
     sys: &System,
+    places: &[Option<CallPlace>],
     kernel: &mut Kernel<B>,
     body: &B,
     n: u64,
@@ -175,22 +187,25 @@ fn trace_on<B: Body, T: Coming<B>>(
     requires few { kernel.old.taken + length events.now ≤ 2 ^ 31 }
     requires body { body.now ≡ kernel.old.body }
     requires bound { n ≡ kernel.old.bound }
-    ensures { IfOk result (λ out. IsTrace form (tables_of sys.now) B.meaning T.reaction kernel.old events.now out.items) }
+    ensures { IfOk result (λ out. IsTrace form (tables_of sys.now) places.now B.meaning T.reaction kernel.old
+        events.now out.items) }
 {
-    let tracer = traced(alloc, form, sys, kernel, body, n, events)?;
+    let tracer = traced(alloc, form, sys, places, kernel, body, n, events)?;
     tracer.finish(alloc)
 }
 
-/// The trace of a run of a system. `AllocError` if memory runs out.
+/// The trace of a run of a system. The calls of its events stand at these places, from the first event on; it shows no
+/// place behind the last one. `AllocError` if memory runs out.
 #[tactic(none)]
 pub fn trace_of<O: Opened, T: Coming<O::Bodies>>(
     alloc: Global,
     form: Form,
+    places: &[Option<CallPlace>],
     opened: &O,
     events: &[T],
 ) -> Result<Vec<u8>, AllocError>
     requires { length events.now ≤ 2 ^ 31 }
-    ensures { IfOk result (λ out. IsTrace form (O.start opened.now).system O.Bodies.meaning T.reaction
+    ensures { IfOk result (λ out. IsTrace form (O.start opened.now).system places.now O.Bodies.meaning T.reaction
         (O.start opened.now) events.now out.items) }
 {
     let mut kernel = opened.kernel(alloc)?;
@@ -199,6 +214,7 @@ pub fn trace_of<O: Opened, T: Coming<O::Bodies>>(
         alloc,
         form,
         opened.system(),
+        places,
         &mut kernel,
         &bodies,
         opened.bound(),
@@ -225,7 +241,7 @@ fn told_of<O: Opened, T: Coming<O::Bodies>>(
 ) -> Result<Recorded, AllocError>
     requires { length events.now ≤ 2 ^ 31 }
 {
-    let text = trace_of(alloc, form, opened, events)?;
+    let text = trace_of(alloc, form, &[], opened, events)?;
     let why = why_of(alloc, opened, events)?;
     Ok(Recorded { text, why })
 }

@@ -72,7 +72,7 @@ fn written_of<O: Opened, T: Coming<O::Bodies>>(
 ) -> Result<Vec<u8>, AllocError>
     requires { length events.now ≤ 2 ^ 31 }
 {
-    let run = run_of(alloc, opened, events, false)?;
+    let run = run_of(alloc, opened, events, false, &[])?;
     written(alloc, opened.system(), &run, times, format)
 }
 

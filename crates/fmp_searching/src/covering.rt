@@ -1,5 +1,5 @@
 //! What a search saw: how far it went, what was never made or run, the greatest counts and lengths, and the answers.
-use crate::sources::{ExploredSources, say, say_made, say_place};
+use crate::sources::{ExploredSources, say, say_call, say_made};
 use fmp_base::{Name, System};
 use fmp_explore::{Coverage, Report, Variety};
 use fmp_explore_names::{answered_calls, append_answers, append_name, is_queue};
@@ -17,7 +17,7 @@ pub fn say_extent(alloc: Global, out: &mut Vec<u8>, report: &Report) -> Result<(
     )
 }
 
-/// Appends the calls that were never made.
+/// Appends the calls that were never made, each in a line.
 fn say_unmade(
     alloc: Global,
     out: &mut Vec<u8>,
@@ -25,20 +25,12 @@ fn say_unmade(
     coverage: &Coverage,
 ) -> Result<(), AllocError> {
     let sites = coverage.never_made(alloc, sources.image.code())?;
-    if sites.is_empty() {
-        return Ok(());
-    }
-    say(out, "calls never made:")?;
-    let mut last = None;
     for site in &sites {
-        let line = sources.lines.line(sources.image.code(), *site);
-        if line != last {
-            say(out, " ")?;
-            say_place(alloc, out, sources, line)?;
-            last = line;
-        }
+        say(out, "call never made: ")?;
+        say_call(alloc, out, sources, *site)?;
+        say(out, "\n")?;
     }
-    say(out, "\n")
+    Ok(())
 }
 
 /// Appends the answers that each call got, if they are asked for.

@@ -12,16 +12,22 @@ use fmp_arguments::{
 };
 use fmp_base::TaskConfig;
 use fmp_explore::Ticks;
-use fmp_explore_names::{CommandMistake, ExploreWords, never_at_named, never_named};
+use fmp_explore_names::{
+    CallLines, CommandMistake, ExploreWords, never_at_named, never_named, section_named,
+};
 use fmp_files::mistake_of;
+use fmp_image_bytes::Image;
 use std::alloc::{AllocError, Global};
 
 /// The message for a word that says nothing of what must never happen.
 const NO_NEVER: &str =
     "--never wants an answer as E_QOVR or E_TMOUT:12, or a printed value as 'put(99)'";
 
-/// The message for a word that names no section, or for more sections than are watched.
-const NO_SECTION: &str = "--alone wants two different values as 1,2, and is given at most 4 times";
+/// The message for a word that names no section.
+const NO_SECTION: &str = "--alone wants two different values as 1,2";
+
+/// The message for more sections than are watched.
+const MANY_SECTIONS: &str = "--alone is given at most 4 times";
 
 /// The message for the name of a task that is not there.
 const NO_TASK: &str = "--rest names no task of the configuration";
@@ -101,29 +107,93 @@ fn wrong_task<'m>(words: &[&'m str], tasks: &[TaskConfig]) -> &'m str {
     ""
 }
 
-/// What is said of words that ask for no question about a system with these tasks.
+/// What is said of words of which one names no section, or which are too many.
+fn said_of_sections(alloc: Global, words: &[&str]) -> Result<String, AllocError> {
+    for word in words {
+        if section_named(word).is_none() {
+            return format!(in alloc; "{NO_SECTION}: `{word}`");
+        }
+    }
+    String::from_str(alloc, MANY_SECTIONS)
+}
+
+/// Whether a word asks for the calls of a line in which none stands.
+fn is_uncalled(
+    alloc: Global,
+    word: &str,
+    image: &Image,
+    lines: &CallLines,
+) -> Result<bool, AllocError> {
+    image.keeps_rules();
+    match never_at_named(word) {
+        Some(at) => Ok(lines.calls(alloc, image.code(), at.line)?.is_empty()),
+        None => Ok(false),
+    }
+}
+
+/// What is said of words of which one asks for the calls of a line in which none stands.
+fn said_of_calls(
+    alloc: Global,
+    words: &[&str],
+    image: &Image,
+    lines: &CallLines,
+) -> Result<String, AllocError> {
+    for word in words {
+        if is_uncalled(alloc, word, image, lines)? {
+            return format!(in alloc; "{NO_CALL}: `{word}`");
+        }
+    }
+    String::from_str(alloc, NO_CALL)
+}
+
+/// What is said of words that ask for no question about any system.
 fn said_of_mistake(
     alloc: Global,
     asked: &ExploreWords<'_>,
-    tasks: &[TaskConfig],
     mistake: CommandMistake,
 ) -> Result<String, AllocError> {
     match mistake {
         CommandMistake::Never => said_of_never(alloc, NO_NEVER, wrong_never(asked.nevers)),
-        CommandMistake::Alone => String::from_str(alloc, NO_SECTION),
-        CommandMistake::Rest => said_of_task(alloc, NO_TASK, wrong_task(asked.rest, tasks), tasks),
+        CommandMistake::Alone => said_of_sections(alloc, asked.alone),
+        CommandMistake::Rest => String::from_str(alloc, NO_TASK),
         CommandMistake::Call => String::from_str(alloc, NO_CALL),
     }
 }
 
-/// The error for words that ask for no question about a system with these tasks, which has the status 2.
+/// What is said of words that ask for no question about an image, whose bodies' calls stand in these lines.
+fn said_of_image(
+    alloc: Global,
+    asked: &ExploreWords<'_>,
+    (image, lines): (&Image, &CallLines),
+    mistake: CommandMistake,
+) -> Result<String, AllocError> {
+    let tasks = &image.system().tasks;
+    match mistake {
+        CommandMistake::Rest => said_of_task(alloc, NO_TASK, wrong_task(asked.rest, tasks), tasks),
+        CommandMistake::Call => said_of_calls(alloc, asked.nevers, image, lines),
+        mistake => said_of_mistake(alloc, asked, mistake),
+    }
+}
+
+/// The error for words that ask for no question about any system, which has the status 2.
 pub fn no_question(
     alloc: Global,
     asked: &ExploreWords<'_>,
-    tasks: &[TaskConfig],
     mistake: CommandMistake,
 ) -> Result<Error, AllocError> {
-    let why = said_of_mistake(alloc, asked, tasks, mistake)?;
+    let why = said_of_mistake(alloc, asked, mistake)?;
+    wrong_words(alloc, &why)
+}
+
+/// The error for words that ask for no question about an image, whose bodies' calls stand in these lines. It has the
+/// status 2.
+pub fn no_question_of(
+    alloc: Global,
+    asked: &ExploreWords<'_>,
+    of: (&Image, &CallLines),
+    mistake: CommandMistake,
+) -> Result<Error, AllocError> {
+    let why = said_of_image(alloc, asked, of, mistake)?;
     wrong_words(alloc, &why)
 }
 

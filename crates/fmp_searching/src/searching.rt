@@ -5,7 +5,7 @@ ghost use Rattle.fmp_explore_names.specs.Questions.{IsWanted};
 ghost use Rattle.fmp_searching.specs.Claimed.{HasClaimed, HasShown, HoldsOfFiles, HoldsOfImage, HoldsOfTexts};
 ghost use Rattle.fmp_searching.specs.Claimed.{PrintsNothing, PrintsOnly};
 
-use crate::exploration::{no_question, steps_over_input};
+use crate::exploration::{no_question, no_question_of, steps_over_input};
 use crate::exploring::{Explored, explored_image};
 use crate::reading::read_both;
 use crate::reporting::print_fault;
@@ -16,6 +16,7 @@ use fmp_files::{Failure, Outside, end, print, refuse_mistake, write_file};
 use fmp_image::build;
 use fmp_image_bytes::Image;
 use fmp_lex::BuildFault;
+use fmp_places::CallPlaces;
 use fmp_warnings::{FileNames, Form};
 use std::alloc::{AllocError, Global};
 
@@ -144,6 +145,7 @@ fn explore_question<O: Outside>(
         HasClaimed image.now lines.now question.now exploring.now.bound (O.done outside.new)) }
 {
     let names = LocalNames::new(alloc, src)?;
+    let places = CallPlaces::new(alloc, src)?;
     let out = out_name(alloc, exploring)?;
     let named = Named {
         src: exploring.src,
@@ -154,6 +156,7 @@ fn explore_question<O: Outside>(
         image,
         bound: exploring.bound,
         lines,
+        places: &places,
         names: &names,
         sections: &question.sections,
         named,
@@ -181,7 +184,7 @@ fn explore_image<O: Outside>(
             explore_question(alloc, outside, image, src, &lines, &question, exploring)
         }
         Err(mistake) => {
-            let error = no_question(alloc, &exploring.asked, &image.system().tasks, mistake);
+            let error = no_question_of(alloc, &exploring.asked, (image, &lines), mistake);
             Ok(refuse_mistake(outside, error))
         }
     }
@@ -255,10 +258,9 @@ pub fn run_explore<O: Outside>(alloc: Global, outside: &mut O, exploring: &Explo
 {
     match wanted_by(alloc, &exploring.asked) {
         Ok(Ok(wanted)) => explore_files(alloc, outside, exploring, &wanted),
-        Ok(Err(mistake)) => refuse_mistake(
-            outside,
-            no_question(alloc, &exploring.asked, &[], mistake),
-        ),
+        Ok(Err(mistake)) => {
+            refuse_mistake(outside, no_question(alloc, &exploring.asked, mistake))
+        }
         Err(error) => end(outside, &Failure::Memory(error)),
     }
 }

@@ -1,9 +1,10 @@
 //! What is explored, the names of its files, and the text that is put together.
 ghost use Rattle.std.specs.Prelude.{◌≤◌, ◌^◌};
 
-use fmp_explore::Section;
+use fmp_explore::{CallSite, Section};
 use fmp_explore_names::{CallLines, ExploreWords, LocalNames};
 use fmp_image_bytes::Image;
+use fmp_places::{CallPlace, CallPlaces};
 use std::alloc::{AllocError, Global};
 
 /// What is explored, and what is asked of it.
@@ -39,6 +40,7 @@ pub struct ExploredSources<'a> {
     pub image: &'a Image,
     pub bound: u64,
     pub lines: &'a CallLines,
+    pub places: &'a CallPlaces,
     pub names: &'a LocalNames,
     pub sections: &'a [Section],
     pub named: Named<'a>,
@@ -54,6 +56,21 @@ pub fn say(out: &mut Vec<u8>, text: &str) -> Result<(), AllocError> {
 /// Appends a text that was made.
 pub fn say_made(out: &mut Vec<u8>, text: Result<String, AllocError>) -> Result<(), AllocError> {
     say(out, text?.as_str())
+}
+
+/// Appends where a call stands in the file of the bodies.
+pub fn say_call(
+    alloc: Global,
+    out: &mut Vec<u8>,
+    sources: &ExploredSources<'_>,
+    site: CallSite,
+) -> Result<(), AllocError> {
+    say(out, sources.named.src)?;
+    let code = sources.image.code();
+    if let Some(CallPlace { line, column }) = sources.places.place(code, site.body, site.pc) {
+        say_made(out, format!(in alloc; ":{line}:{column}"))?;
+    }
+    Ok(())
 }
 
 /// Appends a line of the file of the bodies.

@@ -144,6 +144,11 @@ abbrev pub named : Command → (argument : List ℕ) → Result Command LineMist
 named c [] = Err mistake.Name
 named c (b ∷ bs) = Ok c
 
+-- `until` with a deed
+abbrev pub until_of : (argument : List ℕ) → Result Command LineMistake
+until_of [] = Err mistake.Deed
+until_of (b ∷ bs) = Ok command.Until
+
 -- `state` alone, or with the name of a task or an object
 abbrev pub state_of : Option (List ℕ) → Result Command LineMistake
 state_of None = Ok command.State
@@ -162,6 +167,7 @@ by_word processors is word rest =
     else if bytes_eq word (codes "state") then state_of rest
     else if bytes_eq word (codes "load") then named command.Load (or_nothing rest)
     else if bytes_eq word (codes "save") then named command.Save (or_nothing rest)
+    else if bytes_eq word (codes "until") then until_of (or_nothing rest)
     else if bytes_eq word (codes "help") then alone command.Help rest
     else if bytes_eq word (codes "quit") then alone command.Quit rest
     else Err mistake.Unknown

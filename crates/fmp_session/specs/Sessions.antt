@@ -1,12 +1,14 @@
 -- The events of a session, and its kernel after them.
-use Rattle.std.specs.Prelude.{ℕ, ◌≡◌, ◌≤◌, ◌^◌, List, [], ◌∷◌, ◌++◌, length}
+use Rattle.std.specs.Prelude.{ℕ, ◌≡◌, ◌≤◌, ◌^◌, List, [], ◌∷◌, Option, ◌++◌, length}
 use Rattle.fmp_base.specs.declared.events.Event.{Event}
 use Rattle.fmp_base.specs.Steps.{Reaction, Nothing, Did, Kept}
 use Rattle.fmp_instructions.specs.declared.instructions.MachineContext.{MachineContext}
 use Rattle.fmp_instructions.specs.Instructions.{BodyTables}
 use Rattle.fmp_kernel.specs.KernelViews.{KernelView}
 use Rattle.fmp_named.specs.Lines.{named_lines}
-use Rattle.fmp_named.specs.Records.{line_records}
+use Rattle.fmp_places.specs.declared.calls.CallPlace.{CallPlace}
+use Rattle.fmp_places.specs.declared.lines.LineForm.TheVariants as form
+use Rattle.fmp_places.specs.Lines.{placed}
 use Rattle.fmp_replay.specs.Replays.{IsLegal, kernel_after, reaction}
 use Rattle.fmp_session.specs.declared.session.Session.{Session}
 use Rattle.fmp_session.specs.declared.session.TakenEvent.{TakenEvent}
@@ -44,6 +46,6 @@ IsTakenAs s e taken.Nothing = taken.Nothing ≡ taken_by (reaction s.image.now s
 abbrev pub lines_now : KernelView (List BodyTables) MachineContext → List ℕ
 lines_now k = named_lines k.system k.done k.lines
 
--- the same as objects of JSON
-abbrev pub records_now : KernelView (List BodyTables) MachineContext → List ℕ
-records_now k = line_records k.system k.done k.lines
+-- the same as objects of JSON, with where the call of the event stands if that is known
+abbrev pub records_now : Option CallPlace → KernelView (List BodyTables) MachineContext → List ℕ
+records_now place k = placed form.Record k.system k.done place k.lines

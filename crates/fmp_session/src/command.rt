@@ -24,6 +24,8 @@ pub enum Command {
     Load,
     /// Write the events to a file: its name is what `argument_of` gives.
     Save,
+    /// Go on until a deed happens: its words are what `argument_of` gives.
+    Until,
     /// Say which commands there are.
     Help,
     /// End the session.
@@ -47,6 +49,8 @@ pub enum LineMistake {
     Count,
     /// There is no name behind `load` or `save`.
     Name,
+    /// There is no deed behind `until`.
+    Deed,
     /// Something stands behind a command of one word.
     Alone,
 }
@@ -190,6 +194,16 @@ fn named(command: Command, argument: &[u8]) -> Result<Command, LineMistake>
     }
 }
 
+/// The command of a line that begins with `until`, by what stands behind it.
+fn until_of(argument: &[u8]) -> Result<Command, LineMistake>
+    ensures { result ≡ spec.until_of argument.now }
+{
+    match argument {
+        [] => Err(LineMistake::Deed),
+        _ => Ok(Command::Until),
+    }
+}
+
 /// The command of a line that begins with `state`.
 fn state_of(line: &[u8]) -> Result<Command, LineMistake>
     ensures { result ≡ spec.state_of (spec.rest_of line.now) }
@@ -218,6 +232,7 @@ fn by_word(
         b"state" => state_of(line),
         b"load" => named(Command::Load, argument_of(line)),
         b"save" => named(Command::Save, argument_of(line)),
+        b"until" => until_of(argument_of(line)),
         b"help" => alone(Command::Help, line),
         b"quit" => alone(Command::Quit, line),
         _ => Err(LineMistake::Unknown),
@@ -232,6 +247,7 @@ fn by_word(
 /// - `back`, `back K`
 /// - `why`, `state`, `help`, `quit`
 /// - `state NAME`, `load FILE`, `save FILE`
+/// - `until DEED`
 ///
 /// Each K is a number from 1 to 2^20.
 pub fn command_of(

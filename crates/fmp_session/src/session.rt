@@ -2,6 +2,7 @@
 ghost use Rattle.std.specs.Prelude.{◌≡◌, ◌≤◌, ◌^◌, ◌-◌, ◌++◌, IfOk, OnErr, OnOk, [], length, take};
 ghost use Rattle.fmp_drive.specs.NextRuns.{AreNext};
 ghost use Rattle.fmp_instructions.specs.Machine.{code_meaning};
+ghost use Rattle.fmp_places.specs.Made.{event_place as place_of};
 ghost use Rattle.fmp_steps.specs.Steps.{steps_text};
 ghost use Rattle.fmp_session.specs.Sessions.{IsSession, IsTakenAs, lines_now, records_now, with_event};
 
@@ -11,7 +12,8 @@ use fmp_code::Vm;
 use fmp_drive::{NextRun, next_runs};
 use fmp_image_bytes::Image;
 use fmp_kernel::Kernel;
-use fmp_named::{append_lines, append_records};
+use fmp_named::append_lines;
+use fmp_places::{CallPlace, CallPlaces, CodePlaces, LineForm, append_placed, event_place};
 use fmp_replay::kernel_of;
 use fmp_trace::print_steps;
 use std::alloc::{AllocError, Global};
@@ -144,6 +146,19 @@ impl<'a> Session<'a> {
         next_runs(&self.kernel, &self.image.vm(), self.bound)
     }
 
+    /// Where the call stands that an event would make now, if it makes one. The calls of the bodies stand at these
+    /// places of their text.
+    pub fn place(&self, places: &CallPlaces, e: Event) -> Option<CallPlace>
+        requires { IsSession self.now }
+        ensures { result ≡ place_of code_meaning self.now.image.now.code places.now self.now.kernel e }
+    {
+        let text = CodePlaces {
+            code: self.image.code(),
+            places,
+        };
+        event_place(&self.kernel, &self.image.vm(), self.bound, text, e)
+    }
+
     /// The lines of the last event that was done, or of setup, with the names of objects. `AllocError` if memory runs
     /// out.
     pub fn append_last(&self, out: &mut Vec<u8>) -> Result<(), AllocError>
@@ -158,15 +173,22 @@ impl<'a> Session<'a> {
         )
     }
 
-    /// The same as objects of JSON, each in a line.
-    pub fn append_last_records(&self, alloc: Global, out: &mut Vec<u8>) -> Result<(), AllocError>
+    /// The same as objects of JSON, each in a line, with where the call stands that the event made if that is known.
+    pub fn append_last_records(
+        &self,
+        alloc: Global,
+        place: Option<CallPlace>,
+        out: &mut Vec<u8>,
+    ) -> Result<(), AllocError>
         requires { IsSession self.now }
-        ensures { OnOk result (out.new.items ≡ out.old.items ++ records_now self.now.kernel) }
+        ensures { OnOk result (out.new.items ≡ out.old.items ++ records_now place self.now.kernel) }
     {
-        append_records(
+        append_placed(
             alloc,
+            LineForm::Record,
             self.image.system(),
             self.kernel.done(),
+            place,
             self.kernel.lines(),
             out,
         )

@@ -9,13 +9,19 @@ use Rattle.fmp_looking.proofs.expecting.verdict_on.Goals as goal
 pub tell_run-requires : goal.tell_run-requires
 tell_run-requires g c = c.requires
 
-pub returns : goal.returns
-returns g c =
+pub returns-clause-broken : goal.returns-clause-broken
+returns-clause-broken g c =
     let xs = c.args.expected.now in
     let told = run_told g.T.Coming.reaction c.args.kernel.now c.args.events.now in
-    c.verdict.ensures xs told (c.tell_run.ensures.told xs c.in_ok-checker.ensures)
+    c.verdict-broken.ensures xs told (c.tell_run.ensures.told xs c.in_ok-checker.ensures)
     ∙ ap (λ (s : List TaskState). first_broken xs told s c.done.result) (c.deref.ensures.value ∙ c.in_ok-states.ensures)
     ∙ ap (λ (n : ℕ). first_broken xs told (each (task_state c.tell_run.new.kernel.world.state)
     (length c.tell_run.new.kernel.system.tasks)) n) c.done.ensures
     ∙ ap (λ v. first_broken xs told (each (task_state v.world.state) (length v.system.tasks)) v.done)
     c.tell_run.ensures.state
+
+pub returns-clause-empty : goal.returns-clause-empty
+returns-clause-empty g c =
+    let xs = c.args.expected.now in
+    let told = run_told g.T.Coming.reaction c.args.kernel.now c.args.events.now in
+    c.in_ok-empty.ensures xs told (c.tell_run.ensures.told xs c.in_ok-checker.ensures)

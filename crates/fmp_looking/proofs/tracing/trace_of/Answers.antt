@@ -1,4 +1,4 @@
-use Rattle.std.proofs.Common.{◌≡◌, ◌∙◌, List, ℕ, ap, subst, sym}
+use Rattle.std.proofs.Common.{◌≡◌, ◌∙◌, List, Option, ℕ, ap, subst, sym}
 use Rattle.std.proofs.lemmas.Result.{IfOk-weaker, err_from_is_err_and}
 use Rattle.fmp_base.specs.Meanings.{Meaning}
 use Rattle.fmp_base.specs.Steps.{Reaction}
@@ -8,14 +8,17 @@ use Rattle.fmp_warnings.specs.declared.verdicts.Form.{Form}
 use Rattle.fmp_looking.specs.Traces.{IsTrace}
 use Rattle.fmp_looking.proofs.Fresh.{room}
 use Rattle.fmp_looking.proofs.tracing.trace_of.Goals as goal
+use Rattle.fmp_places.specs.declared.calls.CallPlace.{CallPlace}
 
 -- a trace, by other names of the system and of the kernel
-traced_so : {B C X : Type 0} (form : Form) (meaning : B → Meaning C) (reaction : KernelView B C → X → Reaction C)
+traced_so : {B C X : Type 0} (form : Form) (places : List (Option CallPlace)) (meaning : B → Meaning C)
+    (reaction : KernelView B C → X → Reaction C)
     (sys sys' : SystemTables) (k k' : KernelView B C) (xs : List X) (out : List ℕ)
-    → sys ≡ sys' → k ≡ k' → IsTrace form sys meaning reaction k xs out → IsTrace form sys' meaning reaction k' xs out
-traced_so {B} {C} {X} form meaning reaction sys sys' k k' xs out same is h =
-    subst (λ (x : KernelView B C). IsTrace form sys' meaning reaction x xs out) is
-    (subst (λ (t : SystemTables). IsTrace form t meaning reaction k xs out) same h)
+    → sys ≡ sys' → k ≡ k' → IsTrace form sys places meaning reaction k xs out
+    → IsTrace form sys' places meaning reaction k' xs out
+traced_so {B} {C} {X} form places meaning reaction sys sys' k k' xs out same is h =
+    subst (λ (x : KernelView B C). IsTrace form sys' places meaning reaction x xs out) is
+    (subst (λ (t : SystemTables). IsTrace form t places meaning reaction k xs out) same h)
 
 pub returns-in_err-kernel : goal.returns-in_err-kernel
 returns-in_err-kernel g c = rw ((err_from_is_err_and c.from_residual.result c.from_residual.ensures.1).1) tt
@@ -33,4 +36,4 @@ trace_on-trace-requires-clause-bound g c = c.bound.ensures ∙ sym (ap (λ k. k.
 pub returns : goal.returns
 returns g c =
     IfOk-weaker c.trace_on-trace.result _ _
-    (λ out h. traced_so _ _ _ _ _ _ _ _ _ c.system.ensures c.in_ok-kernel.ensures.start h) c.trace_on-trace.ensures
+    (λ out h. traced_so _ _ _ _ _ _ _ _ _ _ c.system.ensures c.in_ok-kernel.ensures.start h) c.trace_on-trace.ensures

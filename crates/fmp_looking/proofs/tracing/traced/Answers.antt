@@ -36,7 +36,8 @@ pub returns : goal.returns
 returns g c =
     record {
       first = c.in_ok-tracer.tracer;
-      begins = subst (λ (f : FrameTable). IsBegun c.args.form (tables_of c.args.sys.now) c.in_ok-tracer.tracer f)
+      begins = subst
+          (λ (f : FrameTable). IsBegun c.args.form (tables_of c.args.sys.now) c.args.places.now c.in_ok-tracer.tracer f)
           c.in_ok-setup.ensures c.in_ok-tracer.ensures;
       frames = c.in_ok-show_all.ensures.shown;
     }

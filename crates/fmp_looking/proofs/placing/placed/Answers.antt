@@ -1,0 +1,22 @@
+use Rattle.std.proofs.lemmas.Result.{IfOk-weaker, err_from_is_err_and}
+use Rattle.fmp_looking.proofs.placing.placed.Goals as goal
+
+pub returns-in_err-places : goal.returns-in_err-places
+returns-in_err-places c = rw ((err_from_is_err_and c.from_residual.result c.from_residual.ensures.1).1) tt
+
+pub places_over-requires-clause-low : goal.places_over-requires-clause-low
+places_over-requires-clause-low c = c.requires.low
+
+pub places_over-requires-clause-high : goal.places_over-requires-clause-high
+places_over-requires-clause-high c = c.requires.high
+
+pub places_over-requires-clause-few : goal.places_over-requires-clause-few
+places_over-requires-clause-few c = c.requires.few
+
+pub returns : goal.returns
+returns c =
+    IfOk-weaker c.places_over.result _ _ (λ made h. record {
+      bodies = c.in_ok-places.places;
+      calls = c.in_ok-places.ensures;
+      made_so = h;
+    }) c.places_over.ensures

@@ -1,0 +1,32 @@
+use Rattle.std.proofs.Common.{◌≡◌, ◌∙◌, List, Option, IfOk, [], ap, subst, sym, refl}
+use Rattle.std.proofs.lemmas.Result.{IfOk-weaker}
+use Rattle.fmp_instructions.specs.declared.instructions.MachineContext.{MachineContext}
+use Rattle.fmp_instructions.specs.Instructions.{BodyTables}
+use Rattle.fmp_instructions.specs.Machine.{code_meaning}
+use Rattle.fmp_kernel.specs.KernelViews.{KernelView}
+use Rattle.fmp_places.specs.Made.{places_made}
+use Rattle.fmp_looking.proofs.Fresh.{room_of_steps}
+use Rattle.fmp_looking.proofs.placing.places_on.Goals as goal
+
+pub places_made-requires-clause-few : goal.places_made-requires-clause-few
+places_made-requires-clause-few c = rw c.requires.kernel (room_of_steps 0 _ refl c.requires.few)
+
+pub places_made-requires-clause-body : goal.places_made-requires-clause-body
+places_made-requires-clause-body c =
+    c.vm.ensures ∙ sym (ap (λ (k : KernelView (List BodyTables) MachineContext). k.body) c.requires.kernel)
+
+pub places_made-requires-clause-bound : goal.places_made-requires-clause-bound
+places_made-requires-clause-bound c =
+    sym (ap (λ (k : KernelView (List BodyTables) MachineContext). k.bound) c.requires.kernel)
+
+pub returns : goal.returns
+returns c =
+    IfOk-weaker c.places_made.result _ _
+    (λ made h. h
+    ∙ ap
+    (λ (t : List BodyTables). places_made code_meaning t c.args.places.now c.args.kernel.now c.args.events.now)
+    c.code.ensures
+    ∙ ap
+    (λ (k : KernelView (List BodyTables) MachineContext).
+    places_made code_meaning c.args.image.now.code c.args.places.now k c.args.events.now)
+    c.requires.kernel) c.places_made.ensures

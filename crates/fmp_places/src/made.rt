@@ -1,0 +1,105 @@
+//! Where the calls stand that a run makes.
+ghost use Rattle.std.specs.Prelude.{◌≡◌, ◌+◌, ◌≤◌, ◌^◌, IfOk, length};
+ghost use Rattle.fmp_base.specs.Stretches.{ending};
+ghost use Rattle.fmp_instructions.specs.Instructions.{code_tables};
+ghost use Rattle.fmp_places.specs.Made as spec;
+
+use crate::calls::{CallPlace, CallPlaces};
+use fmp_base::{Effect, Event, Stretch};
+use fmp_coming::Coming;
+use fmp_instructions::{Code, MachineContext};
+use fmp_kernel::{Actor, Body, Kernel};
+use std::alloc::{AllocError, Global};
+
+/// The code of bodies, and where its calls stand in their text.
+#[derive(Clone, Copy)]
+pub struct CodePlaces<'a> {
+    pub code: &'a Code,
+    pub places: &'a CallPlaces,
+}
+
+/// Where the call stands that ends a stretch of a body, if a call ends it: its context is behind the call then.
+fn stretch_place(
+    text: CodePlaces<'_>,
+    body: u8,
+    stretch: Stretch<MachineContext>,
+) -> Option<CallPlace>
+    ensures { result ≡ spec.ending_place (code_tables text.entry.code.now) text.entry.places.now body
+        (ending stretch) }
+{
+    match stretch {
+        Stretch::Call(context, _) => text
+            .places
+            .place(text.code, body, context.pc.saturating_sub(1)),
+        Stretch::End(_) | Stretch::Fault(..) | Stretch::Over(_) => None,
+    }
+}
+
+/// Where the call stands to which an actor over these bodies comes next within a bound; none if it comes to none.
+fn actor_place<B: Body<Ctx = MachineContext>>(
+    body: &B,
+    n: u64,
+    text: CodePlaces<'_>,
+    actor: &Actor<MachineContext>,
+) -> Option<CallPlace>
+    requires entry { B.has_entry body.now actor.now.entry }
+    requires context { B.is_context body.now actor.now.entry actor.now.context }
+    ensures { result ≡ spec.actor_place (B.meaning body.now) n (code_tables text.entry.code.now)
+        text.entry.places.now actor.now }
+{
+    stretch_place(
+        text,
+        actor.entry,
+        body.stretch(actor.entry, n, actor.context),
+    )
+}
+
+/// Where the call stands that an event makes on a kernel over these bodies with this bound, where it makes one.
+pub fn event_place<B: Body<Ctx = MachineContext>>(
+    kernel: &Kernel<B>,
+    body: &B,
+    n: u64,
+    text: CodePlaces<'_>,
+    e: Event,
+) -> Option<CallPlace>
+    requires body { body.now ≡ kernel.now.body }
+    requires bound { n ≡ kernel.now.bound }
+    ensures { result ≡ spec.event_place B.meaning (code_tables text.entry.code.now) text.entry.places.now
+        kernel.now e }
+{
+    match e {
+        Event::Run(p) => match kernel.actor(p) {
+            Some(actor) => actor_place(body, n, text, &actor),
+            None => None,
+        },
+        Event::Tick | Event::Int(_) => None,
+    }
+}
+
+/// Takes events, and gives for each that is done where the call stands that it makes, if it makes one. `AllocError` if
+/// memory runs out.
+pub fn places_made<B: Body<Ctx = MachineContext>>(
+    alloc: Global,
+    kernel: &mut Kernel<B>,
+    body: &B,
+    n: u64,
+    text: CodePlaces<'_>,
+    events: &[Event],
+) -> Result<Vec<Option<CallPlace>>, AllocError>
+    requires few { kernel.old.taken + length events.now ≤ 2 ^ 31 }
+    requires body { body.now ≡ kernel.old.body }
+    requires bound { n ≡ kernel.old.bound }
+    ensures { IfOk result (λ made. made.items ≡ spec.places_made B.meaning (code_tables text.entry.code.now)
+        text.entry.places.now kernel.old events.now) }
+{
+    let mut made = Vec::new(alloc);
+    for e in events {
+        let place = event_place(kernel, body, n, text, *e);
+        match e.take(kernel) {
+            Effect::Done => made.push(place)?,
+            Effect::Kept => {}
+            Effect::Nothing => {}
+        }
+    }
+    Ok(made)
+}
