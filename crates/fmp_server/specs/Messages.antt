@@ -1,0 +1,27 @@
+-- What stands in messages.
+use Rattle.std.specs.Prelude.{ℕ, List, [], ◌∷◌, ◌++◌, codes}
+use Rattle.json.specs.Token.{Token, begin_object, end_object, key}
+use Rattle.fmp_json.specs.Members.{number_member, text_member}
+use Rattle.fmp_server.specs.declared.positions.Position.{Position}
+use Rattle.fmp_server.specs.declared.positions.TextRange.{TextRange}
+
+abbrev pub position : Position → List Token
+position p =
+    begin_object ∷ [] ++ number_member (codes "line") p.line ++ number_member (codes "character") p.character
+    ++ end_object ∷ []
+
+abbrev pub range : TextRange → List Token
+range r =
+    begin_object ∷ [] ++ key (codes "start") ∷ [] ++ position r.start ++ key (codes "end") ∷ [] ++ position r.end
+    ++ end_object ∷ []
+
+abbrev pub range_member : List ℕ → TextRange → List Token
+range_member name r = key name ∷ [] ++ range r
+
+abbrev pub location : List ℕ → TextRange → List Token
+location uri r =
+    begin_object ∷ [] ++ text_member (codes "uri") uri ++ range_member (codes "range") r ++ end_object ∷ []
+
+abbrev pub edit : TextRange → List ℕ → List Token
+edit r text =
+    begin_object ∷ [] ++ range_member (codes "range") r ++ text_member (codes "newText") text ++ end_object ∷ []

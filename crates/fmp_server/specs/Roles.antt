@@ -1,0 +1,129 @@
+-- What names in the texts stand for. A walk over the tokens of a text follows one name: what stands before the next
+-- token, whether the name is a variable of the body that was begun last, and how many bodies were begun.
+use Rattle.std.specs.Prelude.{◌+◌, ◌==◌, ◌&&◌, ◌||◌, Bool, true, false, if◌then◌else◌, codes, min}
+use Rattle.std.specs.Str.{bytes_eq}
+use Rattle.fmp_base.specs.declared.names.Name.{Name}
+use Rattle.fmp_base.specs.Names.{name_text}
+use Rattle.fmp_base.specs.declared.words.Api.{Api}
+use Rattle.fmp_base.specs.declared.words.Api.TheVariants as api
+use Rattle.fmp_base.specs.declared.words.Keyword.{Keyword}
+use Rattle.fmp_base.specs.declared.words.Keyword.TheVariants as keyword
+use Rattle.fmp_lex.specs.declared.fault.TextFile.{TextFile}
+use Rattle.fmp_lex.specs.declared.fault.TextFile.TheVariants as file
+use Rattle.fmp_lex.specs.declared.token.Symbol.{Symbol}
+use Rattle.fmp_lex.specs.declared.token.Symbol.TheVariants as symbol
+use Rattle.fmp_lex.specs.declared.token.TokenKind.{TokenKind}
+use Rattle.fmp_lex.specs.declared.token.TokenKind.TheVariants as kind
+use Rattle.fmp_server.specs.declared.roles.Before.{Before}
+use Rattle.fmp_server.specs.declared.roles.Before.TheVariants as before
+use Rattle.fmp_server.specs.declared.roles.Named.{Named}
+use Rattle.fmp_server.specs.declared.roles.Role.{Role}
+use Rattle.fmp_server.specs.declared.roles.Role.TheVariants as role
+use Rattle.fmp_server.specs.declared.roles.RoleWalk.{RoleWalk}
+
+-- the token is this name
+abbrev pub is_name : TokenKind → Name → Bool
+is_name (kind.Name found) name = bytes_eq (name_text found) (name_text name)
+is_name _ name = false
+
+abbrev pub is_exinf : Name → Bool
+is_exinf name = bytes_eq (name_text name) (codes "exinf")
+
+-- a static API makes an object, but for that of an interrupt handler
+abbrev pub behind_api : Api → Before
+behind_api api.DefInh = before.Other
+behind_api _ = before.Maker
+
+abbrev pub behind_keyword : Keyword → Before
+behind_keyword keyword.Class = before.Class
+behind_keyword keyword.Task = before.Heading
+behind_keyword keyword.Handler = before.Heading
+behind_keyword keyword.Var = before.Variable
+behind_keyword _ = before.Other
+
+-- the name of an object or of a class stands in the parenthesis behind its word
+abbrev pub in_parenthesis : Before → Before
+in_parenthesis before.Maker = before.Object
+in_parenthesis before.Class = before.ClassName
+in_parenthesis _ = before.Other
+
+abbrev pub behind_symbol : Before → Symbol → Before
+behind_symbol b symbol.LeftParen = in_parenthesis b
+behind_symbol b _ = before.Other
+
+-- what stands before the token behind this one
+abbrev pub behind : Before → TokenKind → Before
+behind b (kind.Api a) = behind_api a
+behind b (kind.Keyword k) = behind_keyword k
+behind b (kind.Symbol s) = behind_symbol b s
+behind b _ = before.Other
+
+-- another name in a configuration is that of a body; in a task text it is that of a variable, or else of an object
+abbrev pub other_role : RoleWalk → TextFile → Role
+other_role w file.Configuration = role.Body
+other_role w file.Source = if w.is_variable then role.Variable w.bodies else role.Object
+
+abbrev pub role_behind : RoleWalk → Before → Role
+role_behind w before.Object = role.Object
+role_behind w before.ClassName = role.Class
+role_behind w before.Heading = role.Body
+role_behind w before.Variable = role.Variable w.bodies
+role_behind w _ = other_role w w.file
+
+-- what the name stands for if it is the next token
+abbrev pub role_of : RoleWalk → Role
+role_of w = role_behind w w.before
+
+abbrev pub is_heading : Before → Bool
+is_heading before.Heading = true
+is_heading _ = false
+
+abbrev pub is_declaration : Before → Bool
+is_declaration before.Variable = true
+is_declaration _ = false
+
+-- where a body begins, the name is a variable only if it is `exinf`
+abbrev pub begun : RoleWalk → RoleWalk
+begun w =
+    record w { before = before.Heading; is_variable = is_exinf w.name; bodies = min (w.bodies + 1) 4294967295 }
+
+abbrev pub gone_on : RoleWalk → TokenKind → RoleWalk
+gone_on w k =
+    record w {
+      before = behind w.before k;
+      is_variable = w.is_variable || (is_declaration w.before && is_name k w.name);
+    }
+
+-- the walk behind this token
+abbrev pub walked : RoleWalk → TokenKind → RoleWalk
+walked w k = if is_heading (behind w.before k) then begun w else gone_on w k
+
+abbrev pub same_role : Role → Role → Bool
+same_role role.Object role.Object = true
+same_role role.Body role.Body = true
+same_role role.Class role.Class = true
+same_role (role.Variable a) (role.Variable b) = a == b
+same_role _ _ = false
+
+-- the token is the name, and stands for this
+abbrev pub stands_for : RoleWalk → Role → TokenKind → Bool
+stands_for w r k = is_name k w.name && same_role (role_of w) r
+
+-- the beginning of a text
+abbrev pub start_of : TextFile → Name → RoleWalk
+start_of f name = record { file = f; name = name; before = before.Other; is_variable = false; bodies = 0 }
+
+abbrev pub same_file : TextFile → TextFile → Bool
+same_file file.Configuration file.Configuration = true
+same_file file.Source file.Source = true
+same_file _ _ = false
+
+-- what a name stands for may be named in a text: variables and classes are named in one text alone
+abbrev pub may_in : Role → TextFile → TextFile → Bool
+may_in role.Object f g = true
+may_in role.Body f g = true
+may_in role.Class f g = same_file f g
+may_in (role.Variable n) f g = same_file f g
+
+abbrev pub may_stand_in : Named → TextFile → Bool
+may_stand_in n f = may_in n.role n.file f

@@ -1,0 +1,269 @@
+//! What is found in the texts that are open, as diagnostics.
+ghost use Rattle.std.specs.Prelude.{◌≡◌, ◌+◌, ◌-◌, ◌≤◌, IfOk, length, min};
+ghost use Rattle.fmp_server.specs.Findings.{AreFaults, AreFindings, IsMarked, IsTold};
+
+use crate::documents::{Document, OpenTexts};
+use crate::messages::{begin_notification, finish};
+use crate::positions::{TextRange, line_start, position_in};
+use crate::writing::range_member;
+use fmp_cfgparse::read_cfg;
+use fmp_diagnosis::{FaultReport, Texts, finding_at};
+use fmp_json::{begin_list, number_member, text_member};
+use fmp_lex::{BuildFault, TextFile};
+use fmp_tasklang::read_tasks;
+use fmp_warnings::{
+    TextsFault, TextsVerdict, ToldFault, Warning, found_in, further_faults, warnings_of,
+};
+use json::Writer;
+use std::alloc::{AllocError, Global};
+
+/// The severity of a fault, as the protocol has it.
+const ERROR: u64 = 1;
+
+/// That of a warning.
+const WARNING: u64 = 2;
+
+/// What is found in the texts of a system.
+#[derive(Drop)]
+pub enum Found {
+    /// Their faults, the first one first.
+    Faults(Vec<ToldFault>),
+    /// They have none: the warnings.
+    Warnings(Vec<Warning>),
+}
+
+/// The fault that a reader ends with.
+fn fault_in(fault: BuildFault) -> Result<Option<TextsFault>, AllocError> {
+    match fault {
+        BuildFault::Memory => Err(AllocError),
+        BuildFault::At(file, place, kind) => Ok(Some(TextsFault { file, place, kind })),
+    }
+}
+
+/// The first fault of a configuration without bodies.
+fn fault_of_configuration(alloc: Global, cfg: &[u8]) -> Result<Option<TextsFault>, AllocError> {
+    match read_cfg(alloc, cfg) {
+        Ok(system) => {
+            drop(system);
+            Ok(None)
+        }
+        Err(fault) => fault_in(fault),
+    }
+}
+
+/// The first fault of the syntax of a task text without a configuration.
+fn fault_of_bodies(alloc: Global, src: &[u8]) -> Result<Option<TextsFault>, AllocError> {
+    match read_tasks(alloc, src) {
+        Ok(program) => {
+            drop(program);
+            Ok(None)
+        }
+        Err(fault) => fault_in(fault),
+    }
+}
+
+/// The first fault of the one text that is open.
+fn fault_of_one(alloc: Global, open: OpenTexts<'_>) -> Result<Option<TextsFault>, AllocError> {
+    let cfg = open.bytes_of(TextFile::Configuration);
+    let src = open.bytes_of(TextFile::Source);
+    if open.cfg.is_some() {
+        fault_of_configuration(alloc, cfg)
+    } else {
+        fault_of_bodies(alloc, src)
+    }
+}
+
+/// What is told of a fault.
+fn told_of(alloc: Global, texts: Texts<'_>, fault: TextsFault) -> Result<ToldFault, AllocError>
+    ensures { IfOk result (IsTold texts.entry fault) }
+{
+    let file = fault.file;
+    let finding = finding_at(alloc, texts, file, fault.place, fault.kind)?;
+    Ok(ToldFault { file, finding })
+}
+
+/// What is told of two texts of which this is the first fault: that one, and those behind it.
+fn faults_of_both(
+    alloc: Global,
+    texts: Texts<'_>,
+    fault: TextsFault,
+) -> Result<Vec<ToldFault>, AllocError>
+    ensures { IfOk result (λ told. AreFaults texts.entry fault told.items) }
+{
+    let mut told = further_faults(alloc, texts, fault)?;
+    let first = told_of(alloc, texts, fault)?;
+    told.insert(0, first)?;
+    Ok(told)
+}
+
+/// What is found in two texts: their faults, or else their warnings.
+fn findings_of_both(alloc: Global, texts: Texts<'_>) -> Result<Found, AllocError>
+    ensures { IfOk result (AreFindings texts.entry) }
+{
+    match found_in(alloc, texts.cfg, texts.src)? {
+        TextsVerdict::Faulty(fault) => Ok(Found::Faults(faults_of_both(alloc, texts, fault)?)),
+        TextsVerdict::Sound(_) => Ok(Found::Warnings(warnings_of(alloc, texts)?)),
+    }
+}
+
+/// What is found in the one text that is open: its first fault.
+fn findings_of_one(
+    alloc: Global,
+    open: OpenTexts<'_>,
+    texts: Texts<'_>,
+) -> Result<Found, AllocError> {
+    let mut told = Vec::new(alloc);
+    if let Some(fault) = fault_of_one(alloc, open)? {
+        told.push(told_of(alloc, texts, fault)?)?;
+    }
+    Ok(Found::Faults(told))
+}
+
+/// What is found in the texts that are open: if both are, their faults, or else their warnings; if one is, its first
+/// fault. `AllocError` if memory runs out.
+pub fn findings_of(alloc: Global, open: OpenTexts<'_>) -> Result<Found, AllocError> {
+    let texts = Texts {
+        cfg: open.bytes_of(TextFile::Configuration),
+        src: open.bytes_of(TextFile::Source),
+    };
+    if open.are_both() {
+        findings_of_both(alloc, texts)
+    } else {
+        findings_of_one(alloc, open, texts)
+    }
+}
+
+/// The byte of a column, from 1, of the line that begins at a byte of a text; the text's end if that is before it.
+fn byte_of(text: &[u8], begin: usize, column: usize) -> usize
+    requires { begin ≤ length text.now }
+    ensures { result ≡ min (begin + (column - 1)) (length text.now) }
+{
+    begin
+        .saturating_add(column.saturating_sub(1))
+        .min(text.len())
+}
+
+/// What a finding marks of its text.
+fn marked(text: &[u8], finding: &FaultReport) -> TextRange
+    ensures { IsMarked text.now finding.now result }
+{
+    let line = u64::from(finding.line).saturating_sub(1);
+    let begin = line_start(text, line);
+    TextRange {
+        start: position_in(text, line, byte_of(text, begin, finding.excerpt.column)),
+        end: position_in(text, line, byte_of(text, begin, finding.end)),
+    }
+}
+
+/// Writes the code of a fault.
+fn write_code(alloc: Global, writer: &mut Writer, finding: &FaultReport) -> Result<(), AllocError> {
+    let mut code = String::from_str(alloc, finding.code)?;
+    code.push_str(finding.refusal)?;
+    text_member(writer, "code", code.as_str())
+}
+
+/// Writes what is said of a finding of this severity.
+fn write_said(
+    alloc: Global,
+    writer: &mut Writer,
+    severity: u64,
+    finding: &FaultReport,
+) -> Result<(), AllocError> {
+    number_member(writer, "severity", severity)?;
+    if severity == ERROR {
+        write_code(alloc, writer, finding)?;
+    }
+    text_member(writer, "source", "fmp")?;
+    let sentence = String::from_utf8_lossy(alloc, &finding.sentence)?;
+    text_member(writer, "message", sentence.as_str())
+}
+
+/// Writes a finding of a text as a diagnostic.
+fn write_diagnostic(
+    alloc: Global,
+    writer: &mut Writer,
+    text: &[u8],
+    severity: u64,
+    finding: &FaultReport,
+) -> Result<(), AllocError> {
+    writer.begin_object()?;
+    range_member(writer, "range", marked(text, finding))?;
+    write_said(alloc, writer, severity, finding)?;
+    writer.end_object()
+}
+
+/// Writes the faults of one text as diagnostics.
+fn write_faults(
+    alloc: Global,
+    writer: &mut Writer,
+    text: &[u8],
+    file: TextFile,
+    faults: &[ToldFault],
+) -> Result<(), AllocError> {
+    for one in faults {
+        if one.file == file {
+            write_diagnostic(alloc, writer, text, ERROR, &one.finding)?;
+        }
+    }
+    Ok(())
+}
+
+/// Writes the warnings of one text as diagnostics.
+fn write_warnings(
+    alloc: Global,
+    writer: &mut Writer,
+    text: &[u8],
+    file: TextFile,
+    warnings: &[Warning],
+) -> Result<(), AllocError> {
+    for one in warnings {
+        if one.file == file {
+            write_diagnostic(alloc, writer, text, WARNING, &one.finding)?;
+        }
+    }
+    Ok(())
+}
+
+/// Writes what is found in one text as diagnostics.
+fn write_diagnostics(
+    alloc: Global,
+    writer: &mut Writer,
+    text: &[u8],
+    file: TextFile,
+    found: &Found,
+) -> Result<(), AllocError> {
+    begin_list(writer, "diagnostics")?;
+    match found {
+        Found::Faults(faults) => write_faults(alloc, writer, text, file, faults)?,
+        Found::Warnings(warnings) => write_warnings(alloc, writer, text, file, warnings)?,
+    }
+    writer.end_array()
+}
+
+/// The notification of what is found in the text of a document, which is this one of its system. `AllocError` if memory
+/// runs out.
+pub fn published(
+    alloc: Global,
+    document: &Document,
+    file: TextFile,
+    found: &Found,
+) -> Result<Vec<u8>, AllocError> {
+    let mut writer = begin_notification(alloc, "textDocument/publishDiagnostics")?;
+    writer.begin_object()?;
+    text_member(&mut writer, "uri", document.uri.as_str())?;
+    write_diagnostics(alloc, &mut writer, document.text.as_bytes(), file, found)?;
+    writer.end_object()?;
+    finish(writer)
+}
+
+/// The notification that nothing is found in the document of a URI, because it is open no more. `AllocError` if memory
+/// runs out.
+pub fn cleared(alloc: Global, uri: &str) -> Result<Vec<u8>, AllocError> {
+    let mut writer = begin_notification(alloc, "textDocument/publishDiagnostics")?;
+    writer.begin_object()?;
+    text_member(&mut writer, "uri", uri)?;
+    begin_list(&mut writer, "diagnostics")?;
+    writer.end_array()?;
+    writer.end_object()?;
+    finish(writer)
+}

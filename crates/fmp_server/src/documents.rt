@@ -1,0 +1,123 @@
+//! The texts that are open in an editor, and which of them belong together.
+
+use fmp_lex::TextFile;
+use std::alloc::{AllocError, Global};
+
+/// A text that is open in an editor.
+#[derive(Drop)]
+pub struct Document {
+    /// The URI of its file.
+    pub uri: String,
+    pub text: String,
+}
+
+/// All that are open; no two of them have the same URI.
+#[derive(Drop)]
+pub struct Documents {
+    list: Vec<Document>,
+}
+
+/// The texts of a system as far as they are open, and which of them is meant.
+#[derive(Clone, Copy)]
+pub struct OpenTexts<'a> {
+    /// The one that is meant.
+    pub file: TextFile,
+    pub cfg: Option<&'a Document>,
+    pub src: Option<&'a Document>,
+}
+
+impl<'a> OpenTexts<'a> {
+    /// One of the two, if it is open.
+    pub fn of(&self, file: TextFile) -> Option<&'a Document> {
+        match file {
+            TextFile::Configuration => self.cfg,
+            TextFile::Source => self.src,
+        }
+    }
+
+    /// The bytes of one of the two; none if it is not open.
+    pub fn bytes_of(&self, file: TextFile) -> &'a [u8] {
+        match self.of(file) {
+            Some(document) => document.text.as_bytes(),
+            None => &[],
+        }
+    }
+
+    /// Whether both are open.
+    pub fn are_both(&self) -> bool {
+        self.cfg.is_some() && self.src.is_some()
+    }
+}
+
+/// Which text of a system the file of a URI has, by the end of its name: `.cfg` or `.src`.
+pub fn file_of(uri: &str) -> Option<TextFile> {
+    let bytes = uri.as_bytes();
+    if bytes.ends_with(b".cfg") {
+        Some(TextFile::Configuration)
+    } else if bytes.ends_with(b".src") {
+        Some(TextFile::Source)
+    } else {
+        None
+    }
+}
+
+/// A URI without the end of the name of its file, which has four bytes.
+fn stem_of(uri: &str) -> &[u8] {
+    let bytes = uri.as_bytes();
+    &bytes[..bytes.len().saturating_sub(4)]
+}
+
+/// Whether a document is this text of the system of a URI.
+fn is_text_of(document: &Document, uri: &str, file: TextFile) -> bool {
+    let other = document.uri.as_str();
+    file_of(other) == Some(file) && stem_of(other) == stem_of(uri)
+}
+
+impl Documents {
+    /// None is open.
+    pub fn new(alloc: Global) -> Documents {
+        Documents {
+            list: Vec::new(alloc),
+        }
+    }
+
+    /// The document of a URI.
+    pub fn find(&self, uri: &str) -> Option<&Document> {
+        self.list.iter().find(|one| one.uri.as_str() == uri)
+    }
+
+    /// Closes the document of a URI, if it is open.
+    pub fn close(&mut self, uri: &str) {
+        let place = self.list.iter().position(|one| one.uri.as_str() == uri);
+        if let Some(place) = place {
+            if place < self.list.len() {
+                drop(self.list.remove(place));
+            }
+        }
+    }
+
+    /// Opens a document, or changes its text. `AllocError` if memory runs out.
+    pub fn open(&mut self, alloc: Global, uri: &str, text: &str) -> Result<(), AllocError> {
+        let document = Document {
+            uri: String::from_str(alloc, uri)?,
+            text: String::from_str(alloc, text)?,
+        };
+        self.close(uri);
+        self.list.push(document)?;
+        Ok(())
+    }
+
+    /// A text of the system of a URI, if it is open.
+    fn text_of(&self, uri: &str, file: TextFile) -> Option<&Document> {
+        self.list.iter().find(|one| is_text_of(one, uri, file))
+    }
+
+    /// The texts of the system of a URI; none if that names neither.
+    pub fn texts_of(&self, uri: &str) -> Option<OpenTexts<'_>> {
+        Some(OpenTexts {
+            file: file_of(uri)?,
+            cfg: self.text_of(uri, TextFile::Configuration),
+            src: self.text_of(uri, TextFile::Source),
+        })
+    }
+}

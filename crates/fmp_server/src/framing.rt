@@ -1,0 +1,177 @@
+//! Messages within a stream of bytes: each stands behind a header that tells how many bytes it has.
+ghost use Rattle.std.specs.Prelude.{◌≡◌, ◌<◌, ◌≤◌, ◌++◌, IfOk, IsTrue, OnOk, length, map, option_map};
+ghost use Rattle.fmp_server.specs.Framing as spec;
+ghost use Rattle.fmp_server.specs.Framing.{fed, framed, fresh, part_of, step};
+
+use itoa::Buffer;
+use std::alloc::{AllocError, Global};
+use std::mem;
+
+/// The greatest number of bytes of a message.
+pub const MESSAGE_MAX: usize = 67_108_864;
+
+/// How many bytes of a line of a header are kept.
+const LINE_MAX: usize = 256;
+
+/// The field of a header that tells the length.
+const LENGTH_FIELD: &[u8] = b"content-length:";
+
+/// How many bytes its name and the colon have.
+const FIELD_LENGTH: usize = 15;
+
+/// How far a stream of messages was read.
+#[derive(Drop)]
+pub struct Framing {
+    /// What is kept of the line of the header so far: small letters, and no blanks.
+    pub(crate) line: Vec<u8>,
+    /// The length that the header has told; 0 if it has told none that a message may have.
+    pub(crate) length: usize,
+    /// How many bytes of the message are still to come; 0 within a header.
+    pub(crate) left: usize,
+    /// The bytes of the message so far.
+    pub(crate) message: Vec<u8>,
+}
+
+/// Whether a byte is left out of a header's line.
+fn is_blank(byte: u8) -> bool
+    ensures { result ≡ spec.is_blank byte }
+{
+    byte == b' ' || byte == b'\t' || byte == b'\r'
+}
+
+/// The number that digits spell, or the one behind the greatest length where it is greater; none if a byte is no digit.
+fn digits_in(text: &[u8]) -> Option<usize>
+    ensures { result ≡ spec.capped text.now }
+{
+    let mut value = 0;
+    for byte in text {
+        if !byte.is_ascii_digit() {
+            return None;
+        }
+        value = (value * 10 + usize::from(*byte - b'0')).min(MESSAGE_MAX + 1);
+    }
+    Some(value)
+}
+
+/// The length that these digits tell; 0 if they tell none that a message may have.
+fn length_in(digits: &[u8]) -> usize
+    ensures { result ≡ spec.length_in digits.now }
+{
+    match digits_in(digits) {
+        Some(length) if length <= MESSAGE_MAX => length,
+        _ => 0,
+    }
+}
+
+/// Whether a line is that of the length.
+#[tactic(auto, unfolding(crate::specs::Framing::tells_length))]
+fn tells_length(line: &[u8]) -> bool
+    ensures value { result ≡ spec.tells_length line.now }
+    ensures bound { IsTrue result → 15 ≤ length line.now }
+{
+    line.starts_with(LENGTH_FIELD)
+}
+
+/// The length that a header has told behind this line.
+fn told(line: &[u8], length: usize) -> usize
+    ensures { result ≡ spec.told line.now length }
+{
+    if tells_length(line) {
+        length_in(&line[FIELD_LENGTH..])
+    } else {
+        length
+    }
+}
+
+impl Framing {
+    /// The beginning of a stream.
+    pub fn new(alloc: Global) -> Framing
+        ensures { part_of result ≡ fresh }
+    {
+        Framing {
+            line: Vec::new(alloc),
+            length: 0,
+            left: 0,
+            message: Vec::new(alloc),
+        }
+    }
+
+    /// Takes the end of a line of a header. Behind an empty line the message begins.
+    fn end_line(&mut self)
+        ensures { part_of self.new ≡ spec.behind_line (part_of self.old) }
+    {
+        if self.line.is_empty() {
+            self.left = self.length;
+            self.length = 0;
+        } else {
+            self.length = told(&self.line, self.length);
+            self.line.clear();
+        }
+    }
+
+    /// Takes a byte of a header.
+    fn take_of_header(&mut self, byte: u8) -> Result<(), AllocError>
+        ensures { OnOk result (part_of self.new ≡ spec.in_header (part_of self.old) byte) }
+    {
+        if byte == b'\n' {
+            self.end_line();
+            return Ok(());
+        }
+        if is_blank(byte) || self.line.len() >= LINE_MAX {
+            return Ok(());
+        }
+        self.line.push(byte.to_ascii_lowercase())?;
+        Ok(())
+    }
+
+    /// Takes a byte of a message, and gives the message if this is its last one.
+    fn take_of_message(&mut self, alloc: Global, byte: u8) -> Result<Option<Vec<u8>>, AllocError>
+        requires { 0 < self.old.left }
+        ensures { IfOk result (λ message.
+            (part_of self.new, option_map (λ m. m.items) message) ≡ spec.in_message (part_of self.old) byte) }
+    {
+        self.message.push(byte)?;
+        if self.left > 1 {
+            self.left -= 1;
+            return Ok(None);
+        }
+        self.left = 0;
+        Ok(Some(mem::replace(&mut self.message, Vec::new(alloc))))
+    }
+
+    /// Takes a byte, and gives the message that ends with it, if one does. `AllocError` if memory runs out.
+    fn take_byte(&mut self, alloc: Global, byte: u8) -> Result<Option<Vec<u8>>, AllocError>
+        ensures { IfOk result (λ message.
+            (part_of self.new, option_map (λ m. m.items) message) ≡ step (part_of self.old) byte) }
+    {
+        if self.left > 0 {
+            return self.take_of_message(alloc, byte);
+        }
+        self.take_of_header(byte)?;
+        Ok(None)
+    }
+
+    /// Takes bytes, and gives the messages that end among them, in order. `AllocError` if memory runs out.
+    pub fn take(&mut self, alloc: Global, bytes: &[u8]) -> Result<Vec<Vec<u8>>, AllocError>
+        ensures { IfOk result (λ messages.
+            (part_of self.new, map (λ m. m.items) messages.items) ≡ fed (part_of self.old) bytes.now) }
+    {
+        let mut messages = Vec::new(alloc);
+        for byte in bytes {
+            if let Some(message) = self.take_byte(alloc, *byte)? {
+                messages.push(message)?;
+            }
+        }
+        Ok(messages)
+    }
+}
+
+/// Appends a message behind a header that tells its length. `AllocError` if memory runs out.
+pub fn append_framed(message: &[u8], out: &mut Vec<u8>) -> Result<(), AllocError>
+    ensures { OnOk result (out.new.items ≡ out.old.items ++ framed message.now) }
+{
+    out.extend_from_slice(b"Content-Length: ")?;
+    out.extend_from_slice(Buffer::new().format(message.len() as u64).as_bytes())?;
+    out.extend_from_slice(b"\r\n\r\n")?;
+    out.extend_from_slice(message)
+}

@@ -1,0 +1,129 @@
+//! What is said of the word at a position.
+use crate::documents::OpenTexts;
+use crate::messages::{RequestId, begin_answer, finish, null_answer};
+use crate::objects::{say_body, say_exinf, say_object, say_variable};
+use crate::positions::{Position, TextRange, offset_at, range_of};
+use crate::roles::{Named, Role, is_exinf, named_at, word_at};
+use crate::sayings::{say_api, say_call, say_class, say_constant};
+use crate::writing::range_member;
+use fmp_base::Name;
+use fmp_diagnosis::around::list_of;
+use fmp_json::text_member;
+use fmp_lex::{TextFile, TokenKind, Tokens};
+use std::alloc::{AllocError, Global};
+
+/// Says what an object is.
+fn say_object_of(
+    alloc: Global,
+    open: OpenTexts<'_>,
+    name: Name,
+    out: &mut Vec<u8>,
+) -> Result<(), AllocError> {
+    let text = open.bytes_of(TextFile::Configuration);
+    let list = list_of(alloc, text)?;
+    say_object(text, &list.tokens, name, out)
+}
+
+/// Says what a body is.
+fn say_body_of(
+    alloc: Global,
+    open: OpenTexts<'_>,
+    name: Name,
+    out: &mut Vec<u8>,
+) -> Result<(), AllocError> {
+    let cfg = list_of(alloc, open.bytes_of(TextFile::Configuration))?;
+    let src = list_of(alloc, open.bytes_of(TextFile::Source))?;
+    say_body(&cfg.tokens, &src.tokens, name, out)
+}
+
+/// Says what a name stands for.
+fn say_name(
+    alloc: Global,
+    open: OpenTexts<'_>,
+    tokens: &Tokens<'_>,
+    named: Named,
+    out: &mut Vec<u8>,
+) -> Result<(), AllocError> {
+    match named.role {
+        Role::Object => say_object_of(alloc, open, named.name, out),
+        Role::Body => say_body_of(alloc, open, named.name, out),
+        Role::Class => say_class(named.name, out),
+        Role::Variable(_) if is_exinf(named.name) => say_exinf(out),
+        Role::Variable(body) => say_variable(tokens, body, named.name, out),
+    }
+}
+
+/// Says what the word at a place of the tokens is; nothing if there is nothing to say.
+fn say_word(
+    alloc: Global,
+    open: OpenTexts<'_>,
+    tokens: &Tokens<'_>,
+    at: usize,
+    out: &mut Vec<u8>,
+) -> Result<(), AllocError> {
+    match tokens.kind(at) {
+        Some(TokenKind::Service(service)) => say_call(service, out),
+        Some(TokenKind::Api(api)) => say_api(api, out),
+        Some(TokenKind::Constant(constant)) => say_constant(constant, out),
+        Some(TokenKind::Name(_)) => match named_at(tokens, open.file, at) {
+            Some(named) => say_name(alloc, open, tokens, named, out),
+            None => Ok(()),
+        },
+        _ => Ok(()),
+    }
+}
+
+/// The answer that says this of a range.
+fn answer(
+    alloc: Global,
+    id: RequestId<'_>,
+    range: TextRange,
+    said: &[u8],
+) -> Result<Vec<u8>, AllocError> {
+    let said = String::from_utf8_lossy(alloc, said)?;
+    let mut writer = begin_answer(alloc, id)?;
+    writer.begin_object()?;
+    writer.key("contents")?;
+    writer.begin_object()?;
+    text_member(&mut writer, "kind", "markdown")?;
+    text_member(&mut writer, "value", said.as_str())?;
+    writer.end_object()?;
+    range_member(&mut writer, "range", range)?;
+    writer.end_object()?;
+    finish(writer)
+}
+
+/// The answer on the word at a place of the tokens.
+fn answer_at(
+    alloc: Global,
+    open: OpenTexts<'_>,
+    id: RequestId<'_>,
+    tokens: &Tokens<'_>,
+    at: usize,
+) -> Result<Vec<u8>, AllocError> {
+    let mut said = Vec::new(alloc);
+    say_word(alloc, open, tokens, at, &mut said)?;
+    match tokens.place(at) {
+        Some(place) if !said.is_empty() => {
+            let text = open.bytes_of(open.file);
+            answer(alloc, id, range_of(text, place), &said)
+        }
+        _ => null_answer(alloc, id),
+    }
+}
+
+/// The answer on the word at a position: what a call does and answers, which number a constant is, what an object is, a
+/// body, or a variable. `AllocError` if memory runs out.
+pub fn hover(
+    alloc: Global,
+    open: OpenTexts<'_>,
+    id: RequestId<'_>,
+    position: Position,
+) -> Result<Vec<u8>, AllocError> {
+    let text = open.bytes_of(open.file);
+    let list = list_of(alloc, text)?;
+    match word_at(&list.tokens, offset_at(text, position)) {
+        Some(at) => answer_at(alloc, open, id, &list.tokens, at),
+        None => null_answer(alloc, id),
+    }
+}

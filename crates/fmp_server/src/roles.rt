@@ -1,0 +1,355 @@
+//! What a name in a text stands for, and where else it stands for the same.
+ghost use Rattle.std.specs.Prelude.{◌≡◌};
+ghost use Rattle.fmp_server.specs.Roles as spec;
+ghost use Rattle.fmp_server.specs.Roles.{start_of, walked};
+
+use fmp_base::Name;
+use fmp_lex::{Api, Keyword, Place, Symbol, TextFile, TokenKind, Tokens};
+use std::alloc::{AllocError, Global};
+
+/// What a name stands for.
+#[derive(Clone, Copy, PartialEq, Eq)]
+pub enum Role {
+    /// An object of the configuration.
+    Object,
+    /// A body of the task text.
+    Body,
+    /// A class of the configuration.
+    Class,
+    /// A variable of the body of this number, from 1 in order of text.
+    Variable(u32),
+}
+
+/// What stands before a token.
+#[derive(Clone, Copy, PartialEq, Eq)]
+enum Before {
+    /// A static API that makes an object.
+    Maker,
+    /// The parenthesis behind that: the name of the object follows.
+    Object,
+    /// `CLASS`.
+    Class,
+    /// The parenthesis behind that: the name of the class follows.
+    ClassName,
+    /// `task` or `handler`: the name of the body follows.
+    Heading,
+    /// `var`: the name of a variable follows.
+    Variable,
+    Other,
+}
+
+/// A walk over the tokens of a text that follows what one name stands for.
+#[derive(Clone, Copy)]
+pub struct RoleWalk {
+    file: TextFile,
+    name: Name,
+    before: Before,
+    /// Whether the name is a variable of the body that was begun last.
+    is_variable: bool,
+    /// How many bodies were begun.
+    bodies: u32,
+}
+
+/// A name that stands for something, which text it was found in.
+#[derive(Clone, Copy)]
+pub struct Named {
+    pub name: Name,
+    pub role: Role,
+    pub file: TextFile,
+}
+
+/// Where a name stands.
+#[derive(Clone, Copy)]
+pub struct NamePlace {
+    pub place: Place,
+    /// Whether what it stands for is made or declared here.
+    pub declares: bool,
+}
+
+impl Role {
+    /// Whether it is the same as another.
+    fn is_same(self, other: Role) -> bool
+        ensures { result ≡ spec.same_role self other }
+    {
+        match (self, other) {
+            (Role::Object, Role::Object) => true,
+            (Role::Body, Role::Body) => true,
+            (Role::Class, Role::Class) => true,
+            (Role::Variable(one), Role::Variable(two)) => one == two,
+            _ => false,
+        }
+    }
+}
+
+/// Whether two texts of a system are one.
+fn is_same_file(one: TextFile, other: TextFile) -> bool
+    ensures { result ≡ spec.same_file one other }
+{
+    match (one, other) {
+        (TextFile::Configuration, TextFile::Configuration) => true,
+        (TextFile::Source, TextFile::Source) => true,
+        _ => false,
+    }
+}
+
+/// Whether a token is this name.
+pub fn is_name(kind: TokenKind, name: Name) -> bool
+    ensures { result ≡ spec.is_name kind name }
+{
+    match kind {
+        TokenKind::Name(found) => found.as_bytes() == name.as_bytes(),
+        _ => false,
+    }
+}
+
+/// The name that each body has for its extended information.
+pub fn is_exinf(name: Name) -> bool
+    ensures { result ≡ spec.is_exinf name }
+{
+    name.as_bytes() == b"exinf".as_slice()
+}
+
+fn behind_api(api: Api) -> Before
+    ensures { result ≡ spec.behind_api api }
+{
+    match api {
+        Api::DefInh => Before::Other,
+        _ => Before::Maker,
+    }
+}
+
+fn behind_keyword(keyword: Keyword) -> Before
+    ensures { result ≡ spec.behind_keyword keyword }
+{
+    match keyword {
+        Keyword::Class => Before::Class,
+        Keyword::Task | Keyword::Handler => Before::Heading,
+        Keyword::Var => Before::Variable,
+        _ => Before::Other,
+    }
+}
+
+fn behind_symbol(before: Before, symbol: Symbol) -> Before
+    ensures { result ≡ spec.behind_symbol before symbol }
+{
+    match (before, symbol) {
+        (Before::Maker, Symbol::LeftParen) => Before::Object,
+        (Before::Class, Symbol::LeftParen) => Before::ClassName,
+        _ => Before::Other,
+    }
+}
+
+/// What stands before the token behind this one.
+fn behind(before: Before, kind: TokenKind) -> Before
+    ensures { result ≡ spec.behind before kind }
+{
+    match kind {
+        TokenKind::Api(api) => behind_api(api),
+        TokenKind::Keyword(keyword) => behind_keyword(keyword),
+        TokenKind::Symbol(symbol) => behind_symbol(before, symbol),
+        _ => Before::Other,
+    }
+}
+
+impl RoleWalk {
+    /// The beginning of a text.
+    pub fn new(file: TextFile, name: Name) -> RoleWalk
+        ensures { result ≡ start_of file name }
+    {
+        RoleWalk {
+            file,
+            name,
+            before: Before::Other,
+            is_variable: false,
+            bodies: 0,
+        }
+    }
+
+    /// What the name stands for if it is the next token, and no word before it says more.
+    fn other_role(&self) -> Role
+        ensures { result ≡ spec.other_role self.now self.now.file }
+    {
+        match self.file {
+            TextFile::Configuration => Role::Body,
+            TextFile::Source if self.is_variable => Role::Variable(self.bodies),
+            TextFile::Source => Role::Object,
+        }
+    }
+
+    /// What the name stands for if it is the next token.
+    pub fn role(&self) -> Role
+        ensures { result ≡ spec.role_of self.now }
+    {
+        match self.before {
+            Before::Object => Role::Object,
+            Before::ClassName => Role::Class,
+            Before::Heading => Role::Body,
+            Before::Variable => Role::Variable(self.bodies),
+            Before::Maker | Before::Class | Before::Other => self.other_role(),
+        }
+    }
+
+    /// Whether the name, if it is the next token, makes or declares what it stands for.
+    pub fn declares(&self) -> bool {
+        matches!(
+            self.before,
+            Before::Object | Before::Heading | Before::Variable
+        )
+    }
+
+    /// The walk behind the word with which a body begins.
+    fn begun(self) -> RoleWalk
+        ensures { result ≡ spec.begun self }
+    {
+        RoleWalk {
+            file: self.file,
+            name: self.name,
+            before: Before::Heading,
+            is_variable: is_exinf(self.name),
+            bodies: self.bodies.saturating_add(1),
+        }
+    }
+
+    /// The walk behind another token.
+    fn gone_on(self, kind: TokenKind) -> RoleWalk
+        ensures { result ≡ spec.gone_on self kind }
+    {
+        let is_declared = match self.before {
+            Before::Variable => is_name(kind, self.name),
+            _ => false,
+        };
+        RoleWalk {
+            file: self.file,
+            name: self.name,
+            before: behind(self.before, kind),
+            is_variable: self.is_variable || is_declared,
+            bodies: self.bodies,
+        }
+    }
+
+    /// The walk behind this token.
+    pub fn behind(self, kind: TokenKind) -> RoleWalk
+        ensures { result ≡ walked self kind }
+    {
+        match behind(self.before, kind) {
+            Before::Heading => self.begun(),
+            _ => self.gone_on(kind),
+        }
+    }
+
+    /// Whether the token is the name, and stands for this.
+    fn stands_for(&self, role: Role, kind: TokenKind) -> bool
+        ensures { result ≡ spec.stands_for self.now role kind }
+    {
+        is_name(kind, self.name) && self.role().is_same(role)
+    }
+}
+
+/// What the name at a place of the tokens stands for.
+pub fn named_at(tokens: &Tokens<'_>, file: TextFile, at: usize) -> Option<Named> {
+    let TokenKind::Name(name) = tokens.kind(at)? else {
+        return None;
+    };
+    let mut walk = RoleWalk::new(file, name);
+    for before in 0..at {
+        if let Some(kind) = tokens.kind(before) {
+            walk = walk.behind(kind);
+        }
+    }
+    Some(Named {
+        name,
+        role: walk.role(),
+        file,
+    })
+}
+
+/// Whether what a name stands for may be named in a text: variables and classes are named in one text alone.
+fn may_stand_in(named: Named, file: TextFile) -> bool
+    ensures { result ≡ spec.may_stand_in named file }
+{
+    match named.role {
+        Role::Object | Role::Body => true,
+        Role::Class | Role::Variable(_) => is_same_file(named.file, file),
+    }
+}
+
+/// The places of a text at which a name stands for this, in order.
+fn all_places(
+    alloc: Global,
+    tokens: &Tokens<'_>,
+    start: RoleWalk,
+    role: Role,
+) -> Result<Vec<NamePlace>, AllocError> {
+    let mut places = Vec::new(alloc);
+    let mut walk = start;
+    for at in 0..tokens.len() {
+        if let Some(kind) = tokens.kind(at) {
+            if walk.stands_for(role, kind) {
+                if let Some(place) = tokens.place(at) {
+                    let declares = walk.declares();
+                    places.push(NamePlace { place, declares })?;
+                }
+            }
+            walk = walk.behind(kind);
+        }
+    }
+    Ok(places)
+}
+
+/// The places of a text at which a name stands for the same, in order. `AllocError` if memory runs out.
+pub fn places_in(
+    alloc: Global,
+    tokens: &Tokens<'_>,
+    file: TextFile,
+    named: Named,
+) -> Result<Vec<NamePlace>, AllocError> {
+    if !may_stand_in(named, file) {
+        return Ok(Vec::new(alloc));
+    }
+    all_places(alloc, tokens, RoleWalk::new(file, named.name), named.role)
+}
+
+/// How many tokens begin before a byte, or at it.
+pub fn begun_at(tokens: &Tokens<'_>, offset: usize) -> usize {
+    let mut low = 0;
+    let mut high = tokens.len();
+    'halves: while low < high {
+        let middle = low + (high - low) / 2;
+        let begins = match tokens.place(middle) {
+            Some(place) => place.start as usize <= offset,
+            None => false,
+        };
+        if begins {
+            low = middle + 1;
+        } else {
+            high = middle;
+        }
+    }
+    low
+}
+
+/// Whether a token is a word, and a byte is one of it or that behind it.
+fn is_word_at(tokens: &Tokens<'_>, at: usize, offset: usize) -> bool {
+    if let Some(TokenKind::Symbol(_) | TokenKind::Bad(_)) = tokens.kind(at) {
+        return false;
+    }
+    match tokens.place(at) {
+        Some(place) => place.start as usize <= offset && offset <= place.end as usize,
+        None => false,
+    }
+}
+
+/// The place among the tokens of the word that has a byte, or ends before it.
+pub fn word_at(tokens: &Tokens<'_>, offset: usize) -> Option<usize> {
+    let begun = begun_at(tokens, offset);
+    let last = begun.checked_sub(1)?;
+    if is_word_at(tokens, last, offset) {
+        return Some(last);
+    }
+    let before = last.checked_sub(1)?;
+    if is_word_at(tokens, before, offset) {
+        Some(before)
+    } else {
+        None
+    }
+}
