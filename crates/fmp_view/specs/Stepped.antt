@@ -1,5 +1,5 @@
 -- What a session tells of its kernel, and what it leaves.
-use Rattle.std.specs.Prelude.{ℕ, ◌≡◌, List, length}
+use Rattle.std.specs.Prelude.{ℕ, ◌≡◌, List, Option, length}
 use Rattle.fmp_base.specs.declared.events.TaskState.{TaskState}
 use Rattle.fmp_base.specs.declared.states.TaskBlock.{TaskBlock}
 use Rattle.fmp_base.specs.Runs.{task_state}
@@ -11,6 +11,7 @@ use Rattle.fmp_instructions.specs.Instructions.{BodyTables}
 use Rattle.fmp_kernel.specs.KernelViews.{KernelView}
 use Rattle.fmp_named.specs.Records.{state_records}
 use Rattle.fmp_named.specs.States.{named_states}
+use Rattle.fmp_places.specs.declared.calls.CallPlace.{CallPlace}
 use Rattle.fmp_session.specs.declared.session.Session.{Session}
 use Rattle.fmp_session.specs.Sessions.{lines_now, records_now}
 use Rattle.fmp_view.specs.declared.answering.Answer.{Answer}
@@ -18,10 +19,10 @@ use Rattle.fmp_view.specs.declared.answering.Answer.TheVariants as answer
 use Rattle.fmp_warnings.specs.declared.verdicts.Form.{Form}
 use Rattle.fmp_warnings.specs.declared.verdicts.Form.TheVariants as form
 
--- the lines of the last event, or the objects of JSON
-abbrev pub last_lines : Form → KernelView (List BodyTables) MachineContext → List ℕ
-last_lines form.Text k = lines_now k
-last_lines form.Json k = records_now k
+-- the lines of the last event, or the objects of JSON, with where its call stands if that is known
+abbrev pub last_lines : Form → Option CallPlace → KernelView (List BodyTables) MachineContext → List ℕ
+last_lines form.Text place k = lines_now k
+last_lines form.Json place k = records_now place k
 
 -- states of tasks, with names, as lines or as objects of JSON
 abbrev pub states_in : Form → SystemTables → List TaskState → List TaskBlock → List ℕ

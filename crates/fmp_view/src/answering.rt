@@ -6,11 +6,13 @@ ghost use Rattle.fmp_view.specs.Stepped.{Leaves, last_lines, states_in, states_t
 
 use crate::session_files::{load, save};
 use crate::session_objects::state_of;
+use crate::session_until::until;
 use fmp_base::{Event, System, TaskBlock, TaskState};
 use fmp_files::{Failure, Outside};
 use fmp_frames::last_frame;
 use fmp_looking::{OpenImage, why_of};
 use fmp_named::{append_state_records, append_states};
+use fmp_places::{CallPlace, CallPlaces};
 use fmp_session::{
     Command, NamedInterrupt, Session, TakenEvent, append_kept, append_nothing, argument_of, note,
 };
@@ -23,6 +25,7 @@ const COMMANDS: &str =
     "run P [xK]   processor P goes on, to its next service call; K times, or until it does nothing
 tick [K]     the clock advances, K times
 int N [xK]   interrupt N is raised; N may be the body of its handler
+until DEED   all goes on until put(7), E_TMOUT or F_OVF happens; 'by TASK' may stand behind it
 back [K]     the last event is taken back, or the last K
 why          what each task waits or spins for
 state [X]    the states of the tasks, or that of the task or object X
@@ -47,6 +50,8 @@ pub struct Stepping<'a> {
     pub form: Form,
     /// The interrupts that have handlers.
     pub interrupts: &'a [NamedInterrupt],
+    /// Where the calls of the bodies stand in their text.
+    pub places: &'a CallPlaces,
     /// Whether standard input is a terminal.
     pub terminal: bool,
 }
@@ -106,19 +111,21 @@ fn line_told(alloc: Global, form: Form, line: &[u8]) -> Result<Vec<u8>, AllocErr
     Ok(out)
 }
 
-/// Appends the lines of setup, or of the last event that was done.
+/// Appends the lines of setup, or of the last event that was done; objects of JSON have where its call stands, if that
+/// is known.
 pub fn append_last(
     alloc: Global,
     session: &Session<'_>,
     form: Form,
+    place: Option<CallPlace>,
     out: &mut Vec<u8>,
 ) -> Result<(), AllocError>
     requires { IsSession session.now }
-    ensures { OnOk result (out.new.items ≡ out.old.items ++ last_lines form session.now.kernel) }
+    ensures { OnOk result (out.new.items ≡ out.old.items ++ last_lines form place session.now.kernel) }
 {
     match form {
         Form::Text => session.append_last(out),
-        Form::Json => session.append_last_records(alloc, out),
+        Form::Json => session.append_last_records(alloc, place, out),
     }
 }
 
@@ -142,37 +149,67 @@ fn line_of(
     Ok(line)
 }
 
-/// Appends what is told of an event that came to this.
+/// Appends what is told of an event that came to this, whose call stands there.
 fn append_taken(
     alloc: Global,
     session: &Session<'_>,
     form: Form,
     e: Event,
-    taken: TakenEvent,
+    told: (TakenEvent, Option<CallPlace>),
     out: &mut Vec<u8>,
 ) -> Result<(), AllocError>
     requires { IsSession session.now }
 {
+    let (taken, place) = told;
     if let TakenEvent::Done = taken {
-        return append_last(alloc, session, form, out);
+        return append_last(alloc, session, form, place, out);
     }
     let line = line_of(alloc, session, e, taken)?;
     append_told(alloc, form, &line, out)
+}
+
+/// Where the call stands that an event would make, if it makes one and answers tell it: objects of JSON do.
+fn told_place(session: &Session<'_>, stepping: Stepping<'_>, e: Event) -> Option<CallPlace>
+    requires { IsSession session.now }
+{
+    match stepping.form {
+        Form::Text => None,
+        Form::Json => session.place(stepping.places, e),
+    }
+}
+
+/// Takes an event, and appends what is told of it; of one that does nothing only if that is told.
+pub fn take_event(
+    alloc: Global,
+    session: &mut Session<'_>,
+    stepping: Stepping<'_>,
+    e: Event,
+    tells_nothing: bool,
+    out: &mut Vec<u8>,
+) -> Result<TakenEvent, AllocError>
+    requires { IsSession session.old }
+    ensures { IsSession session.new }
+{
+    let place = told_place(session, stepping, e);
+    let taken = session.take(e)?;
+    if tells_nothing || !matches!(taken, TakenEvent::Nothing) {
+        append_taken(alloc, session, stepping.form, e, (taken, place), out)?;
+    }
+    Ok(taken)
 }
 
 /// Takes an event, and appends what is told of it. The answer is whether it did something.
 pub fn take_one(
     alloc: Global,
     session: &mut Session<'_>,
-    form: Form,
+    stepping: Stepping<'_>,
     e: Event,
     out: &mut Vec<u8>,
 ) -> Result<bool, AllocError>
     requires { IsSession session.old }
     ensures { IsSession session.new }
 {
-    let taken = session.take(e)?;
-    append_taken(alloc, session, form, e, taken, out)?;
+    let taken = take_event(alloc, session, stepping, e, true, out)?;
     Ok(matches!(taken, TakenEvent::Done | TakenEvent::Kept))
 }
 
@@ -180,7 +217,7 @@ pub fn take_one(
 fn taken_text(
     alloc: Global,
     session: &mut Session<'_>,
-    form: Form,
+    stepping: Stepping<'_>,
     e: Event,
     times: u32,
 ) -> Result<Vec<u8>, AllocError>
@@ -189,7 +226,7 @@ fn taken_text(
 {
     let mut out = Vec::new(alloc);
     for _turn in 0..times {
-        if !take_one(alloc, session, form, e, &mut out)? {
+        if !take_one(alloc, session, stepping, e, &mut out)? {
             return Ok(out);
         }
     }
@@ -290,21 +327,25 @@ fn help_text(alloc: Global, form: Form) -> Result<Vec<u8>, AllocError> {
 fn told(
     alloc: Global,
     session: &mut Session<'_>,
-    form: Form,
+    stepping: Stepping<'_>,
     command: Command,
 ) -> Result<Vec<u8>, AllocError>
     requires { IsSession session.old }
     ensures { IsSession session.new }
 {
+    let form = stepping.form;
     match command {
-        Command::Take(e, times) => taken_text(alloc, session, form, e, times),
+        Command::Take(e, times) => taken_text(alloc, session, stepping, e, times),
         Command::Back(count) => back_text(alloc, session, form, count),
         Command::Why => why_text(alloc, session, form),
         Command::State => states_text(alloc, session, form),
         Command::Help => help_text(alloc, form),
-        Command::StateOf | Command::Load | Command::Save | Command::Quit | Command::Skip => {
-            Ok(Vec::new(alloc))
-        }
+        Command::StateOf
+        | Command::Load
+        | Command::Save
+        | Command::Until
+        | Command::Quit
+        | Command::Skip => Ok(Vec::new(alloc)),
     }
 }
 
@@ -325,8 +366,9 @@ pub fn answer_of<O: Outside>(
     let form = stepping.form;
     match command {
         Command::StateOf => state_of(alloc, session, form, argument_of(line)),
-        Command::Load => load(alloc, outside, session, form, argument_of(line)),
+        Command::Load => load(alloc, outside, session, stepping, argument_of(line)),
         Command::Save => save(alloc, outside, session, stepping, argument_of(line)),
-        command => Ok(Answer::Told(told(alloc, session, form, command)?)),
+        Command::Until => until(alloc, session, stepping, argument_of(line)),
+        command => Ok(Answer::Told(told(alloc, session, stepping, command)?)),
     }
 }

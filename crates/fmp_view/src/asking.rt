@@ -23,7 +23,7 @@ use std::alloc::{AllocError, Global};
 const NO_CODE: &str = "no code is printed so";
 
 /// The message for a file that would replace one that is read.
-const OUT_OVER_INPUT: &str = "the file OUT is one of the two that are read";
+const OUT_OVER_INPUT: &str = "the file OUT is one of those that are read";
 
 /// The message for files of a folder that would replace one that is read.
 const FILES_OVER_INPUT: &str = "a file of the folder DIR is one of the two that are read";
@@ -105,6 +105,8 @@ pub enum Asked<'a> {
     Calls(RunFiles<'a>),
     /// Take commands of standard input on the system of the texts of these files, with this bound, 1 to 2^48.
     Step(FileNames<'a>, Form, u64),
+    /// Serve an editor over standard input and output.
+    Serve,
     /// Print steps of an image: at most `events`, 0 to 2^20, in turn or at random.
     Drive {
         image: &'a str,
@@ -114,16 +116,16 @@ pub enum Asked<'a> {
     },
     /// Say what each task waits or spins for after an event of a run, by its number, or after the last one.
     Why(RunFiles<'a>, Option<u32>),
-    /// Say whether a run meets the expectations of the text of this file.
-    Expect(RunFiles<'a>, &'a str),
+    /// Say whether a run meets the expectations of the text of this file, strictly or not.
+    Expect(RunFiles<'a>, &'a str, bool),
     /// Show the first event in which two runs of a system differ.
     Diff(RunPair<'a>),
     /// Print the table of a run.
     Stats(RunFiles<'a>),
     /// Write a run to a file, for viewers of waveforms or of traces.
     Waves(RunFiles<'a>, &'a str, Format),
-    /// Write the picture of a run to a file.
-    Timeline(RunFiles<'a>, &'a str, Drawing),
+    /// Write the picture of a run to a file, with where its calls stand in the text of this file, if there is one.
+    Timeline(RunFiles<'a>, &'a str, Drawing, Option<&'a str>),
 }
 
 /// What a run is of.
@@ -248,6 +250,7 @@ fn running_of(words: &ArgMatches<'_>) -> Running {
     Running {
         form: form_of(words),
         calls: flag_of(words, "calls"),
+        places: flag_of(words, "places"),
         events: word32_of(words, "events").unwrap_or(0),
         seed: word64_of(words, "seed"),
         bound: bound_of(words),
@@ -274,6 +277,26 @@ fn run_asked<'a>(words: &ArgMatches<'a>) -> Asked<'a> {
     }
 }
 
+/// What `lsp` asks for, with no words.
+fn serve_asked<'a>(_words: &ArgMatches<'a>) -> Asked<'a> {
+    Asked::Serve
+}
+
+/// What `expect` asks for.
+fn expect_asked<'a>(words: &ArgMatches<'a>) -> Asked<'a> {
+    let run = run_of(words);
+    let text = behind_run(words, "EXPECT");
+    Asked::Expect(run, text, flag_of(words, "strict"))
+}
+
+/// What `timeline` asks for.
+fn timeline_asked<'a>(words: &ArgMatches<'a>) -> Asked<'a> {
+    let run = run_of(words);
+    let out = behind_run(words, "OUT");
+    let src = text_of(words, "src");
+    Asked::Timeline(run, out, drawing_of(words), src)
+}
+
 /// What a subcommand of this name other than `explore` asks for with its words.
 fn look_of<'m>(name: &str, words: &'m ArgMatches<'_>) -> Asked<'m> {
     match name {
@@ -283,6 +306,7 @@ fn look_of<'m>(name: &str, words: &'m ArgMatches<'_>) -> Asked<'m> {
         "fault" => Asked::Fault(names_of(words), form_of(words)),
         "run" => run_asked(words),
         "step" => Asked::Step(names_of(words), form_of(words), bound_of(words)),
+        "lsp" => serve_asked(words),
         "drive" => Asked::Drive {
             image: word_of(words, "IMAGE"),
             events: word32_of(words, "events").unwrap_or(0),
@@ -290,10 +314,10 @@ fn look_of<'m>(name: &str, words: &'m ArgMatches<'_>) -> Asked<'m> {
             bound: bound_of(words),
         },
         "why" => Asked::Why(run_of(words), word32_of(words, "at")),
-        "expect" => Asked::Expect(run_of(words), behind_run(words, "EXPECT")),
+        "expect" => expect_asked(words),
         "diff" => Asked::Diff(runs_of(words)),
         "stats" => Asked::Stats(run_of(words)),
-        "timeline" => Asked::Timeline(run_of(words), behind_run(words, "OUT"), drawing_of(words)),
+        "timeline" => timeline_asked(words),
         _ => Asked::Waves(run_of(words), behind_run(words, "OUT"), format_of(words)),
     }
 }

@@ -63,6 +63,10 @@ const EVENTS: &str = "How many events are done at most, 0 to 2^20";
 const CALLS: &str =
     "Print a table in place of the trace: who made which call, how often, and what was answered";
 
+/// What the places of calls are.
+const PLACES: &str =
+    "Print where each call stands in SRC, its line and column; with --json it always is";
+
 /// What a seed is.
 const SEED: &str = "Order of processors at random by this number, with ticks and interrupts between;
 without it they run in turn, and the clock ticks where all are idle";
@@ -82,13 +86,24 @@ const EXPECT: &str = "Text of expectations, one a line, with comments from # on:
   never E_QOVR
   put(7) by LOGGER before put(9) by FILTER
   LOGGER runs within 3 ticks of int 4
+  between put(1) and put(2) one at a time
+  always LEVEL < 5 or LOGGER is READY
   end DORMANT MAIN";
+
+/// What strict expectations are.
+const STRICT: &str =
+    "Fail an expectation that says nothing of the run, since what it speaks of never happens";
+
+/// The text whose places a picture shows.
+const PLACED: &str =
+    "Task text of IMAGE: what is pointed at shows where its call stands there, its line and column";
 
 /// The commands of a session.
 const LINES: &str = "Commands, one a line of standard input:
   run P [xK]   processor P goes on, to its next service call; K times, or until it does nothing
   tick [K]     the clock advances, K times
   int N [xK]   interrupt N is raised; N may be the body of its handler
+  until DEED   all goes on until put(7), E_TMOUT or F_OVF happens; 'by TASK' may stand behind it
   back [K]     the last event is taken back, or the last K
   why          what each task waits or spins for, as 'fmp_view why' says it
   state [X]    the states of the tasks, or that of the task or object X
@@ -98,6 +113,11 @@ const LINES: &str = "Commands, one a line of standard input:
   quit         the end, as the end of the input is
 
 Example: fmp_view step examples/queue.cfg examples/queue.src";
+
+/// What a server does.
+const SERVED: &str =
+    "An editor starts it, as editors/README.md says. It serves CFG and SRC of one name and folder that
+are open there: what 'fmp_view fault' says of them, hover, completion, definition, references, rename, symbols";
 
 /// The formats of `waves`.
 const FORMAT: &str = "A value change dump, for viewers of waveforms; a trace for Perfetto;
@@ -208,6 +228,7 @@ static RUN: CommandForm = CommandForm {
         ),
         RECORDED,
         JSON,
+        Argument("places", ArgumentKind::FlagWithout("recording"), PLACES),
         Argument("calls", ArgumentKind::FlagWithout("json"), CALLS),
         AT_MOST,
         AT_RANDOM,
@@ -221,6 +242,13 @@ static STEP: CommandForm = CommandForm {
     about: "Takes events one by one as they are typed, and tells what each of them does",
     arguments: &[CFG, SRC, JSON, BOUNDED],
     example: LINES,
+};
+
+static LSP: CommandForm = CommandForm {
+    name: "lsp",
+    about: "Serves an editor over standard input and output, by the Language Server Protocol",
+    arguments: &[],
+    example: SERVED,
 };
 
 static DRIVE: CommandForm = CommandForm {
@@ -310,6 +338,7 @@ static EXPECTED: CommandForm = CommandForm {
         RECORDED,
         BOUNDED,
         Argument("EXPECT", ArgumentKind::WordNoRecording, EXPECT),
+        Argument("strict", ArgumentKind::Flag, STRICT),
     ],
     example: "Example: fmp_view expect queue.img drive.steps queue.expect",
 };
@@ -362,6 +391,7 @@ static TIMELINE: CommandForm = CommandForm {
             ArgumentKind::Option("K", OptionValue::Number(0, EVENTS_MAX as u64)),
             TO,
         ),
+        Argument("src", ArgumentKind::TextWithout("SRC", "recording"), PLACED),
         Argument(
             "objects",
             ArgumentKind::Flag,
@@ -407,14 +437,18 @@ fn bare<'a>(alloc: Global) -> Command<'a> {
         .arg_required_else_help(true)
 }
 
+/// The commands.
+pub fn forms() -> [&'static CommandForm; 15] {
+    [
+        &CODE, &FAULT, &RUN, &STEP, &LSP, &DRIVE, &WHY, &EXPLORE, &DIFF, &EXPECTED, &STATS, &WAVES,
+        &TIMELINE, &EXPORT, &IMPORT,
+    ]
+}
+
 /// The whole command line.
 pub fn program<'a>(alloc: Global) -> Made<'a> {
-    let forms = [
-        &CODE, &FAULT, &RUN, &STEP, &DRIVE, &WHY, &EXPLORE, &DIFF, &EXPECTED, &STATS, &WAVES,
-        &TIMELINE, &EXPORT, &IMPORT,
-    ];
     let mut program = bare(alloc);
-    for form in forms {
+    for form in forms() {
         program = program.subcommand(command_of(alloc, form)?)?;
     }
     Ok(program)

@@ -5,8 +5,8 @@ use fmp_session::{LineMistake, word_of};
 use std::alloc::{AllocError, Global};
 
 /// The words that commands begin with.
-const WORDS: [&str; 10] = [
-    "run", "tick", "int", "back", "why", "state", "load", "save", "help", "quit",
+const WORDS: [&str; 11] = [
+    "run", "tick", "int", "until", "back", "why", "state", "load", "save", "help", "quit",
 ];
 
 /// The names of the commands.
@@ -66,6 +66,9 @@ fn wanted_text(
             format!(in alloc; "`{word}` wants how many events, 1 to 1048576, or nothing")
         }
         LineMistake::Name => format!(in alloc; "`{word}` wants the name of a file"),
+        LineMistake::Deed => format!(in alloc;
+            "`{word}` wants a deed: a code as E_QOVR, a value as put(7), or a fault as F_IDX"
+        ),
     }
 }
 

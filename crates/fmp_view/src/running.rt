@@ -10,26 +10,24 @@ use crate::asking::{
 };
 use crate::exporting::run_export;
 use crate::importing::run_import;
+use crate::refusing::refuse_form;
 use crate::targeting::run_target;
 use crate::telling::{print_made, print_run};
 use crate::texts::{run_step, run_texts};
 use clap::ArgMatches;
-use fmp_engine::SimFault;
-use fmp_files::{Failure, Outside, end, print, read_file, refuse, refuse_mistake, write_file};
+use fmp_files::{Device, Failure, Outside, end, print, read_file, refuse_mistake, write_file};
 use fmp_looking::{
     Drawing, DrivenText, Expectations, Format, Picture, PictureCut, RunLook, RunOutput, Stats,
-    Titled, ViewExit, Why, code, diff, diff_recordings, look_at_image, look_at_recording, steps,
+    Titled, ViewExit, Why, code, diff, diff_recordings, exit_over, look_at_image,
+    look_at_recording, places_of_run, steps,
 };
+use fmp_places::CallPlace;
 use fmp_searching::{print_fault, read_both, run_explore};
+use fmp_server::serve;
 use fmp_warnings::Form;
 use std::alloc::{AllocError, Global};
 use std::io::{Input, IsTerminal};
 use std::rt::Files;
-
-/// What was made of files, or the fault of what was read.
-fn or_fault<T>(made: Result<T, SimFault>) -> Result<T, ViewExit> {
-    made.map_err(|fault| ViewExit::Sim(fault))
-}
 
 /// What a drive prints, and how it ended.
 fn driven_steps<O: Outside>(
@@ -41,7 +39,10 @@ fn driven_steps<O: Outside>(
     bound: u64,
 ) -> Result<DrivenText, ViewExit> {
     let image = read_file(alloc, outside, image, None)?;
-    or_fault(steps(alloc, &image, events, seed, bound))
+    match steps(alloc, &image, events, seed, bound) {
+        Ok(driven) => Ok(driven),
+        Err(fault) => Err(exit_over(alloc, fault, &image)),
+    }
 }
 
 /// Prints steps that run an image, and says how their drive ended.
@@ -89,6 +90,14 @@ fn write<O: Outside>(alloc: Global, outside: &mut O, out: &str, bytes: &[u8]) ->
 fn is_read<O: Outside>(outside: &O, out: &str, run: RunFiles<'_>) -> bool {
     let (one, other) = run.files();
     outside.is_one_file(out, one) || outside.is_one_file(out, other)
+}
+
+/// Whether a file is this one, if one is given.
+fn is_this_file<O: Outside>(outside: &O, out: &str, file: Option<&str>) -> bool {
+    match file {
+        Some(file) => outside.is_one_file(out, file),
+        None => false,
+    }
 }
 
 /// A run in a format for viewers.
@@ -166,9 +175,14 @@ fn failure_of<O: Outside>(
     outside: &O,
     run: RunFiles<'_>,
     name: &str,
+    strict: bool,
 ) -> Result<Option<Vec<u8>>, ViewExit> {
     let text = read_file(alloc, outside, name, None)?;
-    let expectations = Expectations { name, text: &text };
+    let expectations = Expectations {
+        name,
+        text: &text,
+        strict,
+    };
     made_of_run(alloc, outside, run, &expectations)
 }
 
@@ -201,8 +215,14 @@ fn print_stats<O: Outside>(alloc: Global, outside: &mut O, run: RunFiles<'_>) ->
 }
 
 /// Prints which expectation a run fails, with status 4 if it fails one.
-fn print_failure<O: Outside>(alloc: Global, outside: &mut O, run: RunFiles<'_>, name: &str) -> u8 {
-    let made = failure_of(alloc, outside, run, name);
+fn print_failure<O: Outside>(
+    alloc: Global,
+    outside: &mut O,
+    run: RunFiles<'_>,
+    name: &str,
+    strict: bool,
+) -> u8 {
+    let made = failure_of(alloc, outside, run, name, strict);
     print_difference(alloc, outside, made)
 }
 
@@ -226,16 +246,46 @@ fn print_calls<O: Outside>(alloc: Global, outside: &mut O, run: RunFiles<'_>) ->
     print_made(alloc, outside, made)
 }
 
-/// The picture of a run.
+/// Where the calls of a run stand in the text of a file; nothing where none is given, and of a recording.
+fn places_in<O: Outside>(
+    alloc: Global,
+    outside: &O,
+    run: RunFiles<'_>,
+    src: Option<&str>,
+) -> Result<Vec<Option<CallPlace>>, ViewExit> {
+    match (run, src) {
+        (
+            RunFiles::Steps {
+                image,
+                steps,
+                bound,
+            },
+            Some(src),
+        ) => {
+            let src = read_file(alloc, outside, src, None)?;
+            let (image, steps) = read_both(alloc, outside, image, steps)?;
+            places_of_run(alloc, &image, &steps, &src, bound)
+        }
+        _ => Ok(Vec::new(alloc)),
+    }
+}
+
+/// The picture of a run, with where its calls stand in the text of a file, if there is one.
 fn run_timeline<O: Outside>(
     alloc: Global,
     outside: &O,
     run: RunFiles<'_>,
     drawing: Drawing,
+    src: Option<&str>,
 ) -> Result<Picture, ViewExit> {
     let (system, _) = run.files();
-    let title = title_of(system).as_bytes();
-    made_of_run(alloc, outside, run, &Titled { title, drawing })
+    let places = places_in(alloc, outside, run, src)?;
+    let titled = Titled {
+        title: title_of(system).as_bytes(),
+        drawing,
+        places: &places,
+    };
+    made_of_run(alloc, outside, run, &titled)
 }
 
 /// Says which events a picture has, where it has not all that were asked for.
@@ -259,14 +309,15 @@ fn write_timeline<O: Outside>(
     run: RunFiles<'_>,
     out: &str,
     drawing: Drawing,
+    src: Option<&str>,
 ) -> u8 {
-    if is_read(outside, out, run) {
+    if is_read(outside, out, run) || is_this_file(outside, out, src) {
         return refuse_mistake(outside, picture_over_input(alloc));
     }
     if drawing.choice.first > drawing.choice.last {
         return refuse_mistake(outside, picture_of_nothing(alloc));
     }
-    match run_timeline(alloc, outside, run, drawing) {
+    match run_timeline(alloc, outside, run, drawing, src) {
         Ok(picture) => {
             say_cut(outside, picture.cut);
             write(alloc, outside, out, &picture.bytes)
@@ -281,6 +332,12 @@ fn say_code<O: Outside>(alloc: Global, outside: &mut O, word: &str) -> u8 {
         Ok(None) => refuse_mistake(outside, no_code(alloc, word)),
         Err(_) => end(outside, &Failure::Memory(AllocError)),
     }
+}
+
+/// Serves an editor over standard input and standard output, and gives the status.
+fn run_server<O: Outside, R: Input>(alloc: Global, outside: &mut O, rt: &R) -> u8 {
+    let mut source = Device::new(rt.reader());
+    serve(alloc, outside, &mut source)
 }
 
 /// Looks at a system or at a run, and gives the status.
@@ -298,6 +355,7 @@ where
         Asked::Target(targeting) => run_target(alloc, outside, rt, targeting),
         Asked::Import(importing) => run_import(alloc, outside, importing),
         Asked::Step(names, form, bound) => run_step(alloc, outside, rt, names, form, bound),
+        Asked::Serve => run_server(alloc, outside, rt),
         Asked::Code(word) => say_code(alloc, outside, word),
         Asked::Fault(names, form) => print_fault(alloc, outside, names, form),
         Asked::Run(names, run) => run_texts(alloc, outside, names, run),
@@ -310,11 +368,13 @@ where
             bound,
         } => run_drive(alloc, outside, image, events, seed, bound),
         Asked::Why(run, at) => print_why(alloc, outside, run, at),
-        Asked::Expect(run, name) => print_failure(alloc, outside, run, name),
+        Asked::Expect(run, name, strict) => print_failure(alloc, outside, run, name, strict),
         Asked::Diff(runs) => print_diff(alloc, outside, runs),
         Asked::Stats(run) => print_stats(alloc, outside, run),
         Asked::Waves(run, out, format) => write_waves(alloc, outside, run, out, format),
-        Asked::Timeline(run, out, drawing) => write_timeline(alloc, outside, run, out, drawing),
+        Asked::Timeline(run, out, drawing, src) => {
+            write_timeline(alloc, outside, run, out, drawing, src)
+        }
     }
 }
 
@@ -362,6 +422,6 @@ where
 {
     match parsed(alloc, words) {
         Ok(words) => carry_out(alloc, outside, rt, &words),
-        Err(error) => refuse(alloc, outside, &error),
+        Err(error) => refuse_form(alloc, outside, &error),
     }
 }

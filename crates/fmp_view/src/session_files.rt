@@ -39,7 +39,7 @@ fn no_file(failure: Failure) -> Result<Answer, AllocError> {
 fn take_all(
     alloc: Global,
     session: &mut Session<'_>,
-    form: Form,
+    stepping: Stepping<'_>,
     events: &[Event],
 ) -> Result<Vec<u8>, AllocError>
     requires { IsSession session.old }
@@ -47,7 +47,7 @@ fn take_all(
 {
     let mut out = Vec::new(alloc);
     for e in events {
-        take_one(alloc, session, form, *e, &mut out)?;
+        take_one(alloc, session, stepping, *e, &mut out)?;
     }
     Ok(out)
 }
@@ -57,7 +57,7 @@ fn take_all(
 fn take_events(
     alloc: Global,
     session: &mut Session<'_>,
-    form: Form,
+    stepping: Stepping<'_>,
     events: &[Event],
 ) -> Result<Answer, AllocError>
     requires { IsSession session.old }
@@ -67,7 +67,7 @@ fn take_events(
     if events.len() > (EVENTS_MAX as usize).saturating_sub(session.events().len()) {
         return refused(alloc, TOO_MANY);
     }
-    Ok(Answer::Told(take_all(alloc, session, form, events)?))
+    Ok(Answer::Told(take_all(alloc, session, stepping, events)?))
 }
 
 /// Takes the events of the steps text of a file of this name, if it has no fault.
@@ -75,7 +75,7 @@ fn take_events(
 fn take_text(
     alloc: Global,
     session: &mut Session<'_>,
-    form: Form,
+    stepping: Stepping<'_>,
     name: &str,
     text: &[u8],
 ) -> Result<Answer, AllocError>
@@ -84,7 +84,7 @@ fn take_text(
     ensures leaves { IfOk result (Leaves session.old session.new) }
 {
     match events_of(alloc, text, session.image().system().processors) {
-        Ok(events) => take_events(alloc, session, form, &events),
+        Ok(events) => take_events(alloc, session, stepping, &events),
         Err(SimFault::Memory) => Err(AllocError),
         Err(fault) => Ok(Answer::Refused(format!(in alloc; "{name}: {fault}")?)),
     }
@@ -96,7 +96,7 @@ pub fn load<O: Outside>(
     alloc: Global,
     outside: &O,
     session: &mut Session<'_>,
-    form: Form,
+    stepping: Stepping<'_>,
     name: &[u8],
 ) -> Result<Answer, AllocError>
     requires { IsSession session.old }
@@ -107,7 +107,7 @@ pub fn load<O: Outside>(
         return refused(alloc, NOT_UTF8);
     };
     match read_file(alloc, outside, name, None) {
-        Ok(text) => take_text(alloc, session, form, name, &text),
+        Ok(text) => take_text(alloc, session, stepping, name, &text),
         Err(failure) => no_file(failure),
     }
 }

@@ -1,5 +1,5 @@
 //! A session over the system of two texts: commands that are typed or sent one by one, and what each of them answers.
-ghost use Rattle.std.specs.Prelude.{◌≡◌, IfOk};
+ghost use Rattle.std.specs.Prelude.{◌≡◌, IfOk, None};
 ghost use Rattle.fmp_session.specs.Sessions.{IsSession};
 ghost use Rattle.fmp_view.specs.Stepped.{last_lines};
 
@@ -222,10 +222,10 @@ fn ask<O: Outside>(outside: &mut O, stepping: Stepping<'_>, text: &'static str) 
 /// The lines of setup, with which a session begins.
 fn first_text(alloc: Global, session: &Session<'_>, form: Form) -> Result<Vec<u8>, AllocError>
     requires { IsSession session.now }
-    ensures { IfOk result (λ out. out.items ≡ last_lines form session.now.kernel) }
+    ensures { IfOk result (λ out. out.items ≡ last_lines form None session.now.kernel) }
 {
     let mut out = Vec::new(alloc);
-    append_last(alloc, session, form, &mut out)?;
+    append_last(alloc, session, form, None, &mut out)?;
     Ok(out)
 }
 

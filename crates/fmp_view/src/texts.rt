@@ -10,6 +10,7 @@ use fmp_image::build;
 use fmp_image_bytes::Image;
 use fmp_lex::BuildFault;
 use fmp_looking::{NoTrace, Running, Traced, traced_texts};
+use fmp_places::CallPlaces;
 use fmp_searching::{print_fault, read_both};
 use fmp_session::NamedInterrupt;
 use fmp_warnings::{FileNames, Form};
@@ -87,12 +88,13 @@ fn interrupts_in(alloc: Global, cfg: &[u8]) -> Result<Vec<NamedInterrupt>, Alloc
     }
 }
 
-/// Takes commands of standard input on an image whose configuration this is, and gives the status.
+/// Takes commands of standard input on the image of these two texts, and gives the status.
 fn step_status<O: Outside, R: Input>(
     alloc: Global,
     outside: &mut O,
     rt: &R,
-    (image, cfg): (&Image, &[u8]),
+    image: &Image,
+    (cfg, src): (&[u8], &[u8]),
     (names, form): (FileNames<'_>, Form),
     bound: u64,
 ) -> Result<u8, AllocError>
@@ -100,10 +102,12 @@ where
     R::Reader: IsTerminal,
 {
     let interrupts = interrupts_in(alloc, cfg)?;
+    let places = CallPlaces::new(alloc, src)?;
     let stepping = Stepping {
         names,
         form,
         interrupts: &interrupts,
+        places: &places,
         terminal: rt.reader().is_terminal(),
     };
     step_image(alloc, outside, rt, image, stepping, bound)
@@ -123,7 +127,7 @@ where
 {
     match build(alloc, cfg, src) {
         Ok(image) => {
-            let status = step_status(alloc, outside, rt, (&image, cfg), (names, form), bound);
+            let status = step_status(alloc, outside, rt, &image, (cfg, src), (names, form), bound);
             drop(image);
             match status {
                 Ok(status) => status,
