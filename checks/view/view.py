@@ -108,7 +108,7 @@ class Bench:
     """What all rows use: the programs, and the files that rows name with their images."""
 
     def __init__(self, folder, view, fmp):
-        self.folder, self.view = Path(folder), view
+        self.folder, self.view = Path(folder), Path(folder) / "fmp_view"  # run by this name, whatever its file's
         for name, path in (("fmp_view", view), ("fmp", fmp)):
             (self.folder / name).symlink_to(path)
         self.environment = {"PATH": f"{folder}:{HERE}:{os.environ['PATH']}", "LC_ALL": "C", "root": str(ROOT)}
