@@ -46,7 +46,7 @@ SRC = """task run {
 handler beat { isig_sem(SEM); iact_tsk(OTHER); }
 task spare { var OTHERS; put(MAIN); sig_sem(SEM); }
 """
-FOLDER = "file:///tmp/a%20b/"
+FOLDER = "file:///systems/a%20b/"
 OWN = {  # sentences of the tables that point to another row, and what stands for them
     "the task's priority": "gives the priority of a task",
     "unlocks it": "unlocks the CPU of the caller's processor",

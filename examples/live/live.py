@@ -1,5 +1,5 @@
 #!/usr/bin/env python3
-"""Runs a system by the clock, in a session of `fmp_view step --json`: the clock of the system ticks every so many
+"""Runs a system by the clock, in a session of `fmp_view step --json`: the clock of the system ticks every N
 microseconds, and each line `int N` of standard input raises an interrupt, by its number or by the body of its handler.
 
     live.py [--tick-us N] [--ticks K] [--view VIEW] CFG SRC
@@ -86,7 +86,7 @@ def lines_until(lines, due):
 
 
 def run(session, lines, period, most):
-    """Runs a session by the clock, for so many ticks or up to the end of the lines: how many ticks there were."""
+    """Runs a session by the clock, for N ticks or up to the end of the lines: how many ticks there were."""
     due = time.monotonic() + period
     session.take("state", due)  # what setup has activated goes on
     ticks = 0
