@@ -18,6 +18,11 @@ def located(crate, path=None):
     return path
 
 
+def unmarked(text):
+    """What a program prints, without the mark at the end of a claim of one that `make quick` has built."""
+    return text.replace(", proved=no\n", "\n")
+
+
 def program_of_words(about, crate):
     """The program of a script whose command line may name it, and has no other words."""
     parser = argparse.ArgumentParser(description=about)

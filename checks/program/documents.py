@@ -15,16 +15,15 @@ leaves them. The first word behind the fence says what a block is, and how it is
     faults cfg|src|steps|image       rows `TEXT -> FAULT`
     console                          commands behind `$ `, each with what it prints, in a copy of examples/ and of the
                                      systems of checks/schedules/
-    rust FILE, c FILE                code of this file of crates/, of examples/c/, as it stands there; its blocks are
-                                     the whole file
+    rust FILE                        code of this file of crates/, as it stands there; its blocks are the whole file
     bytes                            the image of the last system of blocks, in hexadecimal digits
     grammar, sh                      not checked: rules of a grammar, and commands of the toolchain
 
 In a row `[N times: PIECE]` stands for N pieces, with the numbers from 1 in place of `#`, and `\\n` for a line
-feed. The reference's table of contexts is tried with each call that its other tables tell, in each context. Each name
-of code in docs/PROVED.md, and each file in docs/MAP.md, is one that the repository has, and each crate is told in both.
-The kit that README.md and docs/PROVED.md name is what `rt version` prints, but for the letter of the kit. Each file of
-the checks is told in checks/README.md, and each file that is told there is one.
+feed. The constants of the reference's table are tried, and its table of contexts with each call that its other tables
+tell, in each context. Each name of code in docs/PROVED.md, and each file in docs/MAP.md, is one that the repository
+has, and each crate is told in both. The kit that README.md and docs/PROVED.md name is what `rt version` prints, but for
+the letter of the kit. Each file of the checks is told in checks/README.md, and each file that is told there is one.
 """
 
 import argparse
@@ -39,7 +38,7 @@ from pathlib import Path
 sys.dont_write_bytecode = True  # the folders of the checks stay as they are
 sys.path[0] = str(Path(__file__).resolve().parents[1])  # the folder `checks`, whose folders are packages
 
-from common.program import ROOT, located  # noqa: E402
+from common.program import ROOT, located, unmarked  # noqa: E402
 from common.repeats import expanded  # noqa: E402
 from common.tally import Tally  # noqa: E402
 
@@ -72,7 +71,7 @@ class Program:
 
     def shell(self, command):
         done = subprocess.run(command, cwd=self.room, shell=True, capture_output=True, env=self.environment)
-        return (done.stdout + done.stderr).decode().rstrip("\n")
+        return unmarked((done.stdout + done.stderr).decode()).rstrip("\n")
 
     def write(self, name, text):
         (self.room / name).write_bytes(text if isinstance(text, bytes) else text.encode())
@@ -266,11 +265,23 @@ class Checker:
     # Rows
 
     def check_values(self, line, info, text):
-        cfg = "NUM_PRC(1); CLASS(TCL_1) { CRE_TSK(T,{TA_ACT,5,t,1,256,NULL}); CRE_SEM(S,{0,0,1}); CRE_SEM(R,{0,0,1}); }"
         for expression, value in rows(text):
-            trace = self.program.trace(cfg, f"task t {{ put({expression}); }}", "run 1\n").split("\n")
-            got = re.sub(r"^1 p1 T (?:put\((.*)\) E_OK)?", r"\1", trace[2]).strip() if len(trace) > 2 else trace[0]
-            self.verdict(line, expression, value, got)
+            self.value(line, expression, value)
+
+    def value(self, line, expression, value):
+        cfg = "NUM_PRC(1); CLASS(TCL_1) { CRE_TSK(T,{TA_ACT,5,t,1,256,NULL}); CRE_SEM(S,{0,0,1}); CRE_SEM(R,{0,0,1}); }"
+        trace = self.program.trace(cfg, f"task t {{ put({expression}); }}", "run 1\n").split("\n")
+        got = re.sub(r"^1 p1 T (?:put\((.*)\) E_OK)?", r"\1", trace[2]).strip() if len(trace) > 2 else trace[0]
+        self.verdict(line, expression, value, got)
+
+    def constants(self):
+        """The constants of the reference's table have its values."""
+        self.document = "docs/LANGUAGE.md"
+        table = (ROOT / self.document).read_text().partition("The **constants**")[2].partition("\n\n")[2]
+        found = re.findall(r"`(\w+)` \| (-?\d+) \|", table.partition("\n\n")[0])
+        self.verdict(0, "at least 30 constants", True, len(found) >= 30)
+        for constant, value in found:
+            self.value(0, constant, value)
 
     def answers(self, statements, by_handler):
         """What the caller of these statements is answered in the bench, or the fault of the texts."""
@@ -346,12 +357,7 @@ class Checker:
             command, wanted = row[2:], []
 
     def check_rust(self, line, info, text):
-        self.code(line, ROOT / "crates" / info, text)
-
-    def check_c(self, line, info, text):
-        self.code(line, ROOT / "examples/c" / info, text)
-
-    def code(self, line, path, text):
+        path = ROOT / "crates" / info
         stands = path.is_file() and f"\n{text}" in f"\n{path.read_text()}"
         self.verdict(line, f"code of {path.name}", True, stands)
         self.files.setdefault(path, []).append(text)
@@ -381,6 +387,7 @@ def main():
             checker.begin(document)
             for block in blocks(ROOT / document):
                 checker.block(*block)
+        checker.constants()
         checker.contexts()
     checker.whole()
     checker.names()

@@ -59,10 +59,22 @@ def installed(name):
 
 @dataclass
 class Item:
-    """A command, argument or option: how it is written, and what help says of it."""
+    """A command, argument or option: how it is written, what help says of it, and the example below that, if any: the
+    lines that stand deeper than its text does."""
 
     form: str
     text: str
+    column: int = 0
+    example: list = field(default_factory=list)
+
+    def go_on(self, line):
+        """Takes the next line that is said of it."""
+        indent = len(line) - len(line.lstrip())
+        self.column = self.column or indent
+        if indent > self.column:
+            self.example.append("  " + line.strip())
+        else:
+            self.text = f"{self.text} {line.strip()}".strip()
 
     def names(self):
         """The names of an option, such as `-h` and `--help`."""
@@ -96,11 +108,11 @@ def read_help(text):
         elif section == "about":
             read.about = f"{read.about} {line.strip()}".strip()
         elif section in SECTIONS and line.startswith(" " * 7) and read.items[section]:
-            last = read.items[section][-1]
-            last.text = f"{last.text} {line.strip()}".strip()
+            read.items[section][-1].go_on(line)
         elif section in SECTIONS and line.startswith("  "):
             form, _, said = line.strip().partition("  ")
-            read.items[section].append(Item(form, said.strip()))
+            said = said.strip()
+            read.items[section].append(Item(form, said, line.rindex(said) if said else 0))
         elif section in SECTIONS and not line:
             pass
         else:
@@ -144,7 +156,7 @@ def roff(text):
 
 def listed(items):
     for item in items:
-        yield from (".TP", f"\\fB{roff(item.form)}\\fR", roff(item.text))
+        yield from (".TP", f"\\fB{roff(item.form)}\\fR", roff(item.text), *map(roff, item.example))
 
 
 def as_it_stands(lines):

@@ -22,7 +22,7 @@ from pathlib import Path
 sys.dont_write_bytecode = True  # the folders of the checks stay as they are
 sys.path[0] = str(Path(__file__).resolve().parents[1])  # the folder `checks`, whose folders are packages
 
-from common.program import ROOT, located  # noqa: E402
+from common.program import ROOT, located, unmarked  # noqa: E402
 from common.tally import Tally  # noqa: E402
 from program.documents import blocks  # noqa: E402
 
@@ -48,7 +48,7 @@ class Walk:
         """The status of a command, and what it prints."""
         how = {"stdout": subprocess.PIPE, "stderr": subprocess.STDOUT, "text": True, "env": self.environment}
         done = subprocess.run(list(map(str, words)), cwd=self.room, **how)
-        return done.returncode, done.stdout
+        return done.returncode, unmarked(done.stdout)
 
     def install(self, program, view, library):
         """Installs them; whether the library for C is there."""

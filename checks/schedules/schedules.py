@@ -26,7 +26,7 @@ from pathlib import Path
 sys.dont_write_bytecode = True  # the folders of the checks stay as they are
 sys.path[0] = str(Path(__file__).resolve().parents[1])  # the folder `checks`, whose folders are packages
 
-from common.program import ROOT, located  # noqa: E402
+from common.program import ROOT, located, unmarked  # noqa: E402
 from common.services import SERVICES  # noqa: E402
 from common.tally import Tally  # noqa: E402
 
@@ -263,7 +263,7 @@ class Search:
     def run(self, *words):
         """What a program ends with and prints."""
         done = subprocess.run(words, cwd=self.folder, capture_output=True, text=True, check=False, timeout=SECONDS)
-        return done.returncode, done.stdout
+        return done.returncode, unmarked(done.stdout)
 
     def words(self):
         """The words of the search."""
@@ -501,7 +501,7 @@ def try_memory(tally, programs):
             done = subprocess.run(search.words(), cwd=folder, capture_output=True, text=True, check=False,
                                   timeout=SECONDS, preexec_fn=within(kilobytes))
             said = done.stderr.splitlines(keepends=True)
-            kinds.append(kind_of(search, done.returncode, done.stdout, said[-1] if said else ""))
+            kinds.append(kind_of(search, done.returncode, unmarked(done.stdout), said[-1] if said else ""))
     order = [kind for kind, _ in itertools.groupby(kinds)]
     tally.verdict("rwnever, with less and less memory", ["found", "not looked for", "stopped"], order[:3])
     tally.verdict("rwnever, with least memory", [], [kind for kind in order[3:] if kind not in ("stopped", "memory")])

@@ -42,7 +42,7 @@ from pathlib import Path
 sys.dont_write_bytecode = True  # the folders of the checks stay as they are
 sys.path[0] = str(Path(__file__).resolve().parents[1])  # the folder `checks`, whose folders are packages
 
-from common.program import ROOT, located  # noqa: E402
+from common.program import ROOT, located, unmarked  # noqa: E402
 
 HERE = Path(__file__).resolve().parent
 SECONDS = 300  # a run that takes longer has failed
@@ -144,7 +144,7 @@ class Bench:
 
 
 def shown(text):
-    return text.decode(errors="backslashreplace")
+    return unmarked(text.decode(errors="backslashreplace"))
 
 
 def files(folder):
