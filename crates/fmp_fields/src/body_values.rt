@@ -106,7 +106,7 @@ pub fn row_of<'a, B: Body<Ctx = MachineContext>>(
 }
 
 /// A number of those that a body keeps; 0 if there is no such one.
-fn number_at(values: &[i32; 64], i: u8) -> u32
+pub fn number_at(values: &[i32; 64], i: u8) -> u32
     ensures { result ≡ numbers.unsigned (get_or values.now i (pos 0)) }
 {
     match values.get(usize::from(i)) {
@@ -127,7 +127,7 @@ fn is_live(row: &[bool], l: u8) -> bool
 
 /// A local; 0 if a row calls it dead, or there is no such one.
 #[tactic(auto, using(crate::proofs::ZeroedBodies::local_dead, crate::proofs::ZeroedBodies::local_live))]
-fn local_at(row: &[bool], locals: &[i32; 64], l: u8) -> u32
+pub fn local_at(row: &[bool], locals: &[i32; 64], l: u8) -> u32
     ensures { result ≡ numbers.unsigned (get_or (zeroed_by row.now locals.now) l (pos 0)) }
 {
     if is_live(row, l) {

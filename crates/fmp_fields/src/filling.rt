@@ -12,6 +12,17 @@ use std::alloc::{AllocError, Global};
 /// How many interrupts there are.
 const INTERRUPTS: usize = 32;
 
+/// How many fields the block of a task has.
+const BLOCK: usize = 10;
+
+/// A context in which nothing was done.
+const EMPTY: MachineContext = MachineContext {
+    pc: 0,
+    count: 0,
+    locals: [0; 64],
+    operands: [0; 64],
+};
+
 /// A saved state that is filled by one row after the other, and keeps its room.
 #[derive(Drop)]
 pub struct SavedRow {
@@ -79,20 +90,56 @@ fn put_number(context: &mut MachineContext, what: What, number: u32) -> bool {
     true
 }
 
-/// The context whose fields these begin with, each with its number.
-fn context_of(fields: &[What], numbers: &[u32]) -> MachineContext {
-    let mut context = MachineContext {
-        pc: half_of(number_at(numbers, 0)),
-        count: 0,
-        locals: [0; 64],
-        operands: [0; 64],
-    };
-    for at in 1..fields.len().min(numbers.len()) {
-        if !put_number(&mut context, fields[at], numbers[at]) {
-            return context;
+/// Puts the numbers of the fields of a body, with which these begin, into its context. Gives how many these are.
+fn fill_context(context: &mut MachineContext, fields: &[What], numbers: &[u32]) -> usize {
+    context.pc = half_of(number_at(numbers, 0));
+    let count = fields.len().min(numbers.len());
+    for at in 1..count {
+        if !put_number(context, fields[at], numbers[at]) {
+            return at;
         }
     }
-    context
+    count
+}
+
+/// Puts the numbers of the fields of a body, with which these begin, into the context that is there, or else into a
+/// new one. Gives how many these are.
+fn fill_started(context: &mut Option<MachineContext>, fields: &[What], numbers: &[u32]) -> usize {
+    if context.is_none() {
+        *context = Some(EMPTY);
+    }
+    match context {
+        Some(context) => fill_context(context, fields, numbers),
+        None => 1,
+    }
+}
+
+/// The same of a body that goes on, or awaits a reply. Else there is no context.
+fn fill_body(
+    context: &mut Option<MachineContext>,
+    goes: bool,
+    fields: &[What],
+    numbers: &[u32],
+) -> usize {
+    if goes {
+        return fill_started(context, fields, numbers);
+    }
+    *context = None;
+    1
+}
+
+/// The same of the body at a place, where the contexts stand.
+fn fill_at(
+    contexts: &mut [Option<MachineContext>],
+    place: u8,
+    goes: bool,
+    fields: &[What],
+    numbers: &[u32],
+) -> usize {
+    match contexts.get_mut(usize::from(place)) {
+        Some(context) => fill_body(context, goes, fields, numbers),
+        None => 1,
+    }
 }
 
 /// What is behind a place, with 1 added; 0 if nothing is.
@@ -128,8 +175,6 @@ impl SavedRow {
 
     /// Forgets what was saved last.
     fn clear(&mut self) -> Result<(), AllocError> {
-        self.saved.contexts.tasks.clear();
-        self.saved.contexts.handlers.clear();
         self.behind.clear();
         self.is_behind.clear();
         self.first_messages.clear();
@@ -137,24 +182,41 @@ impl SavedRow {
         clear_state(&mut self.saved.state)
     }
 
-    /// Takes the context of a task whose block was taken last.
-    fn take_task(&mut self, fields: &[What], numbers: &[u32]) -> Result<(), AllocError> {
-        let context = match self.saved.state.blocks.last() {
-            Some(block) if !is_dormant(block) => Some(context_of(fields, numbers)),
-            _ => None,
-        };
-        self.saved.contexts.tasks.push(context)?;
-        Ok(())
+    /// Takes the block of a task. Gives how many fields it has.
+    fn take_block(&mut self, numbers: &[u32]) -> Result<usize, AllocError> {
+        self.saved.state.blocks.push(block_of(numbers))?;
+        Ok(BLOCK)
     }
 
-    /// Takes the context of the handler of a processor that was taken last.
-    fn take_handler(&mut self, fields: &[What], numbers: &[u32]) -> Result<(), AllocError> {
-        let context = match self.saved.state.processors.last() {
-            Some(cpu) if cpu.handler.is_some() => Some(context_of(fields, numbers)),
-            _ => None,
+    /// Takes the context of a task whose block was taken last. Gives how many fields it has.
+    fn take_task(&mut self, t: u8, fields: &[What], numbers: &[u32]) -> Result<usize, AllocError> {
+        let goes = match self.saved.state.blocks.last() {
+            Some(block) => !is_dormant(block),
+            None => false,
         };
-        self.saved.contexts.handlers.push(context)?;
-        Ok(())
+        let contexts = &mut self.saved.contexts.tasks;
+        if contexts.len() <= usize::from(t) {
+            contexts.resize(usize::from(t) + 1, None)?;
+        }
+        Ok(fill_at(contexts, t, goes, fields, numbers))
+    }
+
+    /// Takes the context of the handler of a processor that was taken last. Gives how many fields it has.
+    fn take_handler(
+        &mut self,
+        p: u8,
+        fields: &[What],
+        numbers: &[u32],
+    ) -> Result<usize, AllocError> {
+        let goes = match self.saved.state.processors.last() {
+            Some(cpu) => cpu.handler.is_some(),
+            None => false,
+        };
+        let contexts = &mut self.saved.contexts.handlers;
+        if contexts.len() <= usize::from(p) {
+            contexts.resize(usize::from(p) + 1, None)?;
+        }
+        Ok(fill_at(contexts, p, goes, fields, numbers))
     }
 
     /// Takes the words of a data queue, whose number stands in front of them.
@@ -182,19 +244,13 @@ impl SavedRow {
         }
     }
 
-    /// Takes the first of these fields, each with its number, and what belongs to it.
-    fn take(&mut self, fields: &[What], numbers: &[u32]) -> Result<(), AllocError> {
-        let Some(what) = fields.first() else {
-            return Ok(());
-        };
+    /// Takes the first of these fields, each with its number, if it is of an object or tells what is behind.
+    fn take_object(&mut self, what: What, numbers: &[u32]) -> Result<(), AllocError> {
         let number = number_at(numbers, 0);
         let state = &mut self.saved.state;
-        match *what {
-            What::Phase(_) => state.blocks.push(block_of(numbers))?,
+        match what {
             What::Behind(_) => self.behind.push(byte_of(number))?,
-            What::Pc(_) => self.take_task(fields, numbers)?,
             What::Runs(_) => state.processors.push(processor_of(numbers))?,
-            What::HandlerPc(_) => self.take_handler(fields, numbers)?,
             What::Count(_) => state.semaphores.push(half_of(number))?,
             What::Pattern(_) => state.flags.push(half_of(number))?,
             What::Words(d) => self.take_words(d, numbers)?,
@@ -205,6 +261,36 @@ impl SavedRow {
             What::PendingCyclic(_) => state.pending_cyclics.push(number == 1)?,
             What::PendingInterrupt(i) => self.take_interrupt(i, number),
             _ => {}
+        }
+        Ok(())
+    }
+
+    /// Takes the first of these fields, each with its number, and what belongs to it. Gives how many were taken.
+    fn take(&mut self, fields: &[What], numbers: &[u32]) -> Result<usize, AllocError> {
+        let Some(what) = fields.first() else {
+            return Ok(1);
+        };
+        match *what {
+            What::Phase(_) => self.take_block(numbers),
+            What::Pc(t) => self.take_task(t, fields, numbers),
+            What::HandlerPc(p) => self.take_handler(p, fields, numbers),
+            what => {
+                self.take_object(what, numbers)?;
+                Ok(1)
+            }
+        }
+    }
+
+    /// Takes the numbers of these fields, of which those of a task's block and those of a body stand side by side.
+    fn take_all(&mut self, fields: &[What], numbers: &[u32]) -> Result<(), AllocError> {
+        let count = fields.len().min(numbers.len());
+        let mut at = 0;
+        for _field in 0..count {
+            if at >= count {
+                return Ok(());
+            }
+            let taken = self.take(&fields[at..], &numbers[at..])?;
+            at = at.saturating_add(taken);
         }
         Ok(())
     }
@@ -280,9 +366,7 @@ impl SavedRow {
     /// Takes the numbers of these fields in the place of what was saved last. `AllocError` if memory runs out.
     pub fn fill(&mut self, fields: &[What], numbers: &[u32]) -> Result<(), AllocError> {
         self.clear()?;
-        for at in 0..fields.len().min(numbers.len()) {
-            self.take(&fields[at..], &numbers[at..])?;
-        }
+        self.take_all(fields, numbers)?;
         self.order_tasks()?;
         for mailbox in 0..self.first_messages.len() {
             self.order_messages(mailbox)?;

@@ -8,6 +8,7 @@ mod filling;
 pub mod laws;
 mod listing;
 mod owner;
+mod placing;
 mod reading;
 mod room;
 mod state_values;

@@ -11,17 +11,19 @@ ghost use Rattle.fmp_live.specs.Zeroed.{zeroed};
 use crate::body_values::{body_value, context_of, row_of};
 use crate::field::What;
 use crate::owner::{Owner, owner_of, task_of};
+use crate::placing::{put, put_counts, put_owned, put_phase};
 use crate::state_values::{block_value, object_value, task};
 use fmp_base::Body;
 use fmp_instructions::MachineContext;
 use fmp_kernel::Kernel;
 use fmp_live::LiveLocals;
+use fmp_reachable::numbers::ticks_to;
 use fmp_tasks::KernelState;
 use std::alloc::AllocError;
 
-/// Writes the values of the fields from a place on that the block of a task tells. Gives the place behind them; `None`
-/// if a time is too far ahead.
-fn read_block(
+/// Writes the values of the fields from a place on that the block of a task tells, in whatever order they stand. Gives
+/// the place behind them; `None` if a time is too far ahead.
+fn read_block_fields(
     tables: &KernelState,
     t: u8,
     fields: &[What],
@@ -48,6 +50,34 @@ fn read_block(
     Some(fields.len())
 }
 
+/// The same, with no look at what else a field may be for as long as they stand in the order of `fields_of`.
+fn read_block(
+    tables: &KernelState,
+    t: u8,
+    fields: &[What],
+    start: usize,
+    values: &mut [u32],
+) -> Option<usize>
+    requires long { length values.old ≡ length fields.now }
+    requires first { IfSome (slice_get fields.now start) (λ what. task_by what ≡ Some t) }
+    requires there { start < length fields.now }
+    ensures ahead { IfSome result (λ end. start < end) }
+    ensures within { IfSome result (λ end. end ≤ length fields.now) }
+    ensures read { (w : World MachineContext) (came : ℕ) → w.state ≡ tables.now.state →
+        AreRead tables.now.system w came fields.now values.old start →
+        IfSome result (λ end. AreRead tables.now.system w came fields.now values.new end) }
+{
+    let block = task(tables, t);
+    let left = ticks_to(tables.clock(), block.deadline)?;
+    let counts = put_phase(t, &block, fields, start, values);
+    let ticks = put_counts(t, &block, fields, counts, values);
+    let behind = put(fields, ticks, What::TicksLeft(t), left, values);
+    if behind == start {
+        return read_block_fields(tables, t, fields, start, values);
+    }
+    Some(behind)
+}
+
 /// Writes the values of the fields from a place on that are of an owner's body, with 0 for each dead local. Gives the
 /// place behind them.
 fn read_body<B: Body<Ctx = MachineContext>>(
@@ -70,7 +100,8 @@ fn read_body<B: Body<Ctx = MachineContext>>(
 {
     let context = context_of(kernel, owner);
     let row = row_of(kernel, live, owner, context);
-    for at in start..fields.len() {
+    let behind = put_owned(owner, context, row, fields, start, values);
+    for at in behind..fields.len() {
         if owner_of(fields[at]) != Some(owner) {
             return at;
         }

@@ -76,3 +76,8 @@ pub written-more : (row front : List ℕ) (i n : ℕ) (all : List ℕ) → i < 5
 written-more row front i n all lt great e =
     append_assoc row ((n % 128 + 128) ∷ []) (number_in (5 - (i + 1)) (n / 128))
     ∙ (ap (λ (bytes : List ℕ). row ++ bytes) (sym (bytes-more i n lt great)) ∙ e)
+
+-- a number of one byte
+pub bytes_small : (n : ℕ) → n < 128 → bytes_of n ≡ n ∷ []
+unfolding bytes_of
+bytes_small n lt = bytes-last 0 n (omega arith) lt

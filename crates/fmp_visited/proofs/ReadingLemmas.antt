@@ -4,7 +4,7 @@ use Rattle.std.proofs.Common.{nat_eq, List, [], ◌∷◌, ◌++◌, inl, inr, r
 use Rattle.std.proofs.Common.{add-zero, mul-add, mul-zero, mul-suc, mul_assoc, mul_comm, mul-le-mul_right, div-add-mod'}
 use Rattle.std.proofs.Common.{get_or, length, take, drop, arith, lit≤, min}
 use Rattle.std.specs.Prelude.{not}
-use Rattle.std.proofs.lemmas.Bool.{cases_lt, eqb-true, eqb-false}
+use Rattle.std.proofs.lemmas.Bool.{cases_lt, eqb-true, eqb-false, eq-eqb}
 use Rattle.std.proofs.lemmas.List.{drop-drop, drop_all, get_or-drop, take_all, take_more}
 use Rattle.fmp_visited.specs.Rows.{bytes_of, changes_of, group_at, groups_from, mask_of, number_in, row_of}
 use Rattle.fmp_visited.proofs.NumberLemmas.{bytes-last, bytes-more}
@@ -294,3 +294,36 @@ length-fields s first v fields same e =
     let other : length (group_at s first) ≡ min 8 (length first - s) = length-group s first in
     let size : length fields ≡ length (group_at s first) = ap (λ (f : List ℕ). length f) e in
     omega (arith, one, other, size, same)
+
+-- a number of one byte
+pub number_small : (row : List ℕ) (place n : ℕ) (rest : List ℕ) → get_or row place 0 < 128
+    → drop place row ≡ bytes_of n ++ rest → (get_or row place 0 ≡ n) × (drop (place + 1) row ≡ rest)
+number_small row place n rest low e =
+    let got = reading-last row 0 0 1 place n rest (omega arith) low (reading-begun row place n rest e) in
+    (omega (arith, got.0, low), got.1)
+
+-- ---- a group in which nothing differs
+
+mask-first : (v w : ℕ) (rest : ℕ) → cond (nat_eq v w) 0 1 + 2 * rest ≡ 0 → (v ≡ w) × (rest ≡ 0)
+mask-first v w rest e = by_test (nat_eq v w) refl e where
+  by_test : (s : Bool) → nat_eq v w ≡ s → cond s 0 1 + 2 * rest ≡ 0 → (v ≡ w) × (rest ≡ 0)
+  by_test true s none = (eqb-true v w s, omega arith)
+  by_test false s none = absurd (omega arith)
+
+pub none-differs : (f v : List ℕ) → length v ≡ length f → 0 ≡ mask_of f v → v ≡ f
+none-differs [] [] long none = refl
+none-differs [] (a ∷ v) long none = absurd cc
+none-differs (b ∷ f) [] long none = absurd cc
+none-differs (b ∷ f) (a ∷ v) long none =
+    let both = mask-first a b (mask_of f v) (sym none) in
+    let head : a ≡ b = both.0 in
+    let tail : v ≡ f = none-differs f v (omega arith) (sym both.1) in
+    cc
+
+pub none-changes : (f v : List ℕ) → 0 ≡ mask_of f v → changes_of f v ≡ []
+none-changes [] v none = refl
+none-changes (b ∷ f) [] none = refl
+none-changes (b ∷ f) (a ∷ v) none =
+    let both = mask-first a b (mask_of f v) (sym none) in
+    ap (λ (s : Bool). cond s [] (bytes_of a) ++ changes_of f v) (eq-eqb a b both.0)
+    ∙ none-changes f v (sym both.1)

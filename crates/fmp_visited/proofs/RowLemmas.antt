@@ -16,6 +16,10 @@ pub length-group : (s : ℕ) (v : List ℕ) → length (group_at s v) ≡ min 8 
 unfolding group_at
 length-group s v = length-take 8 (drop s v) ∙ ap (λ (n : ℕ). min 8 n) (length-drop s v)
 
+pub whole_group : (s : ℕ) (v : List ℕ) → take (s + 8 - s) (drop s v) ≡ group_at s v
+unfolding group_at
+whole_group s v = let size : s + 8 - s ≡ 8 = omega arith in ap (λ (n : ℕ). take n (drop s v)) size
+
 pub group-split : (s : ℕ) (v : List ℕ) → group_at s v ++ drop (s + 8) v ≡ drop s v
 unfolding group_at
 group-split s v =

@@ -7,8 +7,8 @@ use std::alloc::AllocError;
 /// How many bytes a number has at most.
 const LONGEST: usize = 5;
 
-/// Appends a number. Each byte but the last has its highest bit set.
-pub fn push_number(row: &mut Vec<u8>, number: u32) -> Result<(), AllocError>
+/// Appends a number byte by byte.
+fn push_bytes(row: &mut Vec<u8>, number: u32) -> Result<(), AllocError>
     ensures { OnOk result (row.new.items ≡ row.old.items ++ bytes_of number) }
 {
     let mut rest = number;
@@ -23,6 +23,19 @@ pub fn push_number(row: &mut Vec<u8>, number: u32) -> Result<(), AllocError>
     Ok(())
 }
 
+/// Appends a number. Each byte but the last has its highest bit set.
+#[inline(always)]
+#[tactic(auto, using(crate::proofs::NumberLemmas::bytes_small))]
+pub fn push_number(row: &mut Vec<u8>, number: u32) -> Result<(), AllocError>
+    ensures { OnOk result (row.new.items ≡ row.old.items ++ bytes_of number) }
+{
+    if number < 128 {
+        row.push(number as u8)?;
+        return Ok(());
+    }
+    push_bytes(row, number)
+}
+
 /// The value of 32 bits that a number is; its lowest bits, if it is no such value.
 fn value_of(number: u64) -> u32
     ensures { result ≡ number % 4294967296 }
@@ -30,8 +43,8 @@ fn value_of(number: u64) -> u32
     (number % 4_294_967_296) as u32
 }
 
-/// The number that begins at a place of a row, and the place behind it.
-pub fn number_at(row: &[u8], place: usize) -> (u32, usize)
+/// The number that begins at a place of a row, byte by byte, and the place behind it.
+fn number_from(row: &[u8], place: usize) -> (u32, usize)
     ensures { (number : ℕ) (rest : List ℕ) → number < 2 ^ 32 → drop place row.now ≡ bytes_of number ++ rest →
         (result.0 ≡ number) × (drop result.1 row.now ≡ rest) }
 {
@@ -51,4 +64,20 @@ pub fn number_at(row: &[u8], place: usize) -> (u32, usize)
         unit *= 128;
     }
     (value_of(number), at)
+}
+
+/// The number that begins at a place of a row, and the place behind it.
+#[inline(always)]
+#[tactic(auto, using(crate::proofs::ReadingLemmas::number_small))]
+pub fn number_at(row: &[u8], place: usize) -> (u32, usize)
+    ensures { (number : ℕ) (rest : List ℕ) → number < 2 ^ 32 → drop place row.now ≡ bytes_of number ++ rest →
+        (result.0 ≡ number) × (drop result.1 row.now ≡ rest) }
+{
+    if place < row.len() {
+        let byte = row[place];
+        if byte < 128 {
+            return (u32::from(byte), place + 1);
+        }
+    }
+    number_from(row, place)
 }

@@ -59,6 +59,26 @@ fn unpack_changes(
     Ok(at)
 }
 
+/// Appends the values of a group of this mask, of which those that differ stand from a place of a row on. Gives the
+/// place behind them.
+fn unpack_group(
+    row: &[u8],
+    place: usize,
+    mask: u8,
+    first: &[u32],
+    values: &mut Vec<u32>,
+) -> Result<usize, AllocError>
+    ensures { (v rest : List ℕ) → length v ≡ length first.now → AreValues v → mask ≡ mask_of first.now v →
+        drop place row.now ≡ changes_of first.now v ++ rest →
+        IfOk result (λ behind. (values.new.items ≡ values.old.items ++ v) × (drop behind row.now ≡ rest)) }
+{
+    if mask == 0 {
+        values.extend_from_slice(first)?;
+        return Ok(place);
+    }
+    unpack_changes(row, place, mask, first, values)
+}
+
 /// Writes the values of a row into the place of others. `AllocError` if memory runs out.
 pub fn unpack(row: &[u8], first: &[u32], values: &mut Vec<u32>) -> Result<(), AllocError>
     ensures { (v : List ℕ) → length v ≡ length first.now → AreValues v → row.now ≡ row_of first.now v →
@@ -72,7 +92,7 @@ pub fn unpack(row: &[u8], first: &[u32], values: &mut Vec<u32>) -> Result<(), Al
         }
         let mask = row[at];
         let fields = group_of(first, group * GROUP);
-        at = unpack_changes(row, at + 1, mask, fields, values)?;
+        at = unpack_group(row, at + 1, mask, fields, values)?;
     }
     Ok(())
 }

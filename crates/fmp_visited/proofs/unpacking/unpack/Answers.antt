@@ -22,7 +22,7 @@ loop-group-preserved c v same values told =
     let got = c.in_ok-at.ensures (group_at s v)
     (groups_from (length first / 8 + 1 - (l.group + 1)) ((l.group + 1) * 8) first v)
     (length-fields s first v fields same c.group_of-fields.ensures.group) (values-group s v values) stands.0 stands.1 in
-    unpack-more row first v l.values.items c.unpack_changes.new.values.items l.group l.at c.in_ok-at.at u got.0 got.1
+    unpack-more row first v l.values.items c.unpack_group.new.values.items l.group l.at c.in_ok-at.at u got.0 got.1
 
 pub returns : goal.returns
 returns c v same values told =

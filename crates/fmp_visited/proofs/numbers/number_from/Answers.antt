@@ -1,7 +1,7 @@
 use Rattle.std.proofs.Common.{◌≤◌, ◌*◌, ◌%◌, ◌^◌, ℕ, refl, ap, get_or, add-one, pow-suc, mul-le-mul_right, arith, lit<}
 use Rattle.fmp_visited.proofs.ReadingLemmas.{power-small, reading-last, reading-there, read-fits, reading-begun}
 use Rattle.fmp_visited.proofs.ReadingLemmas.{reading-end, reading-more}
-use Rattle.fmp_visited.proofs.numbers.number_at.Goals as goal
+use Rattle.fmp_visited.proofs.numbers.number_from.Goals as goal
 
 pub loop-byte-init : goal.loop-byte-init
 loop-byte-init c =

@@ -1,7 +1,7 @@
 use Rattle.std.proofs.Common.{◌++◌, ◌-◌, ◌+◌, ◌/◌, ℕ, List, refl, ap, ◌∙◌, arith}
 use Rattle.fmp_visited.specs.Rows.{bytes_of, number_in}
 use Rattle.fmp_visited.proofs.NumberLemmas.{written-more}
-use Rattle.fmp_visited.proofs.numbers.push_number.Goals as goal
+use Rattle.fmp_visited.proofs.numbers.push_bytes.Goals as goal
 
 pub loop-byte-init : goal.loop-byte-init
 unfolding bytes_of

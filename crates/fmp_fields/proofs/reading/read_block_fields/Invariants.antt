@@ -2,7 +2,7 @@ use Rattle.std.proofs.Common.{◌≡◌, ℕ, length}
 use Rattle.fmp_base.specs.Meanings.{World}
 use Rattle.fmp_fields.specs.Reading.{AreRead}
 use Rattle.fmp_instructions.specs.declared.instructions.MachineContext.{MachineContext}
-use Rattle.fmp_fields.proofs.reading.read_block.Given as goal
+use Rattle.fmp_fields.proofs.reading.read_block_fields.Given as goal
 
 abbrev pub invariant-loop-at : goal.invariant-loop-at
 invariant-loop-at l =

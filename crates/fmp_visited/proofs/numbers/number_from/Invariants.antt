@@ -1,7 +1,7 @@
 use Rattle.std.proofs.Common.{◌≡◌, ◌<◌, ◌^◌, ◌++◌, ℕ, List, drop}
 use Rattle.fmp_visited.specs.Rows.{bytes_of}
 use Rattle.fmp_visited.proofs.ReadingLemmas.{IsReading}
-use Rattle.fmp_visited.proofs.numbers.number_at.Given as goal
+use Rattle.fmp_visited.proofs.numbers.number_from.Given as goal
 
 abbrev pub invariant-loop-byte : goal.invariant-loop-byte
 invariant-loop-byte l =
