@@ -1,9 +1,9 @@
 pub mod KernelLemmas
 pub mod MarkLemmas
+pub mod MonitorLemmas
 pub mod NextLemmas
 pub mod SearchLemmas
 pub mod SearchStepLemmas
-pub mod SectionLemmas
 pub mod StateLemmas
 pub mod StuckLemmas
 pub mod TryingLemmas

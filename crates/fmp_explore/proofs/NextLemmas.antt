@@ -1,7 +1,7 @@
 -- What an event leads to is kept; and the first state.
 use Rattle.std.proofs.Common.{◌≡◌, ◌+◌, ℕ, List, [], Option, Some, None, Bool, true, false, refl, sym, ap, subst}
 use Rattle.std.proofs.Common.{◌∙◌}
-use Rattle.std.proofs.Common.{arith, count_by, is_some, length}
+use Rattle.std.proofs.Common.{◌*◌, arith, count_by, is_some, length}
 use Rattle.std.specs.List.{list_all, list_any}
 use Rattle.fmp_base.specs.declared.events.Event.{Event}
 use Rattle.fmp_base.specs.declared.events.Line.{Line}
@@ -13,7 +13,7 @@ use Rattle.fmp_explore.specs.declared.searches.Search.{Search}
 use Rattle.fmp_question.specs.Forbidden.{forbids}
 use Rattle.fmp_question.specs.Places.{forbids_there, is_bad}
 use Rattle.fmp_explore.specs.Searching.{HasDealt, HasDone, HasKept, HasKeptPlace, IsBegun, IsClean, IsFresh, IsSearch}
-use Rattle.fmp_explore.specs.Searching.{Stays, came_on, rows_of, sections_at_setup}
+use Rattle.fmp_explore.specs.Searching.{Stays, came_on, rows_of, monitors_at_setup}
 use Rattle.fmp_explore.specs.States.{IsKept, MayCome, counted, watched_with}
 use Rattle.fmp_fields.specs.declared.field.What.{What}
 use Rattle.fmp_fields.specs.Fields.{AreAllFields}
@@ -26,8 +26,8 @@ use Rattle.fmp_live.specs.LiveLocals.{AreLiveTables, live_tables}
 use Rattle.fmp_reachable.specs.Sound.{IsSound}
 use Rattle.fmp_replay.specs.Replays.{kernel_after, replay}
 use Rattle.fmp_schedules.specs.Deadlocks.{is_interrupt}
-use Rattle.fmp_schedules.specs.declared.section.Section.{Section}
-use Rattle.fmp_schedules.specs.Schedules.{Watched, came_after, is_any_met, is_request, sections_after}
+use Rattle.fmp_schedules.specs.declared.monitor.Monitor.{Monitor}
+use Rattle.fmp_schedules.specs.Schedules.{Watched, came_after, is_any_broken, is_request, monitors_after}
 use Rattle.fmp_schedules.proofs.EventLines.{setup-counts}
 use Rattle.fmp_question.proofs.PlaceLemmas.{none-anywhere, none-there}
 use Rattle.fmp_witness.specs.Followed.{IsFollowed}
@@ -38,13 +38,13 @@ use Rattle.fmp_explore.proofs.SearchStepLemmas.{grows_on, grows_search, stays_gr
 
 module _ (i : ImageTables) (n : ℕ) (q : Question) where
   -- what an event that is done leads to is kept
-  pub dealt_done : (a b c : Search) (k : Kernels) (w : World MachineContext) (came : ℕ) (ss : List Section) (e : Event)
+  pub dealt_done : (a b c : Search) (k : Kernels) (w : World MachineContext) (came : ℕ) (ss : List Monitor) (e : Event)
       → IsSearch i q a → Stays a b
       → (b.sure ≡ true → list_any (is_bad i.system q k.world) k.lines ≡ false)
-      → (b.sure ≡ true → is_any_met ss k.lines ≡ false)
+      → (b.sure ≡ true → is_any_broken ss k.lines ≡ false)
       → (b.sure ≡ true → b.rows.outs ≡ true → list_all (is_written i.system i.code k.world) k.lines ≡ true)
       → HasDone i n w e k → IsSound i.system i.code k.world
-      → HasKept i q b c k.world (watched_with q (came_on q.interrupts came e) (sections_after ss k.lines))
+      → HasKept i q b c k.world (watched_with q (came_on q.interrupts came e) (monitors_after ss k.lines))
       → HasDealt i n q a c w (watched_with q came ss) e
   dealt_done a b c k w came ss e h stays clean alone written done sound kept =
       let grows = grows_on a b c (stays_grows a b stays) kept.grows in
@@ -67,16 +67,16 @@ module _ (i : ImageTables) (n : ℕ) (q : Question) where
             (subst (λ (ls : List Line). list_any (forbids_there i.system q.nevers_at.items k.world) ls ≡ false)
             done.lines
             (none-there i.system q k.world k.lines (clean (kept.grows.sure sure)))))
-            (subst (λ (ls : List Line). is_any_met ss ls ≡ false) done.lines (alone (kept.grows.sure sure)))
+            (subst (λ (ls : List Line). is_any_broken ss ls ≡ false) done.lines (alone (kept.grows.sure sure)))
             (subst (λ (v : World MachineContext). IsSound i.system i.code v) done.world sound)
             (subst (λ (v : World MachineContext). IsKept i q (rows_of c) v
-            (watched_with q (came_on q.interrupts came e) (sections_after ss done.done.lines))) done.world
+            (watched_with q (came_on q.interrupts came e) (monitors_after ss done.done.lines))) done.world
             (subst (λ (ls : List Line). IsKept i q (rows_of c) k.world
-            (watched_with q (came_on q.interrupts came e) (sections_after ss ls))) done.lines (kept.known sure)));
+            (watched_with q (came_on q.interrupts came e) (monitors_after ss ls))) done.lines (kept.known sure)));
       }
 
   -- what an event that keeps a place leads to is kept
-  pub dealt_kept : (a b c : Search) (k : Kernels) (w : World MachineContext) (came : ℕ) (ss : List Section) (e : Event)
+  pub dealt_kept : (a b c : Search) (k : Kernels) (w : World MachineContext) (came : ℕ) (ss : List Monitor) (e : Event)
       → IsSearch i q a → Stays a b → HasKeptPlace i n w e k → IsSound i.system i.code k.world
       → HasKept i q b c k.world (watched_with q (came_on q.interrupts came e) ss)
       → HasDealt i n q a c w (watched_with q came ss) e
@@ -118,45 +118,45 @@ module _ (i : ImageTables) (n : ℕ) (q : Question) where
 
   -- where no line of setup is forbidden, what is watched then is what is watched after no event
   watched_clean : list_any (forbids q.nevers.items) (setup i.system (code_meaning i.code)).lines ≡ false
-      → is_any_met q.sections.items (setup i.system (code_meaning i.code)).lines ≡ false → IsClean i q
+      → is_any_broken q.monitors.items (setup i.system (code_meaning i.code)).lines ≡ false → IsClean i q
   watched_clean clean alone =
       let with : ℕ → Bool → Bool → Watched =
-      λ (came : ℕ) (told met : Bool).
-      record { came = came; told = told; sections = sections_at_setup i q; met = met } in
+      λ (came : ℕ) (told broken : Bool).
+      record { came = came; told = told; monitors = monitors_at_setup i q; broken = broken } in
       let ls : List Line = (setup i.system (code_meaning i.code)).lines in
       let came : ℕ = came_after q.interrupts 0 (setup i.system (code_meaning i.code)).lines in
       let told : Bool = list_any (forbids q.nevers.items) (setup i.system (code_meaning i.code)).lines in
       ap (λ (k : ℕ). with k false false)
       (counted_none q.interrupts ∙ sym (came_at_setup q.interrupts (setup i.system (code_meaning i.code)).lines
       (setup-counts i.system (code_meaning i.code))))
-      ∙ sym (ap (λ (met : Bool). with came told met) alone ∙ ap (λ (b : Bool). with came b false) clean)
+      ∙ sym (ap (λ (broken : Bool). with came told broken) alone ∙ ap (λ (b : Bool). with came b false) clean)
 
   -- where no line that a kernel told at setup is forbidden, setup is clean
   pub clean_setup : (k : Kernels) → k ≡ kernel_after i n [] → list_any (is_bad i.system q k.world) k.lines ≡ false
-      → is_any_met q.sections.items k.lines ≡ false → IsClean i q
+      → is_any_broken q.monitors.items k.lines ≡ false → IsClean i q
   unfolding replay
   clean_setup k first clean alone =
       watched_clean
       (subst (λ (x : Kernels). list_any (forbids q.nevers.items) x.lines ≡ false) first
       (none-anywhere i.system q k.world k.lines clean))
-      (subst (λ (x : Kernels). is_any_met q.sections.items x.lines ≡ false) first alone)
+      (subst (λ (x : Kernels). is_any_broken q.monitors.items x.lines ≡ false) first alone)
 
   -- the lines of setup
   pub lines_at_setup : (k : Kernels) → k ≡ kernel_after i n []
-      → sections_after q.sections.items k.lines ≡ sections_at_setup i q
+      → monitors_after q.monitors.items k.lines ≡ monitors_at_setup i q
   unfolding replay
-  lines_at_setup k first = ap (λ (x : Kernels). sections_after q.sections.items x.lines) first
+  lines_at_setup k first = ap (λ (x : Kernels). monitors_after q.monitors.items x.lines) first
 
   -- the first state is kept
-  pub begun_of : (a b : Search) (k : Kernels) (ss : List Section) → IsSearch i q a → (a.sure ≡ true → IsClean i q)
-      → IsFollowed i n q.after.items k → ss ≡ sections_at_setup i q
+  pub begun_of : (a b : Search) (k : Kernels) (ss : List Monitor) → IsSearch i q a → (a.sure ≡ true → IsClean i q)
+      → IsFollowed i n q.after.items k → ss ≡ monitors_at_setup i q
       → HasKept i q a b k.world (watched_with q (count_by is_interrupt q.after.items) ss) → IsBegun i n q b
   begun_of a b k ss h clean followed is kept =
       record {
         survey = grows_search i q a b kept.grows h;
         clean = λ sure. clean (kept.grows.sure sure);
         first = λ sure.
-            subst (λ (xs : List Section). IsKept i q (rows_of b) (replay i n q.after.items).world
+            subst (λ (xs : List Monitor). IsKept i q (rows_of b) (replay i n q.after.items).world
             (watched_with q (count_by is_interrupt q.after.items) xs)) is
             (subst (λ (x : Kernels). IsKept i q (rows_of b) x.world
             (watched_with q (count_by is_interrupt q.after.items) ss)) followed.kernel (kept.known sure));
@@ -174,7 +174,7 @@ module _ (i : ImageTables) (n : ℕ) (q : Question) where
   -- a search that has no state yet, once the first numbers of its fields are read
   pub fresh_search : (a b : Search) → IsFresh i q a → b.tries.items ≡ a.tries.items
       → b.rows.fields.items ≡ a.rows.fields.items → b.rows.outs ≡ a.rows.outs → b.rows.live ≡ a.rows.live
-      → length b.rows.first.items ≡ length b.rows.fields.items + length q.sections.items → IsSearch i q b
+      → length b.rows.first.items ≡ length b.rows.fields.items + 2 * length q.monitors.items → IsSearch i q b
   fresh_search a b h tries fields outs live size =
       record {
         survey =

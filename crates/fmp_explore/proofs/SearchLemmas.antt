@@ -15,7 +15,7 @@ use Rattle.fmp_question.specs.Forbidden.{forbids}
 use Rattle.fmp_question.specs.Places.{forbids_there}
 use Rattle.fmp_question.specs.Rules.{rules_of}
 use Rattle.fmp_explore.specs.Searching.{Grows, HasExamined, HasTriedOut, IsBegun, IsSearching, IsSearch, IsWhole}
-use Rattle.fmp_explore.specs.Searching.{NothingIsFound, StandsAt, Stays, rows_of, sections_at_setup, watched_first}
+use Rattle.fmp_explore.specs.Searching.{NothingIsFound, StandsAt, Stays, rows_of, monitors_at_setup, watched_first}
 use Rattle.fmp_explore.specs.Searching.{watched_in}
 use Rattle.fmp_explore.specs.States.{HasRow, IsExamined, IsKept, IsStuckIn, KeptRows, MayCome, reaction_in}
 use Rattle.fmp_explore.specs.States.{watched_with}
@@ -31,9 +31,10 @@ use Rattle.fmp_replay.specs.Replays.{replay}
 use Rattle.fmp_schedules.specs.Deadlocks.{is_interrupt}
 use Rattle.fmp_schedules.specs.Likeness.{IsLikeness}
 use Rattle.fmp_schedules.specs.Schedules.{Watched, may_come, may_still, watch, watched_at_setup}
-use Rattle.fmp_schedules.specs.Tried.{IsSearched, IsTried, IsTriedSilent, NoneIsDeadlock, is_event_of}
+use Rattle.fmp_schedules.specs.Tried.{IsSearched, IsTried, IsTriedSilent, NoneBreaks, NoneIsDeadlock, is_event_of}
 use Rattle.fmp_schedules.proofs.DeadlockLaws.{deadlock-alike}
 use Rattle.fmp_schedules.proofs.HoldLaws.{searched-holds}
+use Rattle.fmp_schedules.proofs.MonitorLaws.{any_broken_in-alike}
 use Rattle.fmp_schedules.proofs.RuleLaws.{may_come-same}
 use Rattle.fmp_schedules.proofs.SilentLaws.{searched-silent}
 use Rattle.fmp_question.proofs.ForbiddenLemmas.{forbids-timeless}
@@ -224,8 +225,15 @@ module _ (i : ImageTables) (n : ℕ) (q : Question) where
           silent = (let l = x.tried.each e is (may_at w a k x e may) in l.silent);
         }
 
-    pub clean : (w : World MachineContext) (a : Watched) → K w a → (a.told || a.met) ≡ false
-    clean w a k = ap (λ (b : Watched). b.told || b.met) k.has.watch
+    pub clean : (w : World MachineContext) (a : Watched) → K w a → (a.told || a.broken) ≡ false
+    clean w a k = ap (λ (b : Watched). b.told || b.broken) k.has.watch
+
+    upheld : Examined → NoneBreaks (rules_of q) K
+    upheld each w a k =
+        let x : IsExamined i n q kept k.row = each k.state k.row k.there in
+        any_broken_in-alike i.system w.state x.world.state
+        (like-states kept.outs i.system i.code w x.world (alike_at w a k x)) q.monitors.items
+        ∙ x.tried.upheld
 
     free : Examined → NoneIsDeadlock (rules_of q) i.system (code_meaning i.code) n q.rest.items K
     free each w a k d =
@@ -246,7 +254,7 @@ module _ (i : ImageTables) (n : ℕ) (q : Question) where
       (watched_at_setup (rules_of q) i.system (code_meaning i.code) (forbids q.nevers.items)) =
       subst (λ (a : Watched). IsKept i q (rows_of s) (replay i n []).world a) (h.clean sure)
       (subst (λ (es : List Event). IsKept i q (rows_of s) (replay i n es).world
-      (watched_with q (count_by is_interrupt es) (sections_at_setup i q))) none (h.first sure)) in
+      (watched_with q (count_by is_interrupt es) (monitors_at_setup i q))) none (h.first sure)) in
       record {
         world = (setup i.system (code_meaning i.code)).world;
         alike =
@@ -273,6 +281,7 @@ module _ (i : ImageTables) (n : ℕ) (q : Question) where
         first = first_covered s h.begun none sure;
         tried = tried s survey examined;
         clean = clean s survey;
+        upheld = upheld s survey examined;
         free = free s survey examined;
       } in
       record {

@@ -1,20 +1,20 @@
 -- Searches that go on.
-use Rattle.std.proofs.Common.{◌≡◌, ◌+◌, ◌<◌, ℕ, zero, suc, List, [], ◌∷◌, ◌++◌, Some, Bool, true, false, refl, sym, ap}
-use Rattle.std.proofs.Common.{subst, ◌∙◌, append_assoc, append-nil, arith, is_some, length, slice_get}
+use Rattle.std.proofs.Common.{◌≡◌, ◌+◌, ◌*◌, ◌<◌, ℕ, zero, suc, List, [], ◌∷◌, ◌++◌, Some, Bool, true, false, refl}
+use Rattle.std.proofs.Common.{ap, sym, subst, ◌∙◌, append_assoc, append-nil, arith, is_some, length, slice_get}
 use Rattle.std.specs.Prelude.{unwrap_or}
 use Rattle.fmp_question.specs.declared.question.Question.{Question}
 use Rattle.fmp_explore.specs.declared.rows.Rows.{Rows}
 use Rattle.fmp_explore.specs.declared.searches.Search.{Search}
 use Rattle.fmp_explore.specs.declared.trying.ExaminedState.{ExaminedState}
 use Rattle.fmp_explore.specs.Searching.{CanStep, Grows, HasKept, IsSearch, SameTable, StandsAt, Stays, rows_of}
-use Rattle.fmp_explore.specs.States.{AreFew, AreHeldBy, HasRow, IsRowOf, KeptRows, numbers_in, watched_with}
+use Rattle.fmp_explore.specs.States.{AreFew, AreMonitorsOf, HasRow, IsRowOf, KeptRows, numbers_in, watched_with}
 use Rattle.fmp_fields.specs.declared.field.What.{What}
 use Rattle.fmp_fields.specs.Fields.{AreAllFields}
 use Rattle.fmp_image_bytes.specs.Images.{ImageTables}
 use Rattle.fmp_live.specs.declared.live_rows.LiveLocals.{LiveLocals}
 use Rattle.fmp_live.specs.LiveLocals.{AreLiveTables, LiveTable, live_tables}
 use Rattle.fmp_reachable.specs.Sound.{IsSound}
-use Rattle.fmp_schedules.specs.declared.section.Section.{Section}
+use Rattle.fmp_schedules.specs.declared.monitor.Monitor.{Monitor}
 use Rattle.fmp_visited.specs.declared.link.StateLink.{StateLink}
 use Rattle.fmp_visited.specs.declared.link.RowEntry.{RowEntry}
 use Rattle.fmp_visited.specs.declared.link.RowEntry.TheVariants as entry
@@ -82,7 +82,7 @@ same_search i q a b s h =
           };
       first =
           ap (λ (xs : List ℕ). length xs) s.first ∙ h.first
-          ∙ sym (ap (λ (fs : List What). length fs + length q.sections.items) s.fields);
+          ∙ sym (ap (λ (fs : List What). length fs + 2 * length q.monitors.items) s.fields);
     }
 
 -- ---- growing
@@ -169,9 +169,9 @@ found_there (y ∷ xs) (suc k) d x lt e = found_there xs k d x (omega (arith, lt
 
 module _ (i : ImageTables) (n : ℕ) (q : Question) where
   -- the row of a kernel in a sound world
-  pub row_of_kernel : (a b : Search) → SameTable a b → (k : Kernels) (came : ℕ) (ss : List Section)
+  pub row_of_kernel : (a b : Search) → SameTable a b → (k : Kernels) (came : ℕ) (ss : List Monitor)
       (tables : List LiveTable) (row : List ℕ) → IsOver i n k → IsSound i.system i.code k.world → AreFew q came
-      → AreHeldBy q.sections.items ss → AreLiveTables a.rows.outs i.code tables
+      → AreMonitorsOf q.monitors.items ss → AreLiveTables a.rows.outs i.code tables
       → IsRowOf a.rows.first.items (numbers_in k.system tables a.rows.fields.items k.world came ss) row
       → HasRow i q (rows_of b) k.world (watched_with q came ss) row
   row_of_kernel a b same k came ss tables row over sound few held live is =
@@ -192,9 +192,9 @@ module _ (i : ImageTables) (n : ℕ) (q : Question) where
   -- a kernel whose row is that of a state is in the state
   pub stands_of : (a b : Search) → Stays a b → (at : ExaminedState) (k : Kernels) (tables : List LiveTable)
       (row : List ℕ) → CanStep i n k → at.state < length a.seen.rows → AreFew q at.came
-      → AreHeldBy q.sections.items at.sections.items → AreLiveTables a.rows.outs i.code tables
+      → AreMonitorsOf q.monitors.items at.monitors.items → AreLiveTables a.rows.outs i.code tables
       → IsRowOf a.rows.first.items
-      (numbers_in k.system tables a.rows.fields.items k.world at.came at.sections.items) row
+      (numbers_in k.system tables a.rows.fields.items k.world at.came at.monitors.items) row
       → unwrap_or (slice_get a.seen.rows at.state) [] ≡ row → StandsAt i n q b at k
   stands_of a b stays at k tables row ready there few held live is same =
       record {
@@ -204,12 +204,12 @@ module _ (i : ImageTables) (n : ℕ) (q : Question) where
             ap (λ (s : SeenStates). slice_get s.rows at.state) stays.seen
             ∙ found_there a.seen.rows at.state [] row there same;
         has =
-            row_of_kernel a b stays.same k at.came at.sections.items tables row ready.over ready.sound few held live is;
+            row_of_kernel a b stays.same k at.came at.monitors.items tables row ready.over ready.sound few held live is;
       }
 
   module _ (a b : Search) (same : SameTable a b) (sure : b.sure ≡ true → a.sure ≡ true) (k : Kernels) (came : ℕ)
-      (ss : List Section) (tables : List LiveTable) (row : List ℕ) (over : IsOver i n k)
-      (sound : IsSound i.system i.code k.world) (few : AreFew q came) (held : AreHeldBy q.sections.items ss)
+      (ss : List Monitor) (tables : List LiveTable) (row : List ℕ) (over : IsOver i n k)
+      (sound : IsSound i.system i.code k.world) (few : AreFew q came) (held : AreMonitorsOf q.monitors.items ss)
       (live : AreLiveTables a.rows.outs i.code tables)
       (is : IsRowOf a.rows.first.items (numbers_in k.system tables a.rows.fields.items k.world came ss) row)
     where

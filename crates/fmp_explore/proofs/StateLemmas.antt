@@ -1,7 +1,7 @@
 -- What rows tell of worlds, and what events lead to.
 use Rattle.std.proofs.Common.{◌≡◌, ◌+◌, ℕ, zero, suc, List, [], ◌∷◌, ◌++◌, Option, Some, None, Bool, true, false}
 use Rattle.std.proofs.Common.{refl, sym, ap, subst, ◌∙◌, arith, cond, count_by, is_some, length, length-append, map}
-use Rattle.std.proofs.Common.{slice_get}
+use Rattle.std.proofs.Common.{◌*◌, slice_get}
 use Rattle.std.proofs.lemmas.List.{length-map}
 use Rattle.std.specs.List.{list_any}
 use Rattle.fmp_bisimulation.specs.Closed.{IsCovered, LeadsIn}
@@ -15,8 +15,8 @@ use Rattle.fmp_question.specs.Forbidden.{forbids}
 use Rattle.fmp_question.specs.Places.{forbids_there}
 use Rattle.fmp_question.specs.Rules.{rules_of}
 use Rattle.fmp_explore.specs.Searching.{came_on}
-use Rattle.fmp_explore.specs.States.{AreHeldBy, HasRow, IsExamined, IsKept, IsTriedOut, KeptRows, LeadsOn, counted}
-use Rattle.fmp_explore.specs.States.{holder_number, numbers_in, reaction_in, watched_with}
+use Rattle.fmp_explore.specs.States.{AreMonitorsOf, HasRow, IsExamined, IsKept, IsTriedOut, KeptRows, LeadsOn, counted}
+use Rattle.fmp_explore.specs.States.{numbers_in, reaction_in, watched_with}
 use Rattle.fmp_fields.specs.FieldNumbers.{number_of}
 use Rattle.fmp_fields.specs.Fields.{AreAllFields}
 use Rattle.fmp_fields.proofs.FieldLaws.{fields-told, interrupts-told, live-fields-told}
@@ -31,11 +31,12 @@ use Rattle.fmp_reachable.specs.Readable.{IsReadable}
 use Rattle.fmp_reachable.specs.Sound.{IsSound}
 use Rattle.fmp_reachable.proofs.SoundLaws.{sound-readable}
 use Rattle.fmp_schedules.specs.Deadlocks.{is_interrupt}
-use Rattle.fmp_schedules.specs.declared.section.Section.{Section}
-use Rattle.fmp_schedules.specs.Schedules.{IsSilent, Watched, came_after, is_any_met, is_request, sections_after, watch}
+use Rattle.fmp_schedules.specs.declared.monitor.Monitor.{Monitor}
+use Rattle.fmp_schedules.specs.Schedules.{IsSilent, Watched, came_after, is_any_broken, is_request, monitors_after}
+use Rattle.fmp_schedules.specs.Schedules.{watch}
 use Rattle.fmp_schedules.proofs.EventLines.{done-counts}
 use Rattle.fmp_visited.proofs.RowLemmas.{rows-told}
-use Rattle.fmp_explore.proofs.SectionLemmas.{append-parts, held-length, held-told}
+use Rattle.fmp_explore.proofs.MonitorLemmas.{append-parts, held-length, held-told, numbers-length, numbers_of}
 
 -- ---- more rows
 
@@ -107,7 +108,7 @@ module _ (i : ImageTables) (n : ℕ) (q : Question) where
   pub tried_out_grown : (kept : KeptRows) (more : List (List ℕ)) (w : World MachineContext) (a : Watched)
       → IsTriedOut i n q kept w a → IsTriedOut i n q (grown kept more) w a
   tried_out_grown kept more w a t =
-      record { each = λ e is may. leads_on_grown kept more w a e (t.each e is may); free = t.free }
+      record { each = λ e is may. leads_on_grown kept more w a e (t.each e is may); upheld = t.upheld; free = t.free }
 
   pub examined_grown : (kept : KeptRows) (more : List (List ℕ)) (row : List ℕ) → IsExamined i n q kept row
       → IsExamined i n q (grown kept more) row
@@ -134,28 +135,29 @@ module _ (i : ImageTables) (n : ℕ) (q : Question) where
         alike-like kept.outs i.system i.code w w
         (fields-told i.system i.code (is_some q.interrupts) kept.fields w w 0 0 all (readable w h) (readable w h) refl)
 
-    module _ (size : length kept.first ≡ length kept.fields + length q.sections.items) (v w : World MachineContext)
+    module _ (size : length kept.first ≡ length kept.fields + 2 * length q.monitors.items) (v w : World MachineContext)
         (a b : Watched) (row : List ℕ) (h : HasRow i q kept v a row) (k : HasRow i q kept w b row) where
       abbrev fields_in : List LiveTable → World MachineContext → (came : ℕ) → List ℕ
       fields_in tables x came = map (number_of i.system (zeroed i.system tables x) came) kept.fields
 
-      as_many : (tables : List LiveTable) (x : World MachineContext) (came : ℕ) (ss : List Section)
-          → AreHeldBy q.sections.items ss → length (numbers_in i.system tables kept.fields x came ss)
+      as_many : (tables : List LiveTable) (x : World MachineContext) (came : ℕ) (ss : List Monitor)
+          → AreMonitorsOf q.monitors.items ss → length (numbers_in i.system tables kept.fields x came ss)
           ≡ length kept.first
       as_many tables x came ss held =
-          length-append (fields_in tables x came) (map holder_number ss)
-          ∙ ap (λ (m : ℕ). m + length (map holder_number ss)) (length-map kept.fields _)
-          ∙ ap (λ (m : ℕ). length kept.fields + m) (length-map ss _ ∙ held-length q.sections.items ss held)
+          length-append (fields_in tables x came) (numbers_of ss)
+          ∙ ap (λ (m : ℕ). m + length (numbers_of ss)) (length-map kept.fields _)
+          ∙ ap (λ (m : ℕ). length kept.fields + m)
+          (numbers-length ss ∙ ap (λ (m : ℕ). 2 * m) (held-length q.monitors.items ss held))
           ∙ sym size
 
       parts : (fields_in h.tables v h.came ≡ fields_in k.tables w k.came)
-          × (map holder_number a.sections ≡ map holder_number b.sections)
+          × (numbers_of a.monitors ≡ numbers_of b.monitors)
       parts =
-          append-parts (fields_in h.tables v h.came) (fields_in k.tables w k.came) (map holder_number a.sections)
-          (map holder_number b.sections) (length-map kept.fields _ ∙ sym (length-map kept.fields _))
-          (rows-told kept.first (numbers_in i.system h.tables kept.fields v h.came a.sections)
-          (numbers_in i.system k.tables kept.fields w k.came b.sections)
-          (as_many h.tables v h.came a.sections h.held) (as_many k.tables w k.came b.sections k.held)
+          append-parts (fields_in h.tables v h.came) (fields_in k.tables w k.came) (numbers_of a.monitors)
+          (numbers_of b.monitors) (length-map kept.fields _ ∙ sym (length-map kept.fields _))
+          (rows-told kept.first (numbers_in i.system h.tables kept.fields v h.came a.monitors)
+          (numbers_in i.system k.tables kept.fields w k.came b.monitors)
+          (as_many h.tables v h.came a.monitors h.held) (as_many k.tables w k.came b.monitors k.held)
           h.is.values k.is.values (sym h.is.is ∙ k.is.is))
 
       -- worlds of one row are alike, but for dead locals
@@ -173,12 +175,12 @@ module _ (i : ImageTables) (n : ℕ) (q : Question) where
       -- and the same is watched there
       pub row_watch : a ≡ b
       row_watch =
-          let with : ℕ → List Section → Watched = λ (came : ℕ) (sections : List Section).
-          record { came = came; told = false; sections = sections; met = false } in
+          let with : ℕ → List Monitor → Watched = λ (came : ℕ) (monitors : List Monitor).
+          record { came = came; told = false; monitors = monitors; broken = false } in
           h.watch
-          ∙ ap (λ (came : ℕ). with came a.sections) same_came
-          ∙ ap (λ (ss : List Section). with (counted q.interrupts k.came) ss)
-          (held-told q.sections.items a.sections b.sections h.held k.held parts.1)
+          ∙ ap (λ (came : ℕ). with came a.monitors) same_came
+          ∙ ap (λ (ss : List Monitor). with (counted q.interrupts k.came) ss)
+          (held-told q.monitors.items a.monitors b.monitors h.held k.held parts.1)
           ∙ sym k.watch
 
     -- ---- what events lead to
@@ -205,23 +207,23 @@ module _ (i : ImageTables) (n : ℕ) (q : Question) where
     fit_by true w e r is h = subst (λ (x : Reaction MachineContext). AreWritten i.system i.code x) (sym is) (h refl)
 
     -- an event that is done, where no line is forbidden and the world after it is kept
-    pub leads_done : (w : World MachineContext) (came : ℕ) (ss : List Section) (e : Event) (d : Done MachineContext)
+    pub leads_done : (w : World MachineContext) (came : ℕ) (ss : List Monitor) (e : Event) (d : Done MachineContext)
         → reaction_in i n w e ≡ Did d → IsFit kept.outs i.system i.code n w e
         → list_any (forbids q.nevers.items) d.lines ≡ false
         → list_any (forbids_there i.system q.nevers_at.items d.world) d.lines ≡ false
-        → is_any_met ss d.lines ≡ false → IsSound i.system i.code d.world
-        → IsKept i q kept d.world (watched_with q (came_on q.interrupts came e) (sections_after ss d.lines))
+        → is_any_broken ss d.lines ≡ false → IsSound i.system i.code d.world
+        → IsKept i q kept d.world (watched_with q (came_on q.interrupts came e) (monitors_after ss d.lines))
         → LeadsOn i n q kept w (watched_with q came ss) e
     leads_done w came ss e d did fit clean clean_there alone sound known =
         let count : count_by is_request d.lines ≡ cond (is_interrupt e) 1 0 =
         done-counts i.system (code_meaning i.code) n w e d did in
         let with : ℕ → Bool → Bool → Watched =
-        λ (came : ℕ) (told : Bool) (met : Bool).
-        record { came = came; told = told; sections = sections_after ss d.lines; met = met } in
+        λ (came : ℕ) (told : Bool) (broken : Bool).
+        record { came = came; told = told; monitors = monitors_after ss d.lines; broken = broken } in
         let next : ℕ = came_after q.interrupts (counted q.interrupts came) d.lines in
-        let watch : watched_with q (came_on q.interrupts came e) (sections_after ss d.lines)
-        ≡ with next (list_any (forbids q.nevers.items) d.lines) (is_any_met ss d.lines) =
-        sym (ap (λ (met : Bool). with next (list_any (forbids q.nevers.items) d.lines) met) alone
+        let watch : watched_with q (came_on q.interrupts came e) (monitors_after ss d.lines)
+        ≡ with next (list_any (forbids q.nevers.items) d.lines) (is_any_broken ss d.lines) =
+        sym (ap (λ (broken : Bool). with next (list_any (forbids q.nevers.items) d.lines) broken) alone
         ∙ ap (λ (told : Bool). with next told false) clean
         ∙ ap (λ (k : ℕ). with k false false) (came_next q.interrupts came e d.lines count)) in
         record {
@@ -251,12 +253,12 @@ module _ (i : ImageTables) (n : ℕ) (q : Question) where
     came_stays (Some most) came (event.Int number) h = absurd (cc (h))
 
     -- an event that keeps a place, where the world after it is kept
-    pub leads_kept : (w : World MachineContext) (came : ℕ) (ss : List Section) (e : Event) (p : ℕ)
+    pub leads_kept : (w : World MachineContext) (came : ℕ) (ss : List Monitor) (e : Event) (p : ℕ)
         (v : World MachineContext) → reaction_in i n w e ≡ Kept p v → is_interrupt e ≡ false
         → IsSound i.system i.code v → IsKept i q kept v (watched_with q (came_on q.interrupts came e) ss)
         → LeadsOn i n q kept w (watched_with q came ss) e
     leads_kept w came ss e p v keeps runs sound known =
-        let with : ℕ → Watched = λ (came : ℕ). record { came = came; told = false; sections = ss; met = false } in
+        let with : ℕ → Watched = λ (came : ℕ). record { came = came; told = false; monitors = ss; broken = false } in
         record {
           fit = fit_by kept.outs w e (Kept p v) keeps (λ b. tt);
           leads =

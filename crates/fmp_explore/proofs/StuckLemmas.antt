@@ -32,7 +32,7 @@ use Rattle.fmp_replay.specs.Replays.{replay}
 use Rattle.fmp_replay.proofs.Replaying.{world_of}
 use Rattle.fmp_schedules.specs.Deadlocks.{is_interrupt}
 use Rattle.fmp_schedules.specs.Schedules.{Watched, is_told, may_come, reached, watch}
-use Rattle.fmp_schedules.specs.declared.section.Section.{Section}
+use Rattle.fmp_schedules.specs.declared.monitor.Monitor.{Monitor}
 use Rattle.fmp_schedules.specs.Stuck.{MayFollow, acts}
 use Rattle.fmp_schedules.proofs.HoldLaws.{or-none, rules_with}
 use Rattle.fmp_schedules.proofs.RuleLaws.{watch-blind}
@@ -83,8 +83,8 @@ module _ (i : ImageTables) (n : ℕ) (q : Question) (s : Search) (h : IsWhole i 
       (clean i n q s h.begun.survey) q.after.items more
       (watched_first i q) refl (came_counted q.interrupts (count_by is_interrupt q.after.items)) first follow
 
--- the rules let the same events follow, whatever sections are watched
-follow_too : (i : ImageTables) (n : ℕ) (idle : Bool) (most queued : Option ℕ) (ss ts : List Section)
+-- the rules let the same events follow, whatever monitors are watched
+follow_too : (i : ImageTables) (n : ℕ) (idle : Bool) (most queued : Option ℕ) (ss ts : List Monitor)
     (es more : List Event) → MayFollow (rules_with idle most queued ss) i.system (code_meaning i.code) n es more
     → MayFollow (rules_with idle most queued ts) i.system (code_meaning i.code) n es more
 follow_too i n idle most queued ss ts es more h = h
@@ -96,23 +96,23 @@ none_acts i n q about es t is none more follow =
     let told : List Event → Bool =
     λ (fs : List Event). is_told (acts t)
     (run i.system (code_meaning i.code) n (reached i.system (code_meaning i.code) n fs) more).events in
-    let moved : MayFollow (rules_with (is_idle about.ticks) about.interrupts about.queued q.sections.items) i.system
+    let moved : MayFollow (rules_with (is_idle about.ticks) about.interrupts about.queued q.monitors.items) i.system
     (code_meaning i.code) n about.after.items more =
     subst
-    (λ (fs : List Event). MayFollow (rules_with (is_idle about.ticks) about.interrupts about.queued q.sections.items)
+    (λ (fs : List Event). MayFollow (rules_with (is_idle about.ticks) about.interrupts about.queued q.monitors.items)
     i.system (code_meaning i.code) n fs more) (sym is.after)
-    (subst (λ (queued : Option ℕ). MayFollow (rules_with (is_idle about.ticks) about.interrupts queued q.sections.items)
+    (subst (λ (queued : Option ℕ). MayFollow (rules_with (is_idle about.ticks) about.interrupts queued q.monitors.items)
     i.system (code_meaning i.code) n es more) (sym is.queued)
-    (subst (λ (most : Option ℕ). MayFollow (rules_with (is_idle about.ticks) most q.queued q.sections.items) i.system
+    (subst (λ (most : Option ℕ). MayFollow (rules_with (is_idle about.ticks) most q.queued q.monitors.items) i.system
     (code_meaning i.code) n es more) (sym is.interrupts)
-    (subst (λ (ticks : Ticks). MayFollow (rules_with (is_idle ticks) q.interrupts q.queued q.sections.items) i.system
+    (subst (λ (ticks : Ticks). MayFollow (rules_with (is_idle ticks) q.interrupts q.queued q.monitors.items) i.system
     (code_meaning i.code) n es more) (sym is.ticks) follow))) in
     ap told (sym is.after)
     ∙ told-too (acts t) (forbids about.nevers.items)
     (λ l. or-none (acts t l) ∙ ap (λ (nevers : List Never). forbids nevers l) (sym is.nevers))
     (run i.system (code_meaning i.code) n (reached i.system (code_meaning i.code) n about.after.items) more).events
     ∙ none more
-    (follow_too i n (is_idle about.ticks) about.interrupts about.queued q.sections.items about.sections.items
+    (follow_too i n (is_idle about.ticks) about.interrupts about.queued q.monitors.items about.monitors.items
     about.after.items more moved)
 
 awake : (phase : Phase) → phase ≡ Dormant → not (is_dormant phase) ≡ true → ⊥

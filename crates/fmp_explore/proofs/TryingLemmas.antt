@@ -8,7 +8,7 @@ use Rattle.fmp_base.specs.Meanings.{World}
 use Rattle.fmp_question.specs.declared.question.Question.{Question}
 use Rattle.fmp_explore.specs.declared.searches.Search.{Search}
 use Rattle.fmp_explore.specs.declared.trying.StateMarks.{StateMarks}
-use Rattle.fmp_explore.specs.Searching.{AreMarks, Grows, HasLooked, HasTried, HasTriedOut, IsSearch, IsTrying}
+use Rattle.fmp_explore.specs.Searching.{AreMarks, Grows, HasLookedAt, HasTried, HasTriedOut, IsSearch, IsTrying}
 use Rattle.fmp_explore.specs.Searching.{Stays, rows_of}
 use Rattle.fmp_explore.specs.States.{KeptRows, LeadsOn, MayCome}
 use Rattle.fmp_schedules.specs.Schedules.{Watched}
@@ -79,9 +79,9 @@ module _ (i : ImageTables) (n : ℕ) (q : Question) (w : World MachineContext) (
   enough_tried a b m tried le t =
       record { trying = fewer_tried b m tried (length (all_tries i.system)) le t.trying; grows = t.grows }
 
-  -- every event was tried, and the world is no deadlock
+  -- every event was tried, the world is no deadlock, and its state breaks no sentence
   pub all_tried : (a b c : Search) (m : StateMarks) → IsImage i
-      → HasTried i n q w x m a b (length (all_tries i.system)) → HasLooked i n q b c w x → HasTriedOut i n q a c w x
+      → HasTried i n q w x m a b (length (all_tries i.system)) → HasLookedAt i n q b c w x → HasTriedOut i n q a c w x
   all_tried a b c m image t look =
       record {
         survey = stays_search i q b c look.stays t.trying.survey;
@@ -94,6 +94,7 @@ module _ (i : ImageTables) (n : ℕ) (q : Question) (w : World MachineContext) (
                   ∙ ap (λ (y : Event). Some y) tried.2 in
                   leads_later b c e (stays_grows b c look.stays)
                   (t.trying.each (look.stays.sure sure) tried.0 e tried.1 there may);
+              upheld = look.upheld sure;
               free = look.free sure;
             };
       }

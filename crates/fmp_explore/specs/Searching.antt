@@ -1,6 +1,6 @@
 -- What holds of a search under way.
 use Rattle.std.specs.Prelude.{ℕ, ◌≡◌, ◌+◌, ◌<◌, ◌≤◌, ◌^◌, List, [], ◌++◌, Option, Some, None, true, false, count_by}
-use Rattle.std.specs.Prelude.{is_some, length}
+use Rattle.std.specs.Prelude.{◌*◌, is_some, length}
 use Rattle.std.specs.Prelude.{slice_get}
 use Rattle.fmp_base.specs.declared.events.Effect.{Effect}
 use Rattle.fmp_base.specs.declared.events.Event.{Event}
@@ -31,8 +31,9 @@ use Rattle.fmp_live.specs.LiveLocals.{AreLiveTables, live_tables}
 use Rattle.fmp_reachable.specs.Sound.{IsSound}
 use Rattle.fmp_replay.specs.Replays.{replay}
 use Rattle.fmp_schedules.specs.Deadlocks.{is_interrupt}
-use Rattle.fmp_schedules.specs.declared.section.Section.{Section}
-use Rattle.fmp_schedules.specs.Schedules.{Holds, HoldsThere, Watched, may_still, none_runs, sections_after}
+use Rattle.fmp_schedules.specs.declared.monitor.Monitor.{Monitor}
+use Rattle.fmp_schedules.specs.Monitors.{is_any_broken_in}
+use Rattle.fmp_schedules.specs.Schedules.{Holds, HoldsThere, Watched, may_still, none_runs, monitors_after}
 use Rattle.fmp_schedules.specs.Schedules.{watched_at_setup}
 
 -- ---- kernels
@@ -85,7 +86,7 @@ pub record IsFresh (i : ImageTables) (q : Question) (s : Search) : Type 0 where
 -- a search that keeps states
 pub record IsSearch (i : ImageTables) (q : Question) (s : Search) : Type 0 where
   pub survey : IsSearchOf i q s
-  pub first : length s.rows.first.items ≡ length s.rows.fields.items + length q.sections.items
+  pub first : length s.rows.first.items ≡ length s.rows.fields.items + 2 * length q.monitors.items
 
 -- two searches have the same events, fields, live locals and first numbers
 pub record SameTable (old new : Search) : Type 0 where
@@ -114,18 +115,18 @@ pub record HasKept (i : ImageTables) (q : Question) (old new : Search) (w : Worl
     pub grows : Grows old new
     pub known : new.sure ≡ true → IsKept i q (rows_of new) w a
 
--- the sections after setup
-abbrev pub sections_at_setup : ImageTables → Question → List Section
-sections_at_setup i q = sections_after q.sections.items (setup i.system (code_meaning i.code)).lines
+-- the monitors after setup
+abbrev pub monitors_at_setup : ImageTables → Question → List Monitor
+monitors_at_setup i q = monitors_after q.monitors.items (setup i.system (code_meaning i.code)).lines
 
 -- what is watched in the state in which a search begins
 abbrev pub watched_first : ImageTables → Question → Watched
-watched_first i q = watched_with q (count_by is_interrupt q.after.items) (sections_at_setup i q)
+watched_first i q = watched_with q (count_by is_interrupt q.after.items) (monitors_at_setup i q)
 
--- no line of setup is forbidden, and by none a task enters a section that another holds
+-- no line of setup is forbidden, and none breaks a sentence
 abbrev pub IsClean : ImageTables → Question → Type 0
 IsClean i q =
-    watched_with q 0 (sections_at_setup i q)
+    watched_with q 0 (monitors_at_setup i q)
     ≡ watched_at_setup (rules_of q) i.system (code_meaning i.code) (forbids q.nevers.items)
 
 -- the state in which the search begins is kept
@@ -136,7 +137,7 @@ pub record IsBegun (i : ImageTables) (n : ℕ) (q : Question) (s : Search) : Typ
 
 -- what is watched in a state that is examined
 abbrev pub watched_in : Question → ExaminedState → Watched
-watched_in q at = watched_with q at.came at.sections.items
+watched_in q at = watched_with q at.came at.monitors.items
 
 -- a kernel is in the state that is examined: it has the row that is kept of it
 pub record StandsAt (i : ImageTables) (n : ℕ) (q : Question) (s : Search) (at : ExaminedState)
@@ -203,6 +204,13 @@ pub record HasTried (i : ImageTables) (n : ℕ) (q : Question) (w : World Machin
 pub record HasLooked (i : ImageTables) (n : ℕ) (q : Question) (old new : Search) (w : World MachineContext)
     (a : Watched) : Type 0 where
   pub stays : Stays old new
+  pub free : new.sure ≡ true → IsStuckIn i n q w a → ⊥
+
+-- it was looked whether a world is a deadlock, and whether its state breaks a sentence
+pub record HasLookedAt (i : ImageTables) (n : ℕ) (q : Question) (old new : Search) (w : World MachineContext)
+    (a : Watched) : Type 0 where
+  pub stays : Stays old new
+  pub upheld : new.sure ≡ true → is_any_broken_in q.monitors.items w.state ≡ false
   pub free : new.sure ≡ true → IsStuckIn i n q w a → ⊥
 
 -- a world was tried out

@@ -1,6 +1,7 @@
--- The states that a search keeps: rows. A row tells the numbers of a world, and who holds the sections there.
+-- The states that a search keeps: rows. A row tells the numbers of a world, and what is kept of the sentences there.
 use Rattle.std.specs.Prelude.{Bool}
-use Rattle.std.specs.Prelude.{ℕ, suc, ◌≡◌, ◌<◌, List, [], ◌∷◌, ◌++◌, Option, Some, None, true, false, is_some, map}
+use Rattle.std.specs.List.{flat_map}
+use Rattle.std.specs.Prelude.{ℕ, ◌≡◌, ◌<◌, List, [], ◌∷◌, ◌++◌, Option, Some, None, true, false, is_some, map}
 use Rattle.std.specs.Prelude.{slice_get}
 use Rattle.fmp_bisimulation.specs.Closed.{LeadsIn}
 use Rattle.fmp_base.specs.declared.events.Event.{Event}
@@ -21,7 +22,10 @@ use Rattle.fmp_live.specs.LiveLocals.{AreLiveTables, LiveTable}
 use Rattle.fmp_live.specs.Zeroed.{IsLike, zeroed}
 use Rattle.fmp_reachable.specs.Sound.{IsSound}
 use Rattle.fmp_schedules.specs.Deadlocks.{IsDeadlock}
-use Rattle.fmp_schedules.specs.declared.section.Section.{Section}
+use Rattle.fmp_monitors.specs.declared.standing.Standing.{Standing}
+use Rattle.fmp_monitors.specs.declared.standing.Standing.TheVariants as standing
+use Rattle.fmp_schedules.specs.declared.monitor.Monitor.{Monitor}
+use Rattle.fmp_schedules.specs.Monitors.{is_any_broken_in}
 use Rattle.fmp_schedules.specs.Schedules.{IsSilent, Watched, may_come, may_still, watch}
 use Rattle.fmp_schedules.specs.Tried.{is_event_of}
 use Rattle.fmp_visited.specs.Rows.{AreValues, row_of}
@@ -31,37 +35,46 @@ abbrev pub counted : Option ℕ → (came : ℕ) → ℕ
 counted None came = 0
 counted (Some most) came = came
 
--- what is watched where this many interrupts came, no forbidden line was told, and no task entered a section that
--- another held
-abbrev pub watched_with : Question → (came : ℕ) → List Section → Watched
-watched_with q came sections =
-    record { came = counted q.interrupts came; told = false; sections = sections; met = false }
+-- what is watched where this many interrupts came, no forbidden line was told, and no line broke a sentence
+abbrev pub watched_with : Question → (came : ℕ) → List Monitor → Watched
+watched_with q came monitors =
+    record { came = counted q.interrupts came; told = false; monitors = monitors; broken = false }
 
 -- where the number of interrupts is limited, it fits a byte
 abbrev pub AreFew : Question → (came : ℕ) → Type 0
 AreFew q came = is_some q.interrupts ≡ true → came < 256
 
--- the second sections are the first ones, but for who holds them
-abbrev pub AreHeldBy : (sections held : List Section) → Type 0
-AreHeldBy [] [] = Unit {0}
-AreHeldBy (s ∷ ss) (t ∷ ts) = (t ≡ record s { holder = t.holder }) × AreHeldBy ss ts
-AreHeldBy [] (t ∷ ts) = ⊥
-AreHeldBy (s ∷ ss) [] = ⊥
+-- the second monitors are of the same sentences as the first
+abbrev pub AreMonitorsOf : (monitors held : List Monitor) → Type 0
+AreMonitorsOf [] [] = Unit {0}
+AreMonitorsOf (s ∷ ss) (t ∷ ts) = (t ≡ record s { standing = t.standing }) × AreMonitorsOf ss ts
+AreMonitorsOf [] (t ∷ ts) = ⊥
+AreMonitorsOf (s ∷ ss) [] = ⊥
 
-abbrev pub holder_place : Option ℕ → ℕ
-holder_place None = 0
-holder_place (Some t) = suc t
+-- the kind of what is kept of a sentence
+abbrev pub kind_number : Standing → ℕ
+kind_number standing.Open = 0
+kind_number standing.Held = 1
+kind_number (standing.Inside t) = 2
+kind_number (standing.Waiting left) = 3
 
--- the number of the task that holds a section, from 1 on, or 0
-abbrev pub holder_number : Section → ℕ
-holder_number s = holder_place s.holder
+-- the task that is inside, or how many ticks may still come
+abbrev pub value_number : Standing → ℕ
+value_number standing.Open = 0
+value_number standing.Held = 0
+value_number (standing.Inside t) = t
+value_number (standing.Waiting left) = left
 
--- the numbers of the fields in a world, with 0 for each local that these tables call dead, and of the tasks that hold
--- the sections
-abbrev pub numbers_in : SystemTables → List LiveTable → List What → World MachineContext → (came : ℕ) → List Section
+-- the two numbers of what is kept of a sentence
+abbrev pub monitor_numbers : Monitor → List ℕ
+monitor_numbers m = kind_number m.standing ∷ value_number m.standing ∷ []
+
+-- the numbers of the fields in a world, with 0 for each local that these tables call dead, and of what is kept of the
+-- sentences
+abbrev pub numbers_in : SystemTables → List LiveTable → List What → World MachineContext → (came : ℕ) → List Monitor
     → List ℕ
-numbers_in sys tables fields w came sections =
-    map (number_of sys (zeroed sys tables w) came) fields ++ map holder_number sections
+numbers_in sys tables fields w came monitors =
+    map (number_of sys (zeroed sys tables w) came) fields ++ flat_map (λ m. monitor_numbers m) monitors
 
 -- the row of these numbers, each of which is one of 32 bits
 pub record IsRowOf (first numbers row : List ℕ) : Type 0 where
@@ -82,11 +95,11 @@ pub record HasRow (i : ImageTables) (q : Question) (kept : KeptRows) (w : World 
   pub sound : IsSound i.system i.code w
   pub came : ℕ
   pub few : AreFew q came
-  pub held : AreHeldBy q.sections.items a.sections
-  pub watch : a ≡ watched_with q came a.sections
+  pub held : AreMonitorsOf q.monitors.items a.monitors
+  pub watch : a ≡ watched_with q came a.monitors
   pub tables : List LiveTable
   pub live : AreLiveTables kept.outs i.code tables
-  pub is : IsRowOf kept.first (numbers_in i.system tables kept.fields w came a.sections) row
+  pub is : IsRowOf kept.first (numbers_in i.system tables kept.fields w came a.monitors) row
 
 -- such a world has one of the rows that are kept
 pub record IsKept (i : ImageTables) (q : Question) (kept : KeptRows) (w : World MachineContext) (a : Watched) : Type 0
@@ -119,10 +132,12 @@ abbrev pub IsStuckIn : ImageTables → (n : ℕ) → Question → World MachineC
 IsStuckIn i n q w a =
     IsDeadlock i.system (code_meaning i.code) n w q.rest.items (may_still q.interrupts a.came)
 
--- each event that may come to a world leads to a row that is kept, and the world is no deadlock
+-- each event that may come to a world leads to a row that is kept, the state breaks no sentence, and the world is no
+-- deadlock
 pub record IsTriedOut (i : ImageTables) (n : ℕ) (q : Question) (kept : KeptRows) (w : World MachineContext)
     (a : Watched) : Type 0 where
   pub each : (e : Event) → is_event_of i.system e ≡ true → MayCome i n q w a e → LeadsOn i n q kept w a e
+  pub upheld : is_any_broken_in q.monitors.items w.state ≡ false
   pub free : IsStuckIn i n q w a → ⊥
 
 -- so it is of some world with this row

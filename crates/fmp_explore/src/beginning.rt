@@ -4,22 +4,22 @@ ghost use Rattle.std.specs.List.{list_any};
 ghost use Rattle.fmp_live.specs.LiveLocals.{AreLiveTables, live_tables};
 ghost use Rattle.fmp_replay.specs.Replays.{kernel_after};
 ghost use Rattle.fmp_schedules.specs.Deadlocks.{is_interrupt as is_request};
-ghost use Rattle.fmp_schedules.specs.Schedules.{is_any_met};
-ghost use Rattle.fmp_explore.specs.States.{AreFew, AreHeldBy, watched_with};
+ghost use Rattle.fmp_schedules.specs.Schedules.{is_any_broken};
+ghost use Rattle.fmp_explore.specs.States.{AreFew, AreMonitorsOf, watched_with};
 ghost use Rattle.fmp_witness.specs.Followed.{IsFollowed};
 ghost use Rattle.fmp_question.specs.Places.{is_bad};
-ghost use Rattle.fmp_explore.specs.Searching.{HasKept, IsBegun, IsClean, IsFresh, IsSearch, Stays, sections_at_setup};
+ghost use Rattle.fmp_explore.specs.Searching.{HasKept, IsBegun, IsClean, IsFresh, IsSearch, Stays, monitors_at_setup};
 
-use crate::holding::sections_after;
 use crate::notes::PathEnd;
 use crate::searches::Search;
+use crate::standings::monitors_after;
 use crate::subject::SearchSubject;
 use fmp_base::Event;
 use fmp_code::Vm;
 use fmp_kernel::Kernel;
 use fmp_question::interrupt_count;
 use fmp_replay::kernel_of;
-use fmp_schedules::Section;
+use fmp_schedules::Monitor;
 use fmp_visited::StateLink;
 use fmp_witness::follow;
 use std::alloc::{AllocError, Global};
@@ -37,7 +37,7 @@ impl Search {
             list_any (is_bad subject.now.image.now.system subject.now.question.now kernel.now.world) kernel.now.lines
             ≡ false) }
         ensures alone { OnOk result (self.new.sure ≡ true →
-            is_any_met subject.now.question.now.sections.items kernel.now.lines ≡ false) }
+            is_any_broken subject.now.question.now.monitors.items kernel.now.lines ≡ false) }
     {
         let setup = PathEnd {
             after: &[],
@@ -47,32 +47,32 @@ impl Search {
         let path = setup.among(&self.seen);
         let found = self.notes.note_lines(alloc, subject, kernel, path, None)?;
         self.sure &= !found;
-        self.note_meetings(
+        self.note_breaches(
             alloc,
             kernel.lines(),
             setup,
-            &subject.question.sections,
+            &subject.question.monitors,
             None,
         )
     }
 
     /// Keeps the first state, that of a kernel which has taken the events behind which the search begins, with its
-    /// sections. `AllocError` if memory runs out.
+    /// monitors. `AllocError` if memory runs out.
     fn keep_first(
         &mut self,
         alloc: Global,
         subject: &SearchSubject<'_>,
         kernel: &Kernel<Vm<'_>>,
-        sections: &[Section],
+        monitors: &[Monitor],
     ) -> Result<(), AllocError>
         requires live { AreLiveTables self.old.rows.outs subject.now.image.now.code (live_tables self.old.rows.live) }
         requires few { AreFew subject.now.question.now (count_by is_request subject.now.question.now.after.items) }
         requires followed { IsFollowed subject.now.image.now subject.now.n subject.now.question.now.after.items
             kernel.now }
-        requires held { AreHeldBy subject.now.question.now.sections.items sections.now }
+        requires held { AreMonitorsOf subject.now.question.now.monitors.items monitors.now }
         ensures { OnOk result (HasKept subject.now.image.now subject.now.question.now self.old self.new
             kernel.now.world (watched_with subject.now.question.now
-            (count_by is_request subject.now.question.now.after.items) sections.now)) }
+            (count_by is_request subject.now.question.now.after.items) monitors.now)) }
     {
         let link = StateLink {
             parent: 0,
@@ -82,21 +82,21 @@ impl Search {
         };
         let came = interrupt_count(&subject.question.after);
         subject.image.keeps_rules();
-        self.keep(alloc, subject, kernel, came, sections, link)
+        self.keep(alloc, subject, kernel, came, monitors, link)
     }
 
     /// Takes the events behind which the search begins on a kernel that was just set up, and keeps the state after
-    /// them, where the sections are these at setup. `AllocError` if memory runs out.
+    /// them, where the monitors are these at setup. `AllocError` if memory runs out.
     fn begin_behind(
         &mut self,
         alloc: Global,
         subject: &SearchSubject<'_>,
         kernel: &mut Kernel<Vm<'_>>,
-        sections: &[Section],
+        monitors: &[Monitor],
     ) -> Result<(), AllocError>
         requires survey { IsSearch subject.now.image.now subject.now.question.now self.old }
         requires kernel { kernel.old ≡ kernel_after subject.now.image.now subject.now.n [] }
-        requires sections { sections.now ≡ sections_at_setup subject.now.image.now subject.now.question.now }
+        requires monitors { monitors.now ≡ monitors_at_setup subject.now.image.now subject.now.question.now }
         requires clean { self.old.sure ≡ true → IsClean subject.now.image.now subject.now.question.now }
         ensures { OnOk result (IsBegun subject.now.image.now subject.now.n subject.now.question.now self.new) }
     {
@@ -109,7 +109,7 @@ impl Search {
             self.sure = false;
             return Ok(());
         }
-        self.keep_first(alloc, subject, kernel, sections)
+        self.keep_first(alloc, subject, kernel, monitors)
     }
 
     /// Keeps the state after the events behind which the search begins, on a kernel that was just set up. `AllocError`
@@ -126,9 +126,9 @@ impl Search {
     {
         self.notes.cover(alloc, subject, kernel)?;
         self.note_setup(alloc, subject, kernel)?;
-        let sections = sections_after(alloc, &subject.question.sections, kernel.lines())?;
-        self.rows.begin(kernel, &sections)?;
-        self.begin_behind(alloc, subject, kernel, &sections)
+        let monitors = monitors_after(alloc, &subject.question.monitors, kernel.lines())?;
+        self.rows.begin(kernel, &monitors)?;
+        self.begin_behind(alloc, subject, kernel, &monitors)
     }
 
     /// Keeps the state after the events behind which the search begins. `AllocError` if memory runs out.

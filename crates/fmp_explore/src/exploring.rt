@@ -291,9 +291,9 @@ fn explore_subject<W: SearchWatcher>(
 
 /// Explores the schedules of an image, in which a stretch of a body takes at most n instructions, 1 to 2^48. Each
 /// finding is so: its events do something, one after the other, and after them it is seen. If the report holds, no
-/// schedule that the question allows tells a forbidden line, gives a call an answer that it must never get, lets a task
-/// enter a section that another holds, or reaches a deadlock, however long it is. If it does not hold and has no
-/// finding, nothing is claimed. `AllocError` if there is no memory to begin with, or for the findings.
+/// schedule that the question allows tells a forbidden line, gives a call an answer that it must never get, breaks a
+/// sentence, or reaches a deadlock, however long it is. If it does not hold and has no finding, nothing is claimed.
+/// `AllocError` if there is no memory to begin with, or for the findings.
 pub fn explore<W: SearchWatcher>(
     alloc: Global,
     image: &Image,

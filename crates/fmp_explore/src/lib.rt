@@ -6,13 +6,13 @@ mod beginning;
 mod edges;
 mod exploring;
 mod finding;
-mod holding;
 mod notes;
 mod outlooks;
 mod rows;
 mod searches;
 mod searching;
 mod standing;
+mod standings;
 mod stretching;
 mod stuck;
 mod subject;
@@ -21,9 +21,9 @@ mod values;
 
 pub use exploring::{Report, explore};
 pub use fmp_question::{ANSWERS, CallSite, Never, NeverAt, Question, Ticks};
-pub use fmp_schedules::{Meeting, Section};
+pub use fmp_schedules::{Breach, Monitor};
 pub use fmp_witness::{
-    Coverage, Finding, FindingKind, Left, Peaks, RunCoverage, Started, Together, left_by,
+    Coverage, Finding, FindingKind, Left, Peaks, RunCoverage, SentenceBreach, Started, left_by,
 };
 pub use searching::{Ending, SearchWatcher};
 pub use values::Variety;

@@ -1,8 +1,8 @@
 //! What a search notes on its way: candidates for findings, and what was ever done.
 ghost use Rattle.std.specs.Prelude.{◌≡◌, IfOk};
 ghost use Rattle.std.specs.List.{list_any};
-ghost use Rattle.fmp_schedules.specs.Schedules.{is_any_met};
-ghost use Rattle.fmp_schedules.specs.Sections.{is_met};
+ghost use Rattle.fmp_schedules.specs.Schedules.{is_any_broken};
+ghost use Rattle.fmp_schedules.specs.Monitors.{is_any_broken_in, is_broken, is_broken_in};
 ghost use Rattle.fmp_question.specs.Places.{is_bad as is_bad_line};
 
 use crate::outlooks::Outlooks;
@@ -11,9 +11,10 @@ use fmp_base::{Event, Line};
 use fmp_code::Vm;
 use fmp_kernel::Kernel;
 use fmp_question::{CallSite, first_bad_at, first_forbidden, is_bad};
-use fmp_schedules::Section;
+use fmp_schedules::Monitor;
+use fmp_tasks::KernelState;
 use fmp_visited::Seen;
-use fmp_witness::{Coverage, Finding, FindingKind, Together};
+use fmp_witness::{Coverage, Finding, FindingKind, SentenceBreach};
 use std::alloc::{AllocError, Global};
 use std::mem;
 
@@ -112,7 +113,8 @@ fn is_of_kind(
         (FindingKind::Deadlock, FindingKind::Deadlock) => true,
         (FindingKind::Endless(_), FindingKind::Endless(_)) => true,
         (FindingKind::Stuck(a), FindingKind::Stuck(b)) => a == b,
-        (FindingKind::Together(a), FindingKind::Together(b)) => a.section == b.section,
+        (FindingKind::Breach(a), FindingKind::Breach(b)) => a.monitor == b.monitor,
+        (FindingKind::State(a), FindingKind::State(b)) => a == b,
         _ => false,
     };
     is_same && known.finding.site == site
@@ -252,45 +254,83 @@ impl Notes {
         Ok(found)
     }
 
-    /// Notes that a task enters the section of this number by one of the lines of a path's last event while another
-    /// holds it, if one does: whether one does.
-    fn note_meeting(
+    /// Notes that one of the lines of a path's last event breaks the sentence of this number, if one does: whether one
+    /// does.
+    fn note_breach(
         &mut self,
         alloc: Global,
         lines: &[Line],
         path: Path<'_>,
         number: usize,
-        section: &Section,
+        monitor: &Monitor,
         made: Option<CallSite>,
     ) -> Result<bool, AllocError>
-        ensures { IfOk result (λ found. found ≡ is_met section.now lines.now) }
+        ensures { IfOk result (λ found. found ≡ is_broken monitor.now lines.now) }
     {
-        let Some(meeting) = section.first_meeting(lines) else {
+        let Some(breach) = monitor.first_breach(lines) else {
             return Ok(false);
         };
-        let together = Together {
-            section: number,
-            meeting,
+        let breached = SentenceBreach {
+            monitor: number,
+            breach,
         };
-        self.note_kind(alloc, path, FindingKind::Together(together), made)?;
+        self.note_kind(alloc, path, FindingKind::Breach(breached), made)?;
         Ok(true)
     }
 
-    /// Notes each of these sections, as they were before the lines of a path's last event, that a task enters by one of
-    /// them while another holds it: whether there is such a section. `AllocError` if memory runs out.
-    pub fn note_meetings(
+    /// Notes the sentences of these monitors, as they were before the lines of a path's last event, that one of the
+    /// lines breaks: whether there is one. `AllocError` if memory runs out.
+    pub fn note_breaches(
         &mut self,
         alloc: Global,
         lines: &[Line],
         path: Path<'_>,
-        sections: &[Section],
+        monitors: &[Monitor],
         made: Option<CallSite>,
     ) -> Result<bool, AllocError>
-        ensures { IfOk result (λ found. found ≡ is_any_met sections.now lines.now) }
+        ensures { IfOk result (λ found. found ≡ is_any_broken monitors.now lines.now) }
     {
         let mut found = false;
-        for number in 0..sections.len() {
-            if self.note_meeting(alloc, lines, path, number, &sections[number], made)? {
+        for number in 0..monitors.len() {
+            if self.note_breach(alloc, lines, path, number, &monitors[number], made)? {
+                found = true;
+            }
+        }
+        Ok(found)
+    }
+
+    /// Notes that a state after a path breaks the sentence of this number, if it does: whether it does.
+    fn note_broken(
+        &mut self,
+        alloc: Global,
+        path: Path<'_>,
+        state: &KernelState,
+        number: usize,
+        monitor: &Monitor,
+    ) -> Result<bool, AllocError>
+        ensures { IfOk result (λ found. found ≡ is_broken_in monitor.now state.now.state) }
+    {
+        if !monitor.is_broken_in(state) {
+            return Ok(false);
+        }
+        self.note_kind(alloc, path, FindingKind::State(number), None)?;
+        Ok(true)
+    }
+
+    /// Notes the sentences of these monitors that a state after a path breaks: whether there is one. `AllocError` if
+    /// memory runs out.
+    pub fn note_state(
+        &mut self,
+        alloc: Global,
+        path: Path<'_>,
+        state: &KernelState,
+        monitors: &[Monitor],
+    ) -> Result<bool, AllocError>
+        ensures { IfOk result (λ found. found ≡ is_any_broken_in monitors.now state.now.state) }
+    {
+        let mut found = false;
+        for number in 0..monitors.len() {
+            if self.note_broken(alloc, path, state, number, &monitors[number])? {
                 found = true;
             }
         }

@@ -1,4 +1,4 @@
-//! Which bodies go on for ever, as far as that was looked at: what is known of the contexts that were met last.
+//! Which bodies go on for ever, as far as that was looked at: what is known of the contexts that were broken last.
 ghost use Rattle.std.specs.Prelude.{◌<◌, ◌≡◌, length};
 ghost use Rattle.fmp_code.specs.Vms.{IsContext};
 

@@ -1,12 +1,12 @@
 //! Rows of the states of a system.
-ghost use Rattle.std.specs.Prelude.{◌≡◌, ◌+◌, ◌<◌, ◌^◌, IfOk, OnOk, is_some, length, true};
+ghost use Rattle.std.specs.Prelude.{◌≡◌, ◌+◌, ◌*◌, ◌<◌, ◌^◌, IfOk, OnOk, is_some, length, true};
 ghost use Rattle.fmp_fields.specs.Fields.{AreAllFields};
 ghost use Rattle.fmp_live.specs.LiveLocals.{AreLiveTables, live_tables};
-ghost use Rattle.fmp_explore.specs.States.{AreFew, AreHeldBy, IsRowOf, numbers_in};
+ghost use Rattle.fmp_explore.specs.States.{AreFew, AreMonitorsOf, IsRowOf, numbers_in};
 ghost use Rattle.fmp_explore.specs.Searching.{CanStep};
 ghost use Rattle.fmp_witness.specs.Followed.{IsOver};
 
-use crate::holding::{held_by, push_holders};
+use crate::standings::{monitors_told, push_standings};
 use crate::subject::{CodeTest, SearchSubject};
 use crate::trying::ExaminedState;
 use fmp_code::Vm;
@@ -15,7 +15,7 @@ use fmp_image_bytes::Image;
 use fmp_kernel::Kernel;
 use fmp_live::{LiveLocals, live_locals};
 use fmp_reachable::soundness::is_sound;
-use fmp_schedules::Section;
+use fmp_schedules::Monitor;
 use fmp_visited::{pack, unpack};
 use std::alloc::{AllocError, Global};
 
@@ -87,45 +87,45 @@ impl Rows {
         })
     }
 
-    /// Takes the numbers of a kernel's state, with those of its sections, as those of the first one. `AllocError` if
+    /// Takes the numbers of a kernel's state, with those of its monitors, as those of the first one. `AllocError` if
     /// memory runs out.
-    pub fn begin(&mut self, kernel: &Kernel<Vm<'_>>, sections: &[Section]) -> Result<(), AllocError>
+    pub fn begin(&mut self, kernel: &Kernel<Vm<'_>>, monitors: &[Monitor]) -> Result<(), AllocError>
         ensures fields { self.new.fields.items ≡ self.old.fields.items }
         ensures outs { self.new.outs ≡ self.old.outs }
         ensures live { self.new.live ≡ self.old.live }
         ensures first { OnOk result
-            (length self.new.first.items ≡ length self.new.fields.items + length sections.now) }
+            (length self.new.first.items ≡ length self.new.fields.items + 2 * length monitors.now) }
     {
         read(kernel, &self.live, 0, &self.fields, &mut self.first)?;
-        push_holders(&mut self.first, sections)
+        push_standings(&mut self.first, monitors)
     }
 
     /// Writes the numbers of a kernel's state, where this many interrupts came, with 0 for each dead local, and of its
-    /// sections.
+    /// monitors.
     fn write_numbers(
         &mut self,
         kernel: &Kernel<Vm<'_>>,
         came: usize,
-        sections: &[Section],
+        monitors: &[Monitor],
     ) -> Result<(), AllocError>
         ensures fields { self.new.fields.items ≡ self.old.fields.items }
         ensures outs { self.new.outs ≡ self.old.outs }
         ensures live { self.new.live ≡ self.old.live }
         ensures first { self.new.first.items ≡ self.old.first.items }
         ensures numbers { OnOk result (self.new.numbers.items ≡ numbers_in kernel.now.system (live_tables self.old.live)
-            self.old.fields.items kernel.now.world came sections.now) }
+            self.old.fields.items kernel.now.world came monitors.now) }
     {
         read(kernel, &self.live, came, &self.fields, &mut self.numbers)?;
-        push_holders(&mut self.numbers, sections)
+        push_standings(&mut self.numbers, monitors)
     }
 
     /// Writes the row of a kernel's state, where this many interrupts came, with 0 for each dead local and with its
-    /// sections. `AllocError` if memory runs out.
+    /// monitors. `AllocError` if memory runs out.
     pub fn write(
         &mut self,
         kernel: &Kernel<Vm<'_>>,
         came: usize,
-        sections: &[Section],
+        monitors: &[Monitor],
     ) -> Result<(), AllocError>
         ensures fields { self.new.fields.items ≡ self.old.fields.items }
         ensures outs { self.new.outs ≡ self.old.outs }
@@ -133,9 +133,9 @@ impl Rows {
         ensures first { self.new.first.items ≡ self.old.first.items }
         ensures row { OnOk result (IsRowOf self.old.first.items
             (numbers_in kernel.now.system (live_tables self.old.live) self.old.fields.items kernel.now.world came
-            sections.now) self.new.row.items) }
+            monitors.now) self.new.row.items) }
     {
-        self.write_numbers(kernel, came, sections)?;
+        self.write_numbers(kernel, came, monitors)?;
         write_row(&self.numbers, &self.first, &mut self.row)
     }
 
@@ -156,18 +156,18 @@ impl Rows {
         ensures state { IfOk result (λ at. at.state ≡ state) }
         ensures few { IfOk result (λ at. AreFew subject.now.question.now at.came) }
         ensures held { IfOk result
-            (λ at. AreHeldBy subject.now.question.now.sections.items at.sections.items) }
+            (λ at. AreMonitorsOf subject.now.question.now.monitors.items at.monitors.items) }
     {
         unpack(row, &self.first, &mut self.numbers)?;
         let question = subject.question;
         let came = came_in(&self.numbers, question.interrupts.is_some());
-        let holders = behind_fields(&self.numbers, self.fields.len());
-        let sections = held_by(alloc, &question.sections, holders)?;
+        let kept = behind_fields(&self.numbers, self.fields.len());
+        let monitors = monitors_told(alloc, &question.monitors, kept)?;
         Ok(ExaminedState {
             state,
             depth,
             came,
-            sections,
+            monitors,
         })
     }
 

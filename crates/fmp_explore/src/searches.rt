@@ -6,8 +6,9 @@ ghost use Rattle.fmp_instructions.specs.Instructions.{BodyTables};
 ghost use Rattle.fmp_instructions.specs.declared.instructions.MachineContext.{MachineContext};
 ghost use Rattle.fmp_kernel.specs.KernelViews.{KernelView};
 ghost use Rattle.fmp_reachable.specs.Sound.{IsSound};
-ghost use Rattle.fmp_schedules.specs.Schedules.{is_any_met};
-ghost use Rattle.fmp_explore.specs.States.{AreFew, AreHeldBy, watched_with};
+ghost use Rattle.fmp_schedules.specs.Monitors.{is_any_broken_in};
+ghost use Rattle.fmp_schedules.specs.Schedules.{is_any_broken};
+ghost use Rattle.fmp_explore.specs.States.{AreFew, AreMonitorsOf, watched_with};
 ghost use Rattle.fmp_live.specs.Fits.{is_written};
 ghost use Rattle.fmp_live.specs.LiveLocals.{AreLiveTables, live_tables};
 ghost use Rattle.fmp_question.specs.Places.{is_bad};
@@ -26,18 +27,18 @@ ghost use Rattle.fmp_explore.specs.Searching.{
 ghost use Rattle.fmp_witness.specs.Followed.{IsOver};
 
 use crate::edges::Edges;
-use crate::holding::sections_after;
 use crate::notes::{Notes, PathEnd};
 use crate::rows::Rows;
+use crate::standings::monitors_after;
 use crate::stretching::{Ahead, NextStretch, next_stretch, task_on};
 use crate::subject::SearchSubject;
-use crate::trying::Attempt;
+use crate::trying::{Attempt, ExaminedState};
 use crate::values::{Variety, varieties};
 use fmp_base::{Effect, Event, Line};
 use fmp_code::Vm;
 use fmp_kernel::Kernel;
 use fmp_question::{CallSite, Outlook, Question, are_written, may_rest, queues_within};
-use fmp_schedules::{Section, tries_of};
+use fmp_schedules::{Monitor, tries_of};
 use fmp_visited::{RowEntry, Seen, StateLink};
 use fmp_witness::{Coverage, Finding, FindingKind};
 use std::alloc::{AllocError, Global};
@@ -129,7 +130,7 @@ impl Search {
         }
     }
 
-    /// Keeps the state of a kernel to which this link leads, with its sections, if it is new. This many interrupts
+    /// Keeps the state of a kernel to which this link leads, with its monitors, if it is new. This many interrupts
     /// came. `AllocError` if memory runs out.
     pub fn keep(
         &mut self,
@@ -137,18 +138,18 @@ impl Search {
         subject: &SearchSubject<'_>,
         kernel: &Kernel<Vm<'_>>,
         came: usize,
-        sections: &[Section],
+        monitors: &[Monitor],
         link: StateLink,
     ) -> Result<(), AllocError>
         requires live { AreLiveTables self.old.rows.outs subject.now.image.now.code (live_tables self.old.rows.live) }
         requires over { IsOver subject.now.image.now subject.now.n kernel.now }
         requires sound { IsSound subject.now.image.now.system subject.now.image.now.code kernel.now.world }
         requires few { AreFew subject.now.question.now came }
-        requires held { AreHeldBy subject.now.question.now.sections.items sections.now }
+        requires held { AreMonitorsOf subject.now.question.now.monitors.items monitors.now }
         ensures { OnOk result (HasKept subject.now.image.now subject.now.question.now self.old self.new
-            kernel.now.world (watched_with subject.now.question.now came sections.now)) }
+            kernel.now.world (watched_with subject.now.question.now came monitors.now)) }
     {
-        self.rows.write(kernel, came, sections)?;
+        self.rows.write(kernel, came, monitors)?;
         let entry = self.seen.add(alloc, &self.rows.row, link)?;
         self.edges.note_entry(alloc, entry);
         match entry {
@@ -166,27 +167,47 @@ impl Search {
     }
 
     /// Notes what a list of events leads to, whose last one left these lines by a stretch that made this call, if it
-    /// made one, and found these sections: whether a task enters one while another holds it.
-    pub fn note_meetings(
+    /// made one, and found these monitors: whether a line breaks a sentence.
+    pub fn note_breaches(
         &mut self,
         alloc: Global,
         lines: &[Line],
         end: PathEnd<'_>,
-        sections: &[Section],
+        monitors: &[Monitor],
         made: Option<CallSite>,
     ) -> Result<(), AllocError>
         ensures stays { OnOk result (Stays self.old self.new) }
-        ensures clean { OnOk result (self.new.sure ≡ true → is_any_met sections.now lines.now ≡ false) }
+        ensures clean { OnOk result (self.new.sure ≡ true → is_any_broken monitors.now lines.now ≡ false) }
     {
         let path = end.among(&self.seen);
         let found = self
             .notes
-            .note_meetings(alloc, lines, path, sections, made)?;
+            .note_breaches(alloc, lines, path, monitors, made)?;
         self.sure &= !found;
         Ok(())
     }
 
-    /// Keeps the state of a kernel to which an attempt led, whose event kept a place or was done, with its sections.
+    /// Notes the sentences that the state of a kernel breaks, which is the state that is examined.
+    pub fn note_state(
+        &mut self,
+        alloc: Global,
+        subject: &SearchSubject<'_>,
+        kernel: &Kernel<Vm<'_>>,
+        at: &ExaminedState,
+    ) -> Result<(), AllocError>
+        ensures stays { OnOk result (Stays self.old self.new) }
+        ensures upheld { OnOk result (self.new.sure ≡ true →
+            is_any_broken_in subject.now.question.now.monitors.items kernel.now.world.state ≡ false) }
+    {
+        let path = at.end(subject.question).among(&self.seen);
+        let found = self
+            .notes
+            .note_state(alloc, path, kernel.tables(), &subject.question.monitors)?;
+        self.sure &= !found;
+        Ok(())
+    }
+
+    /// Keeps the state of a kernel to which an attempt led, whose event kept a place or was done, with its monitors.
     fn keep_next(
         &mut self,
         alloc: Global,
@@ -194,7 +215,7 @@ impl Search {
         kernel: &Kernel<Vm<'_>>,
         attempt: Attempt<'_>,
         kept: bool,
-        sections: &[Section],
+        monitors: &[Monitor],
     ) -> Result<(), AllocError>
         requires live { AreLiveTables self.old.rows.outs subject.now.image.now.code (live_tables self.old.rows.live) }
         requires over { IsOver subject.now.image.now subject.now.n kernel.now }
@@ -202,18 +223,18 @@ impl Search {
         requires before { AreFew subject.now.question.now attempt.at.now.came }
         requires few { AreFew subject.now.question.now
             (came_on subject.now.question.now.interrupts attempt.at.now.came attempt.event) }
-        requires held { AreHeldBy subject.now.question.now.sections.items sections.now }
+        requires held { AreMonitorsOf subject.now.question.now.monitors.items monitors.now }
         ensures { OnOk result (HasKept subject.now.image.now subject.now.question.now self.old self.new
             kernel.now.world (watched_with subject.now.question.now
             (came_on subject.now.question.now.interrupts attempt.entry.at.now.came attempt.entry.event)
-            sections.now)) }
+            monitors.now)) }
     {
         self.keep(
             alloc,
             subject,
             kernel,
             attempt.came(subject.question),
-            sections,
+            monitors,
             attempt.link(kept),
         )
     }
@@ -229,7 +250,7 @@ impl Search {
     }
 
     /// Notes the lines of an event that is done, by a stretch that made this call, if it made one, and that found these
-    /// sections.
+    /// monitors.
     fn note_lines(
         &mut self,
         alloc: Global,
@@ -237,13 +258,13 @@ impl Search {
         kernel: &Kernel<Vm<'_>>,
         attempt: Attempt<'_>,
         made: Option<CallSite>,
-        sections: &[Section],
+        monitors: &[Monitor],
     ) -> Result<(), AllocError>
         ensures stays { OnOk result (Stays self.old self.new) }
         ensures clean { OnOk result (self.new.sure ≡ true →
             list_any (is_bad subject.now.image.now.system subject.now.question.now kernel.now.world) kernel.now.lines
             ≡ false) }
-        ensures alone { OnOk result (self.new.sure ≡ true → is_any_met sections.now kernel.now.lines ≡ false) }
+        ensures alone { OnOk result (self.new.sure ≡ true → is_any_broken monitors.now kernel.now.lines ≡ false) }
         ensures written { OnOk result (self.new.sure ≡ true → self.new.rows.outs ≡ true → list_all (is_written
             subject.now.image.now.system subject.now.image.now.code kernel.now.world) kernel.now.lines ≡ true) }
     {
@@ -258,7 +279,7 @@ impl Search {
         let path = end.among(&self.seen);
         let found = self.notes.note_lines(alloc, subject, kernel, path, made)?;
         self.sure &= !found;
-        self.note_meetings(alloc, kernel.lines(), end, sections, made)
+        self.note_breaches(alloc, kernel.lines(), end, monitors, made)
     }
 
     /// An event is done, by a stretch that made this call, if it made one.
@@ -276,16 +297,16 @@ impl Search {
         requires before { AreFew subject.now.question.now attempt.at.now.came }
         requires few { AreFew subject.now.question.now
             (came_on subject.now.question.now.interrupts attempt.at.now.came attempt.event) }
-        requires held { AreHeldBy subject.now.question.now.sections.items attempt.at.now.sections.items }
+        requires held { AreMonitorsOf subject.now.question.now.monitors.items attempt.at.now.monitors.items }
         ensures { (w : World MachineContext) →
             HasDone subject.now.image.now subject.now.n w attempt.entry.event kernel.now →
             OnOk result (HasDealt subject.now.image.now subject.now.n subject.now.question.now self.old self.new w
             (watched_in subject.now.question.now attempt.entry.at.now) attempt.entry.event) }
     {
-        let before = &attempt.at.sections;
+        let before = &attempt.at.monitors;
         self.note_lines(alloc, subject, kernel, attempt, made, before)?;
-        let sections = sections_after(alloc, before, kernel.lines())?;
-        self.keep_next(alloc, subject, kernel, attempt, false, &sections)
+        let monitors = monitors_after(alloc, before, kernel.lines())?;
+        self.keep_next(alloc, subject, kernel, attempt, false, &monitors)
     }
 
     /// An event is done, by a stretch that made this call, if it made one. If it leaves more queued than may be, it may
@@ -304,7 +325,7 @@ impl Search {
         requires before { AreFew subject.now.question.now attempt.at.now.came }
         requires few { AreFew subject.now.question.now
             (came_on subject.now.question.now.interrupts attempt.at.now.came attempt.event) }
-        requires held { AreHeldBy subject.now.question.now.sections.items attempt.at.now.sections.items }
+        requires held { AreMonitorsOf subject.now.question.now.monitors.items attempt.at.now.monitors.items }
         ensures { (w : World MachineContext) →
             HasDone subject.now.image.now subject.now.n w attempt.entry.event kernel.now →
             OnOk result (HasDealt subject.now.image.now subject.now.n subject.now.question.now self.old self.new w
@@ -418,14 +439,14 @@ impl Search {
         requires before { AreFew subject.now.question.now attempt.at.now.came }
         requires few { AreFew subject.now.question.now
             (came_on subject.now.question.now.interrupts attempt.at.now.came attempt.event) }
-        requires held { AreHeldBy subject.now.question.now.sections.items attempt.at.now.sections.items }
+        requires held { AreMonitorsOf subject.now.question.now.monitors.items attempt.at.now.monitors.items }
         ensures { (w : World MachineContext) →
             HasKeptPlace subject.now.image.now subject.now.n w attempt.entry.event kernel.now →
             OnOk result (HasDealt subject.now.image.now subject.now.n subject.now.question.now self.old self.new w
             (watched_in subject.now.question.now attempt.entry.at.now) attempt.entry.event) }
     {
         self.note_place(kernel, attempt.event, outlook)?;
-        self.keep_next(alloc, subject, kernel, attempt, true, &attempt.at.sections)
+        self.keep_next(alloc, subject, kernel, attempt, true, &attempt.at.monitors)
     }
 
     /// Notes what an event did, which did this, and of whose stretch this was known before.
@@ -444,7 +465,7 @@ impl Search {
         requires before { AreFew subject.now.question.now attempt.at.now.came }
         requires few { AreFew subject.now.question.now
             (came_on subject.now.question.now.interrupts attempt.at.now.came attempt.event) }
-        requires held { AreHeldBy subject.now.question.now.sections.items attempt.at.now.sections.items }
+        requires held { AreMonitorsOf subject.now.question.now.monitors.items attempt.at.now.monitors.items }
         ensures { (before : KernelView (List BodyTables) MachineContext) →
             HasStepped subject.now.image.now subject.now.n before attempt.entry.event kernel.now effect →
             OnOk result (HasDealt subject.now.image.now subject.now.n subject.now.question.now self.old self.new

@@ -12,6 +12,7 @@ ghost use Rattle.fmp_explore.specs.Searching.{
   HasEnded,
   HasExamined,
   HasLooked,
+  HasLookedAt,
   HasTried,
   HasTriedOut,
   IsBegun,
@@ -21,7 +22,7 @@ ghost use Rattle.fmp_explore.specs.Searching.{
   came_on,
   watched_in,
 };
-ghost use Rattle.fmp_explore.specs.States.{AreFew, AreHeldBy, MayCome, counted, reaction_in};
+ghost use Rattle.fmp_explore.specs.States.{AreFew, AreMonitorsOf, MayCome, counted, reaction_in};
 ghost use Rattle.fmp_schedules.specs.Schedules.{may_still};
 ghost use Rattle.fmp_schedules.specs.Tries.{all_tries};
 
@@ -127,7 +128,7 @@ impl Search {
         requires before { AreFew subject.now.question.now attempt.at.now.came }
         requires few { AreFew subject.now.question.now
             (came_on subject.now.question.now.interrupts attempt.at.now.came attempt.event) }
-        requires held { AreHeldBy subject.now.question.now.sections.items attempt.at.now.sections.items }
+        requires held { AreMonitorsOf subject.now.question.now.monitors.items attempt.at.now.monitors.items }
         ensures dealt { OnOk result (HasDealt subject.now.image.now subject.now.n subject.now.question.now self.old
             self.new kernel.old.world (watched_in subject.now.question.now attempt.entry.at.now)
             attempt.entry.event) }
@@ -156,7 +157,7 @@ impl Search {
         requires before { AreFew subject.now.question.now attempt.at.now.came }
         requires few { AreFew subject.now.question.now
             (came_on subject.now.question.now.interrupts attempt.at.now.came attempt.event) }
-        requires held { AreHeldBy subject.now.question.now.sections.items attempt.at.now.sections.items }
+        requires held { AreMonitorsOf subject.now.question.now.monitors.items attempt.at.now.monitors.items }
         ensures dealt { OnOk result (HasDealt subject.now.image.now subject.now.n subject.now.question.now self.old
             self.new kernel.old.world (watched_in subject.now.question.now attempt.entry.at.now)
             attempt.entry.event) }
@@ -183,7 +184,7 @@ impl Search {
         requires place { place < length self.old.tries.items }
         requires ready { CanStep subject.now.image.now subject.now.n kernel.old }
         requires few { AreFew subject.now.question.now at.now.came }
-        requires held { AreHeldBy subject.now.question.now.sections.items at.now.sections.items }
+        requires held { AreMonitorsOf subject.now.question.now.monitors.items at.now.monitors.items }
         requires trying { IsTrying subject.now.image.now subject.now.n subject.now.question.now kernel.old.world
             (watched_in subject.now.question.now at.now) marks.old place self.old }
         ensures trying { OnOk result (IsTrying subject.now.image.now subject.now.n subject.now.question.now
@@ -221,7 +222,7 @@ impl Search {
         requires first { first < length self.old.tries.items }
         requires ready { CanStep subject.now.image.now subject.now.n kernel.old }
         requires few { AreFew subject.now.question.now at.now.came }
-        requires held { AreHeldBy subject.now.question.now.sections.items at.now.sections.items }
+        requires held { AreMonitorsOf subject.now.question.now.monitors.items at.now.monitors.items }
         requires trying { IsTrying subject.now.image.now subject.now.n subject.now.question.now kernel.old.world
             (watched_in subject.now.question.now at.now) marks.old first self.old }
         ensures tried { IfOk result (HasTried subject.now.image.now subject.now.n subject.now.question.now
@@ -252,7 +253,7 @@ impl Search {
         requires first { first < length self.old.tries.items }
         requires ready { CanStep subject.now.image.now subject.now.n from.now }
         requires few { AreFew subject.now.question.now at.now.came }
-        requires held { AreHeldBy subject.now.question.now.sections.items at.now.sections.items }
+        requires held { AreMonitorsOf subject.now.question.now.monitors.items at.now.monitors.items }
         requires trying { IsTrying subject.now.image.now subject.now.n subject.now.question.now from.now.world
             (watched_in subject.now.question.now at.now) marks.old first self.old }
         requires over { IsOver subject.now.image.now subject.now.n kernel.old }
@@ -277,7 +278,7 @@ impl Search {
         requires survey { IsSearch subject.now.image.now subject.now.question.now self.old }
         requires ready { CanStep subject.now.image.now subject.now.n from.now }
         requires few { AreFew subject.now.question.now at.now.came }
-        requires held { AreHeldBy subject.now.question.now.sections.items at.now.sections.items }
+        requires held { AreMonitorsOf subject.now.question.now.monitors.items at.now.monitors.items }
         requires over { IsOver subject.now.image.now subject.now.n kernel.old }
         ensures tried { IfOk result (λ marks. HasTried subject.now.image.now subject.now.n subject.now.question.now
             from.now.world (watched_in subject.now.question.now at.now) marks self.old self.new
@@ -353,7 +354,29 @@ impl Search {
         }
     }
 
-    /// Examines a state, in which `from` is: tries each event in it, and looks whether it is a deadlock.
+    /// Looks whether the state that is examined, in which this was done, is a deadlock, and whether it breaks a
+    /// sentence.
+    fn look_at(
+        &mut self,
+        alloc: Global,
+        subject: &SearchSubject<'_>,
+        kernel: &Kernel<Vm<'_>>,
+        at: &ExaminedState,
+        marks: StateMarks,
+    ) -> Result<(), AllocError>
+        requires over { IsOver subject.now.image.now subject.now.n kernel.now }
+        requires marks { AreMarks subject.now.image.now subject.now.n subject.now.question.now kernel.now.world
+            (watched_in subject.now.question.now at.now) marks }
+        ensures { OnOk result (HasLookedAt subject.now.image.now subject.now.n subject.now.question.now self.old
+            self.new kernel.now.world (watched_in subject.now.question.now at.now)) }
+    {
+        self.look_if_idle(alloc, subject, kernel, at, marks)?;
+        self.note_state(alloc, subject, kernel, at)?;
+        Ok(())
+    }
+
+    /// Examines a state, in which `from` is: tries each event in it, and looks whether it is a deadlock, and whether it
+    /// breaks a sentence.
     fn examine_on<'a>(
         &mut self,
         alloc: Global,
@@ -365,7 +388,7 @@ impl Search {
         requires survey { IsSearch subject.now.image.now subject.now.question.now self.old }
         requires ready { CanStep subject.now.image.now subject.now.n from.now }
         requires few { AreFew subject.now.question.now at.now.came }
-        requires held { AreHeldBy subject.now.question.now.sections.items at.now.sections.items }
+        requires held { AreMonitorsOf subject.now.question.now.monitors.items at.now.monitors.items }
         requires over { IsOver subject.now.image.now subject.now.n kernel.old }
         ensures tried { OnOk result (HasTriedOut subject.now.image.now subject.now.n subject.now.question.now
             self.old self.new from.now.world (watched_in subject.now.question.now at.now)) }
@@ -373,7 +396,7 @@ impl Search {
     {
         subject.image.keeps_rules();
         let marks = self.try_all(alloc, subject, from, kernel, at)?;
-        self.look_if_idle(alloc, subject, from, at, marks)
+        self.look_at(alloc, subject, from, at, marks)
     }
 
     /// Examines the state at a place, with a kernel that is put into the state and one on which events are tried.

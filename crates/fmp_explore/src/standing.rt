@@ -5,7 +5,7 @@ ghost use Rattle.fmp_live.specs.LiveLocals.{AreLiveTables, live_tables};
 ghost use Rattle.fmp_replay.specs.Replays.{kernel_after};
 ghost use Rattle.fmp_witness.specs.Followed.{IsOver};
 ghost use Rattle.fmp_explore.specs.Searching.{CanStep, StandsAt, Stays};
-ghost use Rattle.fmp_explore.specs.States.{AreFew, AreHeldBy};
+ghost use Rattle.fmp_explore.specs.States.{AreFew, AreMonitorsOf};
 
 use crate::searches::Search;
 use crate::subject::SearchSubject;
@@ -78,7 +78,7 @@ impl Search {
         ensures state { IfOk result (λ at. at.state ≡ state) }
         ensures few { IfOk result (λ at. AreFew subject.now.question.now at.came) }
         ensures held { IfOk result
-            (λ at. AreHeldBy subject.now.question.now.sections.items at.sections.items) }
+            (λ at. AreMonitorsOf subject.now.question.now.monitors.items at.monitors.items) }
     {
         let depth = self.depth_of(state);
         self.rows
@@ -96,13 +96,13 @@ impl Search {
         requires live { AreLiveTables self.old.rows.outs subject.now.image.now.code (live_tables self.old.rows.live) }
         requires there { at.now.state < length self.old.seen.rows }
         requires few { AreFew subject.now.question.now at.now.came }
-        requires held { AreHeldBy subject.now.question.now.sections.items at.now.sections.items }
+        requires held { AreMonitorsOf subject.now.question.now.monitors.items at.now.monitors.items }
         requires ready { CanStep subject.now.image.now subject.now.n kernel.now }
         ensures stays { Stays self.old self.new }
         ensures stands { IfOk result (λ yes. yes ≡ true →
             StandsAt subject.now.image.now subject.now.n subject.now.question.now self.new at.now kernel.now) }
     {
-        self.rows.write(kernel, at.came, &at.sections)?;
+        self.rows.write(kernel, at.came, &at.monitors)?;
         Ok(is_same(self.seen.row(at.state), &self.rows.row))
     }
 
@@ -118,7 +118,7 @@ impl Search {
         requires live { AreLiveTables self.old.rows.outs subject.now.image.now.code (live_tables self.old.rows.live) }
         requires there { at.now.state < length self.old.seen.rows }
         requires few { AreFew subject.now.question.now at.now.came }
-        requires held { AreHeldBy subject.now.question.now.sections.items at.now.sections.items }
+        requires held { AreMonitorsOf subject.now.question.now.monitors.items at.now.monitors.items }
         requires over { IsOver subject.now.image.now subject.now.n kernel.old }
         ensures stays { Stays self.old self.new }
         ensures over { IsOver subject.now.image.now subject.now.n kernel.new }
@@ -143,7 +143,7 @@ impl Search {
         requires live { AreLiveTables self.old.rows.outs subject.now.image.now.code (live_tables self.old.rows.live) }
         requires there { at.now.state < length self.old.seen.rows }
         requires few { AreFew subject.now.question.now at.now.came }
-        requires held { AreHeldBy subject.now.question.now.sections.items at.now.sections.items }
+        requires held { AreMonitorsOf subject.now.question.now.monitors.items at.now.monitors.items }
         requires other { IsOver subject.now.image.now subject.now.n other.now }
         requires over { IsOver subject.now.image.now subject.now.n kernel.old }
         ensures stays { Stays self.old self.new }
@@ -170,7 +170,7 @@ impl Search {
         requires live { AreLiveTables self.old.rows.outs subject.now.image.now.code (live_tables self.old.rows.live) }
         requires there { at.now.state < length self.old.seen.rows }
         requires few { AreFew subject.now.question.now at.now.came }
-        requires held { AreHeldBy subject.now.question.now.sections.items at.now.sections.items }
+        requires held { AreMonitorsOf subject.now.question.now.monitors.items at.now.monitors.items }
         requires other { IsOver subject.now.image.now subject.now.n other.now }
         requires over { IsOver subject.now.image.now subject.now.n kernel.old }
         ensures stays { Stays self.old self.new }

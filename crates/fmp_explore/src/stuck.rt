@@ -257,7 +257,7 @@ fn question_of(
     Ok(Question {
         nevers,
         nevers_at: Vec::new(alloc),
-        sections: Vec::new(alloc),
+        monitors: Vec::new(alloc),
         rest,
         ticks: question.ticks,
         interrupts: question.interrupts,

@@ -5,7 +5,7 @@ ghost use Rattle.fmp_explore.specs.Searching.{came_on, marked};
 use crate::notes::PathEnd;
 use fmp_base::Event;
 use fmp_question::Question;
-use fmp_schedules::Section;
+use fmp_schedules::Monitor;
 use fmp_visited::StateLink;
 
 /// A state that is examined.
@@ -17,8 +17,8 @@ pub struct ExaminedState {
     pub depth: u32,
     /// How many interrupts came, where their number is limited.
     pub came: usize,
-    /// The sections in it.
-    pub sections: Vec<Section>,
+    /// The monitors in it.
+    pub monitors: Vec<Monitor>,
 }
 
 impl ExaminedState {

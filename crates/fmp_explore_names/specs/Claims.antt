@@ -30,7 +30,7 @@ use Rattle.fmp_question.specs.declared.question.Ticks.{Ticks}
 use Rattle.fmp_question.specs.declared.question.Ticks.TheVariants as ticks
 use Rattle.fmp_question.specs.declared.site.CallSite.{CallSite}
 use Rattle.fmp_question.specs.Forbidden.{is_same_fault}
-use Rattle.fmp_schedules.specs.declared.section.Section.{Section}
+use Rattle.fmp_explore_names.specs.Sentences.{monitors_text}
 use Rattle.fmp_explore_names.specs.Sites.{TextBody, line_of}
 
 -- the status of a search: 4 where something was found, 0 where the report holds and stuck tasks were looked for, else 5
@@ -65,9 +65,6 @@ site_text code bodies site =
 unfoldable pub never_at_text : List BodyTables → List TextBody → NeverAt → List ℕ
 never_at_text code bodies n =
     codes "never " ++ (code_name n.code ++ (codes " of " ++ (site_text code bodies n.site ++ codes ", ")))
-
-unfoldable pub section_text : Section → List ℕ
-section_text s = codes "alone " ++ (signed_decimal s.enters ++ (codes "," ++ (signed_decimal s.leaves ++ codes ", ")))
 
 unfoldable pub rest_text : TaskConfig → List ℕ
 rest_text task = codes ", " ++ (name_text task.name ++ codes " may rest")
@@ -180,14 +177,11 @@ nevers_text sys nevers = flat_map (λ n. never_text sys n) nevers
 unfoldable pub nevers_at_text : List BodyTables → List TextBody → List NeverAt → List ℕ
 nevers_at_text code bodies nevers = flat_map (λ n. never_at_text code bodies n) nevers
 
-unfoldable pub sections_text : List Section → List ℕ
-sections_text sections = flat_map (λ s. section_text s) sections
-
 -- what the words ask for
 unfoldable pub asked_text : SystemTables → List BodyTables → List TextBody → Question → List ℕ
 asked_text sys code bodies q =
     nevers_text sys q.nevers.items
-    ++ (nevers_at_text code bodies q.nevers_at.items ++ sections_text q.sections.items)
+    ++ (nevers_at_text code bodies q.nevers_at.items ++ monitors_text sys q.monitors.items)
 
 -- no deadlock, and why a state is none though no task goes on
 unfoldable pub deadlock_text : SystemTables → Question → List ℕ

@@ -2,6 +2,7 @@ pub mod Answers
 pub mod Claims
 pub mod Fields
 pub mod Questions
+pub mod Sentences
 pub mod Sites
 pub mod Stuck
 pub mod TextSchedules

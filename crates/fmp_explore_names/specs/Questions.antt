@@ -1,4 +1,5 @@
 -- The question of a command: of its words, its system, the code of its bodies and their text.
+use Rattle.std.specs.Prelude.{ℤ, Option, Some, None, slice_get}
 use Rattle.std.specs.Prelude.{ℕ, ◌≡◌, List, [], ◌∷◌, ◌++◌, length, map, Bool, true, false, ◌&&◌, ◌||◌, Result, Ok, Err}
 use Rattle.std.specs.Prelude.{is_some, bytes_eq, nat_le, nat_lt}
 use Rattle.std.specs.List.{filter_map, flat_map, list_all, list_any}
@@ -14,12 +15,21 @@ use Rattle.fmp_question.specs.declared.question.Never.TheVariants as never
 use Rattle.fmp_question.specs.declared.question.NeverAt.{NeverAt}
 use Rattle.fmp_question.specs.declared.question.Question.{Question}
 use Rattle.fmp_question.specs.declared.site.CallSite.{CallSite}
-use Rattle.fmp_schedules.specs.declared.section.Section.{Section}
+use Rattle.fmp_expect.specs.declared.expectation.Expected.{Expected}
+use Rattle.fmp_expect.specs.declared.fault.ExpectFault.TheVariants as fault
+use Rattle.fmp_expect.specs.Grammar.{expectations_of}
+use Rattle.fmp_monitors.specs.declared.happening.ExpectedDeed.TheVariants as deed
+use Rattle.fmp_monitors.specs.declared.happening.Happening.{Happening}
+use Rattle.fmp_monitors.specs.declared.sentence.Sentence.{Sentence}
+use Rattle.fmp_monitors.specs.declared.sentence.Sentence.TheVariants as sentence
+use Rattle.fmp_schedules.specs.declared.monitor.Monitor.{Monitor}
+use Rattle.fmp_schedules.specs.Monitors.{at_open}
 use Rattle.fmp_explore_names.specs.declared.asking.ExploreWords.{ExploreWords}
 use Rattle.fmp_explore_names.specs.declared.asking.CommandMistake.{CommandMistake}
 use Rattle.fmp_explore_names.specs.declared.asking.CommandMistake.TheVariants as mistake
 use Rattle.fmp_explore_names.specs.declared.asking.ExploreChoices.{ExploreChoices}
 use Rattle.fmp_explore_names.specs.declared.words.CodeAt.{CodeAt}
+use Rattle.fmp_explore_names.specs.declared.words.Section.{Section}
 use Rattle.fmp_explore_names.specs.Sites.{TextBody, calls_in}
 use Rattle.fmp_explore_names.specs.Words.{never_at_named, never_named, section_named}
 
@@ -64,6 +74,8 @@ IsWanted a (Err mistake.Alone) = are_sections a.alone.now ≡ false
 IsWanted a (Err mistake.Never) = (are_sections a.alone.now ≡ true) × (are_nevers a.nevers.now ≡ false)
 IsWanted a (Err mistake.Rest) = ⊥
 IsWanted a (Err mistake.Call) = ⊥
+IsWanted a (Err (mistake.Sentence line flaw)) = ⊥
+IsWanted a (Err mistake.End) = ⊥
 
 -- a word is the name of a task
 abbrev pub is_task : List TaskConfig → List ℕ → Bool
@@ -76,9 +88,21 @@ are_tasks tasks words = list_all (λ word. is_task tasks word.now) words
 abbrev pub is_named : Words → TaskConfig → Bool
 is_named words task = list_any (λ word. bytes_eq (name_text task.name) word.now) words
 
--- for each task, whether the words name it
-abbrev pub marks : List TaskConfig → Words → List Bool
-marks tasks words = map (λ task. is_named words task) tasks
+abbrev pub has_name : (name : List ℕ) → Option TaskConfig → Bool
+has_name name None = false
+has_name name (Some task) = bytes_eq (name_text task.name) name
+
+-- a sentence says that a task of this name may rest
+abbrev pub rests : List TaskConfig → (name : List ℕ) → Sentence → Bool
+rests tasks name (sentence.Rests t) = has_name name (slice_get tasks t)
+rests tasks name _ = false
+
+abbrev pub is_resting : List TaskConfig → List Expected → TaskConfig → Bool
+is_resting tasks expected task = list_any (λ x. rests tasks (name_text task.name) x.sentence) expected
+
+-- for each task, whether the words name it, or a sentence says that it may rest
+abbrev pub marks : (all tasks : List TaskConfig) → Words → List Expected → List Bool
+marks all tasks words expected = map (λ task. is_named words task || is_resting all expected task) tasks
 
 -- whether a call stands in the line of each code
 abbrev pub are_called : List BodyTables → List TextBody → List CodeAt → Bool
@@ -95,17 +119,40 @@ nevers_at_of code bodies c = map (λ s. never_at c.code s) (calls_in c.line code
 abbrev pub nevers_at_in : List BodyTables → List TextBody → List CodeAt → List NeverAt
 nevers_at_in code bodies codes = flat_map (λ c. nevers_at_of code bodies c) codes
 
+-- somebody puts a value
+abbrev pub putting : ℤ → Happening
+putting value = record { deed = deed.Put value; by = None }
+
+abbrev pub monitor_of_section : Section → Monitor
+monitor_of_section s = at_open (sentence.OneAtATime (putting s.enters) (putting s.leaves))
+
+abbrev pub monitor_of : Expected → Monitor
+monitor_of x = at_open x.sentence
+
+-- the sentences of sections, and those of a text
+abbrev pub monitors_of : List Section → List Expected → List Monitor
+monitors_of sections expected = map (λ s. monitor_of_section s) sections ++ map (λ x. monitor_of x) expected
+
+-- a sentence about the end of a run, of which a search knows nothing
+abbrev pub is_end : Sentence → Bool
+is_end (sentence.End word t) = true
+is_end _ = false
+
+abbrev pub has_end : List Expected → Bool
+has_end expected = list_any (λ x. is_end x.sentence) expected
+
 -- no body may stop with a fault
 abbrev pub faults : List Never
 faults = never.Fault Overflow ∷ never.Fault Division ∷ never.Fault Index ∷ []
 
--- the question of the words of a command, on this system, whose bodies have this code and stand so in their text
-pub record IsQuestionOf (a : ExploreWords) (system : SystemTables) (code : List BodyTables) (bodies : List TextBody)
-    (q : Question) : Type 0 where
+-- the question of the words of a command and of these sentences, on this system, whose bodies have this code and stand
+-- so in their text
+pub record IsQuestionWith (a : ExploreWords) (expected : List Expected) (system : SystemTables)
+    (code : List BodyTables) (bodies : List TextBody) (q : Question) : Type 0 where
   pub nevers : q.nevers.items ≡ faults ++ nevers_in a.nevers.now
   pub nevers_at : q.nevers_at.items ≡ nevers_at_in code bodies (codes_in a.nevers.now)
-  pub sections : q.sections.items ≡ sections_in a.alone.now
-  pub rest : q.rest.items ≡ marks system.tasks a.rest.now
+  pub monitors : q.monitors.items ≡ monitors_of (sections_in a.alone.now) expected
+  pub rest : q.rest.items ≡ marks system.tasks system.tasks a.rest.now expected
   pub ticks : q.ticks ≡ a.ticks
   pub interrupts : q.interrupts ≡ a.interrupts
   pub queued : q.queued ≡ a.queued
@@ -113,14 +160,34 @@ pub record IsQuestionOf (a : ExploreWords) (system : SystemTables) (code : List 
   pub states : q.states ≡ a.states
   pub after : q.after.items ≡ []
 
--- what the words of a command ask, or which of them are mistaken: one names no task, or a line without a call
-abbrev pub IsAsked : ExploreWords → SystemTables → List BodyTables → List TextBody → Result Question CommandMistake
-    → Type 0
-IsAsked a system code bodies (Ok q) =
+-- the question of the words of a command and of the sentences of a text
+pub record IsQuestionOf (a : ExploreWords) (text : List ℕ) (system : SystemTables) (code : List BodyTables)
+    (bodies : List TextBody) (q : Question) : Type 0 where
+  pub expected : List Expected
+  pub says : expectations_of system text ≡ Ok expected
+  pub lasting : has_end expected ≡ false
+  pub asks : IsQuestionWith a expected system code bodies q
+
+-- the words of a command name tasks, and lines with calls
+abbrev pub AreKnown : ExploreWords → SystemTables → List BodyTables → List TextBody → Type 0
+AreKnown a system code bodies =
     (are_tasks system.tasks a.rest.now ≡ true) × (are_called code bodies (codes_in a.nevers.now) ≡ true)
-    × IsQuestionOf a system code bodies q
-IsAsked a system code bodies (Err mistake.Rest) = are_tasks system.tasks a.rest.now ≡ false
-IsAsked a system code bodies (Err mistake.Call) =
+
+abbrev pub EndIsAsked : SystemTables → (text : List ℕ) → List Expected → Type 0
+EndIsAsked system text expected = (expectations_of system text ≡ Ok expected) × (has_end expected ≡ true)
+
+-- what the words of a command and a text of sentences ask, or what is mistaken: a word names no task, or a line without
+-- a call; a line of the text is no sentence; or a sentence is about the end of a run
+abbrev pub IsAsked : ExploreWords → (text : List ℕ) → SystemTables → List BodyTables → List TextBody
+    → Result Question CommandMistake → Type 0
+IsAsked a text system code bodies (Ok q) =
+    AreKnown a system code bodies × IsQuestionOf a text system code bodies q
+IsAsked a text system code bodies (Err mistake.Rest) = are_tasks system.tasks a.rest.now ≡ false
+IsAsked a text system code bodies (Err mistake.Call) =
     (are_tasks system.tasks a.rest.now ≡ true) × (are_called code bodies (codes_in a.nevers.now) ≡ false)
-IsAsked a system code bodies (Err mistake.Never) = ⊥
-IsAsked a system code bodies (Err mistake.Alone) = ⊥
+IsAsked a text system code bodies (Err (mistake.Sentence line flaw)) =
+    AreKnown a system code bodies × (expectations_of system text ≡ Err (fault.Line line flaw))
+IsAsked a text system code bodies (Err mistake.End) =
+    AreKnown a system code bodies × ((expected : List Expected) × EndIsAsked system text expected)
+IsAsked a text system code bodies (Err mistake.Never) = ⊥
+IsAsked a text system code bodies (Err mistake.Alone) = ⊥

@@ -13,10 +13,10 @@ use Rattle.fmp_base.specs.declared.bodies.Fault.{Fault}
 use Rattle.fmp_base.specs.declared.bodies.Fault.TheVariants.{Overflow, Division, Index}
 use Rattle.fmp_base.specs.declared.codes.Er.{Er}
 use Rattle.fmp_explore_names.specs.declared.words.CodeAt.{CodeAt}
+use Rattle.fmp_explore_names.specs.declared.words.Section.{Section}
 use Rattle.fmp_question.specs.declared.question.Never.{Never}
 use Rattle.fmp_question.specs.declared.question.Never.TheVariants as never
 use Rattle.fmp_question.specs.declared.question.TheConstants.{ANSWERS}
-use Rattle.fmp_schedules.specs.declared.section.Section.{Section}
 
 -- what stands behind a front of a text, if the text begins with it
 unfoldable pub behind : (front text : List ℕ) → Option (List ℕ)
@@ -86,7 +86,7 @@ never_at_named word = option_and_then (λ parts. code_at (code_named parts.0) (l
 -- the section with these two values, if they differ
 abbrev pub section_of : Option ℤ → Option ℤ → Option Section
 section_of (Some enters) (Some leaves) =
-    if int_eq enters leaves then None else Some (record { enters = enters; leaves = leaves; holder = None })
+    if int_eq enters leaves then None else Some (record { enters = enters; leaves = leaves })
 section_of (Some enters) None = None
 section_of None leaves = None
 

@@ -1,18 +1,22 @@
 //! The question that the words of a command ask.
 ghost use Rattle.std.specs.Prelude.{◌≡◌, ◌++◌, IfOk, Ok, OnOk, map};
 ghost use Rattle.std.specs.List.{list_all};
+ghost use Rattle.fmp_base.specs.Names.{name_text};
 ghost use Rattle.fmp_base.specs.Systems.{tables_of};
 ghost use Rattle.fmp_instructions.specs.Instructions.{code_tables};
 ghost use Rattle.fmp_explore_names.specs.Questions as spec;
-ghost use Rattle.fmp_explore_names.specs.Questions.{IsAsked, IsQuestionOf, IsWanted};
+ghost use Rattle.fmp_expect.specs.Grammar.{expectations_of};
+ghost use Rattle.fmp_explore_names.specs.Questions.{AreKnown, IsAsked, IsQuestionWith, IsWanted};
 ghost use Rattle.fmp_explore_names.specs.Sites.{HasSites};
 
 use crate::sites::CallLines;
-use crate::words::{CodeAt, never_at_named, never_named, section_named};
+use crate::words::{CodeAt, Section, never_at_named, never_named, section_named};
 use fmp_base::{Er, Fault, System, TaskConfig};
 use fmp_code::Code;
-use fmp_explore::{CallSite, Never, NeverAt, Question, Section, Ticks};
+use fmp_expect::{ExpectFault, ExpectationFlaw, Expected, read_expectations};
+use fmp_explore::{CallSite, Monitor, Never, NeverAt, Question, Ticks};
 use fmp_image_bytes::Image;
+use fmp_monitors::{ExpectedDeed, Happening, Sentence};
 use std::alloc::{AllocError, Global};
 
 /// The words of a command that explores.
@@ -47,6 +51,10 @@ pub enum CommandMistake {
     Rest,
     /// No call stands in the line that a word names.
     Call,
+    /// The line of this number of the text of sentences, from 1, has a flaw.
+    Sentence { line: usize, flaw: ExpectationFlaw },
+    /// A sentence is about the end of a run, of which a search knows nothing.
+    End,
 }
 
 /// What the words of a command say before its files are read.
@@ -197,15 +205,101 @@ fn is_named(words: &[&str], task: &TaskConfig) -> bool
     false
 }
 
-/// For each task, whether the words name it.
-fn marks(alloc: Global, tasks: &[TaskConfig], words: &[&str]) -> Result<Vec<bool>, AllocError>
-    ensures { IfOk result (λ rest. rest.items ≡ spec.marks tasks.now words.now) }
+/// Whether a sentence says that a task of this name may rest.
+fn rests(tasks: &[TaskConfig], task: &TaskConfig, sentence: &Sentence) -> bool
+    ensures { result ≡ spec.rests tasks.now (name_text task.now.name) sentence.now }
+{
+    match sentence {
+        Sentence::Rests(place) => match tasks.get(*place) {
+            Some(other) => other.name.as_bytes() == task.name.as_bytes(),
+            None => false,
+        },
+        _ => false,
+    }
+}
+
+/// Whether one of these sentences says that a task of this name may rest.
+fn is_resting(tasks: &[TaskConfig], expected: &[Expected], task: &TaskConfig) -> bool
+    ensures { result ≡ spec.is_resting tasks.now expected.now task.now }
+{
+    for said in expected {
+        if rests(tasks, task, &said.sentence) {
+            return true;
+        }
+    }
+    false
+}
+
+/// For each task, whether the words name it, or one of these sentences says that it may rest.
+fn marks(
+    alloc: Global,
+    tasks: &[TaskConfig],
+    words: &[&str],
+    expected: &[Expected],
+) -> Result<Vec<bool>, AllocError>
+    ensures { IfOk result (λ rest. rest.items ≡ spec.marks tasks.now tasks.now words.now expected.now) }
 {
     let mut rest = Vec::new(alloc);
     for task in tasks {
-        rest.push(is_named(words, task))?;
+        rest.push(is_named(words, task) || is_resting(tasks, expected, task))?;
     }
     Ok(rest)
+}
+
+/// A happening: that somebody puts a value.
+fn putting(value: i32) -> Happening
+    ensures { result ≡ spec.putting value }
+{
+    Happening {
+        deed: ExpectedDeed::Put(value),
+        by: None,
+    }
+}
+
+/// The monitor of a section.
+fn monitor_of_section(section: &Section) -> Monitor
+    ensures { result ≡ spec.monitor_of_section section.now }
+{
+    Monitor::new(Sentence::OneAtATime {
+        entering: putting(section.enters),
+        leaving: putting(section.leaves),
+    })
+}
+
+/// Adds the monitors of sections.
+fn add_sections(monitors: &mut Vec<Monitor>, sections: &[Section]) -> Result<(), AllocError>
+    ensures { OnOk result (monitors.new.items
+        ≡ monitors.old.items ++ map (λ s. spec.monitor_of_section s) sections.now) }
+{
+    for section in sections {
+        monitors.push(monitor_of_section(section))?;
+    }
+    Ok(())
+}
+
+/// Adds the monitors of sentences.
+fn add_expected(monitors: &mut Vec<Monitor>, expected: &[Expected]) -> Result<(), AllocError>
+    ensures { OnOk result (monitors.new.items
+        ≡ monitors.old.items ++ map (λ x. spec.monitor_of x) expected.now) }
+{
+    for said in expected {
+        monitors.push(Monitor::new(said.sentence))?;
+    }
+    Ok(())
+}
+
+/// The monitors of sections and of sentences.
+fn monitors_of(
+    alloc: Global,
+    sections: &[Section],
+    expected: &[Expected],
+) -> Result<Vec<Monitor>, AllocError>
+    ensures { IfOk result (λ monitors. monitors.items ≡ spec.monitors_of sections.now expected.now) }
+{
+    let mut monitors = Vec::new(alloc);
+    add_sections(&mut monitors, sections)?;
+    add_expected(&mut monitors, expected)?;
+    Ok(monitors)
 }
 
 /// Whether a call stands in the line of each code.
@@ -279,24 +373,26 @@ fn with_faults(alloc: Global, nevers: &[Never]) -> Result<Vec<Never>, AllocError
     Ok(all)
 }
 
-/// The question of words that are not mistaken.
+/// The question of words that are not mistaken, and of these sentences.
 fn question_of(
     alloc: Global,
     asked: &ExploreWords<'_>,
     wanted: &ExploreChoices,
+    expected: &[Expected],
     sys: &System,
     code: &Code,
     lines: &CallLines,
 ) -> Result<Question, AllocError>
     requires wanted { IsWanted asked.now (Ok wanted.now) }
     requires sites { HasSites (code_tables code.now) }
-    ensures { IfOk result (λ q. IsQuestionOf asked.now (tables_of sys.now) (code_tables code.now) lines.now q) }
+    ensures { IfOk result (λ q. IsQuestionWith asked.now expected.now (tables_of sys.now) (code_tables code.now)
+        lines.now q) }
 {
     Ok(Question {
         nevers: with_faults(alloc, &wanted.nevers)?,
         nevers_at: nevers_at_in(alloc, code, lines, &wanted.nevers_at)?,
-        sections: Vec::from_slice(alloc, &wanted.sections)?,
-        rest: marks(alloc, &sys.tasks, asked.rest)?,
+        monitors: monitors_of(alloc, &wanted.sections, expected)?,
+        rest: marks(alloc, &sys.tasks, asked.rest, expected)?,
         ticks: asked.ticks,
         interrupts: asked.interrupts,
         queued: asked.queued,
@@ -306,18 +402,90 @@ fn question_of(
     })
 }
 
-/// The question of the words of a command, or which of them are mistaken.
-fn asked_of(
+/// Whether a sentence is about the end of a run.
+fn is_end(sentence: &Sentence) -> bool
+    ensures { result ≡ spec.is_end sentence.now }
+{
+    match sentence {
+        Sentence::End { .. } => true,
+        _ => false,
+    }
+}
+
+/// Whether one of these sentences is about the end of a run.
+fn has_end(expected: &[Expected]) -> bool
+    ensures { result ≡ spec.has_end expected.now }
+{
+    for said in expected {
+        if is_end(&said.sentence) {
+            return true;
+        }
+    }
+    false
+}
+
+/// The question of words that are not mistaken, and of the sentences that a text says, unless one of these is about the
+/// end of a run.
+fn lasting_question(
     alloc: Global,
     asked: &ExploreWords<'_>,
     wanted: &ExploreChoices,
+    text: &[u8],
+    expected: &[Expected],
     sys: &System,
     code: &Code,
     lines: &CallLines,
 ) -> Result<Result<Question, CommandMistake>, AllocError>
     requires wanted { IsWanted asked.now (Ok wanted.now) }
     requires sites { HasSites (code_tables code.now) }
-    ensures { IfOk result (λ q. IsAsked asked.now (tables_of sys.now) (code_tables code.now) lines.now q) }
+    requires known { AreKnown asked.now (tables_of sys.now) (code_tables code.now) lines.now }
+    requires says { expectations_of (tables_of sys.now) text.now ≡ Ok expected.now }
+    ensures { IfOk result (λ q. IsAsked asked.now text.now (tables_of sys.now) (code_tables code.now) lines.now q) }
+{
+    if has_end(expected) {
+        return Ok(Err(CommandMistake::End));
+    }
+    let question = question_of(alloc, asked, wanted, expected, sys, code, lines)?;
+    Ok(Ok(question))
+}
+
+/// The question of words that are not mistaken, and of the sentences of a text.
+fn said_question(
+    alloc: Global,
+    asked: &ExploreWords<'_>,
+    wanted: &ExploreChoices,
+    text: &[u8],
+    sys: &System,
+    code: &Code,
+    lines: &CallLines,
+) -> Result<Result<Question, CommandMistake>, AllocError>
+    requires wanted { IsWanted asked.now (Ok wanted.now) }
+    requires sites { HasSites (code_tables code.now) }
+    requires known { AreKnown asked.now (tables_of sys.now) (code_tables code.now) lines.now }
+    ensures { IfOk result (λ q. IsAsked asked.now text.now (tables_of sys.now) (code_tables code.now) lines.now q) }
+{
+    match read_expectations(alloc, sys, text) {
+        Ok(expected) => {
+            lasting_question(alloc, asked, wanted, text, &expected, sys, code, lines)
+        }
+        Err(ExpectFault::Memory) => Err(AllocError),
+        Err(ExpectFault::Line { line, flaw }) => Ok(Err(CommandMistake::Sentence { line, flaw })),
+    }
+}
+
+/// The question of the words of a command and of the sentences of a text, or what is mistaken.
+fn asked_of(
+    alloc: Global,
+    asked: &ExploreWords<'_>,
+    wanted: &ExploreChoices,
+    text: &[u8],
+    sys: &System,
+    code: &Code,
+    lines: &CallLines,
+) -> Result<Result<Question, CommandMistake>, AllocError>
+    requires wanted { IsWanted asked.now (Ok wanted.now) }
+    requires sites { HasSites (code_tables code.now) }
+    ensures { IfOk result (λ q. IsAsked asked.now text.now (tables_of sys.now) (code_tables code.now) lines.now q) }
 {
     if !are_tasks(&sys.tasks, asked.rest) {
         return Ok(Err(CommandMistake::Rest));
@@ -325,21 +493,31 @@ fn asked_of(
     if !are_called(alloc, code, lines, &wanted.nevers_at)? {
         return Ok(Err(CommandMistake::Call));
     }
-    Ok(Ok(question_of(alloc, asked, wanted, sys, code, lines)?))
+    said_question(alloc, asked, wanted, text, sys, code, lines)
 }
 
-/// The question of the words of a command, which say this, on an image whose bodies' calls stand in these lines; or
-/// which words are mistaken: those that name tasks are read first. `AllocError` if memory runs out.
+/// The question of the words of a command, which say this, and of the sentences of a text, on an image whose bodies'
+/// calls stand in these lines; or what is mistaken: words that name tasks are read first, and the text last.
+/// `AllocError` if memory runs out.
 pub fn question_by(
     alloc: Global,
     asked: &ExploreWords<'_>,
     wanted: &ExploreChoices,
+    text: &[u8],
     image: &Image,
     lines: &CallLines,
 ) -> Result<Result<Question, CommandMistake>, AllocError>
     requires { IsWanted asked.now (Ok wanted.now) }
-    ensures { IfOk result (λ q. IsAsked asked.now image.now.system image.now.code lines.now q) }
+    ensures { IfOk result (λ q. IsAsked asked.now text.now image.now.system image.now.code lines.now q) }
 {
     image.keeps_rules();
-    asked_of(alloc, asked, wanted, image.system(), image.code(), lines)
+    asked_of(
+        alloc,
+        asked,
+        wanted,
+        text,
+        image.system(),
+        image.code(),
+        lines,
+    )
 }

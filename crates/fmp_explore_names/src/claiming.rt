@@ -7,10 +7,11 @@ ghost use Rattle.fmp_instructions.specs.Instructions.{code_tables};
 ghost use Rattle.fmp_explore_names.specs.Claims as spec;
 
 use crate::lists::append_lists;
+use crate::sentences::append_monitors;
 use crate::sites::CallLines;
 use fmp_base::{Fault, Service, System, TaskConfig};
 use fmp_code::{Code, Instruction};
-use fmp_explore::{CallSite, Never, NeverAt, Question, Report, Section};
+use fmp_explore::{CallSite, Never, NeverAt, Question, Report};
 use fmp_image_bytes::Image;
 use fmp_named::append_task;
 use itoa::Buffer;
@@ -29,7 +30,7 @@ pub(crate) fn append_number(number: u64, out: &mut Vec<u8>) -> Result<(), AllocE
     append(Buffer::new().format(number).as_bytes(), out)
 }
 
-fn append_value(value: i32, out: &mut Vec<u8>) -> Result<(), AllocError>
+pub(crate) fn append_value(value: i32, out: &mut Vec<u8>) -> Result<(), AllocError>
     ensures { OnOk result (out.new.items ≡ out.old.items ++ signed_decimal value) }
 {
     append(Buffer::new().format(value).as_bytes(), out)
@@ -138,29 +139,6 @@ fn append_nevers_at(
 {
     for never in nevers {
         append_never_at(code, lines, *never, out)?;
-    }
-    Ok(())
-}
-
-/// Appends a section.
-#[tactic(auto, unfolding(crate::specs::Claims::section_text))]
-fn append_section(section: &Section, out: &mut Vec<u8>) -> Result<(), AllocError>
-    ensures { OnOk result (out.new.items ≡ out.old.items ++ spec.section_text section.now) }
-{
-    append(b"alone ", out)?;
-    append_value(section.enters, out)?;
-    append(b",", out)?;
-    append_value(section.leaves, out)?;
-    append(b", ", out)
-}
-
-/// Appends sections.
-#[tactic(auto, unfolding(crate::specs::Claims::sections_text))]
-fn append_sections(sections: &[Section], out: &mut Vec<u8>) -> Result<(), AllocError>
-    ensures { OnOk result (out.new.items ≡ out.old.items ++ spec.sections_text sections.now) }
-{
-    for section in sections {
-        append_section(section, out)?;
     }
     Ok(())
 }
@@ -318,6 +296,7 @@ fn append_faults(nevers: &[Never], out: &mut Vec<u8>) -> Result<(), AllocError>
 /// Appends what the words ask for.
 #[tactic(auto, unfolding(crate::specs::Claims::asked_text))]
 fn append_asked(
+    alloc: Global,
     sys: &System,
     code: &Code,
     lines: &CallLines,
@@ -329,7 +308,7 @@ fn append_asked(
 {
     append_nevers(sys, &question.nevers, out)?;
     append_nevers_at(code, lines, &question.nevers_at, out)?;
-    append_sections(&question.sections, out)
+    append_monitors(alloc, sys, &question.monitors, out)
 }
 
 /// Appends that there is no deadlock, and why a state is none though no task goes on.
@@ -360,7 +339,7 @@ fn append_parts(
     ensures { OnOk result (out.new.items ≡ out.old.items
         ++ spec.parts_text (tables_of sys.now) (code_tables code.now) lines.now question.now) }
 {
-    append_asked(sys, code, lines, question, out)?;
+    append_asked(alloc, sys, code, lines, question, out)?;
     append_deadlock(alloc, sys, question, out)?;
     append_faults(&question.nevers, out)
 }

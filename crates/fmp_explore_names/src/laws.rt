@@ -17,21 +17,21 @@ ghost use Rattle.fmp_explore_names.specs.TextSchedules.{NeverTold};
 use fmp_image::laws::{built_image_does_text, built_image_prints_text};
 
 /// Where something holds along all schedules of the image of two texts, it holds of the texts: along each schedule they
-/// mean what the image prints, no forbidden line is told, and no task enters a section that another holds.
+/// mean what the image prints, no forbidden line is told, and no line breaks a sentence.
 pub fn texts_never_tell()
     ensures { (cfg src : List ℕ) (i : ImageTables) (b : Builds cfg src i) (rules : Rules) (n : ℕ)
         (forbidden : Line → Bool) (rest : List Bool) → 1 ≤ n →
         Holds rules i.system (code_meaning i.code) n forbidden rest → (es : List Event) →
         IsSchedule rules i.system (code_meaning i.code) n forbidden es →
-        NeverTold i b.tasks.bodies n forbidden rules.sections es }
+        NeverTold i b.tasks.bodies n forbidden rules.monitors es }
 {
     built_image_prints_text();
 }
 
 /// Where something holds along all schedules of the image of two texts within n instructions a stretch, it holds of
 /// every list of events that the texts complete, in whatever number of turns of loops: no forbidden line is told, no
-/// task enters a section that another holds, and no deadlock is reached. No answer is told to its call where it must
-/// never be: the code, beside the texts, stands behind no such call. For whatever the texts complete, the image does
+/// line and no state breaks a sentence, and no deadlock is reached. No answer is told to its call where it must never
+/// be: the code, beside the texts, stands behind no such call. For whatever the texts complete, the image does
 /// too, with the same lines, along a schedule of its own in which it keeps the places of long stretches now and then.
 pub fn texts_hold()
     ensures all { (cfg src : List ℕ) (i : ImageTables) (b : Builds cfg src i) (rules : Rules) (n : ℕ)

@@ -9,6 +9,7 @@ mod ending;
 pub mod laws;
 mod lists;
 mod naming;
+mod sentences;
 mod sites;
 mod stuck;
 mod words;
@@ -18,6 +19,7 @@ pub use asking::{CommandMistake, ExploreChoices, ExploreWords, question_by, want
 pub use claiming::append_claim;
 pub use ending::{append_ending, status_of};
 pub use naming::{LocalNames, append_name, is_queue};
+pub use sentences::append_sentence;
 pub use sites::CallLines;
 pub use stuck::append_stuck;
-pub use words::{CodeAt, never_at_named, never_named, section_named};
+pub use words::{CodeAt, Section, never_at_named, never_named, section_named};

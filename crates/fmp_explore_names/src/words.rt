@@ -3,13 +3,22 @@ ghost use Rattle.std.specs.Prelude.{◌≡◌, None, Some, MatchOption};
 ghost use Rattle.fmp_explore_names.specs.Words as spec;
 
 use fmp_base::{Er, Fault};
-use fmp_explore::{ANSWERS, Never, Section};
+use fmp_explore::{ANSWERS, Never};
 
 /// A code that must never be answered to the calls of a line of the text.
 #[derive(Clone, Copy)]
 pub struct CodeAt {
     pub code: Er,
     pub line: u32,
+}
+
+/// A section, in which one task at a time may be: from where it puts one value to where it puts another, or ends.
+#[derive(Clone, Copy)]
+pub struct Section {
+    /// A task that puts this value enters.
+    pub enters: i32,
+    /// A task that puts this value leaves.
+    pub leaves: i32,
 }
 
 /// What stands behind a front of a text, if the text begins with it.
@@ -122,8 +131,8 @@ pub fn never_at_named(word: &str) -> Option<CodeAt>
     Some(CodeAt { code, line })
 }
 
-/// The section of a word as `1,2`, which tasks enter by `put(1)` and leave by `put(2)`, with nobody in it. None if the
-/// word is not of this form, or has one value twice.
+/// The section of a word as `1,2`, which tasks enter by `put(1)` and leave by `put(2)`. None if the word is not of this
+/// form, or has one value twice.
 #[tactic(auto, unfolding(crate::specs::Words::section_named))]
 pub fn section_named(word: &str) -> Option<Section>
     ensures { result ≡ spec.section_named word.now }
@@ -134,9 +143,5 @@ pub fn section_named(word: &str) -> Option<Section>
     if enters == leaves {
         return None;
     }
-    Some(Section {
-        enters,
-        leaves,
-        holder: None,
-    })
+    Some(Section { enters, leaves })
 }

@@ -12,4 +12,4 @@ is_idle ticks.Idle = true
 
 abbrev pub rules_of : Question → Rules
 rules_of q =
-    record { idle_ticks = is_idle q.ticks; most = q.interrupts; queued = q.queued; sections = q.sections.items }
+    record { idle_ticks = is_idle q.ticks; most = q.interrupts; queued = q.queued; monitors = q.monitors.items }

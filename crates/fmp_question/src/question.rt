@@ -10,7 +10,7 @@ ghost use Rattle.fmp_question.specs.Behind.{CanBegin};
 
 use crate::site::CallSite;
 use fmp_base::{Call, Er, Event, Fault, Line};
-use fmp_schedules::{Section, is_act};
+use fmp_schedules::{Monitor, is_act};
 use std::alloc::Global;
 
 /// The codes that calls and the ends of waits answer.
@@ -63,8 +63,8 @@ pub struct Question {
     pub nevers: Vec<Never>,
     /// The answers that must never be given, each to one call.
     pub nevers_at: Vec<NeverAt>,
-    /// The sections in which one task at a time may be, each held by none.
-    pub sections: Vec<Section>,
+    /// The sentences that must hold, with nothing kept of any.
+    pub monitors: Vec<Monitor>,
     /// For each task, by its place, whether it may wait forever, as servers do. Tasks behind the last one may not.
     pub rest: Vec<bool>,
     /// When the clock may advance.
@@ -89,7 +89,7 @@ impl Question {
     pub fn new(alloc: Global) -> Question
         ensures nevers { result.nevers.items ≡ [] }
         ensures nevers_at { result.nevers_at.items ≡ [] }
-        ensures sections { result.sections.items ≡ [] }
+        ensures monitors { result.monitors.items ≡ [] }
         ensures rest { result.rest.items ≡ [] }
         ensures ticks { result.ticks ≡ Ticks.Any }
         ensures interrupts { result.interrupts ≡ None }
@@ -101,7 +101,7 @@ impl Question {
         Question {
             nevers: Vec::new(alloc),
             nevers_at: Vec::new(alloc),
-            sections: Vec::new(alloc),
+            monitors: Vec::new(alloc),
             rest: Vec::new(alloc),
             ticks: Ticks::Any,
             interrupts: None,
@@ -125,15 +125,15 @@ impl Question {
 }
 
 impl Question {
-    /// Whether a search can begin behind the events: no sections are asked about where there are such events, and there
-    /// are no more interrupts among them than a row tells.
+    /// Whether a search can begin behind the events: no sentences are asked about where there are such events, and
+    /// there are no more interrupts among them than a row tells.
     pub fn can_begin(&self) -> bool
         ensures { IsTrue result → CanBegin self.now }
     {
         if interrupt_count(&self.after) >= 256 {
             return false;
         }
-        self.after.is_empty() || self.sections.is_empty()
+        self.after.is_empty() || self.monitors.is_empty()
     }
 }
 

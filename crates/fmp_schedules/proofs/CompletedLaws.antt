@@ -31,7 +31,7 @@ use Rattle.fmp_schedules.specs.Deadlocks.{IsDeadlock, IsStuck}
 use Rattle.fmp_schedules.specs.Schedules.{Holds, HoldsThere, IsSilent, Rules, Watched, are_within, came_after}
 use Rattle.fmp_schedules.specs.Schedules.{is_request, is_told, lines_after, may_come, may_still, may_try, none_runs}
 use Rattle.fmp_schedules.specs.Schedules.{reached, requests, stays_within, watch, watched_at_setup, watched_on}
-use Rattle.fmp_schedules.specs.Sections.{is_met_along}
+use Rattle.fmp_schedules.specs.Monitors.{is_any_broken_in, is_broken_along}
 use Rattle.fmp_schedules.proofs.Catching.{At, Behind, BothDo, both-do, catch, keeps-tie, nothing-of, stand}
 use Rattle.fmp_schedules.proofs.EventLines.{setup-counts}
 use Rattle.fmp_schedules.proofs.IdleLaws.{each-none}
@@ -425,10 +425,14 @@ module _ {C D : Type 0} (rules : Rules) (sys : SystemTables) (R S : ℕ → C �
         never = λ t es all.
             let x = does-beside t es all in
             ap (λ (lss : List (List Line)). is_told forbidden lss) (sym x.lines) ∙ holds.never x.events x.schedule;
-        alone = λ t es all.
+        by_lines = λ t es all.
             let x = does-beside t es all in
-            ap (λ (lss : List (List Line)). list_any (λ s. is_met_along s lss) rules.sections) (sym x.lines)
-            ∙ holds.alone x.events x.schedule;
+            ap (λ (lss : List (List Line)). list_any (λ s. is_broken_along s lss) rules.monitors) (sym x.lines)
+            ∙ holds.by_lines x.events x.schedule;
+        by_states = λ t es all.
+            let x = does-beside t es all in
+            ap (λ (s : KernelState). is_any_broken_in rules.monitors s) x.beside.states
+            ∙ holds.by_states x.events x.schedule;
         free = λ t es all lasting. no-deadlock rest holds t es (whole t es all) lasting;
       }
 

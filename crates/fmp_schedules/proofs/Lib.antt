@@ -8,9 +8,9 @@ pub mod IdleLaws
 pub mod KeptPlaces
 pub mod LeadLaws
 pub mod LikenessLaws
+pub mod MonitorLaws
+pub mod MonitorSteps
 pub mod RuleLaws
-pub mod SectionLaws
-pub mod SectionSteps
 pub mod SilentLaws
 pub mod StuckLaws
 pub mod TriedLaws

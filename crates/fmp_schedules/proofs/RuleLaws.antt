@@ -17,11 +17,11 @@ use Rattle.fmp_bisimulation.specs.Closed.{AreAllowed, BothAlike, IsBlind, IsRule
 use Rattle.fmp_bisimulation.specs.Closed.{timeless}
 use Rattle.fmp_schedules.specs.Likeness.{IsLikeness, StatesAlike}
 use Rattle.fmp_schedules.specs.Schedules.{IsSchedule, Rules, Watched, watched_at_setup, came_after, are_within}
-use Rattle.fmp_schedules.specs.Schedules.{is_any_met, is_nothing, is_request, is_within, may_come, may_still, may_try}
-use Rattle.fmp_schedules.specs.Schedules.{none_runs, sections_after, stays_within, watch, watched_on}
-use Rattle.fmp_schedules.specs.declared.section.Section.{Section}
+use Rattle.fmp_schedules.specs.Schedules.{is_any_broken, is_nothing, is_request, is_within, may_come, may_still}
+use Rattle.fmp_schedules.specs.Schedules.{may_try, monitors_after, none_runs, stays_within, watch, watched_on}
+use Rattle.fmp_schedules.specs.declared.monitor.Monitor.{Monitor}
 use Rattle.fmp_schedules.specs.Tried.{IsTimeless}
-use Rattle.fmp_schedules.proofs.SectionLaws.{any_met-timeless, sections-timeless}
+use Rattle.fmp_schedules.proofs.MonitorLaws.{any_broken-timeless, monitors-timeless}
 
 nothing-same : {C : Type 0} (R : World C → World C → Type 0) (x y : Reaction C) → BothAlike R x y
     → is_nothing x ≡ is_nothing y
@@ -117,22 +117,23 @@ module _ (forbidden : Line → Bool) (even : IsTimeless forbidden) where
   watched-timeless : (rules : Rules) (a : Watched) (ls : List Line)
       → watched_on rules forbidden a ls ≡ watched_on rules forbidden a (all_timeless ls)
   watched-timeless rules a ls =
-      let with : ℕ → Bool → List Section → Bool → Watched =
-      λ (came : ℕ) (told : Bool) (sections : List Section) (met : Bool).
-      record { came = came; told = a.told || told; sections = sections; met = a.met || met } in
+      let with : ℕ → Bool → List Monitor → Bool → Watched =
+      λ (came : ℕ) (told : Bool) (monitors : List Monitor) (broken : Bool).
+      record { came = came; told = a.told || told; monitors = monitors; broken = a.broken || broken } in
       let ms : List Line = all_timeless ls in
-      ap (λ (k : ℕ). with k (list_any forbidden ls) (sections_after a.sections ls) (is_any_met a.sections ls))
+      ap (λ (k : ℕ). with k (list_any forbidden ls) (monitors_after a.monitors ls) (is_any_broken a.monitors ls))
       (came-timeless rules.most a.came ls)
       ∙ ap
-      (λ (b : Bool). with (came_after rules.most a.came ms) b (sections_after a.sections ls) (is_any_met a.sections ls))
+      (λ (b : Bool). with (came_after rules.most a.came ms) b (monitors_after a.monitors ls)
+      (is_any_broken a.monitors ls))
       (told-timeless ls)
       ∙ ap
-      (λ (ss : List Section). with (came_after rules.most a.came ms) (list_any forbidden ms) ss
-      (is_any_met a.sections ls))
-      (sections-timeless a.sections ls)
+      (λ (ss : List Monitor). with (came_after rules.most a.came ms) (list_any forbidden ms) ss
+      (is_any_broken a.monitors ls))
+      (monitors-timeless a.monitors ls)
       ∙ ap
-      (λ (b : Bool). with (came_after rules.most a.came ms) (list_any forbidden ms) (sections_after a.sections ms) b)
-      (any_met-timeless a.sections ls)
+      (λ (b : Bool). with (came_after rules.most a.came ms) (list_any forbidden ms) (monitors_after a.monitors ms) b)
+      (any_broken-timeless a.monitors ls)
 
   pub watch-blind : (rules : Rules) → IsBlind (watch rules forbidden)
   watch-blind rules a ls ms e =

@@ -98,7 +98,7 @@ module _ {C : Type 0} (rules : Rules) (sys : SystemTables) (M : Meaning C) (n : 
             (watched_at_setup rules sys M forbidden) es e schedule in
             let k = searched-covered rules sys M n forbidden rest K even R F h es last.0 in
             let v = reached sys M n es in
-            let a = watched (watch rules forbidden) (at_first rules.sections) (lines_after sys M n es) in
+            let a = watched (watch rules forbidden) (at_first rules.monitors) (lines_after sys M n es) in
             kept-silent v k.world a e k.alike k.kept
             (sym (may_come-same sys M n R F h.like rules v k.world a e k.alike) ∙ last.1);
       }

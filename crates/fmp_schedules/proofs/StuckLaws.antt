@@ -86,11 +86,11 @@ module _ {C : Type 0} (rules : Rules) (sys : SystemTables) (M : Meaning C) (n : 
       (may_come-same sys M n R F like rules) sys M n closed
       (reached sys M n es) a more
       (allowed-too rules sys M n (λ (l : Line). false) forbidden (reached sys M n es)
-      (record { came = count_by is_interrupt es; told = false; sections = []; met = false }) a more same follow)
+      (record { came = count_by is_interrupt es; told = false; monitors = []; broken = false }) a more same follow)
       first in
       ap (λ (told : Bool). told || is_told forbidden (run sys M n (reached sys M n es) more).events) (sym untold)
       ∙ sym (told-watched rules forbidden a (run sys M n (reached sys M n es) more).events)
-      ∙ (neither b.told b.met (clean k.world b k.kept)).0
+      ∙ (neither b.told b.broken (clean k.world b k.kept)).0
 
 -- what is told of lines that are the same
 any-too : (f g : Line → Bool) → ((l : Line) → f l ≡ g l) → (ls : List Line) → list_any f ls ≡ list_any g ls

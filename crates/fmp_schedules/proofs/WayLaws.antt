@@ -19,7 +19,7 @@ use Rattle.fmp_bisimulation.proofs.TimeLaws.{blocks-at}
 use Rattle.fmp_schedules.specs.Likeness.{IsLikeness}
 use Rattle.fmp_schedules.specs.Schedules.{IsSchedule, Rules, Watched, at_first, is_told, lines_after, may_come, reached}
 use Rattle.fmp_schedules.specs.Schedules.{requests, watch, watched_at_setup, watched_on}
-use Rattle.fmp_schedules.specs.declared.section.Section.{Section}
+use Rattle.fmp_schedules.specs.declared.monitor.Monitor.{Monitor}
 use Rattle.fmp_schedules.specs.Stuck.{MayGoOn, NoneIsStuck, acts}
 use Rattle.fmp_schedules.specs.Tried.{IsSearched, IsTimeless}
 use Rattle.fmp_schedules.specs.WaysOn.{HasWay, HaveWays, IsNearer, LeadsNearer}
@@ -57,17 +57,17 @@ or-either : (a : Bool) → (a || true) ≡ true
 or-either true = refl
 or-either false = refl
 
-same-came : (idle : Bool) (most queued : Option ℕ) (sections : List Section) (forbidden : Line → Bool) (a : Watched)
+same-came : (idle : Bool) (most queued : Option ℕ) (monitors : List Monitor) (forbidden : Line → Bool) (a : Watched)
     (events : List (List Line)) → a.came ≡ 0
-    → SameCame most (watched (watch (rules_with idle most queued sections) forbidden) a events).came (requests events)
-same-came idle None queued sections forbidden a events none = tt
-same-came idle (Some most) queued sections forbidden a events none =
+    → SameCame most (watched (watch (rules_with idle most queued monitors) forbidden) a events).came (requests events)
+same-came idle None queued monitors forbidden a events none = tt
+same-came idle (Some most) queued monitors forbidden a events none =
     let e : a.came + requests events ≡ requests events = omega (arith, none) in
-    came-watched idle most queued sections forbidden a events ∙ e
+    came-watched idle most queued monitors forbidden a events ∙ e
 
-no-sections : (most : Option ℕ) (k : ℕ) → SameCame most k k
-no-sections None k = tt
-no-sections (Some most) k = refl
+no-monitors : (most : Option ℕ) (k : ℕ) → SameCame most k k
+no-monitors None k = tt
+no-monitors (Some most) k = refl
 
 module _ {C : Type 0} (rules : Rules) (sys : SystemTables) (M : Meaning C) (n : ℕ) (forbidden : Line → Bool)
     (R : World C → World C → Type 0) (F : World C → Event → Type 0) (like : IsLikeness sys M n R F)
@@ -188,10 +188,10 @@ module _ {C : Type 0} (rules : Rules) (sys : SystemTables) (M : Meaning C) (n : 
       let v = reached sys M n es in
       let here =
       allowed-too rules sys M n (λ l. false) forbidden (setup sys M).world (watched_at_setup rules sys M (λ l. false))
-      (watched_at_setup rules sys M forbidden) es (no-sections rules.most (watched_at_setup rules sys M forbidden).came)
+      (watched_at_setup rules sys M forbidden) es (no-monitors rules.most (watched_at_setup rules sys M forbidden).came)
       schedule in
       let c = searched-covered rules sys M n forbidden rest K even R F h es here in
-      let a = watched (watch rules forbidden) (at_first rules.sections) (lines_after sys M n es) in
+      let a = watched (watch rules forbidden) (at_first rules.monitors) (lines_after sys M n es) in
       let far = ways.distance t c.world a there may_not c.kept (phase-too v c.world t c.alike started) in
       let g =
       goes-on rules sys M n forbidden R F h.like even t (Far t) (λ k w b f. ways.way t k w b f) (suc far.0) far.0 c.world
@@ -199,8 +199,8 @@ module _ {C : Type 0} (rules : Rules) (sys : SystemTables) (M : Meaning C) (n : 
       record {
         more = g.more;
         follow = allowed-too rules sys M n forbidden (λ l. false) v a
-            (record { came = requests (lines_after sys M n es); told = false; sections = []; met = false }) g.more
-            (same-came rules.idle_ticks rules.most rules.queued rules.sections forbidden (at_first rules.sections)
+            (record { came = requests (lines_after sys M n es); told = false; monitors = []; broken = false }) g.more
+            (same-came rules.idle_ticks rules.most rules.queued rules.monitors forbidden (at_first rules.monitors)
             (lines_after sys M n es) refl) g.allowed;
         told = g.told;
       }

@@ -17,7 +17,7 @@ use Rattle.fmp_base.specs.Systems.{SystemTables}
 use Rattle.fmp_schedules.specs.Deadlocks.{IsDeadlock}
 use Rattle.fmp_schedules.specs.Schedules.{Rules, came_after, is_told, lines_after, may_still, reached, requests}
 use Rattle.fmp_schedules.specs.Schedules.{stays_within}
-use Rattle.fmp_schedules.specs.Sections.{is_met_along}
+use Rattle.fmp_schedules.specs.Monitors.{is_any_broken_in, is_broken_along}
 
 -- from this context, if a stretch begins in it, the body ends its stretch within the bound
 abbrev pub EndsFrom : {C : Type 0} → Meaning C → (body bound : ℕ) → Option (Held C) → Type 0
@@ -78,15 +78,18 @@ pub record IsLastingDeadlock {C : Type 0} (sys : SystemTables) (M : Meaning C) (
   pub deadlock : IsDeadlock sys M bound w rest interrupts
 
 -- Whatever events the bodies complete within whatever bound, as the rules let them come: no forbidden line is ever
--- told, no task ever enters a section that another holds, and no deadlock is ever reached.
+-- told, no line and no state after setup or an event ever breaks a sentence, and no deadlock is ever reached.
 pub record HoldsAtAll {C : Type 0} (rules : Rules) (sys : SystemTables) (M : Meaning C) (forbidden : Line → Bool)
     (rest : List Bool) : Type 0 where
   pub never :
       (bound : ℕ) (es : List Event) → IsCompleted rules sys M bound es →
       is_told forbidden (lines_after sys M bound es) ≡ false
-  pub alone :
+  pub by_lines :
       (bound : ℕ) (es : List Event) → IsCompleted rules sys M bound es →
-      list_any (λ s. is_met_along s (lines_after sys M bound es)) rules.sections ≡ false
+      list_any (λ m. is_broken_along m (lines_after sys M bound es)) rules.monitors ≡ false
+  pub by_states :
+      (bound : ℕ) (es : List Event) → IsCompleted rules sys M bound es →
+      is_any_broken_in rules.monitors (reached sys M bound es).state ≡ false
   pub free :
       (bound : ℕ) (es : List Event) → IsCompleted rules sys M bound es →
       IsLastingDeadlock sys M (reached sys M bound es) rest

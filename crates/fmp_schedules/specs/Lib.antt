@@ -2,8 +2,8 @@ pub mod Beside
 pub mod Completed
 pub mod Deadlocks
 pub mod Likeness
+pub mod Monitors
 pub mod Schedules
-pub mod Sections
 pub mod Stuck
 pub mod Tried
 pub mod Tries

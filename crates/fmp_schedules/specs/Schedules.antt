@@ -13,11 +13,11 @@ use Rattle.fmp_base.specs.Setups.{setup}
 use Rattle.fmp_base.specs.Steps.{Reaction, Nothing, Did, Kept, step}
 use Rattle.fmp_base.specs.Systems.{SystemTables}
 use Rattle.fmp_bisimulation.specs.Closed.{AreAllowed, Watch}
-use Rattle.fmp_schedules.specs.declared.section.Section.{Section}
+use Rattle.fmp_schedules.specs.declared.monitor.Monitor.{Monitor}
 use Rattle.fmp_schedules.specs.Deadlocks.{IsDeadlock}
-use Rattle.fmp_schedules.specs.Sections.{is_met, is_met_along, section_after}
+use Rattle.fmp_schedules.specs.Monitors.{is_any_broken_in, is_broken, is_broken_along, monitor_after}
 
--- Which events may come, and which sections are watched. Processors run in any order, any number of times; the rules
+-- Which events may come, and which sentences are watched. Processors run in any order, any number of times; the rules
 -- say when the clock may advance, how many interrupts may come, and how much may be queued.
 pub record Rules : Type 0 where
   -- the clock may advance only where no processor can do anything; else at any time
@@ -26,8 +26,8 @@ pub record Rules : Type 0 where
   pub most : Option ℕ
   -- how many activations and how many wakeups of a task may be queued after an event; any number, if none is given
   pub queued : Option ℕ
-  -- the sections in which one task at a time may be, as they are before setup
-  pub sections : List Section
+  -- the sentences that are watched, with what is kept of each before setup
+  pub monitors : List Monitor
 
 -- the line of an interrupt that did something
 abbrev pub is_request : Line → Bool
@@ -53,41 +53,41 @@ abbrev pub none_runs : {C : Type 0} → SystemTables → Meaning C → (n : ℕ)
 none_runs sys M n w zero = true
 none_runs sys M n w (suc p) = is_nothing (step sys M n w (event.Run (suc p))) && none_runs sys M n w p
 
--- what is watched: how many interrupts did something, whether a forbidden line was told, who is in each section, and
--- whether a task entered one while another held it
+-- what is watched: how many interrupts did something, whether a forbidden line was told, what is kept of each sentence,
+-- and whether a line broke one
 pub record Watched : Type 0 where
   pub came : ℕ
   pub told : Bool
-  pub sections : List Section
-  pub met : Bool
+  pub monitors : List Monitor
+  pub broken : Bool
 
-abbrev pub at_first : List Section → Watched
-at_first sections = record { came = 0; told = false; sections = sections; met = false }
+abbrev pub at_first : List Monitor → Watched
+at_first monitors = record { came = 0; told = false; monitors = monitors; broken = false }
 
 -- interrupts are counted only if the rules limit them: a count without a limit would make new states without end
 abbrev pub came_after : Option ℕ → (came : ℕ) → List Line → ℕ
 came_after None came ls = came
 came_after (Some most) came ls = came + count_by is_request ls
 
--- the sections after these lines
-abbrev pub sections_after : List Section → List Line → List Section
-sections_after sections ls = map (λ s. section_after s ls) sections
+-- the monitors after these lines
+abbrev pub monitors_after : List Monitor → List Line → List Monitor
+monitors_after monitors ls = map (λ s. monitor_after s ls) monitors
 
--- in one of these sections a task enters by these lines while another holds it
-abbrev pub is_any_met : List Section → List Line → Bool
-is_any_met sections ls = list_any (λ s. is_met s ls) sections
+-- one of these lines breaks one of these sentences
+abbrev pub is_any_broken : List Monitor → List Line → Bool
+is_any_broken monitors ls = list_any (λ s. is_broken s ls) monitors
 
 abbrev pub watched_on : Rules → (Line → Bool) → Watched → List Line → Watched
 watched_on rules forbidden a ls =
     record {
       came = came_after rules.most a.came ls;
       told = a.told || list_any forbidden ls;
-      sections = sections_after a.sections ls;
-      met = a.met || is_any_met a.sections ls;
+      monitors = monitors_after a.monitors ls;
+      broken = a.broken || is_any_broken a.monitors ls;
     }
 
 abbrev pub watch : Rules → (Line → Bool) → Watch Watched
-watch rules forbidden = record { next = watched_on rules forbidden; is_bad = λ a. a.told || a.met }
+watch rules forbidden = record { next = watched_on rules forbidden; is_bad = λ a. a.told || a.broken }
 
 -- at most this many activations and wakeups of a task are queued
 abbrev pub is_within : (most : ℕ) → TaskBlock → Bool
@@ -115,7 +115,7 @@ may_come rules sys M n w a e = may_try rules sys M n w a e && stays_within rules
 
 -- what is watched at setup
 abbrev pub watched_at_setup : {C : Type 0} → Rules → SystemTables → Meaning C → (Line → Bool) → Watched
-watched_at_setup rules sys M forbidden = watched_on rules forbidden (at_first rules.sections) (setup sys M).lines
+watched_at_setup rules sys M forbidden = watched_on rules forbidden (at_first rules.monitors) (setup sys M).lines
 
 -- a list of events that come one after the other from setup on, each as the rules let it come
 abbrev pub IsSchedule : {C : Type 0} → Rules → SystemTables → Meaning C → (n : ℕ) → (forbidden : Line → Bool)
@@ -136,16 +136,19 @@ lines_after sys M n es = (setup sys M).lines ∷ (run sys M n (setup sys M).worl
 abbrev pub is_told : (forbidden : Line → Bool) → List (List Line) → Bool
 is_told forbidden events = list_any (λ ls. list_any forbidden ls) events
 
--- Whatever events come, in whatever order, as the rules let them come: no forbidden line is ever told, no task ever
--- enters a section that another holds, and no deadlock is ever reached.
+-- Whatever events come, in whatever order, as the rules let them come: no forbidden line is ever told, no line and no
+-- state after setup or an event ever breaks a sentence, and no deadlock is ever reached.
 pub record Holds {C : Type 0} (rules : Rules) (sys : SystemTables) (M : Meaning C) (n : ℕ) (forbidden : Line → Bool)
     (rest : List Bool) : Type 0 where
   pub never :
       (es : List Event) → IsSchedule rules sys M n forbidden es →
       is_told forbidden (lines_after sys M n es) ≡ false
-  pub alone :
+  pub by_lines :
       (es : List Event) → IsSchedule rules sys M n forbidden es →
-      list_any (λ s. is_met_along s (lines_after sys M n es)) rules.sections ≡ false
+      list_any (λ m. is_broken_along m (lines_after sys M n es)) rules.monitors ≡ false
+  pub by_states :
+      (es : List Event) → IsSchedule rules sys M n forbidden es →
+      is_any_broken_in rules.monitors (reached sys M n es).state ≡ false
   pub free :
       (es : List Event) → IsSchedule rules sys M n forbidden es →
       IsDeadlock sys M n (reached sys M n es) rest (may_still rules.most (requests (lines_after sys M n es))) → ⊥

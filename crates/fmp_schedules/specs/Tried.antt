@@ -11,6 +11,7 @@ use Rattle.fmp_base.specs.Systems.{SystemTables, interrupt_config}
 use Rattle.fmp_bisimulation.specs.Closed.{IsCovered, LeadsIn, NoneIsBad, Watch, timeless}
 use Rattle.fmp_schedules.specs.Deadlocks.{IsDeadlock}
 use Rattle.fmp_schedules.specs.Likeness.{IsLikeness}
+use Rattle.fmp_schedules.specs.Monitors.{is_any_broken_in}
 use Rattle.fmp_schedules.specs.Schedules.{IsSilent, Rules, Watched, watched_at_setup, may_come, may_still, watch}
 
 -- all lines of the clock are forbidden, or none is
@@ -34,6 +35,10 @@ pub record IsTried {C S : Type 0} (R : World C → World C → Type 0) (F : Worl
   pub fit : F world e
   pub leads : LeadsIn R W K a (go world e)
 
+-- no state of a set breaks a sentence
+abbrev pub NoneBreaks : {C : Type 0} → Rules → (World C → Watched → Type 0) → Type 0
+NoneBreaks {C} rules K = (w : World C) (a : Watched) → K w a → is_any_broken_in rules.monitors w.state ≡ false
+
 -- none of a set is a deadlock
 abbrev pub NoneIsDeadlock : {C : Type 0} → Rules → SystemTables → Meaning C → (n : ℕ) → (rest : List Bool)
     → (World C → Watched → Type 0) → Type 0
@@ -42,8 +47,8 @@ NoneIsDeadlock {C} rules sys M n rest K =
 
 -- What a search has to show of the set of worlds that it has seen, each with what is watched there. Each has the
 -- processors of the system. The world after setup is like one of them. Each of the system's events that may come to one
--- of them was tried, and led to nothing new. In none was a forbidden line told, or did a task enter a section that
--- another held, and none is a deadlock. R says which worlds are like one another, F which events fit a world.
+-- of them was tried, and led to nothing new. In none was a forbidden line told, or a sentence broken by a line or by
+-- the state, and none is a deadlock. R says which worlds are like one another, F which events fit a world.
 pub record IsSearched {C : Type 0} (R : World C → World C → Type 0) (F : World C → Event → Type 0) (rules : Rules)
     (sys : SystemTables) (M : Meaning C) (n : ℕ) (forbidden : Line → Bool) (rest : List Bool)
     (K : World C → Watched → Type 0) : Type 0 where
@@ -55,6 +60,7 @@ pub record IsSearched {C : Type 0} (R : World C → World C → Type 0) (F : Wor
       may_come rules sys M n w a e ≡ true →
       IsTried R F (watch rules forbidden) (step sys M n) K w a e
   pub clean : NoneIsBad (watch rules forbidden) K
+  pub upheld : NoneBreaks rules K
   pub free : NoneIsDeadlock rules sys M n rest K
 
 -- the same is forbidden in alike worlds, whatever the number of the clock

@@ -34,6 +34,7 @@ ghost use Rattle.fmp_schedules.specs.Tried.{
   IsSearched,
   IsTimeless,
   IsTried,
+  NoneBreaks,
   NoneIsDeadlock,
   is_event_of,
 };
@@ -96,15 +97,16 @@ pub fn tried_lists_are_closed<C, S>()
         IsClosed (Alike sys) W may (step sys M n) (IsListed seen) }
 {}
 
-/// If a closed list has a world like that after setup, and in none of its worlds was a forbidden line told or did a
-/// task enter a section that another held, and none is a deadlock, then no schedule, however long, tells a forbidden
-/// line, lets a task enter a section that another holds, or reaches a deadlock.
+/// If a closed list has a world like that after setup, and in none of its worlds was a forbidden line told or a
+/// sentence broken by a line or by the state, and none is a deadlock, then no schedule, however long, tells a forbidden
+/// line, breaks a sentence, or reaches a deadlock.
 pub fn closed_lists_hold<C>()
     ensures { (rules : Rules) (sys : SystemTables) (M : Meaning C) (n : ℕ) (forbidden : Line → Bool)
         (rest : List Bool) (seen : List (Seen C Watched)) → IsTimeless forbidden →
         IsClosed (Alike sys) (watch rules forbidden) (may_come rules sys M n) (step sys M n) (IsListed seen) →
         IsCovered (Alike sys) (IsListed seen) (setup sys M).world (watched_at_setup rules sys M forbidden) →
-        NoneIsBad (watch rules forbidden) (IsListed seen) → NoneIsDeadlock rules sys M n rest (IsListed seen) →
+        NoneIsBad (watch rules forbidden) (IsListed seen) → NoneBreaks rules (IsListed seen) →
+        NoneIsDeadlock rules sys M n rest (IsListed seen) →
         Holds rules sys M n forbidden rest }
 {}
 

@@ -4,9 +4,9 @@
 
 mod acting;
 pub mod laws;
-mod section;
+mod monitor;
 mod tries;
 
 pub use acting::is_act;
-pub use section::{Meeting, Section};
+pub use monitor::{Breach, Monitor};
 pub use tries::tries_of;

@@ -1,5 +1,6 @@
 -- What the status 0 of `explore` claims, and what it prints.
-use Rattle.std.specs.Prelude.{◌≡◌, ℕ, List, [], ◌++◌, All, Bool, IfSome, Option, false, map, true}
+use Rattle.std.specs.Prelude.{◌≡◌, ℕ, List, [], ◌++◌, All, Bool, IfSome, None, Option, Some}
+use Rattle.std.specs.Prelude.{false, map, option_map, true}
 use Rattle.std.specs.List.{list_any}
 use Rattle.clap.specs.Words.{Row}
 use Rattle.fmp_files.specs.Deeds.{Deed, Does, printed}
@@ -94,31 +95,42 @@ pub record HasClaimed (i : ImageTables) (bodies : List TextBody) (q : Question) 
   pub is : IsReportText i bodies q n report text
   pub printed : HasPrinted text done
 
--- the same of an image whose bodies have this text, and of what the words ask
-pub record HoldsOfImage (i : ImageTables) (src : List ℕ) (e : Exploring) (done : Option (List Deed)) : Type 0 where
+-- the same of an image whose bodies have this text, and of what the words and a text of sentences ask
+pub record HoldsOfImage (i : ImageTables) (src said : List ℕ) (e : Exploring) (done : Option (List Deed)) : Type 0 where
   pub bodies : List TextBody
   pub are : AreBodiesOf src bodies
   pub question : Question
-  pub asks : IsQuestionOf e.asked i.system i.code bodies question
+  pub asks : IsQuestionOf e.asked said i.system i.code bodies question
   pub claimed : HasClaimed i bodies question e.bound done
 
 -- the same of the image that two texts build
-pub record HoldsOfTexts (cfg src : List ℕ) (e : Exploring) (done : Option (List Deed)) : Type 0 where
+pub record HoldsOfTexts (cfg src said : List ℕ) (e : Exploring) (done : Option (List Deed)) : Type 0 where
   pub image : ImageTables
   pub builds : Builds cfg src image
-  pub holds : HoldsOfImage image src e done
+  pub holds : HoldsOfImage image src said e done
 
 -- a file has these bytes, where they are known
 abbrev pub IsFile : Files → (name bytes : List ℕ) → Type 0
 IsFile files name bytes = IfSome (files.bytes name) (λ all. bytes ≡ all)
 
--- the same of the texts of two files
+-- a file of sentences has this text, where there is one; else there are none
+abbrev pub IsSaid : Files → (name : Option (List ℕ)) → (said : List ℕ) → Type 0
+IsSaid files None said = said ≡ []
+IsSaid files (Some name) said = IsFile files name said
+
+-- the same of two texts, and of the sentences of a file
+pub record HoldsOfBoth (files : Files) (cfg src : List ℕ) (e : Exploring) (done : Option (List Deed)) : Type 0 where
+  pub said : List ℕ
+  pub is_said : IsSaid files (option_map (λ name. name.now) e.expect) said
+  pub holds : HoldsOfTexts cfg src said e done
+
+-- the same of the texts of files
 pub record HoldsOfFiles (files : Files) (e : Exploring) (done : Option (List Deed)) : Type 0 where
   pub cfg : List ℕ
   pub is_cfg : IsFile files e.cfg.now cfg
   pub src : List ℕ
   pub is_src : IsFile files e.src.now src
-  pub holds : HoldsOfTexts cfg src e done
+  pub holds : HoldsOfBoth files cfg src e done
 
 -- the same of what these words ask for
 pub record HoldsOfWords (files : Files) (rows : List Row) (done : Option (List Deed)) : Type 0 where

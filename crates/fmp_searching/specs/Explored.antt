@@ -36,4 +36,5 @@ pub record IsExploring (rows : List Row) (e : Exploring) : Type 0 where
   pub asked : IsAsked rows e.asked
   pub bound : HasBound rows e.bound
   pub answers : HasFlag rows (codes "answers") e.answers
+  pub expect : option_map (λ word. word.now) e.expect ≡ first_of (codes "expect") rows
   pub out : option_map (λ word. word.now) e.out ≡ first_of (codes "out") rows

@@ -35,6 +35,9 @@ const NO_TASK: &str = "--rest names no task of the configuration";
 /// The message for a line of an answer in which no call stands.
 const NO_CALL: &str = "--never names a line of SRC in which no call stands";
 
+/// The message for a sentence about the end of a run.
+const NO_END: &str = "--expect takes no sentence that begins with 'end': a search looks at no end";
+
 /// The message for steps that would replace a file that is read.
 const STEPS_OVER_INPUT: &str =
     "a file of steps is one of the two that are read: no steps are written";
@@ -74,6 +77,7 @@ pub fn exploring_of<'m>(words: &'m ArgMatches<'_>) -> Exploring<'m>
         src: word_of(words, "SRC"),
         asked: asked_of(words),
         bound: kept_bound(bound_of(words)),
+        expect: text_of(words, "expect"),
         answers: flag_of(words, "answers"),
         out: text_of(words, "out"),
     }
@@ -157,6 +161,10 @@ fn said_of_mistake(
         CommandMistake::Alone => said_of_sections(alloc, asked.alone),
         CommandMistake::Rest => String::from_str(alloc, NO_TASK),
         CommandMistake::Call => String::from_str(alloc, NO_CALL),
+        CommandMistake::Sentence { line, flaw } => format!(in alloc;
+            "--expect: line {line}: {flaw}"
+        ),
+        CommandMistake::End => String::from_str(alloc, NO_END),
     }
 }
 

@@ -15,6 +15,11 @@ const ALONE: &str =
     "One task at a time may be between 'put(A)' and 'put(B)': A,B are two different values, as 1,2.
 A task is there from its 'put(A)' to its 'put(B)' or its end. It may be given again, at most 4 times";
 
+/// What must hold.
+const EXPECT: &str =
+    "A file of sentences that must hold, a line each, as 'expect' reads them: 'A before B',
+'always X < 5' and others, but for 'end'. 'TASK rests' is as --rest TASK";
+
 /// Which task may wait forever.
 const REST: &str =
     "Name of a task that may wait forever, as servers do: it makes no deadlock, may be stuck, and may go
@@ -52,6 +57,11 @@ pub static EXPLORE: CommandForm = CommandForm {
         Argument("never", ArgumentKind::Again("WHAT"), NEVER),
         Argument("alone", ArgumentKind::Again("A,B"), ALONE),
         Argument("rest", ArgumentKind::Again("TASK"), REST),
+        Argument(
+            "expect",
+            ArgumentKind::Option("FILE", OptionValue::Text),
+            EXPECT,
+        ),
         Argument(
             "ticks",
             ArgumentKind::Option("WHEN", OptionValue::OneOf(TICKS_WHEN, "any")),

@@ -2,8 +2,9 @@
 use crate::sources::{ExploredSources, say, say_made, say_place};
 use crate::stuck::held_up;
 use fmp_base::{Line, System};
-use fmp_explore::{CallSite, Finding, FindingKind, Left, Started, Together, left_by};
-use fmp_explore_names::append_stuck;
+use fmp_explore::{CallSite, Finding, FindingKind, Left, SentenceBreach, Started, left_by};
+use fmp_explore_names::{append_sentence, append_stuck};
+use fmp_monitors::{ExpectedDeed, Happening, Sentence, Standing};
 use fmp_trace::print;
 use std::alloc::{AllocError, Global};
 
@@ -13,7 +14,8 @@ fn line_of(sources: &ExploredSources<'_>, finding: &Finding, site: CallSite) -> 
         FindingKind::Endless(_) => sources.lines.head(site.body),
         FindingKind::Line(_)
         | FindingKind::Deadlock
-        | FindingKind::Together(_)
+        | FindingKind::Breach(_)
+        | FindingKind::State(_)
         | FindingKind::Stuck(_) => sources.lines.line(sources.image.code(), site),
     }
 }
@@ -70,26 +72,97 @@ fn say_deadlock(
     Ok(())
 }
 
-/// Appends who holds the section that a task entered.
+/// Appends the name of a task.
+fn say_task(out: &mut Vec<u8>, sources: &ExploredSources<'_>, task: u8) -> Result<(), AllocError> {
+    match sources.image.system().tasks.get(usize::from(task)) {
+        Some(config) => out.extend_from_slice(config.name.as_bytes()),
+        None => Ok(()),
+    }
+}
+
+/// The value of a happening that somebody puts it.
+fn value_of(happening: &Happening) -> i32 {
+    match happening.deed {
+        ExpectedDeed::Put(value) => value,
+        _ => 0,
+    }
+}
+
+/// Appends who is in the section that a task entered.
 fn say_holder(
     alloc: Global,
     out: &mut Vec<u8>,
     sources: &ExploredSources<'_>,
-    together: Together,
+    sentence: &Sentence,
+    standing: Standing,
 ) -> Result<(), AllocError> {
-    say(out, ": while ")?;
-    let holder = usize::from(together.meeting.holder);
-    if let Some(config) = sources.image.system().tasks.get(holder) {
-        out.extend_from_slice(config.name.as_bytes())?;
-    }
-    let Some(section) = sources.sections.get(together.section) else {
+    let Sentence::OneAtATime { entering, leaving } = sentence else {
         return Ok(());
     };
-    let (enters, leaves) = (section.enters, section.leaves);
+    let Standing::Inside(holder) = standing else {
+        return Ok(());
+    };
+    say(out, ": while ")?;
+    say_task(out, sources, holder)?;
+    let (enters, leaves) = (value_of(entering), value_of(leaving));
     say_made(
         out,
         format!(in alloc; " is between put({enters}) and put({leaves})"),
     )
+}
+
+/// Appends a sentence of the file, at this place among them, with its line.
+fn say_sentence(
+    alloc: Global,
+    out: &mut Vec<u8>,
+    sources: &ExploredSources<'_>,
+    place: usize,
+) -> Result<(), AllocError> {
+    let Some(said) = sources.sentences.expected.get(place) else {
+        return Ok(());
+    };
+    let (file, line) = (sources.sentences.file, said.line);
+    say_made(out, format!(in alloc; "{file}:{line}: "))?;
+    append_sentence(alloc, sources.image.system(), &said.sentence, out)?;
+    let _blank = out.pop();
+    let _comma = out.pop();
+    Ok(())
+}
+
+/// Appends a sentence of the file that a line broke, and who was inside, if that is what it is about.
+fn say_broken(
+    alloc: Global,
+    out: &mut Vec<u8>,
+    sources: &ExploredSources<'_>,
+    place: usize,
+    standing: Standing,
+) -> Result<(), AllocError> {
+    say(out, ": ")?;
+    say_sentence(alloc, out, sources, place)?;
+    if let Standing::Inside(holder) = standing {
+        say(out, ": while ")?;
+        say_task(out, sources, holder)?;
+        say(out, " is inside")?;
+    }
+    Ok(())
+}
+
+/// Appends which sentence a line broke, and how.
+fn say_breach(
+    alloc: Global,
+    out: &mut Vec<u8>,
+    sources: &ExploredSources<'_>,
+    breached: SentenceBreach,
+) -> Result<(), AllocError> {
+    let (place, sections) = (breached.monitor, sources.sentences.sections);
+    let standing = breached.breach.standing;
+    if place >= sections {
+        return say_broken(alloc, out, sources, place - sections, standing);
+    }
+    match sources.sentences.monitors.get(place) {
+        Some(monitor) => say_holder(alloc, out, sources, &monitor.sentence, standing),
+        None => Ok(()),
+    }
 }
 
 /// Appends what the steps of a finding leave.
@@ -108,9 +181,13 @@ fn say_left(
             out,
             format!(in alloc; "processor {p} goes on for ever without a call"),
         ),
-        FindingKind::Together(together) => {
-            say_line(out, sys, left.number, &left.lines, together.meeting.place)?;
-            say_holder(alloc, out, sources, together)
+        FindingKind::Breach(breached) => {
+            say_line(out, sys, left.number, &left.lines, breached.breach.place)?;
+            say_breach(alloc, out, sources, breached)
+        }
+        FindingKind::State(place) => {
+            let place = place.saturating_sub(sources.sentences.sections);
+            say_sentence(alloc, out, sources, place)
         }
         FindingKind::Stuck(_) => Ok(()),
     }

@@ -1,18 +1,19 @@
 //! The command `explore`: it explores the schedules of two texts, and writes the steps of what it finds.
-ghost use Rattle.std.specs.Prelude.{◌≡◌, [], IfOk, Ok};
+ghost use Rattle.std.specs.Prelude.{◌≡◌, [], IfOk, Ok, option_map};
 ghost use Rattle.fmp_files.specs.Prints.{Prints};
 ghost use Rattle.fmp_explore_names.specs.Questions.{IsWanted};
-ghost use Rattle.fmp_searching.specs.Claimed.{HasClaimed, HasShown, HoldsOfFiles, HoldsOfImage, HoldsOfTexts};
-ghost use Rattle.fmp_searching.specs.Claimed.{PrintsNothing, PrintsOnly};
+ghost use Rattle.fmp_searching.specs.Claimed.{HasClaimed, HasShown, HoldsOfBoth, HoldsOfFiles, HoldsOfImage};
+ghost use Rattle.fmp_searching.specs.Claimed.{HoldsOfTexts, IsSaid, PrintsNothing, PrintsOnly};
 
 use crate::exploration::{no_question, no_question_of, steps_over_input};
 use crate::exploring::{Explored, explored_image};
 use crate::reading::read_both;
 use crate::reporting::print_fault;
-use crate::sources::{ExploredSources, Exploring, Named};
+use crate::sources::{ExploredSources, Exploring, Named, Sentences};
+use fmp_expect::{Expected, read_expectations};
 use fmp_explore::{Question, SearchWatcher};
 use fmp_explore_names::{CallLines, ExploreChoices, LocalNames, question_by, wanted_by};
-use fmp_files::{Failure, Outside, end, print, refuse_mistake, write_file};
+use fmp_files::{Failure, Outside, end, print, read_file, refuse_mistake, write_file};
 use fmp_image::build;
 use fmp_image_bytes::Image;
 use fmp_lex::BuildFault;
@@ -55,11 +56,16 @@ fn steps_names(alloc: Global, out: &str, count: usize) -> Result<Vec<String>, Al
     Ok(names)
 }
 
-/// Whether one of these files is one of the two that are read.
+/// Whether one of these files is one of those that are read.
 fn is_over_input<O: Outside>(outside: &O, names: &[String], exploring: &Exploring<'_>) -> bool {
     for name in names {
         let name = name.as_str();
         if outside.is_one_file(name, exploring.cfg) || outside.is_one_file(name, exploring.src) {
+            return true;
+        }
+        if let Some(expect) = exploring.expect
+            && outside.is_one_file(name, expect)
+        {
             return true;
         }
     }
@@ -129,12 +135,21 @@ fn give<O: Outside>(
     }
 }
 
+/// The sentences of a text, with their lines; none if memory runs out.
+fn expected_in(alloc: Global, image: &Image, said: &[u8]) -> Vec<Expected> {
+    match read_expectations(alloc, image.system(), said) {
+        Ok(expected) => expected,
+        Err(_) => Vec::new(alloc),
+    }
+}
+
 /// Explores an image, of which this is asked, and whose bodies have this text.
 fn explore_question<O: Outside>(
     alloc: Global,
     outside: &mut O,
     image: &Image,
     src: &[u8],
+    said: &[u8],
     lines: &CallLines,
     question: &Question,
     exploring: &Exploring<'_>,
@@ -147,6 +162,7 @@ fn explore_question<O: Outside>(
     let names = LocalNames::new(alloc, src)?;
     let places = CallPlaces::new(alloc, src)?;
     let out = out_name(alloc, exploring)?;
+    let expected = expected_in(alloc, image, said);
     let named = Named {
         src: exploring.src,
         out: out.as_str(),
@@ -158,30 +174,38 @@ fn explore_question<O: Outside>(
         lines,
         places: &places,
         names: &names,
-        sections: &question.sections,
+        sentences: Sentences {
+            monitors: &question.monitors,
+            sections: exploring.asked.alone.len(),
+            file: exploring.expect.unwrap_or(""),
+            expected: &expected,
+        },
         named,
     };
     let explored = explored_image(alloc, &sources, question, &mut Telling { outside })?;
     Ok(give(alloc, outside, out.as_str(), exploring, &explored))
 }
 
-/// Explores an image whose bodies have this text, with what is wanted of it.
+/// Explores an image whose bodies have this text, with what is wanted of it, in words and in a text of sentences.
 fn explore_image<O: Outside>(
     alloc: Global,
     outside: &mut O,
     image: &Image,
     src: &[u8],
+    said: &[u8],
     exploring: &Exploring<'_>,
     wanted: &ExploreChoices,
 ) -> Result<u8, AllocError>
     requires { IsWanted exploring.now.asked (Ok wanted.now) }
     ensures { IfOk result (λ status. status ≡ 0 →
-        HoldsOfImage image.now src.now exploring.now (O.done outside.new)) }
+        HoldsOfImage image.now src.now said.now exploring.now (O.done outside.new)) }
 {
     let lines = CallLines::new(alloc, src)?;
-    match question_by(alloc, &exploring.asked, wanted, image, &lines)? {
+    match question_by(alloc, &exploring.asked, wanted, said, image, &lines)? {
         Ok(question) => {
-            explore_question(alloc, outside, image, src, &lines, &question, exploring)
+            explore_question(
+                alloc, outside, image, src, said, &lines, &question, exploring,
+            )
         }
         Err(mistake) => {
             let error = no_question_of(alloc, &exploring.asked, (image, &lines), mistake);
@@ -196,13 +220,14 @@ fn explore_status<O: Outside>(
     outside: &mut O,
     image: &Image,
     src: &[u8],
+    said: &[u8],
     exploring: &Exploring<'_>,
     wanted: &ExploreChoices,
 ) -> u8
     requires { IsWanted exploring.now.asked (Ok wanted.now) }
-    ensures { result ≡ 0 → HoldsOfImage image.now src.now exploring.now (O.done outside.new) }
+    ensures { result ≡ 0 → HoldsOfImage image.now src.now said.now exploring.now (O.done outside.new) }
 {
-    match explore_image(alloc, outside, image, src, exploring, wanted) {
+    match explore_image(alloc, outside, image, src, said, exploring, wanted) {
         Ok(status) => status,
         Err(error) => end(outside, &Failure::Memory(error)),
     }
@@ -214,11 +239,12 @@ fn explore_texts<O: Outside>(
     outside: &mut O,
     cfg: &[u8],
     src: &[u8],
+    said: &[u8],
     exploring: &Exploring<'_>,
     wanted: &ExploreChoices,
 ) -> u8
     requires { IsWanted exploring.now.asked (Ok wanted.now) }
-    ensures { result ≡ 0 → HoldsOfTexts cfg.now src.now exploring.now (O.done outside.new) }
+    ensures { result ≡ 0 → HoldsOfTexts cfg.now src.now said.now exploring.now (O.done outside.new) }
 {
     let names = FileNames {
         cfg: exploring.cfg,
@@ -227,12 +253,40 @@ fn explore_texts<O: Outside>(
     };
     match build(alloc, cfg, src) {
         Ok(image) => {
-            let status = explore_status(alloc, outside, &image, src, exploring, wanted);
+            let status = explore_status(alloc, outside, &image, src, said, exploring, wanted);
             drop(image);
             status
         }
         Err(BuildFault::Memory) => end(outside, &Failure::Memory(AllocError)),
         Err(BuildFault::At(..)) => print_fault(alloc, outside, names, Form::Text).max(1),
+    }
+}
+
+/// The text of a file of sentences; none where there is no file.
+fn read_said<O: Outside>(alloc: Global, outside: &O, name: Option<&str>) -> Result<Vec<u8>, Failure>
+    ensures { IfOk result (λ said. IsSaid (O.files outside.now) (option_map (λ n. n.now) name.entry) said.items) }
+{
+    match name {
+        Some(name) => read_file(alloc, outside, name, None),
+        None => Ok(Vec::new(alloc)),
+    }
+}
+
+/// Explores the schedules of two texts, with what is wanted of them in words and in the sentences of a file.
+fn explore_both<O: Outside>(
+    alloc: Global,
+    outside: &mut O,
+    cfg: &[u8],
+    src: &[u8],
+    exploring: &Exploring<'_>,
+    wanted: &ExploreChoices,
+) -> u8
+    requires { IsWanted exploring.now.asked (Ok wanted.now) }
+    ensures { result ≡ 0 → HoldsOfBoth (O.files outside.old) cfg.now src.now exploring.now (O.done outside.new) }
+{
+    match read_said(alloc, outside, exploring.expect) {
+        Ok(said) => explore_texts(alloc, outside, cfg, src, &said, exploring, wanted),
+        Err(failure) => end(outside, &failure),
     }
 }
 
@@ -247,7 +301,7 @@ fn explore_files<O: Outside>(
     ensures { result ≡ 0 → HoldsOfFiles (O.files outside.old) exploring.now (O.done outside.new) }
 {
     match read_both(alloc, outside, exploring.cfg, exploring.src) {
-        Ok((cfg, src)) => explore_texts(alloc, outside, &cfg, &src, exploring, wanted),
+        Ok((cfg, src)) => explore_both(alloc, outside, &cfg, &src, exploring, wanted),
         Err(failure) => end(outside, &failure),
     }
 }

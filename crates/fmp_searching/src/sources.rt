@@ -1,7 +1,8 @@
 //! What is explored, the names of its files, and the text that is put together.
 ghost use Rattle.std.specs.Prelude.{◌≤◌, ◌^◌};
 
-use fmp_explore::{CallSite, Section};
+use fmp_expect::Expected;
+use fmp_explore::{CallSite, Monitor};
 use fmp_explore_names::{CallLines, ExploreWords, LocalNames};
 use fmp_image_bytes::Image;
 use fmp_places::{CallPlace, CallPlaces};
@@ -15,6 +16,8 @@ pub struct Exploring<'a> {
     /// What is asked of all schedules, in the words of the command line.
     pub asked: ExploreWords<'a>,
     pub bound: u64,
+    /// The name of the file of the sentences that must hold.
+    pub expect: Option<&'a str>,
     /// Whether the answers of each call are printed.
     pub answers: bool,
     /// The name of the files of steps, without the dot and the number.
@@ -34,6 +37,18 @@ pub struct Named<'a> {
     pub answers: bool,
 }
 
+/// The sentences that must hold: those of the sections of the command line, and then those of a file.
+#[derive(Clone, Copy)]
+pub struct Sentences<'a> {
+    pub monitors: &'a [Monitor],
+    /// How many sections there are.
+    pub sections: usize,
+    /// The name of the file.
+    pub file: &'a str,
+    /// The sentences of the file, with their lines.
+    pub expected: &'a [Expected],
+}
+
 /// What is explored, and where its calls stand in the text.
 #[derive(Clone, Copy)]
 pub struct ExploredSources<'a> {
@@ -42,7 +57,7 @@ pub struct ExploredSources<'a> {
     pub lines: &'a CallLines,
     pub places: &'a CallPlaces,
     pub names: &'a LocalNames,
-    pub sections: &'a [Section],
+    pub sentences: Sentences<'a>,
     pub named: Named<'a>,
     ghost low: { 1 ≤ bound },
     ghost high: { bound ≤ 2 ^ 48 },

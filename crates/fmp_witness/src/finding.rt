@@ -3,22 +3,23 @@ ghost use Rattle.std.specs.Prelude.{◌≡◌, ◌≤◌, ◌^◌, [], IfOk, IfS
 ghost use Rattle.fmp_base.specs.Systems.{tables_of};
 ghost use Rattle.fmp_instructions.specs.Machine.{code_meaning};
 ghost use Rattle.fmp_replay.specs.Replays.{kernel_after, replay};
-ghost use Rattle.fmp_schedules.specs.Sections.{IsMeeting};
+ghost use Rattle.fmp_schedules.specs.Monitors.{IsBreach};
 ghost use Rattle.fmp_schedules.specs.Deadlocks.{IsDeadlock, may_interrupt as may};
 ghost use Rattle.fmp_question.specs.Endless.{IsEndlessOn};
-ghost use Rattle.fmp_witness.specs.Findings.{HasForbidden, IsLeft, IsMetAfter, IsSeen, IsSo};
+ghost use Rattle.fmp_witness.specs.Findings.{HasBroken, HasForbidden, IsLeft, IsBreachAfter, IsSeen, IsSo};
 ghost use Rattle.fmp_witness.specs.Followed.{IsFollowed};
 
-use crate::meeting::{follow_section, is_done};
+use crate::breaching::{follow_monitor, is_done};
 use crate::replaying::{TAKEN_MOST, follow};
 use crate::started::{Started, started_tasks};
 use fmp_base::{Event, Line, System};
 use fmp_code::Vm;
 use fmp_image_bytes::Image;
 use fmp_kernel::Kernel;
+use fmp_monitors::Standing;
 use fmp_question::{CallSite, Question, is_bad, is_deadlock, is_endless};
 use fmp_replay::kernel_of;
-use fmp_schedules::{Meeting, Section};
+use fmp_schedules::{Breach, Monitor};
 use std::alloc::{AllocError, Global};
 
 /// What is seen after a list of events.
@@ -32,19 +33,21 @@ pub enum FindingKind {
     Deadlock,
     /// The actor of the processor of this number goes on for ever without a call.
     Endless(u8),
-    /// A task enters a section while another holds it, by a line of the last event.
-    Together(Together),
+    /// A line of the last event breaks a sentence.
+    Breach(SentenceBreach),
+    /// The state breaks the sentence at this place among those of the question.
+    State(usize),
     /// The task at this place is started, and whatever events follow, as the question lets them come, it never goes on.
     Stuck(u8),
 }
 
-/// Two tasks in one section.
+/// A sentence that is broken by a line.
 #[derive(Clone, Copy, Debug, PartialEq, Eq)]
-pub struct Together {
-    /// The place of the section among those of the question.
-    pub section: usize,
-    /// The line by which a task enters, and the task that holds the section.
-    pub meeting: Meeting,
+pub struct SentenceBreach {
+    /// The place of the sentence among those of the question.
+    pub monitor: usize,
+    /// The line that breaks it, and what was kept of it before.
+    pub breach: Breach,
 }
 
 /// A list of events, each of which does something, and what is seen after them.
@@ -110,6 +113,32 @@ fn goes_on<'a>(kernel: &Kernel<Vm<'a>>, image: &'a Image, n: u64, steps: &[Event
     is_endless(kernel, &image.vm(), p)
 }
 
+/// Whether the state of a kernel breaks the sentence at a place of these.
+fn has_broken(kernel: &Kernel<Vm<'_>>, monitors: &[Monitor], place: usize) -> bool
+    ensures { IsTrue result → HasBroken monitors.now kernel.now.world place }
+{
+    match monitors.get(place) {
+        Some(monitor) => monitor.is_broken_in(kernel.tables()),
+        None => false,
+    }
+}
+
+/// Whether the state that these events left breaks the sentence at a place. The kernel of an image took them.
+fn is_state_broken<'a>(
+    kernel: &Kernel<Vm<'a>>,
+    image: &'a Image,
+    n: u64,
+    question: &Question,
+    steps: &[Event],
+    place: usize,
+) -> bool
+    requires { IsFollowed image.now n steps.now kernel.now }
+    ensures { IsTrue result →
+        HasBroken question.now.monitors.items (replay image.now n steps.now).world place }
+{
+    has_broken(kernel, &question.monitors, place)
+}
+
 /// Whether this is seen on the kernel of an image, which has taken these events.
 fn is_seen<'a>(
     kernel: &mut Kernel<Vm<'a>>,
@@ -127,35 +156,51 @@ fn is_seen<'a>(
         FindingKind::Line(place) => tells_forbidden(kernel, image, n, question, steps, place),
         FindingKind::Deadlock => stands(kernel, image, n, question, steps),
         FindingKind::Endless(p) => goes_on(kernel, image, n, steps, p),
-        FindingKind::Together(_) | FindingKind::Stuck(_) => false,
+        FindingKind::State(place) => is_state_broken(kernel, image, n, question, steps, place),
+        FindingKind::Breach(_) | FindingKind::Stuck(_) => false,
     }
 }
 
-/// Whether this is the first of these lines by which a task enters a section while another holds it.
-fn is_meeting(section: &Section, lines: &[Line], meeting: Meeting) -> bool
-    ensures { IsTrue result → IsMeeting section.now lines.now meeting }
+/// Whether what was kept of a sentence at two times is the same.
+fn is_same_standing(a: Standing, b: Standing) -> bool
+    ensures { IsTrue result → a ≡ b }
 {
-    match section.first_meeting(lines) {
-        Some(first) => first.place == meeting.place && first.holder == meeting.holder,
+    match (a, b) {
+        (Standing::Open, Standing::Open) => true,
+        (Standing::Held, Standing::Held) => true,
+        (Standing::Inside(task), Standing::Inside(other)) => task == other,
+        (Standing::Waiting(left), Standing::Waiting(other)) => left == other,
+        _ => false,
+    }
+}
+
+/// Whether this is the first of these lines that breaks a sentence.
+fn is_breach(monitor: &Monitor, lines: &[Line], breach: Breach) -> bool
+    ensures { IsTrue result → IsBreach monitor.now lines.now breach }
+{
+    match monitor.first_breach(lines) {
+        Some(first) => {
+            first.place == breach.place && is_same_standing(first.standing, breach.standing)
+        }
         None => false,
     }
 }
 
-/// Whether the lines of the event after these steps tell this of a section, on the kernel of an image that was just set
-/// up.
-fn is_met<'a>(
+/// Whether the lines of the event after these steps break the sentence of a monitor so, on the kernel of an image that
+/// was just set up.
+fn is_broken<'a>(
     kernel: &mut Kernel<Vm<'a>>,
     image: &'a Image,
     n: u64,
-    section: Section,
+    monitor: Monitor,
     before: &[Event],
     last: Event,
-    meeting: Meeting,
+    breach: Breach,
 ) -> bool
     requires { kernel.old ≡ kernel_after image.now n [] }
-    ensures { IsTrue result → IsMetAfter image.now n section before.now last meeting }
+    ensures { IsTrue result → IsBreachAfter image.now n monitor before.now last breach }
 {
-    let Some(section) = follow_section(kernel, image, n, section, before) else {
+    let Some(monitor) = follow_monitor(kernel, image, n, monitor, before) else {
         return false;
     };
     if kernel.taken() >= TAKEN_MOST {
@@ -164,37 +209,37 @@ fn is_met<'a>(
     if !is_done(kernel, image, n, before, last) {
         return false;
     }
-    is_meeting(&section, kernel.lines(), meeting)
+    is_breach(&monitor, kernel.lines(), breach)
 }
 
-/// Whether each of these events does something on the kernel of an image that was just set up, and by a line of the
-/// last one a task enters a section of the question while another holds it, as this tells.
-fn are_together<'a>(
+/// Whether each of these events does something on the kernel of an image that was just set up, and a line of the
+/// last one breaks a sentence of the question, as this tells.
+fn is_breached<'a>(
     kernel: &mut Kernel<Vm<'a>>,
     image: &'a Image,
     n: u64,
     question: &Question,
     steps: &[Event],
-    together: Together,
+    breached: SentenceBreach,
 ) -> bool
     requires { kernel.old ≡ kernel_after image.now n [] }
-    ensures { IsTrue result → IsSo image.now n question.now steps.now (FindingKind.Together together) }
+    ensures { IsTrue result → IsSo image.now n question.now steps.now (FindingKind.Breach breached) }
 {
-    let Some(section) = question.sections.get(together.section) else {
+    let Some(monitor) = question.monitors.get(breached.monitor) else {
         return false;
     };
     if steps.is_empty() {
         return false;
     }
     let end = steps.len() - 1;
-    is_met(
+    is_broken(
         kernel,
         image,
         n,
-        *section,
+        *monitor,
         &steps[..end],
         steps[end],
-        together.meeting,
+        breached.breach,
     )
 }
 
@@ -212,8 +257,8 @@ pub fn is_so<'a>(
     requires begun { kernel.old ≡ kernel_after image.now n [] }
     ensures { IsTrue result → IsSo image.now n question.now steps.now kind }
 {
-    if let FindingKind::Together(together) = kind {
-        return are_together(kernel, image, n, question, steps, together);
+    if let FindingKind::Breach(breached) = kind {
+        return is_breached(kernel, image, n, question, steps, breached);
     }
     if !follow(kernel, image, n, steps) {
         return false;

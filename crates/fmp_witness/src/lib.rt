@@ -2,13 +2,13 @@
 //! all calls and values that ever came.
 #![tactic(auto)]
 
+mod breaching;
 mod coverage;
 mod finding;
-mod meeting;
 mod replaying;
 mod started;
 
 pub use coverage::{Coverage, Peaks, RunCoverage};
-pub use finding::{Finding, FindingKind, Left, Together, is_so, left_by};
+pub use finding::{Finding, FindingKind, Left, SentenceBreach, is_so, left_by};
 pub use replaying::{TAKEN_MOST, follow};
 pub use started::Started;

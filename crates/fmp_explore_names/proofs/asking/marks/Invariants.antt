@@ -4,4 +4,5 @@ use Rattle.fmp_explore_names.proofs.asking.marks.Given as goal
 
 abbrev pub invariant-loop-task : goal.invariant-loop-task
 invariant-loop-task l =
-    l.rest.items ++ marks (drop l.task-index l.tasks) l.words ≡ marks l.tasks l.words
+    l.rest.items ++ marks l.tasks (drop l.task-index l.tasks) l.words l.expected
+    ≡ marks l.tasks l.tasks l.words l.expected

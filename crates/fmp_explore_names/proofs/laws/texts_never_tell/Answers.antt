@@ -2,7 +2,7 @@ use Rattle.std.proofs.Common.{ap₂, sym, ◌∙◌, ◌∷◌, List}
 use Rattle.std.specs.List.{list_any}
 use Rattle.fmp_base.specs.declared.events.Line.{Line}
 use Rattle.fmp_schedules.specs.Schedules.{is_told}
-use Rattle.fmp_schedules.specs.Sections.{is_met_along}
+use Rattle.fmp_schedules.specs.Monitors.{is_broken_along}
 use Rattle.fmp_explore_names.proofs.laws.texts_never_tell.Goals as goal
 
 pub returns : goal.returns
@@ -16,11 +16,11 @@ returns c = λ cfg src i b rules n forbidden rest low holds es schedule.
           (sym like.first_lines)
           (sym like.lines)
           ∙ holds.never es schedule;
-      alone =
+      by_lines =
           ap₂
           (λ (first : List Line) (more : List (List Line)).
-          list_any (λ s. is_met_along s (first ∷ more)) rules.sections)
+          list_any (λ s. is_broken_along s (first ∷ more)) rules.monitors)
           (sym like.first_lines)
           (sym like.lines)
-          ∙ holds.alone es schedule;
+          ∙ holds.by_lines es schedule;
     }

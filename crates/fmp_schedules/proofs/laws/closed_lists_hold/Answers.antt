@@ -12,8 +12,9 @@ use Rattle.fmp_schedules.proofs.TriedLaws.{closed-under}
 use Rattle.fmp_schedules.proofs.laws.closed_lists_hold.Goals as goal
 
 pub returns : goal.returns
-returns g c = λ rules sys M n forbidden rest seen even closed first clean free.
+returns g c = λ rules sys M n forbidden rest seen even closed first clean upheld free.
     closed-holds rules sys M n forbidden rest (IsListed seen) even (Alike sys) (λ w e. AnyFits w e)
     (alike-likeness sys M n)
     (closed-under (Alike sys) (watch rules forbidden) (worlds-chained sys) (watch-blind forbidden even rules)
-    (may_come rules sys M n) (step sys M n) (step-same sys M n) (IsListed seen) closed) first clean free
+    (may_come rules sys M n) (step sys M n) (step-same sys M n) (IsListed seen) closed) first clean
+    upheld free

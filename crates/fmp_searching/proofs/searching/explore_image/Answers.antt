@@ -9,6 +9,6 @@ returns-in-Ok g c =
       bodies = c.in_ok-lines.lines;
       are = c.in_ok-lines.ensures;
       question = c.in-Ok.question;
-      asks = asked.2;
+      asks = asked.1;
       claimed = claims zero;
     }) c.explore_question.ensures.claimed

@@ -3,11 +3,11 @@ use Rattle.std.proofs.lemmas.Result.{IfOk-weaker}
 use Rattle.fmp_base.specs.declared.events.Event.{Event}
 use Rattle.fmp_base.specs.Setups.{setup}
 use Rattle.fmp_instructions.specs.Machine.{code_meaning}
-use Rattle.fmp_schedules.specs.declared.section.Section.{Section}
+use Rattle.fmp_schedules.specs.declared.monitor.Monitor.{Monitor}
 use Rattle.fmp_witness.specs.Followed.{IsFollowed}
-use Rattle.fmp_explore.specs.States.{AreHeldBy}
+use Rattle.fmp_explore.specs.States.{AreMonitorsOf}
 use Rattle.fmp_explore.proofs.NextLemmas.{begun_nowhere, begun_of}
-use Rattle.fmp_explore.proofs.SectionLemmas.{held-after, held-self}
+use Rattle.fmp_explore.proofs.MonitorLemmas.{held-after, held-self}
 use Rattle.fmp_explore.proofs.searches.Search.begin_behind.Goals as goal
 
 pub keep_first-requires-clause-live : goal.keep_first-requires-clause-live
@@ -21,10 +21,10 @@ keep_first-requires-clause-few c = λ _.
 pub keep_first-requires-clause-held : goal.keep_first-requires-clause-held
 keep_first-requires-clause-held c =
     let s = c.args.subject.now in
-    subst (λ (ss : List Section). AreHeldBy s.question.now.sections.items ss) (sym c.requires.sections)
-    (held-after s.question.now.sections.items s.question.now.sections.items
+    subst (λ (ss : List Monitor). AreMonitorsOf s.question.now.monitors.items ss) (sym c.requires.monitors)
+    (held-after s.question.now.monitors.items s.question.now.monitors.items
     (setup s.image.now.system (code_meaning s.image.now.code)).lines
-    (held-self s.question.now.sections.items))
+    (held-self s.question.now.monitors.items))
 
 pub returns-then-not-can_begin : goal.returns-then-not-can_begin
 returns-then-not-can_begin c =
@@ -55,5 +55,5 @@ returns c =
     (c.follow.ensures c.if-not-follow.false) in
     IfOk-weaker c.keep_first.result _ _
     (λ _ kept. begun_of s.image.now s.n s.question.now c.args.self.now c.keep_first.new.self c.follow.new.kernel
-    c.args.sections.now c.requires.survey c.requires.clean followed c.requires.sections kept)
+    c.args.monitors.now c.requires.survey c.requires.clean followed c.requires.monitors kept)
     c.keep_first.ensures

@@ -1,8 +1,8 @@
-use Rattle.std.proofs.Common.{◌∙◌, ◌+◌, List, ap, length, ℕ}
+use Rattle.std.proofs.Common.{◌∙◌, ◌+◌, ◌*◌, List, ap, length, ℕ}
 use Rattle.std.proofs.lemmas.List.{length-map}
 use Rattle.fmp_base.specs.declared.events.Line.{Line}
-use Rattle.fmp_schedules.specs.declared.section.Section.{Section}
-use Rattle.fmp_schedules.specs.Schedules.{sections_after}
+use Rattle.fmp_schedules.specs.declared.monitor.Monitor.{Monitor}
+use Rattle.fmp_schedules.specs.Schedules.{monitors_after}
 use Rattle.fmp_explore.proofs.NextLemmas.{clean_setup, fresh_search, lines_at_setup}
 use Rattle.fmp_explore.proofs.searches.Search.begin_on.Goals as goal
 
@@ -14,18 +14,18 @@ begin_behind-requires-clause-survey c =
     (c.begin.ensures.fields ∙ stays.same.fields) (c.begin.ensures.outs ∙ stays.same.outs)
     (c.begin.ensures.live ∙ stays.same.live)
     (c.in_ok-begin.ensures.first
-    ∙ ap (λ (k : ℕ). length c.begin.new.self.fields.items + k)
-    (ap (λ (ss : List Section). length ss) (c.deref-2.ensures.value ∙ c.in_ok-sections.ensures)
+    ∙ ap (λ (k : ℕ). length c.begin.new.self.fields.items + 2 * k)
+    (ap (λ (ss : List Monitor). length ss) (c.deref-2.ensures.value ∙ c.in_ok-monitors.ensures)
     ∙ length-map c.deref.result.now _
-    ∙ ap (λ (ss : List Section). length ss) c.deref.ensures.value))
+    ∙ ap (λ (ss : List Monitor). length ss) c.deref.ensures.value))
 
-pub begin_behind-requires-clause-sections : goal.begin_behind-requires-clause-sections
-begin_behind-requires-clause-sections c =
+pub begin_behind-requires-clause-monitors : goal.begin_behind-requires-clause-monitors
+begin_behind-requires-clause-monitors c =
     let s = c.args.subject.now in
     c.deref-3.ensures.value
-    ∙ c.in_ok-sections.ensures
-    ∙ ap (λ (ss : List Section). sections_after ss c.lines.result.now) c.deref.ensures.value
-    ∙ ap (λ (ls : List Line). sections_after s.question.now.sections.items ls) c.lines.ensures
+    ∙ c.in_ok-monitors.ensures
+    ∙ ap (λ (ss : List Monitor). monitors_after ss c.lines.result.now) c.deref.ensures.value
+    ∙ ap (λ (ls : List Line). monitors_after s.question.now.monitors.items ls) c.lines.ensures
     ∙ lines_at_setup s.image.now s.n s.question.now c.args.kernel.now c.requires.kernel
 
 pub begin_behind-requires-clause-clean : goal.begin_behind-requires-clause-clean

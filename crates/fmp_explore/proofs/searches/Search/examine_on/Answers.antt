@@ -5,7 +5,7 @@ use Rattle.fmp_explore.proofs.searches.Search.examine_on.Goals as goal
 pub returns-clause-tried : goal.returns-clause-tried
 returns-clause-tried c =
     let s = c.args.subject.now in
-    IfOk-weaker c.look_if_idle.result _ _
+    IfOk-weaker c.look_at.result _ _
     (λ _ look. all_tried s.image.now s.n s.question.now c.args.from.now.world _ c.args.self.now c.try_all.new.self
-    c.look_if_idle.new.self c.in_ok-marks.marks c.keeps_rules.ensures c.in_ok-marks.ensures.tried look)
-    c.look_if_idle.ensures
+    c.look_at.new.self c.in_ok-marks.marks c.keeps_rules.ensures c.in_ok-marks.ensures.tried look)
+    c.look_at.ensures

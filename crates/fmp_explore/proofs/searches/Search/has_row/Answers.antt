@@ -1,7 +1,7 @@
 use Rattle.std.proofs.Common.{◌∙◌, List, refl, subst, sym}
 use Rattle.fmp_live.specs.LiveLocals.{live_tables}
 use Rattle.fmp_explore.specs.States.{IsRowOf, numbers_in}
-use Rattle.fmp_schedules.specs.declared.section.Section.{Section}
+use Rattle.fmp_schedules.specs.declared.monitor.Monitor.{Monitor}
 use Rattle.fmp_explore.proofs.SearchStepLemmas.{stands_of}
 use Rattle.fmp_explore.proofs.searches.Search.has_row.Goals as goal
 
@@ -24,7 +24,7 @@ returns-clause-stands c = λ yes.
     }) c.args.at.now c.args.kernel.now (live_tables a.rows.live) c.write.new.self.row.items c.requires.ready
     c.requires.there c.requires.few c.requires.held c.requires.live
     (subst
-    (λ (ss : List Section). IsRowOf a.rows.first.items
+    (λ (ss : List Monitor). IsRowOf a.rows.first.items
     (numbers_in c.args.kernel.now.system (live_tables a.rows.live) a.rows.fields.items c.args.kernel.now.world
     c.args.at.now.came ss) c.write.new.self.row.items)
     c.deref.ensures.value c.in_ok-write.ensures.row)

@@ -18,7 +18,7 @@ returns-in-New c =
       first = c.write.ensures.first;
       outs = c.write.ensures.outs;
       live = c.write.ensures.live;
-    }) (λ e. e) c.args.kernel.now c.args.came c.args.sections.now (live_tables a.rows.live) row c.requires.over
+    }) (λ e. e) c.args.kernel.now c.args.came c.args.monitors.now (live_tables a.rows.live) row c.requires.over
     c.requires.sound c.requires.few c.requires.held c.requires.live c.in_ok-write.ensures.row c.args.link
     (adds_new a.seen c.add.new.self row c.args.link c.in_ok-entry.entry c.in-New.field-0 c.in-New.is adds)
 
@@ -38,7 +38,7 @@ returns-in-Known c =
       first = c.write.ensures.first;
       outs = c.write.ensures.outs;
       live = c.write.ensures.live;
-    }) (λ e. e) c.args.kernel.now c.args.came c.args.sections.now (live_tables a.rows.live) row c.requires.over
+    }) (λ e. e) c.args.kernel.now c.args.came c.args.monitors.now (live_tables a.rows.live) row c.requires.over
     c.requires.sound c.requires.few c.requires.held c.requires.live c.in_ok-write.ensures.row
     c.in-Known.field-0 known.0 known.1
 
@@ -56,6 +56,6 @@ returns-in-Full c =
       first = c.write.ensures.first;
       outs = c.write.ensures.outs;
       live = c.write.ensures.live;
-    }) (λ e. absurd (cc (e))) c.args.kernel.now c.args.came c.args.sections.now (live_tables a.rows.live) row
+    }) (λ e. absurd (cc (e))) c.args.kernel.now c.args.came c.args.monitors.now (live_tables a.rows.live) row
     c.requires.over c.requires.sound c.requires.few c.requires.held c.requires.live c.in_ok-write.ensures.row
     (adds_none a.seen c.add.new.self row c.args.link c.in_ok-entry.entry c.in-Full.is adds) refl

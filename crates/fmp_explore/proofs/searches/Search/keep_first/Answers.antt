@@ -30,6 +30,6 @@ returns c =
     let s = c.args.subject.now in
     subst
     (λ (came : ℕ). OnOk c.keep.result (HasKept s.image.now s.question.now c.args.self.now c.keep.new.self
-    c.args.kernel.now.world (watched_with s.question.now came c.args.sections.now)))
+    c.args.kernel.now.world (watched_with s.question.now came c.args.monitors.now)))
     (c.interrupt_count-came.ensures ∙ ap (λ (es : List Event). count_by is_interrupt es) c.deref.ensures.value)
     c.keep.ensures

@@ -12,4 +12,4 @@ pub returns : goal.returns
 returns c =
     let s = c.args.subject.now in
     subst (λ (came : ℕ). OnOk c.keep.result (HasKept s.image.now s.question.now c.args.self.now c.keep.new.self
-    c.args.kernel.now.world (watched_with s.question.now came c.args.sections.now))) c.came.ensures c.keep.ensures
+    c.args.kernel.now.world (watched_with s.question.now came c.args.monitors.now))) c.came.ensures c.keep.ensures

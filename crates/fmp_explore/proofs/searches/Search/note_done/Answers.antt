@@ -1,12 +1,12 @@
 use Rattle.std.proofs.Common.{◌≡◌, ◌∙◌, List, ap, false, subst, sym}
 use Rattle.std.proofs.lemmas.Result.{IfOk-weaker}
 use Rattle.fmp_base.specs.declared.events.Line.{Line}
-use Rattle.fmp_schedules.specs.declared.section.Section.{Section}
-use Rattle.fmp_schedules.specs.Schedules.{is_any_met, sections_after}
+use Rattle.fmp_schedules.specs.declared.monitor.Monitor.{Monitor}
+use Rattle.fmp_schedules.specs.Schedules.{is_any_broken, monitors_after}
 use Rattle.fmp_explore.specs.Searching.{HasKept, came_on}
-use Rattle.fmp_explore.specs.States.{AreHeldBy, watched_with}
+use Rattle.fmp_explore.specs.States.{AreMonitorsOf, watched_with}
 use Rattle.fmp_explore.proofs.NextLemmas.{dealt_done}
-use Rattle.fmp_explore.proofs.SectionLemmas.{held-after}
+use Rattle.fmp_explore.proofs.MonitorLemmas.{held-after}
 use Rattle.fmp_explore.proofs.SearchStepLemmas.{same_live}
 use Rattle.fmp_explore.proofs.searches.Search.note_done.Goals as goal
 
@@ -18,10 +18,10 @@ keep_next-requires-clause-live c =
 pub keep_next-requires-clause-held : goal.keep_next-requires-clause-held
 keep_next-requires-clause-held c =
     let s = c.args.subject.now in
-    subst (λ (ss : List Section). AreHeldBy s.question.now.sections.items ss)
-    (sym (c.deref-3.ensures.value ∙ c.in_ok-sections.ensures
-    ∙ ap (λ (ss : List Section). sections_after ss c.lines.result.now) c.deref-2.ensures.value))
-    (held-after s.question.now.sections.items c.args.attempt.at.now.sections.items c.lines.result.now c.requires.held)
+    subst (λ (ss : List Monitor). AreMonitorsOf s.question.now.monitors.items ss)
+    (sym (c.deref-3.ensures.value ∙ c.in_ok-monitors.ensures
+    ∙ ap (λ (ss : List Monitor). monitors_after ss c.lines.result.now) c.deref-2.ensures.value))
+    (held-after s.question.now.monitors.items c.args.attempt.at.now.monitors.items c.lines.result.now c.requires.held)
 
 pub returns : goal.returns
 returns c = λ w done.
@@ -30,13 +30,13 @@ returns c = λ w done.
     let at = a.at.now in
     IfOk-weaker c.keep_next.result _ _
     (λ _ kept. dealt_done s.image.now s.n s.question.now c.args.self.now c.note_lines.new.self c.keep_next.new.self
-    c.args.kernel.now w at.came at.sections.items a.event c.requires.survey c.in_ok-note_lines.ensures.stays
+    c.args.kernel.now w at.came at.monitors.items a.event c.requires.survey c.in_ok-note_lines.ensures.stays
     c.in_ok-note_lines.ensures.clean
-    (λ sure. subst (λ (ss : List Section). is_any_met ss c.args.kernel.now.lines ≡ false)
+    (λ sure. subst (λ (ss : List Monitor). is_any_broken ss c.args.kernel.now.lines ≡ false)
     c.deref.ensures.value (c.in_ok-note_lines.ensures.alone sure))
     c.in_ok-note_lines.ensures.written done c.requires.sound
-    (subst (λ (ss : List Section). HasKept s.image.now s.question.now c.note_lines.new.self c.keep_next.new.self
+    (subst (λ (ss : List Monitor). HasKept s.image.now s.question.now c.note_lines.new.self c.keep_next.new.self
     c.args.kernel.now.world (watched_with s.question.now (came_on s.question.now.interrupts at.came a.event) ss))
-    (c.deref-3.ensures.value ∙ c.in_ok-sections.ensures
-    ∙ ap (λ (ss : List Section). sections_after ss c.lines.result.now) c.deref-2.ensures.value
-    ∙ ap (λ (ls : List Line). sections_after at.sections.items ls) c.lines.ensures) kept)) c.keep_next.ensures
+    (c.deref-3.ensures.value ∙ c.in_ok-monitors.ensures
+    ∙ ap (λ (ss : List Monitor). monitors_after ss c.lines.result.now) c.deref-2.ensures.value
+    ∙ ap (λ (ls : List Line). monitors_after at.monitors.items ls) c.lines.ensures) kept)) c.keep_next.ensures

@@ -1,8 +1,8 @@
 use Rattle.std.proofs.Common.{List, subst, sym}
 use Rattle.std.proofs.lemmas.Result.{IfOk-weaker}
-use Rattle.fmp_schedules.specs.declared.section.Section.{Section}
+use Rattle.fmp_schedules.specs.declared.monitor.Monitor.{Monitor}
 use Rattle.fmp_explore.specs.Searching.{HasKept, came_on}
-use Rattle.fmp_explore.specs.States.{AreHeldBy, watched_with}
+use Rattle.fmp_explore.specs.States.{AreMonitorsOf, watched_with}
 use Rattle.fmp_explore.proofs.NextLemmas.{dealt_kept}
 use Rattle.fmp_explore.proofs.SearchStepLemmas.{same_live}
 use Rattle.fmp_explore.proofs.searches.Search.note_kept.Goals as goal
@@ -15,7 +15,7 @@ keep_next-requires-clause-live c =
 pub keep_next-requires-clause-held : goal.keep_next-requires-clause-held
 keep_next-requires-clause-held c =
     let s = c.args.subject.now in
-    subst (λ (ss : List Section). AreHeldBy s.question.now.sections.items ss) (sym c.deref.ensures.value)
+    subst (λ (ss : List Monitor). AreMonitorsOf s.question.now.monitors.items ss) (sym c.deref.ensures.value)
     c.requires.held
 
 pub returns : goal.returns
@@ -25,8 +25,8 @@ returns c = λ w kept_place.
     let at = a.at.now in
     IfOk-weaker c.keep_next.result _ _
     (λ _ kept. dealt_kept s.image.now s.n s.question.now c.args.self.now c.note_place.new.self c.keep_next.new.self
-    c.args.kernel.now w at.came at.sections.items a.event c.requires.survey c.in_ok-note_place.ensures kept_place
+    c.args.kernel.now w at.came at.monitors.items a.event c.requires.survey c.in_ok-note_place.ensures kept_place
     c.requires.sound
-    (subst (λ (ss : List Section). HasKept s.image.now s.question.now c.note_place.new.self c.keep_next.new.self
+    (subst (λ (ss : List Monitor). HasKept s.image.now s.question.now c.note_place.new.self c.keep_next.new.self
     c.args.kernel.now.world (watched_with s.question.now (came_on s.question.now.interrupts at.came a.event) ss))
     c.deref.ensures.value kept)) c.keep_next.ensures
