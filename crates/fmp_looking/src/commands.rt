@@ -11,6 +11,7 @@ use crate::looking::RunLook;
 use crate::open_image::OpenImage;
 use crate::opened::Opened;
 use crate::opening::image_of;
+use crate::stats_records::append_tally_records;
 use crate::why::why_of;
 use fmp_arguments::{kept_bound, kept_events};
 use fmp_base::System;
@@ -22,6 +23,7 @@ use fmp_frames::{Tallies, Viewer, Waves, last_frame, show_all};
 use fmp_image_bytes::Image;
 use fmp_kernel::{Body, Kernel};
 use fmp_trace::print_steps;
+use fmp_warnings::Form;
 use std::alloc::{AllocError, Global};
 
 /// Out of memory, as a fault.
@@ -118,10 +120,25 @@ fn tallied<B: Body, T: Coming<B>>(
     Ok(tallies)
 }
 
+/// Appends the table of what each task did, or an object for each.
+fn append_tallies(
+    alloc: Global,
+    form: Form,
+    sys: &System,
+    tallies: &Tallies,
+    out: &mut Vec<u8>,
+) -> Result<(), AllocError> {
+    match form {
+        Form::Text => tallies.append_table(alloc, sys, out),
+        Form::Json => append_tally_records(alloc, sys, tallies, out),
+    }
+}
+
 /// The table of a run of a kernel of this system over what comes to it.
 #[tactic(none)]
 fn table_on<B: Body, T: Coming<B>>(
     alloc: Global,
+    form: Form,
     sys: &System,
     kernel: &mut Kernel<B>,
     body: &B,
@@ -134,7 +151,7 @@ fn table_on<B: Body, T: Coming<B>>(
 {
     let tallies = tallied(alloc, kernel, body, n, events)?;
     let mut out = Vec::new(alloc);
-    tallies.append_table(alloc, sys, &mut out)?;
+    append_tallies(alloc, form, sys, &tallies, &mut out)?;
     Ok(out)
 }
 
@@ -182,7 +199,7 @@ fn dump_on<B: Body, T: Coming<B>>(
 #[derive(Clone, Copy)]
 pub enum RunOutput {
     /// The table of what each task did.
-    Table,
+    Table(Form),
     /// The waveform, as a value change dump.
     Dump,
     /// The table of calls.
@@ -205,7 +222,7 @@ fn output_on<B: Body, T: Coming<B>>(
     requires bound { n ≡ kernel.old.bound }
 {
     match output {
-        RunOutput::Table => table_on(alloc, sys, kernel, body, n, events),
+        RunOutput::Table(form) => table_on(alloc, form, sys, kernel, body, n, events),
         RunOutput::Dump => dump_on(alloc, sys, kernel, body, n, events),
         RunOutput::Calls => calls_on(alloc, sys, kernel, body, n, events),
     }

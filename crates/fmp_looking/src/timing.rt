@@ -7,10 +7,12 @@ use crate::commands::{RunOutput, output_of};
 use crate::exit::{ViewExit, memory};
 use crate::looking::RunLook;
 use crate::opened::Opened;
+use crate::stats_records::append_response_records;
 use fmp_base::System;
 use fmp_coming::Coming;
-use fmp_frames::{Timing, Viewer, append_responses, known_times, last_frame, show_all};
+use fmp_frames::{Responses, Timing, Viewer, append_responses, known_times, last_frame, show_all};
 use fmp_kernel::{Body, Kernel};
+use fmp_warnings::Form;
 use std::alloc::{AllocError, Global};
 
 /// What is told of the responses of a run of a kernel over what comes to it at these times.
@@ -36,12 +38,33 @@ fn timed<'a, B: Body, T: Coming<B>>(
     Ok(timing)
 }
 
-/// The table of responses behind an empty line; nothing where some times are not those of events.
-fn responses_text(alloc: Global, sys: &System, timing: &Timing<'_>) -> Result<Vec<u8>, AllocError> {
+/// Appends the table of responses behind an empty line, or an object for each handler.
+fn append_timing(
+    alloc: Global,
+    form: Form,
+    sys: &System,
+    responses: &Responses,
+    out: &mut Vec<u8>,
+) -> Result<(), AllocError> {
+    match form {
+        Form::Text => {
+            out.push(b'\n')?;
+            append_responses(alloc, sys, responses, out)
+        }
+        Form::Json => append_response_records(alloc, sys, responses, out),
+    }
+}
+
+/// What is told of responses; nothing where some times are not those of events.
+fn responses_text(
+    alloc: Global,
+    form: Form,
+    sys: &System,
+    timing: &Timing<'_>,
+) -> Result<Vec<u8>, AllocError> {
     let mut out = Vec::new(alloc);
     if timing.times.is_empty() {
-        out.push(b'\n')?;
-        append_responses(alloc, sys, &timing.responses, &mut out)?;
+        append_timing(alloc, form, sys, &timing.responses, &mut out)?;
     }
     Ok(out)
 }
@@ -50,6 +73,7 @@ fn responses_text(alloc: Global, sys: &System, timing: &Timing<'_>) -> Result<Ve
 #[tactic(none)]
 fn responses_on<B: Body, T: Coming<B>>(
     alloc: Global,
+    form: Form,
     sys: &System,
     kernel: &mut Kernel<B>,
     body: &B,
@@ -62,13 +86,14 @@ fn responses_on<B: Body, T: Coming<B>>(
     requires bound { n ≡ kernel.old.bound }
 {
     let timing = timed(alloc, kernel, body, n, events, times)?;
-    responses_text(alloc, sys, &timing)
+    responses_text(alloc, form, sys, &timing)
 }
 
 /// The table of the responses of a run of a system at these times.
 #[tactic(none)]
 fn responses_of<O: Opened, T: Coming<O::Bodies>>(
     alloc: Global,
+    form: Form,
     opened: &O,
     events: &[T],
     times: &[u64],
@@ -79,6 +104,7 @@ fn responses_of<O: Opened, T: Coming<O::Bodies>>(
     let bodies = opened.bodies();
     let made = responses_on(
         alloc,
+        form,
         opened.system(),
         &mut kernel,
         &bodies,
@@ -94,24 +120,25 @@ fn responses_of<O: Opened, T: Coming<O::Bodies>>(
 /// The table of what each task of a run did, and behind it that of the responses where the times are known.
 fn stats_of<O: Opened, T: Coming<O::Bodies>>(
     alloc: Global,
+    form: Form,
     opened: &O,
     events: &[T],
     times: &[Option<u64>],
 ) -> Result<Vec<u8>, AllocError>
     requires { length events.now ≤ 2 ^ 31 }
 {
-    let mut table = output_of(alloc, opened, events, RunOutput::Table)?;
+    let mut table = output_of(alloc, opened, events, RunOutput::Table(form))?;
     let times = known_times(alloc, times)?;
     if !times.is_empty() {
-        let responses = responses_of(alloc, opened, events, &times)?;
+        let responses = responses_of(alloc, form, opened, events, &times)?;
         table.extend_from_slice(&responses)?;
     }
     Ok(table)
 }
 
-/// The table of a run.
+/// The table of a run, in this form.
 #[derive(Clone, Copy)]
-pub struct Stats;
+pub struct Stats(pub Form);
 
 impl RunLook for Stats {
     type Made = Vec<u8>;
@@ -123,6 +150,6 @@ impl RunLook for Stats {
         events: &[T],
         times: &[Option<u64>],
     ) -> Result<Vec<u8>, ViewExit> {
-        stats_of(alloc, opened, events, times).map_err(|error| memory(error))
+        stats_of(alloc, self.0, opened, events, times).map_err(|error| memory(error))
     }
 }

@@ -34,7 +34,7 @@ pub struct Tracer<'a> {
 }
 
 /// The form of a line that says where its call stands.
-fn line_form(form: Form) -> LineForm
+pub fn line_form(form: Form) -> LineForm
     ensures { result ≡ spec.line_form form }
 {
     match form {

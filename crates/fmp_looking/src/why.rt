@@ -6,6 +6,8 @@ use crate::looking::RunLook;
 use crate::opened::Opened;
 use crate::timeline::TimelineFault;
 use fmp_coming::Coming;
+use fmp_json::{begin, finish, text_member};
+use fmp_warnings::Form;
 use fmp_watch::count_up_to;
 use std::alloc::{AllocError, Global};
 
@@ -72,10 +74,53 @@ fn place_of<O: Opened, T: Coming<O::Bodies>>(
     }
 }
 
-/// What each task waits or spins for after the event of this number, or after the last one.
+/// A line of what is said, as an object of JSON.
+fn line_record(alloc: Global, line: &[u8]) -> Result<Vec<u8>, AllocError> {
+    let line = String::from_utf8_lossy(alloc, line)?;
+    let mut writer = begin(alloc)?;
+    text_member(&mut writer, "what", "why")?;
+    text_member(&mut writer, "text", &line)?;
+    finish(writer)
+}
+
+/// The lines of what is said, each as an object of JSON.
+fn records_of(alloc: Global, text: &[u8]) -> Result<Vec<u8>, AllocError> {
+    let mut out = Vec::new(alloc);
+    for line in text.split(|byte| *byte == b'\n') {
+        if !line.is_empty() {
+            let record = line_record(alloc, line)?;
+            out.extend_from_slice(&record)?;
+        }
+    }
+    Ok(out)
+}
+
+/// What is said, in a form.
+fn in_form(alloc: Global, form: Form, text: Vec<u8>) -> Result<Vec<u8>, AllocError> {
+    match form {
+        Form::Text => Ok(text),
+        Form::Json => records_of(alloc, &text),
+    }
+}
+
+/// Why nothing goes on after what came to a system, in a form.
+fn why_in<O: Opened, T: Coming<O::Bodies>>(
+    alloc: Global,
+    form: Form,
+    opened: &O,
+    events: &[T],
+) -> Result<Vec<u8>, AllocError>
+    requires { length events.now ≤ 2 ^ 31 }
+{
+    let text = why_of(alloc, opened, events)?;
+    in_form(alloc, form, text)
+}
+
+/// What each task waits or spins for after the event of this number, or after the last one, in a form.
 #[derive(Clone, Copy)]
 pub struct Why {
     pub at: Option<u32>,
+    pub form: Form,
 }
 
 impl RunLook for Why {
@@ -89,6 +134,6 @@ impl RunLook for Why {
         _times: &[Option<u64>],
     ) -> Result<Vec<u8>, ViewExit> {
         let place = place_of(alloc, opened, events, self.at)?;
-        why_of(alloc, opened, &events[..place]).map_err(|error| memory(error))
+        why_in(alloc, self.form, opened, &events[..place]).map_err(|error| memory(error))
     }
 }

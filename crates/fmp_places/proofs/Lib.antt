@@ -1,2 +1,4 @@
 pub mod Bodies
+pub mod HeardLemmas
 pub mod MadeLemmas
+pub mod SiteLemmas

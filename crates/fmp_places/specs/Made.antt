@@ -12,32 +12,39 @@ use Rattle.fmp_instructions.specs.Instructions.{BodyTables}
 use Rattle.fmp_kernel.specs.declared.actors.Actor.{Actor}
 use Rattle.fmp_kernel.specs.KernelViews.{KernelView, actor_in, view_after}
 use Rattle.fmp_places.specs.declared.calls.CallPlace.{CallPlace}
+use Rattle.fmp_places.specs.declared.sites.CallSite.{CallSite}
 use Rattle.fmp_places.specs.Places.{place_of}
+use Rattle.fmp_places.specs.Sites.{site}
 
--- where the call stands that ends a stretch of a body: the context is behind it then
-abbrev pub ending_place : List BodyTables → List (List CallPlace) → (body : ℕ) → Ending MachineContext
-    → Option CallPlace
-ending_place code bodies body (ending.Call c call) = place_of code bodies body (c.pc - 1)
-ending_place code bodies body (ending.End c) = None
-ending_place code bodies body (ending.Fault c fault) = None
-ending_place code bodies body (ending.Over kept) = None
+-- the call that ends a stretch of a body: the context is behind it then
+abbrev pub ending_site : (body : ℕ) → Ending MachineContext → Option CallSite
+ending_site body (ending.Call c call) = Some (site body (c.pc - 1))
+ending_site body (ending.End c) = None
+ending_site body (ending.Fault c fault) = None
+ending_site body (ending.Over kept) = None
 
--- where the call stands to which an actor comes next within a bound
-abbrev pub actor_place : Meaning MachineContext → (bound : ℕ) → List BodyTables → List (List CallPlace)
-    → Actor MachineContext → Option CallPlace
-actor_place M bound code bodies a = ending_place code bodies a.entry (M.stretch a.entry bound a.context)
+-- the call to which an actor comes next within a bound
+abbrev pub actor_site : Meaning MachineContext → (bound : ℕ) → Option (Actor MachineContext) → Option CallSite
+actor_site M bound None = None
+actor_site M bound (Some a) = ending_site a.entry (M.stretch a.entry bound a.context)
+
+-- the call that an event makes, where it makes one
+abbrev pub event_site : {B : Type 0} → (B → Meaning MachineContext) → KernelView B MachineContext → Event
+    → Option CallSite
+event_site meaning k (Run p) = actor_site (meaning k.body) k.bound (actor_in k p)
+event_site meaning k Tick = None
+event_site meaning k (Int i) = None
+
+-- where a call stands
+abbrev pub site_place : List BodyTables → List (List CallPlace) → Option CallSite → Option CallPlace
+site_place code bodies None = None
+site_place code bodies (Some s) = place_of code bodies s.body s.pc
 
 module _ {B : Type 0} (meaning : B → Meaning MachineContext) (code : List BodyTables)
     (bodies : List (List CallPlace)) where
-  abbrev pub place_by_actor : KernelView B MachineContext → Option (Actor MachineContext) → Option CallPlace
-  place_by_actor k None = None
-  place_by_actor k (Some a) = actor_place (meaning k.body) k.bound code bodies a
-
   -- where the call stands that an event makes, where it makes one
   abbrev pub event_place : KernelView B MachineContext → Event → Option CallPlace
-  event_place k (Run p) = place_by_actor k (actor_in k p)
-  event_place k Tick = None
-  event_place k (Int i) = None
+  event_place k e = site_place code bodies (event_site meaning k e)
 
   -- what stands for an event that did this, in front of what stands for those behind it
   abbrev pub in_front : Option CallPlace → Reaction MachineContext → List (Option CallPlace) → List (Option CallPlace)

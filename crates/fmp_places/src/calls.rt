@@ -167,7 +167,7 @@ fn bodies_of(alloc: Global, src: &[u8], tokens: &Tokens<'_>) -> Result<Vec<BodyC
 }
 
 /// Whether an instruction is a call.
-fn is_call(instruction: &Instruction) -> bool
+pub fn is_call(instruction: &Instruction) -> bool
     ensures { result ≡ spec.is_call instruction.now }
 {
     match instruction {

@@ -1,10 +1,11 @@
 //! Where the calls stand that a run makes.
-ghost use Rattle.std.specs.Prelude.{◌≡◌, ◌+◌, ◌≤◌, ◌^◌, IfOk, length};
+ghost use Rattle.std.specs.Prelude.{◌≡◌, ◌+◌, ◌≤◌, ◌^◌, IfOk, Some, length};
 ghost use Rattle.fmp_base.specs.Stretches.{ending};
 ghost use Rattle.fmp_instructions.specs.Instructions.{code_tables};
 ghost use Rattle.fmp_places.specs.Made as spec;
 
 use crate::calls::{CallPlace, CallPlaces};
+use crate::sites::CallSite;
 use fmp_base::{Effect, Event, Stretch};
 use fmp_coming::Coming;
 use fmp_instructions::{Code, MachineContext};
@@ -18,40 +19,60 @@ pub struct CodePlaces<'a> {
     pub places: &'a CallPlaces,
 }
 
-/// Where the call stands that ends a stretch of a body, if a call ends it: its context is behind the call then.
-fn stretch_place(
-    text: CodePlaces<'_>,
-    body: u8,
-    stretch: Stretch<MachineContext>,
-) -> Option<CallPlace>
-    ensures { result ≡ spec.ending_place (code_tables text.entry.code.now) text.entry.places.now body
-        (ending stretch) }
+/// The call that ends a stretch of a body, if a call ends it: its context is behind the call then.
+fn stretch_site(body: u8, stretch: Stretch<MachineContext>) -> Option<CallSite>
+    ensures { result ≡ spec.ending_site body (ending stretch) }
 {
     match stretch {
-        Stretch::Call(context, _) => text
-            .places
-            .place(text.code, body, context.pc.saturating_sub(1)),
+        Stretch::Call(context, _) => Some(CallSite {
+            body,
+            pc: context.pc.saturating_sub(1),
+        }),
         Stretch::End(_) | Stretch::Fault(..) | Stretch::Over(_) => None,
     }
 }
 
-/// Where the call stands to which an actor over these bodies comes next within a bound; none if it comes to none.
-fn actor_place<B: Body<Ctx = MachineContext>>(
+/// The call to which an actor over these bodies comes next within a bound; none if it comes to none.
+fn actor_site<B: Body<Ctx = MachineContext>>(
     body: &B,
     n: u64,
-    text: CodePlaces<'_>,
     actor: &Actor<MachineContext>,
-) -> Option<CallPlace>
+) -> Option<CallSite>
     requires entry { B.has_entry body.now actor.now.entry }
     requires context { B.is_context body.now actor.now.entry actor.now.context }
-    ensures { result ≡ spec.actor_place (B.meaning body.now) n (code_tables text.entry.code.now)
-        text.entry.places.now actor.now }
+    ensures { result ≡ spec.actor_site (B.meaning body.now) n (Some actor.now) }
 {
-    stretch_place(
-        text,
-        actor.entry,
-        body.stretch(actor.entry, n, actor.context),
-    )
+    stretch_site(actor.entry, body.stretch(actor.entry, n, actor.context))
+}
+
+/// The call that an event makes on a kernel over these bodies with this bound, where it makes one.
+pub fn event_site<B: Body<Ctx = MachineContext>>(
+    kernel: &Kernel<B>,
+    body: &B,
+    n: u64,
+    e: Event,
+) -> Option<CallSite>
+    requires body { body.now ≡ kernel.now.body }
+    requires bound { n ≡ kernel.now.bound }
+    ensures { result ≡ spec.event_site B.meaning kernel.now e }
+{
+    match e {
+        Event::Run(p) => match kernel.actor(p) {
+            Some(actor) => actor_site(body, n, &actor),
+            None => None,
+        },
+        Event::Tick | Event::Int(_) => None,
+    }
+}
+
+/// Where a call stands, if it is known.
+fn site_place(text: CodePlaces<'_>, site: Option<CallSite>) -> Option<CallPlace>
+    ensures { result ≡ spec.site_place (code_tables text.entry.code.now) text.entry.places.now site }
+{
+    match site {
+        Some(site) => text.places.place(text.code, site.body, site.pc),
+        None => None,
+    }
 }
 
 /// Where the call stands that an event makes on a kernel over these bodies with this bound, where it makes one.
@@ -67,13 +88,7 @@ pub fn event_place<B: Body<Ctx = MachineContext>>(
     ensures { result ≡ spec.event_place B.meaning (code_tables text.entry.code.now) text.entry.places.now
         kernel.now e }
 {
-    match e {
-        Event::Run(p) => match kernel.actor(p) {
-            Some(actor) => actor_place(body, n, text, &actor),
-            None => None,
-        },
-        Event::Tick | Event::Int(_) => None,
-    }
+    site_place(text, event_site(kernel, body, n, e))
 }
 
 /// Takes events, and gives for each that is done where the call stands that it makes, if it makes one. `AllocError` if

@@ -115,13 +115,14 @@ pub enum Asked<'a> {
         bound: u64,
     },
     /// Say what each task waits or spins for after an event of a run, by its number, or after the last one.
-    Why(RunFiles<'a>, Option<u32>),
+    Why(RunFiles<'a>, Option<u32>, Form),
     /// Say whether a run meets the expectations of the text of this file, strictly or not.
     Expect(RunFiles<'a>, &'a str, bool),
     /// Show the first event in which two runs of a system differ.
     Diff(RunPair<'a>),
-    /// Print the table of a run.
-    Stats(RunFiles<'a>),
+    /// Print the table of a run, and the calls that were refused, by where they stand in the text of this file if there
+    /// is one.
+    Stats(RunFiles<'a>, Option<&'a str>, Form),
     /// Write a run to a file, for viewers of waveforms or of traces.
     Waves(RunFiles<'a>, &'a str, Format),
     /// Write the picture of a run to a file, with where its calls stand in the text of this file, if there is one.
@@ -313,10 +314,10 @@ fn look_of<'m>(name: &str, words: &'m ArgMatches<'_>) -> Asked<'m> {
             seed: word64_of(words, "seed"),
             bound: bound_of(words),
         },
-        "why" => Asked::Why(run_of(words), word32_of(words, "at")),
+        "why" => Asked::Why(run_of(words), word32_of(words, "at"), form_of(words)),
         "expect" => expect_asked(words),
         "diff" => Asked::Diff(runs_of(words)),
-        "stats" => Asked::Stats(run_of(words)),
+        "stats" => Asked::Stats(run_of(words), text_of(words, "src"), form_of(words)),
         "timeline" => timeline_asked(words),
         _ => Asked::Waves(run_of(words), behind_run(words, "OUT"), format_of(words)),
     }

@@ -98,6 +98,10 @@ const STRICT: &str =
 const PLACED: &str =
     "Task text of IMAGE: what is pointed at shows where its call stands there, its line and column";
 
+/// The text whose places tell calls that are refused.
+const REFUSED: &str =
+    "Task text of IMAGE: calls that are refused are told by their line and column there";
+
 /// The commands of a session.
 const LINES: &str = "Commands, one a line of standard input:
   run P [xK]   processor P goes on, to its next service call; K times, or until it does nothing
@@ -271,6 +275,7 @@ static WHY: CommandForm = CommandForm {
             ArgumentKind::Option("K", OptionValue::Number(0, EVENTS_MAX as u64)),
             AT,
         ),
+        JSON,
     ],
     example: "Example: fmp_view why queue.img drive.steps --at 2",
 };
@@ -345,9 +350,20 @@ static EXPECTED: CommandForm = CommandForm {
 
 static STATS: CommandForm = CommandForm {
     name: "stats",
-    about: "Prints a table of what each task of a run did, with its share of the events",
-    arguments: &[OF_SYSTEM, OF_RUN, RECORDED, BOUNDED],
-    example: "Example: fmp_view stats queue.img drive.steps",
+    about: "Prints a table of what each task of a run did, and the calls that were refused",
+    arguments: &[
+        OF_SYSTEM,
+        OF_RUN,
+        RECORDED,
+        BOUNDED,
+        Argument(
+            "src",
+            ArgumentKind::TextWithout("SRC", "recording"),
+            REFUSED,
+        ),
+        JSON,
+    ],
+    example: "Example: fmp_view stats queue.img drive.steps --src examples/queue.src",
 };
 
 static WAVES: CommandForm = CommandForm {

@@ -17,9 +17,9 @@ use crate::texts::{run_step, run_texts};
 use clap::ArgMatches;
 use fmp_files::{Device, Failure, Outside, end, print, read_file, refuse_mistake, write_file};
 use fmp_looking::{
-    Drawing, DrivenText, Expectations, Format, Picture, PictureCut, RunLook, RunOutput, Stats,
-    Titled, ViewExit, Why, code, diff, diff_recordings, exit_over, look_at_image,
-    look_at_recording, places_of_run, steps,
+    Drawing, DrivenText, Expectations, Format, NamedText, Picture, PictureCut, RunLook, RunOutput,
+    Stats, Titled, ViewExit, Why, code, diff, diff_recordings, exit_over, look_at_image,
+    look_at_recording, places_of_run, refused_in_run, steps,
 };
 use fmp_places::CallPlace;
 use fmp_searching::{print_fault, read_both, run_explore};
@@ -203,14 +203,87 @@ fn print_difference<O: Outside>(
 }
 
 /// Prints what each task of a run waits or spins for after an event.
-fn print_why<O: Outside>(alloc: Global, outside: &mut O, run: RunFiles<'_>, at: Option<u32>) -> u8 {
-    let made = made_of_run(alloc, outside, run, &Why { at });
+fn print_why<O: Outside>(
+    alloc: Global,
+    outside: &mut O,
+    run: RunFiles<'_>,
+    at: Option<u32>,
+    form: Form,
+) -> u8 {
+    let made = made_of_run(alloc, outside, run, &Why { at, form });
     print_made(alloc, outside, made)
 }
 
-/// Prints the table of a run.
-fn print_stats<O: Outside>(alloc: Global, outside: &mut O, run: RunFiles<'_>) -> u8 {
-    let made = made_of_run(alloc, outside, run, &Stats);
+/// The lines of the calls that are refused in a run of an image, by where they stand in the text of a file.
+fn refused_by_text<O: Outside>(
+    alloc: Global,
+    outside: &O,
+    (image, steps): (&[u8], &[u8]),
+    name: &str,
+    bound: u64,
+    form: Form,
+) -> Result<Vec<u8>, ViewExit> {
+    let text = read_file(alloc, outside, name, None)?;
+    let source = NamedText { name, text: &text };
+    refused_in_run(alloc, form, image, steps, Some(source), bound)
+}
+
+/// The lines of the calls that are refused in a run; none of a recording, whose bodies are not known.
+fn refused_lines<O: Outside>(
+    alloc: Global,
+    outside: &O,
+    run: RunFiles<'_>,
+    src: Option<&str>,
+    form: Form,
+) -> Result<Vec<u8>, ViewExit> {
+    let RunFiles::Steps {
+        image,
+        steps,
+        bound,
+    } = run
+    else {
+        return Ok(Vec::new(alloc));
+    };
+    let (image, steps) = read_both(alloc, outside, image, steps)?;
+    match src {
+        Some(name) => refused_by_text(alloc, outside, (&image, &steps), name, bound, form),
+        None => refused_in_run(alloc, form, &image, &steps, None, bound),
+    }
+}
+
+/// The table of a run, and the calls that are refused: behind an empty line, or as further objects.
+fn stats_of<O: Outside>(
+    alloc: Global,
+    outside: &O,
+    run: RunFiles<'_>,
+    src: Option<&str>,
+    form: Form,
+) -> Result<Vec<u8>, ViewExit> {
+    let mut text = made_of_run(alloc, outside, run, &Stats(form))?;
+    let refused = refused_lines(alloc, outside, run, src, form)?;
+    match joined(form, &mut text, &refused) {
+        Ok(()) => Ok(text),
+        Err(error) => Err(ViewExit::Failed(Failure::Memory(error))),
+    }
+}
+
+/// Appends the lines of calls that are refused to a table, if there are some.
+fn joined(form: Form, table: &mut Vec<u8>, refused: &[u8]) -> Result<(), AllocError> {
+    if matches!(form, Form::Text) && !refused.is_empty() {
+        table.push(b'\n')?;
+    }
+    table.extend_from_slice(refused)
+}
+
+/// Prints the table of a run, and the calls that are refused.
+fn print_stats<O: Outside>(
+    alloc: Global,
+    outside: &mut O,
+    run: RunFiles<'_>,
+    src: Option<&str>,
+    form: Form,
+) -> u8 {
+    let made = stats_of(alloc, outside, run, src, form);
     print_made(alloc, outside, made)
 }
 
@@ -367,10 +440,10 @@ where
             seed,
             bound,
         } => run_drive(alloc, outside, image, events, seed, bound),
-        Asked::Why(run, at) => print_why(alloc, outside, run, at),
+        Asked::Why(run, at, form) => print_why(alloc, outside, run, at, form),
         Asked::Expect(run, name, strict) => print_failure(alloc, outside, run, name, strict),
         Asked::Diff(runs) => print_diff(alloc, outside, runs),
-        Asked::Stats(run) => print_stats(alloc, outside, run),
+        Asked::Stats(run, src, form) => print_stats(alloc, outside, run, src, form),
         Asked::Waves(run, out, format) => write_waves(alloc, outside, run, out, format),
         Asked::Timeline(run, out, drawing, src) => {
             write_timeline(alloc, outside, run, out, drawing, src)

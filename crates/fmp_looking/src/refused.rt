@@ -1,0 +1,208 @@
+//! The calls of a run that are refused.
+ghost use Rattle.std.specs.Prelude.{◌≡◌, ◌≤◌, ◌^◌, ◌++◌, [], IfOk, OnOk, length, map};
+ghost use Rattle.fmp_instructions.specs.Instructions.{code_tables};
+ghost use Rattle.fmp_instructions.specs.Machine.{code_meaning};
+ghost use Rattle.fmp_looking.specs.Refused.{refused_in, refused_lines};
+ghost use Rattle.fmp_places.specs.Answers.{answers_in as answers_by};
+ghost use Rattle.fmp_places.specs.Refusals.{refused_of};
+ghost use Rattle.fmp_replay.specs.Replays.{kernel_after};
+
+use crate::exit::{ViewExit, memory};
+use crate::kinds::exit_over;
+use crate::opening::{events_for, image_of};
+use crate::tracing::line_form;
+use fmp_arguments::kept_bound;
+use fmp_base::Event;
+use fmp_code::Vm;
+use fmp_image_bytes::Image;
+use fmp_kernel::Kernel;
+use fmp_places::{
+    CallPlaces, CodePlaces, LineForm, RefusedCall, SiteAnswer, answers_in, append_refused,
+    refused_calls,
+};
+use fmp_replay::kernel_of;
+use fmp_warnings::Form;
+use std::alloc::{AllocError, Global};
+
+/// A task text, and the name of its file.
+#[derive(Clone, Copy)]
+pub struct NamedText<'a> {
+    pub name: &'a str,
+    pub text: &'a [u8],
+}
+
+/// How many tasks the system of an image has.
+fn task_count(image: &Image) -> usize
+    ensures { result ≡ length image.now.system.tasks }
+{
+    image.system().tasks.len()
+}
+
+/// What the calls of a run are answered on the kernel of an image after setup.
+#[tactic(none)]
+fn answers_on<'a>(
+    alloc: Global,
+    kernel: &mut Kernel<Vm<'a>>,
+    image: &'a Image,
+    n: u64,
+    events: &[Event],
+) -> Result<Vec<SiteAnswer>, AllocError>
+    requires kernel { kernel.old ≡ kernel_after image.now n [] }
+    requires few { length events.now ≤ 2 ^ 20 }
+    ensures { IfOk result (λ answers. answers.items
+        ≡ answers_by code_meaning (kernel_after image.now n []) events.now (length image.now.system.tasks)) }
+{
+    answers_in(alloc, kernel, &image.vm(), n, events, task_count(image))
+}
+
+/// The same on a new kernel of the image.
+#[tactic(none)]
+fn answers_over(
+    alloc: Global,
+    image: &Image,
+    n: u64,
+    events: &[Event],
+) -> Result<Vec<SiteAnswer>, AllocError>
+    requires low { 1 ≤ n }
+    requires high { n ≤ 2 ^ 48 }
+    requires few { length events.now ≤ 2 ^ 20 }
+    ensures { IfOk result (λ answers. answers.items
+        ≡ answers_by code_meaning (kernel_after image.now n []) events.now (length image.now.system.tasks)) }
+{
+    let mut kernel = kernel_of(alloc, image, n)?;
+    let answers = answers_on(alloc, &mut kernel, image, n, events);
+    drop(kernel);
+    answers
+}
+
+/// The calls of a run of an image that are refused. `AllocError` if memory runs out.
+#[tactic(none)]
+pub fn refused_on(
+    alloc: Global,
+    image: &Image,
+    n: u64,
+    events: &[Event],
+) -> Result<Vec<RefusedCall>, AllocError>
+    requires low { 1 ≤ n }
+    requires high { n ≤ 2 ^ 48 }
+    requires few { length events.now ≤ 2 ^ 20 }
+    ensures { IfOk result (λ refused. map refused_of refused.items ≡ refused_in image.now n events.now) }
+{
+    image.keeps_rules();
+    let answers = answers_over(alloc, image, n, events)?;
+    refused_calls(alloc, image.code(), &answers)
+}
+
+/// Where the calls of the code of an image stand in a task text; nowhere if none is given. The text must have as many
+/// bodies as the image, each with as many calls.
+fn places_for(
+    alloc: Global,
+    image: &Image,
+    source: Option<NamedText<'_>>,
+) -> Result<CallPlaces, ViewExit> {
+    let Some(source) = source else {
+        return CallPlaces::new(alloc, b"").map_err(|error| memory(error));
+    };
+    let places = CallPlaces::new(alloc, source.text).map_err(|error| memory(error))?;
+    match places.fits(alloc, image.code()) {
+        Ok(true) => Ok(places),
+        Ok(false) => Err(ViewExit::OtherText),
+        Err(error) => Err(memory(error)),
+    }
+}
+
+/// The name of the file of a task text; empty if none is given.
+fn file_of<'a>(source: Option<NamedText<'a>>) -> &'a [u8] {
+    match source {
+        Some(source) => source.name.as_bytes(),
+        None => b"",
+    }
+}
+
+/// Appends a line of this form for each call that is refused, where the calls of bodies stand at these places of a file.
+fn append_all(
+    alloc: Global,
+    form: LineForm,
+    file: &[u8],
+    text: CodePlaces<'_>,
+    refused: &[RefusedCall],
+    out: &mut Vec<u8>,
+) -> Result<(), AllocError>
+    ensures { OnOk result (out.new.items ≡ out.old.items ++ refused_lines form file.now
+        (code_tables text.entry.code.now) text.entry.places.now (map refused_of refused.now)) }
+{
+    for call in refused {
+        let place = text.places.place(text.code, call.site.body, call.site.pc);
+        append_refused(alloc, form, file, place, call, out)?;
+    }
+    Ok(())
+}
+
+/// The lines of the calls that are refused in a run of an image, where calls of bodies stand at these places of a file.
+fn lines_on(
+    alloc: Global,
+    form: LineForm,
+    file: &[u8],
+    places: &CallPlaces,
+    image: &Image,
+    n: u64,
+    events: &[Event],
+) -> Result<Vec<u8>, AllocError>
+    requires low { 1 ≤ n }
+    requires high { n ≤ 2 ^ 48 }
+    requires few { length events.now ≤ 2 ^ 20 }
+    ensures { IfOk result (λ out. out.items ≡ refused_lines form file.now image.now.code places.now
+        (refused_in image.now n events.now)) }
+{
+    let refused = refused_on(alloc, image, n, events)?;
+    let text = CodePlaces {
+        code: image.code(),
+        places,
+    };
+    let mut out = Vec::new(alloc);
+    append_all(alloc, form, file, text, &refused, &mut out)?;
+    Ok(out)
+}
+
+/// The lines of the calls that are refused in a run of an image over a steps text.
+fn lines_over(
+    alloc: Global,
+    form: Form,
+    image: &Image,
+    steps: &[u8],
+    source: Option<NamedText<'_>>,
+    bound: u64,
+) -> Result<Vec<u8>, ViewExit> {
+    let events = events_for(alloc, image, steps)?;
+    let places = places_for(alloc, image, source)?;
+    lines_on(
+        alloc,
+        line_form(form),
+        file_of(source),
+        &places,
+        image,
+        kept_bound(bound),
+        &events,
+    )
+    .map_err(|error| memory(error))
+}
+
+/// A line for each call that is refused in a run of the image of these bytes over a steps text. Calls are told by where
+/// they stand in the task text of the image if it is given, else by body and place.
+pub fn refused_in_run(
+    alloc: Global,
+    form: Form,
+    image: &[u8],
+    steps: &[u8],
+    source: Option<NamedText<'_>>,
+    bound: u64,
+) -> Result<Vec<u8>, ViewExit> {
+    match image_of(alloc, image) {
+        Ok(image) => {
+            let lines = lines_over(alloc, form, &image, steps, source, bound);
+            drop(image);
+            lines
+        }
+        Err(fault) => Err(exit_over(alloc, fault, image)),
+    }
+}
