@@ -1,9 +1,13 @@
 -- What stands in messages.
-use Rattle.std.specs.Prelude.{ℕ, List, [], ◌∷◌, ◌++◌, codes}
-use Rattle.json.specs.Token.{Token, begin_object, end_object, key}
+use Rattle.std.specs.Prelude.{ℕ, List, [], ◌∷◌, ◌++◌, codes, flat_map}
+use Rattle.json.specs.Token.{Token, begin_array, begin_object, end_array, end_object, key}
 use Rattle.fmp_json.specs.Members.{number_member, text_member}
 use Rattle.fmp_server.specs.declared.positions.Position.{Position}
 use Rattle.fmp_server.specs.declared.positions.TextRange.{TextRange}
+
+-- a member whose value is an object begins
+abbrev pub member_begin : (name : List ℕ) → List Token
+member_begin name = key name ∷ begin_object ∷ []
 
 abbrev pub position : Position → List Token
 position p =
@@ -25,3 +29,7 @@ location uri r =
 abbrev pub edit : TextRange → List ℕ → List Token
 edit r text =
     begin_object ∷ [] ++ range_member (codes "range") r ++ text_member (codes "newText") text ++ end_object ∷ []
+
+-- a member with edits of a text: a name in place of what each of these ranges has
+abbrev pub edits : (uri : List ℕ) → List TextRange → (name : List ℕ) → List Token
+edits uri ranges name = key uri ∷ begin_array ∷ flat_map (λ r. edit r name) ranges ++ end_array ∷ []

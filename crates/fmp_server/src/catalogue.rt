@@ -65,29 +65,29 @@ static ARGUMENTS: [&str; 59] = [
     "p, n",
 ];
 
-/// What each call does, in parts with a blank between them.
+/// What each call does, in parts.
 static DEEDS: [&[&str]; 59] = [
     &["its line in the trace tells the number a"],
     &["reads a shared word"],
     &["writes a shared word"],
     &["starts a dormant task; else queues an activation"],
     &[
-        "gives the number of queued activations, 0 to 255, and clears them and the processor that",
+        "gives the number of queued activations, 0 to 255, and clears them and the processor that ",
         "`mact_tsk` stored",
     ],
     &["ends the caller"],
     &["ends another task of the caller's processor, without a line `end` for it"],
     &[
-        "gives a task the priority p, 1 to 16, or 0 (`TPRI_INI`) its initial one. A ready task, and one",
+        "gives a task the priority p, 1 to 16, or 0 (`TPRI_INI`) its initial one. A ready task, and one ",
         "in a queue of priority order, goes to the end of its priority, even if p is the same",
     ],
     &["gives the priority of a task"],
     &[
-        "as `act_tsk`, on processor n: a dormant task is assigned to n and starts; else n is stored for",
+        "as `act_tsk`, on processor n: a dormant task is assigned to n and starts; else n is stored for ",
         "the next start, in place of what was stored",
     ],
     &[
-        "assigns a task of the caller's processor to n. A ready one goes to the end there; where n is the",
+        "assigns a task of the caller's processor to n. A ready one goes to the end there; where n is the ",
         "processor that it has, nothing moves",
     ],
     &["takes a queued wakeup, or waits to be woken"],
@@ -103,13 +103,13 @@ static DEEDS: [&[&str]; 59] = [
     &["as `wai_sem`, with no wait"],
     &["as `wai_sem`, within a time limit"],
     &[
-        "sets the bits b, 0 to 65535, and releases the waiting tasks whose condition holds, in order of",
-        "the queue, with the pattern. With `TA_CLR` the first release clears all bits, and no other task",
+        "sets the bits b, 0 to 65535, and releases the waiting tasks whose condition holds, in order of ",
+        "the queue, with the pattern. With `TA_CLR` the first release clears all bits, and no other task ",
         "is released",
     ],
     &["keeps only the bits b, 0 to 65535"],
     &[
-        "waits for all of the bits b (o is `TWF_ANDW`) or any of them (`TWF_ORW`); gives the pattern,",
+        "waits for all of the bits b (o is `TWF_ANDW`) or any of them (`TWF_ORW`); gives the pattern, ",
         "which `TA_CLR` then clears. b is 1 to 65535",
     ],
     &["as `wai_flg`, with no wait"],
@@ -119,13 +119,13 @@ static DEEDS: [&[&str]; 59] = [
     &["as `snd_dtq`, within a time limit"],
     &["as `snd_dtq`, but drops the oldest word of a full queue"],
     &[
-        "takes the oldest word; the first waiting sender's word is then appended, and that sender is",
+        "takes the oldest word; the first waiting sender's word is then appended, and that sender is ",
         "released. With capacity 0 the word comes from the first sender. With no word it waits",
     ],
     &["as `rcv_dtq`, with no wait"],
     &["as `rcv_dtq`, within a time limit"],
     &[
-        "gives the message g to the first waiting task, else queues it: last, or with `TA_MPRI` after",
+        "gives the message g to the first waiting task, else queues it: last, or with `TA_MPRI` after ",
         "those of its priority",
     ],
     &["takes the first message's number, else waits"],
@@ -134,7 +134,7 @@ static DEEDS: [&[&str]; 59] = [
     &["starts a cyclic handler, or starts it anew: it is due after its period"],
     &["stops a cyclic handler; if it is pending, it still begins"],
     &[
-        "the first ready task of priority p on the caller's processor goes to the end; 0 (`TPRI_SELF`) is",
+        "the first ready task of priority p on the caller's processor goes to the end; 0 (`TPRI_SELF`) is ",
         "the caller's priority",
     ],
     &["gives the caller's number"],
@@ -143,7 +143,7 @@ static DEEDS: [&[&str]; 59] = [
     &["holds dispatching on the caller's processor"],
     &["ends the hold of dispatching that `dis_dsp` began"],
     &[
-        "takes a spin lock, which locks the CPU; if another processor holds it, does nothing, and the",
+        "takes a spin lock, which locks the CPU; if another processor holds it, does nothing, and the ",
         "next `run` makes the call again",
     ],
     &["takes a spin lock that is free"],
@@ -157,12 +157,12 @@ static DEEDS: [&[&str]; 59] = [
     &["as `fsnd_dtq`"],
     &["as `rot_rdq`, for the handler's processor"],
     &[
-        "the first ready task of priority p on processor n goes to the end; 0 (`TPRI_SELF`) is the",
+        "the first ready task of priority p on processor n goes to the end; 0 (`TPRI_SELF`) is the ",
         "caller's priority",
     ],
 ];
 
-/// When each call answers which codes, in parts; empty for those that only the general tests refuse.
+/// When each call answers which codes, in parts; none for those that only the general tests refuse.
 static CODES: [&[&str]; 59] = [
     &[],
     &[],
@@ -202,7 +202,7 @@ static CODES: [&[&str]; 59] = [
     &["E_TMOUT"],
     &["E_TMOUT"],
     &[
-        "E_PAR: with `TA_MPRI`, its priority is above the greatest; E_OBJ: g is queued already, in any",
+        "E_PAR: with `TA_MPRI`, its priority is above the greatest; E_OBJ: g is queued already, in any ",
         "mailbox",
     ],
     &[],
@@ -235,12 +235,12 @@ pub fn arguments_of(service: Service) -> &'static str {
     ARGUMENTS[service as usize]
 }
 
-/// What a call does, in parts with a blank between them.
+/// What a call does, in parts.
 pub fn deed_of(service: Service) -> &'static [&'static str] {
     DEEDS[service as usize]
 }
 
-/// When a call answers which codes, in parts with a blank between them.
+/// When a call answers which codes, in parts.
 pub fn codes_of(service: Service) -> &'static [&'static str] {
     CODES[service as usize]
 }

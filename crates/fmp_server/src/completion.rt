@@ -4,7 +4,7 @@ use crate::messages::{RequestId, begin_answer, finish};
 use crate::outline::letters;
 use crate::positions::{Position, offset_at};
 use crate::roles::begun_at;
-use crate::sayings::{append, append_call, append_number};
+use crate::sayings::{append, append_all, append_call, append_number};
 use fmp_base::{Name, SERVICES};
 use fmp_diagnosis::apis::{api_at, object_name};
 use fmp_diagnosis::around::{begins_body_at, list_of, name_at};
@@ -46,20 +46,28 @@ fn write_calls(alloc: Global, writer: &mut Writer) -> Result<(), AllocError> {
     Ok(())
 }
 
-/// Appends the fields of a static API: the first, and those of the packet.
+/// What stands before the field at a place of a static API: the second begins the packet.
+fn before_field(place: usize) -> &'static str {
+    match place {
+        0 => "",
+        1 => ", { ",
+        _ => ", ",
+    }
+}
+
+/// How a field is called.
+fn word_of_field(field: Field) -> &'static str {
+    match field {
+        Field::Null => "NULL",
+        _ => field.called(),
+    }
+}
+
+/// Appends a static API and its fields: the first, and those of the packet.
 fn append_fields(api: Api, out: &mut Vec<u8>) -> Result<(), AllocError> {
-    append(api.name(), out)?;
-    append("(", out)?;
+    append_all(&[api.name(), "("], out)?;
     for (place, field) in fields_of(api).iter().enumerate() {
-        match place {
-            0 => {}
-            1 => append(", { ", out)?,
-            _ => append(", ", out)?,
-        }
-        match field {
-            Field::Null => append("NULL", out)?,
-            _ => append(field.called(), out)?,
-        }
+        append_all(&[before_field(place), word_of_field(*field)], out)?;
     }
     append(" })", out)
 }
@@ -191,6 +199,35 @@ fn write_of_source(
     write_variables(alloc, writer, &src.tokens, offset_at(text, position))
 }
 
+/// Writes the words that the text that is meant may have at a position.
+fn write_words(
+    alloc: Global,
+    writer: &mut Writer,
+    open: OpenTexts<'_>,
+    position: Position,
+) -> Result<(), AllocError> {
+    match open.file {
+        TextFile::Configuration => write_of_configuration(alloc, writer, open),
+        TextFile::Source => write_of_source(alloc, writer, open, position),
+    }
+}
+
+/// Writes these words as a list that is whole.
+fn write_list(
+    alloc: Global,
+    writer: &mut Writer,
+    open: OpenTexts<'_>,
+    position: Position,
+) -> Result<(), AllocError> {
+    writer.begin_object()?;
+    writer.key("isIncomplete")?;
+    writer.boolean(false)?;
+    begin_list(writer, "items")?;
+    write_words(alloc, writer, open, position)?;
+    writer.end_array()?;
+    writer.end_object()
+}
+
 /// The answer with the words that the text that is meant may have at a position: those of the language, calls and
 /// static APIs with their arguments, and the names of the texts. `AllocError` if memory runs out.
 pub fn completion(
@@ -200,15 +237,6 @@ pub fn completion(
     position: Position,
 ) -> Result<Vec<u8>, AllocError> {
     let mut writer = begin_answer(alloc, id)?;
-    writer.begin_object()?;
-    writer.key("isIncomplete")?;
-    writer.boolean(false)?;
-    begin_list(&mut writer, "items")?;
-    match open.file {
-        TextFile::Configuration => write_of_configuration(alloc, &mut writer, open)?,
-        TextFile::Source => write_of_source(alloc, &mut writer, open, position)?,
-    }
-    writer.end_array()?;
-    writer.end_object()?;
+    write_list(alloc, &mut writer, open, position)?;
     finish(writer)
 }

@@ -240,6 +240,20 @@ fn write_diagnostics(
     writer.end_array()
 }
 
+/// Writes what is found in the text of a document.
+fn write_document(
+    alloc: Global,
+    writer: &mut Writer,
+    document: &Document,
+    file: TextFile,
+    found: &Found,
+) -> Result<(), AllocError> {
+    writer.begin_object()?;
+    text_member(writer, "uri", document.uri.as_str())?;
+    write_diagnostics(alloc, writer, document.text.as_bytes(), file, found)?;
+    writer.end_object()
+}
+
 /// The notification of what is found in the text of a document, which is this one of its system. `AllocError` if memory
 /// runs out.
 pub fn published(
@@ -249,21 +263,23 @@ pub fn published(
     found: &Found,
 ) -> Result<Vec<u8>, AllocError> {
     let mut writer = begin_notification(alloc, "textDocument/publishDiagnostics")?;
-    writer.begin_object()?;
-    text_member(&mut writer, "uri", document.uri.as_str())?;
-    write_diagnostics(alloc, &mut writer, document.text.as_bytes(), file, found)?;
-    writer.end_object()?;
+    write_document(alloc, &mut writer, document, file, found)?;
     finish(writer)
+}
+
+/// Writes that nothing is found in the document of a URI.
+fn write_nothing(writer: &mut Writer, uri: &str) -> Result<(), AllocError> {
+    writer.begin_object()?;
+    text_member(writer, "uri", uri)?;
+    begin_list(writer, "diagnostics")?;
+    writer.end_array()?;
+    writer.end_object()
 }
 
 /// The notification that nothing is found in the document of a URI, because it is open no more. `AllocError` if memory
 /// runs out.
 pub fn cleared(alloc: Global, uri: &str) -> Result<Vec<u8>, AllocError> {
     let mut writer = begin_notification(alloc, "textDocument/publishDiagnostics")?;
-    writer.begin_object()?;
-    text_member(&mut writer, "uri", uri)?;
-    begin_list(&mut writer, "diagnostics")?;
-    writer.end_array()?;
-    writer.end_object()?;
+    write_nothing(&mut writer, uri)?;
     finish(writer)
 }

@@ -1,6 +1,7 @@
 //! The texts that are open in an editor, and which of them belong together.
 
-use fmp_lex::TextFile;
+use fmp_diagnosis::around::list_of;
+use fmp_lex::{TextFile, TokenList, Tokens};
 use std::alloc::{AllocError, Global};
 
 /// A text that is open in an editor.
@@ -46,6 +47,31 @@ impl<'a> OpenTexts<'a> {
     /// Whether both are open.
     pub fn are_both(&self) -> bool {
         self.cfg.is_some() && self.src.is_some()
+    }
+}
+
+/// The texts of a system as far as they are open, with their tokens.
+#[derive(Drop)]
+pub struct CutTexts<'a> {
+    pub open: OpenTexts<'a>,
+    cfg: TokenList<'a>,
+    src: TokenList<'a>,
+}
+
+impl<'a> CutTexts<'a> {
+    /// Cuts the texts that are open into tokens; one that is not open has none. `AllocError` if memory runs out.
+    pub fn new(alloc: Global, open: OpenTexts<'a>) -> Result<CutTexts<'a>, AllocError> {
+        let cfg = list_of(alloc, open.bytes_of(TextFile::Configuration))?;
+        let src = list_of(alloc, open.bytes_of(TextFile::Source))?;
+        Ok(CutTexts { open, cfg, src })
+    }
+
+    /// The tokens of one of the two.
+    pub fn tokens(&self, file: TextFile) -> &Tokens<'a> {
+        match file {
+            TextFile::Configuration => &self.cfg.tokens,
+            TextFile::Source => &self.src.tokens,
+        }
     }
 }
 

@@ -5,11 +5,12 @@ use crate::objects::{say_body, say_exinf, say_object, say_variable};
 use crate::positions::{Position, TextRange, offset_at, range_of};
 use crate::roles::{Named, Role, is_exinf, named_at, word_at};
 use crate::sayings::{say_api, say_call, say_class, say_constant};
-use crate::writing::range_member;
+use crate::writing::{begin_member, range_member};
 use fmp_base::Name;
 use fmp_diagnosis::around::list_of;
 use fmp_json::text_member;
 use fmp_lex::{TextFile, TokenKind, Tokens};
+use json::Writer;
 use std::alloc::{AllocError, Global};
 
 /// Says what an object is.
@@ -73,6 +74,17 @@ fn say_word(
     }
 }
 
+/// Writes that this is said of a range.
+fn write_hover(writer: &mut Writer, range: TextRange, said: &str) -> Result<(), AllocError> {
+    writer.begin_object()?;
+    begin_member(writer, "contents")?;
+    text_member(writer, "kind", "markdown")?;
+    text_member(writer, "value", said)?;
+    writer.end_object()?;
+    range_member(writer, "range", range)?;
+    writer.end_object()
+}
+
 /// The answer that says this of a range.
 fn answer(
     alloc: Global,
@@ -82,14 +94,7 @@ fn answer(
 ) -> Result<Vec<u8>, AllocError> {
     let said = String::from_utf8_lossy(alloc, said)?;
     let mut writer = begin_answer(alloc, id)?;
-    writer.begin_object()?;
-    writer.key("contents")?;
-    writer.begin_object()?;
-    text_member(&mut writer, "kind", "markdown")?;
-    text_member(&mut writer, "value", said.as_str())?;
-    writer.end_object()?;
-    range_member(&mut writer, "range", range)?;
-    writer.end_object()?;
+    write_hover(&mut writer, range, said.as_str())?;
     finish(writer)
 }
 

@@ -1,5 +1,6 @@
 //! Messages of JSON-RPC: requests and notifications that come, answers and notifications that go.
 use crate::positions::Position;
+use crate::writing::begin_member;
 use fmp_json::text_member;
 use json::{Value, Writer};
 use std::alloc::{AllocError, Global};
@@ -105,27 +106,38 @@ fn write_id(writer: &mut Writer, id: Option<RequestId<'_>>) -> Result<(), AllocE
     }
 }
 
-/// Begins a message. `AllocError` if memory runs out, as of each function below.
-fn begin(alloc: Global) -> Result<Writer, AllocError> {
-    let mut writer = Writer::new(Vec::new(alloc));
+/// Writes how each message begins.
+fn write_head(writer: &mut Writer) -> Result<(), AllocError> {
     writer.begin_object()?;
-    text_member(&mut writer, "jsonrpc", "2.0")?;
-    Ok(writer)
+    text_member(writer, "jsonrpc", "2.0")
 }
 
-/// Begins the answer to a request, whose result is to be written behind it.
+/// Writes how an answer to a request begins, whose result is to be written behind it.
+fn write_answer_head(writer: &mut Writer, id: RequestId<'_>) -> Result<(), AllocError> {
+    write_head(writer)?;
+    write_id(writer, Some(id))?;
+    writer.key("result")
+}
+
+/// Writes how a notification of this method begins, whose parameters are to be written behind it.
+fn write_notification_head(writer: &mut Writer, method: &str) -> Result<(), AllocError> {
+    write_head(writer)?;
+    text_member(writer, "method", method)?;
+    writer.key("params")
+}
+
+/// Begins the answer to a request, whose result is to be written behind it. `AllocError` if memory runs out, as of each
+/// function below.
 pub fn begin_answer(alloc: Global, id: RequestId<'_>) -> Result<Writer, AllocError> {
-    let mut writer = begin(alloc)?;
-    write_id(&mut writer, Some(id))?;
-    writer.key("result")?;
+    let mut writer = Writer::new(Vec::new(alloc));
+    write_answer_head(&mut writer, id)?;
     Ok(writer)
 }
 
 /// Begins a notification of this method, whose parameters are to be written behind it.
 pub fn begin_notification(alloc: Global, method: &str) -> Result<Writer, AllocError> {
-    let mut writer = begin(alloc)?;
-    text_member(&mut writer, "method", method)?;
-    writer.key("params")?;
+    let mut writer = Writer::new(Vec::new(alloc));
+    write_notification_head(&mut writer, method)?;
     Ok(writer)
 }
 
@@ -142,6 +154,22 @@ pub fn null_answer(alloc: Global, id: RequestId<'_>) -> Result<Vec<u8>, AllocErr
     finish(writer)
 }
 
+/// Writes why a request is refused.
+fn write_refusal(
+    writer: &mut Writer,
+    id: Option<RequestId<'_>>,
+    refusal: Refusal,
+    sentence: &str,
+) -> Result<(), AllocError> {
+    write_head(writer)?;
+    write_id(writer, id)?;
+    begin_member(writer, "error")?;
+    writer.key("code")?;
+    writer.i64(refusal.code())?;
+    text_member(writer, "message", sentence)?;
+    writer.end_object()
+}
+
 /// The answer that refuses a request, with a sentence.
 pub fn refused(
     alloc: Global,
@@ -149,13 +177,7 @@ pub fn refused(
     refusal: Refusal,
     sentence: &str,
 ) -> Result<Vec<u8>, AllocError> {
-    let mut writer = begin(alloc)?;
-    write_id(&mut writer, id)?;
-    writer.key("error")?;
-    writer.begin_object()?;
-    writer.key("code")?;
-    writer.i64(refusal.code())?;
-    text_member(&mut writer, "message", sentence)?;
-    writer.end_object()?;
+    let mut writer = Writer::new(Vec::new(alloc));
+    write_refusal(&mut writer, id, refusal, sentence)?;
     finish(writer)
 }

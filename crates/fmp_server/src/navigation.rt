@@ -1,10 +1,9 @@
 //! Where what a name stands for is made, and where it is used.
-use crate::documents::OpenTexts;
+use crate::documents::{CutTexts, OpenTexts};
 use crate::messages::{RequestId, begin_answer, finish, null_answer};
 use crate::positions::{Position, offset_at, range_of};
 use crate::roles::{Named, named_at, places_in, word_at};
 use crate::writing::write_location;
-use fmp_diagnosis::around::list_of;
 use fmp_lex::TextFile;
 use json::Writer;
 use std::alloc::{AllocError, Global};
@@ -30,35 +29,27 @@ impl WantedPlaces {
     }
 }
 
-/// What stands for something at a position of the text that is meant. `AllocError` if memory runs out, as of each
-/// function below.
-pub fn named_in(
-    alloc: Global,
-    open: OpenTexts<'_>,
-    position: Position,
-) -> Result<Option<Named>, AllocError> {
-    let text = open.bytes_of(open.file);
-    let list = list_of(alloc, text)?;
-    match word_at(&list.tokens, offset_at(text, position)) {
-        Some(at) => Ok(named_at(&list.tokens, open.file, at)),
-        None => Ok(None),
-    }
+/// What the name at a position of the text that is meant stands for.
+pub fn named_in(cut: &CutTexts<'_>, position: Position) -> Option<Named> {
+    let file = cut.open.file;
+    let tokens = cut.tokens(file);
+    let at = word_at(tokens, offset_at(cut.open.bytes_of(file), position))?;
+    named_at(tokens, file, at)
 }
 
 /// Writes the places of a name in one text.
 fn write_places(
     alloc: Global,
     writer: &mut Writer,
-    open: OpenTexts<'_>,
+    cut: &CutTexts<'_>,
     file: TextFile,
     (named, wanted): (Named, WantedPlaces),
 ) -> Result<(), AllocError> {
-    let Some(document) = open.of(file) else {
+    let Some(document) = cut.open.of(file) else {
         return Ok(());
     };
     let text = document.text.as_bytes();
-    let list = list_of(alloc, text)?;
-    let places = places_in(alloc, &list.tokens, file, named)?;
+    let places = places_in(alloc, cut.tokens(file), file, named)?;
     for one in &places {
         if wanted.wants(one.declares) {
             write_location(writer, document.uri.as_str(), range_of(text, one.place))?;
@@ -67,7 +58,33 @@ fn write_places(
     Ok(())
 }
 
-/// The answer with those places of the name at a position that are asked for, of both texts.
+/// Writes those places of a name that are asked for, of both texts.
+fn write_all_places(
+    alloc: Global,
+    writer: &mut Writer,
+    cut: &CutTexts<'_>,
+    (named, wanted): (Named, WantedPlaces),
+) -> Result<(), AllocError> {
+    writer.begin_array()?;
+    write_places(alloc, writer, cut, TextFile::Configuration, (named, wanted))?;
+    write_places(alloc, writer, cut, TextFile::Source, (named, wanted))?;
+    writer.end_array()
+}
+
+/// The answer with those places of a name that are asked for, of both texts.
+fn answer(
+    alloc: Global,
+    cut: &CutTexts<'_>,
+    id: RequestId<'_>,
+    (named, wanted): (Named, WantedPlaces),
+) -> Result<Vec<u8>, AllocError> {
+    let mut writer = begin_answer(alloc, id)?;
+    write_all_places(alloc, &mut writer, cut, (named, wanted))?;
+    finish(writer)
+}
+
+/// The answer with those places of the name at a position that are asked for, of both texts. `AllocError` if memory
+/// runs out.
 pub fn places(
     alloc: Global,
     open: OpenTexts<'_>,
@@ -75,19 +92,9 @@ pub fn places(
     position: Position,
     wanted: WantedPlaces,
 ) -> Result<Vec<u8>, AllocError> {
-    let Some(named) = named_in(alloc, open, position)? else {
-        return null_answer(alloc, id);
-    };
-    let mut writer = begin_answer(alloc, id)?;
-    writer.begin_array()?;
-    write_places(
-        alloc,
-        &mut writer,
-        open,
-        TextFile::Configuration,
-        (named, wanted),
-    )?;
-    write_places(alloc, &mut writer, open, TextFile::Source, (named, wanted))?;
-    writer.end_array()?;
-    finish(writer)
+    let cut = CutTexts::new(alloc, open)?;
+    match named_in(&cut, position) {
+        Some(named) => answer(alloc, &cut, id, (named, wanted)),
+        None => null_answer(alloc, id),
+    }
 }

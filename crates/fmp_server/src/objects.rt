@@ -1,5 +1,5 @@
 //! What a hover says of an object, a body or a variable, by the tokens of the texts.
-use crate::sayings::{append, append_code, append_number};
+use crate::sayings::{append, append_all, append_code, append_number};
 use fmp_base::Name;
 use fmp_diagnosis::apis::{api_at, begin_of, entry_of, is_symbol, object_name, value_last};
 use fmp_diagnosis::around::{begins_body_at, is_same, name_at};
@@ -61,9 +61,7 @@ fn say_field(
 ) -> Result<(), AllocError> {
     let first = begin_of(tokens, at, api, field);
     let last = value_last(tokens, first);
-    append("\n- ", out)?;
-    append(field.called(), out)?;
-    append(": ", out)?;
+    append_all(&["\n- ", field.called(), ": "], out)?;
     append_code(source_of(text, tokens, first, last), out)
 }
 
@@ -78,6 +76,22 @@ fn say_class_of(tokens: &Tokens<'_>, at: usize, out: &mut Vec<u8>) -> Result<(),
     }
 }
 
+/// Says what stands in the fields of the static API at a place.
+fn say_fields(
+    text: &[u8],
+    tokens: &Tokens<'_>,
+    (api, at): (Api, usize),
+    out: &mut Vec<u8>,
+) -> Result<(), AllocError> {
+    append("\n", out)?;
+    for field in fields_of(api) {
+        if *field != Field::Name && *field != Field::Null {
+            say_field(text, tokens, (api, at), *field, out)?;
+        }
+    }
+    Ok(())
+}
+
 /// Says what the static API at a place makes, and with which values.
 fn say_made(
     text: &[u8],
@@ -87,18 +101,10 @@ fn say_made(
     out: &mut Vec<u8>,
 ) -> Result<(), AllocError> {
     append_code(name.as_bytes(), out)?;
-    append(": ", out)?;
-    append(object_of(api), out)?;
-    append(", number ", out)?;
+    append_all(&[": ", object_of(api), ", number "], out)?;
     append_number(number_of(tokens, api, at), out)?;
     say_class_of(tokens, at, out)?;
-    append("\n", out)?;
-    for field in fields_of(api) {
-        if *field != Field::Name && *field != Field::Null {
-            say_field(text, tokens, (api, at), *field, out)?;
-        }
-    }
-    Ok(())
+    say_fields(text, tokens, (api, at), out)
 }
 
 /// Says what an object of a configuration is; nothing if it has none of this name.
@@ -160,9 +166,7 @@ pub fn say_body(
     append_code(name.as_bytes(), out)?;
     append(": ", out)?;
     if let Some(keyword) = heading_of(src, name) {
-        append("a ", out)?;
-        append(keyword.name(), out)?;
-        append(" ", out)?;
+        append_all(&["a ", keyword.name(), " "], out)?;
     }
     append("body\n", out)?;
     for at in 0..cfg.len() {

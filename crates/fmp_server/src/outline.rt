@@ -140,14 +140,15 @@ fn write_entry(
     }
 }
 
-/// Writes what a text makes.
+/// Writes what a text makes, as a list.
 fn write_entries(writer: &mut Writer, text: &[u8], tokens: &Tokens<'_>) -> Result<(), AllocError> {
+    writer.begin_array()?;
     for at in 0..tokens.len() {
         if let Some(entry) = entry_at(tokens, at) {
             write_entry(writer, text, tokens, &entry)?;
         }
     }
-    Ok(())
+    writer.end_array()
 }
 
 /// The answer with what the text that is meant makes, in order. `AllocError` if memory runs out.
@@ -159,8 +160,6 @@ pub fn outline(
     let text = open.bytes_of(open.file);
     let list = list_of(alloc, text)?;
     let mut writer = begin_answer(alloc, id)?;
-    writer.begin_array()?;
     write_entries(&mut writer, text, &list.tokens)?;
-    writer.end_array()?;
     finish(writer)
 }

@@ -7,7 +7,7 @@ ghost use Rattle.fmp_server.specs.Positions.{IsColumn, IsLineStart, IsOffset, Is
 use fmp_lex::Place;
 
 /// A place between two bytes of a text, as editors tell it.
-#[derive(Clone, Copy, PartialEq, Eq)]
+#[derive(Clone, Copy)]
 pub struct Position {
     /// The line, from 0: how many line feeds stand before.
     pub line: u64,
@@ -16,7 +16,7 @@ pub struct Position {
 }
 
 /// What stands between two positions.
-#[derive(Clone, Copy, PartialEq, Eq)]
+#[derive(Clone, Copy)]
 pub struct TextRange {
     pub start: Position,
     pub end: Position,

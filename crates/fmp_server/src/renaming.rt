@@ -1,10 +1,10 @@
 //! Another name for an object, a body or a variable, in both texts.
-use crate::documents::OpenTexts;
+use crate::documents::{CutTexts, OpenTexts};
 use crate::messages::{Refusal, RequestId, begin_answer, finish, refused};
 use crate::navigation::named_in;
-use crate::positions::{Position, range_of};
-use crate::roles::{Named, Role, RoleWalk, is_exinf, places_in};
-use crate::writing::write_edit;
+use crate::positions::Position;
+use crate::roles::{Named, Role, RoleWalk, is_exinf, is_name, places_in};
+use crate::writing::{begin_member, write_edits};
 use fmp_base::Name;
 use fmp_diagnosis::around::list_of;
 use fmp_lex::{TextFile, TokenKind, Tokens};
@@ -50,23 +50,20 @@ fn is_used_in(tokens: &Tokens<'_>, file: TextFile, name: Name, role: Role) -> bo
     let mut walk = RoleWalk::new(file, name);
     for at in 0..tokens.len() {
         if let Some(kind) = tokens.kind(at) {
-            if kind == TokenKind::Name(name) && is_rival(role, walk.role()) {
+            if is_name(kind, name) && is_rival(role, walk.role()) {
                 return true;
             }
-            walk = walk.behind(kind);
+            walk.take(kind);
         }
     }
     false
 }
 
-/// The same of the texts that are open.
-fn is_used(alloc: Global, open: OpenTexts<'_>, name: Name, role: Role) -> Result<bool, AllocError> {
-    let cfg = list_of(alloc, open.bytes_of(TextFile::Configuration))?;
-    if is_used_in(&cfg.tokens, TextFile::Configuration, name, role) {
-        return Ok(true);
-    }
-    let src = list_of(alloc, open.bytes_of(TextFile::Source))?;
-    Ok(is_used_in(&src.tokens, TextFile::Source, name, role))
+/// The same of both texts.
+fn is_used(cut: &CutTexts<'_>, name: Name, role: Role) -> bool {
+    let cfg = TextFile::Configuration;
+    let src = TextFile::Source;
+    is_used_in(cut.tokens(cfg), cfg, name, role) || is_used_in(cut.tokens(src), src, name, role)
 }
 
 /// Why what has a name cannot have another one, whichever that is.
@@ -82,67 +79,78 @@ fn fixed(open: OpenTexts<'_>, named: Named) -> Option<&'static str> {
 /// Why what has a name cannot have this one.
 fn hindrance(
     alloc: Global,
-    open: OpenTexts<'_>,
+    cut: &CutTexts<'_>,
     named: Named,
     text: &str,
 ) -> Result<Option<&'static str>, AllocError> {
-    if let Some(why) = fixed(open, named) {
+    if let Some(why) = fixed(cut.open, named) {
         return Ok(Some(why));
     }
-    let Some(name) = name_of(alloc, text)? else {
-        return Ok(Some(NO_NAME));
-    };
-    if is_exinf(name) || is_used(alloc, open, name, named.role)? {
-        return Ok(Some(USED));
+    match name_of(alloc, text)? {
+        None => Ok(Some(NO_NAME)),
+        Some(name) if is_exinf(name) || is_used(cut, name, named.role) => Ok(Some(USED)),
+        Some(_) => Ok(None),
     }
-    Ok(None)
 }
 
-/// Writes the edits of one text that put a new name in place of each of a name.
-fn write_edits(
+/// Writes the edits of one text, if it is open, that put a new name in place of each of a name.
+fn write_changes(
     alloc: Global,
     writer: &mut Writer,
-    open: OpenTexts<'_>,
+    cut: &CutTexts<'_>,
     file: TextFile,
     (named, text): (Named, &str),
 ) -> Result<(), AllocError> {
-    let Some(document) = open.of(file) else {
+    let Some(document) = cut.open.of(file) else {
         return Ok(());
     };
-    let bytes = document.text.as_bytes();
-    let list = list_of(alloc, bytes)?;
-    let places = places_in(alloc, &list.tokens, file, named)?;
-    writer.key(document.uri.as_str())?;
-    writer.begin_array()?;
-    for one in &places {
-        write_edit(writer, range_of(bytes, one.place), text)?;
-    }
-    writer.end_array()
+    let places = places_in(alloc, cut.tokens(file), file, named)?;
+    let (uri, bytes) = (document.uri.as_str(), document.text.as_bytes());
+    write_edits(writer, uri, bytes, &places, text)
+}
+
+/// Writes the edits of both texts.
+fn write_all_changes(
+    alloc: Global,
+    writer: &mut Writer,
+    cut: &CutTexts<'_>,
+    (named, text): (Named, &str),
+) -> Result<(), AllocError> {
+    writer.begin_object()?;
+    begin_member(writer, "changes")?;
+    write_changes(alloc, writer, cut, TextFile::Configuration, (named, text))?;
+    write_changes(alloc, writer, cut, TextFile::Source, (named, text))?;
+    writer.end_object()?;
+    writer.end_object()
 }
 
 /// The answer with the edits of both texts.
 fn edits(
     alloc: Global,
-    open: OpenTexts<'_>,
+    cut: &CutTexts<'_>,
     id: RequestId<'_>,
-    named: Named,
-    text: &str,
+    (named, text): (Named, &str),
 ) -> Result<Vec<u8>, AllocError> {
     let mut writer = begin_answer(alloc, id)?;
-    writer.begin_object()?;
-    writer.key("changes")?;
-    writer.begin_object()?;
-    write_edits(
-        alloc,
-        &mut writer,
-        open,
-        TextFile::Configuration,
-        (named, text),
-    )?;
-    write_edits(alloc, &mut writer, open, TextFile::Source, (named, text))?;
-    writer.end_object()?;
-    writer.end_object()?;
+    write_all_changes(alloc, &mut writer, cut, (named, text))?;
     finish(writer)
+}
+
+/// The answer to a request to give what stands at a position of these texts this name.
+fn renamed(
+    alloc: Global,
+    cut: &CutTexts<'_>,
+    id: RequestId<'_>,
+    position: Position,
+    text: &str,
+) -> Result<Vec<u8>, AllocError> {
+    let Some(named) = named_in(cut, position) else {
+        return refused(alloc, Some(id), Refusal::Failed, NOTHING);
+    };
+    match hindrance(alloc, cut, named, text)? {
+        Some(why) => refused(alloc, Some(id), Refusal::Failed, why),
+        None => edits(alloc, cut, id, (named, text)),
+    }
 }
 
 /// The answer with the edits that give what stands at a position this name in both texts, or why it cannot have it.
@@ -154,11 +162,6 @@ pub fn rename(
     position: Position,
     text: &str,
 ) -> Result<Vec<u8>, AllocError> {
-    let Some(named) = named_in(alloc, open, position)? else {
-        return refused(alloc, Some(id), Refusal::Failed, NOTHING);
-    };
-    match hindrance(alloc, open, named, text)? {
-        Some(why) => refused(alloc, Some(id), Refusal::Failed, why),
-        None => edits(alloc, open, id, named, text),
-    }
+    let cut = CutTexts::new(alloc, open)?;
+    renamed(alloc, &cut, id, position, text)
 }

@@ -1,14 +1,15 @@
 //! What a name in a text stands for, and where else it stands for the same.
-ghost use Rattle.std.specs.Prelude.{◌≡◌};
+ghost use Rattle.std.specs.Prelude.{◌≡◌, ◌<◌, ◌+◌, ◌++◌, IfOk, OnOk, Some, drop, length, slice_get};
+ghost use Rattle.fmp_lex.specs.Reading.{kinds_of};
 ghost use Rattle.fmp_server.specs.Roles as spec;
-ghost use Rattle.fmp_server.specs.Roles.{start_of, walked};
+ghost use Rattle.fmp_server.specs.Roles.{named_places, places_of, start_of, walked};
 
 use fmp_base::Name;
 use fmp_lex::{Api, Keyword, Place, Symbol, TextFile, TokenKind, Tokens};
 use std::alloc::{AllocError, Global};
 
 /// What a name stands for.
-#[derive(Clone, Copy, PartialEq, Eq)]
+#[derive(Clone, Copy)]
 pub enum Role {
     /// An object of the configuration.
     Object,
@@ -21,7 +22,7 @@ pub enum Role {
 }
 
 /// What stands before a token.
-#[derive(Clone, Copy, PartialEq, Eq)]
+#[derive(Clone, Copy)]
 enum Before {
     /// A static API that makes an object.
     Maker,
@@ -197,43 +198,34 @@ impl RoleWalk {
         )
     }
 
-    /// The walk behind the word with which a body begins.
-    fn begun(self) -> RoleWalk
-        ensures { result ≡ spec.begun self }
+    /// Takes the word with which a body begins.
+    fn begin(&mut self)
+        ensures { self.new ≡ spec.begun self.old }
     {
-        RoleWalk {
-            file: self.file,
-            name: self.name,
-            before: Before::Heading,
-            is_variable: is_exinf(self.name),
-            bodies: self.bodies.saturating_add(1),
-        }
+        self.before = Before::Heading;
+        self.is_variable = is_exinf(self.name);
+        self.bodies = self.bodies.saturating_add(1);
     }
 
-    /// The walk behind another token.
-    fn gone_on(self, kind: TokenKind) -> RoleWalk
-        ensures { result ≡ spec.gone_on self kind }
+    /// Takes another token.
+    fn go_on(&mut self, kind: TokenKind)
+        ensures { self.new ≡ spec.gone_on self.old kind }
     {
         let is_declared = match self.before {
             Before::Variable => is_name(kind, self.name),
             _ => false,
         };
-        RoleWalk {
-            file: self.file,
-            name: self.name,
-            before: behind(self.before, kind),
-            is_variable: self.is_variable || is_declared,
-            bodies: self.bodies,
-        }
+        self.is_variable = self.is_variable || is_declared;
+        self.before = behind(self.before, kind);
     }
 
-    /// The walk behind this token.
-    pub fn behind(self, kind: TokenKind) -> RoleWalk
-        ensures { result ≡ walked self kind }
+    /// Takes the next token.
+    pub fn take(&mut self, kind: TokenKind)
+        ensures { self.new ≡ walked self.old kind }
     {
         match behind(self.before, kind) {
-            Before::Heading => self.begun(),
-            _ => self.gone_on(kind),
+            Before::Heading => self.begin(),
+            _ => self.go_on(kind),
         }
     }
 
@@ -253,7 +245,7 @@ pub fn named_at(tokens: &Tokens<'_>, file: TextFile, at: usize) -> Option<Named>
     let mut walk = RoleWalk::new(file, name);
     for before in 0..at {
         if let Some(kind) = tokens.kind(before) {
-            walk = walk.behind(kind);
+            walk.take(kind);
         }
     }
     Some(Named {
@@ -273,25 +265,70 @@ fn may_stand_in(named: Named, file: TextFile) -> bool
     }
 }
 
+/// Adds the place of the next token of a walk, which is of this kind, if the name stands for this there.
+#[tactic(auto, using(crate::proofs::Naming::passed, crate::proofs::Naming::named, crate::proofs::Naming::placed))]
+fn add_place(
+    tokens: &Tokens<'_>,
+    at: usize,
+    kind: TokenKind,
+    walk: &RoleWalk,
+    role: Role,
+    places: &mut Vec<NamePlace>,
+) -> Result<(), AllocError>
+    requires { slice_get (kinds_of tokens.now) at ≡ Some kind }
+    ensures { OnOk result (
+        places_of places.new.items ++ named_places (walked walk.now kind) role (drop (at + 1) tokens.now)
+        ≡ places_of places.old.items ++ named_places walk.now role (drop at tokens.now)) }
+{
+    if !walk.stands_for(role, kind) {
+        return Ok(());
+    }
+    match tokens.place(at) {
+        Some(place) => {
+            let declares = walk.declares();
+            places.push(NamePlace { place, declares })?;
+            Ok(())
+        }
+        None => Ok(()),
+    }
+}
+
+/// Takes the next token: adds its place if the name stands for this there, and moves the walk behind it.
+#[tactic(auto, using(crate::proofs::Naming::kind_held))]
+fn take_token(
+    tokens: &Tokens<'_>,
+    at: usize,
+    walk: &mut RoleWalk,
+    role: Role,
+    places: &mut Vec<NamePlace>,
+) -> Result<(), AllocError>
+    requires { at < length tokens.now }
+    ensures { OnOk result (places_of places.new.items ++ named_places walk.new role (drop (at + 1) tokens.now)
+        ≡ places_of places.old.items ++ named_places walk.old role (drop at tokens.now)) }
+{
+    match tokens.kind(at) {
+        Some(kind) => {
+            add_place(tokens, at, kind, walk, role, places)?;
+            walk.take(kind);
+            Ok(())
+        }
+        None => Ok(()),
+    }
+}
+
 /// The places of a text at which a name stands for this, in order.
 fn all_places(
     alloc: Global,
     tokens: &Tokens<'_>,
     start: RoleWalk,
     role: Role,
-) -> Result<Vec<NamePlace>, AllocError> {
+) -> Result<Vec<NamePlace>, AllocError>
+    ensures { IfOk result (λ v. places_of v.items ≡ named_places start role tokens.now) }
+{
     let mut places = Vec::new(alloc);
     let mut walk = start;
     for at in 0..tokens.len() {
-        if let Some(kind) = tokens.kind(at) {
-            if walk.stands_for(role, kind) {
-                if let Some(place) = tokens.place(at) {
-                    let declares = walk.declares();
-                    places.push(NamePlace { place, declares })?;
-                }
-            }
-            walk = walk.behind(kind);
-        }
+        take_token(tokens, at, &mut walk, role, &mut places)?;
     }
     Ok(places)
 }
@@ -302,7 +339,9 @@ pub fn places_in(
     tokens: &Tokens<'_>,
     file: TextFile,
     named: Named,
-) -> Result<Vec<NamePlace>, AllocError> {
+) -> Result<Vec<NamePlace>, AllocError>
+    ensures { IfOk result (λ v. places_of v.items ≡ spec.uses named file tokens.now) }
+{
     if !may_stand_in(named, file) {
         return Ok(Vec::new(alloc));
     }

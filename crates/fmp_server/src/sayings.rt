@@ -23,23 +23,17 @@ pub fn append_code(bytes: &[u8], out: &mut Vec<u8>) -> Result<(), AllocError> {
     append("`", out)
 }
 
-/// Appends parts with a blank between them.
-fn append_parts(parts: &[&str], out: &mut Vec<u8>) -> Result<(), AllocError> {
-    for (place, part) in parts.iter().enumerate() {
-        if place > 0 {
-            append(" ", out)?;
-        }
-        append(*part, out)?;
+/// Appends texts, one behind the other.
+pub fn append_all(texts: &[&str], out: &mut Vec<u8>) -> Result<(), AllocError> {
+    for text in texts {
+        append(*text, out)?;
     }
     Ok(())
 }
 
 /// Appends the name of a call and what stands between its parentheses.
 pub fn append_call(service: Service, out: &mut Vec<u8>) -> Result<(), AllocError> {
-    append(service.name(), out)?;
-    append("(", out)?;
-    append(arguments_of(service), out)?;
-    append(")", out)
+    append_all(&[service.name(), "(", arguments_of(service), ")"], out)
 }
 
 /// What an object is of which a call takes the number.
@@ -89,14 +83,23 @@ fn permitted(permission: Permission) -> &'static str {
     }
 }
 
-/// Appends when a call answers which codes, if any beside those of the general tests.
-fn append_codes(service: Service, out: &mut Vec<u8>) -> Result<(), AllocError> {
+/// Says what stands for each argument of a call.
+fn say_parameters(service: Service, out: &mut Vec<u8>) -> Result<(), AllocError> {
+    append("\n", out)?;
+    for parameter in service.parameters() {
+        append_all(&["\n- ", meaning(*parameter)], out)?;
+    }
+    Ok(())
+}
+
+/// Says when a call answers which codes, if any beside those of the general tests.
+fn say_codes(service: Service, out: &mut Vec<u8>) -> Result<(), AllocError> {
     let codes = codes_of(service);
     if codes.is_empty() {
         return Ok(());
     }
     append("\n\nCodes: ", out)?;
-    append_parts(codes, out)
+    append_all(codes, out)
 }
 
 /// Says what a call does and answers.
@@ -104,48 +107,39 @@ pub fn say_call(service: Service, out: &mut Vec<u8>) -> Result<(), AllocError> {
     append("`", out)?;
     append_call(service, out)?;
     append("`: ", out)?;
-    append_parts(deed_of(service), out)?;
-    append("\n", out)?;
-    for parameter in service.parameters() {
-        append("\n- ", out)?;
-        append(meaning(*parameter), out)?;
-    }
-    append_codes(service, out)?;
-    append("\n\n", out)?;
-    append(permitted(service.permission()), out)
+    append_all(deed_of(service), out)?;
+    say_parameters(service, out)?;
+    say_codes(service, out)?;
+    append_all(&["\n\n", permitted(service.permission())], out)
 }
 
 /// Says what number a constant stands for.
 pub fn say_constant(constant: Constant, out: &mut Vec<u8>) -> Result<(), AllocError> {
-    append_code(constant.name().as_bytes(), out)?;
-    append(" is ", out)?;
+    append_all(&["`", constant.name(), "` is "], out)?;
     append_number(i64::from(constant.value()), out)
 }
 
 /// Says which values a field of a static API may have.
 fn say_values(api: Api, field: Field, out: &mut Vec<u8>) -> Result<(), AllocError> {
     if field == Field::Attribute {
-        append(": ", out)?;
-        return append(attributes_of(api), out);
+        return append_all(&[": ", attributes_of(api)], out);
     }
-    if let Some((least, greatest)) = field.range() {
-        append(": ", out)?;
-        append_number(i64::from(least), out)?;
-        append(" to ", out)?;
-        append_number(i64::from(greatest), out)?;
+    match field.range() {
+        Some((least, greatest)) => {
+            append(": ", out)?;
+            append_number(i64::from(least), out)?;
+            append(" to ", out)?;
+            append_number(i64::from(greatest), out)
+        }
+        None => Ok(()),
     }
-    Ok(())
 }
 
 /// Says what a static API makes, and which fields it has.
 pub fn say_api(api: Api, out: &mut Vec<u8>) -> Result<(), AllocError> {
-    append_code(api.name().as_bytes(), out)?;
-    append(" makes ", out)?;
-    append(object_of(api), out)?;
-    append("\n", out)?;
+    append_all(&["`", api.name(), "` makes ", object_of(api), "\n"], out)?;
     for field in fields_of(api) {
-        append("\n- ", out)?;
-        append(field.called(), out)?;
+        append_all(&["\n- ", field.called()], out)?;
         say_values(api, *field, out)?;
     }
     Ok(())

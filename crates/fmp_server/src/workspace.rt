@@ -11,6 +11,7 @@ use crate::navigation::{WantedPlaces, places};
 use crate::outline::outline;
 use crate::positions::Position;
 use crate::renaming::rename;
+use crate::writing::begin_member;
 use fmp_json::{number_member, text_member};
 use fmp_lex::TextFile;
 use json::{Error, Scratch, Value, Writer};
@@ -59,43 +60,57 @@ fn query_of(method: &str) -> Option<Query> {
     }
 }
 
-/// Writes what the server can do.
-fn write_capabilities(writer: &mut Writer) -> Result<(), AllocError> {
-    writer.key("textDocumentSync")?;
-    writer.begin_object()?;
+/// What the server provides, beside completion.
+static PROVIDERS: [&str; 5] = [
+    "hoverProvider",
+    "definitionProvider",
+    "referencesProvider",
+    "renameProvider",
+    "documentSymbolProvider",
+];
+
+/// Writes how texts come: whole, when they are opened and at each change.
+fn write_synchronization(writer: &mut Writer) -> Result<(), AllocError> {
+    begin_member(writer, "textDocumentSync")?;
     writer.key("openClose")?;
     writer.boolean(true)?;
     number_member(writer, "change", 1)?;
+    writer.end_object()
+}
+
+/// Writes what the server provides.
+fn write_providers(writer: &mut Writer) -> Result<(), AllocError> {
+    begin_member(writer, "completionProvider")?;
     writer.end_object()?;
-    writer.key("completionProvider")?;
-    writer.begin_object()?;
-    writer.end_object()?;
-    for name in [
-        "hoverProvider",
-        "definitionProvider",
-        "referencesProvider",
-        "renameProvider",
-        "documentSymbolProvider",
-    ] {
-        writer.key(name)?;
+    for name in &PROVIDERS {
+        writer.key(*name)?;
         writer.boolean(true)?;
     }
     Ok(())
 }
 
+/// Writes what the server can do.
+fn write_capabilities(writer: &mut Writer) -> Result<(), AllocError> {
+    begin_member(writer, "capabilities")?;
+    write_synchronization(writer)?;
+    write_providers(writer)?;
+    writer.end_object()
+}
+
+/// Writes what the server can do, and what it is called.
+fn write_server(writer: &mut Writer) -> Result<(), AllocError> {
+    writer.begin_object()?;
+    write_capabilities(writer)?;
+    begin_member(writer, "serverInfo")?;
+    text_member(writer, "name", "fmp_view lsp")?;
+    writer.end_object()?;
+    writer.end_object()
+}
+
 /// The answer to `initialize`.
 fn initialized(alloc: Global, id: RequestId<'_>) -> Result<Vec<u8>, AllocError> {
     let mut writer = begin_answer(alloc, id)?;
-    writer.begin_object()?;
-    writer.key("capabilities")?;
-    writer.begin_object()?;
-    write_capabilities(&mut writer)?;
-    writer.end_object()?;
-    writer.key("serverInfo")?;
-    writer.begin_object()?;
-    text_member(&mut writer, "name", "fmp_view lsp")?;
-    writer.end_object()?;
-    writer.end_object()?;
+    write_server(&mut writer)?;
     finish(writer)
 }
 

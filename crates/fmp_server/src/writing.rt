@@ -1,11 +1,24 @@
 //! What stands in messages: objects of JSON, positions and ranges.
-ghost use Rattle.std.specs.Prelude.{◌≡◌, ◌++◌, OnOk};
+ghost use Rattle.std.specs.Prelude.{◌≡◌, ◌++◌, List, OnOk};
+ghost use Rattle.fmp_server.specs.declared.positions.TextRange.{TextRange};
 ghost use Rattle.fmp_server.specs.Messages as spec;
+ghost use Rattle.fmp_server.specs.Positions.{AreRanges};
+ghost use Rattle.fmp_server.specs.Roles.{places_of};
 
-use crate::positions::{Position, TextRange};
+use crate::positions::{Position, TextRange, range_of};
+use crate::roles::NamePlace;
 use fmp_json::{number_member, text_member};
 use json::Writer;
 use std::alloc::AllocError;
+
+/// Begins a member whose value is an object.
+pub fn begin_member(writer: &mut Writer, name: &str) -> Result<(), AllocError>
+    ensures before { writer.new.before ≡ writer.old.before }
+    ensures tokens { OnOk result (writer.new.tokens ≡ writer.old.tokens ++ spec.member_begin name.now) }
+{
+    writer.key(name)?;
+    writer.begin_object()
+}
 
 /// Writes a position.
 pub fn write_position(writer: &mut Writer, position: Position) -> Result<(), AllocError>
@@ -60,4 +73,25 @@ pub fn write_edit(writer: &mut Writer, range: TextRange, text: &str) -> Result<(
     range_member(writer, "range", range)?;
     text_member(writer, "newText", text)?;
     writer.end_object()
+}
+
+/// Writes a member of which the key is the URI of a text, and the value are the edits that put a name in place of what
+/// stands at these places of it.
+pub fn write_edits(
+    writer: &mut Writer,
+    uri: &str,
+    text: &[u8],
+    places: &[NamePlace],
+    name: &str,
+) -> Result<(), AllocError>
+    ensures before { writer.new.before ≡ writer.old.before }
+    ensures tokens { OnOk result ((ranges : List TextRange) × AreRanges text.now (places_of places.now) ranges
+        × (writer.new.tokens ≡ writer.old.tokens ++ spec.edits uri.now ranges name.now)) }
+{
+    writer.key(uri)?;
+    writer.begin_array()?;
+    for one in places {
+        write_edit(writer, range_of(text, one.place), name)?;
+    }
+    writer.end_array()
 }
