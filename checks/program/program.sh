@@ -63,6 +63,20 @@ run 'sim at bound 2' 0 a.trace none sim a.img c.steps --bound 2
 run 'sim at bound 1' 0 a.trace none sim --bound=1 a.img c.steps
 run 'sim of one step at bound 1' 0 a.setup none sim --bound=1 a.img one.steps
 run 'sim without events' 0 a.setup none sim a.img none
+# came NAME INPUT WORD.. IMAGE: fmp host on these words, with the file INPUT as its standard input, says what the file
+# `came` has, and prints what fmp sim prints over its journal.
+came() {
+    name=$1 input=$2
+    shift 2
+    for image in "$@"; do :; done
+    status=0
+    "$subject" host "$@" host.journal < "$input" > hosted 2> errors || status=$?
+    holds "$name: status" "it is $status" [ "$status" = 0 ]
+    same "$name: what came" came errors
+    "$subject" sim "$image" host.journal > simulated || true
+    same "$name: the trace" simulated hosted
+}
+
 # one processor makes the same journal each time: its turns that do something
 printf 'run 1\nrun 1\n' > host.want
 printf 'tick\ntick\n' > ticks.want
@@ -78,6 +92,32 @@ run 'host at bound 1' 0 a.trace none host a.img host.journal --turns 4 --ticks 0
 same 'the journal at bound 1' c.steps host.journal
 run 'host of ticks alone' 0 ticks.trace none host a.img host.journal --turns 0 --ticks 2
 same 'the journal of ticks' ticks.want host.journal
+# by the clock, and by the lines of standard input: no outcome depends on how fast the machine is
+printf 'ticks 0, interrupts 0, runs 2, lines 0\n' > came
+run 'host by the clock without ticks' 0 a.trace came host a.img host.journal --turns 3 --ticks 0 --tick-us 1000000
+same 'the journal by the clock without ticks' host.want host.journal
+printf 'ticks 3, interrupts 0, runs 2, lines 0\n' > came
+began=$(date +%s%N)
+came 'host by the clock' none --turns 9 --ticks 3 --tick-us 100000 a.img
+took=$((($(date +%s%N) - began) / 1000000))
+holds 'three ticks, one in 100 ms' "it took $took ms" [ "$took" -ge 290 ]
+printf 'int 4\nint 03\nint 33\n int 3\nint 3x\nrun 1\n\nint 3' > lines
+printf 'ticks 0, interrupts 1, runs 12, lines 8\n' > came
+"$subject" build interrupt.cfg interrupt.src interrupt.img > output
+came 'a line that raises an interrupt, of eight' lines --turns 90 --ticks 0 --int 3 interrupt.img
+# more lines than interrupts are raised
+yes 'int 3' | head -n 70000 > lines
+status=0
+"$subject" host interrupt.img host.journal --turns 90 --ticks 0 --int 3 < lines > hosted 2> errors || status=$?
+holds 'more lines than interrupts: status' "it is $status" [ "$status" = 0 ]
+"$subject" sim interrupt.img host.journal > simulated || true
+same 'more lines than interrupts: the trace' simulated hosted
+# standard input stays open, and no line comes
+mkfifo open.pipe
+exec 9<> open.pipe
+printf 'ticks 3, interrupts 0, runs 2, lines 0\n' > came
+came 'host by the clock while standard input stays open' open.pipe --turns 9 --ticks 3 --tick-us 1000 --int 3 a.img
+exec 9>&-
 same 'the image that was run' a.want a.img
 same 'the configuration afterwards' kept.cfg a.cfg
 same 'the task text afterwards' kept.src b.src
@@ -96,6 +136,7 @@ absent 'no image of a faulty text' fault.img
 printf 'run 1\nrun 2\n' > range.steps
 says 'a processor that is not there' 1 'steps:2: S2' sim a.img range.steps
 says 'no turns and no ticks' 1 'host: H4' host a.img fault.journal --turns 0 --ticks 0
+says 'interrupts count' 1 'host: H4' host a.img fault.journal --turns 0 --ticks 983041 --int 1
 says 'a turn more than 2^20' 1 'host: H4' host a.img fault.journal --turns 1048576 --ticks 1
 says 'the image is judged before turns and ticks' 1 'image: L2' host c.steps fault.journal --turns 0 --ticks 0
 absent 'no journal of a fault' fault.journal
@@ -171,7 +212,9 @@ for words in run 'check a.cfg' 'build a.cfg b.src' 'sim a.img' 'check a.cfg b.sr
     'sim a.img c.steps --bound x' 'host a.img' 'host a.img j' 'host a.img j --turns 1' 'host a.img j --ticks 1' \
     'host a.img --turns 1 --ticks 1' 'host a.img j k --turns 1 --ticks 1' 'host a.img j --turns 1048577 --ticks 1' \
     'host a.img j --turns 1 --ticks 1048577' 'host a.img j --turns x --ticks 1' 'host a.img j --turns 1 --ticks -1' \
-    'host a.img j --turns 1 --ticks 1 --bound 0'; do
+    'host a.img j --turns 1 --ticks 1 --bound 0' 'host a.img j --turns 1 --ticks 1 --tick-us 0' \
+    'host a.img j --turns 1 --ticks 1 --tick-us 1000001' 'host a.img j --turns 1 --ticks 1 --int 0' \
+    'host a.img j --turns 1 --ticks 1 --int 33' 'host a.img j --turns 1 --ticks 1 --int 3 --int 3'; do
     # shellcheck disable=SC2086
     writes "words: $words" 2 errors $words
 done

@@ -1,15 +1,16 @@
 -- From what clap's getters say to the rows of its matches.
-use Rattle.std.proofs.Common.{◌≡◌, ◌∙◌, ◌<◌, ◌^◌, ℕ, [], arith, length, true, List, Option, Some, None, Result, Ok, Err}
-use Rattle.std.proofs.Common.{IfErr, IsErrAnd, ap, ap₂, refl, sym, subst, true≢false, option_map}
+use Rattle.std.proofs.Common.{◌≡◌, ◌∙◌, ◌<◌, ◌≤◌, ◌^◌, ℕ, [], arith, length, true, List, Option, Some, None, Result}
+use Rattle.std.proofs.Common.{Ok, Err, IfErr, IfSome, IsErrAnd, ap, ap₂, refl, sym, subst, true≢false, option_map}
 use Rattle.std.specs.Option.{IsSomeAnd, is_some, unwrap_or}
 use Rattle.std.specs.Str.Parse.{ParsesUnsigned}
 use Rattle.clap.specs.Values.{IsUnsignedIn}
 use Rattle.clap.specs.Matches.{ReadsOne}
 use Rattle.clap.specs.declared.error.Error.{Error}
 use Rattle.clap.specs.Words.{App, HasKind, HasMatchesOf, Row, Text, fault_of, is_simple, is_simple_and_free, kind_of}
+use Rattle.clap.specs.Words.{one_of}
 use Rattle.clap.specs.Words.{subcommand_of, subcommand_rows_of}
 use Rattle.clap.specs.declared.parser.matches.ArgMatches.{ArgMatches}
-use Rattle.fmp.specs.Asked.{AsksFor, IsAsked, IsRefused}
+use Rattle.fmp.specs.Asked.{AsksFor, HasNumberIfGiven, IsAsked, IsNumberIfGiven, IsRefused}
 use Rattle.fmp.specs.Form.{fmp}
 use Rattle.fmp.specs.declared.asking.Cmd.{Cmd}
 use Rattle.fmp.specs.declared.asking.Cmd.TheVariants.{Build, Check, Host, Sim, Stored}
@@ -17,7 +18,7 @@ use Rattle.fmp.specs.declared.asking.Cmd.TheVariants.{Build, Check, Host, Sim, S
 pub some-same : {X : Type 0} {x y : X} → Some x ≡ Some y → x ≡ y
 some-same {x} e = ap (λ o. unwrap_or o x) e
 
-some≢none : {X : Type 0} (x : X) → Some x ≡ None → ⊥
+pub some≢none : {X : Type 0} (x : X) → Some x ≡ None → ⊥
 some≢none x e = true≢false (ap is_some e)
 
 -- two views of what stands on both sides of an option, and so both at once
@@ -54,6 +55,29 @@ number_given bits least most gives (Some t) (Some n) fits is reads parses = refl
 number_given bits least most gives (Some t) None fits is reads parses =
     let (e, given) = reads t refl in absurd (parses t (Err e) given (is.0, omega (arith, is.3, fits)))
 
+-- a number that may be there is read, if it is
+pub number_if_given : {E : Type 0} (bits most : ℕ) (gives : List ℕ → Result ℕ E → Type 0) (rows : List Row)
+    (id : Text) (text : Option (List ℕ)) (read : Option ℕ) → text ≡ one_of id rows → most < 2 ^ bits
+    → IsNumberIfGiven most rows id → (text ≡ None → read ≡ None)
+    → ((t : List ℕ) → text ≡ Some t → ReadsOne {T = ℕ} {E = E} gives t read)
+    → ((t : List ℕ) (r : Result ℕ E) → gives t r → ParsesUnsigned bits 10 t r)
+    → HasNumberIfGiven rows id read × IfSome read (λ n. (1 ≤ n) × (n ≤ most))
+number_if_given bits most gives rows id None None same fits is none reads parses = (sym same, tt)
+number_if_given bits most gives rows id None (Some n) same fits is none reads parses =
+    absurd (some≢none n (none refl))
+number_if_given bits most gives rows id (Some t) None same fits is none reads parses =
+    let bounds : IsUnsignedIn 1 most t = subst (λ o. IfSome o (IsUnsignedIn 1 most)) (sym same) is in
+    absurd (true≢false (sym (number_given bits 1 most gives (Some t) None fits bounds reads parses)))
+number_if_given bits most gives rows id (Some t) (Some n) same fits is none reads parses =
+    let bounds : IsUnsignedIn 1 most t = subst (λ o. IfSome o (IsUnsignedIn 1 most)) (sym same) is in
+    let number = (parses t (Ok n) (reads t refl)).1 in (
+      (t, sym same, number),
+      (
+        subst (λ (k : ℕ). 1 ≤ k) (sym number) bounds.2,
+        subst (λ (k : ℕ). k ≤ most) (sym number) bounds.3,
+      ),
+    )
+
 -- the form is one of which clap says exactly what its matches and its errors are
 pub form_is_simple : is_simple fmp ≡ true
 form_is_simple = refl
@@ -67,7 +91,7 @@ pub asks_for : (words : List Text) (name : Text) (rows : List Row) (cmd : Cmd) �
 asks_for words name rows (Check config tasks) long fits entered asked = (long, fits, (name, rows, entered, asked))
 asks_for words name rows (Build config tasks image) long fits entered asked = (long, fits, (name, rows, entered, asked))
 asks_for words name rows (Sim image steps bound) long fits entered asked = (long, fits, (name, rows, entered, asked))
-asks_for words name rows (Host image journal turns ticks bound) long fits entered asked =
+asks_for words name rows (Host image journal turns ticks bound tick_us interrupt) long fits entered asked =
     (long, fits, (name, rows, entered, asked))
 asks_for words name rows Stored long fits entered asked = absurd asked
 

@@ -21,7 +21,7 @@ use Rattle.clap.specs.declared.builder.value_parser.ValueParser.TheVariants.{Uns
 use Rattle.clap.specs.declared.error.kind.ErrorKind.TheVariants.{MissingRequiredArgument}
 use Rattle.clap.specs.declared.parser.matches.ValueSource.TheVariants.{DefaultValue}
 use Rattle.clap.proofs.ValueTestLemmas.{accepts-Accepts}
-use Rattle.fmp.specs.Asked.{HasWords, IsGiven, IsGivenNumber}
+use Rattle.fmp.specs.Asked.{HasWords, IsGiven, IsGivenNumber, IsNumberIfGiven}
 use Rattle.fmp.specs.Form.{build, check, fmp, host, sim}
 use Rattle.fmp.proofs.Rows.{Each, HasValues, IsSound, IsUsualLevel, StopsAtNoHelp, at_none, found_one, level_stands}
 use Rattle.fmp.proofs.Rows.{or_both}
@@ -170,6 +170,27 @@ given_number least most c rows id a first parser case sound there =
         (sym as_written)
         (one_value least most a r.values parser case has_values.some has_values.accepted)
 
+and_if : {X : Type 0} (P : X → Type 0) (o : Option X) → IsSomeAnd o P → IfSome o P
+and_if P None h = absurd h
+and_if P (Some x) h = h
+
+-- a number that may be there
+number_in_range : (most : ℕ) (c : List Rule) (rows : List Row) (id : Text) (a : Rule) → arg_by_id c id ≡ Some a
+    → a.parser ≡ Some (Unsigned 1 most) → a.ignore_case ≡ false → Each (IsSound c) rows
+    → IsNumberIfGiven most rows id
+number_in_range most c rows id a first parser case sound =
+    go (find (λ x. bytes_eq x.id id) rows) (λ r found. row_values c rows id a r first sound found)
+  where
+    go : (o : Option Row) → ((r : Row) → o ≡ Some r → HasValues a r)
+        → IfSome (option_and_then row_text o) (IsUnsignedIn 1 most)
+    go None values = tt
+    go (Some r) values =
+        let has_values = values r refl in
+        let as_written : r.reading ≡ AsWritten = has_values.reading ∙ ap (λ p. reading_of (parser_of_value p)) parser in
+        and_if (IsUnsignedIn 1 most) (row_text r)
+        (subst (λ how. IsSomeAnd (option_map (read_as how) (slice_get r.values 0)) (IsUnsignedIn 1 most))
+        (sym as_written) (one_value 1 most a r.values parser case has_values.some has_values.accepted))
+
 -- ---- each subcommand
 
 -- what building makes of a subcommand
@@ -278,7 +299,13 @@ host_fulfils words e no_help =
               (refl, inl (refl, lit< tt)),
               (
                 (refl, inl (refl, lit< tt)),
-                ((refl, inr (lit< tt)), tt),
+                (
+                  (refl, inl (refl, lit< tt)),
+                  (
+                    (refl, inl (refl, lit< tt)),
+                    ((refl, inr (lit< tt)), tt),
+                  ),
+                ),
               ),
             ),
           ),
@@ -291,7 +318,7 @@ host_fulfils words e no_help =
     let given = required_given rows s.rules (not_missing _ stands.3) in
     let rule : ℕ → Rule = λ k. get_or s.rules k help_rule in
     let has_bound : has_row (codes "bound") rows ≡ true =
-    late_row (rule 0 ∷ rule 1 ∷ rule 2 ∷ rule 3 ∷ []) (rule 4) (rule 5) (codes "100000") []
+    late_row (rule 0 ∷ rule 1 ∷ rule 2 ∷ rule 3 ∷ rule 4 ∷ rule 5 ∷ []) (rule 6) (rule 7) (codes "100000") []
     (settled s.rules (walk s.rules [] nothing_held words).held).rows refl refl in
     record {
       known = inr (inr (inr refl));
@@ -307,6 +334,8 @@ host_fulfils words e no_help =
             (row_given (codes "ticks") rows (given.1.1.1.0 refl)),
         given_number 1 281474976710656 s.rules rows (codes "bound") _ refl refl refl stands.0
             (row_found (codes "bound") rows has_bound),
+        number_in_range 1000000 s.rules rows (codes "tick-us") _ refl refl refl stands.0,
+        number_in_range 32 s.rules rows (codes "int") _ refl refl refl stands.0,
       );
     }
 

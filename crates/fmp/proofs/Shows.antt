@@ -1,6 +1,7 @@
 -- How a run ends of a command that writes no file.
-use Rattle.std.proofs.Common.{◌≡◌, ℕ, sym, subst, ◌∙◌, append-nil, Bool, IsTrue, List, [], Option, None, IfSome}
+use Rattle.std.proofs.Common.{◌≡◌, ℕ, refl, sym, subst, ◌∙◌, append-nil, Bool, IsTrue, List, [], Option, None, IfSome}
 use Rattle.fmp.specs.declared.asking.Cmd.{Cmd}
+use Rattle.fmp.specs.declared.asking.Cmd.TheVariants as command
 use Rattle.fmp_files.specs.Deeds.{Deed, Does, Says}
 use Rattle.fmp_files.specs.declared.failure.Failure.{Failure}
 use Rattle.fmp_files.specs.Endings.{IsFailureOf, all_printed, some_printed}
@@ -13,7 +14,17 @@ use Rattle.fmp.specs.declared.perform.Exit.TheVariants.{Failed}
 use Rattle.fmp.specs.Performed.{IsWhyNot, status_of}
 use Rattle.fmp.specs.Printing.{PrintsFront}
 use Rattle.fmp.specs.Runs.{AreInputs, CarriedOut, EndsCommand, IsNoneOf, KeepsInputs, done, failed, faulty, unread}
-use Rattle.fmp.specs.Runs.{writes_to}
+use Rattle.fmp.specs.Runs.{SaysWhatCame, writes_to}
+use Rattle.fmp.proofs.Entering.{some≢none}
+
+-- where no file is written, nothing came
+nothing_told : (asked : Cmd) → output_of asked ≡ None → (after : Option (List Deed)) → SaysWhatCame asked after after
+nothing_told (command.Check config tasks) fileless after = refl
+nothing_told (command.Build config tasks image) fileless after = refl
+nothing_told (command.Sim image steps bound) fileless after = refl
+nothing_told (command.Host image journal turns ticks bound tick_us interrupt) fileless after =
+    absurd (some≢none _ fileless)
+nothing_told command.Stored fileless after = refl
 
 module _ (files : Files) (can_fail : Bool) (before : Option (List Deed)) (cmd : Cmd)
     (fileless : output_of cmd ≡ None) where
@@ -34,17 +45,17 @@ module _ (files : Files) (can_fail : Bool) (before : Option (List Deed)) (cmd : 
     pub ends_all : (after : Option (List Deed)) (status : ℕ) → PrintsFront cmd inputs before after [] → status ≡ 0
         → EndsCommand files can_fail cmd before after status
     ends_all after status p zero =
-        done p.text before kept (carried after [] p)
+        done p.text before after kept (carried after [] p)
         (all_printed (subst (λ (bytes : List ℕ). Prints before bytes after)
-        (sym (p.text_is ∙ append-nil p.front)) p.printed) zero)
+        (sym (p.text_is ∙ append-nil p.front)) p.printed) zero) (nothing_told cmd fileless after)
 
     -- standard output has failed
     pub ends_cut : (between after : Option (List Deed)) (left : List ℕ) (status : ℕ) → IsTrue can_fail
         → PrintsFront cmd inputs before between left → Says between after → status ≡ 3
         → EndsCommand files can_fail cmd before after status
     ends_cut between after left status fails p said three =
-        done p.text before kept (carried between left p) (some_printed fails p.front left p.text_is between p.printed
-        said three)
+        done p.text before after kept (carried between left p) (some_printed fails p.front left p.text_is between
+        p.printed said three) (nothing_told cmd fileless after)
 
     -- it is not carried out
     pub ends_refused : (exit : Exit) (between after : Option (List Deed)) (status : ℕ) → IsWhyNot cmd inputs exit

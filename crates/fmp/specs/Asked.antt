@@ -1,5 +1,6 @@
 -- What the words of a command line ask for.
-use Rattle.std.specs.Prelude.{ℕ, ◌≡◌, ◌≤◌, ◌<◌, ◌⊎◌, List, [], IsSome, IsSomeAnd, Some, codes, length, string_bytes}
+use Rattle.std.specs.Prelude.{ℕ, ◌≡◌, ◌≤◌, ◌<◌, ◌⊎◌, List, [], IfSome, IsSome, IsSomeAnd, None, Option, Some, codes}
+use Rattle.std.specs.Prelude.{length, string_bytes}
 use Rattle.std.specs.Str.Parse.{digits_value, without_leading_plus}
 use Rattle.clap.specs.Words.{IsAmong, IsUnsignedIn, Row, Text, fault_of, first_of, one_of, subcommand_of}
 use Rattle.clap.specs.declared.error.kind.ErrorKind.{ErrorKind}
@@ -17,6 +18,11 @@ abbrev pub HasNumber : List Row → Text → ℕ → Type 0
 HasNumber rows id number =
     (word : Text) × (one_of id rows ≡ Some word) × (number ≡ digits_value 10 (without_leading_plus word))
 
+-- the same, if there is such a word
+abbrev pub HasNumberIfGiven : List Row → Text → Option ℕ → Type 0
+HasNumberIfGiven rows id None = one_of id rows ≡ None
+HasNumberIfGiven rows id (Some number) = HasNumber rows id number
+
 -- what a subcommand asks for, by its name and the words for its arguments
 abbrev pub IsAsked : Text → List Row → Cmd → Type 0
 IsAsked name rows (Check config tasks) =
@@ -28,10 +34,11 @@ IsAsked name rows (Build config tasks image) =
 IsAsked name rows (Sim image steps bound) =
     (name ≡ codes "sim") × HasWord rows (codes "IMAGE") (string_bytes image)
     × HasWord rows (codes "STEPS") (string_bytes steps) × HasNumber rows (codes "bound") bound
-IsAsked name rows (Host image journal turns ticks bound) =
+IsAsked name rows (Host image journal turns ticks bound tick_us interrupt) =
     (name ≡ codes "host") × HasWord rows (codes "IMAGE") (string_bytes image)
     × HasWord rows (codes "JOURNAL") (string_bytes journal) × HasNumber rows (codes "turns") turns
     × HasNumber rows (codes "ticks") ticks × HasNumber rows (codes "bound") bound
+    × HasNumberIfGiven rows (codes "tick-us") tick_us × HasNumberIfGiven rows (codes "int") interrupt
 IsAsked name rows Stored = ⊥
 
 -- what words ask for, of which the first is the program's name: they fit the form, and their parse enters a subcommand
@@ -56,6 +63,10 @@ IsGivenBound = IsGivenNumber 1 281474976710656
 abbrev pub IsGivenCount : List Row → Text → Type 0
 IsGivenCount = IsGivenNumber 0 1048576
 
+-- a word for this argument spells a number from 1 to this one, if there is such a word
+abbrev pub IsNumberIfGiven : (most : ℕ) → List Row → Text → Type 0
+IsNumberIfGiven most rows id = IfSome (one_of id rows) (IsUnsignedIn 1 most)
+
 -- what the words that fit the form say to the subcommand that they enter
 pub record HasWords (name : Text) (rows : List Row) : Type 0 where
   pub known : (name ≡ codes "check") ⊎ (name ≡ codes "build") ⊎ (name ≡ codes "sim") ⊎ (name ≡ codes "host")
@@ -67,6 +78,7 @@ pub record HasWords (name : Text) (rows : List Row) : Type 0 where
   pub host : name ≡ codes "host"
       → IsGiven rows (codes "IMAGE") × IsGiven rows (codes "JOURNAL") × IsGivenCount rows (codes "turns")
       × IsGivenCount rows (codes "ticks") × IsGivenBound rows (codes "bound")
+      × IsNumberIfGiven 1000000 rows (codes "tick-us") × IsNumberIfGiven 32 rows (codes "int")
 
 -- why words are refused: out of memory, or a fault of their form
 abbrev pub IsRefused : List Text → ErrorKind → Type 0

@@ -1,5 +1,5 @@
 -- The form of the command line.
-use Rattle.std.specs.Prelude.{[], ◌∷◌, Some, true, codes}
+use Rattle.std.specs.Prelude.{ℕ, [], ◌∷◌, Some, true, codes}
 use Rattle.clap.specs.Words.{App, Rule, Text, new_app, new_rule, with_rule, with_subcommand}
 use Rattle.clap.specs.declared.builder.value_parser.ValueParser.TheVariants.{Unsigned}
 
@@ -25,6 +25,10 @@ count id = record (new_rule id) {
   required = true;
 }
 
+-- an option with a number from 1 to this one
+abbrev pub number : Text → (most : ℕ) → Rule
+number id most = record (new_rule id) { long = Some id; value_names = 1; parser = Some (Unsigned 1 most) }
+
 -- `check CFG SRC`
 abbrev pub check : App
 check = with_rule (with_rule (new_app (codes "check")) (file (codes "CFG"))) (file (codes "SRC"))
@@ -41,11 +45,12 @@ sim =
     with_rule (with_rule (with_rule (new_app (codes "sim")) (file (codes "IMAGE"))) (file (codes "STEPS")))
     bound
 
--- `host IMAGE JOURNAL --turns T --ticks K [--bound N]`
+-- `host IMAGE JOURNAL --turns T --ticks K [--tick-us U] [--int I] [--bound N]`
 abbrev pub host : App
 host =
-    with_rule (with_rule (with_rule (with_rule (with_rule (new_app (codes "host"))
+    with_rule (with_rule (with_rule (with_rule (with_rule (with_rule (with_rule (new_app (codes "host"))
     (file (codes "IMAGE"))) (file (codes "JOURNAL"))) (count (codes "turns"))) (count (codes "ticks")))
+    (number (codes "tick-us") 1000000)) (number (codes "int") 32))
     bound
 
 -- a version, and a command that has to be there

@@ -1,5 +1,5 @@
 -- What carrying out a command gives, or why it gives nothing.
-use Rattle.std.specs.Prelude.{ℕ, List, [], ◌≡◌, ◌++◌, codes, decimal, length, slice_get, unwrap_or}
+use Rattle.std.specs.Prelude.{ℕ, List, [], Option, None, Some, ◌≡◌, ◌++◌, codes, decimal, length, slice_get, unwrap_or}
 use Rattle.fmp_files.specs.Endings.{IsMemory}
 use Rattle.fmp_image.specs.Building.{Builds, IsBuildFault}
 use Rattle.fmp_engine.specs.Built.{CanBuild}
@@ -58,14 +58,25 @@ pub record RunsTexts (cfg src steps : List ℕ) (n : ℕ) (out : List ℕ) : Typ
   pub built : Builds cfg src image
   pub meant : PrintsTexts image built.tasks.bodies steps n [] out
 
+-- the most interrupts that a host raises
+abbrev pub interrupts_max : ℕ
+interrupts_max = 65536
+
+-- the workload that a command asks for
+abbrev pub work_of : (turns ticks bound : ℕ) → (interrupt : Option ℕ) → Workload
+work_of turns ticks bound None =
+    record { turns = turns; ticks = ticks; interrupt = 1; interrupts = 0; bound = bound }
+work_of turns ticks bound (Some i) =
+    record { turns = turns; ticks = ticks; interrupt = i; interrupts = interrupts_max; bound = bound }
+
 -- What is written and printed is what a command asks for, given what was read.
 abbrev pub CarriesOut : Cmd → List (List ℕ) → (file out : List ℕ) → Type 0
 CarriesOut (cmd.Check _ _) inputs file out = Checks (input_at inputs 0) (input_at inputs 1) out × (file ≡ [])
 CarriesOut (cmd.Build _ _ _) inputs file out = BuildsFile (input_at inputs 0) (input_at inputs 1) file out
 CarriesOut (cmd.Sim _ _ bound) inputs file out =
     RunsImage (input_at inputs 0) (input_at inputs 1) bound out × (file ≡ [])
-CarriesOut (cmd.Host _ _ turns ticks bound) inputs file out =
-    HostsImage (input_at inputs 0) (record { turns = turns; ticks = ticks; bound = bound }) file out
+CarriesOut (cmd.Host _ _ turns ticks bound tick_us interrupt) inputs file out =
+    HostsImage (input_at inputs 0) (work_of turns ticks bound interrupt) file out
 CarriesOut cmd.Stored inputs file out =
     RunsTexts STORED_CONFIG.now STORED_TASKS.now STORED_STEPS.now STORED_BOUND out × (file ≡ [])
 
@@ -104,6 +115,6 @@ abbrev pub IsWhyNot : Cmd → List (List ℕ) → Exit → Type 0
 IsWhyNot (cmd.Check _ _) inputs e = IsWhyNoImage (input_at inputs 0) (input_at inputs 1) e
 IsWhyNot (cmd.Build _ _ _) inputs e = IsWhyNoImage (input_at inputs 0) (input_at inputs 1) e
 IsWhyNot (cmd.Sim _ _ _) inputs e = IsWhyNoRun (input_at inputs 0) (input_at inputs 1) e
-IsWhyNot (cmd.Host _ _ turns ticks bound) inputs e =
-    IsWhyNotHosted (input_at inputs 0) (record { turns = turns; ticks = ticks; bound = bound }) e
+IsWhyNot (cmd.Host _ _ turns ticks bound tick_us interrupt) inputs e =
+    IsWhyNotHosted (input_at inputs 0) (work_of turns ticks bound interrupt) e
 IsWhyNot cmd.Stored inputs e = IsWhyNotRun STORED_CONFIG.now STORED_TASKS.now STORED_STEPS.now e

@@ -1,8 +1,9 @@
 -- What a run of the program reads, writes, prints and says, and the status that it ends with.
-use Rattle.std.specs.Prelude.{ℕ, ◌≡◌, ◌≢◌, ◌⊎◌, Bool, true, false, List, [], ◌∷◌, Option, None, Some, IfSome, IsSomeAnd}
-use Rattle.std.specs.Prelude.{⊤}
+use Rattle.std.specs.Prelude.{ℕ, ◌≡◌, ◌≢◌, ◌⊎◌, ◌||◌, Bool, true, false, List, [], ◌∷◌, Option, None, Some}
+use Rattle.std.specs.Prelude.{IfSome, IsSomeAnd, MatchBool, is_some, ⊤}
 use Rattle.fmp.specs.Asked.{AsksFor, IsRefused}
 use Rattle.fmp.specs.declared.asking.Cmd.{Cmd}
+use Rattle.fmp.specs.declared.asking.Cmd.TheVariants as command
 use Rattle.fmp_files.specs.Deeds.{Begins, Deed, Does, Says, wrote}
 use Rattle.fmp_files.specs.declared.failure.Failure.{Failure}
 use Rattle.fmp_files.specs.Endings.{EndsPrinting, EndsRefused, IsFailureAt, IsFailureOf}
@@ -92,12 +93,25 @@ pub data Fails (files : Files) (cmd : Cmd) (before after : Option (List Deed)) (
   unwritten : (file out : List ℕ) → Performs files cmd file out → IsFailed (IsFailureAt files (output_of cmd)) exit
       → BeginsFile (output_of cmd) file before after → Fails files cmd before after exit
 
+-- whether it is said what came of a command: of a host that goes by the clock or takes lines
+abbrev pub tells : Cmd → Bool
+tells (command.Check _ _) = false
+tells (command.Build _ _ _) = false
+tells (command.Sim _ _ _) = false
+tells (command.Host _ _ _ _ _ tick_us interrupt) = is_some tick_us || is_some interrupt
+tells command.Stored = false
+
+-- that is said, or nothing
+abbrev pub SaysWhatCame : Cmd → (before after : Option (List Deed)) → Type 0
+SaysWhatCame cmd before after = MatchBool (tells cmd) (Says before after) (after ≡ before)
+
 -- how a run of a command ends, where standard output can or can not fail
 pub data EndsCommand (files : Files) (can_fail : Bool) (cmd : Cmd) (before after : Option (List Deed)) (status : ℕ)
     : Type 0 where
-  -- it was carried out: its file is written, and then is printed what there is to print
-  done : (out : List ℕ) (between : Option (List Deed)) → KeepsInputs files cmd → CarriedOut files cmd before between out
-      → EndsPrinting out can_fail between after status → EndsCommand files can_fail cmd before after status
+  -- it was carried out: its file is written, then is printed what there is to print, and then is said what came
+  done : (out : List ℕ) (between printed : Option (List Deed)) → KeepsInputs files cmd
+      → CarriedOut files cmd before between out → EndsPrinting out can_fail between printed status
+      → SaysWhatCame cmd printed after → EndsCommand files can_fail cmd before after status
   -- it was not carried out, and why is said
   failed : (exit : Exit) (between : Option (List Deed)) → KeepsInputs files cmd → Fails files cmd before between exit
       → Says between after → status ≡ status_of exit → EndsCommand files can_fail cmd before after status

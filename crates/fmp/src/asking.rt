@@ -40,13 +40,17 @@ pub enum Cmd {
     },
     /// Run an image by threads, one for each of its processors, and write what happened to the file `journal`, as a
     /// steps text. Each processor has `turns` turns and the clock has `ticks` ticks, each 0 to 2^20. `bound`, 1 to
-    /// 2^48, limits how many instructions a body takes between two service calls.
+    /// 2^48, limits how many instructions a body takes between two service calls. A tick comes each `tick_us`
+    /// microseconds, 1 to 1,000,000, or as soon as it can. Lines of standard input raise the interrupt of the number
+    /// `interrupt`, 1 to 32.
     Host {
         image: String,
         journal: String,
         turns: u32,
         ticks: u32,
         bound: u64,
+        tick_us: Option<u32>,
+        interrupt: Option<u8>,
     },
     /// Build and run the texts that the program holds.
     Stored,
@@ -68,7 +72,7 @@ pub fn journal_over_image(alloc: Global) -> Result<Error, AllocError>
 
 /// What the words of a command line ask for, of which the first is the program's name. With nothing else it is the run
 /// of the texts that the program holds. An error has the kind of the first fault of the words' form (`ValueValidation`
-/// for a bound that is no number from 1 to 2^48, or turns or ticks that are none from 0 to 2^20), or is `OutOfMemory`.
+/// for a number that is not in its range), or is `OutOfMemory`.
 pub fn command<'a>(alloc: Global, words: &'a [&'a str]) -> Result<Cmd, Error>
     ensures asked { IfOk result (AsksFor (map (λ word. word.now) words.entry.now)) }
     ensures refused { IfErr result (λ e. IsRefused (map (λ word. word.now) words.entry.now) (kind_of e)) }

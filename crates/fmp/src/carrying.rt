@@ -10,6 +10,7 @@ ghost use Rattle.fmp.specs.Runs.{AreFronts, AreInputs, BeginsFile, CarriedOut, F
 use crate::asking::Cmd;
 use crate::perform::{Exit, perform};
 use fmp_files::{Failure, Outside, read_file, write_file};
+use fmp_hostrun::Pace;
 use std::alloc::{AllocError, Global};
 use std::sync::Wait;
 use std::thread::Threads;
@@ -83,11 +84,12 @@ pub fn borrowed<'a>(alloc: Global, texts: &'a [Vec<u8>]) -> Result<Vec<&'a [u8]>
 }
 
 /// What a command writes to its file, and what it prints, given what was read.
-fn performed<R: Threads + Wait + Sync>(
+fn performed<P: Pace, R: Threads + Wait + Sync>(
     rt: &R,
     alloc: Global,
     cmd: &Cmd,
     texts: &[Vec<u8>],
+    pace: &P,
 ) -> Result<(Vec<u8>, Vec<u8>), Exit>
     requires writes { output_of cmd.now ≢ None }
     requires inputs { length texts.now ≡ input_count cmd.now }
@@ -97,7 +99,7 @@ fn performed<R: Threads + Wait + Sync>(
     ensures err { IfErr result (IsWhyNot cmd.now (map (λ t. t.items) texts.now)) }
 {
     match borrowed(alloc, texts) {
-        Ok(inputs) => perform(rt, alloc, cmd, &inputs),
+        Ok(inputs) => perform(rt, alloc, cmd, &inputs, pace),
         Err(error) => Err(Exit::Failed(Failure::Memory(error))),
     }
 }
@@ -124,12 +126,13 @@ pub fn write_output<O: Outside>(
 }
 
 /// Reads the files of a command that writes one, carries it out, writes its file, and gives what is to be printed. An
-/// error is why what was read is refused, a file on which a call failed, or out of memory.
-pub fn carry_out<O: Outside, R: Threads + Wait + Sync>(
+/// error is why what was read is refused, a file on which a call failed, or out of memory. A host goes at this pace.
+pub fn carry_out<O: Outside, P: Pace, R: Threads + Wait + Sync>(
     rt: &R,
     alloc: Global,
     outside: &mut O,
     cmd: &Cmd,
+    pace: &P,
 ) -> Result<Vec<u8>, Exit>
     requires writes { output_of cmd.now ≢ None }
     requires ranges { KeepsRanges cmd.now }
@@ -139,7 +142,7 @@ pub fn carry_out<O: Outside, R: Threads + Wait + Sync>(
     ensures output { O.output_can_fail outside.new ≡ O.output_can_fail outside.old }
 {
     let texts = read_inputs(alloc, outside, cmd)?;
-    let (file, out) = performed(rt, alloc, cmd, &texts)?;
+    let (file, out) = performed(rt, alloc, cmd, &texts, pace)?;
     write_output(alloc, outside, cmd, &file)?;
     Ok(out)
 }

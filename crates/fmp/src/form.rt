@@ -1,7 +1,7 @@
 //! The form of the command line.
 ghost use Rattle.std.specs.Prelude.{◌≡◌, IfOk, IsFalse, IsOkAnd, codes, true};
 ghost use Rattle.clap.specs.Words.{app_of, new_app, rule_of, with_rule, with_subcommand};
-ghost use Rattle.fmp.specs.Form.{bare_fmp, bound, build, check, count, file, fmp, host, sim};
+ghost use Rattle.fmp.specs.Form.{bare_fmp, bound, build, check, count, file, fmp, host, number, sim};
 
 use clap::builder::ValueParser;
 use clap::{Arg, Command};
@@ -32,6 +32,21 @@ service call, unless another event changes what runs there meanwhile";
 
 /// What ticks are.
 const TICKS: &str = "How many ticks the clock has, 0 to 2^20";
+
+/// The longest time from tick to tick, in microseconds.
+const TICK_US_MAX: u64 = 1_000_000;
+
+/// The largest number of an interrupt.
+const INTERRUPT_MAX: u64 = 32;
+
+/// What the time from tick to tick is.
+const TICK_US: &str = "Microseconds from tick to tick, 1 to 1000000: a processor with nothing to run
+waits, and standard error gets a summary; without it ticks come at once";
+
+/// What the interrupt is.
+const INTERRUPT: &str =
+    "Interrupt that each line 'int I' of standard input raises, 1 to 32: waits and
+summary as with --tick-us, without which the run lasts to the end of the input";
 
 /// What a bound is.
 const BOUND: &str = "How many instructions a body may take in a step, 1 to 2^48; where its next
@@ -71,7 +86,7 @@ Fault of a steps text, behind its line:
   S2       no processor P in the image, or I is not from 1 to 32
   S3       line 2^20 + 1: a run has at most 2^20 events
 Fault of a host:
-  H4       the turns of all processors and the ticks are together not 1 to 2^20
+  H4       the turns of all processors and the ticks, with --int 65536 more, are not 1 to 2^20
   H5       the system refused a thread";
 
 /// An example of `fmp check`.
@@ -97,7 +112,9 @@ const HOST_EXAMPLE: &str = "Example, with the image of the example of 'fmp build
   fmp host queue.img queue.journal --turns 7 --ticks 0
   fmp sim queue.img queue.journal
 
-Both print the same. 'fmp --help' lists the faults. With a fault no file is written.";
+Both print the same. 'fmp --help' lists the faults. With a fault no file is written.
+By the clock, with an interrupt for each line 'int 3' of standard input:
+  fmp host queue.img queue.journal --turns 1000 --ticks 500 --tick-us 10000 --int 3";
 
 /// A word that names a file, and has to be there.
 fn file_word<'a>(alloc: Global, id: &'a str, help: &'a str) -> Arg<'a>
@@ -162,6 +179,24 @@ fn count_option<'a>(alloc: Global, id: &'a str, value: &'a str, help: &'a str) -
         .value_name(value)
         .value_parser(ValueParser::unsigned(0, COUNT_MAX))
         .required(true)
+        .help(help)
+}
+
+/// An option with a number from 1 to this one.
+fn number_option<'a>(
+    alloc: Global,
+    id: &'a str,
+    value: &'a str,
+    most: u64,
+    help: &'a str,
+) -> Arg<'a>
+    ensures rule { rule_of result ≡ number id.entry.now most }
+    ensures local { IsFalse result.global }
+{
+    Arg::new(alloc, id)
+        .long(id)
+        .value_name(value)
+        .value_parser(ValueParser::unsigned(1, most))
         .help(help)
 }
 
@@ -255,6 +290,14 @@ pub fn host_command<'a>(alloc: Global) -> Result<Command<'a>, AllocError>
     let command = with_argument(command, file_word(alloc, "JOURNAL", JOURNAL));
     let command = with_argument(command, count_option(alloc, "turns", "T", TURNS));
     let command = with_argument(command, count_option(alloc, "ticks", "K", TICKS));
+    let command = with_argument(
+        command,
+        number_option(alloc, "tick-us", "U", TICK_US_MAX, TICK_US),
+    );
+    let command = with_argument(
+        command,
+        number_option(alloc, "int", "I", INTERRUPT_MAX, INTERRUPT),
+    );
     with_argument(command, bound_option(alloc))
 }
 

@@ -10,8 +10,11 @@
 mod asking;
 mod carrying;
 mod form;
+mod lines;
+mod pacing;
 mod perform;
 mod printing;
+mod progress;
 mod reading;
 mod running;
 

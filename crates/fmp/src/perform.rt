@@ -1,11 +1,11 @@
 //! Carrying out a command, from the bytes that were read to those that are to be written.
-ghost use Rattle.std.specs.Prelude.{◌≡◌, ◌≢◌, ◌++◌, ℕ, List, [], None, OnOk, IfErr, IfOk, codes, decimal, length, map, string_bytes};
+ghost use Rattle.std.specs.Prelude.{◌≡◌, ◌≢◌, ◌++◌, ℕ, List, [], None, OnOk, IfErr, IfOk, IfSome, codes, decimal, length, map, string_bytes};
 ghost use Rattle.fmp_image.specs.Building.{IsBuildFault};
 ghost use Rattle.fmp_engine.specs.Hosting.{IsWhyHost, IsWorkload};
 ghost use Rattle.fmp_engine.specs.Simulations.{IsWhySim};
-ghost use Rattle.fmp.specs.CommandRanges.{IsBound, KeepsRanges};
+ghost use Rattle.fmp.specs.CommandRanges.{IsBound, IsCount, IsInterrupt, KeepsRanges};
 ghost use Rattle.fmp.specs.Commands.{input_count, output_of};
-ghost use Rattle.fmp.specs.Performed.{BuildsFile, CarriesOut, Checks, HostsImage, IsWhyNoImage, IsWhyNoRun, IsWhyNot, IsWhyNotHosted, IsWhyNotRun, RunsImage, RunsTexts, status_of};
+ghost use Rattle.fmp.specs.Performed.{BuildsFile, CarriesOut, Checks, HostsImage, IsWhyNoImage, IsWhyNoRun, IsWhyNot, IsWhyNotHosted, IsWhyNotRun, RunsImage, RunsTexts, status_of, work_of};
 ghost use Rattle.fmp.specs.declared.perform.Exit.TheVariants.{Failed};
 ghost use Rattle.fmp.specs.Giving.{GivesText, IsStopped, IsWhyCut};
 
@@ -14,6 +14,7 @@ use fmp_engine::{
     HostFault, Outlet, SimCut, SimFault, Workload, build_image, check, host, sim_into,
 };
 use fmp_files::{Failure, Reason};
+use fmp_hostrun::Pace;
 use fmp_lex::BuildFault;
 use std::alloc::{AllocError, Global};
 use std::sync::Wait;
@@ -32,6 +33,9 @@ pub const STORED_STEPS: &str = "run 1\nrun 1\nrun 1\n";
 
 /// Its bound, in instructions per stretch.
 pub const STORED_BOUND: u64 = 100_000;
+
+/// The most interrupts that a host raises.
+pub const INTERRUPTS_MAX: u32 = 65_536;
 
 /// Why the program ends with nothing printed: its message is one line.
 #[derive(Debug, Drop, Error)]
@@ -183,11 +187,37 @@ fn simulated<T: Outlet>(
     }
 }
 
-/// Runs an image by threads: the journal, and what the image prints over it.
-fn hosted<R: Threads + Wait + Sync>(
+/// The workload that a command asks for.
+fn work_of(turns: u32, ticks: u32, bound: u64, interrupt: Option<u8>) -> Workload
+    requires counts { IsCount turns × IsCount ticks × IsBound bound }
+    requires interrupt { IfSome interrupt IsInterrupt }
+    ensures work { result ≡ work_of turns ticks bound interrupt }
+    ensures ranges { IsWorkload result }
+{
+    match interrupt {
+        Some(interrupt) => Workload {
+            turns,
+            ticks,
+            interrupt,
+            interrupts: INTERRUPTS_MAX,
+            bound,
+        },
+        None => Workload {
+            turns,
+            ticks,
+            interrupt: 1,
+            interrupts: 0,
+            bound,
+        },
+    }
+}
+
+/// Runs an image by threads at this pace: the journal, and what the image prints over it.
+fn hosted<P: Pace, R: Threads + Wait + Sync>(
     rt: &R,
     alloc: Global,
     image: &[u8],
+    pace: &P,
     work: Workload,
 ) -> Result<(Vec<u8>, Vec<u8>), Exit>
     requires { IsWorkload work }
@@ -196,7 +226,7 @@ fn hosted<R: Threads + Wait + Sync>(
 {
     let mut journal = Vec::new(alloc);
     let mut out = Vec::new(alloc);
-    match host(rt, alloc, image, work, &mut journal, &mut out) {
+    match host(rt, alloc, image, pace, work, &mut journal, &mut out) {
         Ok(()) => Ok((journal, out)),
         Err(fault) => Err(no_host(fault)),
     }
@@ -255,12 +285,13 @@ pub fn perform_into<T: Outlet>(
 }
 
 /// Carries out a command that writes a file, on the bytes of its files, in order of its words: what is to be written
-/// and what is to be printed.
-pub fn perform<R: Threads + Wait + Sync>(
+/// and what is to be printed. A host goes at this pace.
+pub fn perform<P: Pace, R: Threads + Wait + Sync>(
     rt: &R,
     alloc: Global,
     cmd: &Cmd,
     inputs: &[&[u8]],
+    pace: &P,
 ) -> Result<(Vec<u8>, Vec<u8>), Exit>
     requires writes { output_of cmd.now ≢ None }
     requires inputs { length inputs.now ≡ input_count cmd.now }
@@ -275,14 +306,11 @@ pub fn perform<R: Threads + Wait + Sync>(
             turns,
             ticks,
             bound,
+            interrupt,
             ..
         } => {
-            let work = Workload {
-                turns: *turns,
-                ticks: *ticks,
-                bound: *bound,
-            };
-            hosted(rt, alloc, inputs[0], work)
+            let work = work_of(*turns, *ticks, *bound, *interrupt);
+            hosted(rt, alloc, inputs[0], pace, work)
         }
         Cmd::Check { .. } | Cmd::Sim { .. } | Cmd::Stored => unreachable!(),
     }

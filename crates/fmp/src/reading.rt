@@ -1,8 +1,8 @@
 //! What a subcommand and its words ask for.
-ghost use Rattle.std.specs.Prelude.{◌≡◌, IfOk, codes, option_map, string_bytes};
+ghost use Rattle.std.specs.Prelude.{◌≡◌, IfOk, IfSome, codes, option_map, string_bytes};
 ghost use Rattle.clap.specs.Words.{found_of, rows_of, subcommand_rows_of};
-ghost use Rattle.fmp.specs.Asked.{HasNumber, HasWord, HasWords, IsAsked, IsGiven, IsGivenBound, IsGivenCount};
-ghost use Rattle.fmp.specs.CommandRanges.{IsBound, IsCount, KeepsRanges};
+ghost use Rattle.fmp.specs.Asked.{HasNumber, HasNumberIfGiven, HasWord, HasWords, IsAsked, IsGiven, IsGivenBound, IsGivenCount, IsNumberIfGiven};
+ghost use Rattle.fmp.specs.CommandRanges.{IsBound, IsCount, IsInterrupt, IsPeriod, KeepsRanges};
 
 use crate::asking::Cmd;
 use clap::ArgMatches;
@@ -56,6 +56,24 @@ fn count_of(words: &ArgMatches<'_>, id: &str) -> u32
     words.get_one::<u32>(id).unwrap()
 }
 
+/// How many microseconds there are from tick to tick, if the words give it.
+fn tick_us_of(words: &ArgMatches<'_>) -> Option<u32>
+    requires { IsNumberIfGiven 1000000 (rows_of (found_of words.now)) (codes "tick-us") }
+    ensures number { HasNumberIfGiven (rows_of (found_of words.now)) (codes "tick-us") result }
+    ensures range { IfSome result IsPeriod }
+{
+    words.get_one::<u32>("tick-us")
+}
+
+/// The interrupt that the words give, if they do.
+fn interrupt_of(words: &ArgMatches<'_>) -> Option<u8>
+    requires { IsNumberIfGiven 32 (rows_of (found_of words.now)) (codes "int") }
+    ensures number { HasNumberIfGiven (rows_of (found_of words.now)) (codes "int") result }
+    ensures range { IfSome result IsInterrupt }
+{
+    words.get_one::<u8>("int")
+}
+
 /// What a subcommand of this name asks for with its words.
 pub fn asked(alloc: Global, name: &str, words: &ArgMatches<'_>) -> Result<Cmd, AllocError>
     requires { HasWords name.now (rows_of (found_of words.now)) }
@@ -92,6 +110,8 @@ pub fn asked(alloc: Global, name: &str, words: &ArgMatches<'_>) -> Result<Cmd, A
                 turns: count_of(words, "turns"),
                 ticks: count_of(words, "ticks"),
                 bound: bound_of(words),
+                tick_us: tick_us_of(words),
+                interrupt: interrupt_of(words),
             })
         }
     }

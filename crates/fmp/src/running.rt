@@ -3,16 +3,19 @@ ghost use Rattle.std.specs.Prelude.{◌≡◌, ◌≢◌, ◌⊎◌, IsTrue, IsF
 ghost use Rattle.fmp.specs.CommandRanges.{KeepsRanges};
 ghost use Rattle.fmp_files.specs.Deeds.{Says};
 ghost use Rattle.fmp.specs.Commands.{input_count, output_of};
-ghost use Rattle.fmp.specs.Runs.{AreInputs, CanBeOver, Ends, EndsCommand, KeepsInputs};
+ghost use Rattle.fmp.specs.Runs.{AreInputs, CanBeOver, Ends, EndsCommand, KeepsInputs, SaysWhatCame, tells};
 
 use crate::asking::{Cmd, command, image_over_text, journal_over_image};
 use crate::carrying::{borrowed, carry_out, read_inputs};
+use crate::pacing::Pacer;
 use crate::perform::CommandCut;
 use crate::printing::print_performed;
 use fmp_files::{Failure, Outside, end, failed, print, refuse, refuse_mistake};
 use std::alloc::{AllocError, Global};
+use std::io::Input;
 use std::sync::Wait;
 use std::thread::Threads;
+use std::time::Clock;
 
 /// Whether the file that a command writes is one that it reads.
 #[tactic(auto, using(crate::proofs::Over::one_file, crate::proofs::Over::two_files))]
@@ -76,33 +79,69 @@ fn read_and_show<O: Outside>(alloc: Global, outside: &mut O, cmd: &Cmd) -> u8
     }
 }
 
+/// Whether it is said what came of a command.
+fn tells(cmd: &Cmd) -> bool
+    ensures { result ≡ tells cmd.now }
+{
+    match cmd {
+        Cmd::Host {
+            tick_us,
+            interrupt,
+            ..
+        } => tick_us.is_some() || interrupt.is_some(),
+        _ => false,
+    }
+}
+
+/// Says what came of a command, if that is to be said.
+fn say_arrivals<O: Outside, R: Wait>(outside: &mut O, cmd: &Cmd, pacer: &Pacer<'_, R>)
+    ensures { SaysWhatCame cmd.now (O.done outside.old) (O.done outside.new) }
+{
+    if tells(cmd) {
+        outside.say(pacer.arrivals());
+    }
+}
+
 /// Carries out a command that writes a file, writes it and then prints, and gives the status.
-fn write_and_print<O: Outside, R: Threads + Wait + Sync>(
+fn write_and_print<O: Outside, R: Threads + Wait + Clock + Input + Copy + Send + Sync + 'static>(
     rt: &R,
     alloc: Global,
     outside: &mut O,
     cmd: &Cmd,
 ) -> u8
+where
+    R::Reader: Send + 'static,
     requires ranges { KeepsRanges cmd.now }
     requires writes { output_of cmd.now ≢ None }
     requires kept { KeepsInputs (O.files outside.old) cmd.now }
     ensures { EndsCommand (O.files outside.old) (O.output_can_fail outside.old) cmd.now
         (O.done outside.old) (O.done outside.new) result }
 {
-    match carry_out(rt, alloc, outside, cmd) {
-        Ok(out) => print(alloc, outside, &out),
+    let pacer = match Pacer::new(rt, alloc, cmd) {
+        Ok(pacer) => pacer,
+        Err(error) => return end(outside, &Failure::Memory(error)),
+    };
+    pacer.start_reading();
+    match carry_out(rt, alloc, outside, cmd, &pacer) {
+        Ok(out) => {
+            let status = print(alloc, outside, &out);
+            say_arrivals(outside, cmd, &pacer);
+            status
+        }
         Err(exit) => end(outside, &exit),
     }
 }
 
 /// Does what a command asks for, and gives the status. Where it writes a file, it prints once that is written, and else
 /// while it goes on.
-fn run_command<O: Outside, R: Threads + Wait + Sync>(
+fn run_command<O: Outside, R: Threads + Wait + Clock + Input + Copy + Send + Sync + 'static>(
     rt: &R,
     alloc: Global,
     outside: &mut O,
     cmd: &Cmd,
 ) -> u8
+where
+    R::Reader: Send + 'static,
     requires { KeepsRanges cmd.now }
     ensures { EndsCommand (O.files outside.old) (O.output_can_fail outside.old) cmd.now
         (O.done outside.old) (O.done outside.new) result }
@@ -130,12 +169,14 @@ fn borrowed_words<'a>(alloc: Global, words: &'a [String]) -> Result<Vec<&'a str>
 /// Does what the words of a command line ask for, of which the first is the program's name, and gives the status: 0 if
 /// it is done, 1 for a fault of what was read or if there is no host for what was asked, 2 for a mistake in the words,
 /// 3 for a file on which a call failed, or if memory runs out.
-pub fn run<O: Outside, R: Threads + Wait + Sync>(
+pub fn run<O: Outside, R: Threads + Wait + Clock + Input + Copy + Send + Sync + 'static>(
     rt: &R,
     alloc: Global,
     outside: &mut O,
     words: &[String],
 ) -> u8
+where
+    R::Reader: Send + 'static,
     ensures { Ends (O.files outside.old) (O.output_can_fail outside.old) (map string_bytes words.now)
         (O.done outside.old) (O.done outside.new) result }
 {

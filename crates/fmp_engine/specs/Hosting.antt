@@ -11,7 +11,8 @@ use Rattle.fmp_codegen.specs.Tie.{longest}
 use Rattle.fmp_board.specs.declared.fault.BoardFault.{BoardFault}
 use Rattle.fmp_board.specs.declared.fault.BoardFault.TheVariants as board
 use Rattle.fmp_hostrun.specs.Counts.{AreCounted}
-use Rattle.fmp_hostrun.specs.Works.{IsRun}
+use Rattle.fmp_hostrun.specs.Works.{IsRun, most_of}
+use Rattle.fmp_hostrun.specs.declared.turns.Load.{Load}
 use Rattle.fmp_replay.specs.Replays.{IsLegal}
 use Rattle.fmp_image_parts.specs.declared.fault.LoadFault.TheVariants as load
 use Rattle.fmp_image_bytes.specs.Images.{ImageTables, Spells, image_at}
@@ -27,12 +28,25 @@ use Rattle.fmp_engine.specs.declared.hosting.Workload.{Workload}
 pub record IsWorkload (work : Workload) : Type 0 where
   pub turns : work.turns ≤ 2 ^ 20
   pub ticks : work.ticks ≤ 2 ^ 20
+  pub interrupt_low : 1 ≤ work.interrupt
+  pub interrupt_high : work.interrupt ≤ 32
+  pub interrupts : work.interrupts ≤ 2 ^ 20
   pub bound_low : 1 ≤ work.bound
   pub bound_high : work.bound ≤ 2 ^ 48
 
--- as many events as there are turns of all processors of an image, and ticks
+-- what the threads of an image's board are to do
+abbrev pub load_for : ImageTables → Workload → Load
+load_for i work = record {
+  processors = i.system.processors;
+  turns = work.turns;
+  ticks = work.ticks;
+  interrupt = work.interrupt;
+  interrupts = work.interrupts;
+}
+
+-- as many events as there are turns of all processors of an image, ticks, and interrupts that may come
 abbrev pub most_events : ImageTables → Workload → ℕ
-most_events i work = i.system.processors * work.turns + work.ticks
+most_events i work = most_of (load_for i work)
 
 -- a board has room for them
 pub record FitsBoard (i : ImageTables) (work : Workload) : Type 0 where
@@ -40,13 +54,14 @@ pub record FitsBoard (i : ImageTables) (work : Workload) : Type 0 where
   pub most : most_events i work ≤ 2 ^ 20
 
 -- a journal that the threads of an image's board made, which no gate held: each of its events was done, or kept a
--- place, where it stands, and they are at most `turns` runs of each processor, and at most `ticks` ticks
+-- place, where it stands, and they are at most `turns` runs of each processor, at most `ticks` ticks, and at most
+-- `interrupts` times the interrupt of the workload
 pub record IsHosted (i : ImageTables) (work : Workload) (journal : List Event) : Type 0 where
   pub fits : FitsBoard i work
   pub legal : IsLegal i work.bound journal
   pub count : length journal ≤ most_events i work
-  pub counted : AreCounted i.system.processors work.turns work.ticks journal
-  pub ran : IsRun i work.bound (Unit {0}) work.turns work.ticks journal
+  pub counted : AreCounted (load_for i work) journal
+  pub ran : IsRun i work.bound (Unit {0}) (load_for i work) journal
 
 -- The bytes spell an image, and its threads made a journal. What was appended to the file is the steps text of the
 -- journal, and what was appended to the output is all that the image prints over it, within the bound of a stretch.

@@ -3,13 +3,13 @@ ghost use Rattle.std.specs.Prelude.{◌≡◌, ◌≢◌, ◌+◌, ◌++◌, ◌
 ghost use Rattle.fmp_base.specs.Texts.{whole_text};
 ghost use Rattle.fmp_image.specs.Building.{Builds};
 ghost use Rattle.fmp_instructions.specs.Machine.{code_meaning};
-ghost use Rattle.fmp_engine.specs.Hosting.{FitsBoard, Hosts, HostsTexts, IsHosted, IsWhyHost, IsWhyNoJournal, IsWorkload, most_events};
+ghost use Rattle.fmp_engine.specs.Hosting.{FitsBoard, Hosts, HostsTexts, IsHosted, IsWhyHost, IsWhyNoJournal, IsWorkload, load_for};
 ghost use Rattle.fmp_engine.specs.Simulations.{Simulates};
 ghost use Rattle.fmp_engine.specs.declared.hosting.HostFault.TheVariants as host_fault;
 ghost use Rattle.fmp_board.specs.Boards.{IsAt, IsClosed, blank as blank_of};
 ghost use Rattle.fmp_board.specs.declared.fault.BoardFault.TheVariants.{Full, Held, Limit, Stale};
 ghost use Rattle.fmp_hostrun.specs.Counts.{AreCounted};
-ghost use Rattle.fmp_hostrun.specs.Works.{AllAdded, CameBackAs, IsAnswer, IsRun};
+ghost use Rattle.fmp_hostrun.specs.Works.{AllAdded, CameBackAs, IsAnswer, IsRun, most_of};
 ghost use Rattle.fmp_image_bytes.specs.Images.{ImageTables, Spells};
 ghost use Rattle.fmp_journal.specs.Seats.{AreNew};
 ghost use Rattle.fmp_steps.specs.Steps.{steps_text};
@@ -17,7 +17,7 @@ ghost use Rattle.fmp_steps.specs.Steps.{steps_text};
 use crate::events::Journal;
 use crate::play::play;
 use fmp_base::Event;
-use fmp_hostrun::{Blank, Board, BoardFault, Closed, Gate, Seat, Site, run_all};
+use fmp_hostrun::{Blank, Board, BoardFault, Closed, Gate, Load, Pace, Seat, Site, run_paced};
 use fmp_image::laws::built_image_prints_text;
 use fmp_image_bytes::{Image, LoadFault, load};
 use fmp_trace::{print_steps, printed_steps_read_back};
@@ -34,6 +34,10 @@ pub struct Workload {
     pub turns: u32,
     /// How many ticks the clock has, at most 2^20.
     pub ticks: u32,
+    /// The interrupt that may come, 1 to 32.
+    pub interrupt: u8,
+    /// At most how many times it comes, at most 2^20.
+    pub interrupts: u32,
     /// How many instructions a stretch of a body may take, 1 to 2^48.
     pub bound: u64,
 }
@@ -44,8 +48,8 @@ pub enum HostFault {
     /// The bytes spell no image. It is never out of memory.
     #[error("{0}")]
     Load(LoadFault),
-    /// The turns and ticks are no events or more than a board has room for, or a thread was refused. It is never out of
-    /// memory.
+    /// The turns, ticks and interrupts are no events or more than a board has room for, or a thread was refused. It is
+    /// never out of memory.
     #[error("host: {0}")]
     Board(BoardFault),
     /// Memory ran out.
@@ -77,49 +81,60 @@ fn fault_of(fault: BoardFault) -> HostFault
     }
 }
 
-/// Runs the turns and ticks of a workload on a board, by threads that no gate holds.
-fn run_work<S: Site + Send + Sync, R: Threads + Wait + Sync>(
+/// What the threads of an image's board are to do.
+fn load_for(image: &Image, work: Workload) -> Load
+    ensures load { result ≡ load_for image.now work }
+    ensures processors { result.processors ≤ 8 }
+{
+    Load {
+        processors: image.system().processors,
+        turns: work.turns,
+        ticks: work.ticks,
+        interrupt: work.interrupt,
+        interrupts: work.interrupts,
+    }
+}
+
+/// Runs a load on a board, by threads that no gate holds.
+fn run_work<S: Site + Send + Sync, P: Pace, R: Threads + Wait + Sync>(
     rt: &R,
     alloc: Global,
     board: &Board<'_, S>,
+    pace: &P,
     seats: Vec<Seat>,
-    work: Workload,
+    load: Load,
 ) -> (Vec<Seat>, Result<u32, BoardFault>)
     requires seats { All (IsAt S.row_id) seats.items }
-    requires count { length seats.items ≡ S.image.system.processors + 1 }
-    ensures answer { IsAnswer S.image S.bound S.row_id (Unit {0})
-        (record { processors = S.image.system.processors; turns = work.turns; ticks = work.ticks })
-        seats.items result.0.items result.1 }
-    ensures added { CameBackAs (AllAdded S.image S.bound S.row_id
-        (record { processors = S.image.system.processors; turns = work.turns; ticks = work.ticks }) 0)
-        seats.items result.0.items result.1 }
+    requires count { length seats.items ≡ load.processors + 2 }
+    ensures answer { IsAnswer S.image S.bound S.row_id (Unit {0}) load seats.items result.0.items result.1 }
+    ensures added { CameBackAs (AllAdded S.image S.bound S.row_id load 0) seats.items result.0.items result.1 }
     ensures at { All (IsAt S.row_id) result.0.items }
     ensures fault { IfErr result.1 (λ f. (f ≢ Limit) × (f ≢ Stale) × (f ≢ Held)) }
 {
-    run_all(rt, alloc, board, &OpenGate, seats, work.turns, work.ticks)
+    run_paced(rt, alloc, board, &OpenGate, pace, seats, load)
 }
 
-/// Opens a board, runs its threads, and closes it, with its seats. Its journal has room for all turns and ticks.
-fn run_board<'a, S: Site + Send + Sync, R: Threads + Wait + Sync>(
+/// Opens a board, runs its threads, and closes it, with its seats. Its journal has room for all that they are to do.
+fn run_board<'a, S: Site + Send + Sync, P: Pace, R: Threads + Wait + Sync>(
     rt: &R,
     alloc: Global,
     blank: Blank<'a>,
+    pace: &P,
     seats: Vec<Seat>,
-    work: Workload,
+    load: Load,
 ) -> Result<Closed<'a>, BoardFault>
     requires blank { blank ≡ blank_of S.image S.bound S.row_id }
     requires seats { All (IsAt S.row_id) seats.items }
     requires new { AreNew S.row_id seats.items }
-    requires count { S.row_id.seats ≡ S.image.system.processors + 1 }
-    requires room { S.row_id.capacity ≡ most_events S.image work }
+    requires count { S.row_id.seats ≡ load.processors + 2 }
+    requires room { S.row_id.capacity ≡ most_of load }
     ensures closed { IfOk result (IsClosed S.image S.bound S.row_id.capacity S.row_id.seats) }
-    ensures counted { IfOk result
-        (λ closed. AreCounted S.image.system.processors work.turns work.ticks closed.events) }
-    ensures ran { IfOk result (λ closed. IsRun S.image S.bound (Unit {0}) work.turns work.ticks closed.events) }
+    ensures counted { IfOk result (λ closed. AreCounted load closed.events) }
+    ensures ran { IfOk result (λ closed. IsRun S.image S.bound (Unit {0}) load closed.events) }
     ensures fault { IfErr result (λ f. (f ≢ Limit) × (f ≢ Stale) × (f ≢ Held) × (f ≢ Full)) }
 {
     let board: Board<'a, S> = blank.open();
-    let (seats, journaled) = run_work(rt, alloc, &board, seats, work);
+    let (seats, journaled) = run_work(rt, alloc, &board, pace, seats, load);
     let closed = board.close_all(seats);
     match journaled {
         Ok(_) => Ok(closed),
@@ -153,24 +168,26 @@ fn taken_events(alloc: Global, closed: Closed<'_>) -> Result<Vec<Event>, HostFau
 }
 
 /// The journal that the threads of a board of an image make.
-fn journal_of<R: Threads + Wait + Sync>(
+fn journal_of<P: Pace, R: Threads + Wait + Sync>(
     rt: &R,
     alloc: Global,
     image: &Image,
+    pace: &P,
     work: Workload,
 ) -> Result<Vec<Event>, HostFault>
     requires { IsWorkload work }
     ensures journal { IfOk result (λ events. IsHosted image.now work events.items) }
     ensures refused { IfErr result (λ f. IsWhyNoJournal f image.now work) }
 {
-    let processors = image.system().processors;
-    let capacity = u32::from(processors) * work.turns + work.ticks;
-    let (blank, seats) = match Blank::new(alloc, image, work.bound, capacity, processors + 1) {
+    let load = load_for(image, work);
+    let processors = load.processors;
+    let capacity = u32::from(processors) * work.turns + work.ticks + work.interrupts;
+    let (blank, seats) = match Blank::new(alloc, image, work.bound, capacity, processors + 2) {
         Ok(made) => made,
         Err(BoardFault::Memory) => return Err(HostFault::Memory),
         Err(_) => return Err(HostFault::Board(BoardFault::Limit)),
     };
-    let closed = match run_board::<Brand, _>(rt, alloc, blank, seats, work) {
+    let closed = match run_board::<Brand, _, _>(rt, alloc, blank, pace, seats, load) {
         Ok(closed) => closed,
         Err(fault) => return Err(fault_of(fault)),
     };
@@ -206,10 +223,11 @@ fn append_journal(
 }
 
 /// Loads an image, runs it by threads, and appends the journal and what the image prints over it.
-fn append_hosted<R: Threads + Wait + Sync>(
+fn append_hosted<P: Pace, R: Threads + Wait + Sync>(
     rt: &R,
     alloc: Global,
     image: &[u8],
+    pace: &P,
     work: Workload,
     file: &mut Vec<u8>,
     out: &mut Vec<u8>,
@@ -224,7 +242,7 @@ fn append_hosted<R: Threads + Wait + Sync>(
         Err(LoadFault::Memory) => return Err(HostFault::Memory),
         Err(fault) => return Err(HostFault::Load(fault)),
     };
-    let hosted = match journal_of(rt, alloc, &image, work) {
+    let hosted = match journal_of(rt, alloc, &image, pace, work) {
         Ok(journal) => append_journal(alloc, &image, work.bound, &journal, file, out).map_err(
             |_| HostFault::Memory,
         ),
@@ -234,18 +252,20 @@ fn append_hosted<R: Threads + Wait + Sync>(
     hosted
 }
 
-/// Loads an image, and runs it by threads: one for each processor makes the turns, each of which lets its processor run
-/// once, and one more makes the ticks. Then appends the journal of the events that did something to the file, as a
-/// steps text, and to the output the trace of the journal and the states of the tasks at its end.
+/// Loads an image, and runs it by threads at this pace: one for each processor makes the turns, each of which lets its
+/// processor run once, one more makes the ticks, and one the interrupts. Then appends to the file the journal of the
+/// events that did something, as a steps text, and to the output the trace of the journal and the states of the tasks
+/// at its end.
 ///
-/// The image is judged first. Then, with P processors, P * turns + ticks has to be 1 to 2^20, else it is
+/// The image is judged first. Then, with P processors, P * turns + ticks + interrupts has to be 1 to 2^20, else it is
 /// `HostFault::Board(BoardFault::Limit)`. It is `HostFault::Board(BoardFault::Thread)` where a thread was refused, and
-/// never another fault of a board. The journal has at most one event of each turn and tick, and no interrupts. After an
+/// never another fault of a board. The journal has at most one event of each turn, tick and interrupt. After an
 /// error nothing has been appended.
-pub fn host<R: Threads + Wait + Sync>(
+pub fn host<P: Pace, R: Threads + Wait + Sync>(
     rt: &R,
     alloc: Global,
     image: &[u8],
+    pace: &P,
     work: Workload,
     file: &mut Vec<u8>,
     out: &mut Vec<u8>,
@@ -263,5 +283,5 @@ pub fn host<R: Threads + Wait + Sync>(
 {
     built_image_prints_text();
     printed_steps_read_back();
-    append_hosted(rt, alloc, image, work, file, out)
+    append_hosted(rt, alloc, image, pace, work, file, out)
 }

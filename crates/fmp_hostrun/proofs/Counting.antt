@@ -1,7 +1,7 @@
 -- What stands in the journal of a closed board whose threads started with new seats.
-use Rattle.std.proofs.Common.{◌≡◌, ◌≢◌, ◌⊎◌, inl, inr, ℕ, zero, suc, ◌+◌, ◌*◌, ◌<◌, ◌≤◌, ◌==◌, nat_lt, Bool, true}
-use Rattle.std.proofs.Common.{false, true≢false, cond, List, [], ◌∷◌, ◌++◌, Some, Ok, Err, slice_get, length, filter}
-use Rattle.std.proofs.Common.{replicate, refl, sym, ap, ◌∙◌, subst, arith}
+use Rattle.std.proofs.Common.{◌≡◌, ◌≢◌, ◌⊎◌, inl, inr, ℕ, zero, suc, ◌+◌, ◌*◌, ◌<◌, ◌≤◌, ◌==◌, nat_eq, nat_lt, Bool}
+use Rattle.std.proofs.Common.{true, false, true≢false, cond, List, [], ◌∷◌, ◌++◌, Some, Ok, Err, slice_get, length}
+use Rattle.std.proofs.Common.{filter, replicate, refl, sym, ap, ◌∙◌, subst, arith}
 use Rattle.std.proofs.lemmas.List.{length-replicate}
 use Rattle.std.proofs.lemmas.List.Elements.{All-cons, All-nil, All-tail}
 use Rattle.std.proofs.lemmas.Option.{get_or_from_slice_get, slice_get_within}
@@ -10,7 +10,7 @@ use Rattle.std.proofs.Math.Nat.{suc-mul}
 use Rattle.std.specs.List.{All, AllByRecursion}
 use mathlib.Core.List.{IsPrefix}
 use Rattle.fmp_base.specs.declared.events.Event.{Event}
-use Rattle.fmp_base.specs.declared.events.Event.TheVariants.{Run, Tick}
+use Rattle.fmp_base.specs.declared.events.Event.TheVariants.{Int, Run, Tick}
 use Rattle.fmp_image_bytes.specs.Images.{ImageTables}
 use Rattle.fmp_journal.specs.declared.entry.JournalEntry.{JournalEntry}
 use Rattle.fmp_journal.specs.Seats.{AreNew, RowId, SeatState, events, new_seat}
@@ -21,8 +21,8 @@ use Rattle.fmp_board.specs.declared.fault.BoardFault.TheVariants as fault
 use Rattle.fmp_board.specs.Boards.{ClosedState, HasCounted, IsCountedBy}
 use Rattle.fmp_hostrun.specs.declared.turns.Load.{Load}
 use Rattle.fmp_hostrun.specs.declared.turns.ThreadPart.{ThreadPart}
-use Rattle.fmp_hostrun.specs.Counts.{AreCounted, IsTurnOrTick, is_run, is_tick}
-use Rattle.fmp_hostrun.specs.Works.{AllAdded, Added, CameBackAs, IsAnswer, IsRun, Job, jobs_of, load_of, part_at}
+use Rattle.fmp_hostrun.specs.Counts.{AreCounted, IsEventOf, is_interrupt, is_run, is_tick}
+use Rattle.fmp_hostrun.specs.Works.{AllAdded, Added, CameBackAs, IsAnswer, IsRun, Job, jobs_of, most_of, part_at}
 use Rattle.fmp_hostrun.proofs.Joining.{stopped, why_seen}
 use Rattle.fmp_hostrun.proofs.Working.{own_same}
 
@@ -157,73 +157,135 @@ count_none : (journal : List JournalEntry) → length (filter (λ (x : JournalEn
 count_none [] = refl
 count_none (x ∷ journal) = count_none journal
 
--- the part of a thread, by whether it runs a processor
-abbrev part_by : Load → Bool → (s : ℕ) → ThreadPart
-part_by load true s = record { event = Run (s + 1); times = load.turns }
-part_by load false s = record { event = Tick; times = load.ticks }
+-- the part of a thread, by its place
+data Kind (load : Load) (s : ℕ) : Type 0 where
+  runs : s < load.processors → Kind load s
+  ticks : s ≡ load.processors → Kind load s
+  interrupts : load.processors < s → Kind load s
 
-part_is : (load : Load) (s : ℕ) → part_at load s ≡ part_by load (nat_lt s load.processors) s
-part_is load s = by_test (nat_lt s load.processors)
+kind : (load : Load) (s : ℕ) → Kind load s
+kind load s = by_first (grind arith)
   where
-    by_test : (b : Bool) → cond b (record { event = Run (s + 1); times = load.turns })
-        (record { event = Tick; times = load.ticks }) ≡ part_by load b s
-    by_test true = refl
-    by_test false = refl
+    by_second : (s ≡ load.processors) ⊎ (load.processors < s) → Kind load s
+    by_second (inl is) = ticks is
+    by_second (inr past) = interrupts past
 
-run_seat : (load : Load) (b : Bool) (s q : ℕ) → is_run (suc q) (part_by load b s).event ≡ true → (s == q) ≡ true
-run_seat load true s q is = grind (arith, nat_tests, is)
-run_seat load false s q is = absurd (true≢false (sym is))
+    by_first : (s < load.processors) ⊎ (load.processors ≤ s) → Kind load s
+    by_first (inl lt) = runs lt
+    by_first (inr le) = by_second (grind (arith, le))
 
--- only the seats of processors have runs, of processors that there are
-no_run : (load : Load) (b : Bool) (s p : ℕ) → nat_lt s load.processors ≡ b → (p ≡ 0) ⊎ (load.processors < p)
-    → is_run p (part_by load b s).event ≡ true → false ≡ true
-no_run load true s p lt (inl none) is = absurd (grind (arith, nat_tests, is, none))
-no_run load true s p lt (inr past) is = absurd (grind (arith, nat_tests, is, past, lt))
-no_run load false s p lt other is = is
+abbrev runs_part : Load → (s : ℕ) → ThreadPart
+runs_part load s = record { event = Run (s + 1); times = load.turns }
 
-tick_seat : (load : Load) (b : Bool) (s m : ℕ) → nat_lt s load.processors ≡ b → s < m → m ≡ load.processors + 1
-    → is_tick (part_by load b s).event ≡ true → (s == load.processors) ≡ true
-tick_seat load true s m lt in_row size is = absurd (true≢false (sym is))
-tick_seat load false s m lt in_row size is = grind (arith, nat_tests, lt, in_row, size)
+abbrev ticks_part : Load → ThreadPart
+ticks_part load = record { event = Tick; times = load.ticks }
 
-turn_or_tick : (load : Load) (b : Bool) (s : ℕ) → nat_lt s load.processors ≡ b
-    → IsTurnOrTick load.processors (part_by load b s).event
-turn_or_tick load true s lt = (omega arith, grind (arith, nat_tests, lt))
-turn_or_tick load false s lt = tt
+abbrev interrupts_part : Load → ThreadPart
+interrupts_part load = record { event = Int load.interrupt; times = load.interrupts }
 
-times_of : (load : Load) (b : Bool) (s : ℕ) → nat_lt s load.processors ≡ b → s < load.processors
-    → (part_by load b s).times ≡ load.turns
-times_of load true s lt less = refl
-times_of load false s lt less = absurd (grind (arith, nat_tests, lt, less))
+part_runs : (load : Load) (s : ℕ) → s < load.processors → part_at load s ≡ runs_part load s
+part_runs load s lt =
+    let test : nat_lt s load.processors ≡ true = grind (arith, nat_tests, lt) in
+    ap (λ (b : Bool). cond b (runs_part load s) (cond (nat_eq s load.processors) (ticks_part load)
+    (interrupts_part load))) test
 
-ticks_of : (load : Load) (b : Bool) (s : ℕ) → nat_lt s load.processors ≡ b → s ≡ load.processors
-    → (part_by load b s).times ≡ load.ticks
-ticks_of load true s lt is = absurd (grind (arith, nat_tests, lt, is))
-ticks_of load false s lt is = refl
+part_late : (load : Load) (s : ℕ) → load.processors ≤ s
+    → part_at load s ≡ cond (nat_eq s load.processors) (ticks_part load) (interrupts_part load)
+part_late load s le =
+    let test : nat_lt s load.processors ≡ false = grind (arith, nat_tests, le) in
+    ap (λ (b : Bool). cond b (runs_part load s) (cond (nat_eq s load.processors) (ticks_part load)
+    (interrupts_part load))) test
+
+part_ticks : (load : Load) (s : ℕ) → s ≡ load.processors → part_at load s ≡ ticks_part load
+part_ticks load s is =
+    let test : nat_eq s load.processors ≡ true = grind (arith, nat_tests, is) in
+    part_late load s (omega (arith, is))
+    ∙ ap (λ (b : Bool). cond b (ticks_part load) (interrupts_part load)) test
+
+part_interrupts : (load : Load) (s : ℕ) → load.processors < s → part_at load s ≡ interrupts_part load
+part_interrupts load s past =
+    let test : nat_eq s load.processors ≡ false = grind (arith, nat_tests, past) in
+    part_late load s (omega (arith, past))
+    ∙ ap (λ (b : Bool). cond b (ticks_part load) (interrupts_part load)) test
 
 turns_at : (load : Load) (s : ℕ) → s < load.processors → (part_at load s).times ≡ load.turns
-turns_at load s less = ap (λ (p : ThreadPart). p.times) (part_is load s)
-    ∙ times_of load (nat_lt s load.processors) s refl less
+turns_at load s less = ap (λ (p : ThreadPart). p.times) (part_runs load s less)
 
 ticks_at : (load : Load) → (part_at load load.processors).times ≡ load.ticks
-ticks_at load = ap (λ (p : ThreadPart). p.times) (part_is load load.processors)
-    ∙ ticks_of load (nat_lt load.processors load.processors) load.processors refl refl
+ticks_at load = ap (λ (p : ThreadPart). p.times) (part_ticks load load.processors refl)
 
--- the event of an entry, by whether its seat is that of a processor
-event_by : (load : Load) (m : ℕ) (x : JournalEntry) → IsOf load m x → x.event
-    ≡ (part_by load (nat_lt x.seat load.processors) x.seat).event
-event_by load m x of = of.1 ∙ ap (λ (p : ThreadPart). p.event) (part_is load x.seat)
+interrupts_at : (load : Load) → (part_at load (suc load.processors)).times ≡ load.interrupts
+interrupts_at load = ap (λ (p : ThreadPart). p.times) (part_interrupts load (suc load.processors) (omega arith))
 
-all_turns_or_ticks : (load : Load) (m : ℕ) (journal : List JournalEntry) → AllByRecursion (IsOf load m) journal
-    → All (IsTurnOrTick load.processors) (events journal)
-all_turns_or_ticks load m [] all = All-nil (IsTurnOrTick load.processors)
-all_turns_or_ticks load m (x ∷ journal) all =
-    All-cons (IsTurnOrTick load.processors) x.event (events journal)
-    (subst (IsTurnOrTick load.processors) (sym (event_by load m x all.0))
-    (turn_or_tick load (nat_lt x.seat load.processors) x.seat refl))
-    (all_turns_or_ticks load m journal all.1)
+-- the event of an entry, by the place of its seat
+module _ (load : Load) (s : ℕ) (e : Event) (is : e ≡ (part_at load s).event) where
+  is_of_run : s < load.processors → e ≡ Run (s + 1)
+  is_of_run lt = is ∙ ap (λ (p : ThreadPart). p.event) (part_runs load s lt)
 
-few_runs : (load : Load) (m : ℕ) (journal : List JournalEntry) → m ≡ load.processors + 1
+  is_of_tick : s ≡ load.processors → e ≡ Tick
+  is_of_tick same = is ∙ ap (λ (p : ThreadPart). p.event) (part_ticks load s same)
+
+  is_of_interrupt : load.processors < s → e ≡ Int load.interrupt
+  is_of_interrupt past = is ∙ ap (λ (p : ThreadPart). p.event) (part_interrupts load s past)
+
+  -- it is one of the load
+  event_of_load : IsEventOf load e
+  event_of_load = by_kind (kind load s)
+    where
+      by_kind : Kind load s → IsEventOf load e
+      by_kind (runs lt) = subst (IsEventOf load) (sym (is_of_run lt)) (omega arith, omega (arith, lt))
+      by_kind (ticks same) = subst (IsEventOf load) (sym (is_of_tick same)) tt
+      by_kind (interrupts past) = subst (IsEventOf load) (sym (is_of_interrupt past)) refl
+
+  -- the seat of a processor runs that one
+  run_seat : (q : ℕ) → is_run (suc q) e ≡ true → (s == q) ≡ true
+  run_seat q one = by_kind (kind load s)
+    where
+      by_kind : Kind load s → (s == q) ≡ true
+      by_kind (runs lt) =
+          let same : (s + 1 == suc q) ≡ true = sym (ap (is_run (suc q)) (is_of_run lt)) ∙ one in
+          grind (arith, nat_tests, same)
+      by_kind (ticks same) = absurd (true≢false (sym (sym (ap (is_run (suc q)) (is_of_tick same)) ∙ one)))
+      by_kind (interrupts past) = absurd (true≢false (sym (sym (ap (is_run (suc q)) (is_of_interrupt past)) ∙ one)))
+
+  -- only the seats of processors have runs, of processors that there are
+  no_run : (p : ℕ) → (p ≡ 0) ⊎ (load.processors < p) → is_run p e ≡ true → false ≡ true
+  no_run p other one = by_kind (kind load s) other
+    where
+      by_kind : Kind load s → (p ≡ 0) ⊎ (load.processors < p) → false ≡ true
+      by_kind (runs lt) (inl none) =
+          let same : (s + 1 == p) ≡ true = sym (ap (is_run p) (is_of_run lt)) ∙ one in
+          absurd (grind (arith, nat_tests, same, none))
+      by_kind (runs lt) (inr past) =
+          let same : (s + 1 == p) ≡ true = sym (ap (is_run p) (is_of_run lt)) ∙ one in
+          absurd (grind (arith, nat_tests, same, past, lt))
+      by_kind (ticks same) o = sym (ap (is_run p) (is_of_tick same)) ∙ one
+      by_kind (interrupts past) o = sym (ap (is_run p) (is_of_interrupt past)) ∙ one
+
+  tick_seat : is_tick e ≡ true → (s == load.processors) ≡ true
+  tick_seat one = by_kind (kind load s)
+    where
+      by_kind : Kind load s → (s == load.processors) ≡ true
+      by_kind (runs lt) = absurd (true≢false (sym (sym (ap is_tick (is_of_run lt)) ∙ one)))
+      by_kind (ticks same) = grind (arith, nat_tests, same)
+      by_kind (interrupts past) = absurd (true≢false (sym (sym (ap is_tick (is_of_interrupt past)) ∙ one)))
+
+  interrupt_seat : s < load.processors + 2 → is_interrupt e ≡ true → (s == suc load.processors) ≡ true
+  interrupt_seat within one = by_kind (kind load s)
+    where
+      by_kind : Kind load s → (s == suc load.processors) ≡ true
+      by_kind (runs lt) = absurd (true≢false (sym (sym (ap is_interrupt (is_of_run lt)) ∙ one)))
+      by_kind (ticks same) = absurd (true≢false (sym (sym (ap is_interrupt (is_of_tick same)) ∙ one)))
+      by_kind (interrupts past) = grind (arith, nat_tests, past, within)
+
+all_of_load : (load : Load) (m : ℕ) (journal : List JournalEntry) → AllByRecursion (IsOf load m) journal
+    → All (IsEventOf load) (events journal)
+all_of_load load m [] all = All-nil (IsEventOf load)
+all_of_load load m (x ∷ journal) all =
+    All-cons (IsEventOf load) x.event (events journal) (event_of_load load x.seat x.event all.0.1)
+    (all_of_load load m journal all.1)
+
+few_runs : (load : Load) (m : ℕ) (journal : List JournalEntry) → m ≡ load.processors + 2
     → AllByRecursion (IsOf load m) journal → ((s : ℕ) → s < m → IsOwn load s journal) → (p : ℕ)
     → length (filter (is_run p) (events journal)) ≤ load.turns
 few_runs load m journal size all owns p = by_number p (grind arith)
@@ -231,8 +293,7 @@ few_runs load m journal size all owns p = by_number p (grind arith)
     never : (p ≡ 0) ⊎ (load.processors < p) → length (filter (is_run p) (events journal)) ≤ load.turns
     never other =
         let most = count_most (IsOf load m) (is_run p) (λ (x : JournalEntry). false)
-        (λ x of is. no_run load (nat_lt x.seat load.processors) x.seat p refl other
-        (sym (ap (is_run p) (event_by load m x of)) ∙ is)) journal all in
+        (λ x of is. no_run load x.seat x.event of.1 p other is) journal all in
         omega (arith, most, count_none journal)
 
     by_side : (q : ℕ) → p ≡ suc q → (load.processors < p) ⊎ (p ≤ load.processors)
@@ -240,8 +301,7 @@ few_runs load m journal size all owns p = by_number p (grind arith)
     by_side q is (inl past) = never (inr past)
     by_side q is (inr within) =
         let most = count_most (IsOf load m) (is_run (suc q)) (λ (x : JournalEntry). x.seat == q)
-        (λ x of one. run_seat load (nat_lt x.seat load.processors) x.seat q
-        (sym (ap (is_run (suc q)) (event_by load m x of)) ∙ one)) journal all in
+        (λ x of one. run_seat load x.seat x.event of.1 q one) journal all in
         let few = (owns q (omega (arith, is, within, size))).few in
         let same : length (filter (is_run p) (events journal))
         ≡ length (filter (is_run (suc q)) (events journal)) = ap (λ (k : ℕ). length
@@ -252,29 +312,38 @@ few_runs load m journal size all owns p = by_number p (grind arith)
     by_number zero is = never (inl is)
     by_number (suc q) is = by_side q is (grind arith)
 
-few_ticks : (load : Load) (m : ℕ) (journal : List JournalEntry) → m ≡ load.processors + 1
+few_ticks : (load : Load) (m : ℕ) (journal : List JournalEntry) → m ≡ load.processors + 2
     → AllByRecursion (IsOf load m) journal → ((s : ℕ) → s < m → IsOwn load s journal)
     → length (filter is_tick (events journal)) ≤ load.ticks
 few_ticks load m journal size all owns =
     let most = count_most (IsOf load m) is_tick (λ (x : JournalEntry). x.seat == load.processors)
-    (λ x of one. tick_seat load (nat_lt x.seat load.processors) x.seat m refl of.0 size
-    (sym (ap is_tick (event_by load m x of)) ∙ one)) journal all in
+    (λ x of one. tick_seat load x.seat x.event of.1 one) journal all in
     let few = (owns load.processors (omega (arith, size))).few in
     omega (arith, most, few, ticks_at load)
 
+few_interrupts : (load : Load) (m : ℕ) (journal : List JournalEntry) → m ≡ load.processors + 2
+    → AllByRecursion (IsOf load m) journal → ((s : ℕ) → s < m → IsOwn load s journal)
+    → length (filter is_interrupt (events journal)) ≤ load.interrupts
+few_interrupts load m journal size all owns =
+    let most = count_most (IsOf load m) is_interrupt (λ (x : JournalEntry). x.seat == suc load.processors)
+    (λ x of one. interrupt_seat load x.seat x.event of.1 (omega (arith, of.0, size)) one) journal all in
+    let few = (owns (suc load.processors) (omega (arith, size))).few in
+    omega (arith, most, few, interrupts_at load)
+
 pub are_counted : (i : ImageTables) (n : ℕ) (row : RowId) (load : Load) (seats back : List SeatState)
-    (closed : ClosedState) → AreNew row seats → row.seats ≡ load.processors + 1
+    (closed : ClosedState) → AreNew row seats → row.seats ≡ load.processors + 2
     → AllAdded i n row load 0 seats back → IsCountedBy i n row.capacity row.seats back closed
-    → AreCounted load.processors load.turns load.ticks closed.events
+    → AreCounted load closed.events
 are_counted i n row load seats back closed new size all c =
     let owns = own_at i n row load seats back c.journal new all c.counted in
     let of = all_of load row.seats c.journal (by_recursion (λ x. x.seat < row.seats) c.journal c.journal_is.seats)
     (λ s lt. (owns s lt).are) in
-    subst (AreCounted load.processors load.turns load.ticks) (sym c.events_are)
+    subst (AreCounted load) (sym c.events_are)
     (record {
-      each = all_turns_or_ticks load row.seats c.journal of;
+      each = all_of_load load row.seats c.journal of;
       few_runs = few_runs load row.seats c.journal size of owns;
       few_ticks = few_ticks load row.seats c.journal size of owns;
+      few_interrupts = few_interrupts load row.seats c.journal size of owns;
     })
 
 -- how many entries there are
@@ -329,10 +398,10 @@ owned_fewer turns (suc m) s journal few lt less =
         omega (arith, owned_most turns m journal (λ t le. few t (omega (arith, le))), here, less, suc-mul m turns)
 
 -- a journal is shorter than the sum of all parts where one seat has fewer entries than its part allows
-fewer : (load : Load) (m s : ℕ) (journal : List JournalEntry) → m ≡ load.processors + 1
+fewer : (load : Load) (m s : ℕ) (journal : List JournalEntry) → m ≡ load.processors + 2
     → AllByRecursion (λ x. x.seat < m) journal → ((t : ℕ) → t < m → IsOwn load t journal) → s < m
-    → length (own s journal) < (part_at load s).times → length journal < load.processors * load.turns + load.ticks
-fewer load m s journal size seats owns lt less = by_place (grind (arith, lt, size))
+    → length (own s journal) < (part_at load s).times → length journal < most_of load
+fewer load m s journal size seats owns lt less = by_place (grind arith)
   where
     P : ℕ
     P = load.processors
@@ -340,27 +409,40 @@ fewer load m s journal size seats owns lt less = by_place (grind (arith, lt, siz
     turns : (t : ℕ) → t < P → length (own t journal) ≤ load.turns
     turns t le = omega (arith, (owns t (omega (arith, le, size))).few, turns_at load t le)
 
-    all : owned (suc P) journal ≡ length journal
+    all : owned (suc (suc P)) journal ≡ length journal
     all =
-        let same : suc P ≡ m = omega (arith, size) in
+        let same : suc (suc P) ≡ m = omega (arith, size) in
         ap (λ (k : ℕ). owned k journal) same ∙ owned_all m journal seats
 
-    ticks : length (own P journal) ≤ load.ticks
-    ticks = omega (arith, (owns P (omega (arith, size))).few, ticks_at load)
+    ticks_few : length (own P journal) ≤ load.ticks
+    ticks_few = omega (arith, (owns P (omega (arith, size))).few, ticks_at load)
 
-    by_place : (s < P) ⊎ (s ≡ P) → length journal < P * load.turns + load.ticks
+    interrupts_few : length (own (suc P) journal) ≤ load.interrupts
+    interrupts_few = omega (arith, (owns (suc P) (omega (arith, size))).few, interrupts_at load)
+
+    by_late : (s ≡ P) ⊎ (s ≡ suc P) → length journal < P * load.turns + load.ticks + load.interrupts
+    by_late (inl same) =
+        let here : length (own P journal) ≡ length (own s journal) = ap (λ (k : ℕ). length (own k journal))
+        (sym same) in
+        let part : (part_at load s).times ≡ load.ticks = ap (λ (k : ℕ). (part_at load k).times) same ∙ ticks_at load in
+        omega (arith, all, owned_most load.turns P journal turns, here, part, less, interrupts_few)
+    by_late (inr same) =
+        let here : length (own (suc P) journal) ≡ length (own s journal) = ap (λ (k : ℕ). length (own k journal))
+        (sym same) in
+        let part : (part_at load s).times ≡ load.interrupts = ap (λ (k : ℕ). (part_at load k).times) same
+        ∙ interrupts_at load in
+        omega (arith, all, owned_most load.turns P journal turns, here, part, less, ticks_few)
+
+    by_place : (s < P) ⊎ (P ≤ s) → length journal < P * load.turns + load.ticks + load.interrupts
     by_place (inl before) = omega (
       arith,
       all,
-      ticks,
+      ticks_few,
+      interrupts_few,
       owned_fewer load.turns P s journal turns before
           (omega (arith, less, turns_at load s before)),
     )
-    by_place (inr last) =
-        let here : length (own P journal) ≡ length (own s journal) = ap (λ (k : ℕ). length (own k journal))
-        (sym last) in
-        let part : (part_at load s).times ≡ load.ticks = ap (λ (k : ℕ). (part_at load k).times) last ∙ ticks_at load in
-        omega (arith, all, owned_most load.turns P journal turns, here, part, less)
+    by_place (inr late) = by_late (grind (arith, lt, size, late))
 
 job_at : (load : Load) (place s : ℕ) (seats : List SeatState) (j : Job) → slice_get (jobs_of load place seats) s
     ≡ Some j → (j.part ≡ part_at load (place + s)) × (slice_get seats s ≡ Some j.seat)
@@ -380,10 +462,10 @@ prefix_length xs ys p = omega (arith, ap length (sym p.1), length_both xs p.0)
     length_both [] vs = omega arith
     length_both (u ∷ us) vs = let i = length_both us vs in omega (arith, i)
 
--- threads of new seats never find a journal full that has room for all their turns and ticks
+-- threads of new seats never find a journal full that has room for all that they are to do
 pub never_full : (i : ImageTables) (n : ℕ) (row : RowId) (always : Type 0) (load : Load) (seats back : List SeatState)
     (closed : ClosedState) → AreNew row seats
-    → row.seats ≡ load.processors + 1 → row.capacity ≡ load.processors * load.turns + load.ticks
+    → row.seats ≡ load.processors + 2 → row.capacity ≡ most_of load
     → AllAdded i n row load 0 seats back → IsCountedBy i n row.capacity row.seats back closed
     → IsAnswer i n row always load seats back (Err fault.Full) → ⊥
 never_full i n row always load seats back closed new size room all c joined =
@@ -402,7 +484,7 @@ never_full i n row always load seats back closed new size room all c joined =
     let times : s.job.part.times ≡ (part_at load s.place).times = ap (λ (p : ThreadPart). p.times) part in
     let mine : length (own s.place c.journal) ≡ s.seat.mine = ap (λ (k : ℕ). length (own k c.journal)) (sym number)
     ∙ counted.1 in
-    let short : length c.journal < load.processors * load.turns + load.ticks =
+    let short : length c.journal < most_of load =
     fewer load row.seats s.place c.journal size (by_recursion (λ x. x.seat < row.seats) c.journal c.journal_is.seats)
     owns lt (omega (arith, mine, s.mine, none, times)) in
     absurd (omega (
@@ -422,15 +504,15 @@ never_full i n row always load seats back closed new size room all c joined =
 
 pub counted_ok : (i : ImageTables) (n : ℕ) (row : RowId) (load : Load) (seats back : List SeatState)
     (closed : ClosedState) (count : ℕ) → AreNew row seats
-    → row.seats ≡ load.processors + 1 → CameBackAs (AllAdded i n row load 0) seats back (Ok count)
+    → row.seats ≡ load.processors + 2 → CameBackAs (AllAdded i n row load 0) seats back (Ok count)
     → IsCountedBy i n row.capacity row.seats back closed
-    → AreCounted load.processors load.turns load.ticks closed.events
+    → AreCounted load closed.events
 counted_ok i n row load seats back closed count new size came c = are_counted i n row load seats back closed new size
     (came.all (λ e. absurd (cc e))) c
 
 pub not_full : (i : ImageTables) (n : ℕ) (row : RowId) (always : Type 0) (load : Load) (seats back : List SeatState)
     (closed : ClosedState) (f : BoardFault) → AreNew row seats
-    → row.seats ≡ load.processors + 1 → row.capacity ≡ load.processors * load.turns + load.ticks
+    → row.seats ≡ load.processors + 2 → row.capacity ≡ most_of load
     → CameBackAs (AllAdded i n row load 0) seats back (Err f)
     → IsCountedBy i n row.capacity row.seats back closed → IsAnswer i n row always load seats back (Err f)
     → f ≢ fault.Full
@@ -438,14 +520,12 @@ not_full i n row always load seats back closed f new size room came c answer is 
     never_full i n row always load seats back closed new size room (came.all (λ e. absurd (cc (e, is)))) c
     (subst (λ (g : BoardFault). IsAnswer i n row always load seats back (Err g)) is answer)
 
--- what the threads of a board journaled that has room for all their turns and ticks
-pub is_run_of : (i : ImageTables) (n : ℕ) (row : RowId) (always : Type 0) (turns ticks : ℕ)
-    (seats back : List SeatState) (closed : ClosedState) (count : ℕ) → AreNew row seats
-    → row.seats ≡ i.system.processors + 1 → row.capacity ≡ i.system.processors * turns + ticks
-    → IsAnswer i n row always (load_of i turns ticks) seats back (Ok count)
-    → IsCountedBy i n row.capacity row.seats back closed
-    → IsRun i n always turns ticks closed.events
-is_run_of i n row always turns ticks seats back closed count new size room answer c = record {
+-- what the threads of a board journaled that has room for all that they are to do
+pub is_run_of : (i : ImageTables) (n : ℕ) (row : RowId) (always : Type 0) (load : Load) (seats back : List SeatState)
+    (closed : ClosedState) (count : ℕ) → AreNew row seats → row.seats ≡ load.processors + 2
+    → row.capacity ≡ most_of load → IsAnswer i n row always load seats back (Ok count)
+    → IsCountedBy i n row.capacity row.seats back closed → IsRun i n always load closed.events
+is_run_of i n row always load seats back closed count new size room answer c = record {
   row = row;
   size = size;
   capacity = room;

@@ -12,7 +12,7 @@ use Rattle.fmp_board.specs.declared.fault.BoardFault.TheVariants as fault
 use Rattle.fmp_hostrun.specs.declared.turns.Load.{Load}
 use Rattle.fmp_hostrun.specs.declared.turns.ThreadPart.{ThreadPart}
 use Rattle.fmp_hostrun.specs.Works.{AllAdded, Added, AreRun, GaveBack, Gave, HasFull, IsAnswer, IsWhyStopped, Job}
-use Rattle.fmp_hostrun.specs.Works.{AllGave, both, gave, job_of, jobs_of, mine_of, part_at, seats_of, total}
+use Rattle.fmp_hostrun.specs.Works.{AllGave, both, gave, job_of, jobs_of, load_of, mine_of, part_at, seats_of, total}
 use Rattle.fmp_hostrun.proofs.Starting.{none_left}
 
 -- jobs whose parts are those of threads from this place on
@@ -232,16 +232,11 @@ is_answer i n row always load seats back (Err fault.Stale) r =
     absurd (other_fault i n row always _ back fault.Stale (r.worked (λ e. absurd (cc))) (λ e. absurd (cc))
     (λ e. absurd (cc)))
 
--- the same of the count of processors that a board tells
-pub is_answer_for : (i : ImageTables) (n : ℕ) (row : RowId) (always : Type 0) (told processors turns ticks : ℕ)
-    (seats back : List SeatState) (answer : Result ℕ BoardFault)
-    → told ≡ processors → AreRun i n row always (record { processors = told; turns = turns; ticks = ticks }) seats
-    back answer
-    → IsAnswer i n row always (record { processors = processors; turns = turns; ticks = ticks }) seats back answer
-is_answer_for i n row always told processors turns ticks seats back answer is r =
-    subst (λ (p : ℕ). IsAnswer i n row always (record { processors = p; turns = turns; ticks = ticks }) seats back
-    answer) is
-    (is_answer i n row always _ seats back answer r)
+-- a load of the count of processors that a board tells
+pub told_load : (i : ImageTables) (told turns ticks : ℕ) → told ≡ i.system.processors
+    → record { processors = told; turns = turns; ticks = ticks; interrupt = 0; interrupts = 0 } ≡ load_of i turns ticks
+told_load i told turns ticks is =
+    ap (λ (p : ℕ). record { processors = p; turns = turns; ticks = ticks; interrupt = 0; interrupts = 0 }) is
 
 pub not_limit : (i : ImageTables) (n : ℕ) (row : RowId) (always : Type 0) (load : Load) (seats back : List SeatState)
     (answer : Result ℕ BoardFault)
@@ -326,7 +321,7 @@ more_of i n row always j s (Ok count) g = (g.finished.1, g.finished.2)
 more_of i n row always j s (Err f) g = tt
 
 pub counts_fit : (capacity threads : ℕ) (jobs : List Job) (back : List SeatState) (j : Job) (s : SeatState)
-    (journaled more : Result ℕ BoardFault) → capacity ≤ 2 ^ 20 → threads ≤ 255
+    (journaled more : Result ℕ BoardFault) → capacity ≤ 2 ^ 20 → threads ≤ 256
     → IfOk journaled (IsCount threads jobs back) → IfOk more (IsMore capacity j s)
     → IfOk journaled (λ count. IfOk more (λ further. count + further < 2 ^ 32))
 counts_fit capacity threads jobs back j s (Err f) more small few c m = tt

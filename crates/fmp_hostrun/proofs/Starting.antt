@@ -231,5 +231,5 @@ all_as_they_were i n row load seats result other = record {
 pub kept_as_they_were : (i : ImageTables) (n : ℕ) (row : RowId) (seats : List SeatState)
     (result : Result ℕ BoardFault) → result ≢ Err fault.Thread → CameBack (Kept i n row) seats seats result
 kept_as_they_were i n row seats result other =
-    let load : Load = record { processors = 0; turns = 0; ticks = 0 } in
+    let load : Load = record { processors = 0; turns = 0; ticks = 0; interrupt = 0; interrupts = 0 } in
     kept_back i n row load seats seats result (all_as_they_were i n row load seats result other)

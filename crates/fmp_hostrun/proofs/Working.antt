@@ -25,9 +25,9 @@ use Rattle.fmp_board.specs.Outcomes.{actor_after, stamp_after}
 use Rattle.fmp_journal.specs.Receipts.{receipt_of}
 use Rattle.fmp_replay.specs.Replays.{reaction}
 use Rattle.fmp_board.specs.Visits.{FedAfter, Fed, Kept, Visited, entered, journaled}
-use Rattle.fmp_hostrun.specs.Works.{Added, DidOnce, DidTimes, IsCounted, IsFed, IsWhyStopped}
+use Rattle.fmp_hostrun.specs.Works.{Added, DidOnce, DidPart, DidTimes, IsCounted, IsFed, IsWhyStopped}
 use Rattle.fmp_board.proofs.Drawing.{stamp_of_actor}
-use Rattle.fmp_board.proofs.Visiting.{kept_none, kept_more, kept_on}
+use Rattle.fmp_board.proofs.Visiting.{kept_none, kept_more, kept_on, prefix_then}
 
 -- entries of one seat
 
@@ -100,6 +100,16 @@ answer_added n before was now journal e (steps.Kept p w) (Ok y) begins is answer
 kept_visit : (i : ImageTables) (n : ℕ) (row : RowId) (was now : SeatState) → Visited i n row was now
     → Kept i n row was now
 kept_visit i n row was now v = kept_more i n row was was now (kept_none i n row was was refl) v
+
+-- two calls, one after the other
+pub visited_on : (i : ImageTables) (n : ℕ) (row : RowId) (was mid now : SeatState) → Visited i n row was mid
+    → Visited i n row mid now → Visited i n row was now
+visited_on i n row was mid now a b = record {
+  same = b.same ∙ ap (λ (s : SeatState). record s { seen = now.seen; mine = now.mine }) a.same;
+  grows = prefix_then was.seen mid.seen now.seen a.grows b.grows;
+  journal = b.journal;
+  counted = b.counted;
+}
 
 own_number : (i : ImageTables) (n : ℕ) (row : RowId) (was now : SeatState) → Kept i n row was now → now.number
     ≡ was.number
@@ -417,6 +427,20 @@ did_more i n row e times was mid now all once =
     let next : suc times ≡ times + 1 = omega arith in
     subst (λ (k : ℕ). DidTimes i n row e k was now) next (mid, all, once)
 
-pub did_all : (i : ImageTables) (n : ℕ) (row : RowId) (e : Event) (times all : ℕ) (was now : SeatState)
+did_all : (i : ImageTables) (n : ℕ) (row : RowId) (e : Event) (times all : ℕ) (was now : SeatState)
     → DidTimes i n row e times was now → times ≡ all → DidTimes i n row e all was now
 did_all i n row e times all was now did is = subst (λ (k : ℕ). DidTimes i n row e k was now) is did
+
+-- all of a part, or some of it
+
+pub did_turns : (i : ImageTables) (n : ℕ) (row : RowId) (p times all : ℕ) (was now : SeatState)
+    → DidTimes i n row (Run p) times was now → times ≡ all → DidPart i n row (Run p) all was now
+did_turns i n row p times all was now did is = did_all i n row (Run p) times all was now did is
+
+pub did_ticks : (i : ImageTables) (n : ℕ) (row : RowId) (times all : ℕ) (was now : SeatState)
+    → DidTimes i n row Tick times was now → times ≡ all → DidPart i n row Tick all was now
+did_ticks i n row times all was now did is = did_all i n row Tick times all was now did is
+
+pub did_some : (i : ImageTables) (n : ℕ) (row : RowId) (h times most : ℕ) (was now : SeatState)
+    → DidTimes i n row (Int h) times was now → times ≤ most → DidPart i n row (Int h) most was now
+did_some i n row h times most was now did few = (times, few, did)

@@ -1,14 +1,15 @@
 -- The events that the threads of a board make.
-use Rattle.std.specs.Prelude.{ℕ, ◌≤◌, ◌==◌, Bool, true, false, List, length}
+use Rattle.std.specs.Prelude.{◌≡◌, ℕ, ◌≤◌, ◌==◌, Bool, true, false, List, length}
 use Rattle.std.specs.List.{All, filter}
 use Rattle.fmp_base.specs.declared.events.Event.{Event}
 use Rattle.fmp_base.specs.declared.events.Event.TheVariants.{Run, Tick, Int}
+use Rattle.fmp_hostrun.specs.declared.turns.Load.{Load}
 
--- a run of one of these processors, or a tick
-abbrev pub IsTurnOrTick : (processors : ℕ) → Event → Type 0
-IsTurnOrTick processors (Run p) = (1 ≤ p) × (p ≤ processors)
-IsTurnOrTick processors Tick = Unit {0}
-IsTurnOrTick processors (Int i) = ⊥
+-- a run of one of its processors, a tick, or its interrupt
+abbrev pub IsEventOf : Load → Event → Type 0
+IsEventOf load (Run p) = (1 ≤ p) × (p ≤ load.processors)
+IsEventOf load Tick = Unit {0}
+IsEventOf load (Int i) = i ≡ load.interrupt
 
 -- whether an event is a run of processor p
 abbrev pub is_run : (p : ℕ) → Event → Bool
@@ -22,8 +23,15 @@ is_tick (Run p) = false
 is_tick Tick = true
 is_tick (Int i) = false
 
--- each event is a run of one of these processors or a tick, with at most `turns` runs of each and at most `ticks` ticks
-pub record AreCounted (processors turns ticks : ℕ) (events : List Event) : Type 0 where
-  pub each : All (IsTurnOrTick processors) events
-  pub few_runs : (p : ℕ) → length (filter (is_run p) events) ≤ turns
-  pub few_ticks : length (filter is_tick events) ≤ ticks
+-- whether an event is an interrupt
+abbrev pub is_interrupt : Event → Bool
+is_interrupt (Run p) = false
+is_interrupt Tick = false
+is_interrupt (Int i) = true
+
+-- Each event is of a load, and they are no more than it says: runs of each processor, ticks, and interrupts.
+pub record AreCounted (load : Load) (events : List Event) : Type 0 where
+  pub each : All (IsEventOf load) events
+  pub few_runs : (p : ℕ) → length (filter (is_run p) events) ≤ load.turns
+  pub few_ticks : length (filter is_tick events) ≤ load.ticks
+  pub few_interrupts : length (filter is_interrupt events) ≤ load.interrupts

@@ -1,6 +1,6 @@
 -- The effect of a board's threads on their seats.
-use Rattle.std.specs.Prelude.{◌≡◌, ◌≢◌, ◌⊎◌, ℕ, ◌+◌, ◌*◌, zero, suc, ◌<◌, ◌≤◌, nat_lt, if◌then◌else◌, List, [], ◌∷◌}
-use Rattle.std.specs.Prelude.{◌++◌, length, map, replicate, slice_get, Option, Some, Result, Ok, Err, IfErr, IfOk}
+use Rattle.std.specs.Prelude.{◌≡◌, ◌≢◌, ◌⊎◌, ℕ, ◌+◌, ◌*◌, zero, suc, ◌<◌, ◌≤◌, nat_eq, nat_lt, if◌then◌else◌, List, []}
+use Rattle.std.specs.Prelude.{◌∷◌, ◌++◌, length, map, replicate, slice_get, Option, Some, Result, Ok, Err, IfErr, IfOk}
 use Rattle.std.specs.Prelude.{MatchOption}
 use Rattle.std.specs.List.{All, AllZip}
 use Rattle.fmp_base.specs.declared.events.Event.{Event}
@@ -19,11 +19,12 @@ use Rattle.fmp_board.specs.Visits.{Fed, Kept, Visited, journaled}
 use Rattle.fmp_hostrun.specs.declared.turns.Load.{Load}
 use Rattle.fmp_hostrun.specs.declared.turns.ThreadPart.{ThreadPart}
 
--- the part of the thread at this place, from 0: the processors come first, and then the ticks
+-- the part of the thread at this place, from 0: the processors come first, then the ticks, and then the interrupts
 abbrev pub part_at : Load → (place : ℕ) → ThreadPart
 part_at load place =
     if nat_lt place load.processors then record { event = Run (place + 1); times = load.turns } else
-    record { event = Tick; times = load.ticks }
+    if nat_eq place load.processors then record { event = Tick; times = load.ticks } else
+    record { event = Int load.interrupt; times = load.interrupts }
 
 -- a seat that has seen just as many entries of its own as it counted, as it has when it is new and after each call
 abbrev pub IsCounted : SeatState → Type 0
@@ -92,6 +93,12 @@ DidTimes i n row e zero was now = now ≡ was
 DidTimes i n row e (suc times) was now =
     (mid : SeatState) × DidTimes i n row e times was mid × DidOnce i n row e mid now
 
+-- its part: all turns, all ticks, or the interrupt at most that often
+abbrev pub DidPart : ImageTables → (n : ℕ) → RowId → Event → (times : ℕ) → (was now : SeatState) → Type 0
+DidPart i n row (Run p) times was now = DidTimes i n row (Run p) times was now
+DidPart i n row Tick times was now = DidTimes i n row Tick times was now
+DidPart i n row (Int h) times was now = (count : ℕ) × (count ≤ times) × DidTimes i n row (Int h) count was now
+
 -- the job of a thread: its part, and the seat with which it does it
 pub record Job : Type 0 where
   pub part : ThreadPart
@@ -129,7 +136,7 @@ pub record GaveBack (i : ImageTables) (n : ℕ) (row : RowId) (always : Type 0) 
   pub added : Added i n row job.part.event job.part.times job.seat g.seat
   pub finished :
       IfOk g.answer
-      (λ count. DidTimes i n row job.part.event job.part.times job.seat g.seat
+      (λ count. DidPart i n row job.part.event job.part.times job.seat g.seat
       × (g.seat.mine ≡ job.seat.mine + count) × (count ≤ row.capacity))
   pub stopped :
       IfErr g.answer
@@ -209,21 +216,32 @@ pub record HasFull (row : RowId) (seats : List SeatState) : Type 0 where
   pub found : slice_get seats place ≡ Some seat
   pub full : length seat.seen ≡ row.capacity
 
--- what the threads of an image's board are to do
+-- what the threads of an image's board are to do without interrupts
 abbrev pub load_of : ImageTables → (turns ticks : ℕ) → Load
-load_of i turns ticks = record { processors = i.system.processors; turns = turns; ticks = ticks }
+load_of i turns ticks = record {
+  processors = i.system.processors;
+  turns = turns;
+  ticks = ticks;
+  interrupt = 0;
+  interrupts = 0;
+}
 
--- What the threads of a board of new seats journal, one for each processor and one for the ticks, where the board has
--- room for all their turns and ticks: each seat has done all of its part, and these are the events that they counted.
-pub record IsRun (i : ImageTables) (n : ℕ) (always : Type 0) (turns ticks : ℕ) (es : List Event) : Type 0 where
+-- the most events that can come of it
+abbrev pub most_of : Load → ℕ
+most_of load = load.processors * load.turns + load.ticks + load.interrupts
+
+-- What the threads of a board of new seats journal, one for each processor, one for the ticks and one for the
+-- interrupts, where the board has room for all that they are to do: each seat has done its part, and these are the
+-- events that they counted.
+pub record IsRun (i : ImageTables) (n : ℕ) (always : Type 0) (load : Load) (es : List Event) : Type 0 where
   pub row : RowId
-  pub size : row.seats ≡ i.system.processors + 1
-  pub capacity : row.capacity ≡ i.system.processors * turns + ticks
+  pub size : row.seats ≡ load.processors + 2
+  pub capacity : row.capacity ≡ most_of load
   pub seats : List SeatState
   pub new : AreNew row seats
   pub back : List SeatState
   pub count : ℕ
-  pub worked : AllGave i n row always (jobs_of (load_of i turns ticks) 0 seats) back (Ok count)
+  pub worked : AllGave i n row always (jobs_of load 0 seats) back (Ok count)
   pub journal : List JournalEntry
   pub journal_is : IsJournal i n row.capacity row.seats journal
   pub counted : All (HasCounted journal) back

@@ -1,12 +1,12 @@
-//! A thread for each processor of a board, and one for the ticks.
+//! A thread for each processor of a board, one for the ticks, and one for the interrupts.
 ghost use Rattle.std.specs.Prelude.{◌≡◌, ◌+◌, ◌<◌, ◌≤◌, ◌^◌, [], ◌++◌, ◌↔◌, ◌≢◌, All, Err, IfOk, length, map, vec_len, vec_capacity};
 ghost use Rattle.fmp_board.specs.Boards.{IsAt};
 ghost use Rattle.fmp_board.specs.Visits.{Kept};
-ghost use Rattle.fmp_hostrun.specs.Works.{AllAdded, AreRun, CameBack, CameBackAs, GaveBack, HasFull, IsAnswer, AllGave, both, gave, job_of, mine_of, seats_of};
+ghost use Rattle.fmp_hostrun.specs.Works.{AllAdded, AreRun, CameBack, CameBackAs, GaveBack, HasFull, IsAnswer, AllGave, both, gave, job_of, load_of, mine_of, seats_of};
 ghost use Rattle.fmp_board.specs.declared.fault.BoardFault.TheVariants.{Full, Held, Limit, Stale};
 
 use crate::feed::Feed;
-use crate::turns::{Gate, Load, ThreadPart, ThreadWork, work};
+use crate::turns::{Gate, Load, Pace, ThreadPart, ThreadWork, Unpaced, work};
 use fmp_board::{Board, BoardFault, Site};
 use fmp_journal::Seat;
 use std::alloc::{AllocError, Global};
@@ -52,7 +52,7 @@ fn joined<B: Feed, G: Gate, R: Threads>(
     mut back: Vec<Seat>,
 ) -> (Vec<Seat>, Result<u32, BoardFault>)
     requires room { B.row_id.capacity ≤ 2 ^ 20 }
-    requires few { vec_len handles ≤ 256 }
+    requires few { vec_len handles ≤ 257 }
     requires back { (back.items ≡ []) × (vec_len handles ≤ vec_capacity back) }
     ensures joined { AllGave B.image B.bound B.row_id G.is_open
         (map (λ h. job_of h.promise.part h.promise.seat.value) handles.items) result.0.items result.1 }
@@ -105,16 +105,17 @@ impl<B: Feed, G: Gate> Lists<B, G> {
 
 /// A thread for each seat: they are started one after the other, and joined. Once a thread is refused, no more are
 /// started.
-fn run_threads<B: Feed + Sync, G: Gate, R: Threads + Wait + Sync>(
+fn run_threads<B: Feed + Sync, G: Gate, P: Pace, R: Threads + Wait + Sync>(
     rt: &R,
     board: &B,
     gate: &G,
+    pace: &P,
     seats: Vec<Seat>,
     lists: Lists<B, G>,
     load: Load,
 ) -> (Vec<Seat>, Result<u32, BoardFault>)
     requires room { B.row_id.capacity ≤ 2 ^ 20 }
-    requires few { vec_len seats ≤ 256 }
+    requires few { vec_len seats ≤ 257 }
     requires seats { All (IsAt B.row_id) seats.items }
     requires handles { (lists.handles.items ≡ []) × (vec_len seats ≤ vec_capacity lists.handles) }
     requires spared { (lists.spared.items ≡ []) × (vec_len seats ≤ vec_capacity lists.spared) }
@@ -126,7 +127,7 @@ fn run_threads<B: Feed + Sync, G: Gate, R: Threads + Wait + Sync>(
         rt,
         move |scope| -> (Vec<Seat>, Result<u32, BoardFault>)
             requires room { B.row_id.capacity ≤ 2 ^ 20 }
-            requires few { vec_len seats ≤ 256 }
+            requires few { vec_len seats ≤ 257 }
             requires seats { All (IsAt B.row_id) seats.items }
             requires handles { (lists.handles.items ≡ []) × (vec_len seats ≤ vec_capacity lists.handles) }
             requires spared { (lists.spared.items ≡ []) × (vec_len seats ≤ vec_capacity lists.spared) }
@@ -157,12 +158,15 @@ fn run_threads<B: Feed + Sync, G: Gate, R: Threads + Wait + Sync>(
                         requires { IsAt B.row_id seat }
                         ensures { GaveBack B.image B.bound B.row_id G.is_open (job_of part seat)
                             (gave result.seat result.journaled) }
-                    { work(rt, board, gate, seat, part) },
+                    { work(rt, board, gate, pace, seat, part) },
                 );
                 match started {
                     Ok(handle) => handles.push_reserved(handle),
                     // What is refused is dropped here, and the seat with it.
-                    Err(_refusal) => refused = true,
+                    Err(_refusal) => {
+                        pace.refused();
+                        refused = true;
+                    }
                 }
             }
             let (back, journaled) = joined(rt, handles, back);
@@ -175,21 +179,86 @@ fn run_threads<B: Feed + Sync, G: Gate, R: Threads + Wait + Sync>(
     )
 }
 
-/// Runs a board by threads: one for each processor takes the turns, and one more feeds the ticks. In a turn a processor
-/// draws a ticket, makes its stretch outside the lock, asks the gate, submits the outcome and tells the gate. A turn in
-/// which it has no actor is over, and so is one whose outcome is stale. The seats are one for each processor, in order,
-/// and one for the ticks. They come back in their order, and each has seen what its calls showed it. The answer is
-/// the number of events that this call journaled, which is the sum by which their own counts have risen.
+/// Runs a board by threads, one for each seat, where there is memory for their lists.
+fn run_seats<S: Site + Send + Sync, G: Gate, P: Pace, R: Threads + Wait + Sync>(
+    rt: &R,
+    alloc: Global,
+    board: &Board<'_, S>,
+    gate: &G,
+    pace: &P,
+    seats: Vec<Seat>,
+    load: Load,
+) -> (Vec<Seat>, Result<u32, BoardFault>)
+    requires at { All (IsAt S.row_id) seats.items }
+    requires few { length seats.items ≤ 257 }
+    ensures answer { IsAnswer S.image S.bound S.row_id G.is_open load seats.items result.0.items result.1 }
+    ensures stale { result.1 ≢ Err Stale }
+    ensures full { result.1 ≡ Err Full → HasFull S.row_id result.0.items }
+    ensures held { G.is_open → result.1 ≢ Err Held }
+    ensures limit { result.1 ≢ Err Limit }
+    ensures seats { CameBack (Kept S.image S.bound S.row_id) seats.items result.0.items result.1 }
+    ensures added { CameBackAs (AllAdded S.image S.bound S.row_id load 0) seats.items result.0.items result.1 }
+    ensures mine { IfOk result.1 (λ journaled. mine_of result.0.items ≡ mine_of seats.items + journaled) }
+    ensures at { All (IsAt S.row_id) result.0.items }
+    ensures count { IfOk result.1 (λ _. length result.0.items ≡ length seats.items) }
+{
+    let Ok(lists) = Lists::new(alloc, seats.len()) else {
+        return (seats, Err(BoardFault::Memory));
+    };
+    // It is at most 2^20, so a u32 holds the sum of the counts of all threads.
+    board.capacity();
+    pace.begins(seats.len());
+    run_threads(rt, board, gate, pace, seats, lists, load)
+}
+
+/// Runs a board by threads: one for each processor takes the turns, one more feeds the ticks, and one the interrupts,
+/// each when the pace says so. In a turn a processor draws a ticket, makes its stretch outside the lock, asks the gate,
+/// submits the outcome and tells the gate. A turn whose outcome is stale is over. Where the processor has no actor, the
+/// pace says whether it looks again; if not, the turn is over. The seats are one for each processor, in order, one for
+/// the ticks and one for the interrupts. They come back in their order, and each has seen what its calls showed it. The
+/// answer is the number of events that this call journaled, which is the sum by which their own counts have risen.
 ///
-/// `BoardFault::Limit`, exactly where there is not one seat for each processor and one more; `BoardFault::Memory` where
+/// `BoardFault::Limit`, exactly where there is not one seat for each processor and two more; `BoardFault::Memory` where
 /// memory runs out. Then no thread was started, and the seats are as they came. `BoardFault::Thread` where a thread was
 /// refused: no more are started, those that run are joined, and the seat of the refused one is lost. Else it is the
-/// fault of the first thread that stopped, by the order of the processors, the ticks last: `BoardFault::Full` where the
-/// journal has no room for one more event, or `BoardFault::Held` where the gate said no 10,000 times. It is never
-/// `BoardFault::Stale`. What was journaled before a fault stands.
+/// fault of the first thread that stopped, by the order of the seats: `BoardFault::Full` where the journal has no room
+/// for one more event, or `BoardFault::Held` where the gate said no 10,000 times. It is never `BoardFault::Stale`. What
+/// was journaled before a fault stands.
 ///
 /// The contract says what was done with each seat and what came back. That threads do it is tested: no clause can tell
 /// them from calls, one after the other.
+pub fn run_paced<S: Site + Send + Sync, G: Gate, P: Pace, R: Threads + Wait + Sync>(
+    rt: &R,
+    alloc: Global,
+    board: &Board<'_, S>,
+    gate: &G,
+    pace: &P,
+    seats: Vec<Seat>,
+    load: Load,
+) -> (Vec<Seat>, Result<u32, BoardFault>)
+    requires { All (IsAt S.row_id) seats.items }
+    ensures answer { IsAnswer S.image S.bound S.row_id G.is_open load seats.items result.0.items result.1 }
+    ensures stale { result.1 ≢ Err Stale }
+    ensures full { result.1 ≡ Err Full → HasFull S.row_id result.0.items }
+    ensures held { G.is_open → result.1 ≢ Err Held }
+    ensures limit { (result.1 ≡ Err Limit) ↔ (length seats.items ≢ load.processors + 2) }
+    ensures seats { CameBack (Kept S.image S.bound S.row_id) seats.items result.0.items result.1 }
+    // What the p-th seat has added are runs of processor p, at most `turns`, then come ticks, and then interrupts.
+    ensures added { CameBackAs (AllAdded S.image S.bound S.row_id load 0) seats.items result.0.items result.1 }
+    ensures mine { IfOk result.1 (λ journaled. mine_of result.0.items ≡ mine_of seats.items + journaled) }
+    ensures at { All (IsAt S.row_id) result.0.items }
+    ensures count { IfOk result.1 (λ _. length result.0.items ≡ length seats.items) }
+{
+    let processors = load.processors;
+    if seats.len() != processors as usize + 2 {
+        return (seats, Err(BoardFault::Limit));
+    }
+    run_seats(rt, alloc, board, gate, pace, seats, load)
+}
+
+/// Runs a board by threads as `run_paced` does, without interrupts and as fast as it goes: a turn in which a processor
+/// has no actor is over. The seats are one for each processor, in order, and one for the ticks, and
+/// `BoardFault::Limit` comes exactly where they are not.
 pub fn run_all<S: Site + Send + Sync, G: Gate, R: Threads + Wait + Sync>(
     rt: &R,
     alloc: Global,
@@ -200,8 +269,7 @@ pub fn run_all<S: Site + Send + Sync, G: Gate, R: Threads + Wait + Sync>(
     ticks: u32,
 ) -> (Vec<Seat>, Result<u32, BoardFault>)
     requires { All (IsAt S.row_id) seats.items }
-    ensures answer { IsAnswer S.image S.bound S.row_id G.is_open
-        (record { processors = S.image.system.processors; turns = turns; ticks = ticks })
+    ensures answer { IsAnswer S.image S.bound S.row_id G.is_open (load_of S.image turns ticks)
         seats.items result.0.items result.1 }
     ensures stale { result.1 ≢ Err Stale }
     ensures full { result.1 ≡ Err Full → HasFull S.row_id result.0.items }
@@ -209,8 +277,7 @@ pub fn run_all<S: Site + Send + Sync, G: Gate, R: Threads + Wait + Sync>(
     ensures limit { (result.1 ≡ Err Limit) ↔ (length seats.items ≢ S.image.system.processors + 1) }
     ensures seats { CameBack (Kept S.image S.bound S.row_id) seats.items result.0.items result.1 }
     // What the p-th seat has added are runs of processor p, at most `turns`, and what the last one has are ticks.
-    ensures added { CameBackAs (AllAdded S.image S.bound S.row_id
-        (record { processors = S.image.system.processors; turns = turns; ticks = ticks }) 0)
+    ensures added { CameBackAs (AllAdded S.image S.bound S.row_id (load_of S.image turns ticks) 0)
         seats.items result.0.items result.1 }
     ensures mine { IfOk result.1 (λ journaled. mine_of result.0.items ≡ mine_of seats.items + journaled) }
     ensures at { All (IsAt S.row_id) result.0.items }
@@ -220,15 +287,12 @@ pub fn run_all<S: Site + Send + Sync, G: Gate, R: Threads + Wait + Sync>(
     if seats.len() != processors as usize + 1 {
         return (seats, Err(BoardFault::Limit));
     }
-    let Ok(lists) = Lists::new(alloc, seats.len()) else {
-        return (seats, Err(BoardFault::Memory));
-    };
-    // It is at most 2^20, so a u32 holds the sum of the counts of all threads.
-    board.capacity();
     let load = Load {
         processors,
         turns,
         ticks,
+        interrupt: 0,
+        interrupts: 0,
     };
-    run_threads(rt, board, gate, seats, lists, load)
+    run_seats(rt, alloc, board, gate, &Unpaced, seats, load)
 }

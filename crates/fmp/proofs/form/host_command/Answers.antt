@@ -1,6 +1,6 @@
 use Rattle.std.proofs.Common.{Ok, codes}
 use Rattle.clap.specs.Words.{new_app}
-use Rattle.fmp.specs.Form.{bound, count, file}
+use Rattle.fmp.specs.Form.{bound, count, file, number}
 use Rattle.fmp.proofs.Growing.{one_rule}
 use Rattle.fmp.proofs.form.host_command.Goals as goal
 
@@ -14,7 +14,11 @@ returns c =
     c.count_option.ensures.rule c.with_argument-command-3.ensures in
     let four = one_rule c.with_argument-command-3.result _ _ _ (count (codes "ticks")) three
     c.count_option-2.ensures.rule c.with_argument-command-4.ensures in
-    one_rule c.with_argument-command-4.result _ _ _ bound four c.bound_option.ensures.rule c.with_argument.ensures
+    let five = one_rule c.with_argument-command-4.result _ _ _ (number (codes "tick-us") 1000000) four
+    c.number_option.ensures.rule c.with_argument-command-5.ensures in
+    let six = one_rule c.with_argument-command-5.result _ _ _ (number (codes "int") 32) five
+    c.number_option-2.ensures.rule c.with_argument-command-6.ensures in
+    one_rule c.with_argument-command-6.result _ _ _ bound six c.bound_option.ensures.rule c.with_argument.ensures
 
 pub with_argument-command-requires : goal.with_argument-command-requires
 with_argument-command-requires c = c.image_word.ensures.local
@@ -27,6 +31,12 @@ with_argument-command-requires-3 c = c.count_option.ensures.local
 
 pub with_argument-command-requires-4 : goal.with_argument-command-requires-4
 with_argument-command-requires-4 c = c.count_option-2.ensures.local
+
+pub with_argument-command-requires-5 : goal.with_argument-command-requires-5
+with_argument-command-requires-5 c = c.number_option.ensures.local
+
+pub with_argument-command-requires-6 : goal.with_argument-command-requires-6
+with_argument-command-requires-6 c = c.number_option-2.ensures.local
 
 pub with_argument-requires : goal.with_argument-requires
 with_argument-requires c = c.bound_option.ensures.local

@@ -12,4 +12,4 @@ returns-clause-headline g c = λ cfg src i b spelled.
 pub returns-clause-again : goal.returns-clause-again
 returns-clause-again g c =
     where_ok c.append_hosted.result (λ h steps. simulates_again c.args.image.now c.args.work _ _ _ _ steps
-    c.printed_steps_read_back.ensures h) c.append_hosted.ensures.ok
+    c.printed_steps_read_back.ensures c.requires h) c.append_hosted.ensures.ok

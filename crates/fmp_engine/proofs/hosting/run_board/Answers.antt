@@ -8,7 +8,7 @@ returns-in-Ok-clause-counted g c =
 
 pub returns-in-Ok-clause-ran : goal.returns-in-Ok-clause-ran
 returns-in-Ok-clause-ran g c =
-    is_run_of _ _ _ _ _ _ _ _ _ _ c.requires.new c.requires.count c.requires.room
+    is_run_of _ _ _ _ _ _ _ _ _ c.requires.new c.requires.count c.requires.room
     (rw c.in-Ok.is at c.run_work-seats.ensures.answer) c.close_all-closed.ensures.counted
 
 pub returns-in-Err-clause-fault : goal.returns-in-Err-clause-fault

@@ -1,0 +1,13 @@
+use Rattle.std.proofs.Common.{◌≡◌, ◌+◌, ◌≤◌}
+use Rattle.fmp_base.specs.declared.events.Event.TheVariants.{Tick}
+use Rattle.fmp_board.specs.Boards.{IsAt}
+use Rattle.fmp_hostrun.specs.Works.{Added, DidTimes}
+use Rattle.fmp_hostrun.proofs.turns.feed_ticks.Given as goal
+
+abbrev pub invariant-loop-tick : goal.invariant-loop-tick
+invariant-loop-tick g l =
+    IsAt g.B.Feed.row_id l.seat
+    × Added g.B.Feed.image g.B.Feed.bound g.B.Feed.row_id Tick l.tick l.fn.seat l.seat
+    × DidTimes g.B.Feed.image g.B.Feed.bound g.B.Feed.row_id Tick l.tick l.fn.seat l.seat
+    × (l.seat.mine ≡ l.fn.seat.mine + l.journaled)
+    × (l.journaled ≤ l.tick)
