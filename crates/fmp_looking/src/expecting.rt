@@ -1,33 +1,23 @@
 //! Whether a run meets a text of expectations.
-ghost use Rattle.std.specs.Prelude.{◌≡◌, ◌+◌, ◌≤◌, ◌^◌, IfOk, length};
-ghost use Rattle.fmp_base.specs.Runs.{task_state};
-ghost use Rattle.fmp_frames.specs.Frames.{each};
-ghost use Rattle.fmp_looking.specs.Expects as spec;
+ghost use Rattle.std.specs.Prelude.{◌≡◌, ◌+◌, ◌≤◌, ◌^◌, IfOk, Ok, length};
+ghost use Rattle.fmp_base.specs.Systems.{tables_of};
+ghost use Rattle.fmp_expect.specs.Grammar.{expectations_of};
+ghost use Rattle.fmp_trials.specs.Verdicts.{verdict};
+ghost use Rattle.fmp_looking.specs.Expects.{empty_claims};
 
 use crate::exit::{ViewExit, memory};
 use crate::flaws::flaw_text;
 use crate::looking::RunLook;
 use crate::opened::Opened;
-use fmp_base::{Line, System, TaskState};
+use fmp_base::{Line, System};
 use fmp_coming::Coming;
 use fmp_expect::{
     BrokenExpectation, Checker, ExpectFault, ExpectationFlaw, Expected, read_expectations, tell_run,
 };
 use fmp_kernel::{Body, Kernel};
 use fmp_named::append_lines;
+use fmp_trials::verdict_at_end;
 use std::alloc::{AllocError, Global};
-
-/// The states of the tasks.
-fn states_of<B: Body>(alloc: Global, kernel: &Kernel<B>) -> Result<Vec<TaskState>, AllocError>
-    ensures { IfOk result (λ xs. xs.items
-        ≡ each (task_state kernel.now.world.state) (length kernel.now.system.tasks)) }
-{
-    let mut states = Vec::new(alloc);
-    for task in 0..kernel.tables().task_count() as u8 {
-        states.push(kernel.state(task))?;
-    }
-    Ok(states)
-}
 
 /// What a run comes to, where something is expected of it.
 #[derive(Drop)]
@@ -46,14 +36,12 @@ fn verdict_on<B: Body, T: Coming<B>>(
     expected: &[Expected],
 ) -> Result<Verdict, AllocError>
     requires { kernel.old.taken + length events.now ≤ 2 ^ 31 }
-    ensures broken { IfOk result (λ v. v.broken ≡ spec.verdict T.reaction kernel.old events.now expected.now) }
-    ensures empty { IfOk result (λ v. v.empty.items
-        ≡ spec.empty_claims T.reaction kernel.old events.now expected.now) }
+    ensures broken { IfOk result (λ v. v.broken ≡ verdict T.reaction kernel.old events.now expected.now) }
+    ensures empty { IfOk result (λ v. v.empty.items ≡ empty_claims T.reaction kernel.old events.now expected.now) }
 {
     let mut checker = Checker::new(alloc, expected)?;
     tell_run(kernel, events, &mut checker);
-    let states = states_of(alloc, kernel)?;
-    let broken = checker.verdict(&states, kernel.done());
+    let broken = verdict_at_end(alloc, kernel, &checker)?;
     let empty = checker.empty_claims(alloc)?;
     Ok(Verdict { broken, empty })
 }
@@ -221,8 +209,11 @@ fn flawed(
     }
 }
 
-/// The expectations of a text for a system.
-fn expected_of(alloc: Global, sys: &System, text: &[u8]) -> Result<Vec<Expected>, ViewExit> {
+/// The expectations of a text for a system. The reason to give none is the first faulty line of the text, or that memory
+/// runs out.
+pub fn expected_of(alloc: Global, sys: &System, text: &[u8]) -> Result<Vec<Expected>, ViewExit>
+    ensures { IfOk result (λ xs. expectations_of (tables_of sys.now) text.now ≡ Ok xs.items) }
+{
     match read_expectations(alloc, sys, text) {
         Ok(expected) => Ok(expected),
         Err(ExpectFault::Memory) => Err(memory(AllocError)),

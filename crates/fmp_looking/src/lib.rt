@@ -31,7 +31,7 @@ pub use built::{NoTrace, Running, Traced, traced_texts};
 pub use commands::{DriveEnding, DrivenText, RunOutput, code, steps};
 pub use comparing::{diff, diff_recordings};
 pub use exit::ViewExit;
-pub use expecting::Expectations;
+pub use expecting::{Expectations, expected_of};
 pub use flaws::flaw_words;
 pub use kinds::{FileKind, Misplaced, exit_over};
 pub use looking::{RunLook, look_at_image, look_at_recording};

@@ -14,6 +14,7 @@ use fmp_arguments::{
 use fmp_files::{mistake, mistake_of};
 use fmp_looking::{Drawing, Format, Running, TraceFormat};
 use fmp_searching::{Exploring, exploring_of, said_of_code};
+use fmp_testing::{Testing, testing_of};
 use fmp_timeline::Choice;
 use fmp_toppers::Target;
 use fmp_warnings::{FileNames, Form};
@@ -118,6 +119,8 @@ pub enum Asked<'a> {
     Why(RunFiles<'a>, Option<u32>, Form),
     /// Say whether a run meets the expectations of the text of this file, strictly or not.
     Expect(RunFiles<'a>, &'a str, bool),
+    /// Make random runs of two texts, and print the steps of the first that fails an expectation.
+    Test(Testing<'a>),
     /// Show the first event in which two runs of a system differ.
     Diff(RunPair<'a>),
     /// Print the table of a run, and the calls that were refused, by where they stand in the text of this file if there
@@ -316,6 +319,7 @@ fn look_of<'m>(name: &str, words: &'m ArgMatches<'_>) -> Asked<'m> {
         },
         "why" => Asked::Why(run_of(words), word32_of(words, "at"), form_of(words)),
         "expect" => expect_asked(words),
+        "test" => Asked::Test(testing_of(words)),
         "diff" => Asked::Diff(runs_of(words)),
         "stats" => Asked::Stats(run_of(words), text_of(words, "src"), form_of(words)),
         "timeline" => timeline_asked(words),

@@ -5,6 +5,7 @@ use fmp_arguments::{
     command_of,
 };
 use fmp_searching::EXPLORE;
+use fmp_testing::TEST;
 use std::alloc::Global;
 
 /// What the program is.
@@ -22,6 +23,7 @@ const EXAMPLE_AND_STATUS: &str = "Example, with the image of the example of 'fmp
   fmp_view drive queue.img --events 20 > drive.steps
   fmp_view why queue.img drive.steps --at 2
   fmp_view expect queue.img drive.steps queue.expect
+  fmp_view test examples/queue.cfg examples/queue.src --expect queue.expect > found.steps
   fmp_view stats queue.img drive.steps
   fmp_view waves queue.img drive.steps queue.vcd
   fmp_view timeline queue.img drive.steps queue.svg
@@ -38,8 +40,8 @@ Status, and the line on standard error with it:
            or a file of DIR are; a picture that begins behind the last event, or has more than 40,000,000 bytes
   3        'file: NAME', a file could not be read or written ('-' is standard output, 'stdin' standard input);
            'memory'
-  4        with 'diff', the runs differ; with 'expect', the run fails an expectation; with 'explore', something
-           was found
+  4        with 'diff', the runs differ; with 'expect', the run fails an expectation, with 'test' a random run;
+           with 'explore', something was found
   5        'explore' found nothing and claims nothing, or had no memory to look for stuck tasks";
 
 /// What a steps text is.
@@ -454,10 +456,10 @@ fn bare<'a>(alloc: Global) -> Command<'a> {
 }
 
 /// The commands.
-pub fn forms() -> [&'static CommandForm; 15] {
+pub fn forms() -> [&'static CommandForm; 16] {
     [
-        &CODE, &FAULT, &RUN, &STEP, &LSP, &DRIVE, &WHY, &EXPLORE, &DIFF, &EXPECTED, &STATS, &WAVES,
-        &TIMELINE, &EXPORT, &IMPORT,
+        &CODE, &FAULT, &RUN, &STEP, &LSP, &DRIVE, &WHY, &EXPLORE, &DIFF, &EXPECTED, &TEST, &STATS,
+        &WAVES, &TIMELINE, &EXPORT, &IMPORT,
     ]
 }
 

@@ -21,6 +21,7 @@ mod session_until;
 mod stepping;
 mod targeting;
 mod telling;
+mod testing;
 mod texts;
 
 use fmp_files::{Host, refuse_words, words_of};

@@ -13,6 +13,7 @@ use crate::importing::run_import;
 use crate::refusing::refuse_form;
 use crate::targeting::run_target;
 use crate::telling::{print_made, print_run};
+use crate::testing::run_test;
 use crate::texts::{run_step, run_texts};
 use clap::ArgMatches;
 use fmp_files::{Device, Failure, Outside, end, print, read_file, refuse_mistake, write_file};
@@ -442,6 +443,7 @@ where
         } => run_drive(alloc, outside, image, events, seed, bound),
         Asked::Why(run, at, form) => print_why(alloc, outside, run, at, form),
         Asked::Expect(run, name, strict) => print_failure(alloc, outside, run, name, strict),
+        Asked::Test(testing) => run_test(alloc, outside, &testing),
         Asked::Diff(runs) => print_diff(alloc, outside, runs),
         Asked::Stats(run, src, form) => print_stats(alloc, outside, run, src, form),
         Asked::Waves(run, out, format) => write_waves(alloc, outside, run, out, format),

@@ -1,8 +1,0 @@
-use Rattle.fmp_base.specs.Runs.{task_state}
-use Rattle.fmp_frames.proofs.EachLemmas.{each-more}
-use Rattle.fmp_looking.proofs.expecting.states_of.Goals as goal
-
-pub loop-task-preserved : goal.loop-task-preserved
-loop-task-preserved g c =
-    each-more (task_state c.args.kernel.now.world.state) _ _ _ _ c.loop-task.invariant c.in_ok-push.ensures.items
-    c.state.ensures

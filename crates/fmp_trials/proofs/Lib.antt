@@ -1,0 +1,3 @@
+pub mod Attempts
+pub mod Besides
+pub mod States

@@ -1,0 +1,15 @@
+use Rattle.std.proofs.Common.{◌≡◌, ◌≤◌, length}
+use Rattle.fmp_trials.specs.Shortening.{IsFailing, NoneCanGo}
+use Rattle.fmp_trials.proofs.shortening.drop_events.Given as goal
+
+abbrev pub invariant-loop-place : goal.invariant-loop-place
+invariant-loop-place g l =
+    record {
+      failing : IsFailing g.B.Body.meaning l.bench l.run;
+      same : l.bench ≡ l.fn.bench;
+      place : l.place ≤ length l.run.steps.items;
+      behind : NoneCanGo g.B.Body.meaning l.bench l.run l.place l.dropped;
+    }
+
+abbrev pub decreases-loop-place : goal.decreases-loop-place
+decreases-loop-place g l = l.place

@@ -1,0 +1,5 @@
+pub mod Verdicts
+pub mod Taking
+pub mod Trials
+pub mod Shortening
+pub mod Found

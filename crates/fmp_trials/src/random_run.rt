@@ -1,0 +1,154 @@
+//! Random runs, which are judged as they go.
+ghost use Rattle.std.specs.Prelude.{◌≡◌, ◌<◌, ◌≤◌, ◌^◌, IfOk, IfSome, is_some, length, true};
+ghost use Rattle.fmp_trials.specs.Taking.{HasMoved};
+ghost use Rattle.fmp_trials.specs.Verdicts.{IsBeside};
+
+use crate::choices::Choices;
+use fmp_base::{Effect, Event};
+use fmp_expect::Checker;
+use fmp_kernel::{Body, Kernel};
+use std::alloc::{AllocError, Global};
+
+/// The most events of a run.
+const EVENTS_MOST: u32 = 1 << 20;
+
+/// A kernel takes an event: whether that does something.
+fn takes<B: Body>(kernel: &mut Kernel<B>, e: Event) -> bool
+    requires { kernel.old.taken < 2 ^ 31 }
+    ensures { HasMoved kernel.old kernel.new result }
+{
+    match kernel.step_long(e) {
+        Effect::Done => true,
+        Effect::Kept => true,
+        Effect::Nothing => false,
+    }
+}
+
+/// The clock advances.
+fn tick<B: Body>(kernel: &mut Kernel<B>) -> Event
+    requires { kernel.old.taken < 2 ^ 31 }
+    ensures { HasMoved kernel.old kernel.new true }
+{
+    kernel.step_long(Event::Tick);
+    Event::Tick
+}
+
+/// The first interrupt whose turn it is by chance, and that does something.
+fn interrupt<B: Body>(kernel: &mut Kernel<B>, choices: &mut Choices<'_>) -> Option<Event>
+    requires { kernel.old.taken < 2 ^ 31 }
+    ensures { HasMoved kernel.old kernel.new (is_some result) }
+{
+    let rates = choices.plan.interrupts;
+    for rate in rates {
+        if !choices.comes(rate.every) {
+            continue;
+        }
+        let e = Event::Int(rate.interrupt);
+        if takes(kernel, e) {
+            return Some(e);
+        }
+    }
+    None
+}
+
+/// The first processor that can do something, from the first up to the end, which is left out, does it.
+fn run_from<B: Body>(kernel: &mut Kernel<B>, first: u8, end: u8) -> Option<u8>
+    requires { kernel.old.taken < 2 ^ 31 }
+    ensures { HasMoved kernel.old kernel.new (is_some result) }
+{
+    for processor in first..end {
+        if takes(kernel, Event::Run(processor)) {
+            return Some(processor);
+        }
+    }
+    None
+}
+
+/// The first processor that can do something, from the first up to the last and then from 1 on, does it.
+fn run_one<B: Body>(kernel: &mut Kernel<B>, first: u8, last: u8) -> Option<u8>
+    requires taken { kernel.old.taken < 2 ^ 31 }
+    requires last { last ≤ 8 }
+    ensures { HasMoved kernel.old kernel.new (is_some result) }
+{
+    match run_from(kernel, first, last + 1) {
+        Some(processor) => Some(processor),
+        None => run_from(kernel, 1, first),
+    }
+}
+
+/// A processor goes on, or the clock if none can do anything.
+fn run_or_tick<B: Body>(kernel: &mut Kernel<B>, choices: &mut Choices<'_>) -> Event
+    requires { kernel.old.taken < 2 ^ 31 }
+    ensures { HasMoved kernel.old kernel.new true }
+{
+    let processors = kernel.tables().processor_count() as u8;
+    match run_one(kernel, choices.processor(processors), processors) {
+        Some(processor) => {
+            choices.went_on(processor);
+            Event::Run(processor)
+        }
+        None => tick(kernel),
+    }
+}
+
+/// The next event, which is taken.
+fn next<B: Body>(kernel: &mut Kernel<B>, choices: &mut Choices<'_>) -> Event
+    requires { kernel.old.taken < 2 ^ 31 }
+    ensures { HasMoved kernel.old kernel.new true }
+{
+    if let Some(e) = interrupt(kernel, choices) {
+        return e;
+    }
+    if choices.comes(choices.plan.tick) {
+        return tick(kernel);
+    }
+    run_or_tick(kernel, choices)
+}
+
+/// Tells the lines of a kernel's last event that was done, or of setup, and the state after it: whether a sentence is
+/// broken by now.
+fn is_broken<B: Body>(kernel: &Kernel<B>, checker: &mut Checker) -> bool {
+    checker.tell(kernel.done(), kernel.lines());
+    checker.tell_state(kernel.done(), kernel.tables());
+    checker.verdict(&[], kernel.done()).is_some()
+}
+
+/// The next event, which is taken, and whether a sentence is broken behind it.
+fn judged_next<B: Body>(
+    kernel: &mut Kernel<B>,
+    choices: &mut Choices<'_>,
+    checker: &mut Checker,
+) -> (Event, bool)
+    requires { kernel.old.taken < 2 ^ 31 }
+    ensures { HasMoved kernel.old kernel.new true }
+{
+    let done = kernel.done();
+    let e = next(kernel, choices);
+    (e, kernel.done() > done && is_broken(kernel, checker))
+}
+
+/// The events of a random run of a kernel up to the first that breaks a sentence; none if the run breaks none.
+/// `AllocError` if memory runs out.
+pub fn random_run<B: Body>(
+    alloc: Global,
+    kernel: &mut Kernel<B>,
+    checker: &mut Checker,
+    choices: &mut Choices<'_>,
+) -> Result<Option<Vec<Event>>, AllocError>
+    requires { kernel.old.taken ≡ 0 }
+    ensures few { IfOk result (λ run. IfSome run (λ steps. length steps.items ≤ 2 ^ 20)) }
+    ensures beside { IsBeside kernel.old kernel.new }
+{
+    let mut steps = Vec::new(alloc);
+    if is_broken(kernel, checker) {
+        return Ok(Some(steps));
+    }
+    for _turn in 0..choices.plan.events.min(EVENTS_MOST) {
+        let (e, broken) = judged_next(kernel, choices, checker);
+        steps.push(e)?;
+        if broken {
+            return Ok(Some(steps));
+        }
+    }
+    Ok(None)
+}

@@ -1,0 +1,40 @@
+//! The command `test`: random runs of two texts.
+use fmp_files::{Failure, Outside, end};
+use fmp_image::build;
+use fmp_lex::BuildFault;
+use fmp_searching::{print_fault, read_both};
+use fmp_testing::{Testing, test_image};
+use fmp_warnings::{FileNames, Form};
+use std::alloc::{AllocError, Global};
+
+/// Makes random runs of the system of two texts, or prints their first fault, with status 1.
+fn test_texts<O: Outside>(
+    alloc: Global,
+    outside: &mut O,
+    (cfg, src): (&[u8], &[u8]),
+    testing: &Testing<'_>,
+) -> u8 {
+    let names = FileNames {
+        cfg: testing.cfg,
+        src: testing.src,
+        steps: "",
+    };
+    match build(alloc, cfg, src) {
+        Ok(image) => {
+            let status = test_image(alloc, outside, &image, testing);
+            drop(image);
+            status
+        }
+        Err(BuildFault::Memory) => end(outside, &Failure::Memory(AllocError)),
+        Err(BuildFault::At(..)) => print_fault(alloc, outside, names, Form::Text).max(1),
+    }
+}
+
+/// Makes random runs of the system of the texts of two files: it prints the steps of the first that fails an
+/// expectation, made shorter, with status 4. If none fails, it prints nothing, with status 0.
+pub fn run_test<O: Outside>(alloc: Global, outside: &mut O, testing: &Testing<'_>) -> u8 {
+    match read_both(alloc, outside, testing.cfg, testing.src) {
+        Ok((cfg, src)) => test_texts(alloc, outside, (&cfg, &src), testing),
+        Err(failure) => end(outside, &failure),
+    }
+}
