@@ -6,12 +6,12 @@ _fmp() {
         COMPREPLY=($(compgen -W "check build sim host help -h --help -V --version" -- "$word"))
         return
     fi
-    case $before in --bound|--turns|--ticks|--bound) return ;; esac
+    case $before in --bound|--turns|--ticks|--tick-us|--int|--bound) return ;; esac
     case ${COMP_WORDS[1]} in
         check) words="-h --help" ;;
         build) words="-h --help" ;;
         sim) words="--bound -h --help" ;;
-        host) words="--turns --ticks --bound -h --help" ;;
+        host) words="--turns --ticks --tick-us --int --bound -h --help" ;;
         help) COMPREPLY=($(compgen -W "check build sim host" -- "$word")); return ;;
     esac
     case $word in

@@ -11,5 +11,7 @@ complete -c fmp -n '__fish_seen_subcommand_from sim' -l bound -x -d 'How many in
 complete -c fmp -n '__fish_seen_subcommand_from sim' -s h -l help -d 'Print help'
 complete -c fmp -n '__fish_seen_subcommand_from host' -l turns -x -d 'How many turns each processor has, 0 to 2^20: in a turn it runs to its next service call, unless another event changes what runs there meanwhile'
 complete -c fmp -n '__fish_seen_subcommand_from host' -l ticks -x -d 'How many ticks the clock has, 0 to 2^20'
+complete -c fmp -n '__fish_seen_subcommand_from host' -l tick-us -x -d 'Microseconds from tick to tick, 1 to 1000000: a processor with nothing to run waits, and standard error gets a summary; without it ticks come at once'
+complete -c fmp -n '__fish_seen_subcommand_from host' -l int -x -d 'Interrupt that each line '\''int I'\'' of standard input raises, 1 to 32: waits and summary as with --tick-us, without which the run lasts to the end of the input'
 complete -c fmp -n '__fish_seen_subcommand_from host' -l bound -x -d 'How many instructions a body may take in a step, 1 to 2^48; where its next service call is farther, its next step goes on from there [default: 100000]'
 complete -c fmp -n '__fish_seen_subcommand_from host' -s h -l help -d 'Print help'
