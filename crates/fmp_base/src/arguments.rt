@@ -1,7 +1,8 @@
 //! The arguments of service calls: numbers of objects and tasks, ranges and time limits (uITRON 4.0, section 2.1).
 ghost use Rattle.std.specs.Prelude.{◌≡◌, ◌<◌, ◌≤◌, ◌^◌, IfSome};
 ghost use Rattle.fmp_base.specs.Arguments.{IsTimeLimit};
-ghost use Rattle.fmp_base.specs.Outcomes.{numbered as place_of, named as task_of, ranged as value_of, limit_of as limit_from};
+ghost use Rattle.fmp_base.specs.Outcomes.{numbered as place_of, named as task_of, ranged as value_of};
+ghost use Rattle.fmp_base.specs.Outcomes.{limit_of as limit_from};
 
 use crate::states::TimeLimit;
 

@@ -2,7 +2,9 @@
 //! the call that does the same from elsewhere.
 ghost use Rattle.std.specs.Prelude.{◌≡◌};
 ghost use Rattle.fmp_base.specs.Permissions.{permission as permission_of};
-ghost use Rattle.fmp_base.specs.Services.{action as action_of, arity as arity_of, counterpart as counterpart_of, gives_count as does_give_count, object_kind, out_place as out_place_of, parameters as parameters_of};
+ghost use Rattle.fmp_base.specs.Services.{action as action_of, arity as arity_of, counterpart as counterpart_of};
+ghost use Rattle.fmp_base.specs.Services.{gives_count as does_give_count, object_kind, out_place as out_place_of};
+ghost use Rattle.fmp_base.specs.Services.{parameters as parameters_of};
 
 use self::ObjectKind::{
     Cyclic, DataQueue, Flag, Mailbox, Message, Semaphore, SharedWord, SpinLock, Task,

@@ -24,6 +24,7 @@ pub mod stop;
 pub mod systems;
 pub mod tally;
 pub mod ties;
+mod trace_words;
 pub mod words;
 
 pub use bodies::{Fault, HandlerContext, HandlerStart, Held, Stretch};

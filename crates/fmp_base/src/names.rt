@@ -7,7 +7,7 @@ ghost use Rattle.fmp_base.specs.Names.{name_text, name_from};
 pub struct Name {
     /// How many bytes are used, 1 to 31.
     pub length: u8,
-    /// The bytes, 0 behind the used ones.
+    /// The bytes, 0 after the used ones.
     pub bytes: [u8; 31],
 }
 

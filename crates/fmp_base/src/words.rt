@@ -1,6 +1,7 @@
 //! The words of both texts: constants, static APIs, service calls and keywords.
 ghost use Rattle.std.specs.Prelude.{◌≡◌};
-ghost use Rattle.fmp_base.specs.Words.{constant_name, constant_value, api_name, keyword_name, constant_named, api_named, service_named, keyword_named};
+ghost use Rattle.fmp_base.specs.Words.{constant_name, constant_value, api_name, keyword_name, constant_named};
+ghost use Rattle.fmp_base.specs.Words.{api_named, service_named, keyword_named};
 
 use crate::codes::Er;
 use crate::finding::find_word;

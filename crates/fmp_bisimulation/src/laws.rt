@@ -1,5 +1,5 @@
-//! The laws, each the contract of a function that does nothing. `C` is the type of the contexts of bodies, `S` that of
-//! what is watched.
+//! Laws of alike worlds, each the contract of a function that does nothing. `C` is the type of the contexts of bodies,
+//! `S` that of what is watched.
 ghost use Rattle.std.specs.Prelude.{◌≡◌, ℕ, Bool, List, false};
 ghost use Rattle.fmp_base.specs.declared.events.Event.{Event};
 ghost use Rattle.fmp_base.specs.declared.calls.Call.{Call};

@@ -29,7 +29,8 @@ pub struct Board<'a, S: Site> {
 }
 
 impl<'a, S: Site> Board<'a, S> {
-    ghost use Rattle.std.specs.Prelude.{◌≡◌, ◌+◌, ◌^◌, ◌<◌, ◌≤◌, ◌⊎◌, ◌++◌, [], ◌∷◌, All, length, None, Some, MatchBool, IfNone, IfSome, vec_capacity};
+    ghost use Rattle.std.specs.Prelude.{◌≡◌, ◌+◌, ◌^◌, ◌<◌, ◌≤◌, ◌⊎◌, ◌++◌, [], ◌∷◌, All, length, None, Some};
+    ghost use Rattle.std.specs.Prelude.{MatchBool, IfNone, IfSome, vec_capacity};
     ghost use mathlib.Core.List.{IsPrefix};
     ghost use Rattle.fmp_journal.specs.Seats.{AreNew, events, given};
     ghost use Rattle.fmp_journal.specs.Views.{looked_at};

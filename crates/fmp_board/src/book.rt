@@ -42,7 +42,8 @@ impl<'a, S: Site> Model for Book<'a, S> {
 }
 
 impl<'a, S: Site> Book<'a, S> {
-    ghost use Rattle.std.specs.Prelude.{◌≡◌, ◌<◌, ◌≤◌, ◌↔◌, [], length, slice_get, vec_capacity, IfOk, IsTrue, OnOk, OnErr, MatchResult};
+    ghost use Rattle.std.specs.Prelude.{◌≡◌, ◌<◌, ◌≤◌, ◌↔◌, [], length, slice_get, vec_capacity, IfOk, IsTrue, OnOk};
+    ghost use Rattle.std.specs.Prelude.{OnErr, MatchResult};
     ghost use Rattle.fmp_board.specs.declared.fault.BoardFault.TheVariants.{Full};
     ghost use Rattle.fmp_board.specs.Boards.{IsAt, IsJournal, IsReplay, IsRoom};
     ghost use Rattle.fmp_journal.specs.Receipts.{journal_after, marks_after, receipt_of};

@@ -1,10 +1,12 @@
 //! Tickets of a book, and the outcomes of their stretches.
-ghost use Rattle.std.specs.Prelude.{◌≡◌, ◌≢◌, ◌<◌, length, Some, None, IfOk, OnOk, OnErr, MatchBool, MatchOption, MatchResult};
+ghost use Rattle.std.specs.Prelude.{◌≡◌, ◌≢◌, ◌<◌, length, Some, None, IfOk, OnOk, OnErr, MatchBool, MatchOption};
+ghost use Rattle.std.specs.Prelude.{MatchResult};
 ghost use Rattle.fmp_base.specs.declared.events.Event.TheVariants.{Run};
 ghost use Rattle.fmp_journal.specs.Seats.{events};
 ghost use Rattle.fmp_journal.specs.Words.{entry};
 ghost use Rattle.fmp_board.specs.Boards.{IsJournal};
-ghost use Rattle.fmp_board.specs.Outcomes.{AnsweredAfter, Drew, IsDrawn, IsOutcome, IsTicket, IsTicketOf, IsWhyRefused, actor_after, stamp_after, waiting};
+ghost use Rattle.fmp_board.specs.Outcomes.{AnsweredAfter, Drew, IsDrawn, IsOutcome, IsTicket, IsTicketOf, IsWhyRefused};
+ghost use Rattle.fmp_board.specs.Outcomes.{actor_after, stamp_after, waiting};
 ghost use Rattle.fmp_journal.specs.Receipts.{journal_after, marks_after, receipt_of};
 ghost use Rattle.fmp_replay.specs.Replays.{reaction};
 

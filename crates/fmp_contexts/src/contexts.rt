@@ -2,10 +2,12 @@
 ghost use Rattle.std.specs.Prelude.{◌≡◌, ◌<◌, ◌≤◌, is_some, length, replicate, slice_set, true, IfOk, Some, None};
 ghost use Rattle.std.specs.Option.{option_copied};
 ghost use Rattle.fmp_base.specs.declared.bodies.Held.TheVariants.{Goes};
-ghost use Rattle.fmp_base.specs.Meanings.{body_in, context_at, context_for, context_in, context_of, kept_context, task_body, told as told_by, with_context, with_handler_context};
+ghost use Rattle.fmp_base.specs.Meanings.{body_in, context_at, context_for, context_in, context_of, kept_context};
+ghost use Rattle.fmp_base.specs.Meanings.{task_body, told as told_by, with_context, with_handler_context};
 ghost use Rattle.fmp_base.specs.Setups.{first_contexts};
 ghost use Rattle.fmp_base.specs.Systems.{body_of, tables_of, task_config};
-ghost use Rattle.fmp_contexts.specs.Contexts.{AllContexts, Entered, Fitting, HandsOver, HasContext, OfHeld, OfOption, going_context, held_by, is_going, kept_after, stop_of, stretched_from};
+ghost use Rattle.fmp_contexts.specs.Contexts.{AllContexts, Entered, Fitting, HandsOver, HasContext, OfHeld, OfOption};
+ghost use Rattle.fmp_contexts.specs.Contexts.{going_context, held_by, is_going, kept_after, stop_of, stretched_from};
 ghost use Rattle.fmp_worlds.specs.Settled.{IsThere};
 
 use crate::kept::{self, KeptContext};
@@ -131,13 +133,40 @@ impl<C: Copy> BodyContexts<C> {
         Ok(BodyContexts { tasks, handlers })
     }
 
+    /// What is kept of a task, where it stands, if there is anything.
+    fn kept_task(&self, t: u8) -> Option<&KeptContext<C>>
+        ensures { option_copied result ≡ context_at self.now.tasks t }
+    {
+        self.tasks.get(t as usize)?.as_ref()
+    }
+
+    /// What is kept of the handler that runs on a processor, where it stands, if one does.
+    fn kept_handler(&self, p: u8) -> Option<&KeptHandler<C>>
+        ensures { option_copied result ≡ context_at self.now.handlers p }
+    {
+        self.handlers.get(p as usize)?.as_ref()
+    }
+
+    /// What is kept of the caller on processor p, where it stands, if there is anything.
+    fn kept_caller(&self, p: u8, who: Caller) -> Option<&KeptContext<C>>
+        ensures { option_copied result ≡ context_of self.now p who }
+    {
+        match who {
+            Caller::Task(t) => self.kept_task(t),
+            Caller::Handler(_) => {
+                let handler = self.kept_handler(p)?;
+                Some(&handler.kept)
+            }
+        }
+    }
+
     /// The number of the body of the handler that runs on a processor, or 0 if none does.
     pub fn handler_body(&self, p: u8) -> u8
         ensures { result ≡ body_in (context_at self.now.handlers p) }
     {
-        match self.handlers.get(p as usize) {
-            Some(Some(handler)) => handler.body,
-            _ => 0,
+        match self.kept_handler(p) {
+            Some(handler) => handler.body,
+            None => 0,
         }
     }
 
@@ -146,47 +175,24 @@ impl<C: Copy> BodyContexts<C> {
     pub fn context(&self, p: u8, who: Caller) -> Option<&C>
         ensures { option_copied result ≡ kept_context (context_of self.now p who) }
     {
-        match who {
-            Caller::Task(t) => match self.tasks.get(t as usize) {
-                Some(Some(kept)) => Some(kept.context()),
-                _ => None,
-            },
-            Caller::Handler(_) => match self.handlers.get(p as usize) {
-                Some(Some(handler)) => Some(handler.kept.context()),
-                _ => None,
-            },
-        }
+        let kept = self.kept_caller(p, who)?;
+        Some(kept.context())
     }
 
     /// The context from which the caller on processor p goes on, unless it awaits a reply or nothing is kept of it.
     pub fn going(&self, p: u8, who: Caller) -> Option<&C>
         ensures { option_copied result ≡ going_context (context_of self.now p who) }
     {
-        match who {
-            Caller::Task(t) => match self.tasks.get(t as usize) {
-                Some(Some(kept)) => kept.going(),
-                _ => None,
-            },
-            Caller::Handler(_) => match self.handlers.get(p as usize) {
-                Some(Some(handler)) => handler.kept.going(),
-                _ => None,
-            },
-        }
+        self.kept_caller(p, who)?.going()
     }
 
     /// Whether the caller on processor p goes on from a context: not if it awaits a reply, or nothing is kept of it.
     pub fn goes(&self, p: u8, who: Caller) -> bool
         ensures { result ≡ is_going (context_of self.now p who) }
     {
-        match who {
-            Caller::Task(t) => match self.tasks.get(t as usize) {
-                Some(Some(kept)) => kept.goes(),
-                _ => false,
-            },
-            Caller::Handler(_) => match self.handlers.get(p as usize) {
-                Some(Some(handler)) => handler.kept.goes(),
-                _ => false,
-            },
+        match self.kept_caller(p, who) {
+            Some(kept) => kept.goes(),
+            None => false,
         }
     }
 
@@ -194,43 +200,33 @@ impl<C: Copy> BodyContexts<C> {
     pub fn task(&self, t: u8) -> Option<Held<C>>
         ensures { result ≡ context_at self.now.tasks t }
     {
-        match self.tasks.get(t as usize) {
-            Some(Some(kept)) => Some(kept.held()),
-            _ => None,
-        }
+        let kept = self.kept_task(t)?;
+        Some(kept.held())
     }
 
     /// What is kept of the handler that runs on a processor, if one does.
     pub fn handler(&self, p: u8) -> Option<HandlerContext<Held<C>>>
         ensures { result ≡ context_at self.now.handlers p }
     {
-        match self.handlers.get(p as usize) {
-            Some(Some(handler)) => Some(HandlerContext {
-                body: handler.body,
-                context: handler.kept.held(),
-            }),
-            _ => None,
-        }
+        let handler = self.kept_handler(p)?;
+        Some(HandlerContext {
+            body: handler.body,
+            context: handler.kept.held(),
+        })
     }
 
     /// Whether something is kept of a task.
     pub fn has_task(&self, t: u8) -> bool
         ensures { result ≡ is_some (context_at self.now.tasks t) }
     {
-        match self.tasks.get(t as usize) {
-            Some(Some(_)) => true,
-            _ => false,
-        }
+        self.kept_task(t).is_some()
     }
 
     /// Whether something is kept of a handler on a processor.
     pub fn has_handler(&self, p: u8) -> bool
         ensures { result ≡ is_some (context_at self.now.handlers p) }
     {
-        match self.handlers.get(p as usize) {
-            Some(Some(_)) => true,
-            _ => false,
-        }
+        self.kept_handler(p).is_some()
     }
 
     /// This context is kept of a task, if there is one, and awaits a reply, or does not.

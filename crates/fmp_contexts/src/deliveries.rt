@@ -1,6 +1,7 @@
 //! What the lines of an event mean for the bodies: fresh contexts, and replies.
 ghost use Rattle.std.specs.Prelude.{◌≡◌};
-ghost use Rattle.fmp_base.specs.Meanings.{caller_body, contexts_after, contexts_after_all, delivered_to, handler_begun, handler_start as start_of_handler, task_begun};
+ghost use Rattle.fmp_base.specs.Meanings.{caller_body, contexts_after, contexts_after_all, delivered_to, handler_begun};
+ghost use Rattle.fmp_base.specs.Meanings.{handler_start as start_of_handler, task_begun};
 ghost use Rattle.fmp_base.specs.Ranges.{IsInRange};
 ghost use Rattle.fmp_base.specs.Steps.{contexts_ended};
 ghost use Rattle.fmp_contexts.specs.Contexts.{Entered, Fitting, HasPlaces};

@@ -5,7 +5,8 @@ ghost use Rattle.fmp_base.specs.declared.bodies.Held.{Held};
 ghost use Rattle.fmp_base.specs.declared.bodies.Held.TheVariants.{Awaits, Goes};
 ghost use Rattle.fmp_base.specs.Meanings.{kept_context, told};
 ghost use Rattle.fmp_base.specs.Contexts.{OfCall, stopped};
-ghost use Rattle.fmp_contexts.specs.Contexts.{OfHeld, context_held, going_context, held_by, is_call, is_going, stretched_from};
+ghost use Rattle.fmp_contexts.specs.Contexts.{OfHeld, context_held, going_context, held_by, is_call, is_going};
+ghost use Rattle.fmp_contexts.specs.Contexts.{stretched_from};
 
 use fmp_base::{Body, Held, Reply, StretchStop};
 use std::marker::Model;

@@ -90,8 +90,8 @@ fn restore_tasks<B: Body, T: ContextTest<B>>(
     true
 }
 
-/// This context is kept of handler h, which runs on processor p. Gives whether there is such a handler, and it is one of
-/// its body.
+/// This context is kept of handler h, which runs on processor p. Gives whether there is such a handler, and it is one
+/// of its body.
 fn restore_handler<B: Body, T: ContextTest<B>>(
     test: &T,
     body: &B,

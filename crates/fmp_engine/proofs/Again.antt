@@ -8,9 +8,9 @@ use Rattle.fmp_base.specs.declared.events.Event.{Event}
 use Rattle.fmp_base.specs.declared.events.Event.TheVariants.{Run, Tick, Int}
 use Rattle.fmp_hostrun.specs.Counts.{IsEventOf}
 use Rattle.fmp_hostrun.specs.declared.turns.Load.{Load}
-use Rattle.fmp_image_parts.proofs.Names.{and_true}
-use Rattle.fmp_image_parts.specs.Fields.{in_range}
-use Rattle.fmp_steps.specs.Steps.{steps_of, steps_text}
+use Rattle.fmp_image_bytes.proofs.Names.{and_true}
+use Rattle.fmp_image_bytes.specs.Fields.{in_range}
+use Rattle.fmp_trace.specs.Steps.{steps_of, steps_text}
 use Rattle.fmp_trace.specs.StepsLaws.{IsStep, PrintedStepsReadBack}
 use Rattle.fmp_engine.specs.declared.hosting.Workload.{Workload}
 use Rattle.fmp_engine.specs.Hosting.{Hosts, IsWorkload, load_for}

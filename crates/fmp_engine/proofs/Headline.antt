@@ -7,7 +7,7 @@ use Rattle.fmp_codegen.specs.Runs.{PrintsText}
 use Rattle.fmp_image_bytes.specs.Images.{ImageTables, Spells}
 use Rattle.fmp_image_bytes.proofs.ImageLaws.{one_image}
 use Rattle.fmp_tasklang.specs.Trees.{BodyTree}
-use Rattle.fmp_steps.specs.Steps.{steps_of}
+use Rattle.fmp_trace.specs.Steps.{steps_of}
 use Rattle.fmp_engine.specs.declared.hosting.Workload.{Workload}
 use Rattle.fmp_engine.specs.Hosting.{Hosts, HostsTexts, IsHosted}
 use Rattle.fmp_engine.specs.Simulations.{Simulates, PrintsTexts}

@@ -6,7 +6,7 @@ use Rattle.fmp_base.specs.Systems.{SystemTables}
 use Rattle.fmp_base.specs.Texts.{whole_text}
 use Rattle.fmp_instructions.specs.Machine.{code_meaning}
 use Rattle.fmp_image_bytes.specs.Images.{ImageTables, Spells}
-use Rattle.fmp_steps.specs.Steps.{steps_of}
+use Rattle.fmp_trace.specs.Steps.{steps_of}
 use Rattle.fmp_engine.specs.Outlets.{Given}
 use Rattle.fmp_engine.specs.Simulations.{Simulates, SimulatesInto}
 

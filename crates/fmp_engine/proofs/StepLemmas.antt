@@ -4,9 +4,9 @@ use Rattle.std.proofs.Common.{nat_le, ap}
 use Rattle.std.specs.Prelude.{if◌then◌else◌}
 use Rattle.std.proofs.lemmas.Bool.Decides.{nat_tests}
 use Rattle.fmp_base.specs.declared.events.Event.{Event}
-use Rattle.fmp_steps.specs.declared.faults.StepsFault.{StepsFault}
-use Rattle.fmp_steps.specs.declared.faults.StepsFault.TheVariants as fault
-use Rattle.fmp_steps.specs.Steps.{in_front, fault_at, line_meaning, events_of, lines_of, steps_of}
+use Rattle.fmp_trace.specs.declared.faults.StepsFault.{StepsFault}
+use Rattle.fmp_trace.specs.declared.faults.StepsFault.TheVariants as fault
+use Rattle.fmp_trace.specs.Steps.{in_front, fault_at, line_meaning, events_of, lines_of, steps_of}
 
 -- how many events there are, 0 at a fault
 abbrev count_of : Result (List Event) StepsFault → ℕ

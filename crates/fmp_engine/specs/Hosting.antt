@@ -14,12 +14,12 @@ use Rattle.fmp_hostrun.specs.Counts.{AreCounted}
 use Rattle.fmp_hostrun.specs.Works.{IsRun, most_of}
 use Rattle.fmp_hostrun.specs.declared.turns.Load.{Load}
 use Rattle.fmp_replay.specs.Replays.{IsLegal}
-use Rattle.fmp_image_parts.specs.declared.fault.LoadFault.TheVariants as load
+use Rattle.fmp_image_bytes.specs.declared.fault.LoadFault.TheVariants as load
 use Rattle.fmp_image_bytes.specs.Images.{ImageTables, Spells, image_at}
 use Rattle.fmp_tasklang.specs.Contexts.{TextContext}
 use Rattle.fmp_tasklang.specs.Texts.{text_meaning}
 use Rattle.fmp_tasklang.specs.Trees.{BodyTree}
-use Rattle.fmp_steps.specs.Steps.{steps_text}
+use Rattle.fmp_trace.specs.Steps.{steps_text}
 use Rattle.fmp_engine.specs.declared.hosting.HostFault.{HostFault}
 use Rattle.fmp_engine.specs.declared.hosting.HostFault.TheVariants as fault
 use Rattle.fmp_engine.specs.declared.hosting.Workload.{Workload}

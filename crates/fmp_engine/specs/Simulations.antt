@@ -8,13 +8,13 @@ use Rattle.fmp_base.specs.Setups.{setup}
 use Rattle.fmp_base.specs.Texts.{trace_text, whole_text}
 use Rattle.fmp_instructions.specs.Machine.{code_meaning}
 use Rattle.fmp_codegen.specs.Tie.{longest}
-use Rattle.fmp_image_parts.specs.declared.fault.LoadFault.TheVariants as load
+use Rattle.fmp_image_bytes.specs.declared.fault.LoadFault.TheVariants as load
 use Rattle.fmp_image_bytes.specs.Images.{ImageTables, Spells, image_at}
 use Rattle.fmp_tasklang.specs.Contexts.{TextContext}
 use Rattle.fmp_tasklang.specs.Texts.{text_meaning}
 use Rattle.fmp_tasklang.specs.Trees.{BodyTree}
-use Rattle.fmp_steps.specs.declared.faults.StepsFault.{StepsFault}
-use Rattle.fmp_steps.specs.Steps.{steps_of}
+use Rattle.fmp_trace.specs.declared.faults.StepsFault.{StepsFault}
+use Rattle.fmp_trace.specs.Steps.{steps_of}
 use Rattle.fmp_engine.specs.declared.fault.SimCut.{SimCut}
 use Rattle.fmp_engine.specs.declared.fault.SimCut.TheVariants as cut
 use Rattle.fmp_engine.specs.declared.fault.SimFault.{SimFault}

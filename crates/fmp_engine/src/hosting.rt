@@ -3,7 +3,8 @@ ghost use Rattle.std.specs.Prelude.{◌≡◌, ◌≢◌, ◌+◌, ◌++◌, ◌
 ghost use Rattle.fmp_base.specs.Texts.{whole_text};
 ghost use Rattle.fmp_image.specs.Building.{Builds};
 ghost use Rattle.fmp_instructions.specs.Machine.{code_meaning};
-ghost use Rattle.fmp_engine.specs.Hosting.{FitsBoard, Hosts, HostsTexts, IsHosted, IsWhyHost, IsWhyNoJournal, IsWorkload, load_for};
+ghost use Rattle.fmp_engine.specs.Hosting.{FitsBoard, Hosts, HostsTexts, IsHosted, IsWhyHost, IsWhyNoJournal};
+ghost use Rattle.fmp_engine.specs.Hosting.{IsWorkload, load_for};
 ghost use Rattle.fmp_engine.specs.Simulations.{Simulates};
 ghost use Rattle.fmp_engine.specs.declared.hosting.HostFault.TheVariants as host_fault;
 ghost use Rattle.fmp_board.specs.Boards.{IsAt, IsClosed, blank as blank_of};
@@ -12,7 +13,7 @@ ghost use Rattle.fmp_hostrun.specs.Counts.{AreCounted};
 ghost use Rattle.fmp_hostrun.specs.Works.{AllAdded, CameBackAs, IsAnswer, IsRun, most_of};
 ghost use Rattle.fmp_image_bytes.specs.Images.{ImageTables, Spells};
 ghost use Rattle.fmp_journal.specs.Seats.{AreNew};
-ghost use Rattle.fmp_steps.specs.Steps.{steps_text};
+ghost use Rattle.fmp_trace.specs.Steps.{steps_text};
 
 use crate::events::Journal;
 use crate::play::play;

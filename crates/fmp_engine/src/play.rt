@@ -1,6 +1,7 @@
 //! A run of a system on the kernel, and its text.
 
-ghost use Rattle.std.specs.Prelude.{◌≡◌, ℕ, [], ◌+◌, ◌++◌, ◌<◌, ◌≤◌, ◌^◌, length, map, OnOk, OnErr, IfErr, vec_capacity, vec_len};
+ghost use Rattle.std.specs.Prelude.{◌≡◌, ℕ, [], ◌+◌, ◌++◌, ◌<◌, ◌≤◌, ◌^◌, length, map, OnOk, OnErr, IfErr};
+ghost use Rattle.std.specs.Prelude.{vec_capacity, vec_len};
 ghost use Rattle.fmp_base.specs.Ranges.{IsInRange};
 ghost use Rattle.fmp_base.specs.Runs.{task_state};
 ghost use Rattle.fmp_base.specs.Setups.{setup};
@@ -117,7 +118,7 @@ fn put_states<B: Body>(kernel: &Kernel<B>, count: u8, states: &mut Vec<TaskState
     }
 }
 
-/// Gives the outlet the text that was put together, and behind it the states of all tasks.
+/// Gives the outlet the text that was put together, and after it the states of all tasks.
 fn give_states<B: Body, T: Outlet>(
     sys: &System,
     kernel: &Kernel<B>,

@@ -107,7 +107,7 @@ abbrev pub Read : Step (Unit {0}) → Me (Unit {0}) View → ℕ → Me (Unit {0
 Read s v n w = (w ≡ v) × (entry_of n ≡ slice_get v.0.pen.journal s.word)
 
 -- the seat has seen no less than before; an entry that it found stands in that at its place, and an empty word lies
--- behind it
+-- after it
 abbrev pub Looked : Step (Unit {0}) → Me (Unit {0}) View → ℕ → Me (Unit {0}) View → Type 0
 Looked s v n w =
     (seen : List JournalEntry)

@@ -1,9 +1,11 @@
 //! The steps on the words of a row. No other file makes one.
-ghost use Rattle.std.specs.Prelude.{◌≡◌, ◌+◌, ◌<◌, ◌≤◌, true, false, [], ◌∷◌, List, length, slice_get, replicate, IfOk, MatchOption, Some};
+ghost use Rattle.std.specs.Prelude.{◌≡◌, ◌+◌, ◌<◌, ◌≤◌, true, false, [], ◌∷◌, List, length, slice_get, replicate, IfOk};
+ghost use Rattle.std.specs.Prelude.{MatchOption, Some};
 ghost use mathlib.Core.List.{IsPrefix};
 ghost use Rattle.fmp_journal.specs.declared.entry.JournalEntry.{JournalEntry};
 ghost use Rattle.fmp_journal.specs.Words.{entry_of};
-ghost use Rattle.fmp_journal.specs.Views.{own, times, first_view, seat_part, scribe_part, lent, after_deal, dealt, written, looked, shown};
+ghost use Rattle.fmp_journal.specs.Views.{own, times, first_view, seat_part, scribe_part, lent, after_deal, dealt};
+ghost use Rattle.fmp_journal.specs.Views.{written, looked, shown};
 
 use crate::entry::JournalEntry;
 use crate::knowledge::{Limits, View};

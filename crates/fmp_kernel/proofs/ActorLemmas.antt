@@ -361,7 +361,7 @@ gives-none s own q [] h = refl
 gives-none s own q (l ∷ ls) h =
     let first = own-gives s own q l h.0 in let rest = gives-none s own q ls h.1 in omega (arith, first, rest)
 
--- the lines behind a done event's own tell how often q was given another actor
+-- the lines after a done event's own tell how often q was given another actor
 abbrev pub Counts : {C : Type 0} → ℕ → KernelState → Reaction C → Type 0
 Counts q s Nothing = Unit {0}
 Counts q s (Did d) = times_given q (behind_own d.lines) ≡ changes q s d.world.state

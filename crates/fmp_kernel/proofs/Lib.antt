@@ -1,9 +1,12 @@
 mod ActorLemmas
 mod ActorNone
-pub mod Crossing
+pub mod Comings
 mod CountLemmas
+pub mod Crossing
 mod CyclicLemmas
+pub mod EventPlaces
 pub mod FrontLemmas
+mod GroupLemmas
 mod PlaceLemmas
 mod RestartLemmas
 mod RestoredLemmas

@@ -1,5 +1,6 @@
 -- Worlds in which each processor and each task is as between events are settled.
-use Rattle.std.proofs.Common.{◌≡◌, ℕ, zero, suc, ◌+◌, ◌<◌, ◌≤◌, ◌⊎◌, inl, inr, List, [], ◌∷◌, length, Option, Some, None, Bool, true, false, not, ap, arith, is_some, refl, slice_get, subst, sym}
+use Rattle.std.proofs.Common.{◌≡◌, ℕ, zero, suc, ◌+◌, ◌<◌, ◌≤◌, ◌⊎◌, inl, inr, List, [], ◌∷◌, length, Option, Some}
+use Rattle.std.proofs.Common.{None, Bool, true, false, not, ap, arith, is_some, refl, slice_get, subst, sym}
 use Rattle.fmp_base.specs.declared.bodies.HandlerContext.{HandlerContext}
 use Rattle.fmp_base.specs.declared.bodies.Held.{Held}
 use Rattle.fmp_base.specs.declared.bodies.Held.TheVariants.{Awaits, Goes}
@@ -97,9 +98,11 @@ runs sys s cs p t h e = by_place (within p (length s.processors)) where
 
 -- what is kept of a handler awaits no reply
 handlers_free : {C : Type 0} (sys : SystemTables) (s : KernelState) (cs : Contexts (Held C)) (p : ℕ)
-    → length cs.handlers ≡ length s.processors → AreSettledOn sys s cs → AwaitsNone (context_in (context_at cs.handlers p))
+    → length cs.handlers ≡ length s.processors → AreSettledOn sys s cs
+    → AwaitsNone (context_in (context_at cs.handlers p))
 handlers_free {C} sys s cs p same h = by_place (within p (length s.processors)) where
-  by_place : ((p < length s.processors) ⊎ (length s.processors ≤ p)) → AwaitsNone (context_in (context_at cs.handlers p))
+  by_place : ((p < length s.processors) ⊎ (length s.processors ≤ p))
+      → AwaitsNone (context_in (context_at cs.handlers p))
   by_place (inl l) = (h.each p l).free
   by_place (inr l) =
       let nothing : context_at cs.handlers p ≡ None = beyond None cs.handlers p (omega (arith, same, l)) in
@@ -116,8 +119,8 @@ tasks_free sys s cs t same h e = by_place (within t (length sys.tasks)) where
       let none : (task_at s.tasks t).phase ≡ Dormant = task_beyond s.tasks t (omega (arith, same, l)) in
       absurd (cc e)
 
-pub settled_world : {C : Type 0} (sys : SystemTables) (w : World C) → IsWorldOf sys w → AreSettledOn sys w.state w.contexts
-    → AreKeptOf sys w.state w.contexts → IsSettledWorld sys w
+pub settled_world : {C : Type 0} (sys : SystemTables) (w : World C) → IsWorldOf sys w
+    → AreSettledOn sys w.state w.contexts → AreKeptOf sys w.state w.contexts → IsSettledWorld sys w
 settled_world sys w whole h k = record {
   whole = whole;
   state = record {

@@ -1,6 +1,7 @@
 -- What is seen of a kernel.
 use Rattle.std.specs.Prelude.{◌≡◌, ℕ, zero, suc, ◌+◌, List, [], ◌∷◌, Option, Some, None, get_or, replicate}
 use Rattle.fmp_base.specs.declared.bodies.Held.{Held}
+use Rattle.fmp_base.specs.declared.events.Effect.{Effect}
 use Rattle.fmp_base.specs.declared.events.Event.{Event}
 use Rattle.fmp_base.specs.declared.events.Line.{Line}
 use Rattle.fmp_base.specs.declared.events.Line.TheVariants as line
@@ -8,7 +9,7 @@ use Rattle.fmp_base.specs.declared.states.Caller.{Caller}
 use Rattle.fmp_base.specs.Calls.{called}
 use Rattle.fmp_base.specs.Meanings.{Contexts, Meaning, World, caller_body, context_of, with_context}
 use Rattle.fmp_base.specs.States.{Progress, processor_at}
-use Rattle.fmp_base.specs.Steps.{Done, Reaction, Nothing, Did, Kept, actor_of, call_made, ended_with, step}
+use Rattle.fmp_base.specs.Steps.{Done, Reaction, Nothing, Did, Kept, actor_of, call_made, effect_of, ended_with, step}
 use Rattle.fmp_base.specs.Stretches.{Ending}
 use Rattle.fmp_base.specs.Systems.{SystemTables}
 use Rattle.fmp_base.specs.declared.stop.StretchStop.{StretchStop}
@@ -55,6 +56,13 @@ abbrev pub done_or : {C : Type 0} → Done C → Reaction C → Done C
 done_or d Nothing = d
 done_or d (Did e) = e
 done_or d (Kept p w) = record d { world = w }
+
+-- an event that reacts so: what it answers, and the world and the lines after it; the bodies and the clock stay
+pub record Reacts {B C : Type 0} (old new : RunnerView B C) (answer : Effect) (x : Reaction C) : Type 0 where
+  pub effect : answer ≡ effect_of x
+  pub after : done_of new ≡ done_or (done_of old) x
+  pub bodies : SameBodies old new
+  pub clock : new.world.state.clock ≡ old.world.state.clock
 
 -- the effect of a stretch of the actor of p, given how it stopped, in a world that has what is kept of it then: the
 -- call, end or fault is carried out

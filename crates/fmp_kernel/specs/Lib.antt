@@ -1,3 +1,5 @@
+pub mod Comings
+pub mod Groups
 pub mod KernelViews
 pub mod NextTicks
 pub mod Restarts

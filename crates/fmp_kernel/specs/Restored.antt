@@ -18,7 +18,8 @@ RunsOwn tasks p None = Unit {0}
 RunsOwn tasks p (Some t) = ((task_at tasks t).processor ≡ p) × ((task_at tasks t).phase ≡ Ready)
 
 -- processor p is as between events, by itself and by what is kept of its handler
-pub record IsSettledOn {C : Type 0} (sys : SystemTables) (s : KernelState) (cs : Contexts (Held C)) (p : ℕ) : Type 0 where
+pub record IsSettledOn {C : Type 0} (sys : SystemTables) (s : KernelState) (cs : Contexts (Held C)) (p : ℕ)
+    : Type 0 where
   pub own : RunsOwn s.tasks p (processor_at s p).run
   pub begun :
       (processor_at s p).handler ≡ None → is_cpu_locked (processor_at s p) ≡ false → pending_handler sys s p ≡ None

@@ -18,7 +18,7 @@ abbrev pub times_given : ℕ → List Line → ℕ
 times_given p [] = 0
 times_given p (l ∷ ls) = one_if (is_same_task (given_by l) (Some p)) + times_given p ls
 
--- the lines behind the first one, which is the event's own
+-- the lines after the first one, which is the event's own
 abbrev pub behind_own : List Line → List Line
 behind_own [] = []
 behind_own (l ∷ ls) = ls
@@ -31,7 +31,7 @@ none_if false n = n
 abbrev pub times_raised : Option ℕ → List Line → ℕ → ℕ
 times_raised ran ls p = none_if (is_same_task ran (Some p)) (times_given p ls)
 
--- how often p is counted for an event with these lines behind its own: once where it ran p, else for each line that
+-- how often p is counted for an event with these lines after its own: once where it ran p, else for each line that
 -- gives p another actor
 abbrev pub times_counted : Option ℕ → List Line → ℕ → ℕ
 times_counted ran ls p = one_if (is_same_task ran (Some p)) + times_raised ran ls p
@@ -51,7 +51,7 @@ pub record AreRaised (old new : List ℕ) (ran : Option ℕ) (lines : List Line)
   pub long : length new ≡ length old
   pub each : (p : ℕ) → p < length old → get_or new p 0 ≡ get_or old p 0 + times_raised ran lines p
 
--- each processor was counted for an event that ran this one, if any, with these lines behind its own
+-- each processor was counted for an event that ran this one, if any, with these lines after its own
 pub record AreCounted (old new : List ℕ) (ran : Option ℕ) (lines : List Line) : Type 0 where
   pub long : length new ≡ length old
   pub each : (p : ℕ) → p < length old → get_or new p 0 ≡ get_or old p 0 + times_counted ran lines p

@@ -4,17 +4,20 @@ ghost use Rattle.fmp_base.specs.declared.bodies.Held.TheVariants.{Goes};
 ghost use Rattle.fmp_base.specs.Calls.{called};
 ghost use Rattle.fmp_base.specs.Meanings.{caller_body, context_of, with_context};
 ghost use Rattle.fmp_base.specs.States.{processor_at};
-ghost use Rattle.fmp_base.specs.Steps.{Did, actor_of, call_made, effect_of, ended_with, finished, handler_ended as ended_handler, run_by, run_in, step};
+ghost use Rattle.fmp_base.specs.Steps.{Did, actor_of, call_made, effect_of, ended_with, finished};
+ghost use Rattle.fmp_base.specs.Steps.{handler_ended as ended_handler, run_by, run_in, step};
 ghost use Rattle.fmp_base.specs.Stretches.{ending};
 ghost use Rattle.fmp_base.specs.Contexts.{OfCall};
 ghost use Rattle.fmp_contexts.specs.Contexts.{HandsOver, HasContext, IsFor, is_call, is_going, stop_of};
-ghost use Rattle.fmp_kernel.specs.KernelViews.{SameBodies, done_of, done_or, kept_in, progress_of, stopped_on, stretch_in, with_contexts, with_stretch};
+ghost use Rattle.fmp_kernel.specs.KernelViews.{Reacts, SameBodies, done_of, done_or, kept_in, progress_of, stopped_on};
+ghost use Rattle.fmp_kernel.specs.KernelViews.{stretch_in, with_stretch};
 ghost use Rattle.fmp_tasks.specs.Callers.{IsTaskOf};
 ghost use Rattle.fmp_tasks.specs.Tables.{SameShape};
 ghost use Rattle.fmp_worlds.specs.Spins.{MaySpin};
 ghost use Rattle.fmp_worlds.specs.Stamps.{actor_at, applied_by, applied_in};
 
 use crate::actors::actor_on;
+use crate::calls::call;
 use crate::runner::Runner;
 use crate::spins::may_spin;
 use crate::ticks::advance;
@@ -22,7 +25,6 @@ use fmp_base::{
     Answer, Body, Call, Caller, Effect, Event, Fault, Handler, Line, Processor, Reply, Stretch,
     StretchStop,
 };
-use fmp_calls::call;
 use fmp_contexts::{end_context, entry_of, stretch};
 use fmp_migrate::end_itself;
 use fmp_tasks::KernelState;
@@ -47,10 +49,8 @@ impl<B: Body> Runner<B> {
     fn end_actor(&mut self, p: u8, who: Caller, own: Line)
         requires there { p < self.old.system.processors }
         requires caller { IsTaskOf self.old.system who }
-        ensures after { done_of self.new
-            ≡ ended_with self.old.system (B.meaning self.old.body) self.old.world p who own }
-        ensures bodies { SameBodies self.old self.new }
-        ensures clock { self.new.world.state.clock ≡ self.old.world.state.clock }
+        ensures { Reacts self.old self.new Effect.Done
+            (Did (ended_with self.old.system (B.meaning self.old.body) self.old.world p who own)) }
     {
         self.caused.clear();
         end_context(&self.body, &self.tables, &mut self.contexts, p, who);
@@ -66,10 +66,8 @@ impl<B: Body> Runner<B> {
     fn end_well(&mut self, p: u8, who: Caller)
         requires there { p < self.old.system.processors }
         requires caller { IsTaskOf self.old.system who }
-        ensures after { done_of self.new
-            ≡ ended_with self.old.system (B.meaning self.old.body) self.old.world p who (Line.End p who) }
-        ensures bodies { SameBodies self.old self.new }
-        ensures clock { self.new.world.state.clock ≡ self.old.world.state.clock }
+        ensures { Reacts self.old self.new Effect.Done
+            (Did (ended_with self.old.system (B.meaning self.old.body) self.old.world p who (Line.End p who))) }
     {
         let own = Line::End {
             processor: p,
@@ -83,10 +81,8 @@ impl<B: Body> Runner<B> {
     fn end_by_fault(&mut self, p: u8, who: Caller, fault: Fault)
         requires there { p < self.old.system.processors }
         requires caller { IsTaskOf self.old.system who }
-        ensures after { done_of self.new
-            ≡ ended_with self.old.system (B.meaning self.old.body) self.old.world p who (Line.Fault p who fault) }
-        ensures bodies { SameBodies self.old self.new }
-        ensures clock { self.new.world.state.clock ≡ self.old.world.state.clock }
+        ensures { Reacts self.old self.new Effect.Done
+            (Did (ended_with self.old.system (B.meaning self.old.body) self.old.world p who (Line.Fault p who fault))) }
     {
         let own = Line::Fault {
             processor: p,
@@ -98,11 +94,9 @@ impl<B: Body> Runner<B> {
 
     /// Ends the event of this call, with its reply if it has one.
     fn finish_call(&mut self, p: u8, who: Caller, made: &Call, reply: Option<Reply>)
-        ensures after { done_of self.new
-            ≡ finished self.old.system (B.meaning self.old.body) self.old.world.contexts
-            (Line.Call p who made.now reply ∷ []) (progress_of self.old) }
-        ensures bodies { SameBodies self.old self.new }
-        ensures clock { self.new.world.state.clock ≡ self.old.world.state.clock }
+        ensures { Reacts self.old self.new Effect.Done
+            (Did (finished self.old.system (B.meaning self.old.body) self.old.world.contexts
+            (Line.Call p who made.now reply ∷ []) (progress_of self.old))) }
     {
         self.finish(Line::Call {
             processor: p,
@@ -114,11 +108,9 @@ impl<B: Body> Runner<B> {
 
     /// Ends the event of a call with which the caller has ended.
     fn finish_end(&mut self, p: u8, who: Caller)
-        ensures after { done_of self.new
-            ≡ finished self.old.system (B.meaning self.old.body) self.old.world.contexts
-            (Line.End p who ∷ []) (progress_of self.old) }
-        ensures bodies { SameBodies self.old self.new }
-        ensures clock { self.new.world.state.clock ≡ self.old.world.state.clock }
+        ensures { Reacts self.old self.new Effect.Done
+            (Did (finished self.old.system (B.meaning self.old.body) self.old.world.contexts (Line.End p who ∷ [])
+            (progress_of self.old))) }
     {
         self.finish(Line::End {
             processor: p,
@@ -131,14 +123,9 @@ impl<B: Body> Runner<B> {
     fn make_call(&mut self, p: u8, who: Caller, made: &Call) -> Effect
         requires there { p < self.old.system.processors }
         requires caller { IsTaskOf self.old.system who }
-        ensures effect { result
-            ≡ effect_of (call_made self.old.system (B.meaning self.old.body) self.old.world.contexts p who made.now
+        ensures { Reacts self.old self.new result
+            (call_made self.old.system (B.meaning self.old.body) self.old.world.contexts p who made.now
             (called self.old.system self.old.world.state p who made.now)) }
-        ensures after { done_of self.new
-            ≡ done_or (done_of self.old) (call_made self.old.system (B.meaning self.old.body)
-            self.old.world.contexts p who made.now (called self.old.system self.old.world.state p who made.now)) }
-        ensures bodies { SameBodies self.old self.new }
-        ensures clock { self.new.world.state.clock ≡ self.old.world.state.clock }
     {
         self.caused.clear();
         match call(&mut self.tables, &mut self.caused, p, who, made) {
@@ -206,13 +193,8 @@ impl<B: Body> Runner<B> {
     fn carry_out_stop(&mut self, p: u8, who: Caller, stop: &StretchStop) -> Effect
         requires there { p < self.old.system.processors }
         requires caller { IsTaskOf self.old.system who }
-        ensures effect { result
-            ≡ effect_of (stopped_on self.old.system (B.meaning self.old.body) self.old.world p who stop.now) }
-        ensures after { done_of self.new
-            ≡ done_or (done_of self.old)
+        ensures { Reacts self.old self.new result
             (stopped_on self.old.system (B.meaning self.old.body) self.old.world p who stop.now) }
-        ensures bodies { SameBodies self.old self.new }
-        ensures clock { self.new.world.state.clock ≡ self.old.world.state.clock }
     {
         match stop {
             StretchStop::Over => Effect::Kept,
@@ -256,14 +238,8 @@ impl<B: Body> Runner<B> {
         requires kept { is_call stop.now ≡ true → HasContext self.old.world.contexts p who }
         requires context { is_call stop.now ≡ true
             → B.is_context self.old.body (caller_body self.old.system self.old.world.contexts p who) first.now }
-        ensures effect { result
-            ≡ effect_of (stopped_on self.old.system (B.meaning self.old.body) self.old.world p who stop.now) }
-        ensures after { done_of self.new
-            ≡ done_or (with_contexts (done_of self.old) (with_context self.old.world.contexts p who
-            (Some (Goes first.now))))
-            (stopped_on self.old.system (B.meaning self.old.body) self.old.world p who stop.now) }
-        ensures bodies { SameBodies self.old self.new }
-        ensures clock { self.new.world.state.clock ≡ self.old.world.state.clock }
+        ensures { Reacts (kept_in self.old (with_context self.old.world.contexts p who (Some (Goes first.now))))
+            self.new result (stopped_on self.old.system (B.meaning self.old.body) self.old.world p who stop.now) }
     {
         match self.carry_out_stop(p, who, stop) {
             Effect::Done => Effect::Done,
@@ -282,14 +258,9 @@ impl<B: Body> Runner<B> {
         requires there { p < self.old.system.processors }
         requires goes { is_going (context_of self.old.world.contexts p who) ≡ true }
         requires free { MaySpin self.old.system self.old.world.state p who → ⊥ }
-        ensures effect { result
-            ≡ effect_of (run_in self.old.system (B.meaning self.old.body) self.old.bound self.old.world p who
+        ensures { Reacts self.old self.new result
+            (run_in self.old.system (B.meaning self.old.body) self.old.bound self.old.world p who
             (context_of self.old.world.contexts p who)) }
-        ensures after { done_of self.new
-            ≡ done_or (done_of self.old) (run_in self.old.system (B.meaning self.old.body) self.old.bound
-            self.old.world p who (context_of self.old.world.contexts p who)) }
-        ensures bodies { SameBodies self.old self.new }
-        ensures clock { self.new.world.state.clock ≡ self.old.world.state.clock }
     {
         let stop = self.go_on(p, who);
         self.carry_out_stop(p, who, &stop)
@@ -301,14 +272,9 @@ impl<B: Body> Runner<B> {
     fn make_stretch_or_spin(&mut self, p: u8, who: Caller) -> Effect
         requires there { p < self.old.system.processors }
         requires goes { is_going (context_of self.old.world.contexts p who) ≡ true }
-        ensures effect { result
-            ≡ effect_of (run_in self.old.system (B.meaning self.old.body) self.old.bound self.old.world p who
+        ensures { Reacts self.old self.new result
+            (run_in self.old.system (B.meaning self.old.body) self.old.bound self.old.world p who
             (context_of self.old.world.contexts p who)) }
-        ensures after { done_of self.new
-            ≡ done_or (done_of self.old) (run_in self.old.system (B.meaning self.old.body) self.old.bound
-            self.old.world p who (context_of self.old.world.contexts p who)) }
-        ensures bodies { SameBodies self.old self.new }
-        ensures clock { self.new.world.state.clock ≡ self.old.world.state.clock }
     {
         let first = self.first_context(p, who);
         let stop = self.go_on(p, who);
@@ -341,14 +307,9 @@ impl<B: Body> Runner<B> {
             (B.is_context self.old.body (caller_body self.old.system self.old.world.contexts p who))
             (ending stretch) }
         requires free { MaySpin self.old.system self.old.world.state p who → ⊥ }
-        ensures effect { result
-            ≡ effect_of (applied_in self.old.system (B.meaning self.old.body) self.old.world p who
+        ensures { Reacts self.old self.new result
+            (applied_in self.old.system (B.meaning self.old.body) self.old.world p who
             (context_of self.old.world.contexts p who) (ending stretch)) }
-        ensures after { done_of self.new
-            ≡ done_or (done_of self.old) (applied_in self.old.system (B.meaning self.old.body) self.old.world p who
-            (context_of self.old.world.contexts p who) (ending stretch)) }
-        ensures bodies { SameBodies self.old self.new }
-        ensures clock { self.new.world.state.clock ≡ self.old.world.state.clock }
     {
         let stop = self.take(p, who, stretch);
         self.carry_out_stop(p, who, &stop)
@@ -364,14 +325,9 @@ impl<B: Body> Runner<B> {
         requires context { OfCall
             (B.is_context self.old.body (caller_body self.old.system self.old.world.contexts p who))
             (ending stretch) }
-        ensures effect { result
-            ≡ effect_of (applied_in self.old.system (B.meaning self.old.body) self.old.world p who
+        ensures { Reacts self.old self.new result
+            (applied_in self.old.system (B.meaning self.old.body) self.old.world p who
             (context_of self.old.world.contexts p who) (ending stretch)) }
-        ensures after { done_of self.new
-            ≡ done_or (done_of self.old) (applied_in self.old.system (B.meaning self.old.body) self.old.world p who
-            (context_of self.old.world.contexts p who) (ending stretch)) }
-        ensures bodies { SameBodies self.old self.new }
-        ensures clock { self.new.world.state.clock ≡ self.old.world.state.clock }
     {
         let first = self.first_context(p, who);
         let stop = self.take(p, who, stretch);
@@ -383,14 +339,8 @@ impl<B: Body> Runner<B> {
     #[inline(always)]
     fn run_actor(&mut self, p: u8, who: Caller) -> Effect
         requires { p < self.old.system.processors }
-        ensures effect { result
-            ≡ effect_of (run_by self.old.system (B.meaning self.old.body) self.old.bound self.old.world p
-            (Some who)) }
-        ensures after { done_of self.new
-            ≡ done_or (done_of self.old) (run_by self.old.system (B.meaning self.old.body) self.old.bound
-            self.old.world p (Some who)) }
-        ensures bodies { SameBodies self.old self.new }
-        ensures clock { self.new.world.state.clock ≡ self.old.world.state.clock }
+        ensures { Reacts self.old self.new result
+            (run_by self.old.system (B.meaning self.old.body) self.old.bound self.old.world p (Some who)) }
     {
         if !self.contexts.goes(p, who) {
             return Effect::Nothing;
@@ -406,28 +356,18 @@ impl<B: Body> Runner<B> {
     #[inline(never)]
     fn run_handler(&mut self, p: u8, handler: Handler) -> Effect
         requires { p < self.old.system.processors }
-        ensures effect { result
-            ≡ effect_of (run_by self.old.system (B.meaning self.old.body) self.old.bound self.old.world p
+        ensures { Reacts self.old self.new result
+            (run_by self.old.system (B.meaning self.old.body) self.old.bound self.old.world p
             (Some (Caller.Handler handler))) }
-        ensures after { done_of self.new
-            ≡ done_or (done_of self.old) (run_by self.old.system (B.meaning self.old.body) self.old.bound
-            self.old.world p (Some (Caller.Handler handler))) }
-        ensures bodies { SameBodies self.old self.new }
-        ensures clock { self.new.world.state.clock ≡ self.old.world.state.clock }
     {
         self.run_actor(p, Caller::Handler(handler))
     }
 
     /// Processor p runs its actor for a stretch.
     fn run(&mut self, p: u8) -> Effect
-        ensures effect { result
-            ≡ effect_of (run_by self.old.system (B.meaning self.old.body) self.old.bound self.old.world p
+        ensures { Reacts self.old self.new result
+            (run_by self.old.system (B.meaning self.old.body) self.old.bound self.old.world p
             (actor_of (processor_at self.old.world.state p))) }
-        ensures after { done_of self.new
-            ≡ done_or (done_of self.old) (run_by self.old.system (B.meaning self.old.body) self.old.bound
-            self.old.world p (actor_of (processor_at self.old.world.state p))) }
-        ensures bodies { SameBodies self.old self.new }
-        ensures clock { self.new.world.state.clock ≡ self.old.world.state.clock }
     {
         match actor_on(&self.tables, p) {
             None => Effect::Nothing,
@@ -444,14 +384,8 @@ impl<B: Body> Runner<B> {
         requires actor { actor_of (processor_at self.old.world.state p) ≡ Some who }
         requires context { IsFor B.is_context self.old.body (ending stretch)
             (actor_at self.old.system self.old.world p) }
-        ensures effect { result
-            ≡ effect_of (applied_by self.old.system (B.meaning self.old.body) self.old.world p
-            (Some who) (ending stretch)) }
-        ensures after { done_of self.new
-            ≡ done_or (done_of self.old) (applied_by self.old.system (B.meaning self.old.body) self.old.world p
-            (Some who) (ending stretch)) }
-        ensures bodies { SameBodies self.old self.new }
-        ensures clock { self.new.world.state.clock ≡ self.old.world.state.clock }
+        ensures { Reacts self.old self.new result
+            (applied_by self.old.system (B.meaning self.old.body) self.old.world p (Some who) (ending stretch)) }
     {
         if !self.contexts.goes(p, who) {
             return Effect::Nothing;
@@ -470,14 +404,9 @@ impl<B: Body> Runner<B> {
         requires actor { actor_of (processor_at self.old.world.state p) ≡ Some (Caller.Handler handler) }
         requires context { IsFor B.is_context self.old.body (ending stretch)
             (actor_at self.old.system self.old.world p) }
-        ensures effect { result
-            ≡ effect_of (applied_by self.old.system (B.meaning self.old.body) self.old.world p
-            (Some (Caller.Handler handler)) (ending stretch)) }
-        ensures after { done_of self.new
-            ≡ done_or (done_of self.old) (applied_by self.old.system (B.meaning self.old.body) self.old.world p
-            (Some (Caller.Handler handler)) (ending stretch)) }
-        ensures bodies { SameBodies self.old self.new }
-        ensures clock { self.new.world.state.clock ≡ self.old.world.state.clock }
+        ensures { Reacts self.old self.new result
+            (applied_by self.old.system (B.meaning self.old.body) self.old.world p (Some (Caller.Handler handler))
+            (ending stretch)) }
     {
         self.apply_actor(p, Caller::Handler(handler), stretch)
     }
@@ -485,14 +414,9 @@ impl<B: Body> Runner<B> {
     /// Processor p runs its actor, whose stretch is this one.
     pub fn apply(&mut self, p: u8, stretch: Stretch<B::Ctx>) -> Effect
         requires { IsFor B.is_context self.old.body (ending stretch) (actor_at self.old.system self.old.world p) }
-        ensures effect { result
-            ≡ effect_of (applied_by self.old.system (B.meaning self.old.body) self.old.world p
+        ensures { Reacts self.old self.new result
+            (applied_by self.old.system (B.meaning self.old.body) self.old.world p
             (actor_of (processor_at self.old.world.state p)) (ending stretch)) }
-        ensures after { done_of self.new
-            ≡ done_or (done_of self.old) (applied_by self.old.system (B.meaning self.old.body) self.old.world p
-            (actor_of (processor_at self.old.world.state p)) (ending stretch)) }
-        ensures bodies { SameBodies self.old self.new }
-        ensures clock { self.new.world.state.clock ≡ self.old.world.state.clock }
     {
         match actor_on(&self.tables, p) {
             None => Effect::Nothing,
@@ -519,14 +443,8 @@ impl<B: Body> Runner<B> {
     /// pending already.
     #[tactic(auto, using(fmp_contexts::proofs::RangeLemmas::no_interrupt_beyond))]
     fn interrupt(&mut self, number: u8) -> Effect
-        ensures effect { result
-            ≡ effect_of
+        ensures { Reacts self.old self.new result
             (step self.old.system (B.meaning self.old.body) self.old.bound self.old.world (Event.Int number)) }
-        ensures after { done_of self.new
-            ≡ done_or (done_of self.old)
-            (step self.old.system (B.meaning self.old.body) self.old.bound self.old.world (Event.Int number)) }
-        ensures bodies { SameBodies self.old self.new }
-        ensures clock { self.new.world.state.clock ≡ self.old.world.state.clock }
     {
         let tables = &self.tables;
         if number == 0 {

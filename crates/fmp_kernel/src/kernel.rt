@@ -70,11 +70,9 @@ impl<B: Body> Model for Kernel<B> {
 
 impl<B: Body + Drop> Kernel<B> {
     /// A kernel after setup (uITRON 4.0, section 3.7): all objects are made, the tasks with TA_ACT are started, in
-    /// order of number, and all processors settle. A stretch of a body takes at most n units, 1 to 2^48; a longer one
-    /// keeps its place. `KernelFault::Memory` if memory runs out: no call after this one takes any.
+    /// order of number, and all processors settle. A stretch of a body takes at most n units; a longer one keeps its
+    /// place. `KernelFault::Memory` if memory runs out: no call after this one takes any.
     pub fn new(alloc: Global, body: B, sys: &System, n: u64) -> Result<Self, KernelFault>
-        requires low { 1 ≤ n }
-        requires high { n ≤ 2 ^ 48 }
         requires entries { Entered B.has_entry body (tables_of sys.now) }
         requires range { IsInRange (tables_of sys.now) }
         ensures { IfOk result
@@ -106,6 +104,13 @@ impl<B: Body> Kernel<B> {
         ensures { result.now ≡ self.now.body }
     {
         &self.runner.body
+    }
+
+    /// How many units a stretch of a body takes at most.
+    pub fn bound(&self) -> u64
+        ensures { result ≡ self.now.bound }
+    {
+        self.runner.bound
     }
 
     /// How many events were done: the number of the last one in the trace.

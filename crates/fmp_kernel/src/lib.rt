@@ -1,9 +1,12 @@
 //! The kernel over bodies that are given by a trait: one event is one step of its state. It takes every system in
-//! range, and serves every service call of the uITRON 4.0 standard profile and of the FMP kernel that this kernel has,
-//! from tasks and from handlers.
+//! range, and carries out every service call of the uITRON 4.0 standard profile and of the FMP kernel that this kernel
+//! has, for tasks, for handlers, and for bodies that run elsewhere.
 #![tactic(auto)]
 
 pub mod actors;
+mod calls;
+mod coming;
+mod coming_laws;
 mod events;
 pub mod kernel;
 pub mod laws;
@@ -16,6 +19,8 @@ mod starting;
 mod ticks;
 
 pub use actors::Actor;
+pub use coming::Coming;
+pub use coming_laws::events_are_steps;
 pub use fmp_base::Body;
 pub use fmp_contexts::{ContextTest, SavedContexts};
 pub use kernel::{Kernel, KernelFault};

@@ -9,8 +9,8 @@ ghost use Rattle.fmp_contexts.specs.Contexts.{HasPlaces};
 ghost use Rattle.fmp_kernel.specs.Restored.{AreKeptOf, AreSettledOn, IsKeptOf, IsSettledOn, RunsOwn};
 ghost use Rattle.fmp_worlds.specs.Settled.{AwaitsNone, IsSettledWorld, IsThere};
 
+use crate::calls::context::is_cpu_locked;
 use fmp_base::{Caller, Handler, Phase, Processor};
-use fmp_calls::is_cpu_locked;
 use fmp_contexts::{BodyContexts, SavedContexts};
 use fmp_tasks::{KernelState, SavedState};
 

@@ -1,12 +1,14 @@
 //! The runner of events: the bodies with their contexts over the tables, and room for the lines of an event.
-ghost use Rattle.std.specs.Prelude.{◌≡◌, ◌+◌, ◌≤◌, ◌<◌, ◌^◌, ◌++◌, ◌∷◌, ℕ, [], get_or, length, map, replicate, vec_len, vec_capacity, false, IfOk, IfSome, Some, None};
-ghost use Rattle.fmp_base.specs.Runs.{task_state, state_word as word_of_state};
+ghost use Rattle.std.specs.Prelude.{◌≡◌, ◌+◌, ◌≤◌, ◌<◌, ◌^◌, ◌++◌, ◌∷◌, ℕ, [], get_or, length, map, replicate, vec_len};
+ghost use Rattle.std.specs.Prelude.{vec_capacity, IfOk, IfSome, Some, None};
+ghost use Rattle.fmp_base.specs.declared.events.Effect.TheVariants as effect;
+ghost use Rattle.fmp_base.specs.Runs.{task_state};
 ghost use Rattle.fmp_base.specs.Ranges.{IsInRange};
 ghost use Rattle.fmp_base.specs.Setups.{created_state, first_contexts, setup};
-ghost use Rattle.fmp_base.specs.Steps.{finished};
+ghost use Rattle.fmp_base.specs.Steps.{Did, finished};
 ghost use Rattle.fmp_base.specs.Systems.{tables_of};
 ghost use Rattle.fmp_contexts.specs.Contexts.{Entered};
-ghost use Rattle.fmp_kernel.specs.KernelViews.{SameBodies, done_of, progress_of, stamp_of, with_stamp};
+ghost use Rattle.fmp_kernel.specs.KernelViews.{Reacts, SameBodies, done_of, progress_of, stamp_of, with_stamp};
 ghost use Rattle.fmp_kernel.specs.Restarts.{clock_restarted_in};
 ghost use Rattle.fmp_ticks.specs.Times.{NoneBefore};
 ghost use Rattle.fmp_worlds.specs.Settled.{IsWorldOf};
@@ -15,7 +17,7 @@ ghost use Rattle.fmp_worlds.specs.Stamps.{actor_at};
 use crate::actors::{Actor, actor_on};
 use crate::settling::{is_same_task, settle};
 use crate::starting::start_active;
-use fmp_base::{Body, Line, Phase, StateWord, System, TaskState};
+use fmp_base::{Body, Line, StateWord, System, TaskState};
 use fmp_contexts::{BodyContexts, carry_out, entry_of};
 use fmp_tasks::KernelState;
 use std::alloc::{AllocError, Global};
@@ -69,25 +71,6 @@ fn append(lines: &mut Vec<Line>, more: &Vec<Line>)
 {
     for line in more {
         lines.push_reserved(*line);
-    }
-}
-
-/// The word for a task's state.
-fn state_word(phase: Phase, suspended: bool, runs: bool) -> StateWord
-    ensures { result ≡ word_of_state phase suspended runs }
-{
-    match (phase, suspended) {
-        (Phase::Dormant, _) => StateWord::Dormant,
-        (Phase::Waiting(_), true) => StateWord::WaitingSuspended,
-        (Phase::Waiting(_), false) => StateWord::Waiting,
-        (Phase::Ready, true) => StateWord::Suspended,
-        (Phase::Ready, false) => {
-            if runs {
-                StateWord::Running
-            } else {
-                StateWord::Ready
-            }
-        }
     }
 }
 
@@ -150,7 +133,7 @@ impl<B: Body> Runner<B> {
         let x = self.tables.task(t);
         let runs = is_same_task(self.tables.processor(x.processor).run, Some(t));
         TaskState {
-            word: state_word(x.phase, x.suspended, runs),
+            word: StateWord::of(x.phase, x.suspended, runs),
             processor: x.processor,
             priority: x.priority,
         }
@@ -211,11 +194,9 @@ impl<B: Body> Runner<B> {
     /// settle, and the contexts follow the lines.
     fn conclude(&mut self)
         requires few { length self.old.lines ≤ 1 }
-        ensures after { done_of self.new
-            ≡ finished self.old.system (B.meaning self.old.body) self.old.world.contexts self.old.lines
-            (progress_of self.old) }
-        ensures bodies { SameBodies self.old self.new }
-        ensures clock { self.new.world.state.clock ≡ self.old.world.state.clock }
+        ensures { Reacts self.old self.new effect.Done
+            (Did (finished self.old.system (B.meaning self.old.body) self.old.world.contexts self.old.lines
+            (progress_of self.old))) }
     {
         append(&mut self.lines, &self.caused);
         settle(&mut self.tables, &mut self.lines);
@@ -225,11 +206,9 @@ impl<B: Body> Runner<B> {
     /// Ends an event: its own line, the lines of what it caused, and settling.
     #[inline(always)]
     pub fn finish(&mut self, own: Line)
-        ensures after { done_of self.new
-            ≡ finished self.old.system (B.meaning self.old.body) self.old.world.contexts (own ∷ [])
-            (progress_of self.old) }
-        ensures bodies { SameBodies self.old self.new }
-        ensures clock { self.new.world.state.clock ≡ self.old.world.state.clock }
+        ensures { Reacts self.old self.new effect.Done
+            (Did (finished self.old.system (B.meaning self.old.body) self.old.world.contexts (own ∷ [])
+            (progress_of self.old))) }
     {
         self.lines.clear();
         self.lines.push_reserved(own);

@@ -1,14 +1,16 @@
 //! What ends every event: on each processor a pending handler begins, or the dispatcher gives it its most urgent ready
 //! task (uITRON 4.0, sections 3.2 and 3.5; FMP kernel, dispatching).
-ghost use Rattle.std.specs.Prelude.{◌≡◌, ◌+◌, ◌≤◌, ◌<◌, ◌||◌, Some, None, false, if◌then◌else◌, length, vec_len, vec_capacity};
+ghost use Rattle.std.specs.Prelude.{◌≡◌, ◌+◌, ◌≤◌, ◌<◌, ◌||◌, Some, None, false, if◌then◌else◌, length, vec_len};
+ghost use Rattle.std.specs.Prelude.{vec_capacity};
 ghost use Rattle.fmp_base.specs.ProcessorCalls.{is_cpu_locked as is_locked};
-ghost use Rattle.fmp_base.specs.Settles.{runs_handler, settled, settled_on, settled_with, is_dispatch_held as holds_dispatch, is_same_task as is_same};
+ghost use Rattle.fmp_base.specs.Settles.{runs_handler, settled, settled_on, settled_with};
+ghost use Rattle.fmp_base.specs.Settles.{is_dispatch_held as holds_dispatch, is_same_task as is_same};
 ghost use Rattle.fmp_base.specs.Queues.{top};
 ghost use Rattle.fmp_base.specs.States.{processor_at};
 ghost use Rattle.fmp_tasks.specs.Tables.{HasHandler, progress, SameShape};
 
+use crate::calls::context::is_cpu_locked;
 use fmp_base::{Handler, Line, Processor};
-use fmp_calls::is_cpu_locked;
 use fmp_tasks::KernelState;
 
 /// Whether two processors run the same task, or both none.
@@ -29,8 +31,8 @@ fn is_dispatch_held(cpu: &Processor) -> bool
     cpu.handler.is_some() || is_cpu_locked(cpu) || cpu.dispatch_disabled
 }
 
-/// A processor on which no handler begins, and that runs another task than its most urgent ready one, runs that one now,
-/// or none, unless dispatch is held.
+/// A processor on which no handler begins, and that runs another task than its most urgent ready one, runs that one
+/// now, or none, unless dispatch is held.
 #[inline(never)]
 fn dispatch(tables: &mut KernelState, lines: &mut Vec<Line>, p: u8, run: Option<u8>)
     requires there { p < tables.old.system.processors }

@@ -1,6 +1,7 @@
 //! The stamps of the processors: how many events ran a processor or left it another actor.
 ghost use Rattle.std.specs.Prelude.{◌≡◌, ◌+◌, ◌<◌, ◌≤◌, ◌^◌, ℕ, [], Some, length, get_or, replicate, IfOk};
-ghost use Rattle.fmp_kernel.specs.Stamps.{AreCounted, AreRaised, behind_own, given_by as given_by_line, raised, raised_unless};
+ghost use Rattle.fmp_kernel.specs.Stamps.{AreCounted, AreRaised, behind_own, given_by as given_by_line, raised};
+ghost use Rattle.fmp_kernel.specs.Stamps.{raised_unless};
 ghost use Rattle.fmp_worlds.specs.Stamps.{run_place as place_of_event};
 
 use crate::settling::is_same_task;

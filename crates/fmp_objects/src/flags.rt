@@ -1,7 +1,8 @@
 //! The service calls on eventflags that set, clear or await bits (uITRON 4.0, section 4.4.2).
 ghost use Rattle.std.specs.Prelude.{◌≡◌, ◌<◌, [], length, IfSome};
 ghost use Rattle.fmp_base.specs.Arguments.{IsTimeLimit};
-ghost use Rattle.fmp_base.specs.FlagCalls.{mode_of as mode_from, awaited, set_flg as set_flg_case, clr_flg as clr_flg_case, wai_flg as wai_flg_case, twai_flg as twai_flg_case};
+ghost use Rattle.fmp_base.specs.FlagCalls.{mode_of as mode_from, awaited, set_flg as set_flg_case};
+ghost use Rattle.fmp_base.specs.FlagCalls.{clr_flg as clr_flg_case, wai_flg as wai_flg_case, twai_flg as twai_flg_case};
 ghost use Rattle.fmp_base.specs.Outcomes.{numbered as place_of};
 ghost use Rattle.fmp_base.specs.States.{task_at};
 ghost use Rattle.fmp_tasks.specs.Lines.{AreEmptyWithRoom};

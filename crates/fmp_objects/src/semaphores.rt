@@ -2,7 +2,8 @@
 ghost use Rattle.std.specs.Prelude.{◌≡◌, ◌<◌, [], length, IfSome};
 ghost use Rattle.fmp_base.specs.Arguments.{IsTimeLimit};
 ghost use Rattle.fmp_base.specs.Outcomes.{numbered as place_of};
-ghost use Rattle.fmp_base.specs.SemaphoreCalls.{signalled, acquired, sig_sem as sig_sem_case, wai_sem as wai_sem_case, twai_sem as twai_sem_case};
+ghost use Rattle.fmp_base.specs.SemaphoreCalls.{signalled, acquired, sig_sem as sig_sem_case, wai_sem as wai_sem_case};
+ghost use Rattle.fmp_base.specs.SemaphoreCalls.{twai_sem as twai_sem_case};
 ghost use Rattle.fmp_base.specs.States.{task_at};
 ghost use Rattle.fmp_tasks.specs.Lines.{AreEmptyWithRoom};
 ghost use Rattle.fmp_tasks.specs.Tables.{outcome, SameShape, SameShapeAndRoom};

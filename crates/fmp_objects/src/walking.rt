@@ -1,6 +1,7 @@
 //! What newly set bits of an eventflag do to the tasks that wait for it.
 ghost use Rattle.std.specs.Prelude.{◌≡◌, ◌<◌, [], length, pos};
-ghost use Rattle.fmp_base.specs.FlagCalls.{satisfies as satisfies_case, is_satisfied as is_satisfied_case, walk as walk_case};
+ghost use Rattle.fmp_base.specs.FlagCalls.{satisfies as satisfies_case, is_satisfied as is_satisfied_case};
+ghost use Rattle.fmp_base.specs.FlagCalls.{walk as walk_case};
 ghost use Rattle.fmp_base.specs.Outcomes.{given as given_value};
 ghost use Rattle.fmp_base.specs.Queues.{wait_queue};
 ghost use Rattle.fmp_base.specs.Systems.{flag_config};

@@ -2,7 +2,10 @@
 ghost use Rattle.std.specs.Prelude.{◌≡◌, ℕ, ◌<◌, length, slice_get, Some, IfSome};
 ghost use Rattle.fmp_base.specs.Arguments.{IsTimeLimit};
 ghost use Rattle.fmp_base.specs.declared.states.TaskBlock.{TaskBlock};
-ghost use Rattle.fmp_base.specs.DataQueueCalls.{words_at, offered_word as offered_word_case, word_sent, forced_to, word_received, word_received_from, snd_dtq as snd_dtq_case, tsnd_dtq as tsnd_dtq_case, fsnd_dtq as fsnd_dtq_case, rcv_dtq as rcv_dtq_case, trcv_dtq as trcv_dtq_case};
+ghost use Rattle.fmp_base.specs.DataQueueCalls.{words_at, offered_word as offered_word_case, word_sent, forced_to};
+ghost use Rattle.fmp_base.specs.DataQueueCalls.{word_received, word_received_from, snd_dtq as snd_dtq_case};
+ghost use Rattle.fmp_base.specs.DataQueueCalls.{tsnd_dtq as tsnd_dtq_case, fsnd_dtq as fsnd_dtq_case};
+ghost use Rattle.fmp_base.specs.DataQueueCalls.{rcv_dtq as rcv_dtq_case, trcv_dtq as trcv_dtq_case};
 ghost use Rattle.fmp_base.specs.Outcomes.{numbered as place_of};
 ghost use Rattle.fmp_base.specs.Queues.{first_waiting};
 ghost use Rattle.fmp_base.specs.States.{task_at};

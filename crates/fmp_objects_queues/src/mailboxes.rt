@@ -1,7 +1,8 @@
 //! The service calls on mailboxes (uITRON 4.0, section 4.4.4). A message is its number and its priority.
 ghost use Rattle.std.specs.Prelude.{◌≡◌, ◌<◌, [], length, IfSome};
 ghost use Rattle.fmp_base.specs.Arguments.{IsTimeLimit};
-ghost use Rattle.fmp_base.specs.MailboxCalls.{message_sent, message_received, snd_mbx as snd_mbx_case, rcv_mbx as rcv_mbx_case, trcv_mbx as trcv_mbx_case};
+ghost use Rattle.fmp_base.specs.MailboxCalls.{message_sent, message_received, snd_mbx as snd_mbx_case};
+ghost use Rattle.fmp_base.specs.MailboxCalls.{rcv_mbx as rcv_mbx_case, trcv_mbx as trcv_mbx_case};
 ghost use Rattle.fmp_base.specs.Outcomes.{numbered as place_of};
 ghost use Rattle.fmp_base.specs.States.{task_at};
 ghost use Rattle.fmp_tasks.specs.Lines.{AreEmptyWithRoom};

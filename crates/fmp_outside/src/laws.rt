@@ -1,5 +1,5 @@
-//! The laws, each the contract of a function that does nothing. `C` is the type of the contexts of the bodies' text,
-//! `D` that of the contexts that are kept of bodies outside.
+//! Laws of bodies that run outside, each the contract of a function that does nothing. `C` is the type of the contexts
+//! of the bodies' text, `D` that of the contexts that are kept of bodies outside.
 ghost use Rattle.std.specs.Prelude.{◌≡◌, ◌↔◌, ℕ, Bool, List, IfSome};
 ghost use Rattle.fmp_base.specs.declared.events.Line.{Line};
 ghost use Rattle.fmp_schedules.specs.Schedules.{Holds, Rules};

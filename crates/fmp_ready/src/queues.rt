@@ -1,5 +1,6 @@
 //! The ready queues.
-ghost use Rattle.std.specs.Prelude.{◌≡◌, ◌+◌, ◌-◌, ◌*◌, ◌<◌, ◌≤◌, ◌^◌, ◌++◌, ◌∷◌, [], length, nat_eq, true, false, IfOk, IfSome, replicate};
+ghost use Rattle.std.specs.Prelude.{◌≡◌, ◌+◌, ◌-◌, ◌*◌, ◌<◌, ◌≤◌, ◌^◌, ◌++◌, ◌∷◌, [], length, nat_eq, true, false};
+ghost use Rattle.std.specs.Prelude.{IfOk, IfSome, replicate};
 ghost use Rattle.std.specs.List.{list_any};
 ghost use Rattle.fmp_base.specs.Links.{AddsAtMost};
 ghost use Rattle.fmp_base.specs.Queues.{first_of};
@@ -45,10 +46,7 @@ impl ReadyQueues {
     pub fn new(alloc: Global, processors: u8) -> Result<ReadyQueues, AllocError>
         ensures { IfOk result (λ r. r ≡ replicate processors 0) }
     {
-        let mut bitmaps = Vec::with_capacity(alloc, processors as usize)?;
-        for _ in 0..processors {
-            bitmaps.push_reserved(0);
-        }
+        let bitmaps = vec![in alloc; 0u16; processors as usize]?;
         Ok(ReadyQueues { bitmaps })
     }
 

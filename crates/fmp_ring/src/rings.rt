@@ -1,10 +1,12 @@
 //! The rings.
-ghost use Rattle.std.specs.Prelude.{◌≡◌, ℕ, ◌+◌, ◌<◌, ◌++◌, ◌∷◌, [], length, slice_set, true, false, IfOk, IfSome, replicate};
+ghost use Rattle.std.specs.Prelude.{◌≡◌, ℕ, ◌+◌, ◌<◌, ◌++◌, ◌∷◌, [], length, slice_set, true, false, IfOk, IfSome};
+ghost use Rattle.std.specs.Prelude.{replicate};
 ghost use Rattle.fmp_base.specs.Links.{AddsAtMost};
 ghost use Rattle.fmp_base.specs.Queues.{first_of};
 ghost use Rattle.fmp_base.specs.States.{without};
 ghost use Rattle.fmp_ring.specs.Orders.{IsOrder};
-ghost use Rattle.fmp_ring.specs.RingLists.{AreDisjoint, list_at, is_in, is_linked, rotated, behind_first, follower, inserted_before, with_before, without_node};
+ghost use Rattle.fmp_ring.specs.RingLists.{AreDisjoint, list_at, is_in, is_linked, rotated, behind_first, follower};
+ghost use Rattle.fmp_ring.specs.RingLists.{inserted_before, with_before, without_node};
 
 use fmp_base::{Counted, Steps};
 use std::alloc::{AllocError, Global};

@@ -1,11 +1,13 @@
 //! The handlers that are pending on the processors.
-ghost use Rattle.std.specs.Prelude.{◌≡◌, ◌+◌, ◌*◌, ◌<◌, ◌≤◌, length, map, replicate, false, true, slice_set, IfOk, IfSome};
+ghost use Rattle.std.specs.Prelude.{◌≡◌, ◌+◌, ◌*◌, ◌<◌, ◌≤◌, length, map, replicate, false, true, slice_set, IfOk};
+ghost use Rattle.std.specs.Prelude.{IfSome};
 ghost use Rattle.fmp_base.specs.Ranges.{IsInRange};
 ghost use Rattle.fmp_base.specs.States.{places_from};
 ghost use Rattle.fmp_base.specs.Systems.{tables_of, defined_for};
 ghost use Rattle.fmp_base.specs.Ticks.{is_pending};
 ghost use Rattle.fmp_spin.specs.Bits.{IsFirst, bit_in};
-ghost use Rattle.fmp_spin.specs.Pending.{handler_processors, none_pending, first_handler, processor_of, AreQuiet, HasMark, without_mark, IsSetAt};
+ghost use Rattle.fmp_spin.specs.Pending.{handler_processors, none_pending, first_handler, processor_of, AreQuiet};
+ghost use Rattle.fmp_spin.specs.Pending.{HasMark, without_mark, IsSetAt};
 
 use crate::bits::{first_bit, is_clear, set_bit};
 use fmp_base::{CyclicConfig, Handler, InterruptConfig, System};

@@ -1,6 +1,7 @@
 //! The processors: what each runs, CPU locks, disabled dispatching and spin locks.
 ghost use Rattle.std.specs.Prelude.{◌≡◌, ◌<◌, ℕ, length, replicate, slice_set, IfOk};
-ghost use Rattle.fmp_base.specs.ProcessorCalls.{loc_cpu, unl_cpu, dispatch_set, is_held as is_held_in, is_cpu_locked as is_locked, is_spin as is_lock, spin_lock_taken};
+ghost use Rattle.fmp_base.specs.ProcessorCalls.{loc_cpu, unl_cpu, dispatch_set, is_held as is_held_in};
+ghost use Rattle.fmp_base.specs.ProcessorCalls.{is_cpu_locked as is_locked, is_spin as is_lock, spin_lock_taken};
 ghost use Rattle.fmp_base.specs.Outcomes.{code};
 ghost use Rattle.fmp_base.specs.States.{KernelState, idle as idle_processor};
 ghost use Rattle.fmp_spin.specs.Processors.{with_processors, answered_in, processor_in, tried_by, released_by};

@@ -1,7 +1,7 @@
 -- The statuses that the program ends with.
 use Rattle.std.specs.Prelude.{ℕ}
 use Rattle.fmp_board.specs.declared.fault.BoardFault.TheVariants as board
-use Rattle.fmp_image_parts.specs.declared.fault.LoadFault.TheVariants as load
+use Rattle.fmp_image_bytes.specs.declared.fault.LoadFault.TheVariants as load
 use Rattle.fmp_stress.specs.declared.exit.StressExit.{StressExit}
 use Rattle.fmp_stress.specs.declared.exit.StressExit.TheVariants.{Load, Board, Failed}
 

@@ -4,8 +4,7 @@ ghost use Rattle.fmp_board.specs.Boards.{IsAt};
 ghost use Rattle.fmp_board.specs.Outcomes.{IsDrawn};
 
 use fmp_base::Event;
-use fmp_follower::Follower;
-use fmp_hostrun::{Board, BoardFault, Closed, Outcome, Receipt, Seat, Site};
+use fmp_hostrun::{Board, BoardFault, Closed, Follower, Outcome, Receipt, Seat, Site};
 use std::alloc::{AllocError, Global};
 use std::marker::PhantomData;
 use std::sync::Wait;

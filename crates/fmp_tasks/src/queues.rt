@@ -1,7 +1,8 @@
 //! Where a task stands by its block: the moves into its queue and out of it.
 ghost use Rattle.std.specs.Prelude.{◌≡◌, ◌<◌, ◌≤◌, length, nat_eq, true, false, slice_set, IfSome};
 ghost use Rattle.fmp_base.specs.MailboxCalls.{behind_equals, enqueued};
-ghost use Rattle.fmp_base.specs.Queues.{is_ready as is_ready_block, is_same_queue as is_same, order_of as order_of_queue, priority_in, queue_of as queue_of_phase, waits_in};
+ghost use Rattle.fmp_base.specs.Queues.{is_ready as is_ready_block, is_same_queue as is_same};
+ghost use Rattle.fmp_base.specs.Queues.{order_of as order_of_queue, priority_in, queue_of as queue_of_phase, waits_in};
 ghost use Rattle.fmp_base.specs.States.{task_at};
 ghost use Rattle.fmp_base.specs.Systems.{tables_of};
 ghost use Rattle.fmp_ring.specs.RingLists.{is_linked};

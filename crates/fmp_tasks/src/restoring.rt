@@ -1,6 +1,6 @@
 //! Tables are put into a saved state, part by part, by calls that each say the whole state that they leave. What a call
-//! asks for is tested, so that whatever was saved, the tables stay whole. The contracts do not say that the state is the
-//! saved one: a caller that needs this reads the state and compares.
+//! asks for is tested, so that whatever was saved, the tables stay whole. The contracts do not say that the state is
+//! the saved one: a caller that needs this reads the state and compares.
 ghost use Rattle.std.specs.Prelude.{◌≡◌, ◌&&◌, ◌+◌, ◌<◌, ◌≤◌, length, true, IfSome};
 ghost use Rattle.fmp_base.specs.Queues.{is_ready as is_ready_block, queue_of as queue_of_phase};
 ghost use Rattle.fmp_base.specs.TaskCalls.{is_dormant as is_dormant_phase};
@@ -169,8 +169,8 @@ fn put_last(tables: &mut KernelState, t: u8, x: &TaskBlock) -> bool
     }
 }
 
-/// All tasks leave their queues, and become as saved where they stand in none. Gives whether the blocks are those of the
-/// tasks.
+/// All tasks leave their queues, and become as saved where they stand in none. Gives whether the blocks are those of
+/// the tasks.
 fn put_blocks(tables: &mut KernelState, blocks: &[TaskBlock]) -> bool
     ensures { SameShape tables.old tables.new }
 {
@@ -186,7 +186,8 @@ fn put_blocks(tables: &mut KernelState, blocks: &[TaskBlock]) -> bool
     true
 }
 
-/// The tasks of an order go to the end of the order, one after the other. Gives whether they are tasks that stand there.
+/// The tasks of an order go to the end of the order, one after the other. Gives whether they are tasks that stand
+/// there.
 fn put_order(tables: &mut KernelState, blocks: &[TaskBlock], order: &[u8]) -> bool
     ensures { SameShape tables.old tables.new }
 {

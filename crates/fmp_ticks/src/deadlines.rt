@@ -1,5 +1,6 @@
 //! The deadlines of tasks.
-ghost use Rattle.std.specs.Prelude.{◌≡◌, ◌+◌, ◌<◌, ◌≤◌, length, slice_index_or, slice_set, IfOk, IfSome, is_some, replicate, Some, None, true};
+ghost use Rattle.std.specs.Prelude.{◌≡◌, ◌+◌, ◌<◌, ◌≤◌, length, slice_index_or, slice_set, IfOk, IfSome, is_some};
+ghost use Rattle.std.specs.Prelude.{replicate, Some, None, true};
 ghost use Rattle.fmp_base.specs.Links.{AddsAtMost};
 ghost use Rattle.fmp_ticks.specs.Times.{first_due as first_due_of, NoneBefore};
 

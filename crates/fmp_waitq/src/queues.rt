@@ -23,7 +23,7 @@ pub struct ObjectCounts {
     pub mailboxes: u8,
 }
 
-/// The wait queues of all objects (uITRON 4.0, section 4.4). They are lists of the rings that each call is lent, behind
+/// The wait queues of all objects (uITRON 4.0, section 4.4). They are lists of the rings that each call is lent, after
 /// sixteen ready queues for each of this many processors. Objects and tasks go by their places, from 0.
 #[derive(Clone, Copy)]
 pub struct WaitQueues {

@@ -1,4 +1,5 @@
-//! The laws, each the contract of a function that does nothing. `C` is the type of the contexts of bodies.
+//! Laws of the kernel's worlds, each the contract of a function that does nothing. `C` is the type of the contexts of
+//! bodies.
 ghost use Rattle.std.specs.Prelude.{◌≡◌, ◌≤◌, ◌+◌, ◌++◌, ℕ, List, Some};
 ghost use Rattle.fmp_base.specs.declared.bodies.Held.TheVariants.{Awaits};
 ghost use Rattle.fmp_base.specs.declared.calls.Answer.TheVariants.{Spins};

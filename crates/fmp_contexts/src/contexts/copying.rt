@@ -28,7 +28,12 @@ fn put_handler_back<C: Copy>(handler: &mut Option<KeptHandler<C>>, from: &Option
                 kept: from.kept.copied(),
             });
         }
-        None => *handler = None,
+        None => {
+            // Where nothing is kept, nothing is written: that would take as long as a context.
+            if handler.is_some() {
+                *handler = None;
+            }
+        }
     }
 }
 

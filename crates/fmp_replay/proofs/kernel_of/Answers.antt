@@ -11,9 +11,3 @@ returns-in-Ok c = begun c.args.image.now c.args.n _ _ _ c.vm.ensures c.system.en
 
 pub new-requires-clause-range : goal.new-requires-clause-range
 new-requires-clause-range c = c.system.ensures.ranges
-
-pub new-requires-clause-low : goal.new-requires-clause-low
-new-requires-clause-low c = c.requires.low
-
-pub new-requires-clause-high : goal.new-requires-clause-high
-new-requires-clause-high c = c.requires.high

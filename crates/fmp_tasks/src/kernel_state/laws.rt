@@ -1,4 +1,4 @@
-//! What holds of the state of every tables, each the contract of a function that does nothing, or next to nothing.
+//! What holds of every kernel state, each the contract of a function that does nothing, or next to nothing.
 ghost use Rattle.std.specs.Prelude.{◌≡◌, ◌+◌, ◌<◌, length, map};
 ghost use Rattle.fmp_base.specs.MailboxCalls.{messages_at};
 ghost use Rattle.fmp_ring.specs.Orders.{IsOrder};

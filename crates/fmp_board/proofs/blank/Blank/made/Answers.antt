@@ -6,12 +6,6 @@ use Rattle.fmp_board.proofs.blank.Blank.made.Goals as goal
 pub new-requires : goal.new-requires
 new-requires c = omega (arith, c.requires.some_events)
 
-pub kernel_of-requires-clause-low : goal.kernel_of-requires-clause-low
-kernel_of-requires-clause-low c = c.requires.bound_low
-
-pub kernel_of-requires-clause-high : goal.kernel_of-requires-clause-high
-kernel_of-requires-clause-high c = c.requires.bound_high
-
 pub of-requires-clause-range : goal.of-requires-clause-range
 of-requires-clause-range c =
     let made = c.in_ok-row.ensures.row in

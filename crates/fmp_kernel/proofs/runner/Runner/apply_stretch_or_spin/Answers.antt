@@ -27,28 +27,25 @@ carry_out_or_spin-requires-clause-context g c =
     (ending c.args.stretch) has e))
     c.first_context-first.ensures.context)
 
-pub returns-clause-effect : goal.returns-clause-effect
-returns-clause-effect g c =
-    let r = c.args.self.now in
-    let M = g.B.Body.meaning r.body in
-    let x = ending c.args.stretch in
-    let made = rw (c.take-stop.ensures.kept, c.take-stop.ensures.stop) at c.carry_out_or_spin.ensures.effect in
-    made ∙ ap effect_of (stops_so M r c.args.p c.args.who x (ending_hands c.args.stretch)
-    ∙ applies_as r.system M r.world c.args.p c.args.who (context_of r.world.contexts c.args.p c.args.who) x
-    c.requires.goes)
-
-pub returns-clause-after : goal.returns-clause-after
-returns-clause-after g c =
+pub returns : goal.returns
+returns g c =
     let r = c.args.self.now in
     let M = g.B.Body.meaning r.body in
     let x = ending c.args.stretch in
     let first = c.first_context-first.result in
     let has = going_has r.world.contexts c.args.p c.args.who c.requires.goes in
-    let made = rw (c.take-stop.ensures.kept, c.take-stop.ensures.stop) at c.carry_out_or_spin.ensures.after in
-    made
-    ∙ ap (done_or (with_contexts (done_of (with_stretch r c.args.p c.args.who x))
-    (with_context (with_stretch r c.args.p c.args.who x).world.contexts c.args.p c.args.who (Some (Goes first)))))
-    (stops_so M r c.args.p c.args.who x (ending_hands c.args.stretch))
-    ∙ done_again M r c.args.p c.args.who x first (ending_hands c.args.stretch) c.first_context-first.ensures.value has
-    ∙ ap (done_or (done_of r)) (applies_as r.system M r.world c.args.p c.args.who
-    (context_of r.world.contexts c.args.p c.args.who) x c.requires.goes)
+    let made = rw (c.take-stop.ensures.kept, c.take-stop.ensures.stop) at c.carry_out_or_spin.ensures in
+    record {
+      effect = made.effect ∙ ap effect_of (stops_so M r c.args.p c.args.who x (ending_hands c.args.stretch)
+          ∙ applies_as r.system M r.world c.args.p c.args.who (context_of r.world.contexts c.args.p c.args.who) x
+          c.requires.goes);
+      after = made.after ∙ ap (done_or (with_contexts (done_of (with_stretch r c.args.p c.args.who x))
+          (with_context (with_stretch r c.args.p c.args.who x).world.contexts c.args.p c.args.who (Some (Goes first)))))
+          (stops_so M r c.args.p c.args.who x (ending_hands c.args.stretch))
+          ∙ done_again M r c.args.p c.args.who x first (ending_hands c.args.stretch)
+          c.first_context-first.ensures.value has
+          ∙ ap (done_or (done_of r)) (applies_as r.system M r.world c.args.p c.args.who
+          (context_of r.world.contexts c.args.p c.args.who) x c.requires.goes);
+      bodies = record { body = made.bodies.body; bound = made.bodies.bound; system = made.bodies.system };
+      clock = made.clock;
+    }

@@ -33,8 +33,8 @@ go_back-requires-clause-context g c =
     first) (sym same)
     (c.requires.context (nothing_calls r.system M r.world c.args.p c.args.who c.args.stop.now nothing)))
 
-pub returns-in-Nothing-clause-after : goal.returns-in-Nothing-clause-after
-returns-in-Nothing-clause-after g c =
+pub returns-in-Nothing : goal.returns-in-Nothing
+returns-in-Nothing g c =
     let r = c.args.self.now in
     let M = g.B.Body.meaning r.body in
     let y = stopped_on r.system M r.world c.args.p c.args.who c.args.stop.now in
@@ -43,24 +43,44 @@ returns-in-Nothing-clause-after g c =
     let same = e.after ∙ same_after y (done_of r) nothing in
     let first = c.args.first.now in
     rw c.go_back.ensures
-    (ap (λ (d : Done _). with_contexts d (with_context d.world.contexts c.args.p c.args.who (Some (Goes first)))) same
-    ∙ sym (same_after y (with_contexts (done_of r) (with_context r.world.contexts c.args.p c.args.who
-    (Some (Goes first)))) nothing))
+    (record {
+      effect = nothing;
+      after = ap (λ (d : Done _). with_contexts d (with_context d.world.contexts c.args.p c.args.who
+          (Some (Goes first)))) same
+          ∙ sym (same_after y (with_contexts (done_of r) (with_context r.world.contexts c.args.p c.args.who
+          (Some (Goes first)))) nothing);
+      bodies = record { body = e.bodies.body; bound = e.bodies.bound; system = e.bodies.system };
+      clock = e.clock;
+    })
 
-pub returns-in-Done-clause-after : goal.returns-in-Done-clause-after
-returns-in-Done-clause-after g c =
+pub returns-in-Done : goal.returns-in-Done
+returns-in-Done g c =
     let r = c.args.self.now in
     let M = g.B.Body.meaning r.body in
     let e = c.carry_out_stop.ensures in
-    e.after
-    ∙ something_after (done_of r) (with_context r.world.contexts c.args.p c.args.who (Some (Goes c.args.first.now)))
-    (stopped_on r.system M r.world c.args.p c.args.who c.args.stop.now) (λ h. absurd (cc (c.in-Done.is, e.effect, h)))
+    let did = sym c.in-Done.is ∙ e.effect in
+    record {
+      effect = did;
+      after = e.after
+          ∙ something_after (done_of r) (with_context r.world.contexts c.args.p c.args.who
+          (Some (Goes c.args.first.now)))
+          (stopped_on r.system M r.world c.args.p c.args.who c.args.stop.now) (λ h. absurd (cc (did, h)));
+      bodies = record { body = e.bodies.body; bound = e.bodies.bound; system = e.bodies.system };
+      clock = e.clock;
+    }
 
-pub returns-in-Kept-clause-after : goal.returns-in-Kept-clause-after
-returns-in-Kept-clause-after g c =
+pub returns-in-Kept : goal.returns-in-Kept
+returns-in-Kept g c =
     let r = c.args.self.now in
     let M = g.B.Body.meaning r.body in
     let e = c.carry_out_stop.ensures in
-    e.after
-    ∙ something_after (done_of r) (with_context r.world.contexts c.args.p c.args.who (Some (Goes c.args.first.now)))
-    (stopped_on r.system M r.world c.args.p c.args.who c.args.stop.now) (λ h. absurd (cc (c.in-Kept.is, e.effect, h)))
+    let kept = sym c.in-Kept.is ∙ e.effect in
+    record {
+      effect = kept;
+      after = e.after
+          ∙ something_after (done_of r) (with_context r.world.contexts c.args.p c.args.who
+          (Some (Goes c.args.first.now)))
+          (stopped_on r.system M r.world c.args.p c.args.who c.args.stop.now) (λ h. absurd (cc (kept, h)));
+      bodies = record { body = e.bodies.body; bound = e.bodies.bound; system = e.bodies.system };
+      clock = e.clock;
+    }
