@@ -2,7 +2,8 @@
 ghost use Rattle.std.specs.Prelude.{◌≡◌, ◌≤◌, map, None, IfOk, IfErr};
 ghost use Rattle.fmp_cfgparse.specs.Apis.{made, api_fault};
 ghost use Rattle.fmp_cfgparse.specs.Making.{making_of};
-ghost use Rattle.fmp_cfgparse.specs.Configuring.{IsWalk, IsConfigured, walk_apis, walk_classes, nothing_made, configured};
+ghost use Rattle.fmp_cfgparse.specs.Configuring.{IsWalk, IsConfigured, walk_apis, walk_classes, nothing_made};
+ghost use Rattle.fmp_cfgparse.specs.Configuring.{configured};
 ghost use Rattle.fmp_cfgparse.specs.Trees.{api_view, class_view, configuration_view};
 ghost use Rattle.fmp_cfgparse.specs.declared.objects.MakingStop.TheVariants.{Memory};
 

@@ -55,7 +55,7 @@ const INTERRUPT_PARTS: [ApiPart; 10] = [
     OPEN, Value, COMMA, BEGIN, Value, COMMA, Name, END, CLOSE, SEMICOLON,
 ];
 
-/// The form of a static API, behind its word.
+/// The form of a static API, after its word.
 pub(crate) fn parts_of(api: Api) -> &'static [ApiPart]
     ensures { result.now ≡ api_parts api }
 {

@@ -1,10 +1,14 @@
 //! From the tokens of a configuration to its tree.
-ghost use Rattle.std.specs.Prelude.{◌≡◌, ◌+◌, ◌^◌, ◌≤◌, ◌<◌, ◌++◌, Some, length, slice_get, option_and_then, IfSome, IfOk, IfErr, []};
+ghost use Rattle.std.specs.Prelude.{◌≡◌, ◌+◌, ◌^◌, ◌≤◌, ◌<◌, ◌++◌, Some, length, slice_get, option_and_then, IfSome};
+ghost use Rattle.std.specs.Prelude.{IfOk, IfErr, []};
 ghost use Rattle.fmp_lex.specs.Forms as forms;
 ghost use Rattle.fmp_lex.specs.Reading.{kinds_of, Answers, Finds};
 ghost use Rattle.fmp_cfgparse.specs.Grammar as grammar;
-ghost use Rattle.fmp_cfgparse.specs.Reading.{itself, RightItem, RightNumber, RightName, RightValue, RightPart, RightParts, RightApi, RightApis, RightClass, RightClasses, RightConfig, IsVerdict};
-ghost use Rattle.fmp_cfgparse.specs.Trees.{items_view, part_view, fields_view, api_view, apis_view, class_view, classes_view, configuration_view};
+ghost use Rattle.fmp_cfgparse.specs.Reading.{itself, RightItem, RightNumber, RightName, RightValue, RightPart};
+ghost use Rattle.fmp_cfgparse.specs.Reading.{RightParts, RightApi, RightApis, RightClass, RightClasses, RightConfig};
+ghost use Rattle.fmp_cfgparse.specs.Reading.{IsVerdict};
+ghost use Rattle.fmp_cfgparse.specs.Trees.{items_view, part_view, fields_view, api_view, apis_view, class_view};
+ghost use Rattle.fmp_cfgparse.specs.Trees.{classes_view, configuration_view};
 
 use crate::forms::{ApiPart, parts_of};
 use crate::tree::{ApiField, Class, Configuration, Item, StaticApi, Value};
@@ -183,7 +187,7 @@ fn put(fields: &mut Vec<ApiField>, field: Option<ApiField>) -> Result<(), ReadEr
     Ok(())
 }
 
-/// About how many fields a form has: a mark stands behind each, and four more around them.
+/// About how many fields a form has: a mark stands after each, and four more around them.
 fn fields_in(parts: &[ApiPart]) -> usize {
     parts.len().saturating_sub(4) / 2
 }

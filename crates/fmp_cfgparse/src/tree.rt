@@ -7,7 +7,7 @@ use fmp_lex::{Api, Constant};
 pub enum Item {
     /// A number, 0 to 2147483647.
     Number(i32),
-    /// A number behind a minus sign.
+    /// A number after a minus sign.
     Minus(i32),
     /// A constant of the uITRON 4.0 specification.
     Constant(Constant),

@@ -10,16 +10,18 @@ fn is_clear_from(operands: &[i32; 64], first: u8) -> bool
     ensures long { length operands.now ≡ 64 }
     ensures clear { result ≡ true → (k : ℕ) → first ≤ k → k < 64 → get_or operands.now k (pos 0) ≡ pos 0 }
 {
-    for k in first..64 {
-        if operands[k as usize] != 0 {
-            return false;
+    // Counted, and not left at the first one: so several are looked at at once.
+    let mut others: u32 = 0;
+    for k in usize::from(first)..64 {
+        if operands[k] != 0 {
+            others += 1;
         }
     }
-    true
+    others == 0
 }
 
 /// Whether this is a context of a body: as many operands stand in it as the depth table says of its place, and the
-/// places behind them hold 0.
+/// places after them hold 0.
 #[tactic(auto, using(crate::proofs::Placed::clear_placed))]
 pub fn is_context_of(body: &BodyCode, context: &MachineContext) -> bool
     requires { VerifiedBody (body_tables body.now) }

@@ -1,5 +1,5 @@
-//! Stack code: its instructions, the verifier, and the machine that runs it. The instructions and the verifier stand in
-//! `fmp_instructions`, and are given out here too.
+//! Stack code: the machine that runs it. Its instructions and the verifier stand in `fmp_instructions`, and are given
+//! out here too.
 #![tactic(auto)]
 
 mod contexts;

@@ -119,7 +119,7 @@ module _ (scope : Scope) (code : List Instruction) (table : List ℕ) (laid : Is
   named_fits Unknown p d one le hi hd end =
       fit_at p (p + 1) (Push (pos 0)) d refl hi hd (omega arith) (entry_at (p + 1) (d + 1) (d + 1) end refl le)
 
-  -- an array lies behind `exinf` and within the locals
+  -- an array lies after `exinf` and within the locals
   array_fits_there :
       (w : Word) (m : NameMeaning) → m ≡ meaning_of scope w.name → m ≡ Array (array_number m) →
       array_fits locals (array_base scope m) (array_places scope m) ≡ true

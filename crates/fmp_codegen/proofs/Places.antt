@@ -122,12 +122,12 @@ locals-plain tables body n v h =
 abbrev pub HasPlaces : List Declaration → Type 0
 HasPlaces ds = (k : ℕ) → k < length ds → 1 ≤ places_at (map local_of ds) k
 
--- an array has one place or more, behind `exinf`
+-- an array has one place or more, after `exinf`
 pub record IsArray (locals : List Local) (v : ℕ) : Type 0 where
   pub behind : 1 ≤ first_place locals v
   pub some : 1 ≤ places_at locals v
 
--- plain variables have one place, and arrays have places behind `exinf`
+-- plain variables have one place, and arrays have places after `exinf`
 pub record IsLaidOut (scope : Scope) : Type 0 where
   pub plain : IsPlain scope
   pub arrays : (n : Name) (v : ℕ) → meaning_of scope n ≡ Array v → IsArray scope.locals v

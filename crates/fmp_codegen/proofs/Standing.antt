@@ -18,7 +18,7 @@ has_back code at n (i ∷ a) b e h =
     let e' : at + 1 + length a ≡ at + n = omega arith in
     subst (λ n. HasAt code n b) e' (has_back code (at + 1) (length a) a b refl h.1)
 
--- code stands behind what comes before it
+-- code stands after what comes before it
 pub has_all : (is before : List Instruction) → HasAt (before ++ is) (length before) is
 has_all [] before = tt
 has_all (i ∷ is) before =

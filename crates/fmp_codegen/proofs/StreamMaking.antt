@@ -25,7 +25,7 @@ module _ (tables : SystemTables) (first : Window) where
   none-made made window are hold =
       ([], are, streams_hold (Star OneBody) first first window 0 [] 0 (streams_none OneBody first 0) hold)
 
-  -- one more body is read and added, and the window moves on behind it
+  -- one more body is read and added, and the window moves on after it
   pub one-more-made :
       (made new : MadeBodies) (w0 w1 w2 : Window) (i j : ℕ) (b : BodyTree) → IsMadeSoFar tables made first w0 i →
       ((bodies : List BodyTree) → AreMade tables made bodies → AreMade tables new (bodies ++ b ∷ [])) →

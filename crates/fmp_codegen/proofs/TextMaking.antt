@@ -53,7 +53,7 @@ first-assoc (Some o) b c = refl
 abbrev names : List BodyTree → List Name
 names bodies = map (λ (b : BodyTree). b.name.name) bodies
 
--- the first fault where a body stands behind others
+-- the first fault where a body stands after others
 last_offence :
     (tables : SystemTables) (before : List Name) (bodies : List BodyTree) (b : BodyTree) →
     bodies_offence tables before (bodies ++ b ∷ []) ≡
@@ -73,7 +73,7 @@ module _ (tables : SystemTables) (bodies : List BodyTree) (b : BodyTree) where
   abbrev one_more : List BodyTree
   one_more = bodies ++ b ∷ []
 
-  -- behind a fault nothing changes
+  -- after a fault nothing changes
   pub made-stays : (made : MadeBodies) (o : Offence) → made.offence ≡ Some o → AreMade tables made bodies
       → AreMade tables made one_more
   made-stays made o is h = record {

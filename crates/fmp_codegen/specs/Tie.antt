@@ -65,7 +65,7 @@ all_values [] = []
 all_values (xs ∷ more) = xs ++ all_values more
 
 -- The text's locals have as many values as places, and the code's locals are these, in order of place. What stands
--- behind them no body uses.
+-- after them no body uses.
 pub record LocalsTied (scope : Scope) (machine : List ℤ) (text : Values) : Type 0 where
   pub shape : map (λ (xs : List ℤ). length xs) text ≡ map (λ (l : Local). l.places) scope.locals
   pub unused : List ℤ

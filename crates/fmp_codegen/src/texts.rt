@@ -53,7 +53,7 @@ fn no_bodies(alloc: Global) -> MadeBodies
     }
 }
 
-/// Judges a body that stands behind those before it, and compiles it if there is no fault. The numbers are those of its
+/// Judges a body that stands after those before it, and compiles it if there is no fault. The numbers are those of its
 /// variables.
 fn add_numbered(
     alloc: Global,
@@ -81,7 +81,7 @@ fn add_numbered(
     Ok(())
 }
 
-/// Judges a body that stands behind those before it, and compiles it if there is no fault.
+/// Judges a body that stands after those before it, and compiles it if there is no fault.
 fn add_body(
     alloc: Global,
     objects: &Objects<'_>,
@@ -96,7 +96,7 @@ fn add_body(
     add_numbered(alloc, objects, made, &numbers, body)
 }
 
-/// What is made of the bodies at the head of these tokens, and the place behind them.
+/// What is made of the bodies at the head of these tokens, and the place after them.
 fn compile_bodies(
     alloc: Global,
     tokens: &Tokens<'_>,

@@ -15,19 +15,19 @@ use Rattle.fmp_emission.specs.Breaks.{block_breaks, led_to}
 use Rattle.fmp_emission.proofs.BreakLemmas.{led-block}
 use Rattle.fmp_emission.proofs.Lengths.{length-expression_code, length-block_code}
 
--- a test and what stands behind it
+-- a test and what stands after it
 tested : {A : Type 0} (begun first : List A) (test : A) (rest : List A) → (begun ++ (first ++ test ∷ [])) ++ rest
     ≡ begun ++ (first ++ (test ∷ rest))
 tested begun first test rest =
     append_assoc begun (first ++ test ∷ []) rest ∙ ap (λ c. begun ++ c) (append_assoc first (test ∷ []) rest)
 
--- a second piece behind
+-- a second piece after it
 piled : {A : Type 0} (begun first second third : List A) → (begun ++ (first ++ second)) ++ third ≡ begun
     ++ (first ++ (second ++ third))
 piled begun first second third =
     append_assoc begun (first ++ second) third ∙ ap (λ c. begun ++ c) (append_assoc first second third)
 
--- what stands behind a list of this length becomes another
+-- what stands after a list of this length becomes another
 changed : {A : Type 0} (xs ys : List A) (y a : A) (n : ℕ) → n ≡ length xs → slice_set (xs ++ y ∷ ys) n a ≡ xs ++ a ∷ ys
 changed xs ys y a n e = ap (λ k. slice_set (xs ++ y ∷ ys) k a) e ∙ set-append_seam xs y ys a
 
@@ -82,7 +82,7 @@ module _ (scope : Scope) (e : ExpressionTree) (b : Block) (begun made made' : Li
       ∙ piled begun (expression_code scope e (length begun)) (JumpIfZero (length begun + expression_size e + 1 + over)
       ∷ inner) (Jump to ∷ [])
 
-  -- the test leads behind the jump back, and the jumps of `break`s lead there too
+  -- the test leads past the jump back, and the jumps of `break`s lead there too
   pub while-emitted :
       exit ≡ 0 → (jumped turned whole : List Instruction) (at outer : ℕ) (old noted : List ℕ) → at + 1 ≡ length made →
       length made' ≡ length made + block_size b → again ≡ length begun → jumped ≡ made' ++ Jump again ∷ [] →
@@ -185,7 +185,7 @@ module _ (e : ExpressionTree) (b : Block) (begun made made' : List ℕ) (did : m
       ∙ piled begun (expression_depths e 0) (1 ∷ (block_depths b ++ 0 ∷ [])) (block_depths r)
       ∙ ap (λ c. begun ++ (expression_depths e 0 ++ (1 ∷ c))) (append_assoc (block_depths b) (0 ∷ []) (block_depths r))
 
--- the `break`s of two blocks, one behind the other
+-- the `break`s of two blocks, one after the other
 pub both-noted :
     (noted : List ℕ) (b r : Block) (first : ℕ) (more last : List ℕ) (at behind : ℕ) → at ≡ first →
     behind ≡ first + block_size b + 1 → more ≡ noted ++ block_breaks b at → last ≡ more ++ block_breaks r behind →

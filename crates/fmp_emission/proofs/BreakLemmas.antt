@@ -21,7 +21,7 @@ module _ (to : ℕ) where
   led-append [] qs code = refl
   led-append (p ∷ ps) qs code = led-append ps qs (slice_set code p (Jump to))
 
--- a test, and what stands behind it up to the end
+-- a test, and what stands after it up to the end
 shape :
     {A : Type 0} (before first : List A) (test : A) (rest after : List A) →
     before ++ ((first ++ (test ∷ rest)) ++ after) ≡ (before ++ (first ++ test ∷ [])) ++ (rest ++ after)
@@ -30,7 +30,7 @@ shape before first test rest after =
     ∙ sym (append_assoc before (first ++ test ∷ []) (rest ++ after)
     ∙ ap (λ c. before ++ c) (append_assoc first (test ∷ []) (rest ++ after)))
 
--- two pieces, and what stands behind them
+-- two pieces, and what stands after them
 pieces :
     {A : Type 0} (before first second after : List A) →
     before ++ ((first ++ second) ++ after) ≡ before ++ (first ++ (second ++ after))

@@ -1,4 +1,4 @@
--- The jumps of the `break`s of a loop, which lead behind its body once that is emitted.
+-- The jumps of the `break`s of a loop, which lead past its body once that is emitted.
 use Rattle.std.specs.Prelude.{ℕ, ◌+◌, List, [], ◌∷◌, ◌++◌, slice_set}
 use Rattle.fmp_tasklang.specs.Trees.{StatementTree, assign, assign_element, service_call, if_then, if_else, while}
 use Rattle.fmp_tasklang.specs.Trees.{break, continue, return, Block, empty, next}

@@ -8,7 +8,8 @@ ghost use Rattle.fmp_tasklang.specs.Views.{expression_view, call_view, statement
 ghost use Rattle.fmp_scopes.specs.Chains.{test_code};
 ghost use Rattle.fmp_scopes.specs.Depths.{expression_depth, arguments_depth, statement_depth, block_depth};
 ghost use Rattle.fmp_scopes.specs.DepthTables.{expression_depths, arguments_depths, statement_depths, block_depths};
-ghost use Rattle.fmp_scopes.specs.Scheme.{word_place, arguments_code, target_place, call_instruction, statement_code, block_code};
+ghost use Rattle.fmp_scopes.specs.Scheme.{word_place, arguments_code, target_place, call_instruction, statement_code};
+ghost use Rattle.fmp_scopes.specs.Scheme.{block_code};
 ghost use Rattle.fmp_scopes.specs.Scopes.{IsHeld, scope_view};
 ghost use Rattle.fmp_scopes.specs.Sizes.{expression_size, arguments_size, statement_size, block_size};
 ghost use Rattle.fmp_emission.specs.Breaks.{statement_breaks, block_breaks, led_to};
@@ -97,7 +98,7 @@ fn emit_call(out: &mut Output, names: &Names<'_>, call: &ServiceCall) -> Result<
     Ok(())
 }
 
-/// The code of a condition, and a jump to the place behind it if it is 0.
+/// The code of a condition, and a jump to the place after it if it is 0.
 fn emit_test(out: &mut Output, names: &Names<'_>, condition: &Expression) -> Result<(), AllocError>
     requires held { IsHeld names.now }
     requires room { length out.old.instructions.items + expression_size (expression_view condition.now) + 1 ≤ 65535 }
@@ -123,7 +124,7 @@ fn last_place(out: &Output) -> usize
     out.instructions.len() - 1
 }
 
-/// The test at a place, which led to the place behind it, leads to the end of the code so far if its value is 0.
+/// The test at a place, which led to the place after it, leads to the end of the code so far if its value is 0.
 fn end_test(out: &mut Output, at: usize)
     requires there { at < length out.old.instructions.items }
     requires room { length out.old.instructions.items ≤ 65535 }
@@ -160,8 +161,8 @@ fn lead(out: &mut Output, at: u16, to: u16)
     }
 }
 
-/// The jumps at these places, from the one at a place of the list on, lead to the end of the code so far. They leave the
-/// list.
+/// The jumps at these places, from the one at a place of the list on, lead to the end of the code so far. They leave
+/// the list.
 fn end_breaks(out: &mut Output, breaks: &mut Vec<u16>, from: usize)
     requires room { length out.old.instructions.items ≤ 65535 }
     ensures code { out.new.instructions.items
@@ -293,8 +294,8 @@ fn emit_block(
     Ok(())
 }
 
-/// The code of the statements of a body, before which there is none. Outside of loops `break` and `continue` lead to the
-/// end, which is at this place.
+/// The code of the statements of a body, before which there is none. Outside of loops `break` and `continue` lead to
+/// the end, which is at this place.
 pub fn emit_statements(
     alloc: Global,
     out: &mut Output,

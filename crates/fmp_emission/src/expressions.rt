@@ -1,15 +1,17 @@
-//! The code of an expression and its depths, one instruction after another, and that of an assignment to an element. The
-//! size of an operand of `&&` and `||` is counted before, so that each jump there is known when it is emitted; nesting
-//! bounds how often an operand is counted.
+//! The code of an expression and its depths, one instruction after another, and that of an assignment to an element.
+//! The size of an operand of `&&` and `||` is counted before, so that each jump there is known when it is emitted;
+//! nesting bounds how often an operand is counted.
 
 ghost use Rattle.std.specs.Prelude.{◌≡◌, ◌+◌, ◌<◌, ◌≤◌, ◌++◌, ◌∷◌, [], map, max, length, OnOk};
 ghost use Rattle.fmp_tasklang.specs.Scopes.{meaning_of};
 ghost use Rattle.fmp_tasklang.specs.Values.{array_places};
 ghost use Rattle.fmp_tasklang.specs.Views.{expression_view, link_view};
-ghost use Rattle.fmp_scopes.specs.Chains.{links_size, links_depth, operator_size, operator_rise, operator_code, links_code, operator_depths, links_depths};
+ghost use Rattle.fmp_scopes.specs.Chains.{links_size, links_depth, operator_size, operator_rise, operator_code};
+ghost use Rattle.fmp_scopes.specs.Chains.{links_code, operator_depths, links_depths};
 ghost use Rattle.fmp_scopes.specs.Depths.{expression_depth};
 ghost use Rattle.fmp_scopes.specs.DepthTables.{expression_depths, element_depths};
-ghost use Rattle.fmp_scopes.specs.Scheme.{array_base, load_element, store_element, element_code, name_code, expression_code};
+ghost use Rattle.fmp_scopes.specs.Scheme.{array_base, load_element, store_element, element_code, name_code};
+ghost use Rattle.fmp_scopes.specs.Scheme.{expression_code};
 ghost use Rattle.fmp_scopes.specs.Scopes.{IsHeld, scope_view};
 ghost use Rattle.fmp_scopes.specs.Sizes.{expression_size};
 

@@ -1,2 +1,3 @@
 pub mod Counts
+pub mod Followers
 pub mod Works

@@ -1,8 +1,10 @@
 //! A thread for each processor of a board, one for the ticks, and one for the interrupts.
-ghost use Rattle.std.specs.Prelude.{◌≡◌, ◌+◌, ◌<◌, ◌≤◌, ◌^◌, [], ◌++◌, ◌↔◌, ◌≢◌, All, Err, IfOk, length, map, vec_len, vec_capacity};
+ghost use Rattle.std.specs.Prelude.{◌≡◌, ◌+◌, ◌<◌, ◌≤◌, ◌^◌, [], ◌++◌, ◌↔◌, ◌≢◌, All, Err, IfOk, length, map, vec_len};
+ghost use Rattle.std.specs.Prelude.{vec_capacity};
 ghost use Rattle.fmp_board.specs.Boards.{IsAt};
 ghost use Rattle.fmp_board.specs.Visits.{Kept};
-ghost use Rattle.fmp_hostrun.specs.Works.{AllAdded, AreRun, CameBack, CameBackAs, GaveBack, HasFull, IsAnswer, AllGave, both, gave, job_of, load_of, mine_of, seats_of};
+ghost use Rattle.fmp_hostrun.specs.Works.{AllAdded, AreRun, CameBack, CameBackAs, GaveBack, HasFull, IsAnswer, AllGave};
+ghost use Rattle.fmp_hostrun.specs.Works.{both, gave, job_of, load_of, mine_of, seats_of};
 ghost use Rattle.fmp_board.specs.declared.fault.BoardFault.TheVariants.{Full, Held, Limit, Stale};
 
 use crate::feed::Feed;
@@ -70,7 +72,7 @@ fn joined<B: Feed, G: Gate, R: Threads>(
     (back, journaled)
 }
 
-/// Seats behind others.
+/// Seats after others.
 fn with_seats(mut back: Vec<Seat>, more: Vec<Seat>) -> Vec<Seat>
     requires { vec_len back + vec_len more ≤ vec_capacity back }
     ensures { result.items ≡ back.items ++ more.items }

@@ -52,7 +52,7 @@ pub trait Pace: Sync {
     /// Which moment it is. Another one comes with each event that is journaled.
     fn moment(&self) -> u64;
 
-    /// Whether a processor that had nothing to run at this moment or behind it is to look again. If not, its turn is
+    /// Whether a processor that had nothing to run at this moment or later is to look again. If not, its turn is
     /// over.
     fn looks_again(&self, moment: u64) -> bool;
 

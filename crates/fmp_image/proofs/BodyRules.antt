@@ -14,10 +14,10 @@ use Rattle.fmp_codegen.specs.Compiling.{compiled_body, compiled}
 use Rattle.fmp_scopes.specs.Depths.{body_depth}
 use Rattle.fmp_scopes.specs.DepthTables.{body_depths}
 use Rattle.fmp_codegen.specs.Laws as codegen
-use Rattle.fmp_image_parts.specs.Bodies.{greatest, IsBody}
-use Rattle.fmp_image_parts.specs.Instructions.{HasWord}
-use Rattle.fmp_image_parts.specs.Pairs.{AllPairs}
-use Rattle.fmp_image_parts.specs.Versions.{has, has_service, newest}
+use Rattle.fmp_image_bytes.specs.Bodies.{greatest, IsBody}
+use Rattle.fmp_image_bytes.specs.Instructions.{HasWord}
+use Rattle.fmp_image_bytes.specs.Pairs.{AllPairs}
+use Rattle.fmp_image_bytes.specs.Versions.{has, has_service, newest}
 use Rattle.fmp_image.specs.Building.{built_head, built_heads}
 
 same_greatest : (ds : List ℕ) → greatest ds ≡ codegen.greatest ds

@@ -5,7 +5,7 @@ use Rattle.fmp_tasklang.specs.Trees.{BodyTree}
 use Rattle.fmp_scopes.specs.declared.headings.Heading.{Heading}
 use Rattle.fmp_scopes.specs.Depths.{body_depth}
 use Rattle.fmp_scopes.specs.Headings.{heading_of, AreHeadings}
-use Rattle.fmp_image_parts.specs.declared.heads.BodyHead.{BodyHead}
+use Rattle.fmp_image_bytes.specs.declared.heads.BodyHead.{BodyHead}
 use Rattle.fmp_image.specs.Building.{built_kind, head_of, built_heads}
 
 low_exact : (d : ℕ) → min d 1073741824 ≤ 64 → min d 1073741824 ≡ d

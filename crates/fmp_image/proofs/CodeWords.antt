@@ -22,7 +22,7 @@ use Rattle.fmp_instructions.specs.Instructions.{BodyTables}
 use Rattle.fmp_codegen.specs.Compiling.{compiled}
 use Rattle.fmp_scopes.specs.Scheme.{name_code, expression_code, arguments_code, statement_code, block_code}
 use Rattle.fmp_scopes.specs.Sizes.{expression_size, statement_size, block_size}
-use Rattle.fmp_image_parts.specs.Instructions.{HasWord}
+use Rattle.fmp_image_bytes.specs.Instructions.{HasWord}
 use Rattle.fmp_image.proofs.TextNumbers.{ExpressionHasWords, StatementHasWords, BlockHasWords, BodyHasWords}
 
 -- ---- the numbers of objects

@@ -7,11 +7,11 @@ use Rattle.fmp_base.specs.declared.systems.CyclicConfig.{CyclicConfig}
 use Rattle.fmp_base.specs.declared.systems.InterruptConfig.{InterruptConfig}
 use Rattle.fmp_base.specs.Ranges.{TaskInRange, CyclicInRange, InterruptInRange}
 use Rattle.fmp_cfgparse.specs.Tables.{IsObjectName, TaskConfigured, CyclicConfigured}
-use Rattle.fmp_image_parts.specs.Fields.{in_range}
-use Rattle.fmp_image_parts.specs.Ranges.{is_start_bit}
+use Rattle.fmp_image_bytes.specs.Fields.{in_range}
+use Rattle.fmp_image_bytes.specs.Ranges.{is_start_bit}
 use Rattle.fmp_image_bytes.specs.Rows.{RowContext, row, bit, is_task_body, is_handler_body, task_form, cyclic_form}
 use Rattle.fmp_image_bytes.specs.Rows.{interrupt_form}
-use Rattle.fmp_image_parts.proofs.Verification.{both_true}
+use Rattle.fmp_image_bytes.proofs.Verification.{both_true}
 use Rattle.fmp_image.proofs.FittingRows.{object_is_name, name_room, lies_in_range}
 
 start_again : (b : Bool) → (bit b 2 == 2) ≡ b

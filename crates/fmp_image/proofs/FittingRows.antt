@@ -24,11 +24,11 @@ use Rattle.fmp_base.specs.declared.words.Constant.{Constant}
 use Rattle.fmp_base.specs.declared.words.Keyword.{Keyword}
 use Rattle.fmp_cfgparse.specs.Tables.{is_identifier, IsObjectName, SharedWordConfigured}
 use Rattle.fmp_image_bytes.specs.Images.{KeepRules}
-use Rattle.fmp_image_parts.specs.Keys.{begins_and_goes_on, is_service_of, is_reserved, is_name}
-use Rattle.fmp_image_parts.specs.Fields.{in_range}
+use Rattle.fmp_image_bytes.specs.Keys.{begins_and_goes_on, is_service_of, is_reserved, is_name}
+use Rattle.fmp_image_bytes.specs.Fields.{in_range}
 use Rattle.fmp_image_bytes.specs.Rows.{RowContext, RowForm, row, bit, order_bit, order_of, semaphore_form, flag_form}
 use Rattle.fmp_image_bytes.specs.Rows.{data_queue_form, mailbox_form, message_form, shared_word_form, spin_lock_form}
-use Rattle.fmp_image_parts.proofs.Verification.{both_true}
+use Rattle.fmp_image_bytes.proofs.Verification.{both_true}
 
 -- ---- names
 

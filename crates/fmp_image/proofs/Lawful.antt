@@ -18,11 +18,11 @@ use Rattle.fmp_codegen.specs.Compiling.{compiled_body, compiled}
 use Rattle.fmp_scopes.specs.Depths.{body_depth}
 use Rattle.fmp_scopes.specs.DepthTables.{body_depths}
 use Rattle.fmp_codegen.specs.Laws as codegen
-use Rattle.fmp_image_parts.specs.declared.heads.BodyHead.{BodyHead}
+use Rattle.fmp_image_bytes.specs.declared.heads.BodyHead.{BodyHead}
 use Rattle.fmp_image_bytes.specs.Images.{image_tables, keys_of, KeepRules, IsImage}
-use Rattle.fmp_image_parts.specs.Instructions.{HasWord}
-use Rattle.fmp_image_parts.specs.Versions.{newest}
-use Rattle.fmp_image_parts.specs.Keys.{are_new}
+use Rattle.fmp_image_bytes.specs.Instructions.{HasWord}
+use Rattle.fmp_image_bytes.specs.Versions.{newest}
+use Rattle.fmp_image_bytes.specs.Keys.{are_new}
 use Rattle.fmp_image_bytes.specs.Rows.{RowContext, context_of, row, task_form, cyclic_form, interrupt_form}
 use Rattle.fmp_image_bytes.specs.Rows.{semaphore_form, flag_form, data_queue_form, mailbox_form, message_form}
 use Rattle.fmp_image_bytes.specs.Rows.{shared_word_form, spin_lock_form}

@@ -9,10 +9,10 @@ use Rattle.fmp_cfgparse.specs.Tables.{same_name, object_names, interrupt_number,
 use Rattle.fmp_cfgparse.specs.Tables.{data_queue_name, mailbox_name, message_name, shared_word_name, spin_lock_name}
 use Rattle.fmp_cfgparse.specs.Tables.{cyclic_name, IsConfiguration}
 use Rattle.fmp_cfgparse.proofs.OneMore.{name_flip}
-use Rattle.fmp_image_parts.specs.declared.keys.Key.{Key}
-use Rattle.fmp_image_parts.specs.declared.keys.Key.TheVariants as key
+use Rattle.fmp_image_bytes.specs.declared.keys.Key.{Key}
+use Rattle.fmp_image_bytes.specs.declared.keys.Key.TheVariants as key
 use Rattle.fmp_image_bytes.specs.Images.{keys_of}
-use Rattle.fmp_image_parts.specs.Keys.{same_key, is_taken, are_new}
+use Rattle.fmp_image_bytes.specs.Keys.{same_key, is_taken, are_new}
 
 -- ---- keys that differ are new
 

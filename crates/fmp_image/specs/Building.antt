@@ -23,10 +23,10 @@ use Rattle.fmp_codegen.specs.Compiling.{bodies_offence, compiled, IsAccepted}
 use Rattle.fmp_scopes.specs.Depths.{body_depth}
 use Rattle.fmp_scopes.specs.Entries.{body_place, entries_offence}
 use Rattle.fmp_scopes.specs.Naming.{fault_in}
-use Rattle.fmp_image_parts.specs.declared.heads.BodyHead.{BodyHead}
-use Rattle.fmp_image_parts.specs.declared.heads.BodyKind.{BodyKind}
-use Rattle.fmp_image_parts.specs.declared.heads.BodyKind.TheVariants as kind
-use Rattle.fmp_image_parts.specs.Versions.{newest}
+use Rattle.fmp_image_bytes.specs.declared.heads.BodyHead.{BodyHead}
+use Rattle.fmp_image_bytes.specs.declared.heads.BodyKind.{BodyKind}
+use Rattle.fmp_image_bytes.specs.declared.heads.BodyKind.TheVariants as kind
+use Rattle.fmp_image_bytes.specs.Versions.{newest}
 use Rattle.fmp_image_bytes.specs.Images.{ImageTables, image_tables}
 use Rattle.fmp_image.specs.Entries.{entry_uses}
 

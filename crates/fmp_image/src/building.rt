@@ -17,7 +17,7 @@ use fmp_base::System;
 use fmp_cfgparse::read_configuration;
 use fmp_codegen::{CompiledText, check_headings, compile_text};
 use fmp_image_bytes::Image;
-use fmp_image_parts::versions::newest;
+use fmp_image_bytes::versions::newest;
 use fmp_lex::BuildFault;
 use std::alloc::{AllocError, Global};
 

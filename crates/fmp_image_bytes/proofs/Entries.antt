@@ -7,14 +7,14 @@ use Rattle.fmp_base.specs.declared.systems.TaskConfig.{TaskConfig}
 use Rattle.fmp_base.specs.declared.systems.CyclicConfig.{CyclicConfig}
 use Rattle.fmp_base.specs.declared.systems.InterruptConfig.{InterruptConfig}
 use Rattle.fmp_base.specs.Systems.{body_of}
-use Rattle.fmp_image_parts.specs.declared.heads.BodyHead.{BodyHead}
-use Rattle.fmp_image_parts.specs.Bodies.{IsBody}
+use Rattle.fmp_image_bytes.specs.declared.heads.BodyHead.{BodyHead}
+use Rattle.fmp_image_bytes.specs.Bodies.{IsBody}
 use Rattle.fmp_image_bytes.specs.Images.{ImageTables, IsImage}
 use Rattle.fmp_image_bytes.specs.Rows.{RowContext, context_of, row, is_task_body, is_handler_body, task_form}
 use Rattle.fmp_image_bytes.specs.Rows.{cyclic_form, interrupt_form}
 use Rattle.fmp_image_bytes.proofs.InRange.{all_map}
-use Rattle.fmp_image_parts.proofs.Names.{and_true}
-use Rattle.fmp_image_parts.proofs.PairLists.{same_length}
+use Rattle.fmp_image_bytes.proofs.Names.{and_true}
+use Rattle.fmp_image_bytes.proofs.PairLists.{same_length}
 
 task_there : (heads : List BodyHead) (body stack : ℕ) (o : Option BodyHead) → slice_get heads body ≡ o
     → is_task_body o stack ≡ true → body < length heads

@@ -4,29 +4,29 @@ use Rattle.std.proofs.Common.{subst, ◌∙◌, arith}
 use Rattle.std.proofs.lemmas.Bool.{leb-true}
 use Rattle.std.proofs.lemmas.List.{append-nil}
 use Rattle.std.proofs.lemmas.Slice.Eq.{bytes_eq-Decides}
-use Rattle.fmp_image_parts.specs.declared.fault.ImageFault.{ImageFault}
-use Rattle.fmp_image_parts.specs.declared.keys.Key.{Key}
-use Rattle.fmp_image_parts.specs.Fields.{Field, chained}
-use Rattle.fmp_image_parts.specs.Keys.{are_new}
-use Rattle.fmp_image_parts.specs.Fields.{in_range}
+use Rattle.fmp_image_bytes.specs.declared.fault.ImageFault.{ImageFault}
+use Rattle.fmp_image_bytes.specs.declared.keys.Key.{Key}
+use Rattle.fmp_image_bytes.specs.Fields.{Field, chained}
+use Rattle.fmp_image_bytes.specs.Keys.{are_new}
+use Rattle.fmp_image_bytes.specs.Fields.{in_range}
 use Rattle.fmp_image_bytes.specs.Rows.{RowContext, context_of, RowForm, row, task_form, semaphore_form, flag_form}
 use Rattle.fmp_image_bytes.specs.Rows.{data_queue_form, mailbox_form, message_form, shared_word_form, spin_lock_form}
 use Rattle.fmp_image_bytes.specs.Rows.{cyclic_form, interrupt_form}
 use Rattle.fmp_image_bytes.specs.Tables.{AreRows}
-use Rattle.fmp_image_parts.specs.Bodies.{bodies}
-use Rattle.fmp_image_parts.specs.Versions.{is_version}
-use Rattle.fmp_image_parts.specs.Header.{plain, magic, is_magic, header}
+use Rattle.fmp_image_bytes.specs.Bodies.{bodies}
+use Rattle.fmp_image_bytes.specs.Versions.{is_version}
+use Rattle.fmp_image_bytes.specs.Header.{plain, magic, is_magic, header}
 use Rattle.fmp_image_bytes.specs.Images.{◌▹◌, ImageTables, table_of, also, tables, Parts, layout, parts_of, image_of}
 use Rattle.fmp_image_bytes.specs.Images.{spelling, all_read, image_at, KeepRules, IsImage, Spells}
-use Rattle.fmp_image_parts.proofs.FieldLaws.{IsBytes, Exact, bind_ok, pair_is, byte_exact, short_exact, bytes_take}
-use Rattle.fmp_image_parts.proofs.FieldLaws.{bytes_again, tested_exact, both_exact, chained_exact}
+use Rattle.fmp_image_bytes.proofs.FieldLaws.{IsBytes, Exact, bind_ok, pair_is, byte_exact, short_exact, bytes_take}
+use Rattle.fmp_image_bytes.proofs.FieldLaws.{bytes_again, tested_exact, both_exact, chained_exact}
 use Rattle.fmp_image_bytes.proofs.RowLaws.{GoesBack, row_exact, task_back, semaphore_back, flag_back_row}
 use Rattle.fmp_image_bytes.proofs.RowLaws.{data_queue_back, mailbox_back_row, message_back, shared_word_back}
 use Rattle.fmp_image_bytes.proofs.RowLaws.{spin_lock_back, cyclic_back, interrupt_back}
 use Rattle.fmp_image_bytes.proofs.TableLaws.{table_exact, new_append}
-use Rattle.fmp_image_parts.proofs.BodyLaws.{bodies_exact}
-use Rattle.fmp_image_parts.proofs.Names.{and_true}
-use Rattle.fmp_image_parts.proofs.Verification.{both_true}
+use Rattle.fmp_image_bytes.proofs.BodyLaws.{bodies_exact}
+use Rattle.fmp_image_bytes.proofs.Names.{and_true}
+use Rattle.fmp_image_bytes.proofs.Verification.{both_true}
 
 plain_exact : (size : ℕ) → Exact (plain size)
 plain_exact size = record {
@@ -76,7 +76,7 @@ processors_fit n h = let high : n ≤ 8 = leb-true _ _ (and_true _ _ h).1 in ome
 -- ---- the rules of an image, table by table
 
 module _ {F A : Type 0} (form : RowForm F A) (context : RowContext) (taken : List Key) (rows : List A) where
-  -- the keys of a table are new, and those behind it are new with them
+  -- the keys of a table are new, and those after it are new with them
   peel : (behind : List Key) → KeepRules form context rows → are_new taken (map form.key_of rows ++ behind) ≡ true
       → AreRows (row form context) form.key_of taken rows × (are_new (taken ++ map form.key_of rows) behind ≡ true)
   peel behind rules new =

@@ -14,11 +14,11 @@ use Rattle.fmp_base.specs.declared.systems.InterruptConfig.{InterruptConfig}
 use Rattle.fmp_base.specs.Ranges.{Lies, IsTable, IsInRange, TaskInRange, SemaphoreInRange, FlagInRange}
 use Rattle.fmp_base.specs.Ranges.{DataQueueInRange, MailboxInRange, MessageInRange, CyclicInRange, InterruptInRange}
 use Rattle.fmp_image_bytes.specs.Images.{ImageTables, KeepRules, IsImage}
-use Rattle.fmp_image_parts.specs.Fields.{in_range}
-use Rattle.fmp_image_parts.specs.Versions.{queue_limit_of}
+use Rattle.fmp_image_bytes.specs.Fields.{in_range}
+use Rattle.fmp_image_bytes.specs.Versions.{queue_limit_of}
 use Rattle.fmp_image_bytes.specs.Rows.{RowContext, context_of, RowForm, row, task_form, semaphore_form, flag_form}
 use Rattle.fmp_image_bytes.specs.Rows.{data_queue_form, mailbox_form, message_form, cyclic_form, interrupt_form}
-use Rattle.fmp_image_parts.proofs.Names.{and_true}
+use Rattle.fmp_image_bytes.proofs.Names.{and_true}
 
 lies : (low high n : ℕ) → in_range low high n ≡ true → Lies low high n
 lies low high n h = let p = and_true _ _ h in record { least = leb-true low n p.0; most = leb-true n high p.1 }

@@ -22,10 +22,10 @@ use Rattle.fmp_instructions.specs.Instructions.{BodyTables, instructions_at, fou
 use Rattle.fmp_instructions.specs.Machine.{Next, act, exec, gives, on_place, stack_of, unstacked, code_stretch}
 use Rattle.fmp_instructions.specs.Machine.{code_meaning}
 use Rattle.fmp_instructions.proofs.Requests.{service_of-request}
-use Rattle.fmp_image_parts.specs.declared.heads.BodyHead.{BodyHead}
-use Rattle.fmp_image_parts.specs.Bodies.{IsBody}
-use Rattle.fmp_image_parts.specs.Pairs.{AllPairs}
-use Rattle.fmp_image_parts.specs.Versions.{has, has_service, queue_limit_of}
+use Rattle.fmp_image_bytes.specs.declared.heads.BodyHead.{BodyHead}
+use Rattle.fmp_image_bytes.specs.Bodies.{IsBody}
+use Rattle.fmp_image_bytes.specs.Pairs.{AllPairs}
+use Rattle.fmp_image_bytes.specs.Versions.{has, has_service, queue_limit_of}
 use Rattle.fmp_image_bytes.specs.Images.{ImageTables, IsImage}
 use Rattle.fmp_image_bytes.specs.OlderImages.{first_calls, with_first_services, with_queue_limit, AreTheSame}
 use Rattle.fmp_image_bytes.specs.OlderImages.{MeansTheSame}

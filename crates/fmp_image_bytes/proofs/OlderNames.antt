@@ -6,8 +6,8 @@ use Rattle.fmp_base.specs.declared.services.Service.{Service}
 use Rattle.fmp_base.specs.declared.services.Service.TheVariants.{MrotRdq}
 use Rattle.fmp_base.specs.Services.{service_number}
 use Rattle.fmp_base.specs.Words.{constant_named, api_named, service_named, keyword_named}
-use Rattle.fmp_image_parts.specs.Keys.{begins_and_goes_on, is_service_of, is_name}
-use Rattle.fmp_image_parts.specs.Versions.{has_service}
+use Rattle.fmp_image_bytes.specs.Keys.{begins_and_goes_on, is_service_of, is_name}
+use Rattle.fmp_image_bytes.specs.Versions.{has_service}
 use Rattle.fmp_image_bytes.specs.OlderImages.{is_first, is_name_among_first}
 
 too_new : (version : ℕ) → version ≤ 2 → (b : Bool) → nat_le 3 version ≡ b → b ≡ false

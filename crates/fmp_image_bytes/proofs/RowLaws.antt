@@ -5,16 +5,16 @@ use Rattle.std.specs.Prelude.{◌==◌, ◌%◌, ◌/◌, slice_get}
 use Rattle.std.proofs.lemmas.Bool.{leb-true, eqb-true}
 use Rattle.std.proofs.lemmas.List.{take_at}
 use Rattle.fmp_base.specs.Names.{name_text, name_from}
-use Rattle.fmp_image_parts.specs.declared.fault.ImageFault.TheVariants as fault
-use Rattle.fmp_image_parts.specs.Keys.{is_name}
-use Rattle.fmp_image_parts.specs.Fields.{in_range}
-use Rattle.fmp_image_parts.specs.Ranges.{is_start_bit}
+use Rattle.fmp_image_bytes.specs.declared.fault.ImageFault.TheVariants as fault
+use Rattle.fmp_image_bytes.specs.Keys.{is_name}
+use Rattle.fmp_image_bytes.specs.Fields.{in_range}
+use Rattle.fmp_image_bytes.specs.Ranges.{is_start_bit}
 use Rattle.fmp_image_bytes.specs.Rows.{RowContext, RowForm, row, is_handler_body, bit, order_bit, order_of, task_form}
 use Rattle.fmp_image_bytes.specs.Rows.{semaphore_form, flag_form, data_queue_form, mailbox_form, message_form}
 use Rattle.fmp_image_bytes.specs.Rows.{shared_word_form, spin_lock_form, cyclic_form, interrupt_form}
-use Rattle.fmp_image_parts.proofs.FieldLaws.{Exact, bind_ok, passed, byte_exact, short_exact, long_exact, word_exact}
-use Rattle.fmp_image_parts.proofs.FieldLaws.{text_exact, both_exact}
-use Rattle.fmp_image_parts.proofs.Names.{and_true}
+use Rattle.fmp_image_bytes.proofs.FieldLaws.{Exact, bind_ok, passed, byte_exact, short_exact, long_exact, word_exact}
+use Rattle.fmp_image_bytes.proofs.FieldLaws.{text_exact, both_exact}
+use Rattle.fmp_image_bytes.proofs.Names.{and_true}
 
 -- fields that keep the rules are those of the row that they make
 pub record GoesBack {F A : Type 0} (form : RowForm F A) (context : RowContext) : Type 0 where

@@ -2,13 +2,13 @@
 use Rattle.std.proofs.Common.{◌≡◌, ℕ, suc, ◌-◌, ◌+◌, ◌≤◌, ◌<◌, true, false, List, [], ◌∷◌, ◌++◌, Result, Ok, Err, refl}
 use Rattle.std.proofs.Common.{sym, ap, ◌∙◌, append_assoc, arith}
 use Rattle.std.proofs.lemmas.List.{append-nil}
-use Rattle.fmp_image_parts.specs.declared.fault.ImageFault.{ImageFault}
-use Rattle.fmp_image_parts.specs.declared.fault.ImageFault.TheVariants as fault
-use Rattle.fmp_image_parts.specs.declared.fault.LoadFault.{LoadFault}
-use Rattle.fmp_image_parts.specs.declared.fault.LoadFault.TheVariants as load_fault
-use Rattle.fmp_image_parts.specs.declared.keys.Key.{Key}
-use Rattle.fmp_image_parts.specs.Fields.{◌>>=◌, Fails, Field}
-use Rattle.fmp_image_parts.specs.Keys.{is_taken}
+use Rattle.fmp_image_bytes.specs.declared.fault.ImageFault.{ImageFault}
+use Rattle.fmp_image_bytes.specs.declared.fault.ImageFault.TheVariants as fault
+use Rattle.fmp_image_bytes.specs.declared.fault.LoadFault.{LoadFault}
+use Rattle.fmp_image_bytes.specs.declared.fault.LoadFault.TheVariants as load_fault
+use Rattle.fmp_image_bytes.specs.declared.keys.Key.{Key}
+use Rattle.fmp_image_bytes.specs.Fields.{◌>>=◌, Fails, Field}
+use Rattle.fmp_image_bytes.specs.Keys.{is_taken}
 use Rattle.fmp_image_bytes.specs.Tables.{rows_at}
 
 -- what was read before, and what is still read

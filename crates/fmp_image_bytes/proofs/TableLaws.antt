@@ -4,14 +4,14 @@ use Rattle.std.proofs.Common.{refl, sym, ap, subst, ◌∙◌, append_assoc}
 use Rattle.std.specs.List.{flat_map, AllByRecursion}
 use Rattle.std.proofs.lemmas.List.{append-nil}
 use Rattle.std.proofs.lemmas.List.Concat.{flat_map-cons}
-use Rattle.fmp_image_parts.specs.declared.fault.ImageFault.TheVariants as fault
-use Rattle.fmp_image_parts.specs.declared.keys.Key.{Key}
-use Rattle.fmp_image_parts.specs.Fields.{Field, ◌>>=◌, byte_at}
-use Rattle.fmp_image_parts.specs.Keys.{is_taken, are_new}
+use Rattle.fmp_image_bytes.specs.declared.fault.ImageFault.TheVariants as fault
+use Rattle.fmp_image_bytes.specs.declared.keys.Key.{Key}
+use Rattle.fmp_image_bytes.specs.Fields.{Field, ◌>>=◌, byte_at}
+use Rattle.fmp_image_bytes.specs.Keys.{is_taken, are_new}
 use Rattle.fmp_image_bytes.specs.Tables.{new_row, rows_at, table}
-use Rattle.fmp_image_parts.proofs.FieldLaws.{IsBytes, Exact, bind_ok, ok_is, byte_exact, tested_exact, rest_is_bytes}
-use Rattle.fmp_image_parts.proofs.Names.{and_true}
-use Rattle.fmp_image_parts.proofs.Verification.{both_true}
+use Rattle.fmp_image_bytes.proofs.FieldLaws.{IsBytes, Exact, bind_ok, ok_is, byte_exact, tested_exact, rest_is_bytes}
+use Rattle.fmp_image_bytes.proofs.Names.{and_true}
+use Rattle.fmp_image_bytes.proofs.Verification.{both_true}
 
 -- what n rows took
 record Taken {A : Type 0} (row : Field A) (key_of : A → Key) (n : ℕ) (taken : List Key) (bytes : List ℕ)

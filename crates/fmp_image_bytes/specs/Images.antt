@@ -13,21 +13,21 @@ use Rattle.fmp_base.specs.declared.systems.CyclicConfig.{CyclicConfig}
 use Rattle.fmp_base.specs.declared.systems.InterruptConfig.{InterruptConfig}
 use Rattle.fmp_base.specs.Systems.{SystemTables}
 use Rattle.fmp_instructions.specs.Instructions.{BodyTables}
-use Rattle.fmp_image_parts.specs.declared.fault.ImageFault.{ImageFault}
-use Rattle.fmp_image_parts.specs.declared.fault.ImageFault.TheVariants as fault
-use Rattle.fmp_image_parts.specs.declared.heads.BodyHead.{BodyHead}
-use Rattle.fmp_image_parts.specs.declared.keys.Key.{Key}
-use Rattle.fmp_image_parts.specs.Fields.{Field, ◌>>=◌, chained}
-use Rattle.fmp_image_parts.specs.Keys.{are_new}
-use Rattle.fmp_image_parts.specs.Fields.{in_range}
-use Rattle.fmp_image_parts.specs.Header.{magic, header}
+use Rattle.fmp_image_bytes.specs.declared.fault.ImageFault.{ImageFault}
+use Rattle.fmp_image_bytes.specs.declared.fault.ImageFault.TheVariants as fault
+use Rattle.fmp_image_bytes.specs.declared.heads.BodyHead.{BodyHead}
+use Rattle.fmp_image_bytes.specs.declared.keys.Key.{Key}
+use Rattle.fmp_image_bytes.specs.Fields.{Field, ◌>>=◌, chained}
+use Rattle.fmp_image_bytes.specs.Keys.{are_new}
+use Rattle.fmp_image_bytes.specs.Fields.{in_range}
+use Rattle.fmp_image_bytes.specs.Header.{magic, header}
 use Rattle.fmp_image_bytes.specs.Rows.{RowContext, context_of, RowForm, row, task_form, semaphore_form, flag_form}
 use Rattle.fmp_image_bytes.specs.Rows.{data_queue_form, mailbox_form, message_form, shared_word_form, spin_lock_form}
 use Rattle.fmp_image_bytes.specs.Rows.{cyclic_form, interrupt_form}
 use Rattle.fmp_image_bytes.specs.Tables.{table}
-use Rattle.fmp_image_parts.specs.Bodies.{bodies, IsBody}
-use Rattle.fmp_image_parts.specs.Pairs.{AllPairs}
-use Rattle.fmp_image_parts.specs.Versions.{is_version, queue_limit_of}
+use Rattle.fmp_image_bytes.specs.Bodies.{bodies, IsBody}
+use Rattle.fmp_image_bytes.specs.Pairs.{AllPairs}
+use Rattle.fmp_image_bytes.specs.Versions.{is_version, queue_limit_of}
 
 infixr 4 ◌▹◌
 -- what an image holds, as data without memory: its version, the tables of the system, and of each body what is said of
@@ -41,11 +41,11 @@ pub record ImageTables : Type 0 where
 abbrev pub image_tables : (version : ℕ) → SystemTables → List BodyHead → List BodyTables → ImageTables
 image_tables version system heads code = record { version = version; system = system; heads = heads; code = code }
 
--- the table of a kind of rows, behind which these keys stand
+-- the table of a kind of rows, where these keys stand already
 abbrev pub table_of : {F A : Type 0} → RowForm F A → RowContext → List Key → Field (List A)
 table_of form context taken = table (row form context) form.key_of taken
 
--- a table, and what stands behind it with its keys taken too
+-- a table, and what stands after it with its keys taken too
 abbrev pub also : {F A B : Type 0} → RowForm F A → (RowContext → List Key → Field B) → RowContext → List Key
     → Field (List A × B)
 also form behind context taken =
@@ -76,7 +76,7 @@ Parts = (List ℕ × (ℕ × ℕ)) × ((List BodyHead × List BodyTables) × The
 abbrev pub layout : Field Parts
 layout = chained header (λ h. chained (bodies h.1.0) (λ b. tables (context_of h.1.0 h.1.1 b.0) []))
 
--- a pair, in a chain of parts that stand one behind the other
+-- a pair, in a chain of parts that stand one after the other
 pattern abbrev pub ◌▹◌ : {A B : Type 0} → A → B → A × B
 a ▹ b = (a, b)
 

@@ -1,4 +1,13 @@
+pub mod Bodies
+pub mod Fields
+pub mod Header
 pub mod Images
+pub mod Instructions
+pub mod KeyLaws
+pub mod Keys
 pub mod OlderImages
+pub mod Pairs
+pub mod Ranges
 pub mod Rows
 pub mod Tables
+pub mod Versions

@@ -15,7 +15,7 @@ use Rattle.fmp_base.specs.Systems.{SystemTables}
 use Rattle.fmp_base.specs.Texts.{whole_text}
 use Rattle.fmp_base.specs.Words.{constant_named, api_named, service_named, keyword_named}
 use Rattle.fmp_instructions.specs.Machine.{code_meaning}
-use Rattle.fmp_image_parts.specs.Keys.{begins_and_goes_on}
+use Rattle.fmp_image_bytes.specs.Keys.{begins_and_goes_on}
 use Rattle.fmp_image_bytes.specs.Images.{ImageTables}
 
 -- a stretch that would end in a call of another service than the first ones is stuck: its event does nothing

@@ -16,15 +16,15 @@ use Rattle.fmp_base.specs.declared.systems.SharedWordConfig.{SharedWordConfig}
 use Rattle.fmp_base.specs.declared.systems.SpinLockConfig.{SpinLockConfig}
 use Rattle.fmp_base.specs.declared.systems.CyclicConfig.{CyclicConfig}
 use Rattle.fmp_base.specs.declared.systems.InterruptConfig.{InterruptConfig}
-use Rattle.fmp_image_parts.specs.declared.fault.ImageFault.TheVariants as fault
-use Rattle.fmp_image_parts.specs.declared.heads.BodyKind.{BodyKind}
-use Rattle.fmp_image_parts.specs.declared.heads.BodyKind.TheVariants as kind
-use Rattle.fmp_image_parts.specs.declared.heads.BodyHead.{BodyHead}
-use Rattle.fmp_image_parts.specs.declared.keys.Key.{Key}
-use Rattle.fmp_image_parts.specs.declared.keys.Key.TheVariants as key
-use Rattle.fmp_image_parts.specs.Fields.{Field, ◌>>=◌, ◌⊗◌, byte, short, long, word, text, in_range}
-use Rattle.fmp_image_parts.specs.Keys.{is_name}
-use Rattle.fmp_image_parts.specs.Ranges.{cyclic_numbers, mailbox_rules, semaphore_rules, task_numbers}
+use Rattle.fmp_image_bytes.specs.declared.fault.ImageFault.TheVariants as fault
+use Rattle.fmp_image_bytes.specs.declared.heads.BodyKind.{BodyKind}
+use Rattle.fmp_image_bytes.specs.declared.heads.BodyKind.TheVariants as kind
+use Rattle.fmp_image_bytes.specs.declared.heads.BodyHead.{BodyHead}
+use Rattle.fmp_image_bytes.specs.declared.keys.Key.{Key}
+use Rattle.fmp_image_bytes.specs.declared.keys.Key.TheVariants as key
+use Rattle.fmp_image_bytes.specs.Fields.{Field, ◌>>=◌, ◌⊗◌, byte, short, long, word, text, in_range}
+use Rattle.fmp_image_bytes.specs.Keys.{is_name}
+use Rattle.fmp_image_bytes.specs.Ranges.{cyclic_numbers, mailbox_rules, semaphore_rules, task_numbers}
 
 -- what rows refer to: the version, the number of processors, and what is said of each body
 pub record RowContext : Type 0 where

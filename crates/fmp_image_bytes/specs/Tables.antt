@@ -1,11 +1,11 @@
 -- Tables: a count of rows, and the rows, each with a key that does not stand yet.
 use Rattle.std.specs.Prelude.{◌≡◌, ◌<◌, ℕ, zero, suc, List, [], ◌∷◌, ◌++◌, length, map, Result, Ok, true, not}
 use Rattle.std.specs.List.{flat_map, AllByRecursion}
-use Rattle.fmp_image_parts.specs.declared.fault.ImageFault.{ImageFault}
-use Rattle.fmp_image_parts.specs.declared.fault.ImageFault.TheVariants as fault
-use Rattle.fmp_image_parts.specs.declared.keys.Key.{Key}
-use Rattle.fmp_image_parts.specs.Fields.{Field, ◌>>=◌, byte_at, tested}
-use Rattle.fmp_image_parts.specs.Keys.{is_taken, are_new}
+use Rattle.fmp_image_bytes.specs.declared.fault.ImageFault.{ImageFault}
+use Rattle.fmp_image_bytes.specs.declared.fault.ImageFault.TheVariants as fault
+use Rattle.fmp_image_bytes.specs.declared.keys.Key.{Key}
+use Rattle.fmp_image_bytes.specs.Fields.{Field, ◌>>=◌, byte_at, tested}
+use Rattle.fmp_image_bytes.specs.Keys.{is_taken, are_new}
 
 -- a row whose key does not stand yet
 abbrev pub new_row : {A : Type 0} → Field A → (A → Key) → List Key → Field A
@@ -26,7 +26,7 @@ pub record AreRows {A : Type 0} (row : Field A) (key_of : A → Key) (taken : Li
   pub each : AllByRecursion row.fits rows
   pub once : are_new taken (map key_of rows) ≡ true
 
--- a table behind which these keys stand already
+-- a table, where these keys stand already
 abbrev pub table : {A : Type 0} → Field A → (A → Key) → List Key → Field (List A)
 table row key_of taken = record {
   fits = AreRows row key_of taken;

@@ -2,7 +2,7 @@
 
 ghost use Rattle.std.specs.Prelude.{◌≡◌, ◌≤◌, ◌++◌, [], ℕ, List};
 ghost use Rattle.fmp_image_bytes.specs.Images.{ImageTables, Spells};
-ghost use Rattle.fmp_image_parts.specs.Keys.{is_name};
+ghost use Rattle.fmp_image_bytes.specs.Keys.{is_name};
 ghost use Rattle.fmp_image_bytes.specs.OlderImages.{MeansTheSame, is_name_among_first};
 
 /// A law: no two byte strings spell one image, none spells two images, and none begins another, whatever their

@@ -3,22 +3,24 @@
 ghost use Rattle.std.specs.Prelude.{◌≡◌, ◌≤◌, [], IfOk, Ok};
 ghost use Rattle.fmp_base.specs.Systems.{tables_of};
 ghost use Rattle.fmp_instructions.specs.Instructions.{code_tables};
-ghost use Rattle.fmp_image_parts.specs.Fields.{Gives};
-ghost use Rattle.fmp_image_parts.specs.Versions as versions;
+ghost use Rattle.fmp_image_bytes.specs.Fields.{Gives};
+ghost use Rattle.fmp_image_bytes.specs.Versions as versions;
 ghost use Rattle.fmp_image_bytes.specs.Rows.{context_of};
 ghost use Rattle.fmp_image_bytes.specs.Images.{◌▹◌, ImageTables, Spells};
 ghost use Rattle.fmp_image_bytes.specs.Images.{image_at, image_tables, later_tables, tables, tables_in};
 ghost use Rattle.fmp_image_bytes.specs.OlderImages.{MeansTheSame};
 
+use crate::bodies::read_bodies;
+use crate::fault::{ImageFault, LoadFault};
+use crate::header::{is_end, queue_limit_of, read_header};
+use crate::heads::BodyHead;
 use crate::image::Image;
+use crate::keys::TakenKeys;
 use crate::laws::older_images_mean_the_same;
 use crate::rows::read_table;
 use fmp_base::{
     CyclicConfig, InterruptConfig, MessageConfig, SharedWordConfig, SpinLockConfig, System,
 };
-use fmp_image_parts::fault::{ImageFault, LoadFault};
-use fmp_image_parts::keys::TakenKeys;
-use fmp_image_parts::{BodyHead, is_end, queue_limit_of, read_bodies, read_header};
 use fmp_instructions::Code;
 use std::alloc::Global;
 
@@ -31,7 +33,7 @@ struct LaterTables {
     interrupts: Vec<InterruptConfig>,
 }
 
-/// Reads the tables from that of messages on, behind those whose keys are taken.
+/// Reads the tables from that of messages on, after those whose keys are taken.
 fn read_later_tables<'a>(
     alloc: Global,
     version: u16,

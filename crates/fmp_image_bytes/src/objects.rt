@@ -2,21 +2,20 @@
 
 ghost use Rattle.std.specs.Prelude.{◌≡◌, ◌++◌, ◌+◌, ◌<◌, length, OnOk};
 ghost use Rattle.fmp_base.specs.Names.{name_text};
-ghost use Rattle.fmp_image_bytes.specs.Rows.{row, order_bit, order_of, semaphore_form, flag_form, data_queue_form, mailbox_form, message_form, shared_word_form, spin_lock_form};
-ghost use Rattle.fmp_image_parts.specs.Fields.{byte};
+ghost use Rattle.fmp_image_bytes.specs.Rows.{row, order_bit, order_of, semaphore_form, flag_form, data_queue_form};
+ghost use Rattle.fmp_image_bytes.specs.Rows.{mailbox_form, message_form, shared_word_form, spin_lock_form};
+ghost use Rattle.fmp_image_bytes.specs.Fields.{byte};
 
+use crate::fault::{LoadFault, TABLE};
+use crate::fields::{byte_at, in_range, put_byte, put_short, put_word, short_at, text_at, word_at};
+use crate::heads::BodyHead;
+use crate::keys::{Key, name_of};
+use crate::ranges::{keeps_mailbox_rules, keeps_semaphore_rules};
 use crate::rows::{Row, put_name};
 use fmp_base::{
     DataQueueConfig, FlagConfig, MailboxConfig, MessageConfig, QueueOrder, SemaphoreConfig,
     SharedWordConfig, SpinLockConfig,
 };
-use fmp_image_parts::fault::{LoadFault, TABLE};
-use fmp_image_parts::fields::{
-    byte_at, in_range, put_byte, put_short, put_word, short_at, text_at, word_at,
-};
-use fmp_image_parts::heads::BodyHead;
-use fmp_image_parts::keys::{Key, name_of};
-use fmp_image_parts::{keeps_mailbox_rules, keeps_semaphore_rules};
 use std::alloc::AllocError;
 
 fn order_bit(order: QueueOrder, number: u8) -> u8

@@ -3,16 +3,16 @@
 ghost use Rattle.std.specs.Prelude.{◌≡◌, ◌++◌, ◌∷◌, [], ◌<◌, ◌≤◌, ℕ, List, length, map, OnOk, IfOk};
 ghost use Rattle.std.specs.List.{flat_map, AllByRecursion};
 ghost use Rattle.fmp_base.specs.Names.{name_text};
-ghost use Rattle.fmp_image_parts.specs.Fields.{Field, Gives, byte, text};
+ghost use Rattle.fmp_image_bytes.specs.Fields.{Field, Gives, byte, text};
 ghost use Rattle.fmp_image_bytes.specs.Rows.{RowContext, context_of, bit};
 ghost use Rattle.fmp_image_bytes.specs.Tables.{rows_at, table};
-ghost use Rattle.fmp_image_parts.specs.declared.keys.Key as spec_key;
+ghost use Rattle.fmp_image_bytes.specs.declared.keys.Key as spec_key;
 
+use crate::fault::{LoadFault, TABLE};
+use crate::fields::{byte_at, put_byte, put_text};
+use crate::heads::BodyHead;
+use crate::keys::{Key, TakenKeys, is_taken, take};
 use fmp_base::Name;
-use fmp_image_parts::fault::{LoadFault, TABLE};
-use fmp_image_parts::fields::{byte_at, put_byte, put_text};
-use fmp_image_parts::heads::BodyHead;
-use fmp_image_parts::keys::{Key, TakenKeys, is_taken, take};
 use std::alloc::{AllocError, Global};
 
 /// Appends a byte: a number that stands for true, or 0 for false. `AllocError` if memory runs out.
@@ -22,7 +22,7 @@ pub fn put_bit(out: &mut Vec<u8>, is_set: bool, number: u8) -> Result<(), AllocE
     put_byte(out, if is_set { number } else { 0 })
 }
 
-/// Appends a name behind its length. `AllocError` if memory runs out.
+/// Appends a name after its length. `AllocError` if memory runs out.
 pub fn put_name(out: &mut Vec<u8>, name: &Name) -> Result<(), AllocError>
     requires { length (name_text name.now) < 256 }
     ensures { OnOk result (out.new.items ≡ out.old.items ++ text.spell (name_text name.now)) }
@@ -40,7 +40,7 @@ pub trait Row: Copy {
 
     ghost can_put: { Self → Type 0 };
 
-    /// Reads a row of an image of a version from the front of the bytes, and gives the bytes behind it. The processors
+    /// Reads a row of an image of a version from the front of the bytes, and gives the bytes after it. The processors
     /// are how many the system has, 1 to 8; the heads are those of its bodies, by place. `ImageFault::Short` if a field
     /// ends past the bytes, `ImageFault::Table` if a value breaks a rule of the row.
     fn read<'a>(
@@ -56,7 +56,7 @@ pub trait Row: Copy {
     fn key(&self) -> Key
         ensures { result ≡ key_of self.now };
 
-    /// Puts the row behind the bytes. `AllocError` if memory runs out.
+    /// Puts the row after the bytes. `AllocError` if memory runs out.
     fn put(&self, out: &mut Vec<u8>) -> Result<(), AllocError>
         requires { can_put self.now }
         ensures { OnOk result (out.new.items ≡ out.old.items ++ spelled self.now) };
@@ -110,7 +110,7 @@ pub fn read_table<'a, R: Row>(
     read_rows(alloc, version, processors, heads, count, taken, rest)
 }
 
-/// Puts a table of at most 255 rows behind the bytes. `AllocError` if memory runs out.
+/// Puts a table of at most 255 rows after the bytes. `AllocError` if memory runs out.
 pub fn put_table<R: Row>(out: &mut Vec<u8>, rows: &[R]) -> Result<(), AllocError>
     requires count { length rows.now < 256 }
     requires rows { AllByRecursion R.can_put rows.now }

@@ -5,10 +5,11 @@ ghost use Rattle.fmp_base.specs.Systems.{tables_of};
 ghost use Rattle.fmp_image_bytes.specs.Rows.{context_of};
 ghost use Rattle.fmp_image_bytes.specs.Images.{CanPut, tables, tables_in, spelling};
 
+use crate::bodies::put_bodies;
+use crate::header::put_header;
 use crate::image::Image;
 use crate::rows::put_table;
 use fmp_base::System;
-use fmp_image_parts::{put_bodies, put_header};
 use std::alloc::{AllocError, Global};
 
 fn put_tables(out: &mut Vec<u8>, system: &System) -> Result<(), AllocError>

@@ -3,19 +3,18 @@
 ghost use Rattle.std.specs.Prelude.{◌≡◌, ◌++◌, ◌+◌, ◌<◌, length, slice_get, OnOk};
 ghost use Rattle.fmp_base.specs.Names.{name_text};
 ghost use Rattle.fmp_base.specs.Systems.{body_of};
-ghost use Rattle.fmp_image_parts.specs.Fields.{byte};
-ghost use Rattle.fmp_image_parts.specs.Fields.{in_range};
-ghost use Rattle.fmp_image_bytes.specs.Rows.{row, is_task_body, is_handler_body, task_form, cyclic_form, interrupt_form};
+ghost use Rattle.fmp_image_bytes.specs.Fields.{byte};
+ghost use Rattle.fmp_image_bytes.specs.Fields.{in_range};
+ghost use Rattle.fmp_image_bytes.specs.Rows.{row, is_task_body, is_handler_body, task_form, cyclic_form};
+ghost use Rattle.fmp_image_bytes.specs.Rows.{interrupt_form};
 
+use crate::fault::{LoadFault, TABLE};
+use crate::fields::{byte_at, in_range, long_at, put_byte, put_long, put_word, text_at, word_at};
+use crate::heads::{BodyHead, BodyKind};
+use crate::keys::{Key, name_of};
+use crate::ranges::{keeps_cyclic_numbers, keeps_task_numbers};
 use crate::rows::{Row, put_bit, put_name};
 use fmp_base::{CyclicConfig, Entry, InterruptConfig, TaskConfig};
-use fmp_image_parts::fault::{LoadFault, TABLE};
-use fmp_image_parts::fields::{
-    byte_at, in_range, long_at, put_byte, put_long, put_word, text_at, word_at,
-};
-use fmp_image_parts::heads::{BodyHead, BodyKind};
-use fmp_image_parts::keys::{Key, name_of};
-use fmp_image_parts::{keeps_cyclic_numbers, keeps_task_numbers};
 use std::alloc::AllocError;
 
 fn is_task_body(heads: &[BodyHead], body: u8, stack: u32) -> bool

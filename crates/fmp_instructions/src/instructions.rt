@@ -70,6 +70,6 @@ pub struct MachineContext {
     /// How many operands there are, 64 at most.
     pub count: u8,
     pub locals: [i32; 64],
-    /// The operands, the one pushed first in front. The places behind them hold 0.
+    /// The operands, the one pushed first in front. The places after them hold 0.
     pub operands: [i32; 64],
 }

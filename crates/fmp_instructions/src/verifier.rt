@@ -1,7 +1,8 @@
 //! Code is verified before it runs: depths, locals and jumps.
 ghost use Rattle.std.specs.Prelude.{◌≡◌, ◌+◌, ◌<◌, ◌≤◌, ◌↔◌, ◌^◌, IsTrue, Some, length, slice_get};
 ghost use Rattle.fmp_instructions.specs.Instructions.{body_tables, code_tables};
-ghost use Rattle.fmp_instructions.specs.Verify.{AreLow, array_fits, entry_is, local_fits, places_fit, fits, EachFits, KeepsTable, VerifiedBody, Verified};
+ghost use Rattle.fmp_instructions.specs.Verify.{AreLow, array_fits, entry_is, local_fits, places_fit, fits, EachFits};
+ghost use Rattle.fmp_instructions.specs.Verify.{KeepsTable, VerifiedBody, Verified};
 
 use crate::instructions::{BodyCode, Code, Instruction};
 use fmp_base::Service;

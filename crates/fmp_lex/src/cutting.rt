@@ -1,12 +1,14 @@
 //! A text is cut into tokens, spaces and comments.
-ghost use Rattle.std.specs.Prelude.{◌≡◌, List, ℕ, ◌+◌, ◌-◌, ◌^◌, ◌<◌, ◌≤◌, ◌↔◌, length, map, slice_index, slice_range, option_map, IfOk, IfSome};
+ghost use Rattle.std.specs.Prelude.{◌≡◌, List, ℕ, ◌+◌, ◌-◌, ◌^◌, ◌<◌, ◌≤◌, ◌↔◌, length, map, slice_index, slice_range};
+ghost use Rattle.std.specs.Prelude.{option_map, IfOk, IfSome};
 ghost use Rattle.std.specs.List.{All};
 ghost use Rattle.fmp_lex.specs.Packing.{IsPacked, IsPlain, HasName, end_after, kind_in, piece_in, whole_in};
 ghost use Rattle.fmp_lex.specs.Places.{text_end};
 ghost use Rattle.fmp_lex.specs.Windows.{CutsUpTo, IsPartEnd};
 ghost use Rattle.fmp_lex.specs.Scanning.{Saturated, IsRun, in_class};
 ghost use Rattle.fmp_lex.specs.declared.scanning.ByteClass.TheVariants as class;
-ghost use Rattle.fmp_lex.specs.Cutting.{word_kind, hex_piece, long_symbol, short_symbol, start_of, Piece, IsPiece, number_piece, word_piece, symbol_piece, Cuts, EndsWithin, line_at};
+ghost use Rattle.fmp_lex.specs.Cutting.{word_kind, hex_piece, long_symbol, short_symbol, start_of, Piece, IsPiece};
+ghost use Rattle.fmp_lex.specs.Cutting.{number_piece, word_piece, symbol_piece, Cuts, EndsWithin, line_at};
 
 use crate::lengths::{api_of, constant_of, may_be_word, service_of};
 use crate::packed::{Packed, TokenShape, Tokens};
@@ -46,7 +48,7 @@ pub enum Segment {
 #[derive(Drop)]
 pub struct TextPart {
     pub packed: Vec<Packed>,
-    /// Where the text goes on behind the part.
+    /// Where the text goes on after the part.
     pub next: usize,
     /// Why no token begins there, if a fault ends the part.
     pub fault: Option<LexFault>,

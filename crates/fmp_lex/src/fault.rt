@@ -113,7 +113,7 @@ pub fn offence_at(tokens: &Tokens<'_>, file: TextFile, at: usize, why: FaultKind
     BuildFault::At(file, place, why)
 }
 
-/// The fault of a text whose tokens have this first fault; behind the last token it stands where the text ends.
+/// The fault of a text whose tokens have this first fault; after the last token it stands where the text ends.
 pub fn fault_at(list: &TokenList<'_>, file: TextFile, fault: FirstFault) -> BuildFault
     ensures { result ≡ fault_of file list.now.end (slice_get list.now.tokens fault.at) fault.why }
 {

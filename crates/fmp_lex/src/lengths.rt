@@ -1,5 +1,5 @@
-//! The lengths of the words of both texts and their first bytes, which tell most names from words before they are looked
-//! up.
+//! The lengths of the words of both texts and their first bytes, which tell most names from words before they are
+//! looked up.
 ghost use Rattle.std.specs.Prelude.{◌≡◌, false, None};
 ghost use Rattle.fmp_base.specs.Words.{constant_named, api_named, service_named};
 ghost use Rattle.fmp_lex.specs.Beginnings.{begins};

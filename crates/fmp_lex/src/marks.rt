@@ -20,7 +20,7 @@ pub enum Mark {
     Null,
 }
 
-/// The place behind this mark, which has to stand at a place.
+/// The place after this mark, which has to stand at a place.
 #[inline(always)]
 pub fn expect_mark(tokens: &Tokens<'_>, at: usize, mark: Mark) -> Result<usize, FirstFault>
     requires { at ≤ length tokens.now }

@@ -1,6 +1,7 @@
 //! The tokens of a text in few bytes each: the bytes of a name stay in the text, and lines and ends are worked out of
 //! it.
-ghost use Rattle.std.specs.Prelude.{◌≡◌, ℕ, List, ◌+◌, ◌++◌, ◌<◌, ◌≤◌, ◌^◌, length, map, replicate, slice_get, option_map, IfSome};
+ghost use Rattle.std.specs.Prelude.{◌≡◌, ℕ, List, ◌+◌, ◌++◌, ◌<◌, ◌≤◌, ◌^◌, length, map, replicate, slice_get};
+ghost use Rattle.std.specs.Prelude.{option_map, IfSome};
 ghost use Rattle.std.specs.List.{All};
 ghost use Rattle.fmp_base.specs.Names.{name_from};
 ghost use Rattle.fmp_lex.specs.Packing.{IsPacked, Stands, absent, kind_in, whole_in};
@@ -93,7 +94,7 @@ const ABSENT: Place = Place {
     end: 0,
 };
 
-/// How far behind the first token that is held the one at a place of the list stands. One that stands before it is
+/// How far after the first token that is held the one at a place of the list stands. One that stands before it is
 /// farther than any that is held.
 #[inline(always)]
 fn offset(first: usize, at: usize) -> usize
@@ -104,7 +105,7 @@ fn offset(first: usize, at: usize) -> usize
     at.wrapping_sub(first)
 }
 
-/// The tokens of a text, in order, or those of a part of it behind others that are not held. Contracts see the list of
+/// The tokens of a text, in order, or those of a part of it after others that are not held. Contracts see the list of
 /// them.
 #[derive(Drop)]
 pub struct Tokens<'a> {
@@ -131,7 +132,7 @@ impl<'a> Model for Tokens<'a> {
 }
 
 impl<'a> Tokens<'a> {
-    /// The tokens that stand so in the text.
+    /// The tokens that are packed so, in this text.
     pub(crate) fn new(text: &'a [u8], packed: Vec<Packed>) -> Tokens<'a>
         requires short { length text.now ≤ 1048576 }
         requires few { length packed.items ≤ length text.now }
@@ -141,7 +142,7 @@ impl<'a> Tokens<'a> {
         Tokens::part(text, 0, packed)
     }
 
-    /// The tokens that stand so in the text behind `first` others, which are absent.
+    /// The tokens that are packed so, after `first` others of this text, which are absent.
     pub(crate) fn part(text: &'a [u8], first: usize, packed: Vec<Packed>) -> Tokens<'a>
         requires short { length text.now ≤ 1048576 }
         requires first { first ≤ 1048576 }

@@ -7,6 +7,6 @@ pub struct Place {
     pub line: u32,
     /// The first byte, from 0.
     pub start: u32,
-    /// The byte behind the last one; `start` where no token stands.
+    /// The byte after the last one; `start` where no token stands.
     pub end: u32,
 }

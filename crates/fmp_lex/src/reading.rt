@@ -98,7 +98,7 @@ pub fn is_keyword_at(tokens: &Tokens<'_>, at: usize, keyword: Keyword) -> bool
     }
 }
 
-/// The place behind this symbol, which has to stand at a place.
+/// The place after this symbol, which has to stand at a place.
 pub fn expect_symbol(tokens: &Tokens<'_>, at: usize, symbol: Symbol) -> Result<usize, FirstFault>
     requires { at ≤ length tokens.now }
     ensures { Steps result (RightToken (kinds_of tokens.now) (TokenKind.Symbol symbol) at) }
@@ -113,7 +113,7 @@ pub fn expect_symbol(tokens: &Tokens<'_>, at: usize, symbol: Symbol) -> Result<u
     }
 }
 
-/// The place behind this keyword, which has to stand at a place.
+/// The place after this keyword, which has to stand at a place.
 pub fn expect_keyword(tokens: &Tokens<'_>, at: usize, keyword: Keyword) -> Result<usize, FirstFault>
     requires { at ≤ length tokens.now }
     ensures { Steps result (RightToken (kinds_of tokens.now) (TokenKind.Keyword keyword) at) }

@@ -1,5 +1,6 @@
 //! Classes of bytes, and runs of them.
-ghost use Rattle.std.specs.Prelude.{◌≡◌, ℕ, ◌+◌, ◌<◌, ◌≤◌, ◌⊎◌, length, slice_index, count_by, ◌==◌, MatchOption, EachIndex};
+ghost use Rattle.std.specs.Prelude.{◌≡◌, ℕ, ◌+◌, ◌<◌, ◌≤◌, ◌⊎◌, length, slice_index, count_by, ◌==◌, MatchOption};
+ghost use Rattle.std.specs.Prelude.{EachIndex};
 ghost use Rattle.fmp_lex.specs.Scanning.{in_class, IsRun, IsFirstClose, NeverCloses, digit_of, value_from, Saturated};
 
 /// A class of bytes.

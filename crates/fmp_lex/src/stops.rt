@@ -1,4 +1,4 @@
-//! Where a part of a task text ends. It should end behind a statement of a body, so that no statement is read twice.
+//! Where a part of a task text ends. It should end after a statement of a body, so that no statement is read twice.
 //! Braces in comments are counted with the others: a part may then end elsewhere, and what is read is the same.
 ghost use Rattle.std.specs.Prelude.{◌+◌, ◌≤◌, length, min};
 
@@ -12,7 +12,7 @@ pub struct CutPoint {
     pub open: usize,
 }
 
-/// How many braces are open behind some bytes, if `open` are before them.
+/// How many braces are open after some bytes, if `open` are before them.
 fn open_behind(bytes: &[u8], open: usize) -> usize
     requires { length bytes.now ≤ 1048576 }
 {
@@ -21,7 +21,7 @@ fn open_behind(bytes: &[u8], open: usize) -> usize
     open.saturating_add(opened).saturating_sub(closed)
 }
 
-/// The first place at or behind `from` at which at most one brace is open, or the end of the text.
+/// The first place at or after `from` at which at most one brace is open, or the end of the text.
 fn closed_from(text: &[u8], from: CutPoint) -> CutPoint
     requires { from.at ≤ length text.now }
     ensures from { from.at ≤ result.at }
@@ -40,7 +40,7 @@ fn closed_from(text: &[u8], from: CutPoint) -> CutPoint
     CutPoint { at, open }
 }
 
-/// The place behind `else` if that is the next word, or this one.
+/// The place after `else` if that is the next word, or this one.
 fn behind_else(text: &[u8], at: usize) -> usize
     requires { at ≤ length text.now }
     ensures from { at ≤ result }

@@ -9,8 +9,8 @@ use crate::stops::{CutPoint, stop_behind};
 use std::alloc::{AllocError, Global};
 use std::mem;
 
-/// How many bytes of the text a window goes on by, or more. A part ends between two statements: if it ended at any byte,
-/// a statement that is cut would be read twice, which costs much where loops are long.
+/// How many bytes of the text a window goes on by, or more. A part ends between two statements: if it ended at any
+/// byte, a statement that is cut would be read twice, which costs much where loops are long.
 const STRIDE: usize = 32768;
 
 /// The tokens of a part of a text, in the places that they have in the list of all of its tokens.
@@ -18,7 +18,7 @@ const STRIDE: usize = 32768;
 pub struct Window<'a> {
     pub tokens: Tokens<'a>,
     pub text: &'a [u8],
-    /// Where the text goes on behind the part.
+    /// Where the text goes on after the part.
     pub next: usize,
     /// How many braces are open there, if none stand in comments.
     open: usize,

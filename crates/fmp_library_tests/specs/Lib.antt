@@ -1,2 +1,17 @@
+pub mod AcrossTraces
+pub mod ArrayTraces
+pub mod DataQueueTraces
+pub mod DelayTraces
+pub mod FlagTraces
+pub mod HandlerTraces
+pub mod LockTraces
+pub mod MailboxTraces
+pub mod ManyDelayTraces
+pub mod ProcessorTraces
 pub mod PulseLemmas
 pub mod Pulses
+pub mod QueuedTraces
+pub mod RotationTraces
+pub mod SemaphoreTraces
+pub mod TaskTraces
+pub mod TraceBuilders

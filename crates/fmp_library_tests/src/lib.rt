@@ -1,5 +1,7 @@
 //! The programs of docs/LIBRARY.md: a system that is built and run step by step, bodies of your own, and a board of
-//! threads. Beside them stand the tests of gates, of what a board shows beside its contract, and of files whose calls fail.
+//! threads; and in `worked_traces` small systems with the very bytes that they print, proved from what the definitions
+//! mean. Beside them stand the tests of gates, of what a board shows beside its contract, and of files whose calls
+//! fail.
 #![tactic(auto)]
 
 #[cfg(test)]
@@ -12,3 +14,4 @@ mod pulse;
 mod refusing;
 #[cfg(test)]
 mod tests;
+pub mod worked_traces;

@@ -6,7 +6,8 @@ ghost use Rattle.fmp_base.specs.Services.{out_place};
 ghost use Rattle.fmp_base.specs.Systems.{found};
 ghost use Rattle.fmp_tasklang.specs.Views.{expression_view, link_view, call_view, statement_view, block_view};
 ghost use Rattle.fmp_scopes.specs.Chains.{links_uses};
-ghost use Rattle.fmp_scopes.specs.Naming.{WritesElement, first_offence, uses_offence, expression_uses, arguments_uses, word_uses, call_uses, statement_uses, block_uses};
+ghost use Rattle.fmp_scopes.specs.Naming.{WritesElement, first_offence, uses_offence, expression_uses, arguments_uses};
+ghost use Rattle.fmp_scopes.specs.Naming.{word_uses, call_uses, statement_uses, block_uses};
 ghost use Rattle.fmp_scopes.specs.Scopes.{IsHeld, scope_view};
 
 use crate::names::{

@@ -160,7 +160,7 @@ named_framed = seq_framed OneWord (Closed OneLength semicolon) word_framed last_
 named_fills : Fills Named
 named_fills = seq_fills OneWord (Closed OneLength semicolon) word_framed word_fills last_fills
 
--- behind a length there is no other one
+-- after a length there is no other one
 pub length_ends : Follows EndsOperand (OneToken semicolon) Anywhere
 length_ends us limit k b j y ends = λ is. let e : Some semicolon ≡ Some open_bracket = sym y.0 ∙ is in absurd (cc)
 
@@ -269,7 +269,7 @@ declared_fills = seq_fills (Star OneVariable) Inner variables_framed (star_fills
 braces_fills : Fills (Behind open_brace Declared)
 braces_fills = behind_fills open_brace Declared declared_fills
 
--- behind the variables there is none
+-- after the variables there is none
 no_jump_var : BeginsNone false (Some var_word)
 no_jump_var = record {
   no_name = refl;
@@ -288,7 +288,7 @@ variables_follow us limit k (s ∷ ss) j x ends = λ is. none_begins us limit 0 
 abbrev body_of : ℕ → BodyKind → Word × (List Declaration × List StatementTree) → BodyTree
 body_of i b p = record { kind = b; at = i; name = p.0; variables = p.1.0; statements = block_of p.1.1 }
 
--- what stands behind the first word of a body
+-- what stands after the first word of a body
 abbrev rest_tree : BodyTree → List StatementTree → Word × (List Declaration × List StatementTree)
 rest_tree b ss = (b.name, (b.variables, ss))
 

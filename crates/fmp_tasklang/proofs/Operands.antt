@@ -222,7 +222,7 @@ closes t none us limit k b j y ends = (
       ∙ (ap (option_and_then operator_of) (sym y.0) ∙ is) in absurd (cc)),
 )
 
--- an expression and a token behind it
+-- an expression and a token after it
 abbrev pub Ended : ℕ → TokenKind → Rel ExpressionTree
 Ended d t = Closed (OneExpression d loosest) t
 

@@ -34,7 +34,7 @@ Statements = Star (OneStatement 0 false)
 statements_framed : Framed Statements
 statements_framed = star_framed (OneStatement 0 false) (statement_framed 0 false)
 
--- what was added lies behind what was read before
+-- what was added lies after what was read before
 module _ (w0 w : Window) (at i j : ℕ) (before after : List StatementTree)
     (s : Streams Statements w0 w at before i) where
   streams_added : (ss : List StatementTree) → after ≡ before ++ ss → Streams Statements w w i ss j →
@@ -52,7 +52,7 @@ module _ (w0 w : Window) (at i j : ℕ) (before after : List StatementTree)
       let within : j ≤ length (kinds_of w.tokens) = x.4 in
       streams_added x.0 x.1 (streams_here Statements statements_framed w i x.0 j (omega arith) x.5)
 
--- what stands behind the name
+-- what stands after the name
 abbrev Behind : Rel (Unit {0} × List Declaration)
 Behind = Seq (OneToken open_brace) (Star OneVariable)
 

@@ -20,7 +20,7 @@ abbrev pub service_of : TokenKind → Option Service
 service_of (kind.Service s) = Some s
 service_of _ = None
 
--- what stands between the parentheses, each with the mark behind it: values, and the out place among them
+-- what stands between the parentheses, each with the mark after it: values, and the out place among them
 abbrev pub places : List (Mark → CallPart) → List CallPart
 places [] = part.Mark mark.RightParen ∷ []
 places (p ∷ []) = p mark.RightParen ∷ []
@@ -30,7 +30,7 @@ abbrev pub with_out : Option ℕ → List (Mark → CallPart) → List (Mark →
 with_out None values = values
 with_out (Some n) values = take n values ++ part.Out ∷ drop n values
 
--- the form of a call behind its name
+-- the form of a call after its name
 abbrev pub call_parts : Service → List CallPart
 call_parts s = part.Mark mark.LeftParen ∷ places (with_out (out_place s) (replicate (arity s) part.Value))
 
@@ -69,7 +69,7 @@ call_tree result c = record { service = c.service; arguments = c.arguments; out 
 
 -- d is how many levels of nesting are open; the parentheses of a call are none
 module _ (d : ℕ) where
-  -- a mark; a value and the mark behind it; `&`, a variable and the mark behind it
+  -- a mark; a value and the mark after it; `&`, a variable and the mark after it
   abbrev pub OnePart : CallPart → Rel (Option ArgumentTree)
   OnePart (part.Mark m) ts limit i None j = IsToken ts (mark_kind m) i j
   OnePart (part.Value m) ts limit i (Some (value e)) j =

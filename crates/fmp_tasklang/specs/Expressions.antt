@@ -61,7 +61,7 @@ loosest = 9
 abbrev pub IsWord : List TokenKind → ℕ → Word → ℕ → Type 0
 IsWord ts i w j = (w.at ≡ i) × IsItem name_of ts i w.name j
 
--- a name as an operand, and the element of an array where an index stands behind the name
+-- a name as an operand, and the element of an array where an index stands after the name
 abbrev pub reference : Word → Option ExpressionTree → ExpressionTree
 reference w None = named w
 reference w (Some index) = element w index
@@ -69,7 +69,7 @@ reference w (Some index) = element w index
 -- d is how many levels of nesting are open before the first token
 module _ (ts : List TokenKind) (limit : ℕ) where
   mutual
-    -- a number, a constant, a name with or without an index, an expression in parentheses, or an operand behind a
+    -- a number, a constant, a name with or without an index, an expression in parentheses, or an operand after a
     -- unary operator
     pub data IsOperand : ℕ → ℕ → ExpressionTree → ℕ → Type 0 where
       a_number : {d i j : ℕ} {n : ℤ} → IsItem token_number ts i n j → IsOperand d i (number n) j
@@ -96,7 +96,7 @@ module _ (ts : List TokenKind) (limit : ℕ) where
           → IsExpression d m i first a →
           AreLinks d m a links j → e ≡ chain_tree first links → IsExpression d l i e j
 
-    -- operators of the level m, each with an operand behind it
+    -- operators of the level m, each with an operand after it
     pub data AreLinks : ℕ → ℕ → ℕ → List LinkTree → ℕ → Type 0 where
       no_link : {d m i : ℕ} → AreLinks d m i [] i
       a_link : {d m i a b j : ℕ} {l : LinkTree} {links : List LinkTree} → IsItem operator_of ts i (m, l.operator) a →

@@ -74,7 +74,7 @@ EndsVariables ts j = slice_get ts j ≡ Some (kind.Keyword keyword.Var) → ⊥
 abbrev pub EndsBodies : List TokenKind → ℕ → Type 0
 EndsBodies ts j = option_and_then body_kind_of (slice_get ts j) ≡ None
 
--- what stands behind `name =`: an expression or a call
+-- what stands after `name =`: an expression or a call
 pub data SourceTree : Type 0 where
   by_value : ExpressionTree → SourceTree
   by_call : Called → SourceTree
@@ -84,7 +84,7 @@ abbrev pub assigned : Word → SourceTree → StatementTree
 assigned w (by_value e) = assign w e
 assigned w (by_call c) = service_call (call_tree (Some w) c)
 
--- what stands behind the name with which an assignment begins: `=` and a source, or an index, `=` and an expression
+-- what stands after the name with which an assignment begins: `=` and a source, or an index, `=` and an expression
 pub data ChangeTree : Type 0 where
   to_variable : SourceTree → ChangeTree
   to_element : ExpressionTree × ExpressionTree → ChangeTree
@@ -122,7 +122,7 @@ module _ (d : ℕ) where
   abbrev pub OneExpression : ℕ → Rel ExpressionTree
   OneExpression l ts limit i e j = IsExpression ts limit d l i e j
 
-  -- an operator of the level m, and the operand behind it
+  -- an operator of the level m, and the operand after it
   abbrev pub OneLink : ℕ → Rel LinkTree
   OneLink m ts limit i l j =
       (a : ℕ) × Item operator_of ts limit i (m, l.operator) a × IsExpression ts limit d m a l.operand j

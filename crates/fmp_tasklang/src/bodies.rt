@@ -2,7 +2,8 @@
 ghost use Rattle.std.specs.Prelude.{◌≡◌, ◌^◌, ◌+◌, ◌≤◌, ◌<◌, Some, length, slice_get, option_and_then};
 ghost use Rattle.fmp_lex.specs.Reading.{kinds_of, Answers, Finds};
 ghost use Rattle.fmp_tasklang.specs.Grammar.{body_kind_of};
-ghost use Rattle.fmp_tasklang.specs.Reading.{itself, declarations_view, bodies_view, RightLength, RightVariable, RightVariables, RightBody, RightBodies, IsVerdict};
+ghost use Rattle.fmp_tasklang.specs.Reading.{itself, declarations_view, bodies_view, RightLength, RightVariable};
+ghost use Rattle.fmp_tasklang.specs.Reading.{RightVariables, RightBody, RightBodies, IsVerdict};
 ghost use Rattle.fmp_tasklang.specs.Views.{body_view};
 
 use crate::statements::statements;
@@ -36,7 +37,7 @@ fn variable(tokens: &Tokens<'_>, at: usize) -> Result<(Declaration, usize), Firs
     Ok((Declaration { name, length }, next))
 }
 
-/// The variables from a place on, and the place behind them.
+/// The variables from a place on, and the place after them.
 pub fn variables(
     alloc: Global,
     tokens: &Tokens<'_>,
@@ -55,7 +56,7 @@ pub fn variables(
     Ok((found, i))
 }
 
-/// The body at a place, of the kind that its first token tells, and the place behind it.
+/// The body at a place, of the kind that its first token tells, and the place after it.
 pub fn body(
     alloc: Global,
     tokens: &Tokens<'_>,

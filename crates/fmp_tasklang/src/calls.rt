@@ -1,5 +1,6 @@
 //! Service calls of the task language.
-ghost use Rattle.std.specs.Prelude.{◌≡◌, ◌^◌, ◌+◌, ◌≤◌, ◌<◌, ◌++◌, None, Some, [], length, map, slice_get, option_and_then, IfOk, IfErr};
+ghost use Rattle.std.specs.Prelude.{◌≡◌, ◌^◌, ◌+◌, ◌≤◌, ◌<◌, ◌++◌, None, Some, [], length, map, slice_get};
+ghost use Rattle.std.specs.Prelude.{option_and_then, IfOk, IfErr};
 ghost use Rattle.fmp_lex.specs.Reading.{kinds_of, max_depth, Answers};
 ghost use Rattle.fmp_lex.specs.Forms as forms;
 ghost use Rattle.fmp_tasklang.specs.Calls.{service_of, values_of, out_from};
@@ -100,7 +101,7 @@ fn arguments(
     Ok((call, i))
 }
 
-/// The call of a service at a place, and the place behind it. The variable before `=` is left to the caller.
+/// The call of a service at a place, and the place after it. The variable before `=` is left to the caller.
 pub fn call(
     alloc: Global,
     tokens: &Tokens<'_>,

@@ -8,7 +8,7 @@ ghost use Rattle.fmp_tasklang.specs.Trees as trees;
 ghost use Rattle.fmp_tasklang.specs.Views.{expression_view};
 
 use crate::trees::{Expression, Link, Word};
-use crate::words::{LOOSEST, MAX_DEPTH, OperandStart, level_at, operator_at, start_at};
+use crate::words::{LOOSEST, OperandStart, deeper, level_at, operator_at, start_at};
 use fmp_base::UnaryOperator;
 use fmp_lex::reading::{expect_symbol, is_symbol_at};
 use fmp_lex::{FirstFault, GrammarFault, ReadError, Symbol, TokenKind, Tokens};
@@ -20,7 +20,7 @@ fn literal(number: i32) -> Expression
     Expression::Number(number)
 }
 
-/// The operand at a place, given the number of open levels of nesting, and the place behind it.
+/// The operand at a place, given the number of open levels of nesting, and the place after it.
 #[cycle(expressions)]
 #[inline(always)]
 fn operand(
@@ -51,7 +51,7 @@ fn operand(
     }
 }
 
-/// A name, or the element of an array if an index stands behind the name.
+/// A name, or the element of an array if an index stands after the name.
 #[cycle(expressions)]
 #[inline(always)]
 fn named(
@@ -110,13 +110,8 @@ pub fn bracketed(
     requires first { slice_get (kinds_of tokens.now) at ≡ Some (TokenKind.Symbol symbol.LeftBracket) }
     ensures { Answers expression_view result (RightBracketed (kinds_of tokens.now) depth at) }
 {
-    if depth == MAX_DEPTH {
-        return Err(ReadError::Fault(FirstFault {
-            at,
-            why: GrammarFault::Depth,
-        }));
-    }
-    let (inner, next) = expression(alloc, tokens, depth + 1, LOOSEST, at + 1)?;
+    let inside = deeper(depth, at)?;
+    let (inner, next) = expression(alloc, tokens, inside, LOOSEST, at + 1)?;
     let next = expect_symbol(tokens, next, Symbol::RightBracket)?;
     Ok((inner, next))
 }
@@ -135,13 +130,8 @@ fn unary(
     requires first { option_and_then unary_of (slice_get (kinds_of tokens.now) at) ≡ Some operator }
     ensures { Answers expression_view result (RightOperand (kinds_of tokens.now) depth at) }
 {
-    if depth == MAX_DEPTH {
-        return Err(ReadError::Fault(FirstFault {
-            at,
-            why: GrammarFault::Depth,
-        }));
-    }
-    let (inner, next) = operand(alloc, tokens, depth + 1, at + 1)?;
+    let inside = deeper(depth, at)?;
+    let (inner, next) = operand(alloc, tokens, inside, at + 1)?;
     let operand = Box::new(alloc, inner)?;
     Ok((Expression::Unary { operator, operand }, next))
 }
@@ -159,18 +149,13 @@ fn group(
     requires first { slice_get (kinds_of tokens.now) at ≡ Some (TokenKind.Symbol symbol.LeftParen) }
     ensures { Answers expression_view result (RightOperand (kinds_of tokens.now) depth at) }
 {
-    if depth == MAX_DEPTH {
-        return Err(ReadError::Fault(FirstFault {
-            at,
-            why: GrammarFault::Depth,
-        }));
-    }
-    let (inner, next) = expression(alloc, tokens, depth + 1, LOOSEST, at + 1)?;
+    let inside = deeper(depth, at)?;
+    let (inner, next) = expression(alloc, tokens, inside, LOOSEST, at + 1)?;
     let next = expect_symbol(tokens, next, Symbol::RightParen)?;
     Ok((inner, next))
 }
 
-/// The expression at a place whose operators have levels below this one, and the place behind it.
+/// The expression at a place whose operators have levels below this one, and the place after it.
 #[cycle(expressions)]
 pub fn expression(
     alloc: Global,

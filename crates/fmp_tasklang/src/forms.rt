@@ -5,13 +5,13 @@ ghost use Rattle.fmp_tasklang.specs.Calls.{call_parts};
 use fmp_base::Service;
 use fmp_lex::Mark;
 
-/// A part of the form of a call. A token that continues an expression is never the mark behind it.
+/// A part of the form of a call. A token that continues an expression is never the mark after it.
 #[derive(Clone, Copy)]
 pub enum CallPart {
     Mark(Mark),
-    /// An argument, and the mark behind it.
+    /// An argument, and the mark after it.
     Value(Mark),
-    /// `&` and the variable at the out place, and the mark behind it.
+    /// `&` and the variable at the out place, and the mark after it.
     Out(Mark),
 }
 
@@ -73,7 +73,7 @@ const THREE_VALUES_OUT_AND_LIMIT: [CallPart; 6] = [
     CallPart::Value(Mark::RightParen),
 ];
 
-/// The form of a call behind its name.
+/// The form of a call after its name.
 pub fn parts_of(service: Service) -> &'static [CallPart]
     ensures { result.now ≡ call_parts service }
 {

@@ -1,7 +1,8 @@
 //! Laws of the definitions in `specs/`, each the contract of a function that does nothing.
 
 ghost use Rattle.fmp_tasklang.specs.Examples.{Examples};
-ghost use Rattle.fmp_tasklang.specs.Laws.{ViewsOfParts, SpellsOneProgram, MoreTurnsChangeNothing, HandsOverNothing, FollowsEachItem};
+ghost use Rattle.fmp_tasklang.specs.Laws.{ViewsOfParts, SpellsOneProgram, MoreTurnsChangeNothing, HandsOverNothing};
+ghost use Rattle.fmp_tasklang.specs.Laws.{FollowsEachItem};
 
 /// The view of a tree is made of the views of what its boxes and vectors hold.
 pub fn views_are_made_of_parts()

@@ -1,11 +1,16 @@
 //! Statements of the task language.
-ghost use Rattle.std.specs.Prelude.{◌≡◌, ◌^◌, ◌≤◌, ◌<◌, ◌+◌, Some, true, length, slice_get, option_and_then, IfOk, IfErr};
+ghost use Rattle.std.specs.Prelude.{◌≡◌, ◌^◌, ◌≤◌, ◌<◌, ◌+◌, Some, true, length, slice_get, option_and_then, IfOk};
+ghost use Rattle.std.specs.Prelude.{IfErr};
 ghost use Rattle.fmp_lex.specs.Reading.{kinds_of, max_depth, Answers};
 ghost use Rattle.fmp_base.specs.declared.words.Keyword.TheVariants as keyword;
 ghost use Rattle.fmp_lex.specs.declared.token.Symbol.TheVariants as symbol;
 ghost use Rattle.fmp_tasklang.specs.Blocks.{choice};
 ghost use Rattle.fmp_tasklang.specs.Calls.{service_of};
-ghost use Rattle.fmp_tasklang.specs.Reading.{statements_view, block_view, else_view, source_view, element_view, change_view, assigned, changed, RightCondition, RightSource, RightVariableChange, RightElementChange, RightChange, RightAssignment, RightPlainCall, RightJump, RightStatement, RightIf, RightElse, RightOther, RightBlock, RightStatements};
+ghost use Rattle.fmp_tasklang.specs.Reading.{statements_view, block_view, else_view, source_view, element_view};
+ghost use Rattle.fmp_tasklang.specs.Reading.{change_view, assigned, changed, RightCondition, RightSource};
+ghost use Rattle.fmp_tasklang.specs.Reading.{RightVariableChange, RightElementChange, RightChange, RightAssignment};
+ghost use Rattle.fmp_tasklang.specs.Reading.{RightPlainCall, RightJump, RightStatement, RightIf, RightElse, RightOther};
+ghost use Rattle.fmp_tasklang.specs.Reading.{RightBlock, RightStatements};
 ghost use Rattle.fmp_tasklang.specs.Statements.{jump_of};
 ghost use Rattle.fmp_tasklang.specs.Streaming.{Adds};
 ghost use Rattle.fmp_tasklang.specs.Views.{expression_view, statement_view};
@@ -13,20 +18,20 @@ ghost use Rattle.fmp_tasklang.specs.Views.{expression_view, statement_view};
 use crate::calls::call;
 use crate::expressions::{bracketed, expression};
 use crate::trees::{Expression, ServiceCall, Statement, Word};
-use crate::words::{LOOSEST, MAX_DEPTH, expect_word, jump_at, service_at};
+use crate::words::{LOOSEST, deeper, expect_word, jump_at, service_at};
 use fmp_base::Service;
 use fmp_lex::reading::{expect_symbol, is_keyword_at, is_symbol_at};
 use fmp_lex::{FirstFault, GrammarFault, Keyword, ReadError, Symbol, TokenKind, Tokens};
 use std::alloc::Global;
 
-/// What stands behind `name =`.
+/// What stands after `name =`.
 #[derive(Drop)]
 pub enum GivenValue {
     Value(Expression),
     Call(ServiceCall),
 }
 
-/// What stands behind the name with which an assignment begins.
+/// What stands after the name with which an assignment begins.
 #[derive(Drop)]
 pub enum Change {
     /// `= given ;`
@@ -143,7 +148,7 @@ fn element_change(
     Ok((ElementChange { index, value }, next))
 }
 
-/// What an assignment changes, and how: the rest of the statement behind its first name.
+/// What an assignment changes, and how: the rest of the statement after its first name.
 fn one_change(
     alloc: Global,
     tokens: &Tokens<'_>,
@@ -340,13 +345,8 @@ fn other(
     if !is_keyword_at(tokens, at, Keyword::If) {
         return block(alloc, tokens, depth, looped, at);
     }
-    if depth == MAX_DEPTH {
-        return Err(ReadError::Fault(FirstFault {
-            at,
-            why: GrammarFault::Depth,
-        }));
-    }
-    let (inner, next) = if_statement(alloc, tokens, depth + 1, looped, at)?;
+    let inside = deeper(depth, at)?;
+    let (inner, next) = if_statement(alloc, tokens, inside, looped, at)?;
     let mut body = Vec::with_capacity(alloc, 1)?;
     body.push(inner)?;
     Ok((body, next))
@@ -370,13 +370,8 @@ fn block(
             why: GrammarFault::Syntax,
         }));
     }
-    if depth == MAX_DEPTH {
-        return Err(ReadError::Fault(FirstFault {
-            at,
-            why: GrammarFault::Depth,
-        }));
-    }
-    let (body, next) = statements(alloc, tokens, depth + 1, looped, at + 1)?;
+    let inside = deeper(depth, at)?;
+    let (body, next) = statements(alloc, tokens, inside, looped, at + 1)?;
     let next = expect_symbol(tokens, next, Symbol::RightBrace)?;
     Ok((body, next))
 }
@@ -401,7 +396,7 @@ pub fn statements(
     Ok((found, i))
 }
 
-/// Adds the statements from a place up to a `}`, and moves the place behind each of them.
+/// Adds the statements from a place up to a `}`, and moves the place past each of them.
 #[cycle(statements)]
 #[inline(never)]
 pub fn add_statements(

@@ -1,6 +1,7 @@
 //! Bodies that are read through a window on the tokens of their text, so that few tokens are held at once. A body that
 //! is not of the grammar is not read: its fault is found by whoever reads all tokens.
-ghost use Rattle.std.specs.Prelude.{◌≡◌, ◌+◌, ◌≤◌, ◌^◌, ◌<◌, ◌⊎◌, List, Some, false, length, slice_get, option_and_then, IfOk, IfSome, IfNone, OnOk};
+ghost use Rattle.std.specs.Prelude.{◌≡◌, ◌+◌, ◌≤◌, ◌^◌, ◌<◌, ◌⊎◌, List, Some, false, length, slice_get};
+ghost use Rattle.std.specs.Prelude.{option_and_then, IfOk, IfSome, IfNone, OnOk};
 ghost use Rattle.fmp_lex.specs.Faults.{text_max};
 ghost use Rattle.fmp_lex.specs.Reading.{Star, kinds_of, Answers};
 ghost use Rattle.fmp_lex.specs.Windows.{IsWindow, Passed, Streams};
@@ -77,7 +78,7 @@ pub fn hold_heading(alloc: Global, window: &mut Window<'_>, at: usize) -> Result
     Ok(())
 }
 
-/// The heading of a body from its name on, and the place behind it.
+/// The heading of a body from its name on, and the place after it.
 fn read_heading(
     alloc: Global,
     tokens: &Tokens<'_>,
@@ -92,7 +93,7 @@ fn read_heading(
     Ok((Heading { name, variables }, next))
 }
 
-/// The body at a place, of the kind that its first token tells, and the place behind it; none if it has a fault, or if
+/// The body at a place, of the kind that its first token tells, and the place after it; none if it has a fault, or if
 /// its heading does not lie in the window. The error is out of memory.
 pub fn stream_body(
     alloc: Global,

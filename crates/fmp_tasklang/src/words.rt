@@ -1,6 +1,7 @@
 //! What tokens mean in the task language: numbers, names, operators and their levels.
-ghost use Rattle.std.specs.Prelude.{◌≡◌, ◌^◌, ◌+◌, ◌≤◌, ◌<◌, ℕ, None, Some, length, slice_get, option_and_then, option_map, IfSome, MatchOption};
-ghost use Rattle.fmp_lex.specs.Reading.{kinds_of, Finds};
+ghost use Rattle.std.specs.Prelude.{◌≡◌, ◌^◌, ◌+◌, ◌≤◌, ◌<◌, ℕ, None, Some, length, slice_get, option_and_then};
+ghost use Rattle.std.specs.Prelude.{option_map, IfErr, IfOk, IfSome, MatchOption};
+ghost use Rattle.fmp_lex.specs.Reading.{kinds_of, max_depth, Finds};
 ghost use Rattle.fmp_tasklang.specs.Calls as calls;
 ghost use Rattle.fmp_tasklang.specs.Expressions as expressions;
 ghost use Rattle.fmp_tasklang.specs.Grammar as grammar;
@@ -18,7 +19,25 @@ use fmp_lex::{FirstFault, GrammarFault, Keyword, Symbol, TokenKind, Tokens};
 pub const LOOSEST: usize = 9;
 
 /// How many levels of nesting may be open at once.
-pub const MAX_DEPTH: usize = 64;
+const MAX_DEPTH: usize = 64;
+
+/// How many levels are open inside one more level, which begins at a place. `GrammarFault::Depth` at this place if
+/// `MAX_DEPTH` levels are open already.
+#[inline(always)]
+pub fn deeper(depth: usize, at: usize) -> Result<usize, FirstFault>
+    requires { depth ≤ max_depth }
+    ensures room { IfOk result (λ inside. (inside ≡ depth + 1) × (depth < max_depth)) }
+    ensures deep { IfErr result
+        (λ fault. (fault ≡ record { at = at; why = GrammarFault.Depth }) × (depth ≡ max_depth)) }
+{
+    if depth == MAX_DEPTH {
+        return Err(FirstFault {
+            at,
+            why: GrammarFault::Depth,
+        });
+    }
+    Ok(depth + 1)
+}
 
 /// How an operand begins.
 #[derive(Clone, Copy)]
@@ -221,7 +240,7 @@ pub fn body_kind_at(tokens: &Tokens<'_>, at: usize) -> Option<BodyKind>
     body_kind_of(kind_at(tokens, at)?)
 }
 
-/// The name that has to stand at a place, and the place behind it.
+/// The name that has to stand at a place, and the place after it.
 #[inline(always)]
 pub fn expect_word(tokens: &Tokens<'_>, at: usize) -> Result<(Word, usize), FirstFault>
     requires { at ≤ length tokens.now }
@@ -242,7 +261,7 @@ pub fn expect_word(tokens: &Tokens<'_>, at: usize) -> Result<(Word, usize), Firs
     }
 }
 
-/// The number that has to stand between the brackets of a declaration, and the place behind it.
+/// The number that has to stand between the brackets of a declaration, and the place after it.
 pub fn expect_count(tokens: &Tokens<'_>, at: usize) -> Result<(Length, usize), FirstFault>
     requires { at ≤ length tokens.now }
     ensures { Finds itself result (RightCount (kinds_of tokens.now) at) }

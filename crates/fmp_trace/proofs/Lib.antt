@@ -1,7 +1,11 @@
 pub mod Appending
 pub mod Counting
+pub mod EventsRead
 pub mod Hundreds
 pub mod LineBytes
+pub mod LinesOf
 pub mod ListedStates
+pub mod Numbers
 pub mod PrintedSteps
 pub mod Short
+pub mod Words

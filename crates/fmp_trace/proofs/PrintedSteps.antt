@@ -8,13 +8,13 @@ use Rattle.std.specs.List.{AllByRecursion}
 use Rattle.std.specs.Str.{all_ascii_digits}
 use Rattle.fmp_base.specs.declared.events.Event.{Event}
 use Rattle.fmp_base.specs.declared.events.Event.TheVariants as event
-use Rattle.fmp_steps.specs.declared.faults.Flaw.TheVariants as flaw
-use Rattle.fmp_steps.specs.declared.faults.StepsFault.TheVariants as fault
-use Rattle.fmp_steps.specs.Steps.{lines_of, numeral_value, ranged_number, numbered_event, line_meaning, event_of_line}
-use Rattle.fmp_steps.specs.Steps.{fault_at, in_front, events_of, event_text, steps_text}
+use Rattle.fmp_trace.specs.declared.faults.Flaw.TheVariants as flaw
+use Rattle.fmp_trace.specs.declared.faults.StepsFault.TheVariants as fault
+use Rattle.fmp_trace.specs.Steps.{lines_of, numeral_value, ranged_number, numbered_event, line_meaning, event_of_line}
+use Rattle.fmp_trace.specs.Steps.{fault_at, in_front, events_of, event_text, steps_text}
 use Rattle.fmp_trace.specs.StepsLaws.{IsStep, PrintedStepsReadBack}
-use Rattle.fmp_steps.proofs.LinesOf.{IsLine, lines_of-ended}
-use Rattle.fmp_steps.proofs.Numbers.{numeral_value-decimal, decimal_digits}
+use Rattle.fmp_trace.proofs.LinesOf.{IsLine, lines_of-ended}
+use Rattle.fmp_trace.proofs.Numbers.{numeral_value-decimal, decimal_digits}
 
 -- no digit is a line feed
 digit_in_line : (d : ℕ) (rest : Bool) → (is_ascii_digit d && rest) ≡ true → (nat_eq d 10 ≡ false) × (rest ≡ true)

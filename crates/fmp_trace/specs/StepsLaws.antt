@@ -3,7 +3,7 @@ use Rattle.std.specs.Prelude.{ℕ, ◌≡◌, ◌≤◌, ◌<◌, List, Ok, leng
 use Rattle.std.specs.List.{AllByRecursion}
 use Rattle.fmp_base.specs.declared.events.Event.{Event}
 use Rattle.fmp_base.specs.declared.events.Event.TheVariants as event
-use Rattle.fmp_steps.specs.Steps.{steps_of, steps_text}
+use Rattle.fmp_trace.specs.Steps.{steps_of, steps_text}
 
 -- an event that a steps text can hold
 abbrev pub IsStep : (processors : ℕ) → Event → Type 0

@@ -1,7 +1,7 @@
 //! Steps texts, as they are written.
 ghost use Rattle.std.specs.Prelude.{◌≡◌, ◌≤◌, ◌+◌, ◌∷◌, [], ◌++◌, length, take, OnOk, OnErr};
 ghost use Rattle.fmp_trace.specs.Fronts.{Begins};
-ghost use Rattle.fmp_steps.specs.Steps.{event_text, steps_text};
+ghost use Rattle.fmp_trace.specs.Steps.{event_text, steps_text};
 ghost use Rattle.fmp_trace.specs.StepsLaws.{PrintedStepsReadBack};
 
 use crate::texts::{LineBytes, ROOM, append_array, append_line, append_number};
@@ -26,7 +26,7 @@ fn append_event(event: Event, line: &mut [u8], end: usize) -> usize
     }
 }
 
-/// Puts together the line of an event, with a line feed behind, and gives its end.
+/// Puts together the line of an event, with a line feed after, and gives its end.
 fn put_step(event: Event, line: &mut LineBytes) -> usize
     ensures text { take result line.new ≡ event_text event ++ 10 ∷ [] }
     ensures short { result ≤ ROOM }

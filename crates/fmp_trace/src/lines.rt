@@ -1,8 +1,10 @@
 //! The lines of the trace.
-ghost use Rattle.std.specs.Prelude.{◌≡◌, ◌<◌, ◌≤◌, ◌+◌, ◌*◌, ◌++◌, codes, decimal, length, take, vec_capacity, vec_len, IfOk, OnOk, OnErr};
+ghost use Rattle.std.specs.Prelude.{◌≡◌, ◌<◌, ◌≤◌, ◌+◌, ◌*◌, ◌++◌, codes, decimal, length, take, vec_capacity, vec_len};
+ghost use Rattle.std.specs.Prelude.{IfOk, OnOk, OnErr};
 ghost use Rattle.fmp_base.specs.Names.{name_text};
 ghost use Rattle.fmp_base.specs.Systems.{tables_of, cyclic_config};
-ghost use Rattle.fmp_base.specs.Texts.{processor_text, caller_name, task_name, handler_name, run_text, call_text, answer_text, fault_text, reply_text, line_body, line_text, lines_text};
+ghost use Rattle.fmp_base.specs.Texts.{processor_text, caller_name, task_name, handler_name, run_text, call_text};
+ghost use Rattle.fmp_base.specs.Texts.{answer_text, fault_text, reply_text, line_body, line_text, lines_text};
 ghost use Rattle.fmp_trace.specs.Fronts.{Begins};
 ghost use Rattle.fmp_trace.specs.Rooms.{lines_room};
 
@@ -11,18 +13,18 @@ use crate::names::{
     append_caller, append_cyclic_name, append_handler, append_run, append_task_name,
 };
 use crate::numeral::Numeral;
-use crate::texts::{LineBytes, ROOM, append_array, append_line, append_number};
+use crate::texts::{LineBytes, ROOM, append, append_array, append_line, append_number};
 use fmp_base::{Call, Caller, Fault, Handler, Line, Reply, System};
 use std::alloc::AllocError;
 
 /// No line has more bytes than this.
 const LONGEST: usize = 127;
 
-/// Putting a line together writes at most this far from its beginning: a short piece is copied with the bytes behind
+/// Putting a line together writes at most this far from its beginning: a short piece is copied with the bytes after
 /// its end.
 const REACH: usize = 179;
 
-/// The name of the task or handler that acts, behind its processor.
+/// The name of the task or handler that acts, after its processor.
 #[inline(always)]
 fn append_actor(
     sys: &System,
@@ -43,7 +45,7 @@ fn append_actor(
     append_caller(sys, caller, line, end)
 }
 
-/// The name of a task, behind its processor.
+/// The name of a task, after its processor.
 #[inline(always)]
 fn append_task(
     sys: &System,
@@ -82,7 +84,7 @@ fn append_interrupt(place: u8, line: &mut [u8], end: usize) -> usize
     append_number(u32::from(place) + 1, line, end)
 }
 
-/// A service call, behind its caller.
+/// A service call, after its caller.
 #[inline(always)]
 fn append_request(
     sys: &System,
@@ -148,17 +150,6 @@ fn append_end(
     append_array(*b" end", line, end)
 }
 
-/// The name of a fault.
-fn fault_name(fault: Fault) -> [u8; 5]
-    ensures { result ≡ fault_text fault }
-{
-    match fault {
-        Fault::Overflow => *b"F_OVF",
-        Fault::Division => *b"F_DIV",
-        Fault::Index => *b"F_IDX",
-    }
-}
-
 fn append_fault(
     sys: &System,
     number: &mut Numeral,
@@ -177,7 +168,7 @@ fn append_fault(
 {
     let end = append_actor(sys, number, processor, caller, line, end);
     let end = append_array(*b" ", line, end);
-    append_array(fault_name(fault), line, end)
+    append(fault.name().as_bytes(), line, end)
 }
 
 #[inline(always)]
@@ -337,7 +328,7 @@ fn append_body(
     }
 }
 
-/// A line, with its number in front and a line feed behind.
+/// A line, with its number in front and a line feed after.
 #[inline(always)]
 fn put_line(
     sys: &System,
@@ -355,7 +346,7 @@ fn put_line(
     append_array(*b"\n", line, end)
 }
 
-/// Puts the lines of the event of this number together behind what ends at this place, and gives their end.
+/// Puts the lines of the event of this number together after what ends at this place, and gives their end.
 #[inline(always)]
 pub fn put_event(
     sys: &System,
@@ -408,7 +399,7 @@ fn make_room(line: &LineBytes, end: usize, out: &mut Vec<u8>) -> Result<usize, A
     Ok(0)
 }
 
-/// Puts the lines of the event of this number together behind what ends at this place, and gives their end. If there is
+/// Puts the lines of the event of this number together after what ends at this place, and gives their end. If there is
 /// no room for one more line, the lines so far are appended.
 #[inline(always)]
 fn put_lines(

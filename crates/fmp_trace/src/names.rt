@@ -20,7 +20,7 @@ pub fn append_name_at(sys: &System, task: usize, line: &mut [u8], end: usize) ->
     }
 }
 
-/// Puts the name of a task behind the end of a line: where the line ends then.
+/// Puts the name of a task after the end of a line: where the line ends then.
 #[inline(always)]
 pub fn append_task_name(sys: &System, task: u8, line: &mut [u8], end: usize) -> usize
     requires { end + 31 ≤ length line.old }
@@ -71,7 +71,7 @@ pub fn append_handler(sys: &System, handler: Handler, line: &mut [u8], end: usiz
     }
 }
 
-/// Puts the name of a task or handler that acts behind the end of a line: where the line ends then.
+/// Puts the name of a task or handler that acts after the end of a line: where the line ends then.
 #[inline(always)]
 pub fn append_caller(sys: &System, caller: &Caller, line: &mut [u8], end: usize) -> usize
     requires { end + 31 ≤ length line.old }

@@ -1,5 +1,6 @@
 //! Numbers that are written many times.
-ghost use Rattle.std.specs.Prelude.{◌≡◌, ◌<◌, ◌≤◌, ◌^◌, ◌++◌, ◌+◌, ◌-◌, ℕ, decimal, get_or, length, take, drop, false, true};
+ghost use Rattle.std.specs.Prelude.{◌≡◌, ◌<◌, ◌≤◌, ◌^◌, ◌++◌, ◌+◌, ◌-◌, ℕ, decimal, get_or, length, take, drop, false};
+ghost use Rattle.std.specs.Prelude.{true};
 ghost use Rattle.fmp_base.specs.Texts.{processor_text};
 
 use crate::texts::{append_array, append_front, append_processor};
@@ -9,14 +10,14 @@ use std::marker::Model;
 /// The most digits of a number.
 const DIGITS: usize = 16;
 
-/// A number with its decimal digits at hand, and behind them the text of a processor, as the lines of an event begin.
+/// A number with its decimal digits at hand, and after them the text of a processor, as the lines of an event begin.
 /// It is seen as the number.
 #[derive(Drop)]
 pub struct Numeral {
     number: u32,
     /// The place of the processor, below 9.
     processor: u8,
-    /// The digits, and the text of the processor. The bytes behind them mean nothing.
+    /// The digits, and the text of the processor. The bytes after them mean nothing.
     bytes: [u8; DIGITS],
     /// How many digits there are.
     count: usize,
@@ -76,7 +77,7 @@ fn count_on(digits: &mut [u8; DIGITS], count: usize) -> bool
     true
 }
 
-/// Puts the text of a processor behind digits.
+/// Puts the text of a processor after digits.
 #[tactic(auto, using(std::proofs::lemmas::Fmt::decimal_digit))]
 #[inline(always)]
 fn put_processor(processor: u8, bytes: &mut [u8; DIGITS], count: usize)
@@ -128,7 +129,7 @@ impl Numeral {
         *self = Numeral::new(number);
     }
 
-    /// Puts the number into a line, and the text of a processor behind it, which has a number above 9.
+    /// Puts the number into a line, and the text of a processor after it, which has a number above 9.
     #[cold]
     #[inline(never)]
     fn append_far(&self, processor: u8, line: &mut [u8], end: usize) -> usize
@@ -140,7 +141,7 @@ impl Numeral {
         append_processor(processor, line, end)
     }
 
-    /// Puts the number into a line, and the text of a processor behind it: mostly that of the line before.
+    /// Puts the number into a line, and the text of a processor after it: mostly that of the line before.
     #[tactic(auto, using(crate::proofs::LineBytes::front_and_four))]
     #[inline(always)]
     pub fn append_with(&mut self, processor: u8, line: &mut [u8], end: usize) -> usize

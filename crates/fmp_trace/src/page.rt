@@ -11,7 +11,7 @@ use std::marker::Model;
 /// A page with this many bytes or more is full.
 pub const PIECE: usize = 65_536;
 
-/// Room for a page that is just not full, for the lines of one more event, and for what is copied behind their end.
+/// Room for a page that is just not full, for the lines of one more event, and for what is copied after their end.
 const PAGE_ROOM: usize = 132_096;
 
 /// Lines that are put together and not yet handed on. It is seen as the list of their bytes.

@@ -13,20 +13,6 @@ use crate::texts::{
 use fmp_base::{StateWord, System, TaskState};
 use std::alloc::AllocError;
 
-fn name_of_word(word: StateWord) -> &'static [u8]
-    ensures text { result.now ≡ word_text word }
-    ensures short { length result.now ≤ 17 }
-{
-    match word {
-        StateWord::Running => b"RUNNING",
-        StateWord::Ready => b"READY",
-        StateWord::Waiting => b"WAITING",
-        StateWord::Suspended => b"SUSPENDED",
-        StateWord::WaitingSuspended => b"WAITING-SUSPENDED",
-        StateWord::Dormant => b"DORMANT",
-    }
-}
-
 /// The name of the task at this place, and the word for its state.
 fn append_word(sys: &System, task: usize, word: StateWord, line: &mut [u8], end: usize) -> usize
     requires { end + 49 ≤ length line.old }
@@ -36,7 +22,7 @@ fn append_word(sys: &System, task: usize, word: StateWord, line: &mut [u8], end:
 {
     let end = append_name_at(sys, task, line, end);
     let end = append_array(*b" ", line, end);
-    append(name_of_word(word), line, end)
+    append(word.name().as_bytes(), line, end)
 }
 
 /// Puts together the line of the task at this place, and gives its end.

@@ -1,6 +1,7 @@
-//! Pieces of text, each put into a line behind the pieces before it. A line is an array of bytes and the place where
+//! Pieces of text, each put into a line after the pieces before it. A line is an array of bytes and the place where
 //! its text ends.
-ghost use Rattle.std.specs.Prelude.{◌≡◌, ◌≤◌, ◌<◌, ◌∷◌, [], ◌++◌, ◌+◌, OnOk, OnErr, decimal, length, take, vec_capacity, vec_len};
+ghost use Rattle.std.specs.Prelude.{◌≡◌, ◌≤◌, ◌<◌, ◌∷◌, [], ◌++◌, ◌+◌, OnOk, OnErr, decimal, length, take};
+ghost use Rattle.std.specs.Prelude.{vec_capacity, vec_len};
 ghost use Rattle.std.specs.Fmt.{signed_decimal};
 ghost use Rattle.fmp_base.specs.Names.{name_text};
 ghost use Rattle.fmp_base.specs.Texts.{processor_text};
@@ -10,10 +11,10 @@ use crate::numeral::Numeral;
 use fmp_base::Name;
 use std::alloc::AllocError;
 
-/// Room for the longest line, for many lines before it, and for what is copied behind its end.
+/// Room for the longest line, for many lines before it, and for what is copied after its end.
 pub const ROOM: usize = 1024;
 
-/// The bytes of a line. Those behind its end mean nothing.
+/// The bytes of a line. Those after its end mean nothing.
 pub type LineBytes = [u8; ROOM];
 
 /// The number of bytes that are copied at once if a line is no longer.
@@ -238,7 +239,7 @@ pub fn append_processor(place: u8, line: &mut [u8], end: usize) -> usize
     append_array(*b" ", line, end)
 }
 
-/// Appends a line that ends at this place to a text. A short one is copied with what stands behind it, which is cut
+/// Appends a line that ends at this place to a text. A short one is copied with what stands after it, which is cut
 /// off. If memory runs out, what stood before is still the front of the text; it never does if the text has room for
 /// the line and for 96 bytes more.
 #[inline(always)]

@@ -2,7 +2,7 @@ use Rattle.std.proofs.Common.{subst, sym, ◌∙◌, arith}
 use Rattle.std.proofs.lemmas.Result.{err_from_is_err_and}
 use Rattle.fmp_base.specs.Systems.{tables_of}
 use Rattle.fmp_instructions.specs.Instructions.{code_tables}
-use Rattle.fmp_image_parts.specs.Fields.{Fails}
+use Rattle.fmp_image_bytes.specs.Fields.{Fails}
 use Rattle.fmp_image_bytes.specs.Images.{ImageTables, image_tables}
 use Rattle.fmp_image_bytes.proofs.ImageLaws.{image_takes, image_again}
 use Rattle.fmp_image_bytes.proofs.loading.load.Goals as goal

@@ -1,7 +1,7 @@
 use Rattle.std.proofs.Common.{◌≡◌, ◌++◌, ◌∷◌, [], false, true, map, append_assoc, rules}
 use Rattle.std.proofs.lemmas.List.{map_push}
 use Rattle.std.proofs.lemmas.Result.{err_from_is_err_and}
-use Rattle.fmp_image_parts.specs.Keys.{is_taken}
+use Rattle.fmp_image_bytes.specs.Keys.{is_taken}
 use Rattle.fmp_image_bytes.specs.Rows.{context_of}
 use Rattle.fmp_image_bytes.specs.Tables.{rows_at}
 use Rattle.fmp_image_bytes.proofs.RowLoops.{goes_on, ends, stands, is_done}

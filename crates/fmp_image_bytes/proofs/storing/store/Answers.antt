@@ -2,8 +2,8 @@ use Rattle.std.proofs.Common.{◌≡◌, ◌++◌, [], append_assoc, rules}
 use Rattle.fmp_base.specs.Systems.{tables_of}
 use Rattle.fmp_instructions.specs.Instructions.{code_tables}
 use Rattle.fmp_image_bytes.specs.Rows.{context_of}
-use Rattle.fmp_image_parts.specs.Bodies.{bodies}
-use Rattle.fmp_image_parts.specs.Header.{header, magic}
+use Rattle.fmp_image_bytes.specs.Bodies.{bodies}
+use Rattle.fmp_image_bytes.specs.Header.{header, magic}
 use Rattle.fmp_image_bytes.specs.Images.{tables, tables_in, spelling}
 use Rattle.fmp_image_bytes.proofs.storing.store.Goals as goal
 

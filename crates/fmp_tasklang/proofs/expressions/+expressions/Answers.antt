@@ -86,45 +86,50 @@ expression-returns m0 c =
     raised ts c.args.depth c.args.at (expression_view c.levels.tree) c.levels.next n l (l - n)
     (omega (arith, c.levels.invariant.below)) c.levels.invariant.within c.in_default.ensures c.levels.invariant.right
 
-pub group-returns-then-depth-eq-MAX_DEPTH : goal.group-returns-then-depth-eq-MAX_DEPTH
-group-returns-then-depth-eq-MAX_DEPTH m0 c =
+pub group-returns-in_err-inside : goal.group-returns-in_err-inside
+group-returns-in_err-inside m0 c =
     let ts = kinds_of c.args.tokens.now in
     let d = c.args.depth in
     let i = c.args.at in
-    group_deep ts d i c.requires.first (omega arith)
+    let p = err_from_is_err_and c.from_residual.result c.from_residual.ensures.1 in
+    let (same, deep) = c.in_err-inside.ensures.deep in
+    rw (p.1, p.2, same) (group_deep ts d i c.requires.first (omega (arith, deep)))
 
 pub group-returns-in_err-inner : goal.group-returns-in_err-inner
 group-returns-in_err-inner m0 c =
     let ts = kinds_of c.args.tokens.now in
     let d = c.args.depth in
     let i = c.args.at in
-    let p = err_from_is_err_and c.from_residual.result c.from_residual.ensures.1 in
+    let room = c.in_ok-inside.ensures.room in
+    let p = err_from_is_err_and c.from_residual-in_err-inner.result c.from_residual-in_err-inner.ensures.1 in
     rw (p.1, p.2) (err_as expression_view expression_view c.in_err-inner.field-0.0
     (RightExpression ts (d + 1) loosest (i + 1)) (RightOperand ts d i)
-    (λ j why x. group_then ts d i c.requires.first (omega arith) (stopped j why)
-    (ended_stop (d + 1) right (refl, refl) ts (i + 1) j why x)) c.in_err-inner.ensures)
+    (λ j why x. group_then ts d i c.requires.first room.1 (stopped j why)
+    (ended_stop (d + 1) right (refl, refl) ts (i + 1) j why x)) (rw room.0 at c.in_err-inner.ensures))
 
 pub group-returns-in_err-next : goal.group-returns-in_err-next
 group-returns-in_err-next m0 c =
+    let room = c.in_ok-inside.ensures.room in
     let ts = kinds_of c.args.tokens.now in
     let d = c.args.depth in
     let i = c.args.at in
     let p = err_from_is_err_and c.from_residual-in_err-next.result c.from_residual-in_err-next.ensures.1 in
     rw (p.1, p.2) (step_as expression_view c.in_err-next.field-0.0 (RightToken ts right c.in_ok-inner.next)
     (RightOperand ts d i)
-    (λ j why x. group_then ts d i c.requires.first (omega arith) (stopped j why)
+    (λ j why x. group_then ts d i c.requires.first room.1 (stopped j why)
     (ended_then (d + 1) right (refl, refl) ts (i + 1) (expression_view c.in_ok-inner.inner) c.in_ok-inner.next
-    c.in_ok-inner.ensures (stopped j why) x))
+    (rw room.0 at c.in_ok-inner.ensures) (stopped j why) x))
     c.in_err-next.ensures)
 
 pub group-returns : goal.group-returns
 group-returns m0 c =
+    let room = c.in_ok-inside.ensures.room in
     let ts = kinds_of c.args.tokens.now in
     let d = c.args.depth in
     let i = c.args.at in
-    group_then ts d i c.requires.first (omega arith) (found (expression_view c.in_ok-inner.inner) c.in_ok-next.next)
+    group_then ts d i c.requires.first room.1 (found (expression_view c.in_ok-inner.inner) c.in_ok-next.next)
     (ended_then (d + 1) right (refl, refl) ts (i + 1) (expression_view c.in_ok-inner.inner) c.in_ok-inner.next
-    c.in_ok-inner.ensures (found tt c.in_ok-next.next) c.in_ok-next.ensures)
+    (rw room.0 at c.in_ok-inner.ensures) (found tt c.in_ok-next.next) c.in_ok-next.ensures)
 
 pub links-returns-in_err-operand : goal.links-returns-in_err-operand
 links-returns-in_err-operand m0 c =
@@ -221,69 +226,78 @@ element-returns m0 c =
     (element_then ts d i c.args.word lt c.requires.word c.requires.bracket
     (found (expression_view c.in_ok-inner.inner) c.in_ok-inner.next) c.in_ok-inner.ensures)
 
-pub bracketed-returns-then-depth-eq-MAX_DEPTH : goal.bracketed-returns-then-depth-eq-MAX_DEPTH
-bracketed-returns-then-depth-eq-MAX_DEPTH m0 c =
+pub bracketed-returns-in_err-inside : goal.bracketed-returns-in_err-inside
+bracketed-returns-in_err-inside m0 c =
     let ts = kinds_of c.args.tokens.now in
-    bracketed_deep ts c.args.depth c.args.at c.requires.first (omega arith)
+    let p = err_from_is_err_and c.from_residual.result c.from_residual.ensures.1 in
+    let (same, deep) = c.in_err-inside.ensures.deep in
+    rw (p.1, p.2, same) (bracketed_deep ts c.args.depth c.args.at c.requires.first (omega (arith, deep)))
 
 pub bracketed-returns-in_err-inner : goal.bracketed-returns-in_err-inner
 bracketed-returns-in_err-inner m0 c =
     let ts = kinds_of c.args.tokens.now in
     let d = c.args.depth in
     let i = c.args.at in
-    let p = err_from_is_err_and c.from_residual.result c.from_residual.ensures.1 in
+    let room = c.in_ok-inside.ensures.room in
+    let p = err_from_is_err_and c.from_residual-in_err-inner.result c.from_residual-in_err-inner.ensures.1 in
     rw (p.1, p.2) (err_as expression_view expression_view c.in_err-inner.field-0.0
     (RightExpression ts (d + 1) loosest (i + 1)) (RightBracketed ts d i)
-    (λ j why x. bracketed_then ts d i c.requires.first (omega arith) (stopped j why)
+    (λ j why x. bracketed_then ts d i c.requires.first room.1 (stopped j why)
     (ended_stop (d + 1) close_bracket (refl, refl) ts (i + 1) j why x))
-    c.in_err-inner.ensures)
+    (rw room.0 at c.in_err-inner.ensures))
 
 pub bracketed-returns-in_err-next : goal.bracketed-returns-in_err-next
 bracketed-returns-in_err-next m0 c =
+    let room = c.in_ok-inside.ensures.room in
     let ts = kinds_of c.args.tokens.now in
     let d = c.args.depth in
     let i = c.args.at in
     let p = err_from_is_err_and c.from_residual-in_err-next.result c.from_residual-in_err-next.ensures.1 in
     rw (p.1, p.2) (step_as expression_view c.in_err-next.field-0.0 (RightToken ts close_bracket c.in_ok-inner.next)
     (RightBracketed ts d i)
-    (λ j why x. bracketed_then ts d i c.requires.first (omega arith) (stopped j why)
+    (λ j why x. bracketed_then ts d i c.requires.first room.1 (stopped j why)
     (ended_then (d + 1) close_bracket (refl, refl) ts (i + 1) (expression_view c.in_ok-inner.inner) c.in_ok-inner.next
-    c.in_ok-inner.ensures (stopped j why) x))
+    (rw room.0 at c.in_ok-inner.ensures) (stopped j why) x))
     c.in_err-next.ensures)
 
 pub bracketed-returns : goal.bracketed-returns
 bracketed-returns m0 c =
+    let room = c.in_ok-inside.ensures.room in
     let ts = kinds_of c.args.tokens.now in
     let d = c.args.depth in
     let i = c.args.at in
-    bracketed_then ts d i c.requires.first (omega arith) (found (expression_view c.in_ok-inner.inner) c.in_ok-next.next)
+    bracketed_then ts d i c.requires.first room.1 (found (expression_view c.in_ok-inner.inner) c.in_ok-next.next)
     (ended_then (d + 1) close_bracket (refl, refl) ts (i + 1) (expression_view c.in_ok-inner.inner) c.in_ok-inner.next
-    c.in_ok-inner.ensures
+    (rw room.0 at c.in_ok-inner.ensures)
     (found tt c.in_ok-next.next) c.in_ok-next.ensures)
 
-pub unary-returns-then-depth-eq-MAX_DEPTH : goal.unary-returns-then-depth-eq-MAX_DEPTH
-unary-returns-then-depth-eq-MAX_DEPTH m0 c =
+pub unary-returns-in_err-inside : goal.unary-returns-in_err-inside
+unary-returns-in_err-inside m0 c =
     let ts = kinds_of c.args.tokens.now in
     let d = c.args.depth in
     let i = c.args.at in
-    unary_deep ts d i c.args.operator c.requires.first (omega arith)
+    let p = err_from_is_err_and c.from_residual.result c.from_residual.ensures.1 in
+    let (same, deep) = c.in_err-inside.ensures.deep in
+    rw (p.1, p.2, same) (unary_deep ts d i c.args.operator c.requires.first (omega (arith, deep)))
 
 pub unary-returns-in_err-inner : goal.unary-returns-in_err-inner
 unary-returns-in_err-inner m0 c =
     let ts = kinds_of c.args.tokens.now in
     let d = c.args.depth in
     let i = c.args.at in
-    let p = err_from_is_err_and c.from_residual.result c.from_residual.ensures.1 in
+    let room = c.in_ok-inside.ensures.room in
+    let p = err_from_is_err_and c.from_residual-in_err-inner.result c.from_residual-in_err-inner.ensures.1 in
     rw (p.1, p.2) (err_as expression_view expression_view c.in_err-inner.field-0.0 (RightOperand ts (d + 1) (i + 1))
     (RightOperand ts d i)
-    (λ j why x. unary_then ts d i c.args.operator c.requires.first (omega arith) (stopped j why) x)
-    c.in_err-inner.ensures)
+    (λ j why x. unary_then ts d i c.args.operator c.requires.first room.1 (stopped j why) x)
+    (rw room.0 at c.in_err-inner.ensures))
 
 pub unary-returns : goal.unary-returns
 unary-returns m0 c =
+    let room = c.in_ok-inside.ensures.room in
     let ts = kinds_of c.args.tokens.now in
     let d = c.args.depth in
     let i = c.args.at in
     rw (expression_view-Unary c.args.operator c.in_ok-operand.operand, c.in_ok-operand.ensures.ok) (unary_then ts d
-    i c.args.operator c.requires.first (omega arith)
-    (found (expression_view c.in_ok-inner.inner) c.in_ok-inner.next) c.in_ok-inner.ensures)
+    i c.args.operator c.requires.first room.1
+    (found (expression_view c.in_ok-inner.inner) c.in_ok-inner.next) (rw room.0 at c.in_ok-inner.ensures))

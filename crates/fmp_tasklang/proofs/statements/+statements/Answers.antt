@@ -181,13 +181,15 @@ other-returns-then-not-is_keyword_at m0 c =
     answers_as block_view c.block.result (RightBlock ts d loop i) (RightOther ts d loop i)
     (λ o x. block_other d loop ts i (c.is_keyword_at.ensures.no (search rules)) o x) c.block.ensures
 
-pub other-returns-then-depth-eq-MAX_DEPTH : goal.other-returns-then-depth-eq-MAX_DEPTH
-other-returns-then-depth-eq-MAX_DEPTH m0 c =
+pub other-returns-in_err-inside : goal.other-returns-in_err-inside
+other-returns-in_err-inside m0 c =
     let ts = kinds_of c.args.tokens.now in
     let d = c.args.depth in
     let i = c.args.at in
     let loop = c.args.looped in
-    deep_other d loop ts i (c.is_keyword_at.ensures.yes (search rules)) (omega arith)
+    let p = err_from_is_err_and c.from_residual.result c.from_residual.ensures.1 in
+    let (same, deep) = c.in_err-inside.ensures.deep in
+    rw (p.1, p.2, same) (deep_other d loop ts i (c.is_keyword_at.ensures.yes (search rules)) (omega (arith, deep)))
 
 pub other-returns-in_err-inner : goal.other-returns-in_err-inner
 other-returns-in_err-inner m0 c =
@@ -195,22 +197,24 @@ other-returns-in_err-inner m0 c =
     let d = c.args.depth in
     let i = c.args.at in
     let loop = c.args.looped in
-    let p = err_from_is_err_and c.from_residual.result c.from_residual.ensures.1 in
+    let room = c.in_ok-inside.ensures.room in
+    let p = err_from_is_err_and c.from_residual-in_err-inner.result c.from_residual-in_err-inner.ensures.1 in
     rw (p.1, p.2) (err_as statement_view block_view c.in_err-inner.field-0.0 (RightIf ts (d + 1) loop i)
     (RightOther ts d loop i)
-    (λ j why x. if_other d loop ts i (c.is_keyword_at.ensures.yes (search rules)) (omega arith) (stopped j why) x)
-    c.in_err-inner.ensures)
+    (λ j why x. if_other d loop ts i (c.is_keyword_at.ensures.yes (search rules)) room.1 (stopped j why) x)
+    (rw room.0 at c.in_err-inner.ensures))
 
 pub other-returns : goal.other-returns
 other-returns m0 c =
+    let room = c.in_ok-inside.ensures.room in
     let ts = kinds_of c.args.tokens.now in
     let d = c.args.depth in
     let i = c.args.at in
     let loop = c.args.looped in
     let pushed : c.push.new.self.items ≡ c.in_ok-inner.inner ∷ [] = c.in_ok-push.ensures.items ∙ ap
     (λ z. z ++ c.in_ok-inner.inner ∷ []) c.in_ok-body.ensures.items in
-    rw pushed (if_other d loop ts i (c.is_keyword_at.ensures.yes (search rules)) (omega arith)
-    (found (statement_view c.in_ok-inner.inner) c.in_ok-inner.next) c.in_ok-inner.ensures)
+    rw pushed (if_other d loop ts i (c.is_keyword_at.ensures.yes (search rules)) room.1
+    (found (statement_view c.in_ok-inner.inner) c.in_ok-inner.next) (rw room.0 at c.in_ok-inner.ensures))
 
 pub block-returns-then-not-is_symbol_at : goal.block-returns-then-not-is_symbol_at
 block-returns-then-not-is_symbol_at m0 c =
@@ -221,13 +225,15 @@ block-returns-then-not-is_symbol_at m0 c =
     let within : i ≤ length ts = simp length-map c.requires.at in
     block_missing d loop ts i (c.is_symbol_at.ensures.no (search rules)) within
 
-pub block-returns-then-depth-eq-MAX_DEPTH : goal.block-returns-then-depth-eq-MAX_DEPTH
-block-returns-then-depth-eq-MAX_DEPTH m0 c =
+pub block-returns-in_err-inside : goal.block-returns-in_err-inside
+block-returns-in_err-inside m0 c =
     let ts = kinds_of c.args.tokens.now in
     let d = c.args.depth in
     let i = c.args.at in
     let loop = c.args.looped in
-    block_deep d loop ts i (c.is_symbol_at.ensures.yes (search rules)) (omega arith)
+    let p = err_from_is_err_and c.from_residual.result c.from_residual.ensures.1 in
+    let (same, deep) = c.in_err-inside.ensures.deep in
+    rw (p.1, p.2, same) (block_deep d loop ts i (c.is_symbol_at.ensures.yes (search rules)) (omega (arith, deep)))
 
 pub block-returns-in_err-body : goal.block-returns-in_err-body
 block-returns-in_err-body m0 c =
@@ -235,14 +241,16 @@ block-returns-in_err-body m0 c =
     let d = c.args.depth in
     let i = c.args.at in
     let loop = c.args.looped in
-    let p = err_from_is_err_and c.from_residual.result c.from_residual.ensures.1 in
+    let room = c.in_ok-inside.ensures.room in
+    let p = err_from_is_err_and c.from_residual-in_err-body.result c.from_residual-in_err-body.ensures.1 in
     rw (p.1, p.2) (err_as statements_view block_view c.in_err-body.field-0.0
     (RightStatements ts (d + 1) loop (i + 1)) (RightBlock ts d loop i)
-    (λ j why x. block_stop d loop ts i (c.is_symbol_at.ensures.yes (search rules)) (omega arith) j why x)
-    c.in_err-body.ensures)
+    (λ j why x. block_stop d loop ts i (c.is_symbol_at.ensures.yes (search rules)) room.1 j why x)
+    (rw room.0 at c.in_err-body.ensures))
 
 pub block-returns-in_err-next : goal.block-returns-in_err-next
 block-returns-in_err-next m0 c =
+    let room = c.in_ok-inside.ensures.room in
     let ts = kinds_of c.args.tokens.now in
     let d = c.args.depth in
     let i = c.args.at in
@@ -250,17 +258,18 @@ block-returns-in_err-next m0 c =
     let p = err_from_is_err_and c.from_residual-in_err-next.result c.from_residual-in_err-next.ensures.1 in
     rw (p.1, p.2) (step_as block_view c.in_err-next.field-0.0 (RightToken ts close_brace c.in_ok-body.next)
     (RightBlock ts d loop i)
-    (λ j why x. block_open d loop ts i (c.is_symbol_at.ensures.yes (search rules)) (omega arith)
-    (statements_view c.in_ok-body.body) c.in_ok-body.next c.in_ok-body.ensures j why x) c.in_err-next.ensures)
+    (λ j why x. block_open d loop ts i (c.is_symbol_at.ensures.yes (search rules)) room.1
+    (statements_view c.in_ok-body.body) c.in_ok-body.next (rw room.0 at c.in_ok-body.ensures) j why x) c.in_err-next.ensures)
 
 pub block-returns : goal.block-returns
 block-returns m0 c =
+    let room = c.in_ok-inside.ensures.room in
     let ts = kinds_of c.args.tokens.now in
     let d = c.args.depth in
     let i = c.args.at in
     let loop = c.args.looped in
-    block_found d loop ts i (c.is_symbol_at.ensures.yes (search rules)) (omega arith)
-    (statements_view c.in_ok-body.body) c.in_ok-body.next c.in_ok-body.ensures c.in_ok-next.next
+    block_found d loop ts i (c.is_symbol_at.ensures.yes (search rules)) room.1
+    (statements_view c.in_ok-body.body) c.in_ok-body.next (rw room.0 at c.in_ok-body.ensures) c.in_ok-next.next
     c.in_ok-next.ensures
 
 pub statements-returns-in_err-add_statements : goal.statements-returns-in_err-add_statements

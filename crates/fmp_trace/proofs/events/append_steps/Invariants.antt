@@ -1,6 +1,6 @@
 use Rattle.std.proofs.Common.{◌≡◌, ◌++◌, drop}
 use Rattle.fmp_trace.specs.Fronts.{Begins}
-use Rattle.fmp_steps.specs.Steps.{steps_text}
+use Rattle.fmp_trace.specs.Steps.{steps_text}
 use Rattle.fmp_trace.proofs.events.append_steps.Given as goal
 
 abbrev pub invariant-loop-event : goal.invariant-loop-event

@@ -1,7 +1,7 @@
 use Rattle.std.proofs.Common.{◌≡◌, ◌++◌, ◌+◌, rules}
 use Rattle.fmp_base.specs.Names.{name_text}
 use Rattle.fmp_base.specs.Systems.{body_of}
-use Rattle.fmp_image_parts.specs.Fields.{byte, long, word, text}
+use Rattle.fmp_image_bytes.specs.Fields.{byte, long, word, text}
 use Rattle.fmp_image_bytes.specs.Rows.{bit}
 use Rattle.fmp_image_bytes.proofs.Chains.{chain_8}
 use Rattle.fmp_image_bytes.proofs.tasks.TaskConfigRow.put.Goals as goal

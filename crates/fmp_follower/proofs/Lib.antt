@@ -1,2 +1,0 @@
-pub mod Advancing
-pub mod Following

@@ -1,6 +1,0 @@
-use Rattle.std.proofs.Common.{◌≡◌, max, drop}
-use Rattle.fmp_image_parts.specs.Bodies.{greatest}
-use Rattle.fmp_image_parts.proofs.bodies.greatest.Given as goal
-
-abbrev pub invariant-loop-depth : goal.invariant-loop-depth
-invariant-loop-depth l = max l.most (greatest (drop l.depth-index l.depths)) ≡ greatest l.depths

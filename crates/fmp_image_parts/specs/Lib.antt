@@ -1,9 +1,0 @@
-pub mod Bodies
-pub mod Fields
-pub mod Header
-pub mod Instructions
-pub mod KeyLaws
-pub mod Keys
-pub mod Pairs
-pub mod Ranges
-pub mod Versions

@@ -1,0 +1,2 @@
+mod ManyDelayTraces
+mod TraceParts

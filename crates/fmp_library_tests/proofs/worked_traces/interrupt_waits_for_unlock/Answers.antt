@@ -1,0 +1,7 @@
+use Rattle.std.proofs.Common.{refl}
+use Rattle.std.specs.Fmt.{digits}
+use Rattle.fmp_library_tests.proofs.worked_traces.interrupt_waits_for_unlock.Goals as goal
+
+pub returns : goal.returns
+unfolding digits
+returns c = refl

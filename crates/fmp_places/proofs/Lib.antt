@@ -1,4 +1,0 @@
-pub mod Bodies
-pub mod HeardLemmas
-pub mod MadeLemmas
-pub mod SiteLemmas

@@ -1,6 +1,0 @@
-use Rattle.std.proofs.Common.{◌≡◌, ◌++◌, drop}
-use Rattle.fmp_places.specs.Places.{begins_behind, line_begins}
-use Rattle.fmp_places.proofs.columns.line_begins.Given as goal
-
-abbrev pub invariant-loop-at : goal.invariant-loop-at
-invariant-loop-at l = l.begins.items ++ begins_behind l.at (drop l.at l.text) ≡ line_begins l.text

@@ -1,7 +1,0 @@
-pub mod Answers
-pub mod Lines
-pub mod Made
-pub mod Places
-pub mod RefusalLines
-pub mod Refusals
-pub mod Sites

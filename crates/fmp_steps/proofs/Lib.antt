@@ -1,4 +1,0 @@
-pub mod EventsRead
-pub mod LinesOf
-pub mod Numbers
-pub mod Words

@@ -1,2 +1,0 @@
-mod ManyDelays
-mod Parts

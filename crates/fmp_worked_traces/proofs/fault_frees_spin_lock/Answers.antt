@@ -1,7 +1,0 @@
-use Rattle.std.proofs.Common.{refl}
-use Rattle.std.specs.Fmt.{digits}
-use Rattle.fmp_worked_traces.proofs.fault_frees_spin_lock.Goals as goal
-
-pub returns : goal.returns
-unfolding digits
-returns c = refl

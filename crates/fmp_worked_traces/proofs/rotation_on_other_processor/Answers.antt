@@ -1,7 +1,0 @@
-use Rattle.std.proofs.Common.{refl}
-use Rattle.std.specs.Fmt.{digits}
-use Rattle.fmp_worked_traces.proofs.rotation_on_other_processor.Goals as goal
-
-pub returns : goal.returns
-unfolding digits
-returns c = refl
