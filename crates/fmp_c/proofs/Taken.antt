@@ -13,9 +13,9 @@ use Rattle.fmp_foreign.specs.Following.{HasFollowed}
 use Rattle.fmp_foreign.specs.declared.hosted.HostedSystem.{HostedSystem}
 use Rattle.fmp_foreign.specs.Hosting.{IsNew, after, answer, answer_unless, reaction, refused}
 use Rattle.fmp_image_bytes.specs.Images.{ImageTables, image_at}
-use Rattle.fmp_image_parts.specs.Fields.{Fails}
-use Rattle.fmp_image_parts.specs.declared.fault.LoadFault.{LoadFault}
-use Rattle.fmp_image_parts.specs.declared.fault.LoadFault.TheVariants as load_fault
+use Rattle.fmp_image_bytes.specs.Fields.{Fails}
+use Rattle.fmp_image_bytes.specs.declared.fault.LoadFault.{LoadFault}
+use Rattle.fmp_image_bytes.specs.declared.fault.LoadFault.TheVariants as load_fault
 use Rattle.fmp_outside.specs.declared.given.Given.{Given}
 use Rattle.fmp_c.specs.declared.machine.Machine.{Machine}
 use Rattle.fmp_c.specs.declared.records.FmpOutcome.{FmpOutcome}

@@ -30,11 +30,11 @@ use Rattle.fmp_kernel.specs.Restarts.{counts_restarted}
 use Rattle.fmp_foreign.specs.Following.{HasFollowed}
 use Rattle.fmp_checked.specs.Checking.{InStep, IsBegun, IsChecked, TextKernel, hosted_after}
 use Rattle.fmp_image_bytes.specs.Images.{ImageTables, image_at}
-use Rattle.fmp_image_parts.specs.declared.fault.ImageFault.{ImageFault}
-use Rattle.fmp_image_parts.specs.declared.fault.ImageFault.TheVariants as image_fault
-use Rattle.fmp_image_parts.specs.declared.fault.LoadFault.{LoadFault}
-use Rattle.fmp_image_parts.specs.declared.fault.LoadFault.TheVariants as load_fault
-use Rattle.fmp_image_parts.specs.Fields.{Fails}
+use Rattle.fmp_image_bytes.specs.declared.fault.ImageFault.{ImageFault}
+use Rattle.fmp_image_bytes.specs.declared.fault.ImageFault.TheVariants as image_fault
+use Rattle.fmp_image_bytes.specs.declared.fault.LoadFault.{LoadFault}
+use Rattle.fmp_image_bytes.specs.declared.fault.LoadFault.TheVariants as load_fault
+use Rattle.fmp_image_bytes.specs.Fields.{Fails}
 use Rattle.fmp_c.specs.declared.looks.FmpCounts.{FmpCounts}
 use Rattle.fmp_c.specs.declared.states.FmpState.{FmpState}
 use Rattle.fmp_c.specs.declared.events.TheConstants.{FAULTS}

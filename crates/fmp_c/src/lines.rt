@@ -29,7 +29,7 @@ pub struct FmpLine {
     pub code: i32,
     /// The value of the reply.
     pub value: i32,
-    /// The arguments of a call, in order; 0 behind the last.
+    /// The arguments of a call, in order; 0 after the last.
     pub a: i32,
     pub b: i32,
     pub c: i32,

@@ -4,7 +4,8 @@ ghost use Rattle.std.specs.Prelude.{◌≡◌, Err, Ok, Some};
 ghost use Rattle.fmp_base.specs.Systems.{tables_of};
 ghost use Rattle.fmp_base.specs.Texts.{lines_text};
 ghost use Rattle.fmp_foreign.specs.Hosting.{answer};
-ghost use Rattle.fmp_c.specs.Exports.{IsConsulted, IsTakenBy, answered, checked_number, machine_after, machine_restarted, outcome_of};
+ghost use Rattle.fmp_c.specs.Exports.{IsConsulted, IsTakenBy, answered, checked_number, machine_after};
+ghost use Rattle.fmp_c.specs.Exports.{machine_restarted, outcome_of};
 ghost use Rattle.fmp_c.specs.Records as spec;
 
 use crate::records::{FmpOutcome, answer_number, changes};

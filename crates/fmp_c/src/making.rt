@@ -3,17 +3,17 @@ ghost use Rattle.std.specs.Prelude.{◌≡◌, ◌<◌, ◌≤◌, ◌^◌, Err,
 ghost use Rattle.fmp_base.specs.Codes.{code_of};
 ghost use Rattle.fmp_cfgparse.specs.Configurations.{IsRead};
 ghost use Rattle.fmp_image_bytes.specs.Images.{image_at};
-ghost use Rattle.fmp_image_parts.specs.Fields.{Fails};
+ghost use Rattle.fmp_image_bytes.specs.Fields.{Fails};
 ghost use Rattle.fmp_c.specs.Exports.{IsFirst, IsMade, IsNoSystem, kind_code, kind_number};
-ghost use Rattle.fmp_c.specs.Exports.{IsCheckedMachine, IsFirstChecked, IsFirstOf, IsLoaded, IsNoBound, IsToldOfImage, image_number};
+ghost use Rattle.fmp_c.specs.Exports.{IsCheckedMachine, IsFirstChecked, IsFirstOf, IsLoaded, IsNoBound, IsToldOfImage};
+ghost use Rattle.fmp_c.specs.Exports.{image_number};
 
 use crate::handle::FmpSystem;
 use crate::machine::Machine;
 use crate::records::FmpRefusal;
 use fmp_checked::Checked;
 use fmp_foreign::HostedSystem;
-use fmp_image_bytes::{Image, load};
-use fmp_image_parts::{ImageFault, LoadFault};
+use fmp_image_bytes::{Image, ImageFault, LoadFault, load};
 use fmp_lex::{BuildFault, FaultKind};
 use fmp_trace::Page;
 use std::alloc::{AllocError, Global};
@@ -170,8 +170,6 @@ fn machine_of(checked: Checked) -> Machine
 /// The system of an image, after setup, with its text. The fault is out of memory.
 #[tactic(auto, using(crate::proofs::Taken::first_of))]
 fn checked_machine(alloc: Global, image: Image, bound: u64) -> Result<Machine, LoadFault>
-    requires low { 1 ≤ bound }
-    requires high { bound ≤ 2 ^ 48 }
     ensures new { IfOk result (IsFirstOf image bound) }
     ensures memory { IfErr result (λ fault. fault ≡ LoadFault.Memory) }
 {
@@ -184,8 +182,6 @@ fn checked_machine(alloc: Global, image: Image, bound: u64) -> Result<Machine, L
 /// The same in a box.
 #[tactic(auto, using(crate::proofs::Taken::first_boxed))]
 fn boxed_machine(alloc: Global, image: Image, bound: u64) -> Result<Box<Machine, Global>, LoadFault>
-    requires low { 1 ≤ bound }
-    requires high { bound ≤ 2 ^ 48 }
     ensures new { IfOk result (λ b. IsFirstOf image bound b.value) }
     ensures memory { IfErr result (λ fault. fault ≡ LoadFault.Memory) }
 {
@@ -199,8 +195,6 @@ fn boxed_machine(alloc: Global, image: Image, bound: u64) -> Result<Box<Machine,
 /// The system of the image that these bytes spell, after setup, with its text.
 #[tactic(auto, using(crate::proofs::Taken::first_checked, crate::proofs::Taken::memory_fails))]
 fn made_checked(alloc: Global, bytes: &[u8], bound: u64) -> Result<Box<Machine, Global>, LoadFault>
-    requires low { 1 ≤ bound }
-    requires high { bound ≤ 2 ^ 48 }
     ensures new { IfOk result (λ b. IsFirstChecked bytes.now bound b.value) }
     ensures refused { IfErr result (λ fault. Fails fault (image_at bytes.now)) }
 {

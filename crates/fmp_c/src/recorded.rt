@@ -18,7 +18,7 @@ use std::mem;
 /// Room for the longest line, and for more digits than a number has.
 const ROOM: usize = 320;
 
-/// A text behind the end of a line.
+/// A text after the end of a line.
 fn append(text: &[u8], line: &mut [u8], end: usize) -> usize
     requires { end + length text.now ≤ length line.old }
     ensures text { take result line.new ≡ take end line.old ++ text.now }
@@ -40,7 +40,7 @@ fn append_number(number: u8, line: &mut [u8], end: usize) -> usize
     )
 }
 
-/// An argument, behind a blank.
+/// An argument, after a blank.
 fn append_argument(number: i32, line: &mut [u8], end: usize) -> usize
     requires { end + 41 ≤ length line.old }
     ensures text { take result line.new ≡ take end line.old ++ (codes " " ++ signed_decimal number) }

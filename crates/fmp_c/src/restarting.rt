@@ -13,9 +13,9 @@ const DONE: u32 = 1;
 const BLANK: u32 = 4;
 
 /// The counts begin again: the clock, and the numbers of events done and taken, are 0, also those of the text of a
-/// checked system. Each deadline and each due time is as far from the clock as before, and nothing else changes. So each
-/// later event does what it would do without this call, by lines that differ in the number of the clock at most. The
-/// answer is 1, or 4 where the handle is blank. It takes no memory.
+/// checked system. Each deadline and each due time is as far from the clock as before, and nothing else changes. So
+/// each later event does what it would do without this call, by lines that differ in the number of the clock at most.
+/// The answer is 1, or 4 where the handle is blank. It takes no memory.
 #[unsafe(no_mangle)]
 pub extern "C" fn fmp_restart_count(alloc: Global, h: &mut FmpSystem) -> u32
     ensures restarted { IfSome h.old.machine (λ m. (h.new.machine ≡ Some (machine_restarted m)) × (result ≡ 1)) }

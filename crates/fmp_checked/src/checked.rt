@@ -1,5 +1,5 @@
 //! A system of an image whose bodies run elsewhere, with the text that they must follow.
-ghost use Rattle.std.specs.Prelude.{◌≡◌, ◌≤◌, ◌^◌, IfOk};
+ghost use Rattle.std.specs.Prelude.{◌≡◌, IfOk};
 ghost use Rattle.fmp_base.specs.Ranges.{IsInRange};
 ghost use Rattle.fmp_base.specs.Systems.{tables_of};
 ghost use Rattle.fmp_foreign.specs.Hosting.{refused, restarted};
@@ -55,8 +55,6 @@ fn text_of(
     system: &System,
     bound: u64,
 ) -> Result<Shadow<ImageBody>, AllocError>
-    requires low { 1 ≤ bound }
-    requires high { bound ≤ 2 ^ 48 }
     requires system { tables_of system.now ≡ image.system }
     requires range { IsInRange (tables_of system.now) }
     ensures { IfOk result (IsTextOf image bound) }
@@ -65,7 +63,7 @@ fn text_of(
     let bodies = ImageBody::new(image);
     match Kernel::new(alloc, bodies, system, bound) {
         Ok(kernel) => {
-            let text = Shadow::new(kernel, bound);
+            let text = Shadow::new(kernel);
             Ok(text)
         }
         Err(_) => Err(AllocError),
@@ -73,11 +71,9 @@ fn text_of(
 }
 
 impl Checked {
-    /// The system of an image after setup. A stretch of its text takes at most this many instructions in a turn, 1 to
-    /// 2^48. `AllocError` where memory runs out: no call after this one takes any.
+    /// The system of an image after setup. A stretch of its text takes at most this many instructions in a turn.
+    /// `AllocError` where memory runs out: no call after this one takes any.
     pub fn new(alloc: Global, image: Image, bound: u64) -> Result<Checked, AllocError>
-        requires low { 1 ≤ bound }
-        requires high { bound ≤ 2 ^ 48 }
         ensures { IfOk result (λ c. IsBegun image bound c.hosted c.text) }
     {
         let hosted = hosted_by(alloc, &image)?;

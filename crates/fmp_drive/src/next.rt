@@ -33,28 +33,27 @@ fn told_by<C: Copy>(stretch: Stretch<C>) -> NextRun
     }
 }
 
-/// How the next run of the processor of this number, from 1, ends on a kernel over these bodies with this bound.
-fn next_run<B: Body>(kernel: &Kernel<B>, body: &B, n: u64, p: u8) -> NextRun
-    requires body { body.now ≡ kernel.now.body }
-    requires bound { n ≡ kernel.now.bound }
+/// How the next run of the processor of this number, from 1, ends on a kernel.
+fn next_run<B: Body>(kernel: &Kernel<B>, p: u8) -> NextRun
     ensures { result ≡ next_run_of B.meaning kernel.now p }
 {
     match kernel.actor(p) {
-        Some(actor) => told_by(body.stretch(actor.entry, n, actor.context)),
+        Some(actor) => told_by(
+            kernel
+                .body()
+                .stretch(actor.entry, kernel.bound(), actor.context),
+        ),
         None => NextRun::NoActor,
     }
 }
 
-/// How the next run of each processor ends, by places from 0, on a kernel over these bodies with this bound. There is
-/// no actor behind the last processor.
-pub fn next_runs<B: Body>(kernel: &Kernel<B>, body: &B, n: u64) -> [NextRun; PROCESSORS]
-    requires body { body.now ≡ kernel.now.body }
-    requires bound { n ≡ kernel.now.bound }
+/// How the next run of each processor ends, by places from 0, on a kernel. There is no actor after the last processor.
+pub fn next_runs<B: Body>(kernel: &Kernel<B>) -> [NextRun; PROCESSORS]
     ensures { AreNext B.meaning kernel.now result }
 {
     let mut runs = [NextRun::NoActor; PROCESSORS];
     for p in 0..PROCESSORS {
-        runs[p] = next_run(kernel, body, n, p as u8 + 1);
+        runs[p] = next_run(kernel, p as u8 + 1);
     }
     runs
 }

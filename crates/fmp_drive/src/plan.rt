@@ -95,7 +95,7 @@ impl Plan {
         false
     }
 
-    /// An event has been taken, and these are the lines of the last one that was done: the processor behind it is the
+    /// An event has been taken, and these are the lines of the last one that was done: the processor after it is the
     /// next.
     pub fn done(&mut self, e: Event, lines: &[Line], processors: u8)
         requires { 1 ≤ processors }

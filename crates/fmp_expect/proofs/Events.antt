@@ -5,8 +5,8 @@ use Rattle.fmp_base.specs.declared.events.Event.{Event}
 use Rattle.fmp_base.specs.Meanings.{Meaning}
 use Rattle.fmp_base.specs.Runs.{run, run_on}
 use Rattle.fmp_base.specs.Steps.{Reaction, Nothing, Did, Kept, effect_of}
-use Rattle.fmp_coming.specs.Comings.{reaction_of}
-use Rattle.fmp_coming.proofs.Comings.{cut}
+use Rattle.fmp_kernel.specs.Comings.{reaction_of}
+use Rattle.fmp_kernel.proofs.Comings.{cut}
 use Rattle.fmp_kernel.specs.KernelViews.{KernelView, view_after}
 use Rattle.fmp_base.specs.declared.events.Line.{Line}
 use Rattle.fmp_monitors.specs.Meaning.{OfLine}

@@ -1,7 +1,8 @@
 //! Whether a run meets expectations, one thing that it shows after the other.
 ghost use Rattle.std.specs.Prelude.{◌≡◌, ◌++◌, [], List, IfOk, OnOk, map};
 ghost use Rattle.fmp_expect.specs.declared.expectation.Expected.{Expected};
-ghost use Rattle.fmp_expect.specs.Meaning.{Told, breaks_at_end as breaks_then, empty_lines, first_broken, with_lines, with_state};
+ghost use Rattle.fmp_expect.specs.Meaning.{Told, breaks_at_end as breaks_then, empty_lines, first_broken, with_lines};
+ghost use Rattle.fmp_expect.specs.Meaning.{with_state};
 ghost use Rattle.fmp_expect.specs.Watches as spec;
 ghost use Rattle.fmp_expect.specs.Watches.{AreTold};
 ghost use Rattle.fmp_monitors.specs.Meaning.{OfLine, OfState};

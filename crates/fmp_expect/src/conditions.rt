@@ -1,5 +1,6 @@
 //! The conditions of `always`.
-ghost use Rattle.std.specs.Prelude.{◌≡◌, ◌<◌, ◌∷◌, ◌++◌, [], ℕ, Bool, List, Result, IfOk, IfErr, MatchOption, Ok, Err, position, bytes_eq};
+ghost use Rattle.std.specs.Prelude.{◌≡◌, ◌<◌, ◌∷◌, ◌++◌, [], ℕ, Bool, List, Result, IfOk, IfErr, MatchOption, Ok, Err};
+ghost use Rattle.std.specs.Prelude.{position, bytes_eq};
 ghost use Rattle.fmp_monitors.specs.declared.condition.ConditionTest.{ConditionTest};
 ghost use Rattle.fmp_expect.specs.declared.fault.ExpectationFlaw.{ExpectationFlaw};
 ghost use Rattle.fmp_base.specs.Names.{name_text};
@@ -265,7 +266,7 @@ fn test_in<'a>(
     }
 }
 
-/// What stands between two tests, and whether an alternative begins behind it; none at the end of the line.
+/// What stands between two tests, and whether an alternative begins after it; none at the end of the line.
 fn joint_in(line: &[u8]) -> Result<Option<(bool, &[u8])>, ExpectationFlaw>
     ensures joint { IfOk result (λ joint. (more : Bool → List (List ℕ) → Result (List ConditionTest) ExpectationFlaw)
         → MatchOption joint (spec.tests_behind more (words_of line.now) ≡ Ok [])
@@ -287,7 +288,7 @@ fn joint_in(line: &[u8]) -> Result<Option<(bool, &[u8])>, ExpectationFlaw>
     }
 }
 
-/// What stands behind the last test of a condition.
+/// What stands after the last test of a condition.
 fn no_test() -> ConditionTest
     ensures { result ≡ spec.no_test }
 {

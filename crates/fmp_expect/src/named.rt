@@ -40,31 +40,6 @@ pub const STATES: [StateWord; 6] = [
     StateWord::Dormant,
 ];
 
-/// The name of a fault.
-pub fn fault_name(fault: Fault) -> &'static str
-    ensures { result.now ≡ fault_text fault }
-{
-    match fault {
-        Fault::Overflow => "F_OVF",
-        Fault::Division => "F_DIV",
-        Fault::Index => "F_IDX",
-    }
-}
-
-/// A state in the words of a trace.
-pub fn state_name(word: StateWord) -> &'static str
-    ensures { result.now ≡ word_text word }
-{
-    match word {
-        StateWord::Running => "RUNNING",
-        StateWord::Ready => "READY",
-        StateWord::Waiting => "WAITING",
-        StateWord::Suspended => "SUSPENDED",
-        StateWord::WaitingSuspended => "WAITING-SUSPENDED",
-        StateWord::Dormant => "DORMANT",
-    }
-}
-
 fn code_among(codes: &[Er], word: &[u8]) -> Option<Er>
     ensures { result ≡ find (λ code. bytes_eq (code_name code) word.now) codes.now }
 {
@@ -80,7 +55,7 @@ fn fault_among(faults: &[Fault], word: &[u8]) -> Option<Fault>
     faults
         .iter()
         .copied()
-        .find(|fault| fault_name(*fault).as_bytes() == word)
+        .find(|fault| fault.name().as_bytes() == word)
 }
 
 /// The state of this name, among these.
@@ -90,7 +65,7 @@ pub fn state_among(states: &[StateWord], word: &[u8]) -> Option<StateWord>
     states
         .iter()
         .copied()
-        .find(|state| state_name(*state).as_bytes() == word)
+        .find(|state| state.name().as_bytes() == word)
 }
 
 fn task_among(tasks: &[TaskConfig], word: &[u8]) -> Option<usize>
@@ -114,7 +89,7 @@ pub fn task_named(sys: &System, word: &[u8]) -> Option<usize>
     task_among(&sys.tasks, word)
 }
 
-/// What stands behind this front of a word, if it begins with it.
+/// What stands after this front of a word, if it begins with it.
 fn text_behind<'a>(front: &[u8], text: &'a [u8]) -> Option<&'a [u8]>
     ensures { MatchOption result (words.behind front.now text.now ≡ None)
         (λ rest. words.behind front.now text.now ≡ Some rest.now) }

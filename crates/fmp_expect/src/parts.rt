@@ -29,7 +29,7 @@ pub fn faulty_word(line: &[u8], flaw: ExpectationFlaw) -> Option<&[u8]>
     word_at(words, word_count(words).saturating_sub(flaw.left))
 }
 
-/// What was found in the first word of a line, with what stands behind it, or a flaw.
+/// What was found in the first word of a line, with what stands after it, or a flaw.
 pub fn found_or<'a, A: Copy>(
     expects: Expects,
     line: &[u8],
@@ -109,13 +109,14 @@ pub fn ranged_in(
     }
 }
 
-/// What stands behind the first word of a line, if it is this one.
+/// What stands after the first word of a line, if it is this one.
 pub fn behind_word<'a>(
     expects: Expects,
     word: &[u8],
     line: &'a [u8],
 ) -> Result<&'a [u8], ExpectationFlaw>
-    ensures read { IfOk result (λ rest. spec.behind_word expects word.now (words_of line.now) ≡ Ok (words_of rest.now)) }
+    ensures read { IfOk result (λ rest. spec.behind_word expects word.now (words_of line.now)
+        ≡ Ok (words_of rest.now)) }
     ensures fault { IfErr result (λ e. spec.behind_word expects word.now (words_of line.now) ≡ Err e) }
 {
     match next_word(line) {
@@ -182,7 +183,7 @@ pub fn begins(word: &[u8], line: &[u8]) -> bool
     }
 }
 
-/// What stands behind the first word of a line.
+/// What stands after the first word of a line.
 pub fn behind_first(line: &[u8]) -> &[u8]
     ensures { words_of result.now ≡ spec.behind_first (words_of line.now) }
 {

@@ -1,6 +1,6 @@
 //! The run of a kernel, as a checker is told of it.
 ghost use Rattle.std.specs.Prelude.{◌≡◌, ◌+◌, ◌<◌, ◌≤◌, ◌^◌, [], List, length};
-ghost use Rattle.fmp_coming.specs.Comings.{view_after_each};
+ghost use Rattle.fmp_kernel.specs.Comings.{view_after_each};
 ghost use Rattle.fmp_expect.specs.declared.expectation.Expected.{Expected};
 ghost use Rattle.fmp_expect.specs.Meaning.{Told};
 ghost use Rattle.fmp_expect.specs.Runs.{last_told, run_told, told_after};
@@ -9,8 +9,7 @@ ghost use Rattle.fmp_kernel.specs.KernelViews.{view_after};
 
 use crate::checker::Checker;
 use fmp_base::Effect;
-use fmp_coming::Coming;
-use fmp_kernel::{Body, Kernel};
+use fmp_kernel::{Body, Coming, Kernel};
 
 /// Tells the lines of a kernel's last event that was done, or of setup, and the state after it.
 #[tactic(none)]
@@ -37,8 +36,8 @@ fn tell_one<B: Body, T: Coming<B>>(kernel: &mut Kernel<B>, e: T, checker: &mut C
     }
 }
 
-/// Takes what comes to a kernel, and tells the lines and the states: first those of its last event, or of setup, and then
-/// those of each event that is done.
+/// Takes what comes to a kernel, and tells the lines and the states: first those of its last event, or of setup, and
+/// then those of each event that is done.
 pub fn tell_run<B: Body, T: Coming<B>>(kernel: &mut Kernel<B>, events: &[T], checker: &mut Checker)
     requires { kernel.old.taken + length events.now ≤ 2 ^ 31 }
     ensures state { kernel.new ≡ view_after_each T.reaction kernel.old events.now }

@@ -14,7 +14,7 @@ use crate::words::next_word;
 use fmp_base::System;
 use fmp_monitors::{ExpectedActor, ExpectedResponse, ExpectedTrigger, Happening, Sentence};
 
-/// What may stand behind the happening that ends a sentence, which is of this actor if it is some.
+/// What may stand after the happening that ends a sentence, which is of this actor if it is some.
 fn end_behind(by: Option<ExpectedActor>) -> Expects
     ensures { result ≡ spec.end_behind by }
 {
@@ -24,7 +24,7 @@ fn end_behind(by: Option<ExpectedActor>) -> Expects
     }
 }
 
-/// What may stand behind the second happening of `between`.
+/// What may stand after the second happening of `between`.
 fn one_behind(by: Option<ExpectedActor>) -> Expects
     ensures { result ≡ spec.one_behind by }
 {
@@ -34,7 +34,7 @@ fn one_behind(by: Option<ExpectedActor>) -> Expects
     }
 }
 
-/// What may stand behind the happening of `never`.
+/// What may stand after the happening of `never`.
 fn never_end(by: Option<ExpectedActor>) -> Expects
     ensures { result ≡ spec.never_end by }
 {
@@ -44,7 +44,7 @@ fn never_end(by: Option<ExpectedActor>) -> Expects
     }
 }
 
-/// What may stand behind the happening of `after`.
+/// What may stand after the happening of `after`.
 fn until_end(by: Option<ExpectedActor>) -> Expects
     ensures { result ≡ spec.until_end by }
 {
@@ -54,7 +54,7 @@ fn until_end(by: Option<ExpectedActor>) -> Expects
     }
 }
 
-/// What may stand behind the first happening of `between`.
+/// What may stand after the first happening of `between`.
 fn and_behind(by: Option<ExpectedActor>) -> Expects
     ensures { result ≡ spec.and_behind by }
 {
@@ -64,7 +64,7 @@ fn and_behind(by: Option<ExpectedActor>) -> Expects
     }
 }
 
-/// What may stand behind a happening that begins a sentence.
+/// What may stand after a happening that begins a sentence.
 fn before_end(by: Option<ExpectedActor>) -> Expects
     ensures { result ≡ spec.before_end by }
 {
@@ -74,7 +74,7 @@ fn before_end(by: Option<ExpectedActor>) -> Expects
     }
 }
 
-/// What stands behind `until`, where there is an opening.
+/// What stands after `until`, where there is an opening.
 fn closing_in(
     sys: &System,
     happening: Happening,
@@ -92,7 +92,7 @@ fn closing_in(
     whole(end_behind(closing.by), sentence, rest)
 }
 
-/// What stands behind the opening of `after`.
+/// What stands after the opening of `after`.
 fn opened_in(
     sys: &System,
     happening: Happening,
@@ -117,7 +117,7 @@ fn opened_in(
     }
 }
 
-/// What stands behind `after`.
+/// What stands after `after`.
 fn after_in(sys: &System, happening: Happening, line: &[u8]) -> Result<Sentence, ExpectationFlaw>
     ensures { result ≡ spec.after_of (tables_of sys.now) happening (words_of line.now) }
 {
@@ -125,7 +125,7 @@ fn after_in(sys: &System, happening: Happening, line: &[u8]) -> Result<Sentence,
     opened_in(sys, happening, opening, rest)
 }
 
-/// What stands behind `until`, where there is no opening.
+/// What stands after `until`, where there is no opening.
 fn until_in(sys: &System, second: Happening, line: &[u8]) -> Result<Sentence, ExpectationFlaw>
     ensures { result ≡ spec.until_of (tables_of sys.now) second (words_of line.now) }
 {
@@ -137,7 +137,7 @@ fn until_in(sys: &System, second: Happening, line: &[u8]) -> Result<Sentence, Ex
     )
 }
 
-/// What stands behind the happening of `never`.
+/// What stands after the happening of `never`.
 fn never_behind(
     sys: &System,
     happening: Happening,
@@ -206,7 +206,7 @@ fn trigger_in<'a>(
     }
 }
 
-/// What may stand behind a trigger.
+/// What may stand after a trigger.
 fn trigger_end(trigger: ExpectedTrigger) -> Expects
     ensures { result ≡ spec.trigger_end trigger }
 {
@@ -216,7 +216,7 @@ fn trigger_end(trigger: ExpectedTrigger) -> Expects
     }
 }
 
-/// What stands behind the number of ticks.
+/// What stands after the number of ticks.
 fn of_in(
     sys: &System,
     response: ExpectedResponse,
@@ -236,7 +236,7 @@ fn of_in(
     whole(trigger_end(trigger), within, rest)
 }
 
-/// What stands behind `within`.
+/// What stands after `within`.
 fn within_in(
     sys: &System,
     response: ExpectedResponse,
@@ -257,7 +257,7 @@ fn runs_in(sys: &System, line: &[u8]) -> Result<Sentence, ExpectationFlaw>
     within_in(sys, ExpectedResponse::Runs(actor), rest)
 }
 
-/// What stands behind the happening that is to come first.
+/// What stands after the happening that is to come first.
 fn before_in(sys: &System, first: Happening, line: &[u8]) -> Result<Sentence, ExpectationFlaw>
     ensures { result ≡ spec.before_of (tables_of sys.now) first (words_of line.now) }
 {
@@ -270,7 +270,7 @@ fn before_in(sys: &System, first: Happening, line: &[u8]) -> Result<Sentence, Ex
     )
 }
 
-/// What stands behind a happening that begins a sentence.
+/// What stands after a happening that begins a sentence.
 fn order_behind(sys: &System, first: Happening, line: &[u8]) -> Result<Sentence, ExpectationFlaw>
     ensures { result ≡ spec.order_behind (tables_of sys.now) first (words_of line.now) }
 {
@@ -288,7 +288,7 @@ fn order_in(sys: &System, line: &[u8]) -> Result<Sentence, ExpectationFlaw>
     order_behind(sys, first, rest)
 }
 
-/// What stands behind the happenings of `between`.
+/// What stands after the happenings of `between`.
 fn alone_in(
     entering: Happening,
     leaving: Happening,

@@ -1,5 +1,6 @@
 //! The lines of a text, and the words of a line.
-ghost use Rattle.std.specs.Prelude.{◌≡◌, ◌≢◌, ◌∷◌, [], ◌<◌, ◌+◌, ℕ, nat_eq, position, length, slice_get, option_map, IfSome, MatchOption, if◌then◌else◌};
+ghost use Rattle.std.specs.Prelude.{◌≡◌, ◌≢◌, ◌∷◌, [], ◌<◌, ◌+◌, ℕ, nat_eq, position, length, slice_get, option_map};
+ghost use Rattle.std.specs.Prelude.{IfSome, MatchOption, if◌then◌else◌};
 ghost use Rattle.fmp_base.specs.Systems.{SystemTables};
 ghost use Rattle.fmp_expect.specs.Grammar.{expectations_from, in_front, line_meaning};
 ghost use Rattle.fmp_expect.specs.Words as spec;
@@ -29,7 +30,7 @@ fn blank_in(line: &[u8]) -> Option<usize>
     line.iter().position(|byte| is_blank(*byte))
 }
 
-/// The first line of a text, and the text behind its line feed.
+/// The first line of a text, and the text after its line feed.
 pub fn first_line(text: &[u8]) -> (&[u8], &[u8])
     requires { text.now ≢ [] }
     ensures lines { (sys : SystemTables) → (n : ℕ) → expectations_from sys n (lines_of text.now)
@@ -61,7 +62,7 @@ fn is_word(part: &[u8]) -> bool
     }
 }
 
-/// What stands before the first blank of a line, and what stands behind it.
+/// What stands before the first blank of a line, and what stands after it.
 fn first_part(line: &[u8]) -> (&[u8], &[u8])
     requires { line.now ≢ [] }
     ensures words { words_of line.now
@@ -74,7 +75,7 @@ fn first_part(line: &[u8]) -> (&[u8], &[u8])
     }
 }
 
-/// The first word of a line, and what stands behind it.
+/// The first word of a line, and what stands after it.
 pub fn next_word(line: &[u8]) -> Option<(&[u8], &[u8])>
     ensures word { MatchOption result (words_of line.now ≡ [])
         (λ next. words_of line.now ≡ next.0.now ∷ words_of next.1.now) }

@@ -4,6 +4,7 @@ pub mod MonitorLemmas
 pub mod NextLemmas
 pub mod SearchLemmas
 pub mod SearchStepLemmas
+pub mod SliceLemmas
 pub mod StateLemmas
 pub mod StuckLemmas
 pub mod TryingLemmas

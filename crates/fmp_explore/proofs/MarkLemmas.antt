@@ -29,7 +29,9 @@ use Rattle.fmp_kernel.specs.KernelViews.{KernelView}
 use Rattle.fmp_reachable.specs.Sound.{IsSound}
 use Rattle.fmp_schedules.specs.Deadlocks.{is_interrupt}
 use Rattle.fmp_schedules.specs.Schedules.{Watched, are_within, may_still, may_try, none_runs, stays_within}
+use Rattle.fmp_schedules.specs.Monitors.{all_let}
 use Rattle.fmp_schedules.proofs.IdleLaws.{each-none, none-each}
+use Rattle.fmp_schedules.proofs.MonitorLaws.{runs-let, ticks-let}
 use Rattle.fmp_schedules.proofs.TriedLaws.{other-nothing}
 use Rattle.fmp_explore.proofs.StateLemmas.{readable}
 
@@ -164,6 +166,17 @@ module _ (i : ImageTables) (n : ℕ) (q : Question) (w : World MachineContext) (
       ∙ sym (ap (λ (r : Reaction MachineContext). stays_within q.queued r) h.did) ∙ (may_parts e may).1 in
       cc (more, stays)
 
+  -- nor may an interrupt that a limit holds back
+  pub held_back : (e : Event) → all_let a.monitors e ≡ false → MayCome i n q w a e → ⊥
+  held_back (event.Run p) held may = cc (held, runs-let a.monitors p)
+  held_back event.Tick held may = cc (held, ticks-let a.monitors)
+  held_back (event.Int number) held may =
+      cc (
+        held,
+        and-right (may_still q.interrupts a.came) (all_let a.monitors (event.Int number))
+            (may_parts (event.Int number) may).0,
+      )
+
   -- where the code lets the clock not advance, the rules do not
   pub tick_never : (m : StateMarks) → AreMarks i n q w a m → q.ticks ≢ ticks.Any → m.idle ≡ false
       → MayCome i n q w a event.Tick → ⊥
@@ -173,4 +186,9 @@ module _ (i : ImageTables) (n : ℕ) (q : Question) (w : World MachineContext) (
     by_ticks ticks.Idle other e = cc (e, h.idle busy)
 
   pub interrupt_never : (number : ℕ) → may_still q.interrupts a.came ≡ false → MayCome i n q w a (event.Int number) → ⊥
-  interrupt_never number never may = cc ((may_parts (event.Int number) may).0, never)
+  interrupt_never number never may =
+      cc (
+        never,
+        and-left (may_still q.interrupts a.came) (all_let a.monitors (event.Int number))
+            (may_parts (event.Int number) may).0,
+      )

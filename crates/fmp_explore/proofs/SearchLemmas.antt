@@ -58,7 +58,7 @@ likeness outs i n =
     }
 
 -- where a list is longer, its first elements are the same
-element_before : {X : Type 0} (xs ys : List X) (k : ℕ) (x : X) → k < length xs → slice_get (xs ++ ys) k ≡ Some x
+pub element_before : {X : Type 0} (xs ys : List X) (k : ℕ) (x : X) → k < length xs → slice_get (xs ++ ys) k ≡ Some x
     → slice_get xs k ≡ Some x
 element_before [] ys k x lt e = absurd (omega (arith, lt))
 element_before (z ∷ xs) ys zero x lt e = e
@@ -117,32 +117,46 @@ module _ (i : ImageTables) (n : ℕ) (q : Question) where
             (h.first (g.sure sure)));
       }
 
-  -- one more state is examined
-  pub one_examined : (k : ℕ) (a b : Search) → IsSearching i n q k a → k < length a.seen.rows
-      → HasExamined i n q a b k → IsSearching i n q (k + 1) b
-  one_examined k a b h lt x =
+  -- the states up to a later place are examined
+  pub more_examined : (k end : ℕ) (a b : Search) → IsSearching i n q k a → k ≤ length a.seen.rows → Grows a b
+      → (b.sure ≡ true → (j : ℕ) (row : List ℕ) → k ≤ j → j < end → slice_get b.seen.rows j ≡ Some row
+      → IsExamined i n q (rows_of b) row) → IsSearching i n q end b
+  more_examined k end a b h le grows each =
       record {
-        begun = begun_later a b x.grows h.begun x.survey;
+        begun = begun_later a b grows h.begun (grows_search i q a b grows h.begun.survey);
         each = λ sure j row within there. by_order sure j row within there (cases_lt j k);
       } where
         there_before : (j : ℕ) (row : List ℕ) → j < length a.seen.rows → slice_get b.seen.rows j ≡ Some row
             → slice_get a.seen.rows j ≡ Some row
         there_before j row low there =
-            element_before a.seen.rows x.grows.more j row low
-            (ap (λ (rs : List (List ℕ)). slice_get rs j) (sym x.grows.rows) ∙ there)
+            element_before a.seen.rows grows.more j row low
+            (ap (λ (rs : List (List ℕ)). slice_get rs j) (sym grows.rows) ∙ there)
 
-        by_order : b.sure ≡ true → (j : ℕ) (row : List ℕ) → j < k + 1 → slice_get b.seen.rows j ≡ Some row
+        by_order : b.sure ≡ true → (j : ℕ) (row : List ℕ) → j < end → slice_get b.seen.rows j ≡ Some row
             → (j < k) ⊎ (k ≤ j) → IsExamined i n q (rows_of b) row
         by_order sure j row within there (inl low) =
-            let below : j < length a.seen.rows = omega (arith, low, lt) in
-            subst (λ (kept : KeptRows). IsExamined i n q kept row) (sym (grows_rows a b x.grows))
-            (examined_grown i n q (rows_of a) x.grows.more row
-            (h.each (x.grows.sure sure) j row low (there_before j row below there)))
-        by_order sure j row within there (inr past) =
-            let last : j ≡ k = omega (arith, within, past) in
-            x.examined sure row
-            (ap (λ (m : ℕ). slice_get a.seen.rows m) (sym last)
-            ∙ there_before j row (omega (arith, last, lt)) there)
+            let below : j < length a.seen.rows = omega (arith, low, le) in
+            subst (λ (kept : KeptRows). IsExamined i n q kept row) (sym (grows_rows a b grows))
+            (examined_grown i n q (rows_of a) grows.more row
+            (h.each (grows.sure sure) j row low (there_before j row below there)))
+        by_order sure j row within there (inr past) = each sure j row past within there
+
+  -- one more state is examined
+  pub one_examined : (k : ℕ) (a b : Search) → IsSearching i n q k a → k < length a.seen.rows
+      → HasExamined i n q a b k → IsSearching i n q (k + 1) b
+  one_examined k a b h lt x =
+      more_examined k (k + 1) a b h (omega (arith, lt)) x.grows
+      (λ sure j row past within there.
+      let last : j ≡ k = omega (arith, within, past) in
+      x.examined sure row
+      (ap (λ (m : ℕ). slice_get a.seen.rows m) (sym last)
+      ∙ element_before a.seen.rows x.grows.more j row (omega (arith, last, lt))
+      (ap (λ (rs : List (List ℕ)). slice_get rs j) (sym x.grows.rows) ∙ there)))
+
+  -- where states are examined, fewer are
+  pub fewer_examined : (k m : ℕ) (s : Search) → m ≤ k → IsSearching i n q k s → IsSearching i n q m s
+  fewer_examined k m s le h =
+      record { begun = h.begun; each = λ sure j row lt there. h.each sure j row (omega (arith, le, lt)) there }
 
   -- where no state is left, each was examined
   pub all_examined : (s : Search) (states : ℕ) → IsSearching i n q states s → length s.seen.rows ≤ states

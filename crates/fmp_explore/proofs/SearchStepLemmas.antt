@@ -161,7 +161,7 @@ grows_rows a b g =
 -- ---- one state
 
 -- an element that is there is what is read
-found_there : {X : Type 0} (xs : List X) (k : ℕ) (d x : X) → k < length xs → unwrap_or (slice_get xs k) d ≡ x
+pub found_there : {X : Type 0} (xs : List X) (k : ℕ) (d x : X) → k < length xs → unwrap_or (slice_get xs k) d ≡ x
     → slice_get xs k ≡ Some x
 found_there [] k d x lt e = absurd (omega (arith, lt))
 found_there (y ∷ xs) zero d x lt e = ap Some e

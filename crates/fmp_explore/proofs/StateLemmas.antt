@@ -15,6 +15,7 @@ use Rattle.fmp_question.specs.Forbidden.{forbids}
 use Rattle.fmp_question.specs.Places.{forbids_there}
 use Rattle.fmp_question.specs.Rules.{rules_of}
 use Rattle.fmp_explore.specs.Searching.{came_on}
+use Rattle.fmp_explore.specs.Slices.{IsAmong}
 use Rattle.fmp_explore.specs.States.{AreMonitorsOf, HasRow, IsExamined, IsKept, IsTriedOut, KeptRows, LeadsOn, counted}
 use Rattle.fmp_explore.specs.States.{numbers_in, reaction_in, watched_with}
 use Rattle.fmp_fields.specs.FieldNumbers.{number_of}
@@ -40,9 +41,17 @@ use Rattle.fmp_explore.proofs.MonitorLemmas.{append-parts, held-length, held-tol
 
 -- ---- more rows
 
+-- other rows in place of those that are kept
+abbrev pub with_rows : KeptRows → List (List ℕ) → KeptRows
+with_rows kept rows = record kept { rows = rows }
+
 -- the rows with more behind them
 abbrev pub grown : KeptRows → List (List ℕ) → KeptRows
-grown kept more = record kept { rows = kept.rows ++ more }
+grown kept more = with_rows kept (kept.rows ++ more)
+
+-- each row is one of the others
+abbrev pub AreAmong : (rows others : List (List ℕ)) → Type 0
+AreAmong rows others = (k : ℕ) (row : List ℕ) → slice_get rows k ≡ Some row → IsAmong others row
 
 -- an element of a list is one of a longer list
 pub element_stays : {X : Type 0} (xs ys : List X) (k : ℕ) (x : X) → slice_get xs k ≡ Some x
@@ -55,11 +64,21 @@ pub element_last : {X : Type 0} (xs : List X) (x : X) → slice_get (xs ++ x ∷
 element_last [] x = refl
 element_last (y ∷ xs) x = element_last xs x
 
+pub among_more : (rows more : List (List ℕ)) → AreAmong rows (rows ++ more)
+among_more rows more k row e = record { place = k; there = element_stays rows more k row e }
+
 module _ (i : ImageTables) (n : ℕ) (q : Question) where
+  abbrev pub Leads : KeptRows → Watched → Reaction MachineContext → Type 0
+  Leads kept a r =
+      LeadsIn (IsLike kept.outs i.system i.code) (watch (rules_of q) (forbids q.nevers.items)) (IsKept i q kept) a r
+
+  abbrev Silent : Reaction MachineContext → Type 0
+  Silent r = IsSilent (forbids_there i.system q.nevers_at.items) r
+
   -- a row says nothing of the other rows
-  pub row_grown : (kept : KeptRows) (more : List (List ℕ)) (w : World MachineContext) (a : Watched) (row : List ℕ)
-      → HasRow i q kept w a row → HasRow i q (grown kept more) w a row
-  row_grown kept more w a row h =
+  pub row_with : (kept : KeptRows) (rows : List (List ℕ)) (w : World MachineContext) (a : Watched) (row : List ℕ)
+      → HasRow i q kept w a row → HasRow i q (with_rows kept rows) w a row
+  row_with kept rows w a row h =
       record {
         sound = h.sound;
         came = h.came;
@@ -71,54 +90,61 @@ module _ (i : ImageTables) (n : ℕ) (q : Question) where
         is = h.is;
       }
 
+  -- ---- what is so of rows is so where each is one of others
+
+  module _ (kept : KeptRows) (rows : List (List ℕ)) (all : AreAmong kept.rows rows) where
+    pub kept_with : (w : World MachineContext) (a : Watched) → IsKept i q kept w a
+        → IsKept i q (with_rows kept rows) w a
+    kept_with w a h =
+        let at : IsAmong rows h.row = all h.state h.row h.there in
+        record { state = at.place; row = h.row; there = at.there; has = row_with kept rows w a h.row h.has }
+
+    covered_with : (w : World MachineContext) (a : Watched)
+        → IsCovered (IsLike kept.outs i.system i.code) (IsKept i q kept) w a
+        → IsCovered (IsLike kept.outs i.system i.code) (IsKept i q (with_rows kept rows)) w a
+    covered_with w a c = record { world = c.world; alike = c.alike; kept = kept_with c.world a c.kept }
+
+    leads_with : (a : Watched) (r : Reaction MachineContext) → Leads kept a r → Leads (with_rows kept rows) a r
+    leads_with a Nothing l = tt
+    leads_with a (Did d) l = covered_with d.world _ l
+    leads_with a (Kept p w) l = covered_with w a l
+
+    pub leads_on_with : (w : World MachineContext) (a : Watched) (e : Event) → LeadsOn i n q kept w a e
+        → LeadsOn i n q (with_rows kept rows) w a e
+    leads_on_with w a e l =
+        record { fit = l.fit; leads = leads_with a (reaction_in i n w e) l.leads; silent = l.silent }
+
+    tried_out_with : (w : World MachineContext) (a : Watched) → IsTriedOut i n q kept w a
+        → IsTriedOut i n q (with_rows kept rows) w a
+    tried_out_with w a t =
+        record { each = λ e is may. leads_on_with w a e (t.each e is may); upheld = t.upheld; free = t.free }
+
+    pub examined_with : (row : List ℕ) → IsExamined i n q kept row → IsExamined i n q (with_rows kept rows) row
+    examined_with row x =
+        record {
+          world = x.world;
+          watched = x.watched;
+          has = row_with kept rows x.world x.watched row x.has;
+          tried = tried_out_with x.world x.watched x.tried;
+        }
+
+  -- ---- where there are more rows
+
+  pub row_grown : (kept : KeptRows) (more : List (List ℕ)) (w : World MachineContext) (a : Watched) (row : List ℕ)
+      → HasRow i q kept w a row → HasRow i q (grown kept more) w a row
+  row_grown kept more w a row h = row_with kept (kept.rows ++ more) w a row h
+
   pub kept_grown : (kept : KeptRows) (more : List (List ℕ)) (w : World MachineContext) (a : Watched)
       → IsKept i q kept w a → IsKept i q (grown kept more) w a
-  kept_grown kept more w a h =
-      record {
-        state = h.state;
-        row = h.row;
-        there = element_stays kept.rows more h.state h.row h.there;
-        has = row_grown kept more w a h.row h.has;
-      }
-
-  abbrev pub Leads : KeptRows → Watched → Reaction MachineContext → Type 0
-  Leads kept a r =
-      LeadsIn (IsLike kept.outs i.system i.code) (watch (rules_of q) (forbids q.nevers.items)) (IsKept i q kept) a r
-
-  abbrev Silent : Reaction MachineContext → Type 0
-  Silent r = IsSilent (forbids_there i.system q.nevers_at.items) r
-
-  covered_grown : (kept : KeptRows) (more : List (List ℕ)) (w : World MachineContext) (a : Watched)
-      → IsCovered (IsLike kept.outs i.system i.code) (IsKept i q kept) w a
-      → IsCovered (IsLike kept.outs i.system i.code) (IsKept i q (grown kept more)) w a
-  covered_grown kept more w a c =
-      record { world = c.world; alike = c.alike; kept = kept_grown kept more c.world a c.kept }
-
-  leads_grown : (kept : KeptRows) (more : List (List ℕ)) (a : Watched) (r : Reaction MachineContext)
-      → Leads kept a r → Leads (grown kept more) a r
-  leads_grown kept more a Nothing l = tt
-  leads_grown kept more a (Did d) l = covered_grown kept more d.world _ l
-  leads_grown kept more a (Kept p w) l = covered_grown kept more w a l
+  kept_grown kept more w a h = kept_with kept (kept.rows ++ more) (among_more kept.rows more) w a h
 
   pub leads_on_grown : (kept : KeptRows) (more : List (List ℕ)) (w : World MachineContext) (a : Watched) (e : Event)
       → LeadsOn i n q kept w a e → LeadsOn i n q (grown kept more) w a e
-  leads_on_grown kept more w a e l =
-      record { fit = l.fit; leads = leads_grown kept more a (reaction_in i n w e) l.leads; silent = l.silent }
-
-  pub tried_out_grown : (kept : KeptRows) (more : List (List ℕ)) (w : World MachineContext) (a : Watched)
-      → IsTriedOut i n q kept w a → IsTriedOut i n q (grown kept more) w a
-  tried_out_grown kept more w a t =
-      record { each = λ e is may. leads_on_grown kept more w a e (t.each e is may); upheld = t.upheld; free = t.free }
+  leads_on_grown kept more w a e l = leads_on_with kept (kept.rows ++ more) (among_more kept.rows more) w a e l
 
   pub examined_grown : (kept : KeptRows) (more : List (List ℕ)) (row : List ℕ) → IsExamined i n q kept row
       → IsExamined i n q (grown kept more) row
-  examined_grown kept more row x =
-      record {
-        world = x.world;
-        watched = x.watched;
-        has = row_grown kept more x.world x.watched row x.has;
-        tried = tried_out_grown kept more x.world x.watched x.tried;
-      }
+  examined_grown kept more row x = examined_with kept (kept.rows ++ more) (among_more kept.rows more) row x
 
   -- ---- one row
 

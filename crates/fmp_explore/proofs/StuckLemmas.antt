@@ -7,6 +7,7 @@ use Rattle.fmp_base.specs.Meanings.{World}
 use Rattle.fmp_base.specs.declared.states.Phase.{Phase}
 use Rattle.fmp_base.specs.declared.states.Phase.TheVariants.{Dormant}
 use Rattle.fmp_base.specs.Runs.{run}
+use Rattle.fmp_base.specs.Setups.{setup}
 use Rattle.fmp_base.specs.States.{task_at}
 use Rattle.fmp_base.specs.TaskCalls.{is_dormant}
 use Rattle.fmp_base.specs.Steps.{step}
@@ -31,7 +32,7 @@ use Rattle.fmp_schedules.specs.Likeness.{IsClosedUnder}
 use Rattle.fmp_replay.specs.Replays.{replay}
 use Rattle.fmp_replay.proofs.Replaying.{world_of}
 use Rattle.fmp_schedules.specs.Deadlocks.{is_interrupt}
-use Rattle.fmp_schedules.specs.Schedules.{Watched, is_told, may_come, reached, watch}
+use Rattle.fmp_schedules.specs.Schedules.{Watched, is_told, may_come, monitors_after, reached, watch}
 use Rattle.fmp_schedules.specs.declared.monitor.Monitor.{Monitor}
 use Rattle.fmp_schedules.specs.Stuck.{MayFollow, acts}
 use Rattle.fmp_schedules.proofs.HoldLaws.{or-none, rules_with}
@@ -76,12 +77,14 @@ module _ (i : ImageTables) (n : ℕ) (q : Question) (s : Search) (h : IsWhole i 
 
   -- no forbidden line is told behind the events where the search began
   pub none_follows : NoneFollows i n q
-  none_follows more follow =
+  none_follows none more follow =
       none-behind (rules_of q) i.system (code_meaning i.code) n (forbids q.nevers.items) K
       (forbids-timeless q.nevers.items) (IsLike s.rows.outs i.system i.code) (IsFit s.rows.outs i.system i.code n)
       (likeness s.rows.outs i n) closed
       (clean i n q s h.begun.survey) q.after.items more
-      (watched_first i q) refl (came_counted q.interrupts (count_by is_interrupt q.after.items)) first follow
+      (watched_first i q) refl
+      (ap (λ (ms : List Monitor). monitors_after ms (setup i.system (code_meaning i.code)).lines) none)
+      (came_counted q.interrupts (count_by is_interrupt q.after.items)) first follow
 
 -- the rules let the same events follow, whatever monitors are watched
 follow_too : (i : ImageTables) (n : ℕ) (idle : Bool) (most queued : Option ℕ) (ss ts : List Monitor)
@@ -111,7 +114,7 @@ none_acts i n q about es t is none more follow =
     ∙ told-too (acts t) (forbids about.nevers.items)
     (λ l. or-none (acts t l) ∙ ap (λ (nevers : List Never). forbids nevers l) (sym is.nevers))
     (run i.system (code_meaning i.code) n (reached i.system (code_meaning i.code) n about.after.items) more).events
-    ∙ none more
+    ∙ none is.monitors more
     (follow_too i n (is_idle about.ticks) about.interrupts about.queued q.monitors.items about.monitors.items
     about.after.items more moved)
 

@@ -1,3 +1,4 @@
 pub mod Behind
 pub mod Searching
+pub mod Slices
 pub mod States

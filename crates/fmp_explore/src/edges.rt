@@ -85,6 +85,11 @@ impl Edges {
         if self.lost { Err(AllocError) } else { Ok(self) }
     }
 
+    /// Whether some of the events are missing, since memory ran out.
+    pub fn is_lost(&self) -> bool {
+        self.lost
+    }
+
     /// How many states were examined, if none of their events is missing.
     fn len(&self) -> usize {
         self.firsts.len()
@@ -206,6 +211,38 @@ impl Edges {
     pub fn note_waiting(&mut self, alloc: Global) {
         let state = self.state();
         if !self.lost && self.waiting.push(state).is_err() {
+            self.give_up(alloc);
+        }
+    }
+
+    /// Adds the events of other states, which were examined after these, where the state at each place of the others
+    /// stands at this one.
+    fn push_all(&mut self, other: &Edges, places: &[u32]) -> Result<(), AllocError> {
+        let Ok(base) = u32::try_from(self.targets.len()) else {
+            return Err(AllocError);
+        };
+        for target in &other.targets {
+            self.targets.push(at(places, *target as usize))?;
+        }
+        for first in &other.firsts {
+            self.firsts.push(base.saturating_add(*first))?;
+        }
+        self.acting.extend_from_slice(&other.acting)?;
+        for state in &other.ends {
+            self.ends.push(at(places, *state as usize))?;
+        }
+        for state in &other.waiting {
+            self.waiting.push(at(places, *state as usize))?;
+        }
+        Ok(())
+    }
+
+    /// The same. Where one of them is missing, all is forgotten.
+    pub fn join(&mut self, alloc: Global, other: &Edges, places: &[u32]) {
+        if self.lost {
+            return;
+        }
+        if other.lost || self.push_all(other, places).is_err() {
             self.give_up(alloc);
         }
     }

@@ -1,5 +1,5 @@
 //! Exploring every schedule of an image.
-ghost use Rattle.std.specs.Prelude.{◌≡◌, ◌≤◌, ◌^◌, [], All, IfOk, IfSome, IsTrue, true};
+ghost use Rattle.std.specs.Prelude.{◌≡◌, [], All, IfOk, IfSome, IsTrue, true};
 ghost use Rattle.fmp_instructions.specs.Machine.{code_meaning};
 ghost use Rattle.fmp_schedules.specs.Schedules.{Holds, HoldsThere};
 ghost use Rattle.fmp_witness.specs.Findings.{IsFound};
@@ -8,6 +8,7 @@ ghost use Rattle.fmp_question.specs.Places.{forbids_there};
 ghost use Rattle.fmp_question.specs.Rules.{rules_of};
 ghost use Rattle.fmp_explore.specs.Searching.{HasEnded, IsBegun, NothingIsFound};
 
+use crate::crew::{Alone, Crew, Workers};
 use crate::finding::{add_confirmed, confirmed, shortest_alone};
 use crate::notes::is_beside;
 use crate::searches::Search;
@@ -19,6 +20,7 @@ use fmp_image_bytes::Image;
 use fmp_question::Question;
 use fmp_witness::{Coverage, Finding};
 use std::alloc::{AllocError, Global};
+use std::thread::Threads;
 
 /// What a search came to.
 #[derive(Drop)]
@@ -43,6 +45,8 @@ pub struct Report {
     pub waits: bool,
     /// What was ever done.
     pub coverage: Coverage,
+    /// For each monitor of the question, whether what its sentence speaks of ever came, so that it says something.
+    pub premises: Vec<bool>,
     /// How many values each field of a state has, where the search stopped at a limit.
     pub varieties: Vec<Variety>,
 }
@@ -51,7 +55,7 @@ pub struct Report {
 fn table(alloc: Global, survey: &Search, ending: Ending) -> Vec<Variety> {
     match ending {
         Ending::Whole | Ending::Enough => Vec::new(alloc),
-        Ending::States | Ending::Memory => {
+        Ending::States | Ending::Time | Ending::Memory => {
             match survey.varieties(alloc) {
                 Ok(table) => table,
                 Err(_) => Vec::new(alloc),
@@ -77,7 +81,7 @@ fn asked_for(
 fn is_whole(ending: Ending) -> bool {
     match ending {
         Ending::Whole => true,
-        Ending::Enough | Ending::States | Ending::Memory => false,
+        Ending::Enough | Ending::States | Ending::Time | Ending::Memory => false,
     }
 }
 
@@ -101,8 +105,6 @@ fn with_stuck(
     mut findings: Vec<Finding>,
     more: Suspicions,
 ) -> SearchFindings
-    requires low { 1 ≤ n }
-    requires high { n ≤ 2 ^ 48 }
     requires found { All (IsFound image.now n question.now) findings.items }
     ensures { All (IsFound image.now n question.now) result.findings.items }
 {
@@ -129,8 +131,6 @@ fn findings_of(
     survey: &mut Search,
     ending: Ending,
 ) -> Result<SearchFindings, AllocError>
-    requires low { 1 ≤ n }
-    requires high { n ≤ 2 ^ 48 }
     ensures { IfOk result (λ found. All (IsFound image.now n question.now) found.findings.items) }
 {
     let candidates = asked_for(alloc, question, survey.take_candidates(alloc)?)?;
@@ -154,7 +154,7 @@ fn shows_all(survey: &Search, question: &Question, ending: Ending) -> bool
 {
     match ending {
         Ending::Whole => survey.sure && question.after.is_empty(),
-        Ending::Enough | Ending::States | Ending::Memory => false,
+        Ending::Enough | Ending::States | Ending::Time | Ending::Memory => false,
     }
 }
 
@@ -167,8 +167,6 @@ fn make_report(
     survey: &mut Search,
     ending: Ending,
 ) -> Result<Report, AllocError>
-    requires low { 1 ≤ n }
-    requires high { n ≤ 2 ^ 48 }
     requires holds { ending ≡ Ending.Whole → survey.old.sure ≡ true → question.now.after.items ≡ [] →
         NothingIsFound image.now n question.now }
     ensures findings { IfOk result (λ r. All (IsFound image.now n question.now) r.findings.items) }
@@ -186,6 +184,7 @@ fn make_report(
         depth: survey.depth(),
         waits: found.waits,
         coverage: survey.take_coverage(alloc),
+        premises: survey.take_premises(alloc),
         varieties: table(alloc, survey, ending),
     })
 }
@@ -205,16 +204,18 @@ pub fn start_search(
 }
 
 /// Runs a search to its end: why it ended.
-pub fn run_search<W: SearchWatcher>(
+pub fn run_search<W: SearchWatcher, C: Crew>(
     alloc: Global,
+    crew: &C,
     survey: &mut Search,
     subject: &SearchSubject<'_>,
     watcher: &mut W,
 ) -> Ending
-    requires { IsBegun subject.now.image.now subject.now.n subject.now.question.now survey.old }
+    requires begun { IsBegun subject.now.image.now subject.now.n subject.now.question.now survey.old }
+    requires crew { C.can_work crew.now }
     ensures { HasEnded subject.now.image.now subject.now.n subject.now.question.now survey.new result }
 {
-    match survey.run(alloc, subject, watcher) {
+    match survey.run(alloc, crew, subject, watcher) {
         Ok(ending) => ending,
         Err(_) => Ending::Memory,
     }
@@ -222,18 +223,20 @@ pub fn run_search<W: SearchWatcher>(
 
 /// Explores the schedules of an image in one search, in which the local at the out place of a call counts as written by
 /// every reply. None where a reply left one as it was.
-fn explore_written<W: SearchWatcher>(
+fn explore_written<W: SearchWatcher, C: Crew>(
     alloc: Global,
+    crew: &C,
     subject: &SearchSubject<'_>,
     watcher: &mut W,
 ) -> Result<Option<Report>, AllocError>
+    requires { C.can_work crew.now }
     ensures findings { IfOk result (λ found. IfSome found (λ r. All (IsFound subject.now.image.now subject.now.n
         subject.now.question.now) r.findings.items)) }
     ensures holds { IfOk result (λ found. IfSome found (λ r. r.holds ≡ true → NothingIsFound subject.now.image.now
         subject.now.n subject.now.question.now)) }
 {
     let mut survey = start_search(alloc, true, subject)?;
-    let ending = run_search(alloc, &mut survey, subject, watcher);
+    let ending = run_search(alloc, crew, &mut survey, subject, watcher);
     if survey.unwritten {
         return Ok(None);
     }
@@ -250,18 +253,20 @@ fn explore_written<W: SearchWatcher>(
 }
 
 /// The same, in a search in which it counts as written by E_OK alone.
-fn explore_plainly<W: SearchWatcher>(
+fn explore_plainly<W: SearchWatcher, C: Crew>(
     alloc: Global,
+    crew: &C,
     subject: &SearchSubject<'_>,
     watcher: &mut W,
 ) -> Result<Report, AllocError>
+    requires { C.can_work crew.now }
     ensures findings { IfOk result (λ r. All (IsFound subject.now.image.now subject.now.n subject.now.question.now)
         r.findings.items) }
     ensures holds { IfOk result (λ r. r.holds ≡ true → NothingIsFound subject.now.image.now subject.now.n
         subject.now.question.now) }
 {
     let mut survey = start_search(alloc, false, subject)?;
-    let ending = run_search(alloc, &mut survey, subject, watcher);
+    let ending = run_search(alloc, crew, &mut survey, subject, watcher);
     make_report(
         alloc,
         subject.image,
@@ -273,23 +278,25 @@ fn explore_plainly<W: SearchWatcher>(
 }
 
 /// Explores the schedules of an image in one search; in another one too, where a reply left an out place as it was.
-fn explore_subject<W: SearchWatcher>(
+fn explore_subject<W: SearchWatcher, C: Crew>(
     alloc: Global,
+    crew: &C,
     subject: &SearchSubject<'_>,
     watcher: &mut W,
 ) -> Result<Report, AllocError>
+    requires { C.can_work crew.now }
     ensures findings { IfOk result (λ r. All (IsFound subject.now.image.now subject.now.n subject.now.question.now)
         r.findings.items) }
     ensures holds { IfOk result (λ r. r.holds ≡ true → NothingIsFound subject.now.image.now subject.now.n
         subject.now.question.now) }
 {
-    match explore_written(alloc, subject, watcher)? {
+    match explore_written(alloc, crew, subject, watcher)? {
         Some(report) => Ok(report),
-        None => explore_plainly(alloc, subject, watcher),
+        None => explore_plainly(alloc, crew, subject, watcher),
     }
 }
 
-/// Explores the schedules of an image, in which a stretch of a body takes at most n instructions, 1 to 2^48. Each
+/// Explores the schedules of an image, in which a stretch of a body takes at most n instructions. Each
 /// finding is so: its events do something, one after the other, and after them it is seen. If the report holds, no
 /// schedule that the question allows tells a forbidden line, gives a call an answer that it must never get, breaks a
 /// sentence, or reaches a deadlock, however long it is. If it does not hold and has no finding, nothing is claimed.
@@ -301,8 +308,6 @@ pub fn explore<W: SearchWatcher>(
     question: &Question,
     watcher: &mut W,
 ) -> Result<Report, AllocError>
-    requires low { 1 ≤ n }
-    requires high { n ≤ 2 ^ 48 }
     ensures findings { IfOk result (λ r. All (IsFound image.now n question.now) r.findings.items) }
     ensures holds { IfOk result (λ r. r.holds ≡ true → Holds (rules_of question.now) image.now.system
         (code_meaning image.now.code) n (forbids question.now.nevers.items) question.now.rest.items) }
@@ -311,5 +316,27 @@ pub fn explore<W: SearchWatcher>(
         (forbids_there image.now.system question.now.nevers_at.items)) }
 {
     let subject = SearchSubject { image, n, question };
-    explore_subject(alloc, &subject, watcher)
+    explore_subject(alloc, &Alone, &subject, watcher)
+}
+
+/// The same, by as many threads as there are jobs, or one after the other where none can be made. What it gives is the
+/// same for each number of jobs, but where its time is over.
+pub fn explore_beside<W: SearchWatcher, R: Threads + Sync>(
+    alloc: Global,
+    rt: &R,
+    jobs: usize,
+    image: &Image,
+    n: u64,
+    question: &Question,
+    watcher: &mut W,
+) -> Result<Report, AllocError>
+    ensures findings { IfOk result (λ r. All (IsFound image.now n question.now) r.findings.items) }
+    ensures holds { IfOk result (λ r. r.holds ≡ true → Holds (rules_of question.now) image.now.system
+        (code_meaning image.now.code) n (forbids question.now.nevers.items) question.now.rest.items) }
+    ensures there { IfOk result (λ r. r.holds ≡ true → HoldsThere (rules_of question.now) image.now.system
+        (code_meaning image.now.code) n (forbids question.now.nevers.items)
+        (forbids_there image.now.system question.now.nevers_at.items)) }
+{
+    let subject = SearchSubject { image, n, question };
+    explore_subject(alloc, &Workers { rt, jobs }, &subject, watcher)
 }

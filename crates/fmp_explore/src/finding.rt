@@ -1,5 +1,5 @@
 //! Which of the candidates that a search has noted are so, and which of them are told.
-ghost use Rattle.std.specs.Prelude.{◌≡◌, ◌≤◌, ◌^◌, [], All, IfOk, IsTrue, OnOk};
+ghost use Rattle.std.specs.Prelude.{◌≡◌, [], All, IfOk, IsTrue, OnOk};
 ghost use Rattle.fmp_replay.specs.Replays.{kernel_after};
 ghost use Rattle.fmp_witness.specs.Findings.{IsFound, IsSo};
 
@@ -25,8 +25,6 @@ fn is_shown_on<'a>(
     steps: &[Event],
     kind: FindingKind,
 ) -> Result<bool, AllocError>
-    requires low { 1 ≤ n }
-    requires high { n ≤ 2 ^ 48 }
     requires begun { kernel.old ≡ kernel_after image.now n [] }
     ensures { IfOk result (λ shown. IsTrue shown → IsSo image.now n question.now steps.now kind) }
 {
@@ -46,8 +44,6 @@ fn is_shown(
     steps: &[Event],
     kind: FindingKind,
 ) -> Result<bool, AllocError>
-    requires low { 1 ≤ n }
-    requires high { n ≤ 2 ^ 48 }
     ensures { IfOk result (λ found. IsTrue found → IsSo image.now n question.now steps.now kind) }
 {
     let mut kernel = kernel_of(alloc, image, n)?;
@@ -64,8 +60,6 @@ fn is_found(
     question: &Question,
     finding: &Finding,
 ) -> Result<bool, AllocError>
-    requires low { 1 ≤ n }
-    requires high { n ≤ 2 ^ 48 }
     ensures { IfOk result (λ found. IsTrue found → IsFound image.now n question.now finding.now) }
 {
     is_shown(alloc, image, n, question, &finding.steps, finding.kind)
@@ -80,8 +74,6 @@ fn add_if_found(
     findings: &mut Vec<Finding>,
     finding: Finding,
 ) -> Result<(), AllocError>
-    requires low { 1 ≤ n }
-    requires high { n ≤ 2 ^ 48 }
     requires found { All (IsFound image.now n question.now) findings.old.items }
     ensures { All (IsFound image.now n question.now) findings.new.items }
 {
@@ -103,8 +95,6 @@ pub fn add_confirmed(
     findings: &mut Vec<Finding>,
     candidates: Vec<Finding>,
 ) -> Result<(), AllocError>
-    requires low { 1 ≤ n }
-    requires high { n ≤ 2 ^ 48 }
     requires found { All (IsFound image.now n question.now) findings.old.items }
     ensures { All (IsFound image.now n question.now) findings.new.items }
 {
@@ -122,8 +112,6 @@ pub fn confirmed(
     question: &Question,
     candidates: Vec<Finding>,
 ) -> Result<Vec<Finding>, AllocError>
-    requires low { 1 ≤ n }
-    requires high { n ≤ 2 ^ 48 }
     ensures { IfOk result (λ findings. All (IsFound image.now n question.now) findings.items) }
 {
     let mut findings = Vec::new(alloc);

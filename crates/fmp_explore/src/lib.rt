@@ -3,14 +3,18 @@
 #![tactic(auto)]
 
 mod beginning;
+mod crew;
 mod edges;
+mod entering;
 mod exploring;
 mod finding;
 mod notes;
 mod outlooks;
+mod rounds;
 mod rows;
 mod searches;
 mod searching;
+mod slices;
 mod standing;
 mod standings;
 mod stretching;
@@ -19,7 +23,7 @@ mod subject;
 mod trying;
 mod values;
 
-pub use exploring::{Report, explore};
+pub use exploring::{Report, explore, explore_beside};
 pub use fmp_question::{ANSWERS, CallSite, Never, NeverAt, Question, Ticks};
 pub use fmp_schedules::{Breach, Monitor};
 pub use fmp_witness::{

@@ -10,8 +10,9 @@ use crate::subject::SearchSubject;
 use fmp_base::{Event, Line};
 use fmp_code::Vm;
 use fmp_kernel::Kernel;
+use fmp_monitors::{has_premise, is_premise};
 use fmp_question::{CallSite, first_bad_at, first_forbidden, is_bad};
-use fmp_schedules::Monitor;
+use fmp_schedules::{Monitor, MonitorSubject};
 use fmp_tasks::KernelState;
 use fmp_visited::Seen;
 use fmp_witness::{Coverage, Finding, FindingKind, SentenceBreach};
@@ -41,6 +42,8 @@ pub struct Notes {
     /// What is known of bodies that may go on for ever.
     pub outlooks: Outlooks,
     pub coverage: Coverage,
+    /// For each monitor of the question, whether what its sentence speaks of has come.
+    premises: Vec<bool>,
     /// The last call of each task in the state that is examined: where it waits, the one in which it does.
     pub sites: Vec<CallSite>,
     /// How many events did something.
@@ -120,6 +123,16 @@ fn is_of_kind(
     is_same && known.finding.site == site
 }
 
+/// Whether one of these lines tells what the sentence of a monitor speaks of.
+fn tells_premise(monitor: &Monitor, lines: &[Line]) -> bool {
+    match monitor.subject {
+        MonitorSubject::Sentence(sentence) => {
+            has_premise(&sentence) && lines.iter().any(|line| is_premise(&sentence, *line))
+        }
+        MonitorSubject::Limit(_) => false,
+    }
+}
+
 impl Notes {
     /// Nothing is noted yet, and nothing can be covered.
     pub fn new(alloc: Global) -> Notes {
@@ -127,9 +140,44 @@ impl Notes {
             candidates: Vec::new(alloc),
             outlooks: Outlooks::new(alloc),
             coverage: Coverage::nothing(alloc),
+            premises: Vec::new(alloc),
             sites: Vec::new(alloc),
             events: 0,
         }
+    }
+
+    /// Nothing is noted yet of the system of a kernel but what is known of bodies that may go on for ever. `AllocError`
+    /// if memory runs out.
+    pub fn again(
+        &self,
+        alloc: Global,
+        subject: &SearchSubject<'_>,
+        kernel: &Kernel<Vm<'_>>,
+    ) -> Result<Notes, AllocError> {
+        let mut notes = Notes::new(alloc);
+        notes.outlooks = self.outlooks.again(alloc)?;
+        notes.cover(alloc, subject, kernel)?;
+        Ok(notes)
+    }
+
+    /// Whether a candidate of the same kind is noted at the same call.
+    fn has_alike(&self, other: &Candidate) -> bool {
+        let found = &other.finding;
+        self.candidates.iter().any(|known| is_of_kind(known, found.kind, found.site, other.broken))
+    }
+
+    /// Whether other notes have no candidate of a kind of its own, and nothing new about bodies that go on for ever.
+    pub fn knows(&self, other: &Notes) -> bool {
+        !other.outlooks.changed && other.candidates.iter().all(|found| self.has_alike(found))
+    }
+
+    /// Adds what is noted elsewhere, but for candidates.
+    pub fn join(&mut self, other: &Notes) {
+        self.coverage.join(&other.coverage);
+        for (mine, theirs) in self.premises.iter_mut().zip(&other.premises) {
+            *mine |= *theirs;
+        }
+        self.events = self.events.saturating_add(other.events);
     }
 
     /// Makes room for what is done in the system of a kernel. `AllocError` if memory runs out.
@@ -140,6 +188,7 @@ impl Notes {
         kernel: &Kernel<Vm<'_>>,
     ) -> Result<(), AllocError> {
         self.coverage = Coverage::new(alloc, kernel.tables(), subject.image.code())?;
+        self.premises = vec![in alloc; false; subject.question.monitors.len()]?;
         Ok(())
     }
 
@@ -157,10 +206,31 @@ impl Notes {
         mem::replace(&mut self.coverage, Coverage::nothing(alloc))
     }
 
+    /// For each monitor, whether what its sentence speaks of has come, which is forgotten.
+    pub fn take_premises(&mut self, alloc: Global) -> Vec<bool> {
+        mem::replace(&mut self.premises, Vec::new(alloc))
+    }
+
+    /// Notes of which monitors these lines tell what their sentences speak of.
+    fn note_premises(&mut self, monitors: &[Monitor], lines: &[Line]) {
+        for (place, monitor) in monitors.iter().enumerate() {
+            if let Some(comes) = self.premises.get_mut(place) {
+                *comes = *comes || tells_premise(monitor, lines);
+            }
+        }
+    }
+
     /// Whether a candidate has at most this many steps, and the search does not go on beside it.
     pub fn has_within(&self, depth: usize) -> bool {
         self.candidates.iter().any(|known| known.finding.steps.len() <= depth
             && !is_beside(&known.finding))
+    }
+
+    /// Whether anything beside which the search does not go on is noted.
+    pub fn has_any(&self) -> bool {
+        self.candidates
+            .iter()
+            .any(|known| !is_beside(&known.finding))
     }
 
     /// Adds a candidate of a list of events, unless there is one of its kind at the same call. `AllocError` if memory
@@ -231,9 +301,8 @@ impl Notes {
         Ok(bad)
     }
 
-    /// Notes the lines that a kernel has just told, by an event that made this call, if it made one, or by setup:
-    /// whether one of them must never be told. `AllocError` if memory runs out.
-    pub fn note_lines(
+    /// Notes what each line tells that a kernel has just told: whether one of them must never be told.
+    fn note_each(
         &mut self,
         alloc: Global,
         subject: &SearchSubject<'_>,
@@ -252,6 +321,23 @@ impl Notes {
             }
         }
         Ok(found)
+    }
+
+    /// Notes the lines that a kernel has just told, by an event that made this call, if it made one, or by setup:
+    /// whether one of them must never be told. `AllocError` if memory runs out.
+    pub fn note_lines(
+        &mut self,
+        alloc: Global,
+        subject: &SearchSubject<'_>,
+        kernel: &Kernel<Vm<'_>>,
+        path: Path<'_>,
+        made: Option<CallSite>,
+    ) -> Result<bool, AllocError>
+        ensures { IfOk result (λ found. found ≡ list_any (is_bad_line subject.now.image.now.system
+            subject.now.question.now kernel.now.world) kernel.now.lines) }
+    {
+        self.note_premises(&subject.question.monitors, kernel.lines());
+        self.note_each(alloc, subject, kernel, path, made)
     }
 
     /// Notes that one of the lines of a path's last event breaks the sentence of this number, if one does: whether one

@@ -26,6 +26,8 @@ pub struct Outlooks {
     next: usize,
     /// The bodies that were looked at without an answer. They are not looked at again.
     unknown: Vec<u8>,
+    /// Whether anything was remembered since these were made.
+    pub changed: bool,
 }
 
 /// Whether this is known of an actor.
@@ -40,7 +42,18 @@ impl Outlooks {
             known: Vec::new(alloc),
             next: 0,
             unknown: Vec::new(alloc),
+            changed: false,
         }
+    }
+
+    /// The same is known, and nothing was remembered since. `AllocError` if memory runs out.
+    pub fn again(&self, alloc: Global) -> Result<Outlooks, AllocError> {
+        Ok(Outlooks {
+            known: Vec::from_slice(alloc, &self.known)?,
+            next: self.next,
+            unknown: Vec::from_slice(alloc, &self.unknown)?,
+            changed: false,
+        })
     }
 
     /// What is known of an actor, if something is.
@@ -63,6 +76,7 @@ impl Outlooks {
         actor: &Actor<MachineContext>,
         outlook: Outlook,
     ) -> Result<(), AllocError> {
+        self.changed = true;
         let known = Known {
             entry: actor.entry,
             context: actor.context,
@@ -88,6 +102,7 @@ impl Outlooks {
             return Ok(known);
         }
         let seen = outlook_of(body, actor.entry, actor.context);
+        self.changed = true;
         match seen {
             Outlook::Unknown => self.unknown.push(actor.entry)?,
             Outlook::Endless | Outlook::Ends => self.remember(actor, seen)?,

@@ -10,7 +10,7 @@ use crate::standings::{monitors_told, push_standings};
 use crate::subject::{CodeTest, SearchSubject};
 use crate::trying::ExaminedState;
 use fmp_code::Vm;
-use fmp_fields::{SavedRow, What, fields_of, read};
+use fmp_fields::{FieldPlan, SavedRow, fields_of, read};
 use fmp_image_bytes::Image;
 use fmp_kernel::Kernel;
 use fmp_live::{LiveLocals, live_locals};
@@ -30,7 +30,7 @@ fn live_in(alloc: Global, outs: bool, image: &Image) -> LiveLocals
 /// The fields of the states, and room for the numbers and the row of one.
 #[derive(Drop)]
 pub struct Rows {
-    pub fields: Vec<What>,
+    pub fields: FieldPlan,
     /// Whether the local at the out place of a call counts as written by every reply, not by E_OK alone.
     pub outs: bool,
     /// The live locals of the bodies.
@@ -75,12 +75,35 @@ impl Rows {
     {
         let sys = subject.image.system();
         let code = subject.image.code();
-        let fields = fields_of(alloc, sys, code, subject.question.interrupts.is_some())?;
+        let list = fields_of(alloc, sys, code, subject.question.interrupts.is_some())?;
+        let fields = FieldPlan::new(alloc, list)?;
         Ok(Rows {
             fields,
             outs,
             live: live_in(alloc, outs, subject.image),
             first: Vec::new(alloc),
+            numbers: Vec::new(alloc),
+            row: Vec::new(alloc),
+            saved: SavedRow::new(alloc),
+        })
+    }
+
+    /// Rows of the same fields, live locals and first numbers. `AllocError` if memory runs out.
+    pub fn again(&self, alloc: Global, subject: &SearchSubject<'_>) -> Result<Rows, AllocError>
+        ensures live { IfOk result (λ rows. AreLiveTables rows.outs subject.now.image.now.code
+            (live_tables rows.live)) }
+        ensures outs { IfOk result (λ rows. rows.outs ≡ self.now.outs) }
+        ensures fields { IfOk result (λ rows. rows.fields.items ≡ self.now.fields.items) }
+        ensures first { IfOk result (λ rows. rows.first.items ≡ self.now.first.items) }
+    {
+        let list = Vec::from_slice(alloc, self.fields.list())?;
+        let fields = FieldPlan::new(alloc, list)?;
+        let first = Vec::from_slice(alloc, &self.first)?;
+        Ok(Rows {
+            fields,
+            outs: self.outs,
+            live: live_in(alloc, self.outs, subject.image),
+            first,
             numbers: Vec::new(alloc),
             row: Vec::new(alloc),
             saved: SavedRow::new(alloc),
@@ -161,7 +184,7 @@ impl Rows {
         unpack(row, &self.first, &mut self.numbers)?;
         let question = subject.question;
         let came = came_in(&self.numbers, question.interrupts.is_some());
-        let kept = behind_fields(&self.numbers, self.fields.len());
+        let kept = behind_fields(&self.numbers, self.fields.list().len());
         let monitors = monitors_told(alloc, &question.monitors, kept)?;
         Ok(ExaminedState {
             state,

@@ -38,10 +38,20 @@ use fmp_base::{Effect, Event, Line};
 use fmp_code::Vm;
 use fmp_kernel::Kernel;
 use fmp_question::{CallSite, Outlook, Question, are_written, may_rest, queues_within};
-use fmp_schedules::{Monitor, tries_of};
+use fmp_schedules::{InterruptLimit, Monitor, MonitorSubject, all_let, tries_of};
 use fmp_visited::{RowEntry, Seen, StateLink};
 use fmp_witness::{Coverage, Finding, FindingKind};
 use std::alloc::{AllocError, Global};
+
+/// Whether a limit never lets an event come again.
+fn is_used_up(monitors: &[Monitor], event: Event) -> bool {
+    monitors.iter().any(|monitor| {
+        matches!(
+            monitor.subject,
+            MonitorSubject::Limit(InterruptLimit::AtMost { .. })
+        ) && !monitor.lets(event)
+    })
+}
 
 /// A search under way.
 #[derive(Drop)]
@@ -94,9 +104,14 @@ impl Search {
         self.notes.take_coverage(alloc)
     }
 
+    /// For each monitor, whether what its sentence speaks of ever came, which it forgets.
+    pub fn take_premises(&mut self, alloc: Global) -> Vec<bool> {
+        self.notes.take_premises(alloc)
+    }
+
     /// How many values each field has in the states that were seen. `AllocError` if memory runs out.
     pub fn varieties(&self, alloc: Global) -> Result<Vec<Variety>, AllocError> {
-        varieties(alloc, &self.seen, &self.rows.first, &self.rows.fields)
+        varieties(alloc, &self.seen, &self.rows.first, self.rows.fields.list())
     }
 
     /// The events that lead to a state, with those behind which the search began. `AllocError` if memory runs out.
@@ -309,8 +324,17 @@ impl Search {
         self.keep_next(alloc, subject, kernel, attempt, false, &monitors)
     }
 
-    /// An event is done, by a stretch that made this call, if it made one. If it leaves more queued than may be, it may
-    /// not come, and is left out.
+    /// Notes that a limit holds back the event of an attempt: for good, or until the clock has advanced.
+    fn note_held(&mut self, alloc: Global, attempt: Attempt<'_>)
+        ensures { Stays self.old self.new }
+    {
+        if is_used_up(&attempt.at.monitors, attempt.event) {
+            self.edges.note_end(alloc);
+        }
+    }
+
+    /// An event is done, by a stretch that made this call, if it made one. If it leaves more queued than may be, or a
+    /// limit holds it back, it may not come, and is left out.
     fn note_done_within(
         &mut self,
         alloc: Global,
@@ -333,6 +357,10 @@ impl Search {
     {
         if !queues_within(kernel, subject.question) {
             self.edges.note_end(alloc);
+            return Ok(());
+        }
+        if !all_let(&attempt.at.monitors, attempt.event) {
+            self.note_held(alloc, attempt);
             return Ok(());
         }
         self.note_done(alloc, subject, kernel, attempt, made)

@@ -26,6 +26,8 @@ ghost use Rattle.fmp_explore.specs.States.{AreFew, AreMonitorsOf, MayCome, count
 ghost use Rattle.fmp_schedules.specs.Schedules.{may_still};
 ghost use Rattle.fmp_schedules.specs.Tries.{all_tries};
 
+use crate::crew::Crew;
+use crate::rounds::Progress;
 use crate::searches::Search;
 use crate::stretching::{Ahead, task_sites};
 use crate::subject::SearchSubject;
@@ -38,13 +40,13 @@ use fmp_replay::kernel_of;
 use fmp_witness::FindingKind;
 use std::alloc::{AllocError, Global};
 
-/// How many states there are when it is told first how far the search has come.
-const TOLD_FIRST: usize = 1 << 14;
-
 /// Who is told how far a search has come.
 pub trait SearchWatcher {
     /// There are 2^14 states, or twice as many as when this was told last. The last one is this deep.
     fn grown(&mut self, states: usize, examined: usize, depth: u32);
+
+    /// Whether the search has had its time. It is asked before each state is examined, or before each round of slices.
+    fn is_over(&mut self) -> bool;
 }
 
 /// Why a search ended.
@@ -56,6 +58,8 @@ pub enum Ending {
     Enough,
     /// As many states were kept as are allowed.
     States,
+    /// The time that is allowed was over.
+    Time,
     /// There was no more memory.
     Memory,
 }
@@ -400,7 +404,7 @@ impl Search {
     }
 
     /// Examines the state at a place, with a kernel that is put into the state and one on which events are tried.
-    fn examine<'a>(
+    pub fn examine<'a>(
         &mut self,
         alloc: Global,
         subject: &SearchSubject<'a>,
@@ -427,7 +431,12 @@ impl Search {
     }
 
     /// Why the search ends before the state at a place, if it does.
-    fn ending_before(&self, subject: &SearchSubject<'_>, state: u32) -> Option<Ending>
+    fn ending_before<W: SearchWatcher>(
+        &self,
+        subject: &SearchSubject<'_>,
+        watcher: &mut W,
+        state: u32,
+    ) -> Option<Ending>
         ensures { IfSome result (λ ending. ending ≢ Ending.Whole) }
     {
         let depth = subject
@@ -439,6 +448,8 @@ impl Search {
             Some(Ending::Enough)
         } else if self.full {
             Some(Ending::States)
+        } else if watcher.is_over() {
+            Some(Ending::Time)
         } else {
             None
         }
@@ -455,7 +466,7 @@ impl Search {
 
     /// Tells how far the search has come, if there are twice as many states as when that was told last. Gives how many
     /// there were when it was told last.
-    fn tell<W: SearchWatcher>(&self, watcher: &mut W, told: usize, examined: usize) -> usize {
+    pub fn tell<W: SearchWatcher>(&self, watcher: &mut W, told: usize, examined: usize) -> usize {
         if self.seen.len() < told.saturating_mul(2) {
             return told;
         }
@@ -465,65 +476,70 @@ impl Search {
 
     /// Examines the states in order until none is left, or the search ends, with a kernel that is put into each of them
     /// and one on which events are tried.
-    fn examine_all<'a, W: SearchWatcher>(
+    fn examine_all<'a, W: SearchWatcher, C: Crew>(
         &mut self,
         alloc: Global,
+        crew: &C,
         subject: &SearchSubject<'a>,
         top: &mut Kernel<Vm<'a>>,
         work: &mut Kernel<Vm<'a>>,
         watcher: &mut W,
     ) -> Result<Ending, AllocError>
         requires begun { IsBegun subject.now.image.now subject.now.n subject.now.question.now self.old }
+        requires crew { C.can_work crew.now }
         requires top { IsOver subject.now.image.now subject.now.n top.old }
         requires work { IsOver subject.now.image.now subject.now.n work.old }
         ensures { IfOk result (HasEnded subject.now.image.now subject.now.n subject.now.question.now self.new) }
     {
-        let mut told = TOLD_FIRST / 2;
-        for i in 0..u32::MAX {
-            if i as usize >= self.seen.len() {
+        let mut progress = Progress::new();
+        for _turn in 0..u32::MAX {
+            if progress.next as usize >= self.seen.len() {
                 return Ok(self.last_ending());
             }
-            if let Some(ending) = self.ending_before(subject, i) {
+            if let Some(ending) = self.ending_before(subject, watcher, progress.next) {
                 return Ok(ending);
             }
-            self.examine(alloc, subject, top, work, i)?;
-            told = self.tell(watcher, told, i as usize + 1);
+            self.advance(alloc, crew, subject, top, work, watcher, &mut progress)?;
         }
         Ok(Ending::States)
     }
 
     /// The same, with a kernel of its own on which events are tried.
     #[tactic(none)]
-    fn run_on<'a, W: SearchWatcher>(
+    fn run_on<'a, W: SearchWatcher, C: Crew>(
         &mut self,
         alloc: Global,
+        crew: &C,
         subject: &SearchSubject<'a>,
         top: &mut Kernel<Vm<'a>>,
         watcher: &mut W,
     ) -> Result<Ending, AllocError>
         requires begun { IsBegun subject.now.image.now subject.now.n subject.now.question.now self.old }
+        requires crew { C.can_work crew.now }
         requires top { IsOver subject.now.image.now subject.now.n top.old }
         ensures { IfOk result (HasEnded subject.now.image.now subject.now.n subject.now.question.now self.new) }
     {
         let mut work = kernel_of(alloc, subject.image, subject.n)?;
-        let ending = self.examine_all(alloc, subject, top, &mut work, watcher);
+        let ending = self.examine_all(alloc, crew, subject, top, &mut work, watcher);
         drop(work);
         ending
     }
 
     /// The same, with both kernels of its own. `AllocError` if memory runs out.
     #[tactic(none)]
-    pub fn run<W: SearchWatcher>(
+    pub fn run<W: SearchWatcher, C: Crew>(
         &mut self,
         alloc: Global,
+        crew: &C,
         subject: &SearchSubject<'_>,
         watcher: &mut W,
     ) -> Result<Ending, AllocError>
-        requires { IsBegun subject.now.image.now subject.now.n subject.now.question.now self.old }
+        requires begun { IsBegun subject.now.image.now subject.now.n subject.now.question.now self.old }
+        requires crew { C.can_work crew.now }
         ensures { IfOk result (HasEnded subject.now.image.now subject.now.n subject.now.question.now self.new) }
     {
         let mut top = kernel_of(alloc, subject.image, subject.n)?;
-        let ending = self.run_on(alloc, subject, &mut top, watcher);
+        let ending = self.run_on(alloc, crew, subject, &mut top, watcher);
         drop(top);
         ending
     }

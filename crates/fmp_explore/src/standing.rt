@@ -18,7 +18,7 @@ use fmp_witness::{TAKEN_MOST, follow};
 use std::alloc::{AllocError, Global};
 
 /// Whether two rows are the same.
-fn is_same(a: &[u8], b: &[u8]) -> bool
+pub fn is_same(a: &[u8], b: &[u8]) -> bool
     ensures { result ≡ true → a.now ≡ b.now }
 {
     a == b

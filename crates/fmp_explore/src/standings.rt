@@ -1,4 +1,4 @@
-//! What is kept of the sentences in the states of a search, as numbers of a row.
+//! What is kept of sentences and limits in the states of a search, as numbers of a row.
 ghost use Rattle.std.specs.Prelude.{◌≡◌, ◌+◌, ◌*◌, ◌++◌, IfOk, OnOk, length};
 ghost use Rattle.std.specs.List.{flat_map};
 ghost use Rattle.fmp_schedules.specs.Schedules as spec;
@@ -37,7 +37,7 @@ fn kind_of(standing: Standing) -> u32
     }
 }
 
-/// The task that is inside, or how many ticks may still come.
+/// The task that is inside, or how many ticks or interrupts may or must still come.
 fn value_of(standing: Standing) -> u32
     ensures { result ≡ value_number standing }
 {
@@ -48,7 +48,7 @@ fn value_of(standing: Standing) -> u32
     }
 }
 
-/// Adds the numbers of what is kept of a sentence. `AllocError` if memory runs out.
+/// Adds the numbers of what a monitor keeps. `AllocError` if memory runs out.
 fn push_standing(values: &mut Vec<u32>, monitor: &Monitor) -> Result<(), AllocError>
     ensures items { OnOk result (values.new.items ≡ values.old.items ++ monitor_numbers monitor.now) }
     ensures length { OnOk result (length values.new.items ≡ length values.old.items + 2) }
@@ -58,7 +58,7 @@ fn push_standing(values: &mut Vec<u32>, monitor: &Monitor) -> Result<(), AllocEr
     Ok(())
 }
 
-/// Adds the numbers of what is kept of these sentences, two of each. `AllocError` if memory runs out.
+/// Adds the numbers of what these monitors keep, two of each. `AllocError` if memory runs out.
 pub fn push_standings(values: &mut Vec<u32>, monitors: &[Monitor]) -> Result<(), AllocError>
     ensures items { OnOk result (values.new.items
         ≡ values.old.items ++ flat_map (λ m. monitor_numbers m) monitors.now) }
@@ -88,17 +88,17 @@ fn number_at(numbers: &[u32], place: usize) -> u32 {
     }
 }
 
-/// A sentence of which this is kept.
+/// A monitor that keeps this.
 fn monitor_told(monitor: &Monitor, standing: Standing) -> Monitor
     ensures { result ≡ record monitor.now { standing = result.standing } }
 {
     Monitor {
-        sentence: monitor.sentence,
+        subject: monitor.subject,
         standing,
     }
 }
 
-/// These sentences, with what is kept of them by these numbers. `AllocError` if memory runs out.
+/// These monitors, which keep what these numbers say. `AllocError` if memory runs out.
 pub fn monitors_told(
     alloc: Global,
     monitors: &[Monitor],

@@ -1,5 +1,5 @@
 //! Tasks that can never go on: where to look for one, and whether it is so.
-ghost use Rattle.std.specs.Prelude.{◌≡◌, ◌≢◌, ◌≤◌, ◌^◌, [], ◌∷◌, IfOk, IfSome, IsTrue};
+ghost use Rattle.std.specs.Prelude.{◌≡◌, ◌≢◌, [], ◌∷◌, IfOk, IfSome, IsTrue};
 ghost use Rattle.fmp_base.specs.States.{task_at};
 ghost use Rattle.fmp_instructions.specs.Machine.{code_meaning};
 ghost use Rattle.fmp_replay.specs.Replays.{kernel_after};
@@ -9,6 +9,7 @@ ghost use Rattle.fmp_witness.specs.Findings.{IsSo};
 ghost use Rattle.fmp_witness.specs.Followed.{IsFollowed};
 ghost use Rattle.fmp_explore.specs.Searching.{IsBegun};
 
+use crate::crew::Alone;
 use crate::edges::{Predecessors, goes_on_from};
 use crate::exploring::{run_search, start_search};
 use crate::searches::Search;
@@ -30,6 +31,10 @@ struct Nobody;
 
 impl SearchWatcher for Nobody {
     fn grown(&mut self, _states: usize, _examined: usize, _deep: u32) {}
+
+    fn is_over(&mut self) -> bool {
+        false
+    }
 }
 
 /// A state in which a task seems to be stuck, and its last call.
@@ -85,7 +90,7 @@ fn suspect_of(
     marked: &[bool],
     t: u8,
 ) -> Result<Option<Suspect>, AllocError> {
-    let fields = &survey.rows.fields;
+    let fields = survey.rows.fields.list();
     let phase = place_of(fields, What::Phase(t));
     let pc = place_of(fields, What::Pc(t));
     let mut values = Vec::new(alloc);
@@ -174,7 +179,7 @@ fn stuck_in(
 /// Whether a task is started in a state that can go on only by an interrupt, and can go on from there, as these marks
 /// tell. `AllocError` if memory runs out.
 fn is_helped(alloc: Global, survey: &Search, marked: &[bool], t: u8) -> Result<bool, AllocError> {
-    let phase = place_of(&survey.rows.fields, What::Phase(t));
+    let phase = place_of(survey.rows.fields.list(), What::Phase(t));
     let mut values = Vec::new(alloc);
     for state in survey.edges.waiting() {
         if let Some(true) = marked.get(*state as usize) {
@@ -241,7 +246,8 @@ fn all_rest(alloc: Global, sys: &System) -> Result<Vec<bool>, AllocError> {
     vec![in alloc; true; sys.tasks.len()]
 }
 
-/// What is asked about a task that may be stuck after some events: whether it acts along a schedule behind them.
+/// What is asked about a task that may be stuck after some events: whether it acts along a schedule behind them, where
+/// no single interrupt is limited.
 fn question_of(
     alloc: Global,
     sys: &System,
@@ -264,6 +270,7 @@ fn question_of(
         queued: question.queued,
         all: false,
         states: question.states,
+        seconds: question.seconds,
         after,
     })
 }
@@ -280,10 +287,10 @@ fn shows_silence(
         NoneFollows subject.now.image.now subject.now.n subject.now.question.now) }
 {
     subject.image.keeps_rules();
-    match run_search(alloc, survey, subject, &mut Nobody) {
+    match run_search(alloc, &Alone, survey, subject, &mut Nobody) {
         Ending::Whole => Ok(survey.sure),
         Ending::Enough => Ok(false),
-        Ending::States | Ending::Memory => Err(AllocError),
+        Ending::States | Ending::Time | Ending::Memory => Err(AllocError),
     }
 }
 
@@ -327,8 +334,6 @@ fn is_silent_about(
     n: u64,
     question: &Question,
 ) -> Result<bool, AllocError>
-    requires low { 1 ≤ n }
-    requires high { n ≤ 2 ^ 48 }
     ensures { IfOk result (λ yes. IsTrue yes → NoneFollows image.now n question.now) }
 {
     let subject = SearchSubject { image, n, question };
@@ -345,8 +350,6 @@ fn never_acts(
     steps: &[Event],
     t: u8,
 ) -> Result<bool, AllocError>
-    requires low { 1 ≤ n }
-    requires high { n ≤ 2 ^ 48 }
     ensures { IfOk result (λ yes. IsTrue yes → NeverActs image.now n question.now steps.now t) }
 {
     let about = question_of(alloc, image.system(), question, steps, t)?;
@@ -374,8 +377,6 @@ pub fn is_stuck<'a>(
     steps: &[Event],
     t: u8,
 ) -> Result<bool, AllocError>
-    requires low { 1 ≤ n }
-    requires high { n ≤ 2 ^ 48 }
     requires begun { kernel.old ≡ kernel_after image.now n [] }
     ensures { IfOk result (λ stuck. IsTrue stuck → IsSo image.now n question.now steps.now (FindingKind.Stuck t)) }
 {

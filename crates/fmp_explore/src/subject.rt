@@ -1,5 +1,4 @@
 //! What is searched: an image, the bound of its stretches, and the question.
-ghost use Rattle.std.specs.Prelude.{◌≤◌, ◌^◌};
 
 use fmp_code::{MachineContext, Vm};
 use fmp_image_bytes::Image;
@@ -12,8 +11,6 @@ pub struct SearchSubject<'a> {
     pub image: &'a Image,
     pub n: u64,
     pub question: &'a Question,
-    ghost low: { 1 ≤ n },
-    ghost high: { n ≤ 2 ^ 48 },
 }
 
 /// Tells the contexts of bodies of code from other values.

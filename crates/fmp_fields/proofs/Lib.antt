@@ -1,9 +1,11 @@
 pub mod AllFields
+pub mod BlockNumbers
 pub mod BodyFields
+pub mod BodyNumbers
 pub mod FieldLaws
 pub mod Lists
+pub mod Pieces
 pub mod Places
-pub mod ReadLaws
 pub mod Rooms
 pub mod StateFields
 pub mod WordLaws

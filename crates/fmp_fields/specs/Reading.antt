@@ -1,14 +1,15 @@
 -- How the fields of a state are read: from one block or one context those that it tells.
-use Rattle.std.specs.Prelude.{◌≡◌, ℕ, ◌<◌, Option, Some, None, Bool, List, length, map, take}
+use Rattle.std.specs.Prelude.{ℕ, ◌<◌, ◌∷◌, ◌++◌, Option, Some, None, Bool, List, get_or, length, map, pos}
+use Rattle.std.specs.List.{range_with_len}
 use Rattle.fmp_base.specs.declared.bodies.Held.{Held}
-use Rattle.fmp_base.specs.Meanings.{Contexts, World, body_in, context_at, context_in, task_body}
+use Rattle.fmp_base.specs.Meanings.{Contexts, body_in, context_at, context_in, task_body}
 use Rattle.fmp_base.specs.Systems.{SystemTables}
-use Rattle.fmp_fields.specs.declared.field.What.{What}
 use Rattle.fmp_fields.specs.declared.owner.Owner.{Owner}
 use Rattle.fmp_fields.specs.declared.owner.Owner.TheVariants as owner
-use Rattle.fmp_fields.specs.FieldNumbers.{number_of}
+use Rattle.fmp_fields.specs.declared.room.Room.{Room}
 use Rattle.fmp_instructions.specs.declared.instructions.MachineContext.{MachineContext}
 use Rattle.fmp_live.specs.Zeroed.{zeroed_by}
+use Rattle.fmp_reachable.specs.Numbers.{unsigned}
 
 -- what is kept of an owner
 abbrev pub kept_by : Contexts (Held MachineContext) → Owner → Option (Held MachineContext)
@@ -30,7 +31,8 @@ abbrev pub with_zeros : List Bool → Option MachineContext → Option MachineCo
 with_zeros row None = None
 with_zeros row (Some c) = Some (record c { locals = zeroed_by row c.locals })
 
--- the first values, this many, are those of the first fields in this world
-abbrev pub AreRead : SystemTables → World MachineContext → (came : ℕ) → List What → (values : List ℕ) → (count : ℕ)
-    → Type 0
-AreRead sys w came fields values count = take count values ≡ map (number_of sys w came) (take count fields)
+-- the numbers of the fields of a body of this room with this context
+abbrev pub context_numbers : Room → MachineContext → List ℕ
+context_numbers room c =
+    c.pc ∷ (map (λ l. unsigned (get_or c.locals l (pos 0))) (range_with_len 0 room.locals)
+    ++ c.count ∷ map (λ i. unsigned (get_or c.operands i (pos 0))) (range_with_len 0 room.operands))

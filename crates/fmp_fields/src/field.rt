@@ -1,6 +1,6 @@
 //! The fields of a state: everything in it that a later event can show. Times are relative to the clock, and the tasks
 //! stand in their queues and in no other order.
-ghost use Rattle.std.specs.Prelude.{◌≡◌, ◌%◌};
+ghost use Rattle.std.specs.Prelude.{◌≡◌, ◌%◌, true};
 
 /// A field of a state, and of what it is. Tasks, processors and objects go by their places, from 0. A number that may
 /// be missing is stored with 1 added, and as 0 where it is missing.
@@ -83,4 +83,48 @@ pub fn low_byte(place: usize) -> u8
     ensures { result ≡ place % 256 }
 {
     (place % 256) as u8
+}
+
+/// Whether two fields are the same, as `==` tells too: but that has too many cases for a search of proofs.
+pub fn is_same(a: What, b: What) -> bool
+    ensures { result ≡ true → a ≡ b }
+{
+    match (a, b) {
+        (What::Interrupts, What::Interrupts) => true,
+        (What::Phase(t), What::Phase(u)) => t == u,
+        (What::Object(t), What::Object(u)) => t == u,
+        (What::Wanted(t), What::Wanted(u)) => t == u,
+        (What::Suspended(t), What::Suspended(u)) => t == u,
+        (What::Priority(t), What::Priority(u)) => t == u,
+        (What::Processor(t), What::Processor(u)) => t == u,
+        (What::Activations(t), What::Activations(u)) => t == u,
+        (What::NextProcessor(t), What::NextProcessor(u)) => t == u,
+        (What::Wakeups(t), What::Wakeups(u)) => t == u,
+        (What::TicksLeft(t), What::TicksLeft(u)) => t == u,
+        (What::Behind(t), What::Behind(u)) => t == u,
+        (What::Pc(t), What::Pc(u)) => t == u,
+        (What::Local(t, k), What::Local(u, l)) => t == u && k == l,
+        (What::Operands(t), What::Operands(u)) => t == u,
+        (What::Operand(t, k), What::Operand(u, l)) => t == u && k == l,
+        (What::Runs(t), What::Runs(u)) => t == u,
+        (What::Lock(t), What::Lock(u)) => t == u,
+        (What::DispatchDisabled(t), What::DispatchDisabled(u)) => t == u,
+        (What::InterruptHandler(t), What::InterruptHandler(u)) => t == u,
+        (What::CyclicHandler(t), What::CyclicHandler(u)) => t == u,
+        (What::HandlerPc(t), What::HandlerPc(u)) => t == u,
+        (What::HandlerLocal(t, k), What::HandlerLocal(u, l)) => t == u && k == l,
+        (What::HandlerOperands(t), What::HandlerOperands(u)) => t == u,
+        (What::HandlerOperand(t, k), What::HandlerOperand(u, l)) => t == u && k == l,
+        (What::Count(t), What::Count(u)) => t == u,
+        (What::Pattern(t), What::Pattern(u)) => t == u,
+        (What::Words(t), What::Words(u)) => t == u,
+        (What::Word(t, k), What::Word(u, l)) => t == u && k == l,
+        (What::FirstMessage(t), What::FirstMessage(u)) => t == u,
+        (What::MessageBehind(t), What::MessageBehind(u)) => t == u,
+        (What::SharedWord(t), What::SharedWord(u)) => t == u,
+        (What::TicksToDue(t), What::TicksToDue(u)) => t == u,
+        (What::PendingCyclic(t), What::PendingCyclic(u)) => t == u,
+        (What::PendingInterrupt(t), What::PendingInterrupt(u)) => t == u,
+        _ => false,
+    }
 }

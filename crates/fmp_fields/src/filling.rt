@@ -1,9 +1,13 @@
-//! The numbers of a row as a saved state, in one walk over the fields. Nothing is promised of it: whoever restores a
-//! kernel from the saved state reads the kernel's numbers again, and compares.
+//! The numbers of a row as a saved state, in one walk over the pieces of the fields. Nothing is promised of it: whoever
+//! restores a kernel from the saved state reads the kernel's numbers again, and compares.
 use crate::blocks::{
     block_of, byte_of, half_of, is_dormant, is_queued, number_at, processor_of, signed, ticks_of,
 };
 use crate::field::{What, low_byte};
+use crate::field_plan::FieldPlan;
+use crate::owner::Owner;
+use crate::piece::Piece;
+use crate::room::Room;
 use fmp_instructions::MachineContext;
 use fmp_kernel::{Saved, SavedContexts};
 use fmp_tasks::{SavedMessage, SavedState, SavedWord};
@@ -11,9 +15,6 @@ use std::alloc::{AllocError, Global};
 
 /// How many interrupts there are.
 const INTERRUPTS: usize = 32;
-
-/// How many fields the block of a task has.
-const BLOCK: usize = 10;
 
 /// A context in which nothing was done.
 const EMPTY: MachineContext = MachineContext {
@@ -70,76 +71,66 @@ fn clear_state(state: &mut SavedState) -> Result<(), AllocError> {
     state.pending_interrupts.resize(INTERRUPTS, false)
 }
 
-/// Puts a number with a sign into its place, if there is one.
-fn put_signed(numbers: &mut [i32; 64], place: u8, number: u32) {
-    if let Some(found) = numbers.get_mut(usize::from(place)) {
-        *found = signed(number);
+/// The numbers from a place on, this many, or as many as there are.
+fn numbers_from(numbers: &[u32], start: usize, count: usize) -> &[u32] {
+    let start = start.min(numbers.len());
+    let count = count.min(numbers.len() - start);
+    &numbers[start..start + count]
+}
+
+/// Puts numbers with a sign into the first places, as many as there are.
+fn put_signed(places: &mut [i32; 64], numbers: &[u32]) {
+    for at in 0..numbers.len().min(64) {
+        places[at] = signed(numbers[at]);
     }
 }
 
-/// Puts the number of a field into a context: whether it is a field of one, behind its first.
-fn put_number(context: &mut MachineContext, what: What, number: u32) -> bool {
-    match what {
-        What::Local(_, l) | What::HandlerLocal(_, l) => put_signed(&mut context.locals, l, number),
-        What::Operands(_) | What::HandlerOperands(_) => context.count = byte_of(number),
-        What::Operand(_, i) | What::HandlerOperand(_, i) => {
-            put_signed(&mut context.operands, i, number);
-        }
-        _ => return false,
-    }
-    true
-}
-
-/// Puts the numbers of the fields of a body, with which these begin, into its context. Gives how many these are.
-fn fill_context(context: &mut MachineContext, fields: &[What], numbers: &[u32]) -> usize {
+/// Puts the numbers of a body of this room, with which these begin, into its context.
+fn fill_context(context: &mut MachineContext, room: Room, numbers: &[u32]) {
+    let count = usize::from(room.locals) + 1;
     context.pc = half_of(number_at(numbers, 0));
-    let count = fields.len().min(numbers.len());
-    for at in 1..count {
-        if !put_number(context, fields[at], numbers[at]) {
-            return at;
-        }
-    }
-    count
+    put_signed(
+        &mut context.locals,
+        numbers_from(numbers, 1, usize::from(room.locals)),
+    );
+    context.count = byte_of(number_at(numbers, count));
+    put_signed(
+        &mut context.operands,
+        numbers_from(numbers, count + 1, usize::from(room.operands)),
+    );
 }
 
-/// Puts the numbers of the fields of a body, with which these begin, into the context that is there, or else into a
-/// new one. Gives how many these are.
-fn fill_started(context: &mut Option<MachineContext>, fields: &[What], numbers: &[u32]) -> usize {
+/// Puts the numbers of a body of this room, with which these begin, into the context that is there, or else into a new
+/// one.
+fn fill_started(context: &mut Option<MachineContext>, room: Room, numbers: &[u32]) {
     if context.is_none() {
         *context = Some(EMPTY);
     }
-    match context {
-        Some(context) => fill_context(context, fields, numbers),
-        None => 1,
+    if let Some(context) = context {
+        fill_context(context, room, numbers);
     }
 }
 
-/// The same of a body that goes on, or awaits a reply. Else there is no context.
-fn fill_body(
-    context: &mut Option<MachineContext>,
-    goes: bool,
-    fields: &[What],
-    numbers: &[u32],
-) -> usize {
-    if goes {
-        return fill_started(context, fields, numbers);
-    }
-    *context = None;
-    1
-}
-
-/// The same of the body at a place, where the contexts stand.
+/// The same of the body at a place, where the contexts stand, if it goes on or awaits a reply. Else there is no
+/// context.
 fn fill_at(
-    contexts: &mut [Option<MachineContext>],
+    contexts: &mut Vec<Option<MachineContext>>,
     place: u8,
     goes: bool,
-    fields: &[What],
+    room: Room,
     numbers: &[u32],
-) -> usize {
-    match contexts.get_mut(usize::from(place)) {
-        Some(context) => fill_body(context, goes, fields, numbers),
-        None => 1,
+) -> Result<(), AllocError> {
+    if contexts.len() <= usize::from(place) {
+        contexts.resize(usize::from(place) + 1, None)?;
     }
+    if let Some(context) = contexts.get_mut(usize::from(place)) {
+        if goes {
+            fill_started(context, room, numbers);
+        } else if context.is_some() {
+            *context = None;
+        }
+    }
+    Ok(())
 }
 
 /// What is behind a place, with 1 added; 0 if nothing is.
@@ -182,41 +173,29 @@ impl SavedRow {
         clear_state(&mut self.saved.state)
     }
 
-    /// Takes the block of a task. Gives how many fields it has.
-    fn take_block(&mut self, numbers: &[u32]) -> Result<usize, AllocError> {
-        self.saved.state.blocks.push(block_of(numbers))?;
-        Ok(BLOCK)
+    /// Whether the body of an owner whose block or processor was taken last goes on, or awaits a reply.
+    fn is_started(&self, owner: Owner) -> bool {
+        let state = &self.saved.state;
+        match owner {
+            Owner::Task(_) => match state.blocks.last() {
+                Some(block) => !is_dormant(block),
+                None => false,
+            },
+            Owner::Handler(_) => match state.processors.last() {
+                Some(cpu) => cpu.handler.is_some(),
+                None => false,
+            },
+        }
     }
 
-    /// Takes the context of a task whose block was taken last. Gives how many fields it has.
-    fn take_task(&mut self, t: u8, fields: &[What], numbers: &[u32]) -> Result<usize, AllocError> {
-        let goes = match self.saved.state.blocks.last() {
-            Some(block) => !is_dormant(block),
-            None => false,
-        };
-        let contexts = &mut self.saved.contexts.tasks;
-        if contexts.len() <= usize::from(t) {
-            contexts.resize(usize::from(t) + 1, None)?;
+    /// Takes the context of an owner's body, whose block or processor was taken last.
+    fn take_body(&mut self, owner: Owner, room: Room, numbers: &[u32]) -> Result<(), AllocError> {
+        let goes = self.is_started(owner);
+        let contexts = &mut self.saved.contexts;
+        match owner {
+            Owner::Task(t) => fill_at(&mut contexts.tasks, t, goes, room, numbers),
+            Owner::Handler(p) => fill_at(&mut contexts.handlers, p, goes, room, numbers),
         }
-        Ok(fill_at(contexts, t, goes, fields, numbers))
-    }
-
-    /// Takes the context of the handler of a processor that was taken last. Gives how many fields it has.
-    fn take_handler(
-        &mut self,
-        p: u8,
-        fields: &[What],
-        numbers: &[u32],
-    ) -> Result<usize, AllocError> {
-        let goes = match self.saved.state.processors.last() {
-            Some(cpu) => cpu.handler.is_some(),
-            None => false,
-        };
-        let contexts = &mut self.saved.contexts.handlers;
-        if contexts.len() <= usize::from(p) {
-            contexts.resize(usize::from(p) + 1, None)?;
-        }
-        Ok(fill_at(contexts, p, goes, fields, numbers))
     }
 
     /// Takes the words of a data queue, whose number stands in front of them.
@@ -244,13 +223,12 @@ impl SavedRow {
         }
     }
 
-    /// Takes the first of these fields, each with its number, if it is of an object or tells what is behind.
+    /// Takes the field that these numbers begin with, if it is of an object or tells what is behind.
     fn take_object(&mut self, what: What, numbers: &[u32]) -> Result<(), AllocError> {
         let number = number_at(numbers, 0);
         let state = &mut self.saved.state;
         match what {
             What::Behind(_) => self.behind.push(byte_of(number))?,
-            What::Runs(_) => state.processors.push(processor_of(numbers))?,
             What::Count(_) => state.semaphores.push(half_of(number))?,
             What::Pattern(_) => state.flags.push(half_of(number))?,
             What::Words(d) => self.take_words(d, numbers)?,
@@ -265,32 +243,24 @@ impl SavedRow {
         Ok(())
     }
 
-    /// Takes the first of these fields, each with its number, and what belongs to it. Gives how many were taken.
-    fn take(&mut self, fields: &[What], numbers: &[u32]) -> Result<usize, AllocError> {
-        let Some(what) = fields.first() else {
-            return Ok(1);
-        };
-        match *what {
-            What::Phase(_) => self.take_block(numbers),
-            What::Pc(t) => self.take_task(t, fields, numbers),
-            What::HandlerPc(p) => self.take_handler(p, fields, numbers),
-            what => {
-                self.take_object(what, numbers)?;
-                Ok(1)
-            }
+    /// Takes the piece that these numbers begin with.
+    fn take(&mut self, piece: Piece, numbers: &[u32]) -> Result<(), AllocError> {
+        match piece {
+            Piece::Block(_) => self.saved.state.blocks.push(block_of(numbers))?,
+            Piece::Body(owner, room) => self.take_body(owner, room, numbers)?,
+            Piece::Processor(_) => self.saved.state.processors.push(processor_of(numbers))?,
+            Piece::Single(what) => self.take_object(what, numbers)?,
         }
+        Ok(())
     }
 
-    /// Takes the numbers of these fields, of which those of a task's block and those of a body stand side by side.
-    fn take_all(&mut self, fields: &[What], numbers: &[u32]) -> Result<(), AllocError> {
-        let count = fields.len().min(numbers.len());
-        let mut at = 0;
-        for _field in 0..count {
-            if at >= count {
-                return Ok(());
-            }
-            let taken = self.take(&fields[at..], &numbers[at..])?;
-            at = at.saturating_add(taken);
+    /// Takes the numbers of these pieces.
+    fn take_all(&mut self, pieces: &[Piece], numbers: &[u32]) -> Result<(), AllocError> {
+        let mut at: usize = 0;
+        for place in 0..pieces.len() {
+            let piece = pieces[place];
+            self.take(piece, &numbers[at.min(numbers.len())..])?;
+            at = at.saturating_add(piece.len());
         }
         Ok(())
     }
@@ -364,9 +334,9 @@ impl SavedRow {
     }
 
     /// Takes the numbers of these fields in the place of what was saved last. `AllocError` if memory runs out.
-    pub fn fill(&mut self, fields: &[What], numbers: &[u32]) -> Result<(), AllocError> {
+    pub fn fill(&mut self, fields: &FieldPlan, numbers: &[u32]) -> Result<(), AllocError> {
         self.clear()?;
-        self.take_all(fields, numbers)?;
+        self.take_all(fields.pieces(), numbers)?;
         self.order_tasks()?;
         for mailbox in 0..self.first_messages.len() {
             self.order_messages(mailbox)?;

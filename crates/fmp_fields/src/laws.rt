@@ -31,7 +31,8 @@ pub fn worlds_of_the_same_live_numbers_are_like()
         ≡ map (number_of sys (zeroed sys others w) other) fields → IsLike outs sys bodies v w }
 {}
 
-/// Where their number is limited, the numbers of the fields tell how many interrupts came, if these were fewer than 256.
+/// Where their number is limited, the numbers of the fields tell how many interrupts came, if these were fewer than
+/// 256.
 pub fn numbers_tell_how_many_interrupts_came()
     ensures { (sys : SystemTables) (bodies : List BodyTables) (limited : Bool) (fields : List What)
         (v w : World MachineContext) (came other : ℕ) → AreAllFields sys bodies limited fields → limited ≡ true →

@@ -4,16 +4,19 @@
 mod blocks;
 mod body_values;
 mod field;
+mod field_plan;
 mod filling;
 pub mod laws;
 mod listing;
 mod owner;
-mod placing;
+mod piece;
+mod piece_values;
 mod reading;
 mod room;
 mod state_values;
 
 pub use field::{What, low_byte};
+pub use field_plan::FieldPlan;
 pub use filling::SavedRow;
 pub use listing::fields_of;
 pub use reading::read;

@@ -36,7 +36,7 @@ pub fn task(tables: &KernelState, t: u8) -> TaskBlock
 }
 
 /// The processor at a place; one on which nothing runs if there is none.
-fn processor(tables: &KernelState, p: u8) -> Processor
+pub fn processor(tables: &KernelState, p: u8) -> Processor
     ensures { result ≡ processor_at tables.now.state p }
 {
     if usize::from(p) < tables.processor_count() {

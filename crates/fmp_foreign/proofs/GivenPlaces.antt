@@ -9,8 +9,8 @@ use Rattle.fmp_base.specs.States.{processor_at}
 use Rattle.fmp_base.specs.Steps.{Reaction, Nothing, Did, Kept, actor_of, stretched}
 use Rattle.fmp_base.specs.Stretches.{Ending}
 use Rattle.fmp_base.specs.Systems.{SystemTables}
-use Rattle.fmp_coming.specs.Comings.{IsPlaceOf}
-use Rattle.fmp_coming.proofs.Places.{event_place}
+use Rattle.fmp_kernel.specs.Comings.{IsPlaceOf}
+use Rattle.fmp_kernel.proofs.EventPlaces.{event_place}
 use Rattle.fmp_foreign.specs.declared.foreign.LastTold.TheVariants as told
 use Rattle.fmp_foreign.specs.Foreign.{foreign_meaning}
 use Rattle.fmp_foreign.specs.Hosting.{ForeignKernel, reaction}

@@ -7,8 +7,7 @@ ghost use Rattle.fmp_outside.specs.Outside.{ending_by};
 
 use crate::foreign::{Foreign, LastTold};
 use fmp_base::{Effect, Event, Stretch};
-use fmp_coming::Coming;
-use fmp_kernel::{Kernel, run_place};
+use fmp_kernel::{Coming, Kernel, run_place};
 use fmp_outside::{Act, Given};
 
 /// The stretch that ends with this act.

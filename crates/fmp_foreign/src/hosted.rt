@@ -4,14 +4,14 @@ ghost use Rattle.fmp_bisimulation.specs.Alike.{Alike};
 ghost use Rattle.fmp_cfgparse.specs.Configurations.{IsRead};
 ghost use Rattle.fmp_outside.specs.declared.given.Act.TheVariants as act;
 ghost use Rattle.fmp_outside.specs.declared.given.Given.TheVariants as given;
-ghost use Rattle.fmp_foreign.specs.Hosting.{IsNew, after, answer, called_by, made_by, refused, refused_number, restarted};
+ghost use Rattle.fmp_foreign.specs.Hosting.{IsNew, after, answer, called_by, made_by, refused, refused_number};
+ghost use Rattle.fmp_foreign.specs.Hosting.{restarted};
 
 use crate::foreign::Foreign;
 use crate::requests::{Refusal, call_of};
 use fmp_base::{Effect, Fault, System};
 use fmp_cfgparse::read_cfg;
-use fmp_coming::Coming;
-use fmp_kernel::Kernel;
+use fmp_kernel::{Coming, Kernel};
 use fmp_lex::BuildFault;
 use fmp_outside::{Act, Given};
 use std::alloc::Global;

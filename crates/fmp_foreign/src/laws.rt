@@ -1,5 +1,5 @@
-//! The laws, each the contract of a function that does nothing. `D` is the type of the contexts that are kept of bodies
-//! outside.
+//! Laws of kernels whose bodies run elsewhere, each the contract of a function that does nothing. `D` is the type of
+//! the contexts that are kept of bodies outside.
 ghost use Rattle.std.specs.Prelude.{ℕ, List};
 ghost use Rattle.fmp_bisimulation.specs.Alike.{Alike};
 ghost use Rattle.fmp_base.specs.Meanings.{Meaning, World};
@@ -22,8 +22,8 @@ pub fn followed_journals_agree<B: Body, D>()
         AgreesWith sys F m d (B.meaning body) n gs k }
 {}
 
-/// In alike worlds, as before and after `Hosted::restart_count`, what comes does the same, one after the other: the lines
-/// differ in the number of the clock at most, and the worlds are alike again.
+/// In alike worlds, as before and after `HostedSystem::restart_count`, what comes does the same, one after the other:
+/// the lines differ at most in the number of the clock, and the worlds are alike again.
 pub fn alike_worlds_run_alike<D>()
     ensures { (sys : SystemTables) (F : Meaning D) (n : ℕ) (d : D) (gs : List Given) (v w : World D) →
         Alike sys v w → RunAlike sys (outside_run sys F n d v gs) (outside_run sys F n d w gs) }

@@ -19,7 +19,8 @@ pub enum Refusal {
     Full,
 }
 
-/// The services, at the place before their function codes: a table in memory, which a look at one of them does not copy.
+/// The services, at the place before their function codes: a table in memory, which a look at one of them does not
+/// copy.
 static BY_NUMBER: &[Service] = &SERVICES;
 
 /// The argument at this place, or 0.

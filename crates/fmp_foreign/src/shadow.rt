@@ -1,5 +1,6 @@
 //! A kernel over the text of bodies that run elsewhere: it says of each thing that they do whether their text does it.
-ghost use Rattle.std.specs.Prelude.{◌≡◌, ◌≢◌, ◌+◌, ◌<◌, ◌≤◌, ◌^◌, ◌∷◌, [], IfErr, IfOk, MatchOption, None, Some, length, slice_get};
+ghost use Rattle.std.specs.Prelude.{◌≡◌, ◌≢◌, ◌+◌, ◌<◌, ◌≤◌, ◌^◌, ◌∷◌, [], IfErr, IfOk, MatchOption, None, Some};
+ghost use Rattle.std.specs.Prelude.{length, slice_get};
 ghost use Rattle.fmp_outside.specs.Outside.{IsOfText};
 ghost use Rattle.fmp_base.specs.Stretches.{ending};
 ghost use Rattle.fmp_kernel.specs.Restarts.{counts_restarted};
@@ -40,35 +41,33 @@ pub struct Departure {
 #[derive(Drop)]
 pub struct Shadow<B: Body> {
     kernel: Kernel<B>,
-    bound: u64,
 }
 
 impl<B: Body> Model for Shadow<B> {
-    ghost use Rattle.std.specs.Prelude.{◌≡◌};
     ghost use Rattle.fmp_kernel.specs.KernelViews.{KernelView};
 
     ghost Value = { KernelView B B.Ctx };
 
     ghost view = { λ s. s.kernel };
-
-    ghost invariant = { λ s. s.bound ≡ s.kernel.bound };
 }
 
 /// The stretch that the text of this processor's actor makes next, if there is an actor.
 #[tactic(auto, using(crate::proofs::Judging::no_stretch, crate::proofs::Judging::its_stretch))]
-fn next_stretch<B: Body>(kernel: &Kernel<B>, bound: u64, p: u8) -> Option<Stretch<B::Ctx>>
-    requires { kernel.now.bound ≡ bound }
+fn next_stretch<B: Body>(kernel: &Kernel<B>, p: u8) -> Option<Stretch<B::Ctx>>
     ensures { MatchOption result (stretch_on B.meaning kernel.now p ≡ None)
         (λ s. stretch_on B.meaning kernel.now p ≡ Some (ending s)) }
 {
     let actor = kernel.actor(p)?;
-    Some(kernel.body().stretch(actor.entry, bound, actor.context))
+    Some(
+        kernel
+            .body()
+            .stretch(actor.entry, kernel.bound(), actor.context),
+    )
 }
 
 /// How the next stretch of the text stands to what comes: it ends so, or otherwise, or is over its bound.
 #[tactic(auto, using(crate::proofs::Judging::nobody_follows, crate::proofs::Judging::over_goes_on))]
-fn judge<B: Body>(kernel: &Kernel<B>, bound: u64, given: Given) -> BodyVerdict
-    requires { kernel.now.bound ≡ bound }
+fn judge<B: Body>(kernel: &Kernel<B>, given: Given) -> BodyVerdict
     ensures follows { result ≡ BodyVerdict.Follows
         → IsOfText kernel.now.system (B.meaning kernel.now.body) kernel.now.bound kernel.now.world given }
     ensures differs { result ≡ BodyVerdict.Differs → DoesOtherwise B.meaning kernel.now given }
@@ -78,7 +77,7 @@ fn judge<B: Body>(kernel: &Kernel<B>, bound: u64, given: Given) -> BodyVerdict
     let Given::Act(p, act) = given else {
         return BodyVerdict::Follows;
     };
-    let Some(stretch) = next_stretch(kernel, bound, p) else {
+    let Some(stretch) = next_stretch(kernel, p) else {
         return BodyVerdict::Follows;
     };
     match Act::of(stretch) {
@@ -95,19 +94,17 @@ fn judge<B: Body>(kernel: &Kernel<B>, bound: u64, given: Given) -> BodyVerdict
 
 /// What comes, in one turn of the text.
 #[tactic(auto, using(crate::proofs::Following::once, crate::proofs::Following::within, crate::proofs::Following::within_counts, crate::proofs::Following::nothing_yet))]
-fn take_turn<B: Body>(kernel: &mut Kernel<B>, bound: u64, given: Given) -> BodyVerdict
-    requires { kernel.old.bound ≡ bound }
+fn take_turn<B: Body>(kernel: &mut Kernel<B>, given: Given) -> BodyVerdict
     ensures follows { result ≡ BodyVerdict.Follows → HasFollowed B.meaning kernel.old (given ∷ []) kernel.new }
     ensures stays { result ≢ BodyVerdict.Follows → HasFollowed B.meaning kernel.old [] kernel.new }
     ensures differs { result ≡ BodyVerdict.Differs → DoesOtherwise B.meaning kernel.new given }
     ensures long { result ≡ BodyVerdict.Long → kernel.new.taken ≡ kernel.old.taken + 1 }
     ensures full { result ≡ BodyVerdict.Full → 2 ^ 31 ≤ kernel.new.taken }
-    ensures bound { kernel.new.bound ≡ bound }
 {
     if kernel.taken() >= MOST_EVENTS {
         return BodyVerdict::Full;
     }
-    let verdict = judge(kernel, bound, given);
+    let verdict = judge(kernel, given);
     if verdict != BodyVerdict::Differs {
         kernel.step_long(given.event());
     }
@@ -116,17 +113,15 @@ fn take_turn<B: Body>(kernel: &mut Kernel<B>, bound: u64, given: Given) -> BodyV
 
 /// What comes, in at most `turns` turns of the text.
 #[tactic(auto, using(crate::proofs::Following::nothing_yet))]
-fn take_turns<B: Body>(kernel: &mut Kernel<B>, bound: u64, given: Given, turns: u32) -> BodyVerdict
-    requires { kernel.old.bound ≡ bound }
+fn take_turns<B: Body>(kernel: &mut Kernel<B>, given: Given, turns: u32) -> BodyVerdict
     ensures follows { result ≡ BodyVerdict.Follows → HasFollowed B.meaning kernel.old (given ∷ []) kernel.new }
     ensures stays { result ≢ BodyVerdict.Follows → HasFollowed B.meaning kernel.old [] kernel.new }
     ensures differs { result ≡ BodyVerdict.Differs → DoesOtherwise B.meaning kernel.new given }
     ensures long { result ≡ BodyVerdict.Long → kernel.new.taken ≡ kernel.old.taken + turns }
     ensures full { result ≡ BodyVerdict.Full → 2 ^ 31 ≤ kernel.new.taken }
-    ensures bound { kernel.new.bound ≡ bound }
 {
     for _ in 0..turns {
-        let verdict = take_turn(kernel, bound, given);
+        let verdict = take_turn(kernel, given);
         if verdict != BodyVerdict::Long {
             return verdict;
         }
@@ -146,18 +141,15 @@ fn given_at(journal: &[Given], at: usize) -> Given
 #[tactic(auto, using(crate::proofs::Journals::all_followed, crate::proofs::Following::nothing_yet))]
 fn replay_all<B: Body>(
     kernel: &mut Kernel<B>,
-    bound: u64,
     journal: &[Given],
     turns: u32,
 ) -> Result<(), Departure>
-    requires { kernel.old.bound ≡ bound }
     ensures follows { IfOk result (λ _. HasFollowed B.meaning kernel.old journal.now kernel.new) }
     ensures departs { IfErr result (Departs B.meaning kernel.old journal.now kernel.new turns) }
-    ensures bound { kernel.new.bound ≡ bound }
 {
     for at in 0..journal.len() {
         let given = given_at(journal, at);
-        let why = take_turns(kernel, bound, given, turns);
+        let why = take_turns(kernel, given, turns);
         if why != BodyVerdict::Follows {
             return Err(Departure { at, why });
         }
@@ -166,12 +158,11 @@ fn replay_all<B: Body>(
 }
 
 impl<B: Body> Shadow<B> {
-    /// A shadow from this kernel on, in which a stretch takes at most this many units.
-    pub fn new(kernel: Kernel<B>, bound: u64) -> Shadow<B>
-        requires { kernel.bound ≡ bound }
+    /// A shadow from this kernel on.
+    pub fn new(kernel: Kernel<B>) -> Shadow<B>
         ensures { result ≡ kernel }
     {
-        Shadow { kernel, bound }
+        Shadow { kernel }
     }
 
     /// Its kernel.
@@ -191,7 +182,7 @@ impl<B: Body> Shadow<B> {
         ensures long { result ≡ BodyVerdict.Long → self.new.taken ≡ self.old.taken + turns }
         ensures full { result ≡ BodyVerdict.Full → 2 ^ 31 ≤ self.new.taken }
     {
-        take_turns(&mut self.kernel, self.bound, given, turns)
+        take_turns(&mut self.kernel, given, turns)
     }
 
     /// The whole of a journal, each thing in it in at most `turns` turns of the text; or the first that the text does
@@ -200,7 +191,7 @@ impl<B: Body> Shadow<B> {
         ensures follows { IfOk result (λ _. HasFollowed B.meaning self.old journal.now self.new) }
         ensures departs { IfErr result (Departs B.meaning self.old journal.now self.new turns) }
     {
-        replay_all(&mut self.kernel, self.bound, journal, turns)
+        replay_all(&mut self.kernel, journal, turns)
     }
 
     /// The counts of its kernel begin again, as by `Kernel::restart_count`.

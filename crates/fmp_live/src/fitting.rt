@@ -1,4 +1,4 @@
-//! Whether a body stands behind a call with an out place.
+//! Whether a body stands after a call with an out place.
 ghost use Rattle.std.specs.Prelude.{◌≡◌};
 ghost use Rattle.fmp_instructions.specs.Instructions.{code_tables, found_instructions, instructions_at};
 ghost use Rattle.fmp_instructions.specs.Machine.{call_before as instruction_before};

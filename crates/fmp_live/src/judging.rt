@@ -1,7 +1,9 @@
 //! Whether a table of live locals keeps to the code.
 ghost use Rattle.std.specs.Prelude.{◌≡◌, ◌+◌, ◌<◌, ◌^◌, ℕ, IsTrue, Some, false, length, slice_get};
 ghost use Rattle.fmp_instructions.specs.Machine.{call_before as instruction_before};
-ghost use Rattle.fmp_live.specs.LiveLocals.{IsLiveTable, KeepsAwaits, KeepsGoes, is_awaited as awaited, is_named as named, is_needed as needed, is_replied as replied, is_within as within, live_table};
+ghost use Rattle.fmp_live.specs.LiveLocals.{IsLiveTable, KeepsAwaits, KeepsGoes, is_awaited as awaited};
+ghost use Rattle.fmp_live.specs.LiveLocals.{is_named as named, is_needed as needed, is_replied as replied};
+ghost use Rattle.fmp_live.specs.LiveLocals.{is_within as within, live_table};
 
 use crate::live_rows::{LiveRows, is_live, row_at};
 use fmp_instructions::Instruction;

@@ -1,4 +1,4 @@
-//! The laws, each the contract of a function that does nothing.
+//! Laws of live locals, each the contract of a function that does nothing.
 ghost use Rattle.std.specs.Prelude.{ℕ, Bool, List, false};
 ghost use Rattle.fmp_bisimulation.specs.Alike.{Alike, AlikeStates};
 ghost use Rattle.fmp_bisimulation.specs.Closed.{BothAlike, IsChained, KeepsAlike};

@@ -48,7 +48,7 @@ impl LiveRows {
 }
 
 impl LiveLocals {
-    /// Which locals of a body are live at a place, where it goes on from there or awaits a reply there. A local behind
+    /// Which locals of a body are live at a place, where it goes on from there or awaits a reply there. A local after
     /// the end of the row is live.
     pub fn row(&self, body: u8, place: u16, goes: bool) -> &[bool]
         ensures { result.now ≡ row_of (table_at (live_tables self.now) body) place goes }

@@ -42,7 +42,7 @@ pub enum Relation {
 /// What a test asks of a state.
 #[derive(Clone, Copy)]
 pub enum TestedFact {
-    /// A number stands so to this value.
+    /// A number has this relation to this value.
     Compares {
         measure: Measure,
         relation: Relation,
@@ -75,7 +75,7 @@ pub struct ConditionTest {
 pub struct Condition {
     /// How many tests there are, 1 to 8. The first one begins an alternative.
     pub count: usize,
-    /// The tests, with anything behind the last one.
+    /// The tests, with anything after the last one.
     pub tests: [ConditionTest; 8],
 }
 
@@ -85,7 +85,7 @@ fn is_same_number(a: i32, b: i32) -> bool
     a == b
 }
 
-/// Whether a number stands so to another.
+/// Whether a number has this relation to another.
 fn compares(relation: Relation, a: i32, b: i32) -> bool
     ensures { result ≡ spec.compares relation a b }
 {

@@ -1,4 +1,4 @@
-//! The laws, each the contract of a function that does nothing.
+//! Laws of monitors, each the contract of a function that does nothing.
 ghost use Rattle.std.specs.Prelude.{◌≡◌, ◌∷◌, List};
 ghost use Rattle.fmp_base.specs.declared.events.Line.{Line};
 ghost use Rattle.fmp_base.specs.States.{KernelState};

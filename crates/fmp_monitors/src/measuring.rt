@@ -3,7 +3,6 @@ ghost use Rattle.std.specs.Prelude.{◌≡◌, get_or, length, pos};
 ghost use Rattle.fmp_base.specs.DataQueueCalls.{words_at};
 ghost use Rattle.fmp_base.specs.FlagCalls.{pattern_at};
 ghost use Rattle.fmp_base.specs.MailboxCalls.{messages_at};
-ghost use Rattle.fmp_base.specs.Runs.{state_word};
 ghost use Rattle.fmp_base.specs.States.{processor_at, task_at};
 ghost use Rattle.fmp_monitors.specs.Conditions as spec;
 
@@ -118,25 +117,6 @@ pub fn measured(measure: Measure, state: &KernelState) -> i32
     }
 }
 
-/// The word for a state of a task.
-fn word_of(phase: Phase, suspended: bool, runs: bool) -> StateWord
-    ensures { result ≡ state_word phase suspended runs }
-{
-    match (phase, suspended) {
-        (Phase::Dormant, _) => StateWord::Dormant,
-        (Phase::Waiting(_), true) => StateWord::WaitingSuspended,
-        (Phase::Waiting(_), false) => StateWord::Waiting,
-        (Phase::Ready, true) => StateWord::Suspended,
-        (Phase::Ready, false) => {
-            if runs {
-                StateWord::Running
-            } else {
-                StateWord::Ready
-            }
-        }
-    }
-}
-
 /// The task that a processor runs, if it runs one.
 pub fn task_on(state: &KernelState, processor: u8) -> Option<u8>
     ensures { result ≡ (processor_at state.now.state processor).run }
@@ -160,5 +140,5 @@ pub fn state_of(state: &KernelState, place: usize) -> StateWord
 {
     let task = task_of(state, place);
     let runs = is_run_on(state, task.processor, place);
-    word_of(task.phase, task.suspended, runs)
+    StateWord::of(task.phase, task.suspended, runs)
 }

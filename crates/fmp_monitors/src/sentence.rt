@@ -33,7 +33,7 @@ pub enum Sentence {
     },
     /// This is so after setup and after each event.
     Always(Condition),
-    /// This task, by its place, may wait for ever. It is said for a search, and no run fails it.
+    /// This task, by its place, may wait forever. It is said for a search, and no run fails it.
     Rests(usize),
     /// At the end this task, by its place, is in this state.
     End {

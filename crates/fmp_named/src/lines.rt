@@ -2,15 +2,17 @@
 ghost use Rattle.std.specs.Prelude.{◌≡◌, ◌++◌, ◌∷◌, [], ◌+◌, codes, decimal, OnOk};
 ghost use Rattle.fmp_base.specs.Names.{name_text};
 ghost use Rattle.fmp_base.specs.Systems.{cyclic_config, tables_of};
-ghost use Rattle.fmp_base.specs.Texts.{answer_text, caller_name, fault_text, handler_name, processor_text, reply_text, run_text, task_name, value_text};
+ghost use Rattle.fmp_base.specs.Texts.{answer_text, caller_name, handler_name, processor_text, reply_text, run_text};
+ghost use Rattle.fmp_base.specs.Texts.{task_name, value_text};
 ghost use Rattle.fmp_named.specs.Lines as spec;
-ghost use Rattle.fmp_named.specs.Lines.{argument_text, arguments_text, name_or_number, named_body, named_call, named_lines};
+ghost use Rattle.fmp_named.specs.Lines.{argument_text, arguments_text, name_or_number, named_body, named_call};
+ghost use Rattle.fmp_named.specs.Lines.{named_lines};
 
 use crate::names::{
     append_caller, append_cyclic, append_handler, append_running, append_task, object_name,
 };
 use crate::text::{append, append_number, append_numbered, append_processor, append_signed};
-use fmp_base::{Call, Caller, Fault, Handler, Line, Name, Parameter, Reply, System};
+use fmp_base::{Call, Caller, Handler, Line, Name, Parameter, Reply, System};
 use std::alloc::AllocError;
 
 /// Appends a name, or else a number.
@@ -50,7 +52,7 @@ pub fn is_out(parameter: Parameter) -> bool
     matches!(parameter, Parameter::Out)
 }
 
-/// Appends the comma that stands between an argument and those behind it, if there are any.
+/// Appends the comma that stands between an argument and those after it, if there are any.
 #[tactic(auto, unfolding(crate::specs::Lines::comma))]
 fn append_comma(behind: &[i32], out: &mut Vec<u8>) -> Result<(), AllocError>
     ensures { OnOk result (out.new.items ≡ out.old.items ++ spec.comma behind.now) }
@@ -61,7 +63,7 @@ fn append_comma(behind: &[i32], out: &mut Vec<u8>) -> Result<(), AllocError>
     }
 }
 
-/// Appends the first of these arguments, which is at this parameter, and the comma behind it if others are behind it.
+/// Appends the first of these arguments, which is at this parameter, and the comma after it if others are after it.
 #[tactic(auto, unfolding(crate::specs::Lines::first_argument))]
 fn append_first(
     sys: &System,
@@ -81,7 +83,7 @@ fn append_first(
     }
 }
 
-/// The numbers behind the first.
+/// The numbers after the first.
 #[tactic(auto, unfolding(crate::specs::Lines::behind_first))]
 fn behind_first(numbers: &[i32]) -> &[i32]
     ensures { result.now ≡ spec.behind_first numbers.now }
@@ -155,7 +157,7 @@ fn append_answer(reply: Option<Reply>, out: &mut Vec<u8>) -> Result<(), AllocErr
     }
 }
 
-/// Appends a task or a handler behind its processor.
+/// Appends a task or a handler after its processor.
 fn append_actor(
     sys: &System,
     processor: u8,
@@ -186,17 +188,6 @@ fn append_called(
     append_call(sys, call, out)?;
     append(b" ", out)?;
     append_answer(reply, out)
-}
-
-/// The name of a fault.
-pub fn fault_name(fault: Fault) -> &'static str
-    ensures { result.now ≡ fault_text fault }
-{
-    match fault {
-        Fault::Overflow => "F_OVF",
-        Fault::Division => "F_DIV",
-        Fault::Index => "F_IDX",
-    }
 }
 
 /// Appends what became of an actor.
@@ -305,7 +296,7 @@ fn append_body(sys: &System, line: Line, out: &mut Vec<u8>) -> Result<(), AllocE
             processor,
             caller,
             fault,
-        } => append_stopped(sys, processor, caller, fault_name(fault).as_bytes(), out),
+        } => append_stopped(sys, processor, caller, fault.name().as_bytes(), out),
         Line::Gets {
             processor,
             task,

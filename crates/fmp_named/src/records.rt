@@ -7,9 +7,9 @@ ghost use Rattle.fmp_base.specs.Systems.{tables_of};
 ghost use Rattle.fmp_base.specs.Texts.{caller_name};
 ghost use Rattle.fmp_named.specs.Records as spec;
 
-use crate::lines::{fault_name, is_out};
+use crate::lines::is_out;
 use crate::names::{append_caller, append_task, object_name};
-use crate::states::{append_wait, state_word};
+use crate::states::append_wait;
 use crate::text::append;
 use fmp_base::{Call, Caller, Handler, Line, Name, Parameter, Reply, System, TaskBlock, TaskState};
 use fmp_json::{begin, begin_list, end_list, finish, number_member, text_member};
@@ -33,7 +33,7 @@ fn write_processor(writer: &mut Writer, processor: u8) -> Result<(), AllocError>
     number_member(writer, "processor", u64::from(processor) + 1)
 }
 
-/// Writes an actor, behind its processor.
+/// Writes an actor, after its processor.
 fn write_actor(
     alloc: Global,
     sys: &System,
@@ -50,7 +50,7 @@ fn write_actor(
     text_member(writer, "actor", &name)
 }
 
-/// Writes numbers, one behind another.
+/// Writes numbers, one after another.
 fn write_numbers(writer: &mut Writer, numbers: &[i32]) -> Result<(), AllocError>
     ensures before { writer.new.before ≡ writer.old.before }
     ensures tokens { OnOk result (writer.new.tokens ≡ writer.old.tokens ++ spec.number_tokens numbers.now) }
@@ -282,13 +282,13 @@ fn write_rest(
 {
     match line {
         Line::Call { call, reply, .. } => write_call(alloc, sys, call, reply, writer),
-        Line::Fault { fault, .. } => text_member(writer, "fault", fault_name(fault)),
+        Line::Fault { fault, .. } => text_member(writer, "fault", fault.name()),
         Line::Gets { reply, .. } => write_reply(writer, Some(reply)),
         _ => Ok(()),
     }
 }
 
-/// A line of the event of this number, as an object of JSON with a line feed behind it.
+/// A line of the event of this number, as an object of JSON with a line feed after it.
 fn line_record(alloc: Global, sys: &System, number: u32, line: Line) -> Result<Vec<u8>, AllocError>
     ensures { IfOk result (λ out. out.items ≡ spec.line_record (tables_of sys.now) number line) }
 {
@@ -341,12 +341,12 @@ fn write_state(writer: &mut Writer, name: &str, state: TaskState) -> Result<(), 
     ensures tokens { OnOk result (writer.new.tokens ≡ writer.old.tokens ++ spec.state_members name.now state) }
 {
     text_member(writer, "task", name)?;
-    text_member(writer, "state", state_word(state.word))?;
+    text_member(writer, "state", state.word.name())?;
     write_processor(writer, state.processor)?;
     number_member(writer, "priority", u64::from(state.priority))
 }
 
-/// The state of the task at a place, as an object of JSON with a line feed behind it.
+/// The state of the task at a place, as an object of JSON with a line feed after it.
 fn state_record(
     alloc: Global,
     sys: &System,

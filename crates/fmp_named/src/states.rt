@@ -2,27 +2,12 @@
 ghost use Rattle.std.specs.Prelude.{◌≡◌, ◌++◌, ◌∷◌, [], codes, decimal, OnOk};
 ghost use Rattle.fmp_base.specs.declared.states.WaitCause.TheVariants as cause;
 ghost use Rattle.fmp_base.specs.Systems.{tables_of};
-ghost use Rattle.fmp_base.specs.Texts.{word_text};
 ghost use Rattle.fmp_named.specs.States as spec;
 
 use crate::names::{append_task, kind_word, name_at};
 use crate::text::{append, append_number, append_numbered, append_processor};
-use fmp_base::{FlagMode, ObjectKind, Phase, StateWord, System, TaskBlock, TaskState, WaitCause};
+use fmp_base::{FlagMode, ObjectKind, Phase, System, TaskBlock, TaskState, WaitCause};
 use std::alloc::AllocError;
-
-/// A state in the words of a trace.
-pub fn state_word(word: StateWord) -> &'static str
-    ensures { result.now ≡ word_text word }
-{
-    match word {
-        StateWord::Running => "RUNNING",
-        StateWord::Ready => "READY",
-        StateWord::Waiting => "WAITING",
-        StateWord::Suspended => "SUSPENDED",
-        StateWord::WaitingSuspended => "WAITING-SUSPENDED",
-        StateWord::Dormant => "DORMANT",
-    }
-}
 
 /// Appends an object by its kind and its name.
 pub fn append_object(
@@ -41,7 +26,7 @@ pub fn append_object(
     }
 }
 
-/// Appends words, and an object behind them.
+/// Appends words, and an object after them.
 fn append_about(
     sys: &System,
     words: &[u8],
@@ -176,7 +161,7 @@ pub fn append_state(
 {
     append_task(sys, task, out)?;
     append(b" ", out)?;
-    append(state_word(state.word).as_bytes(), out)?;
+    append(state.word.name().as_bytes(), out)?;
     append_processor(state.processor, out)?;
     append_number(u32::from(state.priority), out)?;
     append_waiting(sys, block, out)?;
@@ -184,7 +169,7 @@ pub fn append_state(
 }
 
 /// Appends a line for each task, in order of number, from what is shown and what is kept of them: its state, its
-/// processor and its priority as at the end of a trace, and behind them what it waits for and until when.
+/// processor and its priority as at the end of a trace, and after them what it waits for and until when.
 pub fn append_states(
     sys: &System,
     states: &[TaskState],

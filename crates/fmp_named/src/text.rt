@@ -20,7 +20,7 @@ pub fn append_number(number: u32, out: &mut Vec<u8>) -> Result<(), AllocError>
     append(Buffer::new().format(number).as_bytes(), out)
 }
 
-/// Appends a number behind words.
+/// Appends a number after words.
 pub fn append_numbered(words: &[u8], number: u32, out: &mut Vec<u8>) -> Result<(), AllocError>
     ensures { OnOk result (out.new.items ≡ out.old.items ++ (words.now ++ decimal number)) }
 {

@@ -1,4 +1,4 @@
-//! Bodies that go on for ever without a service call.
+//! Bodies that go on forever without a service call.
 ghost use Rattle.std.specs.Prelude.{◌≡◌, ◌<◌, ◌≤◌, ◌⊎◌, IfSome, IsTrue, Some, length};
 ghost use Rattle.fmp_base.specs.Stretches as ends;
 ghost use Rattle.fmp_instructions.specs.Machine.{code_meaning};
@@ -18,7 +18,7 @@ const TRIED_MOST: u32 = 1 << 18;
 /// What becomes of a body from a context on.
 #[derive(Clone, Copy, Debug, PartialEq, Eq)]
 pub enum Outlook {
-    /// It goes on for ever without a call.
+    /// It goes on forever without a call.
     Endless,
     /// It comes to a call, its end or a fault.
     Ends,
@@ -91,7 +91,7 @@ fn cut(body: &Vm<'_>, entry: u8, context: MachineContext) -> Option<MachineConte
     }
 }
 
-/// What becomes of a body from a context on. It goes on for ever if it comes again to a context at which a stretch of
+/// What becomes of a body from a context on. It goes on forever if it comes again to a context at which a stretch of
 /// it was cut. This takes at most 2^26 instructions.
 pub fn outlook_of(body: &Vm<'_>, entry: u8, context: MachineContext) -> Outlook
     requires entry { entry < length body.now }
@@ -117,7 +117,7 @@ pub fn outlook_of(body: &Vm<'_>, entry: u8, context: MachineContext) -> Outlook
     Outlook::Unknown
 }
 
-/// Whether the actor of the processor of this number, from 1, is known to go on for ever without a call, on a kernel
+/// Whether the actor of the processor of this number, from 1, is known to go on forever without a call, on a kernel
 /// over these bodies, as `outlook_of` tells of it.
 pub fn is_endless<'a>(kernel: &Kernel<Vm<'a>>, body: &Vm<'a>, p: u8) -> bool
     requires { body.now ≡ kernel.now.body }

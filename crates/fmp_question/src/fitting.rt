@@ -12,7 +12,7 @@ use fmp_instructions::Code;
 use fmp_kernel::Kernel;
 use fmp_live::is_behind_out;
 
-/// Whether a body of which this is kept stands behind a call with an out place.
+/// Whether a body of which this is kept stands after a call with an out place.
 fn held_behind_out(code: &Code, body: u8, held: &Held<MachineContext>) -> bool
     ensures { result ≡ spec.held_behind_out (code_tables code.now) body held.now }
 {
@@ -22,7 +22,7 @@ fn held_behind_out(code: &Code, body: u8, held: &Held<MachineContext>) -> bool
     }
 }
 
-/// Whether a body of which this is kept, if anything is, stands behind no such call.
+/// Whether a body of which this is kept, if anything is, stands after no such call.
 fn is_clear(code: &Code, body: u8, held: Option<Held<MachineContext>>) -> bool
     ensures { result ≡ spec.is_clear (code_tables code.now) body held }
 {
@@ -42,14 +42,14 @@ fn is_body_clear(sys: &System, code: &Code, t: u8, held: Option<Held<MachineCont
     }
 }
 
-/// Whether a task is started, and stands behind no such call.
+/// Whether a task is started, and stands after no such call.
 fn is_task_clear(kernel: &Kernel<Vm<'_>>, sys: &System, code: &Code, t: u8) -> bool
     ensures { result ≡ spec.is_task_clear (tables_of sys.now) (code_tables code.now) kernel.now.world t }
 {
     is_started(kernel.tables(), t) && is_body_clear(sys, code, t, kernel.held(t))
 }
 
-/// Whether a handler of which this is kept, if one runs, stands behind no such call.
+/// Whether a handler of which this is kept, if one runs, stands after no such call.
 fn is_handler_clear(code: &Code, held: Option<HandlerContext<Held<MachineContext>>>) -> bool
     ensures { result ≡ spec.is_handler_clear (code_tables code.now) held }
 {
@@ -59,7 +59,7 @@ fn is_handler_clear(code: &Code, held: Option<HandlerContext<Held<MachineContext
     }
 }
 
-/// Whether the caller on a processor stands behind no such call.
+/// Whether the caller on a processor stands after no such call.
 fn is_caller_clear(
     kernel: &Kernel<Vm<'_>>,
     sys: &System,
@@ -95,7 +95,7 @@ fn is_reply_ok(reply: Option<Reply>) -> bool
     }
 }
 
-/// Whether a line that was just told on a kernel tells E_OK, or its caller stands behind no call with an out place.
+/// Whether a line that was just told on a kernel tells E_OK, or its caller stands after no call with an out place.
 #[tactic(auto, unfolding(fmp_live::specs::Fits::is_written))]
 fn is_written(kernel: &Kernel<Vm<'_>>, sys: &System, code: &Code, line: &Line) -> bool
     ensures { result ≡ spec.is_written (tables_of sys.now) (code_tables code.now) kernel.now.world line.now }

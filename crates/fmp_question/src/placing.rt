@@ -23,7 +23,7 @@ fn pc_of(held: &Held<MachineContext>) -> u16
     }
 }
 
-/// The place of the last call of a body of which this is kept, 0 if nothing is. A call leaves its body right behind it.
+/// The place of the last call of a body of which this is kept, 0 if nothing is. A call leaves its body right after it.
 pub fn last_call(held: Option<Held<MachineContext>>) -> u16
     ensures { result ≡ spec.last_call held }
 {
@@ -33,7 +33,7 @@ pub fn last_call(held: Option<Held<MachineContext>>) -> u16
     }
 }
 
-/// Whether the next instruction of a body is the one behind a call.
+/// Whether the next instruction of a body is the one after a call.
 fn is_next(site: CallSite, held: &Held<MachineContext>) -> bool
     ensures { result ≡ spec.is_behind site (Some held.now) }
 {
@@ -90,14 +90,14 @@ pub fn is_started(tables: &KernelState, t: u8) -> bool
     !is_dormant(tables.task(t).phase)
 }
 
-/// Whether a task is started, and stands behind a call.
+/// Whether a task is started, and stands after a call.
 fn is_task_behind(kernel: &Kernel<Vm<'_>>, sys: &System, site: CallSite, t: u8) -> bool
     ensures { result ≡ spec.is_task_behind (tables_of sys.now) kernel.now.world site t }
 {
     is_started(kernel.tables(), t) && has_body(sys, site, t) && is_behind(site, kernel.held(t))
 }
 
-/// Whether what is kept of a handler stands behind a call.
+/// Whether what is kept of a handler stands after a call.
 fn is_handler_behind(site: CallSite, held: Option<HandlerContext<Held<MachineContext>>>) -> bool
     ensures { result ≡ spec.is_handler_behind site held }
 {
@@ -107,7 +107,7 @@ fn is_handler_behind(site: CallSite, held: Option<HandlerContext<Held<MachineCon
     }
 }
 
-/// Whether the caller on a processor stands behind a call.
+/// Whether the caller on a processor stands after a call.
 fn is_caller_behind(
     kernel: &Kernel<Vm<'_>>,
     sys: &System,

@@ -4,7 +4,8 @@ ghost use Rattle.std.specs.Prelude.{◌<◌, ◌≡◌, ◌^◌, [], IsTrue, Non
 ghost use Rattle.std.specs.List.{position};
 ghost use Rattle.fmp_schedules.specs.Deadlocks.{is_interrupt as is_request, may_interrupt as may};
 ghost use Rattle.fmp_question.specs.Forbidden.{forbids, is_answered as answers, is_fault as stops_with};
-ghost use Rattle.fmp_question.specs.Forbidden.{is_put as prints, is_same_code as same_code, is_same_fault as same_fault};
+ghost use Rattle.fmp_question.specs.Forbidden.{is_put as prints, is_same_code as same_code};
+ghost use Rattle.fmp_question.specs.Forbidden.{is_same_fault as same_fault};
 ghost use Rattle.fmp_question.specs.Forbidden.{tells as names};
 ghost use Rattle.fmp_question.specs.Behind.{CanBegin};
 
@@ -63,9 +64,9 @@ pub struct Question {
     pub nevers: Vec<Never>,
     /// The answers that must never be given, each to one call.
     pub nevers_at: Vec<NeverAt>,
-    /// The sentences that must hold, with nothing kept of any.
+    /// The sentences that must hold, and the limits of single interrupts, each with what is kept of it before setup.
     pub monitors: Vec<Monitor>,
-    /// For each task, by its place, whether it may wait forever, as servers do. Tasks behind the last one may not.
+    /// For each task, by its place, whether it may wait forever, as servers do. Tasks after the last one may not.
     pub rest: Vec<bool>,
     /// When the clock may advance.
     pub ticks: Ticks,
@@ -77,15 +78,17 @@ pub struct Question {
     pub all: bool,
     /// How many states may be kept.
     pub states: u32,
-    /// The events behind which the search begins, each of which does something: none, if it begins at setup. Behind
+    /// How many seconds the search may take; any number, if none is given.
+    pub seconds: Option<u32>,
+    /// The events after which the search begins, each of which does something: none, if it begins at setup. After
     /// others nothing is claimed of all schedules.
     pub after: Vec<Event>,
 }
 
 impl Question {
-    /// Deadlocks and bodies that go on for ever without a call are looked for, and nothing else. No task may wait
+    /// Deadlocks and bodies that go on forever without a call are looked for, and nothing else. No task may wait
     /// forever. Ticks and interrupts come at any time, and any number of activations and wakeups may be queued. The
-    /// search stops at the first finding, or at 2^24 states.
+    /// search stops at the first finding, or at 2^24 states, and takes any time.
     pub fn new(alloc: Global) -> Question
         ensures nevers { result.nevers.items ≡ [] }
         ensures nevers_at { result.nevers_at.items ≡ [] }
@@ -96,6 +99,7 @@ impl Question {
         ensures queued { result.queued ≡ None }
         ensures all { result.all ≡ false }
         ensures states { result.states ≡ 2 ^ 24 }
+        ensures seconds { result.seconds ≡ None }
         ensures after { result.after.items ≡ [] }
     {
         Question {
@@ -108,6 +112,7 @@ impl Question {
             queued: None,
             all: false,
             states: 1 << 24,
+            seconds: None,
             after: Vec::new(alloc),
         }
     }
@@ -125,8 +130,8 @@ impl Question {
 }
 
 impl Question {
-    /// Whether a search can begin behind the events: no sentences are asked about where there are such events, and
-    /// there are no more interrupts among them than a row tells.
+    /// Whether a search can begin after the events: nothing is watched where there are such events, and there are no
+    /// more interrupts among them than a row tells.
     pub fn can_begin(&self) -> bool
         ensures { IsTrue result → CanBegin self.now }
     {

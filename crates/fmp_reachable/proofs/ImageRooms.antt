@@ -13,10 +13,10 @@ use Rattle.fmp_base.specs.Meanings.{cyclic_start, handler_start, interrupt_start
 use Rattle.fmp_base.specs.Systems.{body_of, defined_for, found}
 use Rattle.fmp_worlds.specs.Settled.{IsThere}
 use Rattle.fmp_instructions.specs.Instructions.{BodyTables}
-use Rattle.fmp_image_parts.specs.declared.heads.BodyHead.{BodyHead}
-use Rattle.fmp_image_parts.specs.Bodies.{IsBody}
-use Rattle.fmp_image_parts.specs.Pairs.{AllPairs}
-use Rattle.fmp_image_parts.proofs.BodyLaws.{all_verified}
+use Rattle.fmp_image_bytes.specs.declared.heads.BodyHead.{BodyHead}
+use Rattle.fmp_image_bytes.specs.Bodies.{IsBody}
+use Rattle.fmp_image_bytes.specs.Pairs.{AllPairs}
+use Rattle.fmp_image_bytes.proofs.BodyLaws.{all_verified}
 use Rattle.fmp_image_bytes.specs.Images.{ImageTables, IsImage}
 use Rattle.fmp_image_bytes.proofs.Entries.{task_bodies, cyclic_bodies, interrupt_bodies}
 use Rattle.fmp_reachable.specs.Rooms.{HasBodies, HasRooms}

@@ -1,4 +1,4 @@
-//! The laws, each the contract of a function that does nothing.
+//! Laws of the rooms of bodies, each the contract of a function that does nothing.
 ghost use Rattle.std.specs.Prelude.{◌≡◌, ◌<◌, ℕ, ℤ, pos, List, Some, get_or, slice_get};
 ghost use Rattle.fmp_base.specs.declared.events.Event.{Event};
 ghost use Rattle.fmp_base.specs.Contexts.{OfCall};

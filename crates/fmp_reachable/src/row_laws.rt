@@ -1,4 +1,4 @@
-//! The laws, each the contract of a function that does nothing.
+//! Laws of what rows tell, each the contract of a function that does nothing.
 ghost use Rattle.std.specs.Prelude.{◌≡◌, ℕ};
 ghost use Rattle.fmp_base.specs.Meanings.{World};
 ghost use Rattle.fmp_base.specs.States.{KernelState};

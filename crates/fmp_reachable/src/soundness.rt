@@ -62,15 +62,17 @@ fn is_clear_from(locals: &[i32; 64], first: u8) -> bool
     ensures long { length locals.now ≡ 64 }
     ensures clear { result ≡ true → (k : ℕ) → first ≤ k → k < 64 → get_or locals.now k (pos 0) ≡ pos 0 }
 {
-    for k in first..64 {
-        if locals[k as usize] != 0 {
-            return false;
+    // Counted, and not left at the first one: so several are looked at at once.
+    let mut others: u32 = 0;
+    for k in usize::from(first)..64 {
+        if locals[k] != 0 {
+            others += 1;
         }
     }
-    true
+    others == 0
 }
 
-/// Whether this is a context with 0 in its locals behind those of a body.
+/// Whether this is a context with 0 in its locals after those of a body.
 fn has_clear_locals(context: &MachineContext, own: u8) -> bool
     ensures { result ≡ true → HasClearLocals own context.now }
 {
@@ -84,7 +86,7 @@ fn local_count(kernel: &Kernel<Vm<'_>>, entry: u8) -> u8
     kernel.body().local_count(entry)
 }
 
-/// Whether a context is kept of the caller on processor p, with 0 in its locals behind those of the body of this
+/// Whether a context is kept of the caller on processor p, with 0 in its locals after those of the body of this
 /// entry.
 #[tactic(auto, using(crate::proofs::TestedLaws::own_locals))]
 fn keeps_own_locals(kernel: &Kernel<Vm<'_>>, p: u8, who: Caller, entry: u8) -> bool
@@ -276,6 +278,16 @@ fn is_quiet(tables: &KernelState) -> bool
     ensures { result ≡ true → (i : ℕ) → i < 32 → interrupt_config tables.now.system i ≡ None →
         is_pending tables.now.state.pending_interrupts i ≡ false }
 {
+    // Mostly none is pending. They are counted, so several are looked at at once.
+    let mut pending: u32 = 0;
+    for number in 0..INTERRUPTS {
+        if tables.is_interrupt_pending(number) {
+            pending += 1;
+        }
+    }
+    if pending == 0 {
+        return true;
+    }
     for i in 0..INTERRUPTS {
         if tables.is_interrupt_pending(i) && tables.interrupt_config(i).is_none() {
             return false;

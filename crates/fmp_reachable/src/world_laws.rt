@@ -1,4 +1,5 @@
-//! The laws, each the contract of a function that does nothing. `C` is the type of the contexts of bodies.
+//! Laws of the worlds that are reached, each the contract of a function that does nothing. `C` is the type of the
+//! contexts of bodies.
 ghost use Rattle.std.specs.Prelude.{List, ℕ};
 ghost use Rattle.fmp_base.specs.declared.events.Event.{Event};
 ghost use Rattle.fmp_base.specs.Meanings.{Meaning};

@@ -12,9 +12,9 @@ use Rattle.fmp_recording.specs.declared.recorded.RecordedLine.TheVariants as rec
 use Rattle.std.proofs.Math.Seq.{take-suc-set}
 use Rattle.fmp_recording.specs.Recordings.{act_by, act_in, all_came, arguments_in, call_in, came, cut, end_in, fault_in}
 use Rattle.fmp_recording.specs.Recordings.{in_front, in_front_of, is_restart, line_time, line_times, number_of}
-use Rattle.fmp_steps.proofs.LinesOf.{rest_whole}
+use Rattle.fmp_trace.proofs.LinesOf.{rest_whole}
 
--- what is behind others, or the fault
+-- what is after others, or the fault
 abbrev pub behind_all : {A : Type 0} → List A → Result (List A) RecordingFault → Result (List A) RecordingFault
 behind_all xs (Ok ys) = Ok (xs ++ ys)
 behind_all xs (Err f) = Err f
@@ -42,7 +42,7 @@ one_more_time ts line lines = by_test (is_restart line) where
   by_test true = ap (λ (xs : List (Option ℕ)). xs ++ line_times lines) (append-nil ts)
   by_test false = append_assoc ts (line_time line ∷ []) (line_times lines)
 
--- numbers behind others
+-- numbers after others
 abbrev pub behind_numbers : List ℤ → Option (List ℤ) → Option (List ℤ)
 behind_numbers xs None = None
 behind_numbers xs (Some ys) = Some (xs ++ ys)

@@ -1,4 +1,4 @@
--- A call looks at no argument behind those that its service takes.
+-- A call looks at no argument after those that its service takes.
 use Rattle.std.proofs.Common.{◌≡◌, ℤ, List, [], ◌∷◌, length, take, refl, arith}
 use Rattle.fmp_base.specs.declared.services.Service.{Service}
 use Rattle.fmp_base.specs.declared.services.Service.TheVariants as service

@@ -36,9 +36,9 @@ use Rattle.fmp_recording.specs.Recordings.{times_of, with_time}
 use Rattle.fmp_recording.specs.RecordingLaws.{IsRecorded, IsRecordedLine, IsTime, IsWord, IsWritable}
 use Rattle.fmp_recording.specs.RecordingLaws.{PrintedLinesReadBack, PrintedRecordingsReadBack, TimedRecordingsReadBack}
 use Rattle.fmp_recording.proofs.CallTables.{all_arguments, all_plain, call_again, is_plain, plain_name, read_name}
-use Rattle.fmp_steps.specs.Steps.{lines_of, numeral_value}
-use Rattle.fmp_steps.proofs.LinesOf.{IsLine, lines_of-ended}
-use Rattle.fmp_steps.proofs.Numbers.{numeral_value-decimal, decimal_digits}
+use Rattle.fmp_trace.specs.Steps.{lines_of, numeral_value}
+use Rattle.fmp_trace.proofs.LinesOf.{IsLine, lines_of-ended}
+use Rattle.fmp_trace.proofs.Numbers.{numeral_value-decimal, decimal_digits}
 
 -- neither a line feed nor an `@`
 abbrev is_clear : ℕ → Bool
@@ -93,7 +93,7 @@ untimed w h =
     ap (λ (k : ℕ). behind_blank w (cond (nat_lt k (length w)) (Some k) None)) n
     ∙ ap (λ (t : Bool). behind_blank w (cond t (Some (length w)) None)) out
 
--- a time stands behind such a line
+-- a time stands after such a line
 timed : (w rest : List ℕ) → Clear w → time_place (w ++ 32 ∷ 64 ∷ rest) ≡ Some (length w)
 timed w rest h =
     let text = w ++ 32 ∷ 64 ∷ rest in

@@ -28,7 +28,7 @@ use Rattle.fmp_recording.specs.Recordings.{int_in, is_restart, line_meaning, sai
 use Rattle.fmp_recording.specs.Recordings.{with_time, number_of, number_up_to, recorded_at, recorded_from, recorded_in}
 use Rattle.fmp_recording.specs.Recordings.{recorded_of, run_in, tick_in}
 use Rattle.fmp_recording.specs.Replaying.{first_refusal, new_kernel, or_else}
-use Rattle.fmp_steps.specs.Steps.{lines_of}
+use Rattle.fmp_trace.specs.Steps.{lines_of}
 
 -- its numbers are those of a system with this number of processors
 abbrev Fits : (processors : ℕ) → Given → Type 0

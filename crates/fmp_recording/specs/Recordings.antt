@@ -19,9 +19,9 @@ use Rattle.fmp_recording.specs.declared.faults.RecordingFault.{RecordingFault}
 use Rattle.fmp_recording.specs.declared.faults.RecordingFault.TheVariants as fault
 use Rattle.fmp_recording.specs.declared.recorded.RecordedLine.{RecordedLine}
 use Rattle.fmp_recording.specs.declared.recorded.RecordedLine.TheVariants as recorded
-use Rattle.fmp_steps.specs.Steps.{lines_of, numeral_value}
+use Rattle.fmp_trace.specs.Steps.{lines_of, numeral_value}
 
--- arguments, each behind a blank
+-- arguments, each after a blank
 abbrev pub arguments_text : List ℤ → List ℕ
 arguments_text [] = []
 arguments_text (x ∷ xs) = codes " " ++ (signed_decimal x ++ arguments_text xs)
@@ -68,7 +68,7 @@ timed_text [] times = []
 timed_text (g ∷ gs) [] = []
 timed_text (g ∷ gs) (t ∷ ts) = given_text g ++ (time_text t ++ 10 ∷ timed_text gs ts)
 
--- a word, and what stands behind it, from the blank on that ends it
+-- a word, and what stands after it, from the blank on that ends it
 pub record Cut : Type 0 where
   pub word : List ℕ
   pub rest : List ℕ
@@ -110,7 +110,7 @@ in_front_of None xs = None
 in_front_of (Some x) None = None
 in_front_of (Some x) (Some xs) = Some (x ∷ xs)
 
--- n arguments, each behind a blank, and nothing behind them
+-- n arguments, each after a blank, and nothing after them
 abbrev pub arguments_in : ℕ → List ℕ → Option (List ℤ)
 arguments_in zero [] = Some []
 arguments_in zero (b ∷ bs) = None
@@ -151,7 +151,7 @@ abbrev pub end_in : List ℕ → Option Act
 end_in [] = Some act.End
 end_in (b ∷ bs) = None
 
--- what a body does, from its word and what stands behind
+-- what a body does, from its word and what stands after it
 abbrev pub act_by : Cut → Option Act
 act_by c =
     if bytes_eq c.word (codes "end") then end_in c.rest
@@ -184,7 +184,7 @@ abbrev pub tick_in : List ℕ → Result Given RecordingFlaw
 tick_in [] = Ok given.Tick
 tick_in (b ∷ bs) = Err flaw.Form
 
--- what comes, from its word and what stands behind
+-- what comes, from its word and what stands after it
 abbrev pub given_by : (processors : ℕ) → Cut → Result Given RecordingFlaw
 given_by processors c =
     if bytes_eq c.word (codes "run") then run_in processors c.rest
@@ -201,7 +201,7 @@ abbrev pub behind_blank : (line : List ℕ) → (at_sign : Option ℕ) → Optio
 behind_blank line None = None
 behind_blank line (Some k) = if nat_le 1 k && nat_eq (get_or line (k - 1) 0) 32 then Some (k - 1) else None
 
--- where ` @` stands in a line, if its first `@` is behind a blank
+-- where ` @` stands in a line, if its first `@` is after a blank
 abbrev pub time_place : List ℕ → Option ℕ
 time_place line = behind_blank line (position (λ b. nat_eq b 64) line)
 
@@ -229,7 +229,7 @@ with_time (Err f) time = Err f
 with_time (Ok g) (Err f) = Err f
 with_time (Ok g) (Ok time) = Ok g
 
--- What a line without its line feed says: what comes, and maybe ` @N` behind it, where N says when it came, in
+-- What a line without its line feed says: what comes, and maybe ` @N` after it, where N says when it came, in
 -- microseconds since the start. Of two flaws it has that of what comes.
 abbrev pub line_meaning : (processors : ℕ) → List ℕ → Result Given RecordingFlaw
 line_meaning processors line =

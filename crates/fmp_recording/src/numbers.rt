@@ -1,6 +1,6 @@
 //! Numbers in decimal digits, of any length.
 ghost use Rattle.std.specs.Prelude.{◌≡◌};
-ghost use Rattle.fmp_steps.specs.Steps.{digits_number, numeral_value};
+ghost use Rattle.fmp_trace.specs.Steps.{digits_number, numeral_value};
 ghost use Rattle.fmp_recording.specs.Recordings.{capped, negative, number_of, number_up_to, positive, time_number};
 
 use crate::faults::RecordingFlaw;

@@ -2,7 +2,8 @@
 ghost use Rattle.std.specs.Prelude.{◌≡◌, ◌++◌, ◌∷◌, [], OnOk, decimal};
 ghost use Rattle.std.specs.Fmt.{signed_decimal};
 ghost use Rattle.fmp_recording.specs.RecordingLaws.{PrintedLinesReadBack, PrintedRecordingsReadBack};
-ghost use Rattle.fmp_recording.specs.Recordings.{act_text, arguments_text, given_text, recorded_lines_text, recorded_text, recording_text};
+ghost use Rattle.fmp_recording.specs.Recordings.{act_text, arguments_text, given_text, recorded_lines_text};
+ghost use Rattle.fmp_recording.specs.Recordings.{recorded_text, recording_text};
 
 use crate::recorded::RecordedLine;
 use fmp_base::Fault;

@@ -1,8 +1,14 @@
 //! The reader of recordings.
-ghost use Rattle.std.specs.Prelude.{◌≡◌, ◌≤◌, ◌++◌, ◌∷◌, [], IfErr, IfOk, MatchOption, None, Ok, OnOk, Some, suc, take, ℕ};
+ghost use Rattle.std.specs.Prelude.{◌≡◌, ◌≤◌, ◌++◌, ◌∷◌, [], IfErr, IfOk, MatchOption, None, Ok, OnOk, Some, suc, take};
+ghost use Rattle.std.specs.Prelude.{ℕ};
 ghost use Rattle.std.specs.Str.{bytes_eq};
 ghost use Rattle.fmp_base.specs.Words.{service_named};
-ghost use Rattle.fmp_recording.specs.Recordings.{IsFaultOf, act_in as spec_act, arguments_in, call_in as spec_call, came, end_in as spec_end, fault_in as spec_fault, fault_named, given_in as spec_given, in_front_of, int_in as spec_int, is_restart as spec_restart, line_meaning, line_times, recorded_at as spec_at, recorded_in as spec_recorded, recorded_of, recording_of, run_in as spec_run, tick_in as spec_tick, times_of};
+ghost use Rattle.fmp_recording.specs.Recordings.{IsFaultOf, act_in as spec_act, arguments_in, call_in as spec_call};
+ghost use Rattle.fmp_recording.specs.Recordings.{came, end_in as spec_end, fault_in as spec_fault, fault_named};
+ghost use Rattle.fmp_recording.specs.Recordings.{given_in as spec_given, in_front_of, int_in as spec_int};
+ghost use Rattle.fmp_recording.specs.Recordings.{is_restart as spec_restart, line_meaning, line_times};
+ghost use Rattle.fmp_recording.specs.Recordings.{recorded_at as spec_at, recorded_in as spec_recorded, recorded_of};
+ghost use Rattle.fmp_recording.specs.Recordings.{recording_of, run_in as spec_run, tick_in as spec_tick, times_of};
 
 use crate::cutting::{first_line, first_word};
 use crate::faults::{RecordingFault, RecordingFlaw};
@@ -32,7 +38,7 @@ fn find_fault(word: &[u8]) -> Option<Fault>
     }
 }
 
-/// The first argument of those that are left, behind its blank, and what is left behind it.
+/// The first argument of those that are left, after its blank, and what is left after it.
 #[tactic(auto, using(crate::proofs::LineByLine::no_argument, crate::proofs::LineByLine::bad_argument))]
 fn next_argument(rest: &[u8]) -> Option<(i32, &[u8])>
     ensures { MatchOption result ((n : ℕ) → arguments_in (suc n) rest.now ≡ None)
@@ -45,7 +51,7 @@ fn next_argument(rest: &[u8]) -> Option<(i32, &[u8])>
     Some((number_in(word)?, after))
 }
 
-/// This number of arguments, each behind a blank, with nothing behind them. Zeros stand behind them in the array.
+/// This number of arguments, each after a blank, with nothing after them. Zeros stand after them in the array.
 #[tactic(auto, using(crate::proofs::LineByLine::no_number, crate::proofs::LineByLine::next_number, crate::proofs::LineByLine::all_numbers, crate::proofs::LineByLine::more_numbers))]
 fn read_arguments(count: u8, text: &[u8]) -> Option<[i32; 4]>
     requires { count ≤ 4 }
@@ -62,7 +68,7 @@ fn read_arguments(count: u8, text: &[u8]) -> Option<[i32; 4]>
     if rest.is_empty() { Some(numbers) } else { None }
 }
 
-/// The call of this name with the arguments that stand behind it.
+/// The call of this name with the arguments that stand after it.
 #[tactic(auto, using(crate::proofs::Padding::padded_array))]
 fn call_in(word: &[u8], rest: &[u8]) -> Option<Act>
     ensures { result ≡ spec_call (service_named word.now) rest.now }
@@ -72,7 +78,7 @@ fn call_in(word: &[u8], rest: &[u8]) -> Option<Act>
     Some(Act::Call(Call::request(service, arguments)))
 }
 
-/// The fault whose name stands behind a blank.
+/// The fault whose name stands after a blank.
 fn fault_in(rest: &[u8]) -> Option<Act>
     ensures { result ≡ spec_fault rest.now }
 {
@@ -82,7 +88,7 @@ fn fault_in(rest: &[u8]) -> Option<Act>
     Some(Act::Fault(find_fault(word)?))
 }
 
-/// An end, if nothing stands behind it.
+/// An end, if nothing stands after it.
 fn end_in(rest: &[u8]) -> Option<Act>
     ensures { result ≡ spec_end rest.now }
 {
@@ -100,7 +106,7 @@ fn is_same_word(word: &[u8], name: &[u8]) -> bool
     word == name
 }
 
-/// What a body does, as it stands behind a blank.
+/// What a body does, as it stands after a blank.
 #[tactic(auto, using(crate::proofs::LineByLine::a_call))]
 fn act_in(rest: &[u8]) -> Option<Act>
     ensures { result ≡ spec_act rest.now }
@@ -118,7 +124,7 @@ fn act_in(rest: &[u8]) -> Option<Act>
     }
 }
 
-/// What stands behind `run`.
+/// What stands after `run`.
 fn run_in(processors: u8, rest: &[u8]) -> Result<Given, RecordingFlaw>
     ensures { result ≡ spec_run processors rest.now }
 {
@@ -133,7 +139,7 @@ fn run_in(processors: u8, rest: &[u8]) -> Result<Given, RecordingFlaw>
     }
 }
 
-/// What stands behind `int`.
+/// What stands after `int`.
 fn int_in(rest: &[u8]) -> Result<Given, RecordingFlaw>
     ensures { result ≡ spec_int rest.now }
 {
@@ -143,7 +149,7 @@ fn int_in(rest: &[u8]) -> Result<Given, RecordingFlaw>
     Ok(Given::Int(ranged_in(word, INTERRUPTS)?))
 }
 
-/// A tick, if nothing stands behind it.
+/// A tick, if nothing stands after it.
 fn tick_in(rest: &[u8]) -> Result<Given, RecordingFlaw>
     ensures { result ≡ spec_tick rest.now }
 {

@@ -6,6 +6,6 @@ use fmp_outside::Given;
 pub enum RecordedLine {
     /// This came.
     Came(Given),
-    /// The counts began again here, as by `Hosted::restart_count`.
+    /// The counts began again here, as by `HostedSystem::restart_count`.
     Restart,
 }

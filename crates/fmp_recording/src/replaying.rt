@@ -4,7 +4,10 @@ ghost use Rattle.fmp_base.specs.Runs.{task_state};
 ghost use Rattle.fmp_base.specs.States.{places_from};
 ghost use Rattle.fmp_base.specs.Systems.{tables_of};
 ghost use Rattle.fmp_base.specs.Texts.{states_text};
-ghost use Rattle.fmp_recording.specs.Replaying.{HasDone, HasDoneAll, HasReplayed, HasRun, HasTaken, IsReplay, IsReplayFault, IsWhyNotAll, IsWhyNotDone, IsWhyNotRun, IsWhyNotTaken, IsWhyStopped, RecordedLinesAreReplayed, RecordedRunsAreReplayed, WholeRunsAreReplayed, new_kernel};
+ghost use Rattle.fmp_recording.specs.Replaying.{HasDone, HasDoneAll, HasReplayed, HasRun, HasTaken, IsReplay};
+ghost use Rattle.fmp_recording.specs.Replaying.{IsReplayFault, IsWhyNotAll, IsWhyNotDone, IsWhyNotRun, IsWhyNotTaken};
+ghost use Rattle.fmp_recording.specs.Replaying.{IsWhyStopped, RecordedLinesAreReplayed, RecordedRunsAreReplayed};
+ghost use Rattle.fmp_recording.specs.Replaying.{WholeRunsAreReplayed, new_kernel};
 
 use crate::faults::RecordingFault;
 use crate::reading::read_lines;
@@ -168,8 +171,8 @@ fn replay_text(
 
 /// Appends the trace of a recorded run: the lines of setup, those of each event that is done, and the states of the
 /// tasks at the end. Where the recording says that the counts began again, they do so in the replay, and the numbers of
-/// events and of the clock begin again in the trace. The system is that of the configuration. On a fault the text has an
-/// unfinished end.
+/// events and of the clock begin again in the trace. The system is that of the configuration. On a fault the text has
+/// an unfinished end.
 pub fn replay_recording(
     alloc: Global,
     cfg: &[u8],

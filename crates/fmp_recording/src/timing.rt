@@ -11,7 +11,7 @@ fn at_sign_in(text: &[u8]) -> Option<usize>
     text.iter().position(|byte| *byte == b'@')
 }
 
-/// Where ` @` stands in a line, if its first `@` is behind a blank.
+/// Where ` @` stands in a line, if its first `@` is after a blank.
 pub fn time_place(line: &[u8]) -> Option<usize>
     ensures place { result ≡ spec_place line.now }
     ensures inside { IfSome result (λ place. place + 2 ≤ length line.now) }

@@ -1,6 +1,7 @@
 -- What holds along all schedules of bodies that keep places holds of all that others complete whom they follow.
 use Rattle.std.proofs.Common.{◌≡◌, ◌∙◌, ◌+◌, ◌<◌, ◌≤◌, ℕ, zero, suc, List, [], ◌∷◌, ◌++◌, Option, Some, None, Bool}
-use Rattle.std.proofs.Common.{true, false, not, ◌||◌, refl, sym, ap, subst, arith, append-nil, count_by, length}
+use Rattle.std.proofs.Common.{true, false, not, ◌&&◌, ◌||◌, refl, sym, ap, ap₂, subst, arith, append-nil, count_by}
+use Rattle.std.proofs.Common.{length}
 use Rattle.std.specs.List.{list_any}
 use Rattle.std.specs.Prelude.{slice_get}
 use Rattle.fmp_base.specs.declared.bodies.Held.{Held}
@@ -26,12 +27,14 @@ use Rattle.fmp_base.specs.TieLaws.{finished-tied, interrupted-tied, setup-tied}
 use Rattle.fmp_base.specs.Ties.{ContextsTied, HeldTied}
 use Rattle.fmp_schedules.specs.Beside.{AreBeside, DoesBeside, HoldsThereAtAll, IsSilentBeside}
 use Rattle.fmp_schedules.specs.Completed.{AllStand, AreCompleted, DoneThen, Ends, EndsAs, EndsFrom, HoldsAtAll}
-use Rattle.fmp_schedules.specs.Completed.{IsCompleted, IsLastingDeadlock, MayBe}
+use Rattle.fmp_schedules.specs.Completed.{Counts, IsCompleted, IsLastingDeadlock, MayBe, counts_after, counts_at_setup}
 use Rattle.fmp_schedules.specs.Deadlocks.{IsDeadlock, IsStuck}
 use Rattle.fmp_schedules.specs.Schedules.{Holds, HoldsThere, IsSilent, Rules, Watched, are_within, came_after}
-use Rattle.fmp_schedules.specs.Schedules.{is_request, is_told, lines_after, may_come, may_still, may_try, none_runs}
+use Rattle.fmp_schedules.specs.Schedules.{is_request, is_told, lines_after, may_come, may_still, may_try, monitors_after}
+use Rattle.fmp_schedules.specs.Schedules.{none_runs}
 use Rattle.fmp_schedules.specs.Schedules.{reached, requests, stays_within, watch, watched_at_setup, watched_on}
-use Rattle.fmp_schedules.specs.Monitors.{is_any_broken_in, is_broken_along}
+use Rattle.fmp_schedules.specs.Monitors.{all_let, is_any_broken_in, is_broken_along}
+use Rattle.fmp_schedules.specs.declared.monitor.Monitor.{Monitor}
 use Rattle.fmp_schedules.proofs.Catching.{At, Behind, BothDo, both-do, catch, keeps-tie, nothing-of, stand}
 use Rattle.fmp_schedules.proofs.EventLines.{setup-counts}
 use Rattle.fmp_schedules.proofs.IdleLaws.{each-none}
@@ -65,10 +68,10 @@ module _ {D : Type 0} (sys : SystemTables) (M : Meaning D) (t : ℕ) where
   did-ends : (w : World D) (p : ℕ) (d : Done D) → step sys M t w (event.Run (suc p)) ≡ Did d → Ends sys M t w p
   did-ends w p d h = did-as w p (actor_of (processor_at w.state p)) d h
 
--- how many interrupts came after these events
-abbrev came_along : Option ℕ → (came : ℕ) → List (List Line) → ℕ
-came_along most came [] = came
-came_along most came (ls ∷ rest) = came_along most (came_after most came ls) rest
+-- the counts after these events
+abbrev counts_along : Rules → Counts → List (List Line) → Counts
+counts_along rules c [] = c
+counts_along rules c (ls ∷ rest) = counts_along rules (counts_after rules c ls) rest
 
 came-first : (most : Option ℕ) (ls : List Line) → count_by is_request ls ≡ 0 → came_after most 0 ls ≡ 0
 came-first None ls none = refl
@@ -76,38 +79,47 @@ came-first (Some most) ls none = omega (arith, none)
 
 module _ {D : Type 0} (rules : Rules) (sys : SystemTables) (M : Meaning D) (t : ℕ) where
   -- the last of events that are completed comes as the rules let it
-  record Last (w : World D) (came : ℕ) (es : List Event) (e : Event) : Type 0 where
-    before : AreCompleted rules sys M t w came es
-    may : MayBe rules sys M t (run sys M t w es).world (came_along rules.most came (run sys M t w es).events) e
+  record Last (w : World D) (c : Counts) (es : List Event) (e : Event) : Type 0 where
+    before : AreCompleted rules sys M t w c es
+    may : MayBe rules sys M t (run sys M t w es).world (counts_along rules c (run sys M t w es).events) e
 
-  last-after : (w : World D) (came : ℕ) (e : Event) (es : List Event) (l : Event) (x : Reaction D)
-      → step sys M t w e ≡ x → MayBe rules sys M t w came e
-      → DoneThen x (λ d. AreCompleted rules sys M t d.world (came_after rules.most came d.lines) (es ++ l ∷ []))
-      → ((v : World D) (k : ℕ) → AreCompleted rules sys M t v k (es ++ l ∷ []) → Last v k es l)
-      → Last w came (e ∷ es) l
-  last-after w came e es l Nothing is may more rest = absurd more
-  last-after w came e es l (Kept p u) is may more rest = absurd more
-  last-after w came e es l (Did d) is may more rest =
-      let r = rest d.world (came_after rules.most came d.lines) more in
+  last-after : (w : World D) (c : Counts) (e : Event) (es : List Event) (l : Event) (x : Reaction D)
+      → step sys M t w e ≡ x → MayBe rules sys M t w c e
+      → DoneThen x (λ d. AreCompleted rules sys M t d.world (counts_after rules c d.lines) (es ++ l ∷ []))
+      → ((v : World D) (k : Counts) → AreCompleted rules sys M t v k (es ++ l ∷ []) → Last v k es l)
+      → Last w c (e ∷ es) l
+  last-after w c e es l Nothing is may more rest = absurd more
+  last-after w c e es l (Kept p u) is may more rest = absurd more
+  last-after w c e es l (Did d) is may more rest =
+      let r = rest d.world (counts_after rules c d.lines) more in
       record {
         before = (
           may,
           subst (λ (y : Reaction D). DoneThen y
-              (λ c. AreCompleted rules sys M t c.world (came_after rules.most came c.lines) es)) (sym is) r.before,
+              (λ y. AreCompleted rules sys M t y.world (counts_after rules c y.lines) es)) (sym is) r.before,
         );
         may = subst (λ (y : Reaction D). MayBe rules sys M t (run_on w y (λ u. run sys M t u es)).world
-            (came_along rules.most came (run_on w y (λ u. run sys M t u es)).events) l) (sym is) r.may;
+            (counts_along rules c (run_on w y (λ u. run sys M t u es)).events) l) (sym is) r.may;
       }
 
-  last-of : (w : World D) (came : ℕ) (es : List Event) (e : Event) → AreCompleted rules sys M t w came (es ++ e ∷ [])
-      → Last w came es e
-  last-of w came [] e (may, more) = record { before = tt; may = may }
-  last-of w came (f ∷ es) e (may, more) =
-      last-after w came f es e (step sys M t w f) refl may more (λ v k l. last-of v k es e l)
+  last-of : (w : World D) (c : Counts) (es : List Event) (e : Event) → AreCompleted rules sys M t w c (es ++ e ∷ [])
+      → Last w c es e
+  last-of w c [] e (may, more) = record { before = tt; may = may }
+  last-of w c (f ∷ es) e (may, more) =
+      last-after w c f es e (step sys M t w f) refl may more (λ v k l. last-of v k es e l)
 
-came-still : (most : Option ℕ) (a : Watched) (came : ℕ) → a.came ≡ came → may_still most came ≡ true
-    → may_still most a.came ≡ true
-came-still most a came e h = ap (λ (k : ℕ). may_still most k) e ∙ h
+-- what a search counts in what it watches
+abbrev counts_of : Watched → Counts
+counts_of a = record { came = a.came; monitors = a.monitors }
+
+-- an interrupt that may come by the same counts
+counts-let : (most : Option ℕ) (a : Watched) (c : Counts) (e : Event) → counts_of a ≡ c
+    → (may_still most c.came ≡ true) × (all_let c.monitors e ≡ true)
+    → (may_still most a.came && all_let a.monitors e) ≡ true
+counts-let most a c e same h =
+    both (may_still most a.came) (all_let a.monitors e)
+    (ap (λ (k : Counts). may_still most k.came) same ∙ h.0)
+    (ap (λ (k : Counts). all_let k.monitors e) same ∙ h.1)
 
 module _ {C D : Type 0} (rules : Rules) (sys : SystemTables) (R S : ℕ → C → D → Type 0) (N : Meaning C) (M : Meaning D)
     (size : ℕ) (f : Follows R S N M size) (n : ℕ) (one : 1 ≤ n) (forbidden : Line → Bool) where
@@ -242,20 +254,20 @@ module _ {C D : Type 0} (rules : Rules) (sys : SystemTables) (R S : ℕ → C �
       (tick-beside t w r.world r.beside)
 
   -- what M does within t units N does too
-  pub go-next : (t : ℕ) (w : World D) (v : World C) (a : Watched) (came : ℕ) (e : Event) (d : Done D)
-      → AreBeside R N sys w v → a.came ≡ came → MayBe rules sys M t w came e → step sys M t w e ≡ Did d
+  pub go-next : (t : ℕ) (w : World D) (v : World C) (a : Watched) (c : Counts) (e : Event) (d : Done D)
+      → AreBeside R N sys w v → counts_of a ≡ c → MayBe rules sys M t w c e → step sys M t w e ≡ Did d
       → Next w v a e d
-  go-next t w v a came (event.Run zero) d h same may is = absurd (cc is)
-  go-next t w v a came (event.Run (suc p)) d h same may is = next-run t w v a p d h may.1 is
-  go-next t w v a came event.Tick d h same may is =
+  go-next t w v a c (event.Run zero) d h same may is = absurd (cc is)
+  go-next t w v a c (event.Run (suc p)) d h same may is = next-run t w v a p d h may.1 is
+  go-next t w v a c event.Tick d h same may is =
       next-tick rules.idle_ticks refl t w v a d h may.0 may.1 is
-  go-next t w v a came (event.Int zero) d h same may is = absurd (cc is)
-  go-next t w v a came (event.Int (suc i)) d h same may is =
-      next-of t w v v a (event.Int (suc i)) d [] (ends_ v) h (came-still rules.most a came same may.0) may.1 is
-      (interrupt-beside t i w v h)
+  go-next t w v a c (event.Int zero) d h same may is = absurd (cc is)
+  go-next t w v a c (event.Int (suc i)) d h same may is =
+      next-of t w v v a (event.Int (suc i)) d [] (ends_ v) h
+      (counts-let rules.most a c (event.Int (suc i)) same may.0) may.1 is (interrupt-beside t i w v h)
 
   -- N does what M completes from here on
-  pub record DoesAll (t : ℕ) (w : World D) (v : World C) (a : Watched) (came : ℕ) (es : List Event) : Type 0 where
+  pub record DoesAll (t : ℕ) (w : World D) (v : World C) (a : Watched) (c : Counts) (es : List Event) : Type 0 where
     pub events : List Event
     pub world : World C
     pub watch : Watched
@@ -263,24 +275,24 @@ module _ {C D : Type 0} (rules : Rules) (sys : SystemTables) (R S : ℕ → C �
     pub way : Code v a events world watch told es
     pub lines : told ≡ (run sys M t w es).events
     pub beside : AreBeside R N sys (run sys M t w es).world world
-    pub after : watch.came ≡ came_along rules.most came (run sys M t w es).events
+    pub after : counts_of watch ≡ counts_along rules c (run sys M t w es).events
 
-  does-after : (t : ℕ) (w : World D) (v : World C) (a : Watched) (came : ℕ) (e : Event) (es : List Event)
-      (x : Reaction D) → step sys M t w e ≡ x → AreBeside R N sys w v → a.came ≡ came → MayBe rules sys M t w came e
-      → DoneThen x (λ d. AreCompleted rules sys M t d.world (came_after rules.most came d.lines) es)
+  does-after : (t : ℕ) (w : World D) (v : World C) (a : Watched) (c : Counts) (e : Event) (es : List Event)
+      (x : Reaction D) → step sys M t w e ≡ x → AreBeside R N sys w v → counts_of a ≡ c → MayBe rules sys M t w c e
+      → DoneThen x (λ d. AreCompleted rules sys M t d.world (counts_after rules c d.lines) es)
       → ((d : Done D) (u : World C) (b : Watched) → AreBeside R N sys d.world u
-      → b.came ≡ came_after rules.most came d.lines
-      → AreCompleted rules sys M t d.world (came_after rules.most came d.lines) es
-      → DoesAll t d.world u b (came_after rules.most came d.lines) es)
-      → DoesAll t w v a came (e ∷ es)
-  does-after t w v a came e es Nothing is h same may more rest = absurd more
-  does-after t w v a came e es (Kept p u) is h same may more rest = absurd more
-  does-after t w v a came e es (Did d) is h same may more rest =
-      let s = go-next t w v a came e d h same may is in
+      → counts_of b ≡ counts_after rules c d.lines
+      → AreCompleted rules sys M t d.world (counts_after rules c d.lines) es
+      → DoesAll t d.world u b (counts_after rules c d.lines) es)
+      → DoesAll t w v a c (e ∷ es)
+  does-after t w v a c e es Nothing is h same may more rest = absurd more
+  does-after t w v a c e es (Kept p u) is h same may more rest = absurd more
+  does-after t w v a c e es (Did d) is h same may more rest =
+      let s = go-next t w v a c e d h same may is in
       let b : Watched = watched_on rules forbidden a s.next.lines in
-      let came_too : b.came ≡ came_after rules.most came d.lines =
-      ap (λ (k : ℕ). came_after rules.most k s.next.lines) same
-      ∙ ap (λ (ls : List Line). came_after rules.most came ls) (sym s.lines) in
+      let came_too : counts_of b ≡ counts_after rules c d.lines =
+      ap (λ (k : Counts). counts_after rules k s.next.lines) same
+      ∙ ap (λ (ls : List Line). counts_after rules c ls) (sym s.lines) in
       let r = rest d s.next.world b s.beside came_too more in
       let first =
       way-on rules sys N n forbidden v s.world s.next.world a a b s.events (e ∷ []) [] (s.next.lines ∷ []) [] (e ∷ [])
@@ -299,12 +311,12 @@ module _ {C D : Type 0} (rules : Rules) (sys : SystemTables) (R S : ℕ → C �
         beside = subst (λ (u : World D). AreBeside R N sys u r.world)
             (sym (ap (λ (y : Reaction D). (run_on w y (λ u. run sys M t u es)).world) is)) r.beside;
         after = r.after
-            ∙ sym (ap (λ (y : Reaction D). came_along rules.most came (run_on w y (λ u. run sys M t u es)).events) is);
+            ∙ sym (ap (λ (y : Reaction D). counts_along rules c (run_on w y (λ u. run sys M t u es)).events) is);
       }
 
-  pub do-all : (t : ℕ) (w : World D) (v : World C) (a : Watched) (came : ℕ) (es : List Event) → AreBeside R N sys w v
-      → a.came ≡ came → AreCompleted rules sys M t w came es → DoesAll t w v a came es
-  do-all t w v a came [] h same all =
+  pub do-all : (t : ℕ) (w : World D) (v : World C) (a : Watched) (c : Counts) (es : List Event) → AreBeside R N sys w v
+      → counts_of a ≡ c → AreCompleted rules sys M t w c es → DoesAll t w v a c es
+  do-all t w v a c [] h same all =
       record {
         events = [];
         world = v;
@@ -315,9 +327,9 @@ module _ {C D : Type 0} (rules : Rules) (sys : SystemTables) (R S : ℕ → C �
         beside = h;
         after = same;
       }
-  do-all t w v a came (e ∷ es) h same (may, more) =
-      does-after t w v a came e es (step sys M t w e) refl h same may more
-      (λ d u b k came_too l. do-all t d.world u b (came_after rules.most came d.lines) es k came_too l)
+  do-all t w v a c (e ∷ es) h same (may, more) =
+      does-after t w v a c e es (step sys M t w e) refl h same may more
+      (λ d u b k came_too l. do-all t d.world u b (counts_after rules c d.lines) es k came_too l)
 
   -- from setup on
 
@@ -327,11 +339,20 @@ module _ {C D : Type 0} (rules : Rules) (sys : SystemTables) (R S : ℕ → C �
   abbrev Starts : Watched
   Starts = watched_at_setup rules sys N forbidden
 
-  whole : (t : ℕ) (es : List Event) → IsCompleted rules sys M t es → DoesAll t (setup sys M).world First Starts 0 es
+  abbrev Counted : Counts
+  Counted = counts_at_setup rules sys M
+
+  abbrev DoesWhole : ℕ → List Event → Type 0
+  DoesWhole t es = DoesAll t (setup sys M).world First Starts Counted es
+
+  whole : (t : ℕ) (es : List Event) → IsCompleted rules sys M t es → DoesWhole t es
   whole t es all =
-      do-all t (setup sys M).world First Starts 0 es
-      (setup-tied sys (Behind sys R S N M size f n one) M t N n (keeps-tie sys R S N M size f n one t)).1
-      (came-first rules.most (setup sys N).lines (setup-counts sys N)) all
+      let tied = setup-tied sys (Behind sys R S N M size f n one) M t N n (keeps-tie sys R S N M size f n one t) in
+      do-all t (setup sys M).world First Starts Counted es tied.1
+      (ap₂ (λ (k : ℕ) (ms : List Monitor). record { came = k; monitors = ms })
+      (came-first rules.most (setup sys N).lines (setup-counts sys N))
+      (ap (λ (ls : List Line). monitors_after rules.monitors ls) (sym tied.0)))
+      all
 
   along : (t : ℕ) (es events : List Event) (x : World C) (b : Watched) (told : List (List Line))
       → Code First Starts events x b told es → told ≡ (run sys M t (setup sys M).world es).events
@@ -358,7 +379,7 @@ module _ {C D : Type 0} (rules : Rules) (sys : SystemTables) (R S : ℕ → C �
       along t es r.events r.world r.watch r.told r.way r.lines r.beside
 
   -- and then it may keep places
-  kept-on : (t : ℕ) (es : List Event) (r : DoesAll t (setup sys M).world First Starts 0 es) (more : List Event)
+  kept-on : (t : ℕ) (es : List Event) (r : DoesWhole t es) (more : List Event)
       (x : World C) → Keeps sys N n r.world more x → Code First Starts (r.events ++ more) x r.watch r.told es
   kept-on t es r more x way =
       subst (λ (told : List (List Line)). Code First Starts (r.events ++ more) x r.watch told es) (append-nil r.told)
@@ -389,7 +410,7 @@ module _ {C D : Type 0} (rules : Rules) (sys : SystemTables) (R S : ℕ → C �
 
   -- a deadlock that M comes to would be one of N, behind the places that are kept on the way
   dead-end : (rest : List Bool) → Holds rules sys N n forbidden rest → (t : ℕ) (es : List Event)
-      (r : DoesAll t (setup sys M).world First Starts 0 es) (more : List Event) (x : World C)
+      (r : DoesWhole t es) (more : List Event) (x : World C)
       → Keeps sys N n r.world more x → AreBeside R N sys (reached sys M t es) x
       → ((p : ℕ) → p < sys.processors → step sys N n x (event.Run (suc p)) ≡ Nothing) → (bound : ℕ)
       → IsDeadlock sys M bound (reached sys M t es) rest (may_still rules.most (requests (lines_after sys M t es)))
@@ -409,7 +430,7 @@ module _ {C D : Type 0} (rules : Rules) (sys : SystemTables) (R S : ℕ → C �
       (sym there) dead))
 
   no-deadlock : (rest : List Bool) → Holds rules sys N n forbidden rest → (t : ℕ) (es : List Event)
-      → DoesAll t (setup sys M).world First Starts 0 es
+      → DoesWhole t es
       → IsLastingDeadlock sys M (reached sys M t es) rest (may_still rules.most (requests (lines_after sys M t es)))
       → ⊥
   no-deadlock rest holds t es r lasting =
@@ -441,7 +462,7 @@ module _ {C D : Type 0} (rules : Rules) (sys : SystemTables) (R S : ℕ → C �
   silent-did there x d e h = subst (λ (y : Reaction C). IsSilent there y) e h
 
   silent-at : (there : World C → Line → Bool) → HoldsThere rules sys N n forbidden there → (t : ℕ) (es : List Event)
-      (e : Event) (d : Done D) (r : DoesAll t (setup sys M).world First Starts 0 es)
+      (e : Event) (d : Done D) (r : DoesWhole t es)
       → Next (reached sys M t es) r.world r.watch e d → IsSilentBeside R rules sys N n M t forbidden there es e d
   unfolding along
   silent-at there holds t es e d r s =
@@ -467,18 +488,18 @@ module _ {C D : Type 0} (rules : Rules) (sys : SystemTables) (R S : ℕ → C �
 
   silent-beside : (there : World C → Line → Bool) → HoldsThere rules sys N n forbidden there → (t : ℕ)
       (es : List Event) (e : Event) (d : Done D) → step sys M t (reached sys M t es) e ≡ Did d
-      → Last rules sys M t (setup sys M).world 0 es e → DoesAll t (setup sys M).world First Starts 0 es
+      → Last rules sys M t (setup sys M).world Counted es e → DoesWhole t es
       → IsSilentBeside R rules sys N n M t forbidden there es e d
   silent-beside there holds t es e d is l r =
       silent-at there holds t es e d r
       (go-next t (reached sys M t es) r.world r.watch
-      (came_along rules.most 0 (run sys M t (setup sys M).world es).events) e d r.beside r.after l.may is)
+      (counts_along rules Counted (run sys M t (setup sys M).world es).events) e d r.beside r.after l.may is)
 
   pub holds-there-at-all : (there : World C → Line → Bool) → HoldsThere rules sys N n forbidden there
       → HoldsThereAtAll R rules sys N n M forbidden there
   holds-there-at-all there holds =
       record {
         silent = λ t es e d all is.
-            let l = last-of rules sys M t (setup sys M).world 0 es e all in
+            let l = last-of rules sys M t (setup sys M).world Counted es e all in
             silent-beside there holds t es e d is l (whole t es l.before);
       }

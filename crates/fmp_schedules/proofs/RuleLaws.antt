@@ -20,8 +20,9 @@ use Rattle.fmp_schedules.specs.Schedules.{IsSchedule, Rules, Watched, watched_at
 use Rattle.fmp_schedules.specs.Schedules.{is_any_broken, is_nothing, is_request, is_within, may_come, may_still}
 use Rattle.fmp_schedules.specs.Schedules.{may_try, monitors_after, none_runs, stays_within, watch, watched_on}
 use Rattle.fmp_schedules.specs.declared.monitor.Monitor.{Monitor}
+use Rattle.fmp_schedules.specs.Monitors.{all_let, are_limiting}
 use Rattle.fmp_schedules.specs.Tried.{IsTimeless}
-use Rattle.fmp_schedules.proofs.MonitorLaws.{any_broken-timeless, monitors-timeless}
+use Rattle.fmp_schedules.proofs.MonitorLaws.{any_broken-timeless, limiting-after, monitors-timeless, sentences-let}
 
 nothing-same : {C : Type 0} (R : World C → World C → Type 0) (x y : Reaction C) → BothAlike R x y
     → is_nothing x ≡ is_nothing y
@@ -140,19 +141,26 @@ module _ (forbidden : Line → Bool) (even : IsTimeless forbidden) where
       watched-timeless rules a ls ∙ ap (λ (l : List Line). watched_on rules forbidden a l) e
       ∙ sym (watched-timeless rules a ms)
 
--- what holds of each world holds after a reaction
-after-any : {C S : Type 0} (W : Watch S) (w : World C) (a : S) (x : Reaction C) (next : World C → S → Type 0)
-    → ((v : World C) (b : S) → next v b) → allowed_after W w a x next
-after-any W w a Nothing next h = h w a
-after-any W w a (Did d) next h = h d.world (W.next a d.lines)
-after-any W w a (Kept p v) next h = h v a
+-- what holds of each world holds after a reaction, where what is watched is such a one
+after-any : {C S : Type 0} (W : Watch S) (P : S → Type 0) (w : World C) (a : S) (x : Reaction C)
+    (next : World C → S → Type 0)
+    → ((b : S) (ls : List Line) → P b → P (W.next b ls)) → P a → ((v : World C) (b : S) → P b → next v b)
+    → allowed_after W w a x next
+after-any W P w a Nothing next on is h = h w a is
+after-any W P w a (Did d) next on is h = h d.world (W.next a d.lines) (on a d.lines is)
+after-any W P w a (Kept p v) next on is h = h v a is
 
-all-allowed : {C S : Type 0} (W : Watch S) (may : World C → S → Event → Bool) (go : World C → Event → Reaction C)
-    → ((w : World C) (a : S) (e : Event) → may w a e ≡ true) → (w : World C) (a : S) (es : List Event)
+all-allowed : {C S : Type 0} (W : Watch S) (P : S → Type 0) (may : World C → S → Event → Bool)
+    (go : World C → Event → Reaction C)
+    → ((b : S) (ls : List Line) → P b → P (W.next b ls))
+    → ((w : World C) (a : S) (e : Event) → P a → may w a e ≡ true) → (w : World C) (a : S) (es : List Event) → P a
     → AreAllowed W may go w a es
-all-allowed W may go free w a [] = tt
-all-allowed W may go free w a (e ∷ es) =
-    (free w a e, after-any W w a (go w e) (λ v b. AreAllowed W may go v b es) (λ v b. all-allowed W may go free v b es))
+all-allowed W P may go on free w a [] is = tt
+all-allowed W P may go on free w a (e ∷ es) is = (
+  free w a e is,
+  after-any W P w a (go w e) (λ v b. AreAllowed W may go v b es) on is
+      (λ v b such. all-allowed W P may go on free v b es such),
+)
 
 or-not : (b c : Bool) → b ≡ false → (not b || c) ≡ true
 or-not false c h = refl
@@ -172,18 +180,27 @@ pub both : (b c : Bool) → b ≡ true → c ≡ true → (b && c) ≡ true
 both true c h k = k
 both false c h k = h
 
+-- no single interrupt is limited
+abbrev NoneLimits : Watched → Type 0
+NoneLimits a = are_limiting a.monitors ≡ false
+
 pub all-scheduled : {C : Type 0} (rules : Rules) (sys : SystemTables) (M : Meaning C) (n : ℕ) (forbidden : Line → Bool)
     (es : List Event) → rules.idle_ticks ≡ false → rules.most ≡ None → rules.queued ≡ None
-    → IsSchedule rules sys M n forbidden es
-all-scheduled {C} rules sys M n forbidden es ticks most queued =
-    all-allowed (watch rules forbidden) (may_come rules sys M n) (step sys M n) free (setup sys M).world
-    (watched_at_setup rules sys M forbidden) es where
-      tried : (w : World C) (a : Watched) (e : Event) → may_try rules sys M n w a e ≡ true
-      tried w a (event.Run p) = refl
-      tried w a event.Tick = or-not rules.idle_ticks (none_runs sys M n w sys.processors) ticks
-      tried w a (event.Int i) = still-any rules.most a.came most
+    → are_limiting rules.monitors ≡ false → IsSchedule rules sys M n forbidden es
+all-scheduled {C} rules sys M n forbidden es ticks most queued limits =
+    all-allowed (watch rules forbidden) NoneLimits (may_come rules sys M n) (step sys M n) on free (setup sys M).world
+    (watched_at_setup rules sys M forbidden) es (limiting-after rules.monitors (setup sys M).lines ∙ limits) where
+      on : (a : Watched) (ls : List Line) → NoneLimits a → NoneLimits (watched_on rules forbidden a ls)
+      on a ls is = limiting-after a.monitors ls ∙ is
 
-      free : (w : World C) (a : Watched) (e : Event) → may_come rules sys M n w a e ≡ true
-      free w a e =
-          both (may_try rules sys M n w a e) (stays_within rules.queued (step sys M n w e)) (tried w a e)
+      tried : (w : World C) (a : Watched) (e : Event) → NoneLimits a → may_try rules sys M n w a e ≡ true
+      tried w a (event.Run p) is = refl
+      tried w a event.Tick is = or-not rules.idle_ticks (none_runs sys M n w sys.processors) ticks
+      tried w a (event.Int i) is =
+          both (may_still rules.most a.came) (all_let a.monitors (event.Int i)) (still-any rules.most a.came most)
+          (sentences-let a.monitors (event.Int i) is)
+
+      free : (w : World C) (a : Watched) (e : Event) → NoneLimits a → may_come rules sys M n w a e ≡ true
+      free w a e is =
+          both (may_try rules sys M n w a e) (stays_within rules.queued (step sys M n w e)) (tried w a e is)
           (stays-any rules.queued (step sys M n w e) queued)

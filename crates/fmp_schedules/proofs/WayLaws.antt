@@ -188,7 +188,8 @@ module _ {C : Type 0} (rules : Rules) (sys : SystemTables) (M : Meaning C) (n : 
       let v = reached sys M n es in
       let here =
       allowed-too rules sys M n (λ l. false) forbidden (setup sys M).world (watched_at_setup rules sys M (λ l. false))
-      (watched_at_setup rules sys M forbidden) es (no-monitors rules.most (watched_at_setup rules sys M forbidden).came)
+      (watched_at_setup rules sys M forbidden) es
+      (record { came = no-monitors rules.most (watched_at_setup rules sys M forbidden).came; monitors = inl refl })
       schedule in
       let c = searched-covered rules sys M n forbidden rest K even R F h es here in
       let a = watched (watch rules forbidden) (at_first rules.monitors) (lines_after sys M n es) in
@@ -200,8 +201,13 @@ module _ {C : Type 0} (rules : Rules) (sys : SystemTables) (M : Meaning C) (n : 
         more = g.more;
         follow = allowed-too rules sys M n forbidden (λ l. false) v a
             (record { came = requests (lines_after sys M n es); told = false; monitors = []; broken = false }) g.more
-            (same-came rules.idle_ticks rules.most rules.queued rules.monitors forbidden (at_first rules.monitors)
-            (lines_after sys M n es) refl) g.allowed;
+            (record {
+              came =
+                  same-came rules.idle_ticks rules.most rules.queued rules.monitors forbidden (at_first rules.monitors)
+                  (lines_after sys M n es) refl;
+              monitors = inr refl;
+            })
+            g.allowed;
         told = g.told;
       }
 

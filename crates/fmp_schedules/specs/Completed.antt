@@ -15,9 +15,10 @@ use Rattle.fmp_base.specs.Steps.{Done, Reaction, Nothing, Did, Kept, actor_of, s
 use Rattle.fmp_base.specs.Stretches.{is_over}
 use Rattle.fmp_base.specs.Systems.{SystemTables}
 use Rattle.fmp_schedules.specs.Deadlocks.{IsDeadlock}
-use Rattle.fmp_schedules.specs.Schedules.{Rules, came_after, is_told, lines_after, may_still, reached, requests}
-use Rattle.fmp_schedules.specs.Schedules.{stays_within}
-use Rattle.fmp_schedules.specs.Monitors.{is_any_broken_in, is_broken_along}
+use Rattle.fmp_schedules.specs.declared.monitor.Monitor.{Monitor}
+use Rattle.fmp_schedules.specs.Schedules.{Rules, came_after, is_told, lines_after, may_still, monitors_after, reached}
+use Rattle.fmp_schedules.specs.Schedules.{requests, stays_within}
+use Rattle.fmp_schedules.specs.Monitors.{all_let, is_any_broken_in, is_broken_along}
 
 -- from this context, if a stretch begins in it, the body ends its stretch within the bound
 abbrev pub EndsFrom : {C : Type 0} → Meaning C → (body bound : ℕ) → Option (Held C) → Type 0
@@ -38,17 +39,31 @@ pub record AllStand {C : Type 0} (sys : SystemTables) (M : Meaning C) (bound : �
   pub ended : (p : ℕ) → p < sys.processors → Ends sys M bound w p
   pub nothing : (p : ℕ) → p < sys.processors → step sys M bound w (event.Run (suc p)) ≡ Nothing
 
--- the rules let an event be tried in a world, where this many interrupts came
-abbrev pub MayTry : {C : Type 0} → Rules → SystemTables → Meaning C → (bound : ℕ) → World C → (came : ℕ) → Event
-    → Type 0
-MayTry rules sys M bound w came (event.Run p) = Unit {0}
-MayTry rules sys M bound w came event.Tick = rules.idle_ticks ≡ true → AllStand sys M bound w
-MayTry rules sys M bound w came (event.Int i) = may_still rules.most came ≡ true
+-- what the rules go by: how many interrupts did something, and what is kept by each monitor
+pub record Counts : Type 0 where
+  pub came : ℕ
+  pub monitors : List Monitor
 
--- the rules let an event come to a world, where this many interrupts came
-abbrev pub MayBe : {C : Type 0} → Rules → SystemTables → Meaning C → (bound : ℕ) → World C → (came : ℕ) → Event → Type 0
-MayBe rules sys M bound w came e =
-    MayTry rules sys M bound w came e × (stays_within rules.queued (step sys M bound w e) ≡ true)
+-- after these lines
+abbrev pub counts_after : Rules → Counts → List Line → Counts
+counts_after rules c ls =
+    record { came = came_after rules.most c.came ls; monitors = monitors_after c.monitors ls }
+
+-- after setup
+abbrev pub counts_at_setup : {C : Type 0} → Rules → SystemTables → Meaning C → Counts
+counts_at_setup rules sys M = record { came = 0; monitors = monitors_after rules.monitors (setup sys M).lines }
+
+-- the rules let an event be tried in a world, by these counts
+abbrev pub MayTry : {C : Type 0} → Rules → SystemTables → Meaning C → (bound : ℕ) → World C → Counts → Event → Type 0
+MayTry rules sys M bound w c (event.Run p) = Unit {0}
+MayTry rules sys M bound w c event.Tick = rules.idle_ticks ≡ true → AllStand sys M bound w
+MayTry rules sys M bound w c (event.Int i) =
+    (may_still rules.most c.came ≡ true) × (all_let c.monitors (event.Int i) ≡ true)
+
+-- the rules let an event come to a world, by these counts
+abbrev pub MayBe : {C : Type 0} → Rules → SystemTables → Meaning C → (bound : ℕ) → World C → Counts → Event → Type 0
+MayBe rules sys M bound w c e =
+    MayTry rules sys M bound w c e × (stays_within rules.queued (step sys M bound w e) ≡ true)
 
 -- it is done, and then this is so
 abbrev pub DoneThen : {C : Type 0} → Reaction C → (Done C → Type 0) → Type 0
@@ -56,19 +71,18 @@ DoneThen Nothing rest = ⊥
 DoneThen (Did d) rest = rest d
 DoneThen (Kept p w) rest = ⊥
 
--- From a world on, to which this many interrupts came, each of these events is done within the bound, and comes as the
--- rules let it.
-abbrev pub AreCompleted : {C : Type 0} → Rules → SystemTables → Meaning C → (bound : ℕ) → World C → (came : ℕ)
+-- From a world on, by these counts, each of these events is done within the bound, and comes as the rules let it.
+abbrev pub AreCompleted : {C : Type 0} → Rules → SystemTables → Meaning C → (bound : ℕ) → World C → Counts
     → List Event → Type 0
-AreCompleted rules sys M bound w came [] = Unit {0}
-AreCompleted rules sys M bound w came (e ∷ es) =
-    MayBe rules sys M bound w came e
-    × DoneThen (step sys M bound w e)
-    (λ d. AreCompleted rules sys M bound d.world (came_after rules.most came d.lines) es)
+AreCompleted rules sys M bound w c [] = Unit {0}
+AreCompleted rules sys M bound w c (e ∷ es) =
+    MayBe rules sys M bound w c e
+    × DoneThen (step sys M bound w e) (λ d. AreCompleted rules sys M bound d.world (counts_after rules c d.lines) es)
 
 -- a list of events that bodies complete from setup on: each is done within the bound, and comes as the rules let it
 abbrev pub IsCompleted : {C : Type 0} → Rules → SystemTables → Meaning C → (bound : ℕ) → List Event → Type 0
-IsCompleted rules sys M bound es = AreCompleted rules sys M bound (setup sys M).world 0 es
+IsCompleted rules sys M bound es =
+    AreCompleted rules sys M bound (setup sys M).world (counts_at_setup rules sys M) es
 
 -- a deadlock, and not for a bound that was too small: within some bound each stretch ends
 pub record IsLastingDeadlock {C : Type 0} (sys : SystemTables) (M : Meaning C) (w : World C) (rest : List Bool)

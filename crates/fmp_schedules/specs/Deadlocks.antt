@@ -25,8 +25,9 @@ pub record IsStuck (rest : List Bool) (s : KernelState) (tasks : ℕ) : Type 0 w
   pub may_not_rest : slice_index_or rest task false ≡ false
   pub started : (task_at s.tasks task).phase ≢ Dormant
 
--- No processor can do anything; no interrupt that may still come does anything; no wait
--- ends by the clock; no cyclic handler is started; and a task that may not wait forever is started.
+-- No processor can do anything; no interrupt does anything, where one more may still come; no wait ends by the clock;
+-- no cyclic handler is started; and a task that may not wait forever is started. What limits of single interrupts hold
+-- back counts as if it could come.
 pub record IsDeadlock {C : Type 0} (sys : SystemTables) (M : Meaning C) (n : ℕ) (w : World C) (rest : List Bool)
     (interrupts : Bool) : Type 0 where
   pub runs : (p : ℕ) → 1 ≤ p → p < sys.processors + 1 → step sys M n w (event.Run p) ≡ Nothing

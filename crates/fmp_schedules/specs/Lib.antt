@@ -2,6 +2,7 @@ pub mod Beside
 pub mod Completed
 pub mod Deadlocks
 pub mod Likeness
+pub mod Limits
 pub mod Monitors
 pub mod Schedules
 pub mod Stuck

@@ -15,10 +15,10 @@ use Rattle.fmp_base.specs.Systems.{SystemTables}
 use Rattle.fmp_bisimulation.specs.Closed.{AreAllowed, Watch}
 use Rattle.fmp_schedules.specs.declared.monitor.Monitor.{Monitor}
 use Rattle.fmp_schedules.specs.Deadlocks.{IsDeadlock}
-use Rattle.fmp_schedules.specs.Monitors.{is_any_broken_in, is_broken, is_broken_along, monitor_after}
+use Rattle.fmp_schedules.specs.Monitors.{all_let, is_any_broken_in, is_broken, is_broken_along, monitor_after}
 
--- Which events may come, and which sentences are watched. Processors run in any order, any number of times; the rules
--- say when the clock may advance, how many interrupts may come, and how much may be queued.
+-- Which events may come, and what is watched. Processors run in any order, any number of times; the rules say when the
+-- clock may advance, how many interrupts may come, and how much may be queued.
 pub record Rules : Type 0 where
   -- the clock may advance only where no processor can do anything; else at any time
   pub idle_ticks : Bool
@@ -26,7 +26,7 @@ pub record Rules : Type 0 where
   pub most : Option ℕ
   -- how many activations and how many wakeups of a task may be queued after an event; any number, if none is given
   pub queued : Option ℕ
-  -- the sentences that are watched, with what is kept of each before setup
+  -- the sentences that are watched, and the limits of single interrupts, with what is kept of each before setup
   pub monitors : List Monitor
 
 -- the line of an interrupt that did something
@@ -53,8 +53,8 @@ abbrev pub none_runs : {C : Type 0} → SystemTables → Meaning C → (n : ℕ)
 none_runs sys M n w zero = true
 none_runs sys M n w (suc p) = is_nothing (step sys M n w (event.Run (suc p))) && none_runs sys M n w p
 
--- what is watched: how many interrupts did something, whether a forbidden line was told, what is kept of each sentence,
--- and whether a line broke one
+-- what is watched: how many interrupts did something, whether a forbidden line was told, what is kept of each sentence
+-- and limit, and whether a line broke a sentence
 pub record Watched : Type 0 where
   pub came : ℕ
   pub told : Bool
@@ -107,7 +107,7 @@ stays_within most (Kept p w) = true
 abbrev pub may_try : {C : Type 0} → Rules → SystemTables → Meaning C → (n : ℕ) → World C → Watched → Event → Bool
 may_try rules sys M n w a (event.Run p) = true
 may_try rules sys M n w a event.Tick = not rules.idle_ticks || none_runs sys M n w sys.processors
-may_try rules sys M n w a (event.Int i) = may_still rules.most a.came
+may_try rules sys M n w a (event.Int i) = may_still rules.most a.came && all_let a.monitors (event.Int i)
 
 -- the rules let an event come to a world
 abbrev pub may_come : {C : Type 0} → Rules → SystemTables → Meaning C → (n : ℕ) → World C → Watched → Event → Bool

@@ -43,14 +43,16 @@ acts t (line.End p who) = is_task t who
 acts t (line.Fault p who fault) = is_task t who
 acts t _ = false
 
--- after these events, each of which did something, more may come one after the other, as the rules let them
+-- after these events, each of which did something, more may come one after the other, as the rules let them, and
+-- whatever limits of single interrupts there are
 abbrev pub MayFollow : {C : Type 0} → Rules → SystemTables → Meaning C → (n : ℕ) → (es more : List Event) → Type 0
 MayFollow rules sys M n es more =
     AreAllowed (watch rules (λ l. false)) (may_come rules sys M n) (step sys M n) (reached sys M n es)
     (record { came = count_by is_interrupt es; told = false; monitors = []; broken = false }) more
 
 -- Task t never goes on after these events, each of which did something: it is started, and whatever events follow, as
--- the rules let them come, however many, none of them tells an act of the task.
+-- the rules let them come, however many, none of them tells an act of the task. Limits of single interrupts hold
+-- nothing back here.
 pub record NeverGoesOn {C : Type 0} (rules : Rules) (sys : SystemTables) (M : Meaning C) (n : ℕ) (es : List Event)
     (t : ℕ) : Type 0 where
   pub started : (task_at (reached sys M n es).state.tasks t).phase ≢ Dormant
@@ -59,7 +61,7 @@ pub record NeverGoesOn {C : Type 0} (rules : Rules) (sys : SystemTables) (M : Me
       is_told (acts t) (run sys M n (reached sys M n es) more).events ≡ false
 
 -- After these events task t may still go on: more events may come one after the other, as the rules let them, along
--- which it acts.
+-- which it acts. Limits of single interrupts hold nothing back here.
 pub record MayGoOn {C : Type 0} (rules : Rules) (sys : SystemTables) (M : Meaning C) (n : ℕ) (es : List Event) (t : ℕ)
     : Type 0 where
   pub more : List Event

@@ -1,9 +1,10 @@
-//! The laws, each the contract of a function that does nothing. `C` is the type of the contexts of bodies, `S` that of
-//! what is watched. They speak of alike worlds, but are proved for any relation that is `IsLikeness`. Those of lists of
-//! worlds are proved for any set of worlds: by `tried-closed` of `proofs/TriedLaws`, by `closed-holds` and
+//! Laws of schedules, each the contract of a function that does nothing. `C` is the type of the contexts of bodies, `S`
+//! that of what is watched. They speak of alike worlds, but are proved for any relation that is `IsLikeness`. Those of
+//! lists of worlds are proved for any set of worlds: by `tried-closed` of `proofs/TriedLaws`, by `closed-holds` and
 //! `searched-holds` of `proofs/HoldLaws`, by `searched-silent` of `proofs/SilentLaws`, and by `none-stuck` of
 //! `proofs/WayLaws`. No contract can speak of all sets, or of all relations.
-ghost use Rattle.std.specs.Prelude.{◌≡◌, ◌+◌, ◌<◌, ◌≤◌, ℕ, Bool, List, Option, None, false, true, count_by, length, if◌then◌else◌};
+ghost use Rattle.std.specs.Prelude.{◌≡◌, ◌+◌, ◌<◌, ◌≤◌, ℕ, Bool, List, Option, None, false, true, count_by, length};
+ghost use Rattle.std.specs.Prelude.{if◌then◌else◌};
 ghost use Rattle.fmp_base.specs.declared.events.Event.{Event};
 ghost use Rattle.fmp_base.specs.declared.events.Event.TheVariants.{Run};
 ghost use Rattle.fmp_base.specs.declared.events.Line.{Line};
@@ -15,6 +16,7 @@ ghost use Rattle.fmp_bisimulation.specs.Alike.{Alike};
 ghost use Rattle.fmp_bisimulation.specs.Closed.{IsBlind, IsClosed, IsCovered, IsListed, IsRule, NoneIsBad, Seen, Watch};
 ghost use Rattle.fmp_schedules.specs.Deadlocks.{IsDeadlock, is_interrupt};
 ghost use Rattle.fmp_schedules.specs.Likeness.{AnyFits};
+ghost use Rattle.fmp_schedules.specs.Monitors.{are_limiting};
 ghost use Rattle.fmp_schedules.specs.Schedules.{
   Holds,
   HoldsThere,
@@ -40,12 +42,12 @@ ghost use Rattle.fmp_schedules.specs.Tried.{
 };
 ghost use Rattle.fmp_schedules.specs.WaysOn.{HaveWays, IsNoted};
 
-/// Where the clock may advance at any time, any number of interrupts may come, and any number of activations and
-/// wakeups may be queued, every list of events is a schedule.
+/// Where the clock may advance at any time, any number of interrupts may come, none of which is limited by itself, and
+/// any number of activations and wakeups may be queued, every list of events is a schedule.
 pub fn all_lists_are_schedules<C>()
     ensures { (rules : Rules) (sys : SystemTables) (M : Meaning C) (n : ℕ) (forbidden : Line → Bool)
         (es : List Event) → rules.idle_ticks ≡ false → rules.most ≡ None → rules.queued ≡ None →
-        IsSchedule rules sys M n forbidden es }
+        are_limiting rules.monitors ≡ false → IsSchedule rules sys M n forbidden es }
 {}
 
 /// `none_runs` is true exactly where none of the processors with these numbers can do anything.

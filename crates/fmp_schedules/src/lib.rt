@@ -4,9 +4,11 @@
 
 mod acting;
 pub mod laws;
+mod limit;
 mod monitor;
 mod tries;
 
 pub use acting::is_act;
-pub use monitor::{Breach, Monitor};
+pub use limit::InterruptLimit;
+pub use monitor::{Breach, Monitor, MonitorSubject, all_let};
 pub use tries::tries_of;

@@ -1,3 +1,4 @@
+pub mod ChangeLemmas
 pub mod KeptLemmas
 pub mod LinkLemmas
 pub mod NumberLemmas

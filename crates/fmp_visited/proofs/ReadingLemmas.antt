@@ -1,14 +1,14 @@
 -- What is read from rows.
 use Rattle.std.proofs.Common.{◌≡◌, ◌<◌, ◌≤◌, ◌+◌, ◌-◌, ◌*◌, ◌/◌, ◌%◌, ◌^◌, ℕ, zero, suc, Bool, true, false, cond}
-use Rattle.std.proofs.Common.{nat_eq, List, [], ◌∷◌, ◌++◌, inl, inr, refl, sym, ap, ◌∙◌, append_assoc, add_assoc}
-use Rattle.std.proofs.Common.{add-zero, mul-add, mul-zero, mul-suc, mul_assoc, mul_comm, mul-le-mul_right, div-add-mod'}
-use Rattle.std.proofs.Common.{get_or, length, take, drop, arith, lit≤, min}
-use Rattle.std.specs.Prelude.{not}
-use Rattle.std.proofs.lemmas.Bool.{cases_lt, eqb-true, eqb-false, eq-eqb}
-use Rattle.std.proofs.lemmas.List.{drop-drop, drop_all, get_or-drop, take_all, take_more}
+use Rattle.std.proofs.Common.{nat_eq, List, [], ◌∷◌, ◌++◌, inl, inr, refl, sym, ap, ◌∙◌, append_assoc, append-nil}
+use Rattle.std.proofs.Common.{add_assoc, add-zero, mul-add, mul-zero, mul-suc, mul_assoc, mul_comm, mul-le-mul_right}
+use Rattle.std.proofs.Common.{div-add-mod', get_or, length, take, drop, arith, length-drop, lit≤, min}
+use Rattle.std.proofs.lemmas.Bool.{cases_lt, eqb-true, eq-eqb}
+use Rattle.std.proofs.lemmas.List.{drop-drop, drop_all, drop_at, drop_min, get_or-drop, length-append, length-take-le}
+use Rattle.std.proofs.lemmas.List.{take_all, take_at, take_min}
 use Rattle.fmp_visited.specs.Rows.{bytes_of, changes_of, group_at, groups_from, mask_of, number_in, row_of}
 use Rattle.fmp_visited.proofs.NumberLemmas.{bytes-last, bytes-more}
-use Rattle.fmp_visited.proofs.RowLemmas.{changes-more, changes-end, groups-more, length-group, mask-more}
+use Rattle.fmp_visited.proofs.RowLemmas.{groups-more, length-group}
 
 -- ---- the byte at a place
 
@@ -136,34 +136,6 @@ read-fits count number unit byte power small =
     let times : byte % 128 * unit ≤ 127 * unit = mul-le-mul_right unit (omega arith) in
     omega (arith, times, small)
 
--- ---- the values of a group
-
-pub record IsUnpacking (row first v old new : List ℕ) (k mask at : ℕ) (rest : List ℕ) : Type 0 where
-  pub masks : mask ≡ mask_of (drop k first) (drop k v)
-  pub bytes : drop at row ≡ changes_of (drop k first) (drop k v) ++ rest
-  pub values : new ≡ old ++ take k v
-
-odd : (s : Bool) (m : ℕ) → (nat_eq ((cond s 0 1 + 2 * m) % 2) 1 ≡ not s) × ((cond s 0 1 + 2 * m) / 2 ≡ m)
-odd true m = (by_none (nat_eq ((0 + 2 * m) % 2) 1) refl, omega arith) where
-  by_none : (b : Bool) → nat_eq ((0 + 2 * m) % 2) 1 ≡ b → b ≡ false
-  by_none true e = let odd_one : (0 + 2 * m) % 2 ≡ 1 = eqb-true ((0 + 2 * m) % 2) 1 e in absurd (omega (arith, odd_one))
-  by_none false e = refl
-odd false m = (by_one (nat_eq ((1 + 2 * m) % 2) 1) refl, omega arith) where
-  by_one : (b : Bool) → nat_eq ((1 + 2 * m) % 2) 1 ≡ b → b ≡ true
-  by_one true e = refl
-  by_one false e = absurd (eqb-false ((1 + 2 * m) % 2) 1 e (omega arith))
-
--- a bit of the mask tells whether the value differs, and what is left of it tells the others
-pub mask-tells : (k mask : ℕ) (f v : List ℕ) → k < length f → k < length v → mask ≡ mask_of (drop k f) (drop k v)
-    → (nat_eq (mask % 2) 1 ≡ not (nat_eq (get_or v k 0) (get_or f k 0)))
-    × (mask / 2 ≡ mask_of (drop (k + 1) f) (drop (k + 1) v))
-mask-tells k mask f v in_first in_values e =
-    let s : Bool = nat_eq (get_or v k 0) (get_or f k 0) in
-    let m : ℕ = mask_of (drop (k + 1) f) (drop (k + 1) v) in
-    let here : mask ≡ cond s 0 1 + 2 * m = e ∙ mask-more k f v in_first in_values in
-    let both = odd s m in
-    (ap (λ (n : ℕ). nat_eq (n % 2) 1) here ∙ both.0, ap (λ (n : ℕ). n / 2) here ∙ both.1)
-
 -- ---- groups
 
 pub take-group : (s : ℕ) (v : List ℕ) → take (s + 8) v ≡ take s v ++ group_at s v
@@ -175,10 +147,10 @@ take-group (suc s) (a ∷ v) =
     ap (λ (n : ℕ). take n (a ∷ v)) next ∙ ap (λ (xs : List ℕ). a ∷ xs) (take-group s v)
 
 pub record AreUnpacked (row first v new : List ℕ) (group at : ℕ) : Type 0 where
-  pub values : new ≡ take (group * 8) v
+  pub values : new ≡ take (group * 8) v ++ drop (group * 8) first
   pub bytes : drop at row ≡ groups_from (length first / 8 + 1 - group) (group * 8) first v
 
-pub unpack-begun : (row first v new : List ℕ) → new ≡ [] → row ≡ row_of first v → AreUnpacked row first v new 0 0
+pub unpack-begun : (row first v new : List ℕ) → new ≡ first → row ≡ row_of first v → AreUnpacked row first v new 0 0
 unfolding row_of
 unpack-begun row first v new e told =
     let all : length first / 8 + 1 ≡ length first / 8 + 1 - 0 = omega arith in
@@ -195,21 +167,31 @@ unpack-there row first v new group at lt past u =
 
 pub unpack-end : (row first v new : List ℕ) (group at : ℕ) → length v ≡ length first → length first / 8 + 1 ≤ group
     → AreUnpacked row first v new group at → new ≡ v
-unpack-end row first v new group at same le u = u.values ∙ take_all (group * 8) v (omega arith)
+unpack-end row first v new group at same le u =
+    u.values
+    ∙ (ap (λ (xs : List ℕ). take (group * 8) v ++ xs) (drop_all (group * 8) first (omega arith))
+    ∙ (append-nil (take (group * 8) v) ∙ take_all (group * 8) v (omega arith)))
 
--- the values of a field whose bytes stand there if it differs
-pub value-differs : (s d : Bool) (bytes rest all : List ℕ) → d ≡ not s → d ≡ true → all ≡ cond s [] bytes ++ rest
-    → all ≡ bytes ++ rest
-value-differs true d bytes rest all e is k = let clash : true ≡ false = sym is ∙ e in cc
-value-differs false d bytes rest all e is k = k
+-- the values before a group and those from it on
+unpacked-parts : (s : ℕ) (first v new : List ℕ) → s ≤ length v → new ≡ take s v ++ drop s first
+    → (take s new ≡ take s v) × (drop s new ≡ drop s first)
+unpacked-parts s first v new le e =
+    let long : length (take s v) ≡ s = length-take-le s v le in (
+      ap (λ (xs : List ℕ). take s xs) e ∙ take_at (take s v) (drop s first) s long,
+      ap (λ (xs : List ℕ). drop s xs) e ∙ drop_at (take s v) (drop s first) s long,
+    )
 
-pub value-same : (value first : ℕ) (d : Bool) (bytes rest all : List ℕ) → d ≡ not (nat_eq value first) → d ≡ false
-    → all ≡ cond (nat_eq value first) [] bytes ++ rest → (first ≡ value) × (all ≡ rest)
-value-same value first d bytes rest all e is k = by_test (nat_eq value first) refl e k where
-  by_test : (s : Bool) → nat_eq value first ≡ s → d ≡ not s → all ≡ cond s [] bytes ++ rest → (first ≡ value)
-      × (all ≡ rest)
-  by_test true same h m = (sym (eqb-true value first same), m)
-  by_test false same h m = let clash : true ≡ false = sym h ∙ is in absurd cc
+-- the values of a group, which are the first ones
+pub part-told : (row first v new : List ℕ) (group at count : ℕ) → group * 8 ≤ length v
+    → count ≡ min 8 (length new - group * 8) → AreUnpacked row first v new group at
+    → take count (drop (group * 8) new) ≡ group_at (group * 8) first
+unfolding group_at
+part-told row first v new group at count le e u =
+    let s : ℕ = group * 8 in
+    let few : count ≡ min 8 (length (drop s new)) = e ∙ ap (λ (n : ℕ). min 8 n) (sym (length-drop s new)) in
+    ap (λ (n : ℕ). take n (drop s new)) few
+    ∙ (take_min 8 (drop s new)
+    ∙ ap (λ (xs : List ℕ). take 8 xs) (unpacked-parts s first v new le u.values).1)
 
 pub power-small : (k : ℕ) → k < 5 → 128 ^ k ≤ 268435456
 power-small zero lt = lit≤ tt
@@ -218,43 +200,6 @@ power-small (suc (suc zero)) lt = lit≤ tt
 power-small (suc (suc (suc zero))) lt = lit≤ tt
 power-small (suc (suc (suc (suc zero)))) lt = lit≤ tt
 power-small (suc (suc (suc (suc (suc k))))) lt = absurd (omega arith)
-
--- one more value
-pub unpacking-more : (row first v old new more : List ℕ) (k mask at value behind : ℕ) (rest : List ℕ) → length v
-    ≡ length first
-    → k < length first → IsUnpacking row first v old new k mask at rest → more ≡ new ++ value ∷ [] → value
-    ≡ get_or v k 0
-    → drop behind row ≡ changes_of (drop (k + 1) first) (drop (k + 1) v) ++ rest
-    → IsUnpacking row first v old more (k + 1) (mask / 2) behind rest
-unpacking-more row first v old new more k mask at value behind rest same lt u e is bytes =
-    let within : k < length v = omega arith in
-    record {
-      masks = (mask-tells k mask first v lt within u.masks).1;
-      bytes = bytes;
-      values =
-          e ∙ (ap (λ (x : ℕ). new ++ x ∷ []) is
-          ∙ (ap (λ (xs : List ℕ). xs ++ get_or v k 0 ∷ []) u.values
-          ∙ (append_assoc old (take k v) (get_or v k 0 ∷ [])
-          ∙ ap (λ (xs : List ℕ). old ++ xs) (sym (take_more v k 0 within)))));
-    }
-
--- the bytes of a value, if it differs, and of those behind it
-pub unpacking-bytes : (row first v old new : List ℕ) (k mask at : ℕ) (rest : List ℕ) → length v ≡ length first
-    → k < length first → IsUnpacking row first v old new k mask at rest
-    → drop at row ≡ cond (nat_eq (get_or v k 0) (get_or first k 0)) [] (bytes_of (get_or v k 0))
-    ++ (changes_of (drop (k + 1) first) (drop (k + 1) v) ++ rest)
-unpacking-bytes row first v old new k mask at rest same lt u =
-    let within : k < length v = omega arith in
-    let here : List ℕ = cond (nat_eq (get_or v k 0) (get_or first k 0)) [] (bytes_of (get_or v k 0)) in
-    u.bytes ∙ (ap (λ (b : List ℕ). b ++ rest) (changes-more k first v lt within)
-    ∙ append_assoc here (changes_of (drop (k + 1) first) (drop (k + 1) v)) rest)
-
-pub unpacking-end : (row first v old new : List ℕ) (k mask at : ℕ) (rest : List ℕ) → length v ≡ length first
-    → length first ≤ k → IsUnpacking row first v old new k mask at rest → (new ≡ old ++ v) × (drop at row ≡ rest)
-unpacking-end row first v old new k mask at rest same le u = (
-  u.values ∙ ap (λ (xs : List ℕ). old ++ xs) (take_all k v (omega arith)),
-  u.bytes ∙ ap (λ (b : List ℕ). b ++ rest) (changes-end k first v (omega arith)),
-)
 
 -- what stands where a group begins
 pub unpack-group : (row first v new fields : List ℕ) (group at : ℕ) → group < length first / 8 + 1 → fields
@@ -274,18 +219,40 @@ unpack-group row first v new fields group at lt e u =
       at-rest row at (mask_of fields (group_at s v)) (changes_of fields (group_at s v) ++ rest) told,
     )
 
-pub unpack-more : (row first v new more : List ℕ) (group at behind : ℕ) → AreUnpacked row first v new group at
-    → more ≡ new ++ group_at (group * 8) v
+pub unpack-more : (row first v new part : List ℕ) (group at behind count : ℕ) → group * 8 ≤ length v
+    → count ≡ min 8 (length new - group * 8) → AreUnpacked row first v new group at
+    → part ≡ group_at (group * 8) v
     → drop behind row ≡ groups_from (length first / 8 + 1 - (group + 1)) ((group + 1) * 8) first v
-    → AreUnpacked row first v more (group + 1) behind
-unpack-more row first v new more group at behind u e bytes =
-    let next : group * 8 + 8 ≡ (group + 1) * 8 = omega arith in
+    → AreUnpacked row first v (take (group * 8) new ++ (part ++ drop count (drop (group * 8) new))) (group + 1) behind
+unpack-more row first v new part group at behind count le e u is bytes =
+    let s : ℕ = group * 8 in
+    let next : s + 8 ≡ (group + 1) * 8 = omega arith in
+    let parts = unpacked-parts s first v new le u.values in
+    let few : count ≡ min 8 (length (drop s new)) = e ∙ ap (λ (n : ℕ). min 8 n) (sym (length-drop s new)) in
+    let left : drop count (drop s new) ≡ drop (s + 8) first =
+    ap (λ (n : ℕ). drop n (drop s new)) few
+    ∙ (drop_min 8 (drop s new) ∙ (ap (λ (xs : List ℕ). drop 8 xs) parts.1 ∙ drop-drop 8 s first)) in
     record {
       values =
-          e ∙ (ap (λ (xs : List ℕ). xs ++ group_at (group * 8) v) u.values
-          ∙ (sym (take-group (group * 8) v) ∙ ap (λ (n : ℕ). take n v) next));
+          ap (λ (xs : List ℕ). xs ++ (part ++ drop count (drop s new))) parts.0
+          ∙ (ap (λ (xs : List ℕ). take s v ++ (xs ++ drop count (drop s new))) is
+          ∙ (ap (λ (xs : List ℕ). take s v ++ (group_at s v ++ xs)) left
+          ∙ (sym (append_assoc (take s v) (group_at s v) (drop (s + 8) first))
+          ∙ (ap (λ (xs : List ℕ). xs ++ drop (s + 8) first) (sym (take-group s v))
+          ∙ ap (λ (n : ℕ). take n v ++ drop n first) next))));
       bytes = bytes;
     }
+
+pub part-length : (xs part : List ℕ) (s k : ℕ) → s + k ≤ length xs → length part ≡ length (take k (drop s xs))
+    → length (take s xs ++ (part ++ drop k (drop s xs))) ≡ length xs
+part-length xs part s k le e =
+    let one = length-append (take s xs) (part ++ drop k (drop s xs)) in
+    let two = length-append part (drop k (drop s xs)) in
+    let front : length (take s xs) ≡ s = length-take-le s xs (omega arith) in
+    let back : length (drop s xs) ≡ length xs - s = length-drop s xs in
+    let middle : length (take k (drop s xs)) ≡ k = length-take-le k (drop s xs) (omega (arith, back, le)) in
+    let last : length (drop k (drop s xs)) ≡ length (drop s xs) - k = length-drop k (drop s xs) in
+    omega (arith, one, two, front, back, middle, last, e, le)
 
 pub length-fields : (s : ℕ) (first v fields : List ℕ) → length v ≡ length first → fields ≡ group_at s first
     → length (group_at s v) ≡ length fields

@@ -1,6 +1,6 @@
 -- Rows tell values.
 use Rattle.std.proofs.Common.{◌≡◌, ◌<◌, ◌≤◌, ◌+◌, ◌-◌, ◌*◌, ◌/◌, ◌^◌, min, ℕ, zero, suc, Bool, true, false, cond}
-use Rattle.std.proofs.Common.{nat_eq, List, [], ◌∷◌, ◌++◌, refl, sym, ap, subst, ◌∙◌, append_assoc, append-nil}
+use Rattle.std.proofs.Common.{nat_eq, List, [], ◌∷◌, ◌++◌, refl, sym, ap, subst, ◌∙◌, append_assoc}
 use Rattle.std.proofs.Common.{add_assoc, add-zero, zero-add, mul_assoc, mul-add, mul-one, mul-zero, le-add_right}
 use Rattle.std.proofs.Common.{pow-suc, inl, inr, get_or, length, take, drop, arith, length-drop}
 use Rattle.std.proofs.lemmas.Bool.{cases_lt, eqb-true, eq-eqb, ne_eqb}
@@ -134,22 +134,11 @@ mask-nil : (f : List ℕ) → mask_of f [] ≡ 0
 mask-nil [] = refl
 mask-nil (b ∷ f) = refl
 
-changes-nil : (f : List ℕ) → changes_of f [] ≡ []
-changes-nil [] = refl
-changes-nil (b ∷ f) = refl
-
 pub mask-end : (k : ℕ) (f v : List ℕ) → min (length f) (length v) ≤ k → mask_of (drop k f) (drop k v) ≡ 0
 mask-end k f v le =
     elim (cases_lt k (length f)) [
       | inl lt ↦ ap (λ (w : List ℕ). mask_of (drop k f) w) (drop_all k v (omega arith)) ∙ mask-nil (drop k f)
       | inr past ↦ ap (λ (g : List ℕ). mask_of g (drop k v)) (drop_all k f past)
-    ]
-
-pub changes-end : (k : ℕ) (f v : List ℕ) → min (length f) (length v) ≤ k → changes_of (drop k f) (drop k v) ≡ []
-changes-end k f v le =
-    elim (cases_lt k (length f)) [
-      | inl lt ↦ ap (λ (w : List ℕ). changes_of (drop k f) w) (drop_all k v (omega arith)) ∙ changes-nil (drop k f)
-      | inr past ↦ ap (λ (g : List ℕ). changes_of g (drop k v)) (drop_all k f past)
     ]
 
 pub mask-more : (k : ℕ) (f v : List ℕ) → k < length f → k < length v
@@ -158,14 +147,6 @@ pub mask-more : (k : ℕ) (f v : List ℕ) → k < length f → k < length v
 mask-more k f v in_first in_values =
     ap (λ (g : List ℕ). mask_of g (drop k v)) (drop_more f k 0 in_first)
     ∙ ap (λ (w : List ℕ). mask_of (get_or f k 0 ∷ drop (k + 1) f) w) (drop_more v k 0 in_values)
-
-pub changes-more : (k : ℕ) (f v : List ℕ) → k < length f → k < length v
-    → changes_of (drop k f) (drop k v)
-    ≡ cond (nat_eq (get_or v k 0) (get_or f k 0)) [] (bytes_of (get_or v k 0))
-    ++ changes_of (drop (k + 1) f) (drop (k + 1) v)
-changes-more k f v in_first in_values =
-    ap (λ (g : List ℕ). changes_of g (drop k v)) (drop_more f k 0 in_first)
-    ∙ ap (λ (w : List ℕ). changes_of (get_or f k 0 ∷ drop (k + 1) f) w) (drop_more v k 0 in_values)
 
 twice : (bit m : ℕ) → bit * (2 * m) ≡ bit * 2 * m
 twice bit m = sym (mul_assoc bit 2 m)
@@ -210,34 +191,41 @@ pub mask-whole : (k mask bit : ℕ) (f v : List ℕ) → min (length f) (length 
 mask-whole k mask bit f v le e =
     sym (ap (λ (n : ℕ). mask + n) (ap (λ (n : ℕ). bit * n) (mask-end k f v le) ∙ mul-zero bit) ∙ add-zero mask) ∙ e
 
--- the bytes of a value that differs
-pub changes-set : (k : ℕ) (row new f v all : List ℕ) → k < length f → k < length v
-    → (get_or v k 0 ≡ get_or f k 0 → ⊥) → new ≡ row ++ bytes_of (get_or v k 0)
-    → row ++ changes_of (drop k f) (drop k v) ≡ all
-    → new ++ changes_of (drop (k + 1) f) (drop (k + 1) v) ≡ all
-changes-set k row new f v all in_first in_values differs e done =
-    let rest : List ℕ = changes_of (drop (k + 1) f) (drop (k + 1) v) in
-    let here : changes_of (drop k f) (drop k v) ≡ bytes_of (get_or v k 0) ++ rest =
-    changes-more k f v in_first in_values
-    ∙ ap (λ (s : Bool). cond s [] (bytes_of (get_or v k 0)) ++ rest) (ne_eqb (get_or v k 0) (get_or f k 0) differs) in
-    ap (λ (bytes : List ℕ). bytes ++ rest) e
-    ∙ (append_assoc row (bytes_of (get_or v k 0)) rest ∙ (ap (λ (bytes : List ℕ). row ++ bytes) (sym here) ∙ done))
+-- the same of a full mask from which the bits of those are taken that do not differ
+pub bit-kept : (k mask bit total : ℕ) (f v : List ℕ) → k < length f → k < length v
+    → (get_or v k 0 ≡ get_or f k 0 → ⊥) → mask + bit * mask_of (drop k f) (drop k v) + bit ≡ total
+    → mask + bit * 2 * mask_of (drop (k + 1) f) (drop (k + 1) v) + bit * 2 ≡ total
+bit-kept k mask bit total f v in_first in_values differs e =
+    let got = bit-set k mask bit (mask + bit * mask_of (drop k f) (drop k v)) f v in_first in_values differs refl in
+    omega (arith, got, e)
 
--- those of one that does not
-pub changes-clear : (k : ℕ) (row f v all : List ℕ) → k < length f → k < length v → get_or v k 0 ≡ get_or f k 0
-    → row ++ changes_of (drop k f) (drop k v) ≡ all
-    → row ++ changes_of (drop (k + 1) f) (drop (k + 1) v) ≡ all
-changes-clear k row f v all in_first in_values same done =
-    let rest : List ℕ = changes_of (drop (k + 1) f) (drop (k + 1) v) in
-    let here : changes_of (drop k f) (drop k v) ≡ rest =
-    changes-more k f v in_first in_values
-    ∙ ap (λ (s : Bool). cond s [] (bytes_of (get_or v k 0)) ++ rest) (eq-eqb (get_or v k 0) (get_or f k 0) same) in
-    ap (λ (bytes : List ℕ). row ++ bytes) (sym here) ∙ done
+pub bit-taken : (k mask bit total : ℕ) (f v : List ℕ) → k < length f → k < length v → bit ≤ mask
+    → get_or v k 0 ≡ get_or f k 0 → mask + bit * mask_of (drop k f) (drop k v) + bit ≡ total
+    → mask - bit + bit * 2 * mask_of (drop (k + 1) f) (drop (k + 1) v) + bit * 2 ≡ total
+bit-taken k mask bit total f v in_first in_values le same e =
+    let got = bit-clear k mask bit (mask + bit * mask_of (drop k f) (drop k v)) f v in_first in_values same refl in
+    omega (arith, got, e, le)
 
-pub changes-whole : (k : ℕ) (row front f v all : List ℕ) → min (length f) (length v) ≤ k
-    → row ++ changes_of (drop k f) (drop k v) ≡ front ++ all → row ≡ front ++ all
-changes-whole k row front f v all le e =
-    sym (ap (λ (bytes : List ℕ). row ++ bytes) (changes-end k f v le) ∙ append-nil row) ∙ e
+pub bit-fits : (k mask bit : ℕ) → k < 8 → bit ≡ 2 ^ k → 256 ≤ mask + bit → bit ≤ mask
+bit-fits k mask bit lt unit low =
+    let small : 2 ^ k < 2 ^ 7 + 1 = half k lt in omega (arith, small, unit, low)
+  where
+    half : (k : ℕ) → k < 8 → 2 ^ k < 2 ^ 7 + 1
+    half k lt =
+        elim (cases_lt k 7) [
+          | inl less ↦ let power : 2 ^ k < 2 ^ 7 = pow_below k 7 less in omega (arith, power)
+          | inr more ↦
+              let is : k ≡ 7 = omega arith in
+              let power : 2 ^ k ≡ 2 ^ 7 = ap (λ (n : ℕ). 2 ^ n) is in omega (arith, power)
+        ]
+
+pub eight-whole : (k mask bit : ℕ) (f v : List ℕ) → k ≡ 8 → length f ≡ 8 → bit ≡ 2 ^ k
+    → mask + bit * mask_of (drop k f) (drop k v) + bit ≡ mask_of f v + 256 → mask ≡ mask_of f v
+eight-whole k mask bit f v last eight unit e =
+    let none : bit * mask_of (drop k f) (drop k v) ≡ 0 =
+    ap (λ (g : List ℕ). bit * mask_of g (drop k v)) (drop_all k f (omega arith)) ∙ mul-zero bit in
+    let power : 2 ^ k ≡ 2 ^ 8 = ap (λ (n : ℕ). 2 ^ n) last in
+    omega (arith, none, power, unit, e)
 
 -- ---- the groups of a row, one by one
 

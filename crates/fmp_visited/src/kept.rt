@@ -1,4 +1,4 @@
-//! The states that are kept, in the order in which they were first reached. Their rows stand one behind the other.
+//! The states that are kept, in the order in which they were first reached. Their rows stand one after the other.
 ghost use Rattle.std.specs.Prelude.{◌≡◌, ◌+◌, ◌≤◌, [], ◌∷◌, ◌++◌, length, slice_get, OnErr, OnOk};
 ghost use Rattle.std.specs.Option.{option_map};
 ghost use Rattle.fmp_visited.specs.Kept.{row_in};

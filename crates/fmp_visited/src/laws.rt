@@ -1,4 +1,4 @@
-//! The laws, each the contract of a function that does nothing.
+//! Laws of rows and of links, each the contract of a function that does nothing.
 ghost use Rattle.std.specs.Prelude.{◌≡◌, ◌+◌, ◌<◌, ℕ, List, [], ◌∷◌, ◌++◌, Some, length, slice_get};
 ghost use Rattle.fmp_visited.specs.declared.link.StateLink.{StateLink};
 ghost use Rattle.fmp_visited.specs.Links.{AreLinked, IsLink, path_of};
@@ -10,7 +10,8 @@ pub fn rows_tell_values()
         row_of first v ≡ row_of first w → v ≡ w }
 {}
 
-/// No link, one that may be the first, and one more behind others.
+/// An empty list of links is linked, and so is a linked list with one more, which is the first or leads to one of
+/// these.
 pub fn links_are_linked()
     ensures none { AreLinked [] }
     ensures added { (links : List StateLink) (link : StateLink) → AreLinked links → IsLink links link →

@@ -43,7 +43,7 @@ fn value_of(number: u64) -> u32
     (number % 4_294_967_296) as u32
 }
 
-/// The number that begins at a place of a row, byte by byte, and the place behind it.
+/// The number that begins at a place of a row, byte by byte, and the place after it.
 fn number_from(row: &[u8], place: usize) -> (u32, usize)
     ensures { (number : ℕ) (rest : List ℕ) → number < 2 ^ 32 → drop place row.now ≡ bytes_of number ++ rest →
         (result.0 ≡ number) × (drop result.1 row.now ≡ rest) }
@@ -66,7 +66,7 @@ fn number_from(row: &[u8], place: usize) -> (u32, usize)
     (value_of(number), at)
 }
 
-/// The number that begins at a place of a row, and the place behind it.
+/// The number that begins at a place of a row, and the place after it.
 #[inline(always)]
 #[tactic(auto, using(crate::proofs::ReadingLemmas::number_small))]
 pub fn number_at(row: &[u8], place: usize) -> (u32, usize)

@@ -26,44 +26,107 @@ pub fn group_of(values: &[u32], start: usize) -> &[u32]
 fn whole_group(values: &[u32], start: usize) -> &[u32]
     requires { start + 8 ≤ length values.now }
     ensures group { result.now ≡ group_at start values.now }
-    ensures few { length result.now ≤ 8 }
+    ensures eight { length result.now ≡ 8 }
 {
     &values[start..start + GROUP]
 }
 
-/// Appends the mask of a group, with a bit for each value that differs, and these values.
-#[inline(always)]
-fn push_group(row: &mut Vec<u8>, first: &[u32], values: &[u32]) -> Result<(), AllocError>
+/// The mask of a group: a bit for each value that differs.
+fn group_mask(first: &[u32], values: &[u32]) -> u8
     requires { length first.now ≤ 8 }
-    ensures { OnOk result (row.new.items ≡ row.old.items ++ mask_of first.now values.now
-        ∷ changes_of first.now values.now) }
+    ensures { result ≡ mask_of first.now values.now }
 {
-    let place = row.len();
-    row.push(0)?;
     let mut mask: u32 = 0;
     let mut bit: u32 = 1;
     for k in 0..first.len().min(values.len()) {
         if values[k] != first[k] {
-            push_number(row, values[k])?;
             mask += bit;
         }
         bit *= 2;
     }
-    row[place] = mask as u8;
+    mask as u8
+}
+
+/// The same of eight values: the bits of those that do not differ are taken from a full mask, since so the compiler
+/// compares several values at once.
+#[inline(always)]
+fn mask_of_eight(first: &[u32], values: &[u32]) -> u8
+    requires first { length first.now ≡ 8 }
+    requires values { length values.now ≡ 8 }
+    ensures { result ≡ mask_of first.now values.now }
+{
+    let mut mask: u32 = 255;
+    let mut bit: u32 = 1;
+    for k in 0..GROUP {
+        if values[k] == first[k] {
+            mask -= bit;
+        }
+        bit *= 2;
+    }
+    mask as u8
+}
+
+/// The mask of the eight fields from this place on. It is compiled by itself: where it is inlined, the values are
+/// compared one by one.
+#[inline(never)]
+fn whole_mask(first: &[u32], values: &[u32], start: usize) -> u8
+    requires first { start + 8 ≤ length first.now }
+    requires values { start + 8 ≤ length values.now }
+    ensures { result ≡ mask_of (group_at start first.now) (group_at start values.now) }
+{
+    mask_of_eight(whole_group(first, start), whole_group(values, start))
+}
+
+/// Appends the values of a group that differ, as its mask tells.
+#[inline(always)]
+fn push_changes(
+    row: &mut Vec<u8>,
+    first: &[u32],
+    values: &[u32],
+    mask: u8,
+) -> Result<(), AllocError>
+    requires few { length first.now ≤ 8 }
+    requires mask { mask ≡ mask_of first.now values.now }
+    ensures { OnOk result (row.new.items ≡ row.old.items ++ changes_of first.now values.now) }
+{
+    let mut bits = mask;
+    let mut at: usize = 0;
+    for _change in 0..GROUP {
+        if bits == 0 {
+            return Ok(());
+        }
+        let same = bits.trailing_zeros();
+        at += same as usize;
+        push_number(row, values[at])?;
+        at += 1;
+        bits = (bits >> same) / 2;
+    }
     Ok(())
 }
 
-/// Whether there are eight fields from this place on.
+/// Appends the mask of a group, and the values that differ: most groups have none.
 #[inline(always)]
-fn has_group(values: &[u32], start: usize) -> bool
-    ensures { IsTrue result → start + 8 ≤ length values.now }
+fn push_group(row: &mut Vec<u8>, first: &[u32], values: &[u32], mask: u8) -> Result<(), AllocError>
+    requires few { length first.now ≤ 8 }
+    requires mask { mask ≡ mask_of first.now values.now }
+    ensures { OnOk result (row.new.items ≡ row.old.items ++ mask_of first.now values.now
+        ∷ changes_of first.now values.now) }
 {
-    values.len().saturating_sub(start) >= GROUP
+    row.push(mask)?;
+    push_changes(row, first, values, mask)
 }
 
-/// Appends the mask of the fields from a place on that have one together, and those of their values that differ. A
-/// whole group, as all but the last are, is written with no loop.
-fn push_from(
+/// Whether eight of this many fields stand from a place on.
+#[inline(always)]
+fn has_group(fields: usize, start: usize) -> bool
+    ensures { IsTrue result → start + 8 ≤ fields }
+{
+    fields.saturating_sub(start) >= GROUP
+}
+
+/// The same of the fields from a place on that have a mask together, of which there may be fewer than eight.
+#[inline(never)]
+fn push_part(
     row: &mut Vec<u8>,
     first: &[u32],
     values: &[u32],
@@ -73,10 +136,37 @@ fn push_from(
         ++ mask_of (group_at start first.now) (group_at start values.now)
         ∷ changes_of (group_at start first.now) (group_at start values.now)) }
 {
-    if has_group(first, start) && has_group(values, start) {
-        return push_group(row, whole_group(first, start), whole_group(values, start));
+    let first = group_of(first, start);
+    let values = group_of(values, start);
+    push_group(row, first, values, group_mask(first, values))
+}
+
+/// Appends the mask of the fields from a place on that have one together, and those of their values that differ. Each
+/// list has this many of them at least. All groups but the last are whole.
+#[inline(always)]
+fn push_from(
+    row: &mut Vec<u8>,
+    first: &[u32],
+    values: &[u32],
+    fields: usize,
+    start: usize,
+) -> Result<(), AllocError>
+    requires first { fields ≤ length first.now }
+    requires values { fields ≤ length values.now }
+    ensures { OnOk result (row.new.items ≡ row.old.items
+        ++ mask_of (group_at start first.now) (group_at start values.now)
+        ∷ changes_of (group_at start first.now) (group_at start values.now)) }
+{
+    if has_group(fields, start) {
+        let mask = whole_mask(first, values, start);
+        return push_group(
+            row,
+            whole_group(first, start),
+            whole_group(values, start),
+            mask,
+        );
     }
-    push_group(row, group_of(first, start), group_of(values, start))
+    push_part(row, first, values, start)
 }
 
 /// Writes the row of these values into the place of another one. `AllocError` if memory runs out.
@@ -84,9 +174,10 @@ pub fn pack(values: &[u32], first: &[u32], row: &mut Vec<u8>) -> Result<(), Allo
     ensures { OnOk result (row.new.items ≡ row_of first.now values.now) }
 {
     row.clear();
+    let fields = first.len().min(values.len());
     for group in 0..first.len() / GROUP + 1 {
         let start = group * GROUP;
-        push_from(row, first, values, start)?;
+        push_from(row, first, values, fields, start)?;
     }
     Ok(())
 }

@@ -42,15 +42,19 @@ fn mixed(hash: u64, number: u64) -> u64 {
     product ^ (product >> 29)
 }
 
-/// A hash of a row: eight bytes at a time, then the bytes that are left.
+/// A hash of a row: eight bytes at a time, and at the end the last eight. A row of fewer bytes is taken byte by byte.
 fn hash_of(row: &[u8]) -> u64 {
-    let mut hash = SPREAD;
+    let mut hash = mixed(SPREAD, row.len() as u64);
     let words = row.len() / 8;
     for word in 0..words {
         hash = mixed(hash, word_at(row, word * 8));
     }
-    for byte in &row[words * 8..] {
-        hash = mixed(hash, u64::from(*byte));
+    if words == 0 {
+        for byte in row {
+            hash = mixed(hash, u64::from(*byte));
+        }
+    } else if words * 8 < row.len() {
+        hash = mixed(hash, word_at(row, row.len() - 8));
     }
     hash ^ (hash >> 32)
 }

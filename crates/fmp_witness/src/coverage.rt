@@ -79,6 +79,13 @@ fn bit_of(code: Er) -> u16 {
     }
 }
 
+/// Sets the marks that are set in another list.
+fn join_marks(marks: &mut [bool], others: &[bool]) {
+    for (mark, other) in marks.iter_mut().zip(others) {
+        *mark |= *other;
+    }
+}
+
 /// Sets a mark, if it is there.
 fn mark(marks: &mut [bool], place: u8) {
     if let Some(mark) = marks.get_mut(usize::from(place)) {
@@ -115,6 +122,18 @@ impl CallCoverage {
         }
     }
 
+    /// Adds what was done elsewhere.
+    fn join(&mut self, other: &CallCoverage) {
+        for (mine, theirs) in self.made.iter_mut().zip(&other.made) {
+            join_marks(mine.as_mut_slice(), theirs);
+        }
+        for (mine, theirs) in self.answers.iter_mut().zip(&other.answers) {
+            for (bits, more) in mine.iter_mut().zip(theirs) {
+                *bits |= *more;
+            }
+        }
+    }
+
     /// The call here got this answer.
     fn note_answer(&mut self, site: CallSite, code: Er) {
         if let Some(body) = self.answers.get_mut(usize::from(site.body))
@@ -136,6 +155,13 @@ impl RunCoverage {
             interrupts,
             cyclics,
         })
+    }
+
+    /// Adds who ran elsewhere.
+    fn join(&mut self, other: &RunCoverage) {
+        join_marks(self.tasks.as_mut_slice(), &other.tasks);
+        join_marks(self.interrupts.as_mut_slice(), &other.interrupts);
+        join_marks(self.cyclics.as_mut_slice(), &other.cyclics);
     }
 
     /// A handler ran.
@@ -166,6 +192,19 @@ impl Peaks {
             words,
             messages,
         })
+    }
+
+    /// Adds how full the objects were elsewhere.
+    fn join(&mut self, other: &Peaks) {
+        for (most, more) in self.counts.iter_mut().zip(&other.counts) {
+            *most = (*more).max(*most);
+        }
+        for (most, more) in self.words.iter_mut().zip(&other.words) {
+            *most = (*more).max(*most);
+        }
+        for (most, more) in self.messages.iter_mut().zip(&other.messages) {
+            *most = (*more).max(*most);
+        }
     }
 
     /// The counts of the semaphores in a state.
@@ -223,6 +262,13 @@ impl Coverage {
         let runs = RunCoverage::new(alloc, tables)?;
         let peaks = Peaks::new(alloc, tables)?;
         Ok(Coverage { calls, runs, peaks })
+    }
+
+    /// Adds what was done in other states of the same system.
+    pub fn join(&mut self, other: &Coverage) {
+        self.calls.join(&other.calls);
+        self.runs.join(&other.runs);
+        self.peaks.join(&other.peaks);
     }
 
     /// A call was made here.

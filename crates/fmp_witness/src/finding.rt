@@ -1,5 +1,5 @@
 //! What is found, and whether it is so.
-ghost use Rattle.std.specs.Prelude.{◌≡◌, ◌≤◌, ◌^◌, [], IfOk, IfSome, IsTrue};
+ghost use Rattle.std.specs.Prelude.{◌≡◌, [], IfOk, IfSome, IsTrue};
 ghost use Rattle.fmp_base.specs.Systems.{tables_of};
 ghost use Rattle.fmp_instructions.specs.Machine.{code_meaning};
 ghost use Rattle.fmp_replay.specs.Replays.{kernel_after, replay};
@@ -31,7 +31,7 @@ pub enum FindingKind {
     /// No processor can do anything, no time limit runs, no cyclic handler is started, and a task that may not wait
     /// forever is not dormant.
     Deadlock,
-    /// The actor of the processor of this number goes on for ever without a call.
+    /// The actor of the processor of this number goes on forever without a call.
     Endless(u8),
     /// A line of the last event breaks a sentence.
     Breach(SentenceBreach),
@@ -104,7 +104,7 @@ fn stands<'a>(
     is_deadlock(kernel, question, interrupts)
 }
 
-/// Whether the actor of a processor is known to go on for ever on the kernel of an image, which has taken these events.
+/// Whether the actor of a processor is known to go on forever on the kernel of an image, which has taken these events.
 fn goes_on<'a>(kernel: &Kernel<Vm<'a>>, image: &'a Image, n: u64, steps: &[Event], p: u8) -> bool
     requires { IsFollowed image.now n steps.now kernel.now }
     ensures { IsTrue result → IsEndlessOn image.now.system (code_meaning image.now.code)
@@ -253,7 +253,6 @@ pub fn is_so<'a>(
     steps: &[Event],
     kind: FindingKind,
 ) -> bool
-    requires some { 1 ≤ n }
     requires begun { kernel.old ≡ kernel_after image.now n [] }
     ensures { IsTrue result → IsSo image.now n question.now steps.now kind }
 {
@@ -321,8 +320,6 @@ pub fn left_by(
     n: u64,
     steps: &[Event],
 ) -> Result<Option<Left>, AllocError>
-    requires low { 1 ≤ n }
-    requires high { n ≤ 2 ^ 48 }
     ensures { IfOk result (λ left. IfSome left (IsLeft image.now n steps.now)) }
 {
     let mut kernel = kernel_of(alloc, image, n)?;

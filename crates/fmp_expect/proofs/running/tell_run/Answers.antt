@@ -1,8 +1,8 @@
 use Rattle.std.proofs.Common.{◌≡◌, ◌∙◌, ◌≤◌, ℕ, List, [], ap, arith, refl, subst, sym, length}
 use Rattle.std.proofs.lemmas.List.{drop_all}
 use Rattle.fmp_base.specs.declared.events.Line.{Line}
-use Rattle.fmp_coming.specs.Comings.{view_after_each}
-use Rattle.fmp_coming.proofs.Comings.{after-step, taken-step}
+use Rattle.fmp_kernel.specs.Comings.{view_after_each}
+use Rattle.fmp_kernel.proofs.Comings.{after-step, taken-step}
 use Rattle.fmp_expect.specs.Meaning.{Told, with_lines}
 use Rattle.fmp_expect.specs.Runs.{last_told, rest_told, told_after}
 use Rattle.fmp_expect.specs.Watches.{AreTold}

@@ -1,5 +1,5 @@
 use Rattle.std.proofs.Common.{◌≡◌, ◌+◌, ◌≤◌, ◌^◌, [], List, drop, length}
-use Rattle.fmp_coming.specs.Comings.{view_after_each}
+use Rattle.fmp_kernel.specs.Comings.{view_after_each}
 use Rattle.fmp_expect.specs.declared.expectation.Expected.{Expected}
 use Rattle.fmp_expect.specs.Meaning.{Told}
 use Rattle.fmp_expect.specs.Runs.{rest_told, run_told}

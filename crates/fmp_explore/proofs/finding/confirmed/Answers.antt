@@ -3,7 +3,7 @@ use Rattle.std.proofs.lemmas.List.Elements.{All-nil}
 use Rattle.fmp_witness.specs.Findings.{IsFound}
 use Rattle.fmp_explore.proofs.finding.confirmed.Goals as goal
 
-pub add_confirmed-requires-clause-found : goal.add_confirmed-requires-clause-found
-add_confirmed-requires-clause-found c =
+pub add_confirmed-requires : goal.add_confirmed-requires
+add_confirmed-requires c =
     let empty : c.new-findings.result.items ≡ [] = search rules in
-    rw empty (All-nil (IsFound c.args.image.now c.args.n c.args.question.now))
+    record { found = rw empty (All-nil (IsFound c.args.image.now c.args.n c.args.question.now)) }

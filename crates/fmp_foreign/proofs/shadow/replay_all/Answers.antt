@@ -22,5 +22,4 @@ loop-at-preserved g c =
           c.args.journal.now
           c.loop-at.at c.given_at-given.result c.given_at-given.ensures c.loop-at.invariant.followed
           (c.take_turns-why.ensures.follows follows);
-      bound = c.take_turns-why.ensures.bound;
     }

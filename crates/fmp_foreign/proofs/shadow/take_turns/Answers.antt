@@ -25,5 +25,4 @@ loop-preserved g c =
       followed = and_then g.B.Body.meaning c.args.kernel.now c.loop.kernel c.take_turn-verdict.new.kernel [] []
           c.loop.invariant.followed (c.take_turn-verdict.ensures.stays other);
       taken = omega (arith, before, one);
-      bound = c.take_turn-verdict.ensures.bound;
     }

@@ -8,5 +8,4 @@ invariant-loop g l =
     record {
       followed : HasFollowed g.B.Body.meaning l.fn.kernel [] l.kernel;
       taken : l.kernel.taken ≡ l.fn.kernel.taken + l.counter;
-      bound : l.kernel.bound ≡ l.bound;
     }

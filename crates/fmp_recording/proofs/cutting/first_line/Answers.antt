@@ -1,6 +1,6 @@
 use Rattle.std.proofs.Common.{◌+◌, ◌∷◌, take, ap, sym, ◌∙◌}
-use Rattle.fmp_steps.specs.Steps.{lines_of}
-use Rattle.fmp_steps.proofs.LinesOf.{lines_of-first, lines_of-only, rest_whole}
+use Rattle.fmp_trace.specs.Steps.{lines_of}
+use Rattle.fmp_trace.proofs.LinesOf.{lines_of-first, lines_of-only, rest_whole}
 use Rattle.fmp_recording.proofs.cutting.first_line.Goals as goal
 
 pub returns-in-Some-clause-lines : goal.returns-in-Some-clause-lines

@@ -1,6 +1,6 @@
 use Rattle.std.proofs.Common.{◌+◌, ◌*◌, min, ap, sym, ◌∙◌}
 use Rattle.fmp_recording.specs.Recordings.{capped}
-use Rattle.fmp_steps.proofs.Numbers.{all_digits_more, not_digits}
+use Rattle.fmp_trace.proofs.Numbers.{all_digits_more, not_digits}
 use Rattle.fmp_recording.proofs.Decimals.{value_more}
 use Rattle.fmp_recording.proofs.numbers.digits_in.Goals as goal
 

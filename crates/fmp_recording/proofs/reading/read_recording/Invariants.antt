@@ -2,7 +2,7 @@ use Rattle.std.proofs.Common.{◌≡◌, ◌≤◌, ◌+◌, ◌^◌, length}
 use Rattle.fmp_recording.specs.Recordings.{all_came, recorded_from, recording_of}
 use Rattle.fmp_recording.proofs.LineByLine.{behind_all}
 use Rattle.fmp_recording.proofs.reading.read_recording.Given as goal
-use Rattle.fmp_steps.specs.Steps.{lines_of}
+use Rattle.fmp_trace.specs.Steps.{lines_of}
 
 -- what is read so far, and what the lines say that are left, are what the text says
 abbrev pub invariant-loop-rest : goal.invariant-loop-rest

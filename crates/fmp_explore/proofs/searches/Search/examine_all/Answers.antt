@@ -1,21 +1,30 @@
-use Rattle.std.proofs.Common.{◌<◌, ◌≤◌, arith, length}
-use Rattle.fmp_explore.proofs.SearchLemmas.{all_examined, one_examined}
+use Rattle.std.proofs.Common.{ℕ, ◌≤◌, arith, length, subst, sym}
+use Rattle.fmp_explore.specs.Searching.{IsSearching}
+use Rattle.fmp_explore.proofs.SearchLemmas.{all_examined, none_examined}
 use Rattle.fmp_explore.proofs.searches.Search.examine_all.Goals as goal
 
-pub loop-i-preserved : goal.loop-i-preserved
-loop-i-preserved g c =
+pub loop-turn-init : goal.loop-turn-init
+loop-turn-init g c =
     let s = c.args.subject.now in
-    let there : c.loop-i.i < length c.loop-i.self.seen.rows = omega (arith, c.len.ensures.rows, c.if-i-len.false) in
     record {
       searching =
-          one_examined s.image.now s.n s.question.now c.loop-i.i c.loop-i.self c.examine.new.self
-          c.loop-i.invariant.searching there c.in_ok-examine.ensures.examined;
-      top = c.in_ok-examine.ensures.top;
-      work = c.in_ok-examine.ensures.work;
+          subst (λ (k : ℕ). IsSearching s.image.now s.n s.question.now k c.args.self.now) (sym c.new-progress.ensures)
+          (none_examined s.image.now s.n s.question.now c.args.self.now c.requires.begun);
+      top = c.requires.top;
+      work = c.requires.work;
     }
 
-pub returns-then-i-len : goal.returns-then-i-len
-returns-then-i-len g c = λ _.
+pub loop-turn-preserved : goal.loop-turn-preserved
+loop-turn-preserved g c =
+    record {
+      searching = c.in_ok-advance.ensures.searching;
+      top = c.in_ok-advance.ensures.top;
+      work = c.in_ok-advance.ensures.work;
+    }
+
+pub returns-then-progress-len : goal.returns-then-progress-len
+returns-then-progress-len g c = λ _.
     let s = c.args.subject.now in
-    let past : length c.loop-i.self.seen.rows ≤ c.loop-i.i = omega (arith, c.len.ensures.rows, c.if-i-len.true) in
-    all_examined s.image.now s.n s.question.now c.loop-i.self c.loop-i.i c.loop-i.invariant.searching past
+    let l = c.loop-turn in
+    let past : length l.self.seen.rows ≤ l.progress.next = omega (arith, c.len.ensures.rows, c.if-progress-len.true) in
+    all_examined s.image.now s.n s.question.now l.self l.progress.next l.invariant.searching past

@@ -2,17 +2,14 @@ use Rattle.std.proofs.lemmas.Result.{err_from_is_err_and}
 use Rattle.fmp_witness.proofs.OverLemmas.{over_first}
 use Rattle.fmp_explore.proofs.searches.Search.run_on.Goals as goal
 
-pub kernel_of-requires-clause-low : goal.kernel_of-requires-clause-low
-kernel_of-requires-clause-low g c = c.args.subject.now.low
-
-pub kernel_of-requires-clause-high : goal.kernel_of-requires-clause-high
-kernel_of-requires-clause-high g c = c.args.subject.now.high
-
 pub returns-in_err-work : goal.returns-in_err-work
 returns-in_err-work g c = rw ((err_from_is_err_and c.from_residual.result c.from_residual.ensures.1).1) tt
 
 pub examine_all-ending-requires-clause-begun : goal.examine_all-ending-requires-clause-begun
 examine_all-ending-requires-clause-begun g c = c.requires.begun
+
+pub examine_all-ending-requires-clause-crew : goal.examine_all-ending-requires-clause-crew
+examine_all-ending-requires-clause-crew g c = c.requires.crew
 
 pub examine_all-ending-requires-clause-top : goal.examine_all-ending-requires-clause-top
 examine_all-ending-requires-clause-top g c = c.requires.top

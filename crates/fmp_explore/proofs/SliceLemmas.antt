@@ -1,0 +1,215 @@
+-- Slices, and what is known where they are entered.
+use Rattle.std.proofs.Common.{◌≡◌, ◌+◌, ◌-◌, ◌*◌, ◌<◌, ◌≤◌, ◌⊎◌, inl, inr, ℕ, List, [], Option, Some, Bool, true}
+use Rattle.std.proofs.Common.{ap, sym, subst, ◌∙◌, ◌∷◌, ◌++◌, false, arith, is_some, length}
+use Rattle.std.proofs.Common.{length-append, slice_get}
+use Rattle.std.proofs.lemmas.Bool.{cases_lt}
+use Rattle.std.proofs.lemmas.Option.{slice_get_within}
+use Rattle.std.specs.Prelude.{unwrap_or}
+use Rattle.fmp_question.specs.declared.question.Question.{Question}
+use Rattle.fmp_explore.specs.declared.searches.Search.{Search}
+use Rattle.fmp_explore.specs.declared.slices.Slice.{Slice}
+use Rattle.fmp_explore.specs.Searching.{Grows, IsSearch, IsSearching, SameTable, rows_of}
+use Rattle.fmp_explore.specs.Slices.{AreEntered, AreExamined, HasEntered, HasExaminedRow, HasKeptRow, IsAmong, IsSlice}
+use Rattle.fmp_explore.specs.Slices.{IsInRound, IsSliceOf}
+use Rattle.fmp_explore.specs.States.{IsExamined, KeptRows}
+use Rattle.fmp_fields.specs.declared.field.What.{What}
+use Rattle.fmp_fields.specs.Fields.{AreAllFields}
+use Rattle.fmp_image_bytes.specs.Images.{ImageTables}
+use Rattle.fmp_live.specs.LiveLocals.{AreLiveTables, live_tables}
+use Rattle.fmp_visited.specs.Seen.{SeenStates, with_state}
+use Rattle.fmp_visited.specs.declared.link.StateLink.{StateLink}
+use Rattle.fmp_explore.proofs.SearchLemmas.{element_before, more_examined}
+use Rattle.fmp_explore.proofs.SearchStepLemmas.{grows_on, grows_rows, grows_search, stays_grows}
+use Rattle.fmp_explore.proofs.StateLemmas.{element_last, element_stays, examined_grown, examined_with}
+use Rattle.fmp_explore.proofs.StateLemmas.{with_rows}
+
+module _ (i : ImageTables) (n : ℕ) (q : Question) (whole : Search) (slice : Slice) (h : IsSlice i n q whole slice)
+  where
+    -- the rows of a search that the whole one became, beside those of the slice
+    rows_beside : (b : Search) → Grows whole b → with_rows (rows_of slice.search) b.seen.rows ≡ rows_of b
+    rows_beside b g =
+        let with : Bool → List What → List ℕ → KeptRows = λ (outs : Bool) (fields : List What) (first : List ℕ).
+        record { outs = outs; fields = fields; first = first; rows = b.seen.rows } in
+        let s = slice.search.rows in
+        ap (λ (outs : Bool). with outs s.fields.items s.first.items) (h.same.outs ∙ sym g.same.outs)
+        ∙ ap (λ (fields : List What). with b.rows.outs fields s.first.items) (h.same.fields ∙ sym g.same.fields)
+        ∙ ap (λ (first : List ℕ). with b.rows.outs b.rows.fields.items first) (h.same.first ∙ sym g.same.first)
+
+    -- where a slice is entered, its states are examined
+    pub slice_examined : (a b : Search) → Grows whole a → slice.span.first ≤ length a.seen.rows
+        → slice.span.end ≤ length whole.seen.rows → HasEntered slice.search a b
+        → IsSearching i n q slice.span.first a → IsSearching i n q slice.span.end b
+    slice_examined a b g le within entered x =
+        let grows : Grows whole b = grows_on whole a b g entered.grows in
+        more_examined i n q slice.span.first slice.span.end a b x le entered.grows
+        (λ sure k row past before there.
+        subst (λ (kept : KeptRows). IsExamined i n q kept row) (rows_beside b grows)
+        (examined_with i n q (rows_of slice.search) b.seen.rows
+        (λ j r at. entered.each sure j r (slice_get_within slice.search.seen.rows j r at) at) row
+        (h.each (entered.sure sure) k row past before
+        (element_before whole.seen.rows grows.more k row (omega (arith, before, within))
+        (ap (λ (rs : List (List ℕ)). slice_get rs k) (sym grows.rows) ∙ there)))))
+
+-- ---- the search of a slice
+
+-- a search that keeps rows as the whole one does, where it has the same tables
+pub slice_of : (i : ImageTables) (q : Question) (whole s : Search) → IsSearch i q whole
+    → s.tries.items ≡ whole.tries.items → s.rows.fields.items ≡ whole.rows.fields.items
+    → s.rows.first.items ≡ whole.rows.first.items → s.rows.outs ≡ whole.rows.outs
+    → AreLiveTables s.rows.outs i.code (live_tables s.rows.live) → IsSliceOf i q whole s
+slice_of i q whole s h tries fields first outs live =
+    record {
+      survey =
+          record {
+            survey =
+                record {
+                  tries = tries ∙ h.survey.tries;
+                  fields = subst (λ (fs : List What). AreAllFields i.system i.code (is_some q.interrupts) fs)
+                      (sym fields) h.survey.fields;
+                  live = live;
+                };
+            first =
+                ap (λ (xs : List ℕ). length xs) first ∙ h.first
+                ∙ sym (ap (λ (fs : List What). length fs + 2 * length q.monitors.items) fields);
+          };
+      outs = outs;
+      fields = fields;
+      first = first;
+    }
+
+pub slice_grows : (i : ImageTables) (q : Question) (whole a b : Search) → Grows a b → IsSliceOf i q whole a
+    → IsSliceOf i q whole b
+slice_grows i q whole a b g h =
+    record {
+      survey = grows_search i q a b g h.survey;
+      outs = g.same.outs ∙ h.outs;
+      fields = g.same.fields ∙ h.fields;
+      first = g.same.first ∙ h.first;
+    }
+
+-- the state of one more row is examined
+pub row_examined : (i : ImageTables) (n : ℕ) (q : Question) (whole : Search) (first place : ℕ) (read : List ℕ)
+    (a b : Search) → read ≡ unwrap_or (slice_get whole.seen.rows place) [] → AreExamined i n q whole first place a
+    → HasExaminedRow i n q a b read → AreExamined i n q whole first (place + 1) b
+row_examined i n q whole first place read a b is h x sure k row past before there = by_order (cases_lt k place) where
+  by_order : (k < place) ⊎ (place ≤ k) → IsExamined i n q (rows_of b) row
+  by_order (inl low) =
+      subst (λ (kept : KeptRows). IsExamined i n q kept row) (sym (grows_rows a b x.grows))
+      (examined_grown i n q (rows_of a) x.grows.more row (h (x.grows.sure sure) k row past low there))
+  by_order (inr far) =
+      let last : k ≡ place = omega (arith, before, far) in
+      let at : unwrap_or (slice_get whole.seen.rows place) [] ≡ row =
+      ap (λ (r : Option (List ℕ)). unwrap_or r [])
+      (ap (λ (m : ℕ). slice_get whole.seen.rows m) (sym last) ∙ there) in
+      subst (λ (r : List ℕ). IsExamined i n q (rows_of b) r) (is ∙ at) (x.examined sure)
+
+-- ---- entering
+
+-- a row that is kept stays so
+pub among_grown : (a b : Search) → Grows a b → (row : List ℕ) → IsAmong a.seen.rows row → IsAmong b.seen.rows row
+among_grown a b g row h =
+    record {
+      place = h.place;
+      there =
+          ap (λ (rs : List (List ℕ)). slice_get rs h.place) g.rows
+          ∙ element_stays a.seen.rows g.more h.place row h.there;
+    }
+
+-- what is read of a slice is the row that stands there
+pub read_at : (slice : Search) (k : ℕ) (read row : List ℕ) → read ≡ unwrap_or (slice_get slice.seen.rows k) []
+    → slice_get slice.seen.rows k ≡ Some row → read ≡ row
+read_at slice k read row is there = is ∙ ap (λ (r : Option (List ℕ)). unwrap_or r []) there
+
+-- one more row is entered
+pub row_entered : (slice : Search) (k : ℕ) (a b : Search) → Grows a b → AreEntered slice k a
+    → (b.sure ≡ true → (row : List ℕ) → slice_get slice.seen.rows k ≡ Some row → IsAmong b.seen.rows row)
+    → AreEntered slice (k + 1) b
+row_entered slice k a b g h one sure j row before there = by_order (cases_lt j k) where
+  by_order : (j < k) ⊎ (k ≤ j) → IsAmong b.seen.rows row
+  by_order (inl low) = among_grown a b g row (h (g.sure sure) j row low there)
+  by_order (inr far) =
+      let last : j ≡ k = omega (arith, before, far) in
+      one sure row (ap (λ (m : ℕ). slice_get slice.seen.rows m) (sym last) ∙ there)
+
+pub entered_grown : (slice : Search) (k : ℕ) (a b : Search) → Grows a b → AreEntered slice k a → AreEntered slice k b
+entered_grown slice k a b g h sure j row before there = among_grown a b g row (h (g.sure sure) j row before there)
+
+-- ---- one row
+
+module _ (a b : Search) (same : SameTable a b) (sure : b.sure ≡ true → a.sure ≡ true) (row : List ℕ)
+    (link : StateLink) where
+  pub new_row : b.seen ≡ with_state a.seen row link → HasKeptRow a b row
+  new_row e =
+      let rows : b.seen.rows ≡ a.seen.rows ++ row ∷ [] = ap (λ (s : SeenStates). s.rows) e in
+      record {
+        grows = record { same = same; more = row ∷ []; rows = rows; sure = sure };
+        kept = λ _.
+            record {
+              place = length a.seen.rows;
+              there =
+                  ap (λ (rs : List (List ℕ)). slice_get rs (length a.seen.rows)) rows ∙ element_last a.seen.rows row;
+            };
+      }
+
+  pub known_row : (place : ℕ) → b.seen ≡ a.seen → slice_get a.seen.rows place ≡ Some row → HasKeptRow a b row
+  known_row place e found =
+      record {
+        grows = stays_grows a b (record { same = same; seen = e; sure = sure });
+        kept = λ _. record { place = place; there = ap (λ (s : SeenStates). slice_get s.rows place) e ∙ found };
+      }
+
+  pub no_row : b.seen ≡ a.seen → b.sure ≡ false → HasKeptRow a b row
+  no_row e lost =
+      record {
+        grows = stays_grows a b (record { same = same; seen = e; sure = sure });
+        kept = λ s. absurd (cc (s, lost));
+      }
+
+-- one more of a slice's own states is looked at
+pub own_entered : (slice : Search) (first place : ℕ) (a b : Search) → Grows a b
+    → (a.sure ≡ true → (k : ℕ) (row : List ℕ) → first + k < place → slice_get slice.seen.rows k ≡ Some row
+    → IsAmong a.seen.rows row)
+    → (b.sure ≡ true → (row : List ℕ) → slice_get slice.seen.rows (place - first) ≡ Some row → IsAmong b.seen.rows row)
+    → b.sure ≡ true → (k : ℕ) (row : List ℕ) → first + k < place + 1 → slice_get slice.seen.rows k ≡ Some row
+    → IsAmong b.seen.rows row
+own_entered slice first place a b g h one sure k row before there = by_order (cases_lt (first + k) place) where
+  by_order : (first + k < place) ⊎ (place ≤ first + k) → IsAmong b.seen.rows row
+  by_order (inl low) = among_grown a b g row (h (g.sure sure) k row low there)
+  by_order (inr far) =
+      let last : k ≡ place - first = omega (arith, before, far) in
+      one sure row (ap (λ (m : ℕ). slice_get slice.seen.rows m) (sym last) ∙ there)
+
+-- a row that is read of a slice stands at a place
+pub among_at : (a slice : Search) (place k : ℕ) (read row : List ℕ)
+    → read ≡ unwrap_or (slice_get slice.seen.rows k) [] → slice_get a.seen.rows place ≡ Some read
+    → slice_get slice.seen.rows k ≡ Some row → IsAmong a.seen.rows row
+among_at a slice place k read row is at there =
+    record { place = place; there = at ∙ ap Some (read_at slice k read row is there) }
+
+-- a row that is read of a slice is kept
+pub among_read : (b slice : Search) (k : ℕ) (read row : List ℕ) → read ≡ unwrap_or (slice_get slice.seen.rows k) []
+    → IsAmong b.seen.rows read → slice_get slice.seen.rows k ≡ Some row → IsAmong b.seen.rows row
+among_read b slice k read row is h there =
+    record { place = h.place; there = h.there ∙ ap Some (read_at slice k read row is there) }
+
+grows_longer : (a b : Search) → Grows a b → length a.seen.rows ≤ length b.seen.rows
+grows_longer a b g =
+    let rows : length b.seen.rows ≡ length a.seen.rows + length g.more =
+    ap (λ (rs : List (List ℕ)). length rs) g.rows ∙ length-append a.seen.rows g.more in
+    omega (arith, rows)
+
+-- a slice is entered in a round
+pub slice_entered : (i : ImageTables) (n : ℕ) (q : Question) (whole : Search) (slice : Slice)
+    → IsSlice i n q whole slice → (a b : Search) (next : ℕ) → slice.span.first ≡ next → HasEntered slice.search a b
+    → IsInRound i n q whole next a → IsInRound i n q whole slice.span.end b
+slice_entered i n q whole slice h a b next at entered round =
+    let grows : Grows whole b = grows_on whole a b round.grows entered.grows in
+    let long : length whole.seen.rows ≤ length a.seen.rows = grows_longer whole a round.grows in
+    let low : slice.span.first ≤ length a.seen.rows = omega (arith, at, round.within, long) in
+    record {
+      grows = grows;
+      within = h.within;
+      searching =
+          slice_examined i n q whole slice h a b round.grows low h.within entered
+          (subst (λ (k : ℕ). IsSearching i n q k a) (sym at) round.searching);
+    }
