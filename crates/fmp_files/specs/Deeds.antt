@@ -1,9 +1,12 @@
 -- What a program does outside of itself.
-use Rattle.std.specs.Prelude.{ℕ, ◌≡◌, ◌++◌, ◌⊎◌, List, [], ◌∷◌, Option, None, Some, take, ⊤}
+use Rattle.std.specs.Prelude.{ℕ, ◌≡◌, ◌++◌, ◌⊎◌, Bool, true, false, List, [], ◌∷◌, Option, None, Some, Result, Ok, Err}
+use Rattle.std.specs.Prelude.{take, ⊤}
 
--- the file of this name has these bytes and no others; bytes stand on standard output; a text on standard error
+-- the file of this name has these bytes and no others; it is there no more; bytes stand on standard output; a text on
+-- standard error
 pub data Deed : Type 0 where
   wrote : (name bytes : List ℕ) → Deed
+  removed : (name : List ℕ) → Deed
   printed : (bytes : List ℕ) → Deed
   said : (text : List ℕ) → Deed
 
@@ -20,3 +23,9 @@ Begins deed bytes before after = Does before [] after ⊎ ((count : ℕ) × Does
 -- some text was said
 abbrev pub Says : (before after : Option (List Deed)) → Type 0
 Says before after = (text : List ℕ) × Does before (said text ∷ []) after
+
+-- what was done where a file was to be removed, by whether there was one: nothing where that failed
+abbrev pub removal : {E : Type 0} → (name : List ℕ) → Result Bool E → List Deed
+removal name (Ok true) = removed name ∷ []
+removal name (Ok false) = []
+removal name (Err e) = []

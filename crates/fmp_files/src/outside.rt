@@ -1,15 +1,17 @@
 //! What a program reaches outside of itself: files by their names, standard output and standard error.
-ghost use Rattle.std.specs.Prelude.{◌≡◌, ℕ, List, [], ◌∷◌, Bool, Option, None, Some, IfOk, IfSome, IsTrue, OnErr, OnOk, true};
-ghost use Rattle.fmp_files.specs.Deeds.{Begins, Deed, Does, Says, printed, wrote};
+ghost use Rattle.std.specs.Prelude.{◌≡◌, ℕ, List, [], ◌∷◌, Bool, Option, None, Some, IfErr, IfOk, IfSome, IsTrue};
+ghost use Rattle.std.specs.Prelude.{OnErr};
+ghost use Rattle.std.specs.Prelude.{OnOk, true};
+ghost use Rattle.fmp_files.specs.Deeds.{Begins, Deed, Does, Says, printed, removal, wrote};
 ghost use Rattle.fmp_files.specs.Files.{front};
 ghost use Rattle.fmp_files.specs.Outside.{Files as KnownFiles, unknown_files};
 
-use crate::device::Device;
+use crate::device::{Device, Failed};
 use crate::reading::{ReadFault, read_in};
 use crate::writing::{WriteFault, write_out};
 use std::alloc::Global;
 use std::fmt::Display;
-use std::io::{Eprint, Print};
+use std::io::{Eprint, ErrorKind, Print};
 use std::os::unix::fs::MetadataExt;
 use std::rt::Files;
 use std::{fs, io};
@@ -38,6 +40,13 @@ pub trait Outside {
         ensures ok { OnOk result (Does (done self.old) (wrote name.now bytes.now ∷ []) (done self.new)) }
         ensures err { OnErr result (Begins (wrote name.now) bytes.now (done self.old) (done self.new)) }
         ensures device { OnErr result (IsTrue ((files self.old).can_fail name.now)) }
+        ensures output { output_can_fail self.new ≡ output_can_fail self.old };
+
+    /// Removes a file, and says whether there was one. `Failed` comes only for a name on which a call can fail; the
+    /// file is still there then.
+    fn remove(&mut self, name: &str) -> Result<bool, Failed>
+        ensures done { Does (done self.old) (removal name.now result) (done self.new) }
+        ensures device { IfErr result (λ _. IsTrue ((files self.old).can_fail name.now)) }
         ensures output { output_can_fail self.new ≡ output_can_fail self.old };
 
     /// Writes bytes to standard output. After an error, which comes only where that can fail, it may have a beginning
@@ -90,6 +99,14 @@ impl<R: Files + Print + Eprint> Outside for Host<'_, R> {
         match fs::create(self.rt, name) {
             Ok(file) => write_out(&mut Device::new(file), bytes),
             Err(_) => Err(WriteFault::Device),
+        }
+    }
+
+    fn remove(&mut self, name: &str) -> Result<bool, Failed> {
+        match fs::remove_file(self.rt, name) {
+            Ok(()) => Ok(true),
+            Err(error) if error.kind() == ErrorKind::NotFound => Ok(false),
+            Err(_) => Err(Failed),
         }
     }
 

@@ -1,1 +1,3 @@
+pub mod Junit
 pub mod Members
+pub mod Xml

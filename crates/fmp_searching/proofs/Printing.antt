@@ -1,8 +1,8 @@
 -- How printing ends, and what an exploration without findings writes.
 use Rattle.std.proofs.Common.{◌≡◌, ◌∙◌, ◌++◌, ◌||◌, ℕ, Bool, true, false, List, [], ◌∷◌, Option, None, Some}
-use Rattle.std.proofs.Common.{ap, append_assoc, arith, inl, inr, map, refl, take}
+use Rattle.std.proofs.Common.{Result, Ok, Err, ap, append_assoc, arith, inl, inr, map, refl, take}
 use Rattle.std.specs.List.{list_any}
-use Rattle.fmp_files.specs.Deeds.{Begins, Deed, Does, Says, said, wrote}
+use Rattle.fmp_files.specs.Deeds.{Begins, Deed, Does, Says, removal, removed, said, wrote}
 use Rattle.fmp_files.specs.Endings.{EndsPrinting, all_printed, some_printed}
 use Rattle.fmp_files.specs.Prints.{Prints}
 use Rattle.fmp_files.specs.PrintsLaws.{does_nothing}
@@ -63,3 +63,9 @@ quiet_begun name bytes before after h = elim h [
 
 pub quiet_said : (before after : Option (List Deed)) → Says before after → PrintsNothing before after
 quiet_said before after h = record { deeds = said h.0 ∷ []; none = refl; done = h.1 }
+
+pub quiet_removed : {E : Type 0} (name : List ℕ) (result : Result Bool E) (before after : Option (List Deed))
+    → Does before (removal name result) after → PrintsNothing before after
+quiet_removed name (Ok true) before after h = record { deeds = removed name ∷ []; none = refl; done = h }
+quiet_removed name (Ok false) before after h = record { deeds = []; none = refl; done = h }
+quiet_removed name (Err e) before after h = record { deeds = []; none = refl; done = h }

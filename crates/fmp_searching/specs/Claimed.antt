@@ -1,6 +1,6 @@
 -- What the status 0 of `explore` claims, and what it prints.
-use Rattle.std.specs.Prelude.{◌≡◌, ℕ, List, [], ◌++◌, All, Bool, IfSome, None, Option, Some}
-use Rattle.std.specs.Prelude.{false, map, option_map, true}
+use Rattle.std.specs.Prelude.{◌≡◌, ℕ, List, [], ◌++◌, ◌&&◌, All, Bool, IfSome, None, Option}
+use Rattle.std.specs.Prelude.{Some, false, map, option_map, true}
 use Rattle.std.specs.List.{list_any}
 use Rattle.clap.specs.Words.{Row}
 use Rattle.fmp_files.specs.Deeds.{Deed, Does, printed}
@@ -12,12 +12,17 @@ use Rattle.fmp_image_bytes.specs.Images.{ImageTables}
 use Rattle.fmp_question.specs.declared.question.Question.{Question}
 use Rattle.fmp_witness.specs.declared.finding.Finding.{Finding}
 use Rattle.fmp_witness.specs.Findings.{IsFound}
-use Rattle.fmp_steps.specs.Steps.{steps_text}
+use Rattle.fmp_trace.specs.Steps.{steps_text}
 use Rattle.fmp_explore.specs.declared.exploring.Report.{Report}
 use Rattle.fmp_explore.specs.Searching.{NothingIsFound}
-use Rattle.fmp_explore_names.specs.Claims.{ending_text, status_of}
-use Rattle.fmp_explore_names.specs.Questions.{IsQuestionOf}
-use Rattle.fmp_explore_names.specs.Sites.{AreBodiesOf, TextBody}
+use Rattle.fmp_searching.specs.Claims.{ending_text, status_of}
+use Rattle.fmp_searching.specs.Questions.{IsQuestionOf}
+use Rattle.fmp_searching.specs.Records.{IsReportRecords}
+use Rattle.fmp_searching.specs.Sites.{AreBodiesOf, TextBody}
+use Rattle.fmp_searching.specs.Tests.{HasTestReport}
+use Rattle.fmp_searching.specs.Unsaid.{has_unsaid}
+use Rattle.fmp_warnings.specs.declared.verdicts.Form.{Form}
+use Rattle.fmp_warnings.specs.declared.verdicts.Form.TheVariants as form
 use Rattle.fmp_searching.specs.declared.sources.Exploring.{Exploring}
 use Rattle.fmp_searching.specs.declared.exploring.Explored.{Explored}
 use Rattle.fmp_searching.specs.Explored.{IsExploring}
@@ -30,28 +35,37 @@ pub record IsReportText (i : ImageTables) (bodies : List TextBody) (q : Question
   pub none : r.findings.items ≡ [] → findings ≡ []
   pub is : text ≡ findings ++ (ending_text i bodies q n r ++ extent)
 
--- a search found nothing, has looked for stuck tasks too, and claims what holds
-pub record IsClean (r : Report) : Type 0 where
+-- a search found nothing, has looked for stuck tasks too, and claims what holds; where it is strict, each sentence says
+-- something
+pub record IsClean (strict : Bool) (q : Question) (r : Report) : Type 0 where
   pub none : r.findings.items ≡ []
   pub holds : r.holds ≡ true
   pub looked : r.looked ≡ true
+  pub said : (strict && has_unsaid q r) ≡ false
 
 -- the steps text of a finding
 abbrev pub text_of : Finding → List ℕ
 text_of f = steps_text f.steps.items
 
+-- the same in a form: for readers, or as objects of JSON
+abbrev pub IsReportIn : Form → (strict : Bool) → ImageTables → List TextBody → Question → ℕ → Report → List ℕ → Type 0
+IsReportIn form.Text strict i bodies q n r text = IsReportText i bodies q n r text
+IsReportIn form.Json strict i bodies q n r text = IsReportRecords strict i bodies q n r text
+
 -- what is printed, the steps of the findings, and the status, are those of this report
-pub record Tells (i : ImageTables) (bodies : List TextBody) (q : Question) (n : ℕ) (r : Report) (e : Explored) :
-    Type 0 where
-  pub text : IsReportText i bodies q n r e.text.items
+pub record Tells (f : Form) (strict : Bool) (i : ImageTables) (bodies : List TextBody) (q : Question) (n : ℕ)
+    (r : Report) (e : Explored) : Type 0 where
+  pub text : IsReportIn f strict i bodies q n r e.text.items
   pub steps : map (λ text. text.items) e.steps.items ≡ map text_of r.findings.items
-  pub status : e.status ≡ status_of r
-  pub clean : e.status ≡ 0 → IsClean r
+  pub report : IfSome e.report (λ out. HasTestReport strict q r out.items)
+  pub status : e.status ≡ status_of (strict && has_unsaid q r) r
+  pub clean : e.status ≡ 0 → IsClean strict q r
 
 -- they are those of a report that finds what is so, and claims what holds
-pub record IsExplored (i : ImageTables) (bodies : List TextBody) (q : Question) (n : ℕ) (e : Explored) : Type 0 where
+pub record IsExplored (f : Form) (strict : Bool) (i : ImageTables) (bodies : List TextBody) (q : Question) (n : ℕ)
+    (e : Explored) : Type 0 where
   pub report : Report
-  pub tells : Tells i bodies q n report e
+  pub tells : Tells f strict i bodies q n report e
   pub found : All (IsFound i n q) report.findings.items
   pub nothing : report.holds ≡ true → NothingIsFound i n q
 
@@ -74,10 +88,10 @@ pub record PrintsOnly (text : List ℕ) (before after : Option (List Deed)) : Ty
   pub then : PrintsNothing between after
 
 -- what was printed last is what a search came to, whatever that is
-pub record HasShown (i : ImageTables) (bodies : List TextBody) (q : Question) (n : ℕ) (done : Option (List Deed)) :
-    Type 0 where
+pub record HasShown (f : Form) (strict : Bool) (i : ImageTables) (bodies : List TextBody) (q : Question) (n : ℕ)
+    (done : Option (List Deed)) : Type 0 where
   pub explored : Explored
-  pub is : IsExplored i bodies q n explored
+  pub is : IsExplored f strict i bodies q n explored
   pub before : Option (List Deed)
   pub prints : PrintsOnly explored.text.items before done
 
@@ -86,13 +100,13 @@ abbrev pub HasPrinted : (text : List ℕ) → (done : Option (List Deed)) → Ty
 HasPrinted text done = (before : Option (List Deed)) × Prints before text done
 
 -- of an image nothing is found that a question asks about, and this was printed of it last
-pub record HasClaimed (i : ImageTables) (bodies : List TextBody) (q : Question) (n : ℕ) (done : Option (List Deed)) :
-    Type 0 where
+pub record HasClaimed (f : Form) (strict : Bool) (i : ImageTables) (bodies : List TextBody) (q : Question) (n : ℕ)
+    (done : Option (List Deed)) : Type 0 where
   pub nothing : NothingIsFound i n q
   pub report : Report
-  pub clean : IsClean report
+  pub clean : IsClean strict q report
   pub text : List ℕ
-  pub is : IsReportText i bodies q n report text
+  pub is : IsReportIn f strict i bodies q n report text
   pub printed : HasPrinted text done
 
 -- the same of an image whose bodies have this text, and of what the words and a text of sentences ask
@@ -101,7 +115,7 @@ pub record HoldsOfImage (i : ImageTables) (src said : List ℕ) (e : Exploring) 
   pub are : AreBodiesOf src bodies
   pub question : Question
   pub asks : IsQuestionOf e.asked said i.system i.code bodies question
-  pub claimed : HasClaimed i bodies question e.bound done
+  pub claimed : HasClaimed e.form e.strict i bodies question e.bound done
 
 -- the same of the image that two texts build
 pub record HoldsOfTexts (cfg src said : List ℕ) (e : Exploring) (done : Option (List Deed)) : Type 0 where

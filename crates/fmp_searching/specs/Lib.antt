@@ -1,3 +1,17 @@
+pub mod Answers
 pub mod Claimed
+pub mod Claims
 pub mod Explored
+pub mod Fields
 pub mod Fresh
+pub mod Limits
+pub mod Questions
+pub mod Records
+pub mod Seen
+pub mod Sentences
+pub mod Sites
+pub mod Stuck
+pub mod Tests
+pub mod TextSchedules
+pub mod Unsaid
+pub mod Words

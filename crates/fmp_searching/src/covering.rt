@@ -1,8 +1,10 @@
 //! What a search saw: how far it went, what was never made or run, the greatest counts and lengths, and the answers.
+use crate::answers::{answered_calls, append_answers};
+use crate::naming::{append_name, is_queue};
+use crate::refused::say_refused;
 use crate::sources::{ExploredSources, say, say_call, say_made};
 use fmp_base::{Name, System};
 use fmp_explore::{Coverage, Report, Variety};
-use fmp_explore_names::{answered_calls, append_answers, append_name, is_queue};
 use std::alloc::{AllocError, Global};
 
 /// Appends how much a search saw.
@@ -155,6 +157,7 @@ pub fn say_coverage(
     let sys = sources.image.system();
     say_unmade(alloc, out, sources, coverage)?;
     say_answers(alloc, out, sources, coverage)?;
+    say_refused(alloc, out, sources, coverage)?;
     say_unrun(out, sys, coverage)?;
     say_counts(alloc, out, sys, &coverage.peaks.counts)?;
     say_lengths(alloc, out, sys, coverage)
@@ -169,6 +172,20 @@ fn hint_of(variety: &Variety) -> &'static str {
     }
 }
 
+/// How many values the most varied field has.
+pub fn most_values(report: &Report) -> usize {
+    let mut most = 0;
+    for variety in &report.varieties {
+        most = variety.values.max(most);
+    }
+    most
+}
+
+/// Whether a field is one of the most varied ones, of which the first has this many values.
+pub fn is_varied(most: usize, variety: &Variety) -> bool {
+    variety.values > 1 && variety.values >= most / 2
+}
+
 /// Appends how many values the most varied fields have, where the search stopped at a limit.
 pub fn say_varieties(
     alloc: Global,
@@ -176,12 +193,9 @@ pub fn say_varieties(
     sources: &ExploredSources<'_>,
     report: &Report,
 ) -> Result<(), AllocError> {
-    let mut most = 0;
+    let most = most_values(report);
     for variety in &report.varieties {
-        most = variety.values.max(most);
-    }
-    for variety in &report.varieties {
-        if variety.values > 1 && variety.values >= most / 2 {
+        if is_varied(most, variety) {
             let values = variety.values;
             say_made(out, format!(in alloc; "{values} values: "))?;
             append_name(

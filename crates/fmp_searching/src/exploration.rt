@@ -1,22 +1,22 @@
 //! What an exploration is of, as the words of `explore` say it, and what is wrong with words that ask for none.
 ghost use Rattle.std.specs.Prelude.{◌≡◌, codes};
 ghost use Rattle.clap.specs.Words.{first_of, found_of, rows_of};
-ghost use Rattle.fmp_searching.specs.Explored.{IsAsked, IsExploring, ticks_by};
+ghost use Rattle.fmp_searching.specs.Explored.{IsAsked, IsExploring, IsForm, ticks_by};
 
+use crate::asking::{CommandMistake, ExploreWords};
 use crate::explore_form::explore_command;
+use crate::limits::{count_named, gap_named};
+use crate::sites::CallLines;
 use crate::sources::Exploring;
 use crate::suggesting::{said_of_never, said_of_task};
+use crate::words::{never_at_named, never_named, section_named};
 use clap::{ArgMatches, Error};
-use fmp_arguments::{
-    bound_of, byte_of, flag_of, kept_bound, text_of, word_of, word32_of, words_of,
-};
+use fmp_arguments::{bound_of, byte_of, flag_of, text_of, word_of, word32_of, words_of};
 use fmp_base::TaskConfig;
 use fmp_explore::Ticks;
-use fmp_explore_names::{
-    CallLines, CommandMistake, ExploreWords, never_at_named, never_named, section_named,
-};
 use fmp_files::mistake_of;
 use fmp_image_bytes::Image;
+use fmp_warnings::Form;
 use std::alloc::{AllocError, Global};
 
 /// The message for a word that says nothing of what must never happen.
@@ -28,6 +28,12 @@ const NO_SECTION: &str = "--alone wants two different values as 1,2";
 
 /// The message for more sections than are watched.
 const MANY_SECTIONS: &str = "--alone is given at most 4 times";
+
+/// The message for a word that does not say how often an interrupt may come.
+const NO_COUNT: &str = "--int wants an interrupt and how often it may come, as 3:2";
+
+/// The message for a word that does not say how many ticks come between two of an interrupt.
+const NO_GAP: &str = "--gap wants an interrupt and how many ticks come between two of it, as 3:5";
 
 /// The message for the name of a task that is not there.
 const NO_TASK: &str = "--rest names no task of the configuration";
@@ -41,6 +47,9 @@ const NO_END: &str = "--expect takes no sentence that begins with 'end': a searc
 /// The message for steps that would replace a file that is read.
 const STEPS_OVER_INPUT: &str =
     "a file of steps is one of the two that are read: no steps are written";
+
+/// The message for a report that would replace a file that is read.
+const REPORT_OVER_INPUT: &str = "the file of --junit is one of those that are read";
 
 /// When the clock may advance.
 fn ticks_of(words: &ArgMatches<'_>) -> Ticks
@@ -62,9 +71,23 @@ fn asked_of<'m>(words: &'m ArgMatches<'_>) -> ExploreWords<'m>
         rest: words_of(words, "rest"),
         ticks: ticks_of(words),
         interrupts: byte_of(words, "ints"),
+        counts: words_of(words, "int"),
+        gaps: words_of(words, "gap"),
         queued: byte_of(words, "queued"),
         all: flag_of(words, "all"),
         states: word32_of(words, "states").unwrap_or(1),
+        seconds: word32_of(words, "time"),
+    }
+}
+
+/// How what a search comes to is printed.
+fn form_of(words: &ArgMatches<'_>) -> Form
+    ensures { IsForm (rows_of (found_of words.now)) result }
+{
+    if flag_of(words, "json") {
+        Form::Json
+    } else {
+        Form::Text
     }
 }
 
@@ -76,10 +99,14 @@ pub fn exploring_of<'m>(words: &'m ArgMatches<'_>) -> Exploring<'m>
         cfg: word_of(words, "CFG"),
         src: word_of(words, "SRC"),
         asked: asked_of(words),
-        bound: kept_bound(bound_of(words)),
+        bound: bound_of(words),
         expect: text_of(words, "expect"),
         answers: flag_of(words, "answers"),
+        strict: flag_of(words, "strict"),
         out: text_of(words, "out"),
+        form: form_of(words),
+        junit: text_of(words, "junit"),
+        jobs: word32_of(words, "jobs").unwrap_or(1),
     }
 }
 
@@ -96,6 +123,31 @@ fn wrong_never<'m>(words: &[&'m str]) -> &'m str {
         }
     }
     ""
+}
+
+/// What is said of a word, of which this is wrong.
+fn said_of_word(alloc: Global, why: &str, word: &str) -> Result<String, AllocError> {
+    format!(in alloc; "{why}: `{word}`")
+}
+
+/// What is said of words of which one does not say how often an interrupt may come.
+fn said_of_counts(alloc: Global, words: &[&str]) -> Result<String, AllocError> {
+    for word in words {
+        if count_named(word).is_none() {
+            return said_of_word(alloc, NO_COUNT, word);
+        }
+    }
+    String::from_str(alloc, NO_COUNT)
+}
+
+/// What is said of words of which one does not say how many ticks come between two of an interrupt.
+fn said_of_gaps(alloc: Global, words: &[&str]) -> Result<String, AllocError> {
+    for word in words {
+        if gap_named(word).is_none() {
+            return said_of_word(alloc, NO_GAP, word);
+        }
+    }
+    String::from_str(alloc, NO_GAP)
 }
 
 /// The first of these words that is the name of no task.
@@ -115,7 +167,7 @@ fn wrong_task<'m>(words: &[&'m str], tasks: &[TaskConfig]) -> &'m str {
 fn said_of_sections(alloc: Global, words: &[&str]) -> Result<String, AllocError> {
     for word in words {
         if section_named(word).is_none() {
-            return format!(in alloc; "{NO_SECTION}: `{word}`");
+            return said_of_word(alloc, NO_SECTION, word);
         }
     }
     String::from_str(alloc, MANY_SECTIONS)
@@ -144,7 +196,7 @@ fn said_of_calls(
 ) -> Result<String, AllocError> {
     for word in words {
         if is_uncalled(alloc, word, image, lines)? {
-            return format!(in alloc; "{NO_CALL}: `{word}`");
+            return said_of_word(alloc, NO_CALL, word);
         }
     }
     String::from_str(alloc, NO_CALL)
@@ -159,6 +211,8 @@ fn said_of_mistake(
     match mistake {
         CommandMistake::Never => said_of_never(alloc, NO_NEVER, wrong_never(asked.nevers)),
         CommandMistake::Alone => said_of_sections(alloc, asked.alone),
+        CommandMistake::Count => said_of_counts(alloc, asked.counts),
+        CommandMistake::Gap => said_of_gaps(alloc, asked.gaps),
         CommandMistake::Rest => String::from_str(alloc, NO_TASK),
         CommandMistake::Call => String::from_str(alloc, NO_CALL),
         CommandMistake::Sentence { line, flaw } => format!(in alloc;
@@ -208,4 +262,9 @@ pub fn no_question_of(
 /// The error for steps that would replace a file that is read, which has the status 2.
 pub fn steps_over_input(alloc: Global) -> Result<Error, AllocError> {
     wrong_words(alloc, STEPS_OVER_INPUT)
+}
+
+/// The error for a report that would replace a file that is read, which has the status 2.
+pub fn report_over_input(alloc: Global) -> Result<Error, AllocError> {
+    wrong_words(alloc, REPORT_OVER_INPUT)
 }

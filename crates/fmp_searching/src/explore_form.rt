@@ -1,6 +1,7 @@
 //! The form of the command `explore`.
 use fmp_arguments::{
-    Argument, ArgumentKind, BOUNDED, CFG, CommandForm, Made, OptionValue, SRC, command_of,
+    Argument, ArgumentKind, BOUNDED, CFG, CommandForm, JSON, Made, NO_SETTINGS, OptionValue, SRC,
+    command_of,
 };
 use std::alloc::Global;
 
@@ -35,6 +36,12 @@ const TICKS_WHEN: &[&str] = &["any", "idle"];
 /// How many interrupts there may be.
 const INTS: &str = "How many interrupts there may be, 0 to 255; without it any number";
 
+/// How often a single interrupt may come.
+const INT: &str = "At most COUNT of interrupt N may come, as 3:2; it may be given again";
+
+/// How soon a single interrupt may come again.
+const GAP: &str = "At least T ticks come between two of interrupt N, as 3:5; it may be given again";
+
 /// How much may be queued.
 const QUEUED: &str =
     "How many activations and how many wakeups of a task may be queued, 0 to 255: events that
@@ -42,6 +49,21 @@ would queue more do not come; without it any number";
 
 /// How many states are kept.
 const STATES: &str = "How many states are kept at most, 1 to 2^31";
+
+/// How long a search takes.
+const TIME: &str = "How many seconds the search takes at most, 1 to 2^31; without it any number";
+
+/// How many threads search.
+const JOBS: &str =
+    "How many threads search, 1 to 64; what is found and claimed is the same for each number";
+
+/// What counts as a finding.
+const STRICT: &str = "Count it as a finding where what a sentence speaks of never happens at all";
+
+/// Where a report of tests goes.
+const JUNIT: &str =
+    "Write a report to FILE too, in the XML of JUnit: each sentence is a test, and what else
+is asked";
 
 /// Where the steps of findings go.
 const OUT: &str = "The steps of the findings are written to NAME.1 and on; without it NAME is that
@@ -72,6 +94,8 @@ pub static EXPLORE: CommandForm = CommandForm {
             ArgumentKind::Option("K", OptionValue::Number(0, 255)),
             INTS,
         ),
+        Argument("int", ArgumentKind::Again("N:COUNT"), INT),
+        Argument("gap", ArgumentKind::Again("N:T"), GAP),
         Argument(
             "queued",
             ArgumentKind::Option("K", OptionValue::Number(0, 255)),
@@ -84,6 +108,16 @@ pub static EXPLORE: CommandForm = CommandForm {
             STATES,
         ),
         Argument(
+            "time",
+            ArgumentKind::Option("S", OptionValue::Number(1, 1 << 31)),
+            TIME,
+        ),
+        Argument(
+            "jobs",
+            ArgumentKind::Option("N", OptionValue::Default(1, 64, "1")),
+            JOBS,
+        ),
+        Argument(
             "all",
             ArgumentKind::Flag,
             "Go on after the first finding, for the first of each kind at each call",
@@ -93,7 +127,15 @@ pub static EXPLORE: CommandForm = CommandForm {
             ArgumentKind::Flag,
             "Print the answers that each call ever gets, by its line of SRC",
         ),
+        Argument("strict", ArgumentKind::Flag, STRICT),
         Argument("out", ArgumentKind::Option("NAME", OptionValue::Text), OUT),
+        JSON,
+        Argument(
+            "junit",
+            ArgumentKind::Option("FILE", OptionValue::Text),
+            JUNIT,
+        ),
+        NO_SETTINGS,
     ],
     example: "Example: fmp_view explore examples/queue.cfg examples/queue.src --never E_TMOUT",
 };

@@ -1,5 +1,5 @@
 //! The kernel of an image after setup.
-ghost use Rattle.std.specs.Prelude.{◌≤◌, ◌^◌, IfOk};
+ghost use Rattle.std.specs.Prelude.{IfOk};
 ghost use Rattle.fmp_searching.specs.Fresh.{IsFresh};
 
 use fmp_code::Vm;
@@ -15,8 +15,6 @@ pub fn fresh_kernel<'a>(
     image: &'a Image,
     n: u64,
 ) -> Result<Kernel<Vm<'a>>, AllocError>
-    requires low { 1 ≤ n }
-    requires high { n ≤ 2 ^ 48 }
     ensures { IfOk result (λ kernel. IsFresh image.now n kernel) }
 {
     kernel_of(alloc, image, n)

@@ -1,26 +1,53 @@
-//! The command `explore` of the program `fmp_view`: what its words ask, the search, what is printed of what it came to,
-//! and the steps of what it found. And the bytes of two texts, and their fault as it is printed, for the other
-//! commands.
+//! The command `explore` of the program `fmp_view`: what its words ask of all schedules, the search, what it finds in
+//! the words of the two texts, and the steps of what it found. It also reads two texts, and prints their fault, for the
+//! other commands.
 #![tactic(auto)]
 
+mod answers;
+mod asking;
+mod claiming;
+mod coverage_records;
 mod covering;
+mod end_records;
+mod ending;
 mod exploration;
 mod explore_form;
 mod exploring;
 mod finding;
 mod fresh;
+mod judging;
+pub mod laws;
+mod limits;
+mod lists;
+mod naming;
+mod parts;
 mod reading;
+mod records;
+mod refused;
 mod reporting;
 mod searching;
+mod seen;
+mod sentences;
+mod sites;
 mod sources;
+mod steps_files;
 mod stuck;
+mod stuck_words;
 mod suggesting;
+mod test_reports;
+mod unsaid;
+mod words;
 
+pub use answers::Answered;
+pub use asking::{CommandMistake, ExploreChoices, ExploreWords};
 pub use exploration::exploring_of;
 pub use explore_form::EXPLORE;
 pub use exploring::{Explored, explored_image};
+pub use naming::LocalNames;
 pub use reading::read_both;
 pub use reporting::print_fault;
 pub use searching::run_explore;
+pub use sites::CallLines;
 pub use sources::{ExploredSources, Exploring, Named};
 pub use suggesting::said_of_code;
+pub use words::{CodeAt, Section};

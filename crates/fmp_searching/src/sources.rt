@@ -1,11 +1,13 @@
 //! What is explored, the names of its files, and the text that is put together.
-ghost use Rattle.std.specs.Prelude.{◌≤◌, ◌^◌};
 
+use crate::asking::ExploreWords;
+use crate::naming::LocalNames;
+use crate::sites::CallLines;
 use fmp_expect::Expected;
 use fmp_explore::{CallSite, Monitor};
-use fmp_explore_names::{CallLines, ExploreWords, LocalNames};
+use fmp_frames::{CallPlace, CallPlaces};
 use fmp_image_bytes::Image;
-use fmp_places::{CallPlace, CallPlaces};
+use fmp_warnings::Form;
 use std::alloc::{AllocError, Global};
 
 /// What is explored, and what is asked of it.
@@ -20,10 +22,15 @@ pub struct Exploring<'a> {
     pub expect: Option<&'a str>,
     /// Whether the answers of each call are printed.
     pub answers: bool,
+    /// Whether a sentence that says nothing of any schedule counts as a finding.
+    pub strict: bool,
     /// The name of the files of steps, without the dot and the number.
     pub out: Option<&'a str>,
-    ghost low: { 1 ≤ bound },
-    ghost high: { bound ≤ 2 ^ 48 },
+    pub form: Form,
+    /// The file of a report of tests, if one is asked for.
+    pub junit: Option<&'a str>,
+    /// How many threads search.
+    pub jobs: u32,
 }
 
 /// The names of the files that an exploration speaks of, and what it prints beside its findings.
@@ -35,6 +42,11 @@ pub struct Named<'a> {
     pub out: &'a str,
     /// Whether the answers of each call are printed.
     pub answers: bool,
+    /// Whether a sentence that says nothing of any schedule counts as a finding.
+    pub strict: bool,
+    pub form: Form,
+    /// Whether a report of tests is made.
+    pub report: bool,
 }
 
 /// The sentences that must hold: those of the sections of the command line, and then those of a file.
@@ -43,10 +55,20 @@ pub struct Sentences<'a> {
     pub monitors: &'a [Monitor],
     /// How many sections there are.
     pub sections: usize,
-    /// The name of the file.
+    /// The name of the file; empty if there is none.
     pub file: &'a str,
+    /// The text of the file.
+    pub text: &'a [u8],
     /// The sentences of the file, with their lines.
     pub expected: &'a [Expected],
+}
+
+impl Sentences<'_> {
+    /// The line of the sentence at a place, if it is one of the file.
+    pub fn line(&self, place: usize) -> Option<u64> {
+        let place = place.checked_sub(self.sections)?;
+        Some(self.expected.get(place)?.line as u64)
+    }
 }
 
 /// What is explored, and where its calls stand in the text.
@@ -59,8 +81,6 @@ pub struct ExploredSources<'a> {
     pub names: &'a LocalNames,
     pub sentences: Sentences<'a>,
     pub named: Named<'a>,
-    ghost low: { 1 ≤ bound },
-    ghost high: { bound ≤ 2 ^ 48 },
 }
 
 /// Appends text.

@@ -1,5 +1,5 @@
 //! What is seen of a task that can never go on, after the events that lead there.
-ghost use Rattle.std.specs.Prelude.{◌≡◌, ◌≤◌, ◌^◌, IfSome};
+ghost use Rattle.std.specs.Prelude.{◌≡◌, IfSome};
 ghost use Rattle.fmp_base.specs.States.{task_at};
 
 use crate::fresh::fresh_kernel;
@@ -145,10 +145,7 @@ pub fn held_up(
     n: u64,
     events: &[Event],
     task: u8,
-) -> Result<Option<HeldUp>, AllocError>
-    requires low { 1 ≤ n }
-    requires high { n ≤ 2 ^ 48 }
-{
+) -> Result<Option<HeldUp>, AllocError> {
     let mut kernel = fresh_kernel(alloc, image, n)?;
     let held = held_up_on(&mut kernel, image, events, task);
     drop(kernel);

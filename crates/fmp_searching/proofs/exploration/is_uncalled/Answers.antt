@@ -1,7 +1,7 @@
 use Rattle.std.proofs.Common.{subst, sym, List}
 use Rattle.fmp_instructions.specs.Instructions.{BodyTables}
-use Rattle.fmp_explore_names.proofs.ImageSites.{image_sites}
-use Rattle.fmp_explore_names.specs.Sites.{HasSites}
+use Rattle.fmp_searching.proofs.ImageSites.{image_sites}
+use Rattle.fmp_searching.specs.Sites.{HasSites}
 use Rattle.fmp_searching.proofs.exploration.is_uncalled.Goals as goal
 
 pub calls-requires : goal.calls-requires

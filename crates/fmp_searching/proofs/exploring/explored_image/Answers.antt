@@ -8,5 +8,5 @@ returns g c =
       report = c.in_ok-report.report;
       tells = tells;
       found = c.in_ok-report.ensures.findings;
-      nothing = λ so. record { holds = c.in_ok-report.ensures.holds so; there = c.in_ok-report.ensures.there so };
+      nothing = c.in_ok-report.ensures.holds;
     }) c.explored_report-explored.ensures

@@ -9,13 +9,13 @@ returns-clause-shown g c =
       explored = c.in_ok-explored.explored;
       is = c.in_ok-explored.ensures;
       before = _;
-      prints = c.give.ensures.text;
+      prints = c.give-status.ensures.text;
     }
 
 pub returns-clause-claimed : goal.returns-clause-claimed
 returns-clause-claimed g c = λ zero.
     let explored = c.in_ok-explored.ensures in
-    let clean = explored.tells.clean (c.give.ensures.status zero) in
+    let clean = explored.tells.clean (c.give-status.ensures.status (c.status_after.ensures.zero zero)) in
     let steps = c.in_ok-explored.explored.steps.items in
     let no_steps = no_image (λ text. text.items) steps (explored.tells.steps ∙ ap (map text_of) clean.none) in
     record {
@@ -24,5 +24,5 @@ returns-clause-claimed g c = λ zero.
       clean = clean;
       text = c.in_ok-explored.explored.text.items;
       is = explored.tells.text;
-      printed = (_, c.give.ensures.printed zero no_steps);
+      printed = (_, c.give-status.ensures.printed (c.status_after.ensures.zero zero) no_steps);
     }

@@ -1,2 +1,0 @@
-pub mod Comings
-pub mod Places

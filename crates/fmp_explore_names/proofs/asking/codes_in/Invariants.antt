@@ -1,7 +1,0 @@
-use Rattle.std.proofs.Common.{◌≡◌, ◌++◌, drop}
-use Rattle.fmp_explore_names.specs.Questions.{codes_in}
-use Rattle.fmp_explore_names.proofs.asking.codes_in.Given as goal
-
-abbrev pub invariant-loop-word : goal.invariant-loop-word
-invariant-loop-word l =
-    l.codes.items ++ codes_in (drop l.word-index l.words) ≡ codes_in l.words

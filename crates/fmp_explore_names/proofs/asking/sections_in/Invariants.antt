@@ -1,7 +1,0 @@
-use Rattle.std.proofs.Common.{◌≡◌, ◌++◌, drop}
-use Rattle.fmp_explore_names.specs.Questions.{sections_in}
-use Rattle.fmp_explore_names.proofs.asking.sections_in.Given as goal
-
-abbrev pub invariant-loop-word : goal.invariant-loop-word
-invariant-loop-word l =
-    l.sections.items ++ sections_in (drop l.word-index l.words) ≡ sections_in l.words

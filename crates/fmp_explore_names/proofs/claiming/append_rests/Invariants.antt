@@ -1,8 +1,0 @@
-use Rattle.std.proofs.Common.{◌≡◌, ◌++◌, drop}
-use Rattle.fmp_explore_names.specs.Claims.{rests_text}
-use Rattle.fmp_explore_names.proofs.claiming.append_rests.Given as goal
-
-abbrev pub invariant-loop-t : goal.invariant-loop-t
-invariant-loop-t l =
-    l.out.items ++ rests_text (drop l.t l.tasks) (drop l.t l.rest)
-    ≡ l.initial.out.items ++ rests_text l.tasks l.rest

@@ -1,7 +1,0 @@
-use Rattle.std.proofs.Common.{◌≡◌, drop}
-use Rattle.fmp_explore_names.specs.Claims.{forbids_fault}
-use Rattle.fmp_explore_names.proofs.claiming.forbids_fault.Given as goal
-
-abbrev pub invariant-loop-never : goal.invariant-loop-never
-invariant-loop-never l =
-    forbids_fault (drop l.never-index l.nevers) l.fault ≡ forbids_fault l.nevers l.fault

@@ -1,7 +1,0 @@
-use Rattle.std.proofs.Common.{◌≡◌}
-use Rattle.fmp_instructions.specs.Instructions.{code_tables}
-use Rattle.fmp_explore_names.proofs.sites.CallLines.calls.Given as goal
-use Rattle.fmp_explore_names.specs.Sites.{calls_below}
-
-abbrev pub invariant-loop-body : goal.invariant-loop-body
-invariant-loop-body l = l.sites.items ≡ calls_below l.body l.line (code_tables l.code) l.self

@@ -1,0 +1,104 @@
+//! The answers that calls got in some schedule, as they are printed.
+ghost use Rattle.std.specs.Prelude.{◌≡◌, ◌++◌, OnOk, codes, decimal};
+ghost use Rattle.std.specs.List.{flat_map};
+ghost use Rattle.fmp_searching.specs.Answers as spec;
+
+use crate::sites::CallLines;
+use fmp_base::Er;
+use fmp_code::Code;
+use fmp_explore::Coverage;
+use itoa::Buffer;
+use std::alloc::{AllocError, Global};
+
+/// A call that was made, and what it was answered.
+#[derive(Drop)]
+pub struct Answered {
+    /// The line of the text in which it stands.
+    pub line: u32,
+    /// The codes, each once; none if the call was never answered.
+    pub answers: Vec<Er>,
+}
+
+/// The calls of this code that were made, in the order of the text, with the answers that they got. `AllocError` if
+/// memory runs out.
+pub fn answered_calls(
+    alloc: Global,
+    code: &Code,
+    lines: &CallLines,
+    coverage: &Coverage,
+) -> Result<Vec<Answered>, AllocError> {
+    let mut calls = Vec::new(alloc);
+    for site in &coverage.made(alloc, code)? {
+        if let Some(line) = lines.line(code, *site) {
+            let answers = coverage.answers(alloc, *site)?;
+            calls.push(Answered { line, answers })?;
+        }
+    }
+    Ok(calls)
+}
+
+fn append(text: &[u8], out: &mut Vec<u8>) -> Result<(), AllocError>
+    ensures { OnOk result (out.new.items ≡ out.old.items ++ text.now) }
+{
+    out.extend_from_slice(text)
+}
+
+/// Appends a code behind a blank.
+fn append_name(code: Er, out: &mut Vec<u8>) -> Result<(), AllocError>
+    ensures { OnOk result (out.new.items ≡ out.old.items ++ spec.name_text code) }
+{
+    append(b" ", out)?;
+    append(code.name().as_bytes(), out)
+}
+
+/// Appends codes, each behind a blank.
+fn append_each(answers: &[Er], out: &mut Vec<u8>) -> Result<(), AllocError>
+    ensures { OnOk result (out.new.items ≡ out.old.items ++ flat_map (λ c. spec.name_text c) answers.now) }
+{
+    for code in answers {
+        append_name(*code, out)?;
+    }
+    Ok(())
+}
+
+/// Appends the codes that a call got, or that it got none.
+fn append_names(answers: &[Er], out: &mut Vec<u8>) -> Result<(), AllocError>
+    ensures { OnOk result (out.new.items ≡ out.old.items ++ spec.names_text answers.now) }
+{
+    if answers.is_empty() {
+        append(b" none", out)
+    } else {
+        append_each(answers, out)
+    }
+}
+
+/// Appends the place of a call in a file.
+fn append_place(src: &[u8], line: u32, out: &mut Vec<u8>) -> Result<(), AllocError>
+    ensures { OnOk result (out.new.items ≡ out.old.items ++ (src.now ++ (codes ":" ++ decimal line))) }
+{
+    append(src, out)?;
+    append(b":", out)?;
+    append(Buffer::new().format(line).as_bytes(), out)
+}
+
+/// Appends where a call stands in this file, and what it got.
+#[tactic(auto, unfolding(crate::specs::Answers::answered_text))]
+fn append_answered(src: &[u8], call: &Answered, out: &mut Vec<u8>) -> Result<(), AllocError>
+    ensures { OnOk result (out.new.items ≡ out.old.items ++ spec.answered_text src.now call.now) }
+{
+    append(b"answers at ", out)?;
+    append_place(src, call.line, out)?;
+    append(b":", out)?;
+    append_names(&call.answers, out)?;
+    append(b"\n", out)
+}
+
+/// Appends a line for each call: where it stands in this file, and what it got. `AllocError` if memory runs out.
+pub fn append_answers(src: &[u8], calls: &[Answered], out: &mut Vec<u8>) -> Result<(), AllocError>
+    ensures { OnOk result (out.new.items ≡ out.old.items ++ spec.answers_text src.now calls.now) }
+{
+    for call in calls {
+        append_answered(src, call, out)?;
+    }
+    Ok(())
+}

@@ -1,0 +1,548 @@
+//! The question that the words of a command ask.
+ghost use Rattle.std.specs.Prelude.{◌≡◌, ◌++◌, IfOk, Ok, OnOk, map};
+ghost use Rattle.std.specs.List.{list_all};
+ghost use Rattle.fmp_base.specs.Names.{name_text};
+ghost use Rattle.fmp_base.specs.Systems.{tables_of};
+ghost use Rattle.fmp_instructions.specs.Instructions.{code_tables};
+ghost use Rattle.fmp_searching.specs.Questions as spec;
+ghost use Rattle.fmp_expect.specs.Grammar.{expectations_of};
+ghost use Rattle.fmp_searching.specs.Questions.{AreKnown, IsAsked, IsQuestionWith, IsWanted};
+ghost use Rattle.fmp_searching.specs.Sites.{HasSites};
+
+use crate::limits::{add_limits, are_counts, are_gaps, limits_in};
+use crate::sites::CallLines;
+use crate::words::{CodeAt, Section, never_at_named, never_named, section_named};
+use fmp_base::{Er, Fault, System, TaskConfig};
+use fmp_code::Code;
+use fmp_expect::{ExpectFault, ExpectationFlaw, Expected, read_expectations};
+use fmp_explore::{CallSite, Monitor, Never, NeverAt, Question, Ticks};
+use fmp_image_bytes::Image;
+use fmp_monitors::{ExpectedDeed, Happening, Sentence};
+use fmp_schedules::InterruptLimit;
+use std::alloc::{AllocError, Global};
+
+/// The words of a command that explores.
+#[derive(Clone, Copy)]
+pub struct ExploreWords<'a> {
+    /// What must never happen, each as `never_named` or `never_at_named` reads it.
+    pub nevers: &'a [&'a str],
+    /// The sections, each as `section_named` reads it: at most 4.
+    pub alone: &'a [&'a str],
+    /// The names of the tasks that may wait forever.
+    pub rest: &'a [&'a str],
+    /// When the clock may advance.
+    pub ticks: Ticks,
+    /// How many interrupts there may be; any number, if none is given.
+    pub interrupts: Option<u8>,
+    /// How often single interrupts may come, each as `count_named` reads it.
+    pub counts: &'a [&'a str],
+    /// How many ticks come between two of a single interrupt, each as `gap_named` reads it.
+    pub gaps: &'a [&'a str],
+    /// How many activations and how many wakeups of a task may be queued after an event; any number, if none is given.
+    pub queued: Option<u8>,
+    /// Whether the search goes on after the first finding.
+    pub all: bool,
+    /// How many states may be kept.
+    pub states: u32,
+    /// How many seconds the search may take; any number, if none is given.
+    pub seconds: Option<u32>,
+}
+
+/// Which words of a command are mistaken.
+#[derive(Clone, Copy, Debug, PartialEq, Eq)]
+pub enum CommandMistake {
+    /// A word says nothing of what must never happen.
+    Never,
+    /// A word names no section, or there are more than 4.
+    Alone,
+    /// A word does not say how often an interrupt may come.
+    Count,
+    /// A word does not say how many ticks come between two of an interrupt.
+    Gap,
+    /// A word is the name of no task.
+    Rest,
+    /// No call stands in the line that a word names.
+    Call,
+    /// The line of this number of the text of sentences, from 1, has a flaw.
+    Sentence { line: usize, flaw: ExpectationFlaw },
+    /// A sentence is about the end of a run, of which a search knows nothing.
+    End,
+}
+
+/// What the words of a command say before its files are read.
+#[derive(Drop)]
+pub struct ExploreChoices {
+    /// What must never happen anywhere, but for faults, which never may.
+    pub nevers: Vec<Never>,
+    /// The codes that must never be answered to the calls of a line.
+    pub nevers_at: Vec<CodeAt>,
+    /// The sections in which one task at a time may be.
+    pub sections: Vec<Section>,
+    /// The limits of single interrupts.
+    pub limits: Vec<InterruptLimit>,
+}
+
+/// How many sections are watched at most.
+const SECTIONS_MAX: usize = 4;
+
+/// The faults of bodies, which must never happen.
+const FAULTS: [Never; 3] = [
+    Never::Fault(Fault::Overflow),
+    Never::Fault(Fault::Division),
+    Never::Fault(Fault::Index),
+];
+
+/// Whether a word says what must never happen.
+fn is_never(word: &str) -> bool
+    ensures { result ≡ spec.is_never word.now }
+{
+    never_named(word).is_some() || never_at_named(word).is_some()
+}
+
+/// Whether each word says what must never happen.
+fn are_nevers(words: &[&str]) -> bool
+    ensures { result ≡ spec.are_nevers words.now }
+{
+    for word in words {
+        if !is_never(word) {
+            return false;
+        }
+    }
+    true
+}
+
+/// What the words say must never happen anywhere.
+fn nevers_in(alloc: Global, words: &[&str]) -> Result<Vec<Never>, AllocError>
+    ensures { IfOk result (λ nevers. nevers.items ≡ spec.nevers_in words.now) }
+{
+    let mut nevers = Vec::new(alloc);
+    for word in words {
+        if let Some(never) = never_named(word) {
+            nevers.push(never)?;
+        }
+    }
+    Ok(nevers)
+}
+
+/// The codes that the words say must never be answered to the calls of a line.
+fn codes_in(alloc: Global, words: &[&str]) -> Result<Vec<CodeAt>, AllocError>
+    ensures { IfOk result (λ codes. codes.items ≡ spec.codes_in words.now) }
+{
+    let mut codes = Vec::new(alloc);
+    for word in words {
+        if let Some(code) = never_at_named(word) {
+            codes.push(code)?;
+        }
+    }
+    Ok(codes)
+}
+
+/// Whether each word names a section.
+fn are_all_sections(words: &[&str]) -> bool
+    ensures { result ≡ list_all (λ word. spec.is_section word.now) words.now }
+{
+    for word in words {
+        if section_named(word).is_none() {
+            return false;
+        }
+    }
+    true
+}
+
+/// The sections that the words name.
+fn sections_in(alloc: Global, words: &[&str]) -> Result<Vec<Section>, AllocError>
+    ensures { IfOk result (λ sections. sections.items ≡ spec.sections_in words.now) }
+{
+    let mut sections = Vec::new(alloc);
+    for word in words {
+        if let Some(section) = section_named(word) {
+            sections.push(section)?;
+        }
+    }
+    Ok(sections)
+}
+
+/// What the words of a command say before its files are read, or which of them are mistaken: those of the sections are
+/// read first, and those of the limits last. `AllocError` if memory runs out.
+pub fn wanted_by(
+    alloc: Global,
+    asked: &ExploreWords<'_>,
+) -> Result<Result<ExploreChoices, CommandMistake>, AllocError>
+    ensures { IfOk result (λ wanted. IsWanted asked.now wanted) }
+{
+    if !are_all_sections(asked.alone) || asked.alone.len() > SECTIONS_MAX {
+        return Ok(Err(CommandMistake::Alone));
+    }
+    if !are_nevers(asked.nevers) {
+        return Ok(Err(CommandMistake::Never));
+    }
+    if !are_counts(asked.counts) {
+        return Ok(Err(CommandMistake::Count));
+    }
+    if !are_gaps(asked.gaps) {
+        return Ok(Err(CommandMistake::Gap));
+    }
+    Ok(Ok(ExploreChoices {
+        nevers: nevers_in(alloc, asked.nevers)?,
+        nevers_at: codes_in(alloc, asked.nevers)?,
+        sections: sections_in(alloc, asked.alone)?,
+        limits: limits_in(alloc, asked.counts, asked.gaps)?,
+    }))
+}
+
+/// Whether a word is the name of a task.
+fn is_task(tasks: &[TaskConfig], word: &str) -> bool
+    ensures { result ≡ spec.is_task tasks.now word.now }
+{
+    for task in tasks {
+        if task.name.as_bytes() == word.as_bytes() {
+            return true;
+        }
+    }
+    false
+}
+
+/// Whether each word is the name of a task.
+fn are_tasks(tasks: &[TaskConfig], words: &[&str]) -> bool
+    ensures { result ≡ spec.are_tasks tasks.now words.now }
+{
+    for word in words {
+        if !is_task(tasks, word) {
+            return false;
+        }
+    }
+    true
+}
+
+/// Whether a word is the name of a task.
+fn is_named(words: &[&str], task: &TaskConfig) -> bool
+    ensures { result ≡ spec.is_named words.now task.now }
+{
+    for word in words {
+        if task.name.as_bytes() == word.as_bytes() {
+            return true;
+        }
+    }
+    false
+}
+
+/// Whether a sentence says that a task of this name may rest.
+fn rests(tasks: &[TaskConfig], task: &TaskConfig, sentence: &Sentence) -> bool
+    ensures { result ≡ spec.rests tasks.now (name_text task.now.name) sentence.now }
+{
+    match sentence {
+        Sentence::Rests(place) => match tasks.get(*place) {
+            Some(other) => other.name.as_bytes() == task.name.as_bytes(),
+            None => false,
+        },
+        _ => false,
+    }
+}
+
+/// Whether one of these sentences says that a task of this name may rest.
+fn is_resting(tasks: &[TaskConfig], expected: &[Expected], task: &TaskConfig) -> bool
+    ensures { result ≡ spec.is_resting tasks.now expected.now task.now }
+{
+    for said in expected {
+        if rests(tasks, task, &said.sentence) {
+            return true;
+        }
+    }
+    false
+}
+
+/// For each task, whether the words name it, or one of these sentences says that it may rest.
+fn marks(
+    alloc: Global,
+    tasks: &[TaskConfig],
+    words: &[&str],
+    expected: &[Expected],
+) -> Result<Vec<bool>, AllocError>
+    ensures { IfOk result (λ rest. rest.items ≡ spec.marks tasks.now tasks.now words.now expected.now) }
+{
+    let mut rest = Vec::new(alloc);
+    for task in tasks {
+        rest.push(is_named(words, task) || is_resting(tasks, expected, task))?;
+    }
+    Ok(rest)
+}
+
+/// A happening: that somebody puts a value.
+fn putting(value: i32) -> Happening
+    ensures { result ≡ spec.putting value }
+{
+    Happening {
+        deed: ExpectedDeed::Put(value),
+        by: None,
+    }
+}
+
+/// The monitor of a section.
+fn monitor_of_section(section: &Section) -> Monitor
+    ensures { result ≡ spec.monitor_of_section section.now }
+{
+    Monitor::new(Sentence::OneAtATime {
+        entering: putting(section.enters),
+        leaving: putting(section.leaves),
+    })
+}
+
+/// Adds the monitors of sections.
+fn add_sections(monitors: &mut Vec<Monitor>, sections: &[Section]) -> Result<(), AllocError>
+    ensures { OnOk result (monitors.new.items
+        ≡ monitors.old.items ++ map (λ s. spec.monitor_of_section s) sections.now) }
+{
+    for section in sections {
+        monitors.push(monitor_of_section(section))?;
+    }
+    Ok(())
+}
+
+/// Adds the monitors of sentences.
+fn add_expected(monitors: &mut Vec<Monitor>, expected: &[Expected]) -> Result<(), AllocError>
+    ensures { OnOk result (monitors.new.items
+        ≡ monitors.old.items ++ map (λ x. spec.monitor_of x) expected.now) }
+{
+    for said in expected {
+        monitors.push(Monitor::new(said.sentence))?;
+    }
+    Ok(())
+}
+
+/// The monitors of sections, of sentences, and of limits.
+fn monitors_of(
+    alloc: Global,
+    sections: &[Section],
+    expected: &[Expected],
+    limits: &[InterruptLimit],
+) -> Result<Vec<Monitor>, AllocError>
+    ensures { IfOk result (λ monitors. monitors.items
+        ≡ spec.monitors_of sections.now expected.now limits.now) }
+{
+    let mut monitors = Vec::new(alloc);
+    add_sections(&mut monitors, sections)?;
+    add_expected(&mut monitors, expected)?;
+    add_limits(&mut monitors, limits)?;
+    Ok(monitors)
+}
+
+/// Whether a call stands in the line of each code.
+fn are_called(
+    alloc: Global,
+    code: &Code,
+    lines: &CallLines,
+    codes: &[CodeAt],
+) -> Result<bool, AllocError>
+    requires { HasSites (code_tables code.now) }
+    ensures { IfOk result (λ called. called ≡ spec.are_called (code_tables code.now) lines.now codes.now) }
+{
+    for at in codes {
+        if lines.calls(alloc, code, at.line)?.is_empty() {
+            return Ok(false);
+        }
+    }
+    Ok(true)
+}
+
+/// Adds that a code must never be answered at these calls.
+fn add_nevers_at(code: Er, sites: &[CallSite], nevers: &mut Vec<NeverAt>) -> Result<(), AllocError>
+    ensures { OnOk result (nevers.new.items ≡ nevers.old.items ++ map (λ s. spec.never_at code s) sites.now) }
+{
+    for site in sites {
+        nevers.push(NeverAt { code, site: *site })?;
+    }
+    Ok(())
+}
+
+/// Adds that a code must never be answered at the calls of its line.
+fn add_code(
+    alloc: Global,
+    code: &Code,
+    lines: &CallLines,
+    at: CodeAt,
+    nevers: &mut Vec<NeverAt>,
+) -> Result<(), AllocError>
+    requires { HasSites (code_tables code.now) }
+    ensures { OnOk result (nevers.new.items
+        ≡ nevers.old.items ++ spec.nevers_at_of (code_tables code.now) lines.now at) }
+{
+    let sites = lines.calls(alloc, code, at.line)?;
+    add_nevers_at(at.code, &sites, nevers)
+}
+
+/// Each of these codes, at each call of its line.
+fn nevers_at_in(
+    alloc: Global,
+    code: &Code,
+    lines: &CallLines,
+    codes: &[CodeAt],
+) -> Result<Vec<NeverAt>, AllocError>
+    requires { HasSites (code_tables code.now) }
+    ensures { IfOk result (λ nevers. nevers.items
+        ≡ spec.nevers_at_in (code_tables code.now) lines.now codes.now) }
+{
+    let mut nevers = Vec::new(alloc);
+    for at in codes {
+        add_code(alloc, code, lines, *at, &mut nevers)?;
+    }
+    Ok(nevers)
+}
+
+/// What must never happen: faults, and these.
+fn with_faults(alloc: Global, nevers: &[Never]) -> Result<Vec<Never>, AllocError>
+    ensures { IfOk result (λ all. all.items ≡ spec.faults ++ nevers.now) }
+{
+    let mut all = Vec::from_slice(alloc, &FAULTS)?;
+    all.extend_from_slice(nevers)?;
+    Ok(all)
+}
+
+/// The question of words that are not mistaken, and of these sentences.
+fn question_of(
+    alloc: Global,
+    asked: &ExploreWords<'_>,
+    wanted: &ExploreChoices,
+    expected: &[Expected],
+    sys: &System,
+    code: &Code,
+    lines: &CallLines,
+) -> Result<Question, AllocError>
+    requires wanted { IsWanted asked.now (Ok wanted.now) }
+    requires sites { HasSites (code_tables code.now) }
+    ensures { IfOk result (λ q. IsQuestionWith asked.now expected.now (tables_of sys.now) (code_tables code.now)
+        lines.now q) }
+{
+    Ok(Question {
+        nevers: with_faults(alloc, &wanted.nevers)?,
+        nevers_at: nevers_at_in(alloc, code, lines, &wanted.nevers_at)?,
+        monitors: monitors_of(alloc, &wanted.sections, expected, &wanted.limits)?,
+        rest: marks(alloc, &sys.tasks, asked.rest, expected)?,
+        ticks: asked.ticks,
+        interrupts: asked.interrupts,
+        queued: asked.queued,
+        all: asked.all,
+        states: asked.states,
+        seconds: asked.seconds,
+        after: Vec::new(alloc),
+    })
+}
+
+/// Whether a sentence is about the end of a run.
+fn is_end(sentence: &Sentence) -> bool
+    ensures { result ≡ spec.is_end sentence.now }
+{
+    match sentence {
+        Sentence::End { .. } => true,
+        _ => false,
+    }
+}
+
+/// Whether one of these sentences is about the end of a run.
+fn has_end(expected: &[Expected]) -> bool
+    ensures { result ≡ spec.has_end expected.now }
+{
+    for said in expected {
+        if is_end(&said.sentence) {
+            return true;
+        }
+    }
+    false
+}
+
+/// The question of words that are not mistaken, and of the sentences that a text says, unless one of these is about the
+/// end of a run.
+fn lasting_question(
+    alloc: Global,
+    asked: &ExploreWords<'_>,
+    wanted: &ExploreChoices,
+    text: &[u8],
+    expected: &[Expected],
+    sys: &System,
+    code: &Code,
+    lines: &CallLines,
+) -> Result<Result<Question, CommandMistake>, AllocError>
+    requires wanted { IsWanted asked.now (Ok wanted.now) }
+    requires sites { HasSites (code_tables code.now) }
+    requires known { AreKnown asked.now (tables_of sys.now) (code_tables code.now) lines.now }
+    requires says { expectations_of (tables_of sys.now) text.now ≡ Ok expected.now }
+    ensures { IfOk result (λ q. IsAsked asked.now text.now (tables_of sys.now) (code_tables code.now) lines.now q) }
+{
+    if has_end(expected) {
+        return Ok(Err(CommandMistake::End));
+    }
+    let question = question_of(alloc, asked, wanted, expected, sys, code, lines)?;
+    Ok(Ok(question))
+}
+
+/// The question of words that are not mistaken, and of the sentences of a text.
+fn said_question(
+    alloc: Global,
+    asked: &ExploreWords<'_>,
+    wanted: &ExploreChoices,
+    text: &[u8],
+    sys: &System,
+    code: &Code,
+    lines: &CallLines,
+) -> Result<Result<Question, CommandMistake>, AllocError>
+    requires wanted { IsWanted asked.now (Ok wanted.now) }
+    requires sites { HasSites (code_tables code.now) }
+    requires known { AreKnown asked.now (tables_of sys.now) (code_tables code.now) lines.now }
+    ensures { IfOk result (λ q. IsAsked asked.now text.now (tables_of sys.now) (code_tables code.now) lines.now q) }
+{
+    match read_expectations(alloc, sys, text) {
+        Ok(expected) => {
+            lasting_question(alloc, asked, wanted, text, &expected, sys, code, lines)
+        }
+        Err(ExpectFault::Memory) => Err(AllocError),
+        Err(ExpectFault::Line { line, flaw }) => Ok(Err(CommandMistake::Sentence { line, flaw })),
+    }
+}
+
+/// The question of the words of a command and of the sentences of a text, or what is mistaken.
+fn asked_of(
+    alloc: Global,
+    asked: &ExploreWords<'_>,
+    wanted: &ExploreChoices,
+    text: &[u8],
+    sys: &System,
+    code: &Code,
+    lines: &CallLines,
+) -> Result<Result<Question, CommandMistake>, AllocError>
+    requires wanted { IsWanted asked.now (Ok wanted.now) }
+    requires sites { HasSites (code_tables code.now) }
+    ensures { IfOk result (λ q. IsAsked asked.now text.now (tables_of sys.now) (code_tables code.now) lines.now q) }
+{
+    if !are_tasks(&sys.tasks, asked.rest) {
+        return Ok(Err(CommandMistake::Rest));
+    }
+    if !are_called(alloc, code, lines, &wanted.nevers_at)? {
+        return Ok(Err(CommandMistake::Call));
+    }
+    said_question(alloc, asked, wanted, text, sys, code, lines)
+}
+
+/// The question of the words of a command, which say this, and of the sentences of a text, on an image whose bodies'
+/// calls stand in these lines; or what is mistaken: words that name tasks are read first, and the text last.
+/// `AllocError` if memory runs out.
+pub fn question_by(
+    alloc: Global,
+    asked: &ExploreWords<'_>,
+    wanted: &ExploreChoices,
+    text: &[u8],
+    image: &Image,
+    lines: &CallLines,
+) -> Result<Result<Question, CommandMistake>, AllocError>
+    requires { IsWanted asked.now (Ok wanted.now) }
+    ensures { IfOk result (λ q. IsAsked asked.now text.now image.now.system image.now.code lines.now q) }
+{
+    image.keeps_rules();
+    asked_of(
+        alloc,
+        asked,
+        wanted,
+        text,
+        image.system(),
+        image.code(),
+        lines,
+    )
+}

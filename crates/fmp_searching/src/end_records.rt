@@ -1,0 +1,181 @@
+//! How a search ended, for other programs: an object of JSON in a line.
+ghost use Rattle.std.specs.Prelude.{◌≡◌, ◌++◌, IfOk, OnOk, map, string_bytes};
+ghost use Rattle.fmp_searching.specs.Records as spec;
+
+use crate::claiming::append_claim;
+use crate::ending::{append_end, status_of};
+use crate::parts::parts_of;
+use crate::sites::CallLines;
+use crate::sources::ExploredSources;
+use crate::unsaid::counts_unsaid;
+use fmp_explore::{Question, Report};
+use fmp_image_bytes::Image;
+use fmp_json::{begin, begin_list, end_list, finish, number_member, text_member};
+use json::Writer;
+use std::alloc::{AllocError, Global};
+
+/// A text without its last byte, a line feed.
+pub fn without_feed(text: Vec<u8>) -> Vec<u8>
+    ensures { result.items ≡ spec.without_feed text.items }
+{
+    let mut text = text;
+    text.truncate(text.len().saturating_sub(1));
+    text
+}
+
+/// What is claimed of a report that holds; else nothing.
+fn claimed(
+    alloc: Global,
+    image: &Image,
+    lines: &CallLines,
+    question: &Question,
+    bound: u64,
+    report: &Report,
+) -> Result<Vec<u8>, AllocError>
+    ensures { IfOk result (λ text. text.items
+        ≡ spec.claimed_text image.now lines.now question.now bound report.now) }
+{
+    let mut text = Vec::new(alloc);
+    if !report.holds {
+        return Ok(text);
+    }
+    append_claim(alloc, image, lines, question, bound, report, &mut text)?;
+    Ok(text)
+}
+
+/// Why a search ended whose report does not hold; else nothing.
+fn stopped(alloc: Global, question: &Question, report: &Report) -> Result<Vec<u8>, AllocError>
+    ensures { IfOk result (λ text. text.items ≡ spec.stopped_text question.now report.now) }
+{
+    let mut text = Vec::new(alloc);
+    if report.holds {
+        return Ok(text);
+    }
+    let found = !report.findings.is_empty();
+    append_end(question, report.ending, found, &mut text)?;
+    Ok(text)
+}
+
+/// What is claimed of a report, as a line; empty where nothing is.
+fn claim_line(
+    alloc: Global,
+    image: &Image,
+    lines: &CallLines,
+    question: &Question,
+    bound: u64,
+    report: &Report,
+) -> Result<String, AllocError>
+    ensures { IfOk result (λ line. string_bytes line
+        ≡ spec.claim_line image.now lines.now question.now bound report.now) }
+{
+    let text = claimed(alloc, image, lines, question, bound, report)?;
+    String::from_utf8_lossy(alloc, &without_feed(text))
+}
+
+/// Why a search ended that claims nothing, as a line; empty where something is claimed, or the reason is a finding.
+fn stop_line(alloc: Global, question: &Question, report: &Report) -> Result<String, AllocError>
+    ensures { IfOk result (λ line. string_bytes line ≡ spec.stop_line question.now report.now) }
+{
+    let text = stopped(alloc, question, report)?;
+    String::from_utf8_lossy(alloc, &without_feed(text))
+}
+
+/// Texts as strings.
+fn strings_of(alloc: Global, texts: &[Vec<u8>]) -> Result<Vec<String>, AllocError> {
+    let mut strings = Vec::new(alloc);
+    for text in texts {
+        strings.push(String::from_utf8_lossy(alloc, text)?)?;
+    }
+    Ok(strings)
+}
+
+/// Writes strings.
+fn write_strings(writer: &mut Writer, strings: &[String]) -> Result<(), AllocError>
+    ensures before { writer.new.before ≡ writer.old.before }
+    ensures tokens { OnOk result (writer.new.tokens
+        ≡ writer.old.tokens ++ spec.string_tokens (map string_bytes strings.now)) }
+{
+    for string in strings {
+        writer.string(string.as_str())?;
+    }
+    Ok(())
+}
+
+/// Writes what a claim is made of.
+fn write_parts(writer: &mut Writer, parts: &[String]) -> Result<(), AllocError>
+    ensures before { writer.new.before ≡ writer.old.before }
+    ensures tokens { OnOk result (writer.new.tokens
+        ≡ writer.old.tokens ++ spec.part_members (map string_bytes parts.now)) }
+{
+    begin_list(writer, "parts")?;
+    write_strings(writer, parts)?;
+    end_list(writer)
+}
+
+/// Writes the status of a search and its claim.
+fn write_claim(writer: &mut Writer, status: u8, claim: &str) -> Result<(), AllocError>
+    ensures before { writer.new.before ≡ writer.old.before }
+    ensures tokens { OnOk result (writer.new.tokens
+        ≡ writer.old.tokens ++ spec.claim_members status claim.now) }
+{
+    text_member(writer, "what", "end")?;
+    number_member(writer, "status", u64::from(status))?;
+    text_member(writer, "claim", claim)
+}
+
+/// Writes why a search ended, and how far it went.
+fn write_extent(writer: &mut Writer, stopped: &str, report: &Report) -> Result<(), AllocError>
+    ensures before { writer.new.before ≡ writer.old.before }
+    ensures tokens { OnOk result (writer.new.tokens
+        ≡ writer.old.tokens ++ spec.extent_members stopped.now report.now) }
+{
+    text_member(writer, "stopped", stopped)?;
+    number_member(writer, "states", report.states as u64)?;
+    number_member(writer, "events", report.events)?;
+    number_member(writer, "depth", u64::from(report.depth))
+}
+
+/// How a search ended, with these texts, as an object of JSON.
+fn end_line(
+    alloc: Global,
+    status: u8,
+    claim: &str,
+    stopped: &str,
+    parts: &[String],
+    report: &Report,
+) -> Result<Vec<u8>, AllocError>
+    ensures { IfOk result (λ line. line.items
+        ≡ spec.end_line status claim.now stopped.now (map string_bytes parts.now) report.now) }
+{
+    let mut writer = begin(alloc)?;
+    write_claim(&mut writer, status, claim)?;
+    write_parts(&mut writer, parts)?;
+    write_extent(&mut writer, stopped, report)?;
+    finish(writer)
+}
+
+/// How a search for a question ended, as an object of JSON in a line. `AllocError` if memory runs out.
+pub fn end_record(
+    alloc: Global,
+    sources: &ExploredSources<'_>,
+    question: &Question,
+    report: &Report,
+) -> Result<Vec<u8>, AllocError>
+    ensures { IfOk result (λ line. spec.IsEndRecord sources.now.named.strict sources.now.image.now
+        sources.now.lines.now question.now sources.now.bound report.now line.items) }
+{
+    let (image, lines) = (sources.image, sources.lines);
+    let claim = claim_line(alloc, image, lines, question, sources.bound, report)?;
+    let stopped = stop_line(alloc, question, report)?;
+    let parts = strings_of(alloc, &parts_of(alloc, image, lines, question)?)?;
+    let unsaid = counts_unsaid(sources.named.strict, question, report);
+    let status = status_of(unsaid, report);
+    end_line(
+        alloc,
+        status,
+        claim.as_str(),
+        stopped.as_str(),
+        &parts,
+        report,
+    )
+}

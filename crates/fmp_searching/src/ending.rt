@@ -1,0 +1,148 @@
+//! How a search of all schedules ended: its status, and what is said at its end.
+ghost use Rattle.std.specs.Prelude.{◌≡◌, ◌++◌, [], OnOk, false, true};
+ghost use Rattle.std.specs.List.{list_any};
+ghost use Rattle.fmp_searching.specs.Claims as spec;
+
+use crate::claiming::{append, append_claim, append_number};
+use crate::sites::CallLines;
+use fmp_explore::{Ending, Finding, FindingKind, Question, Report};
+use fmp_image_bytes::Image;
+use std::alloc::{AllocError, Global};
+
+/// What is said of a search that found nothing and claims nothing, though it was not stopped.
+const UNCONFIRMED: &[u8] =
+    b"nothing was found, and nothing is claimed: what seemed to be found could not be confirmed\n";
+
+/// The status of a search: 4 where something was found, or what is unsaid counts so; 0 where the report holds and stuck
+/// tasks were looked for; else 5.
+pub fn status_of(unsaid: bool, report: &Report) -> u8
+    ensures value { result ≡ spec.status_of unsaid report.now }
+    ensures clean { result ≡ 0 → (report.now.findings.items ≡ []) × (report.now.holds ≡ true)
+        × (report.now.looked ≡ true) × (unsaid ≡ false) }
+{
+    if unsaid || !report.findings.is_empty() {
+        return 4;
+    }
+    if report.holds && report.looked { 0 } else { 5 }
+}
+
+/// Whether what was found is a stuck task.
+fn is_stuck(finding: &Finding) -> bool
+    ensures { result ≡ spec.is_stuck finding.now }
+{
+    match finding.kind {
+        FindingKind::Stuck(_) => true,
+        _ => false,
+    }
+}
+
+/// Whether one of these findings is a stuck task.
+fn has_stuck(findings: &[Finding]) -> bool
+    ensures { result ≡ list_any (λ f. spec.is_stuck f) findings.now }
+{
+    for finding in findings {
+        if is_stuck(finding) {
+            return true;
+        }
+    }
+    false
+}
+
+/// Appends what is said of stuck tasks beside a claim.
+#[tactic(auto, unfolding(crate::specs::Claims::stuck_note))]
+fn append_stuck_note(report: &Report, out: &mut Vec<u8>) -> Result<(), AllocError>
+    ensures { OnOk result (out.new.items ≡ out.old.items ++ spec.stuck_note report.now) }
+{
+    if !report.looked {
+        return append(b"stuck tasks were not looked for: out of memory\n", out);
+    }
+    if has_stuck(&report.findings) {
+        return Ok(());
+    }
+    append(b"no stuck task was found (searched, not proved)\n", out)
+}
+
+/// The word for this many states.
+#[tactic(auto, unfolding(crate::specs::Claims::state_word))]
+fn state_word(count: u32) -> &'static [u8]
+    ensures { result.now ≡ spec.state_word count }
+{
+    if count == 1 {
+        b" state (--states)\n"
+    } else {
+        b" states (--states)\n"
+    }
+}
+
+/// The word for this many seconds.
+#[tactic(auto, unfolding(crate::specs::Claims::second_word))]
+fn second_word(count: u32) -> &'static [u8]
+    ensures { result.now ≡ spec.second_word count }
+{
+    if count == 1 {
+        b" second (--time)\n"
+    } else {
+        b" seconds (--time)\n"
+    }
+}
+
+/// Appends that a search stopped at this many states.
+#[tactic(auto, unfolding(crate::specs::Claims::states_text))]
+fn append_states(count: u32, out: &mut Vec<u8>) -> Result<(), AllocError>
+    ensures { OnOk result (out.new.items ≡ out.old.items ++ spec.states_text count) }
+{
+    append(b"stopped at ", out)?;
+    append_number(u64::from(count), out)?;
+    append(state_word(count), out)
+}
+
+/// Appends that a search stopped after this many seconds.
+#[tactic(auto, unfolding(crate::specs::Claims::seconds_text))]
+fn append_seconds(count: u32, out: &mut Vec<u8>) -> Result<(), AllocError>
+    ensures { OnOk result (out.new.items ≡ out.old.items ++ spec.seconds_text count) }
+{
+    append(b"stopped after ", out)?;
+    append_number(u64::from(count), out)?;
+    append(second_word(count), out)
+}
+
+/// Appends how a search for a question ended that claims nothing, and found something or not.
+#[tactic(auto, unfolding(crate::specs::Claims::end_text))]
+pub fn append_end(
+    question: &Question,
+    ending: Ending,
+    found: bool,
+    out: &mut Vec<u8>,
+) -> Result<(), AllocError>
+    ensures { OnOk result (out.new.items ≡ out.old.items ++ spec.end_text question.now ending found) }
+{
+    match ending {
+        Ending::States => append_states(question.states, out),
+        Ending::Time => append_seconds(question.seconds.unwrap_or(0), out),
+        Ending::Memory => append(b"stopped: out of memory\n", out),
+        Ending::Whole | Ending::Enough if found => Ok(()),
+        Ending::Whole | Ending::Enough => append(UNCONFIRMED, out),
+    }
+}
+
+/// Appends what a search says at its end: its claim, if its report holds, and what is said of stuck tasks; or why it
+/// claims nothing. `AllocError` if memory runs out.
+#[tactic(auto, unfolding(crate::specs::Claims::ending_text))]
+pub fn append_ending(
+    alloc: Global,
+    image: &Image,
+    lines: &CallLines,
+    question: &Question,
+    bound: u64,
+    report: &Report,
+    out: &mut Vec<u8>,
+) -> Result<(), AllocError>
+    ensures { OnOk result (out.new.items
+        ≡ out.old.items ++ spec.ending_text image.now lines.now question.now bound report.now) }
+{
+    if report.holds {
+        append_claim(alloc, image, lines, question, bound, report, out)?;
+        return append_stuck_note(report, out);
+    }
+    append_end(question, report.ending, !report.findings.is_empty(), out)
+}

@@ -1,0 +1,53 @@
+//! Laws on what two texts mean, each the contract of a function that does nothing.
+ghost use Rattle.std.specs.Prelude.{◌≤◌, ℕ, Bool, List};
+ghost use Rattle.fmp_base.specs.declared.events.Event.{Event};
+ghost use Rattle.fmp_base.specs.declared.events.Line.{Line};
+ghost use Rattle.fmp_base.specs.Meanings.{World};
+ghost use Rattle.fmp_codegen.specs.Tie.{CodeTied};
+ghost use Rattle.fmp_image.specs.Building.{Builds};
+ghost use Rattle.fmp_image_bytes.specs.Images.{ImageTables};
+ghost use Rattle.fmp_instructions.specs.Machine.{code_meaning};
+ghost use Rattle.fmp_instructions.specs.declared.instructions.MachineContext.{MachineContext};
+ghost use Rattle.fmp_schedules.specs.Beside.{DoesBeside, HoldsThereAtAll};
+ghost use Rattle.fmp_schedules.specs.Completed.{HoldsAtAll, IsCompleted};
+ghost use Rattle.fmp_schedules.specs.Schedules.{Holds, HoldsThere, IsSchedule, Rules};
+ghost use Rattle.fmp_tasklang.specs.Texts.{text_meaning};
+ghost use Rattle.fmp_searching.specs.TextSchedules.{NeverTold};
+
+use fmp_image::laws::{built_image_does_text, built_image_prints_text};
+
+/// Where something holds along all schedules of the image of two texts, it holds of the texts: along each schedule they
+/// mean what the image prints, no forbidden line is told, and no line breaks a sentence.
+pub fn texts_never_tell()
+    ensures { (cfg src : List ℕ) (i : ImageTables) (b : Builds cfg src i) (rules : Rules) (n : ℕ)
+        (forbidden : Line → Bool) (rest : List Bool) → 1 ≤ n →
+        Holds rules i.system (code_meaning i.code) n forbidden rest → (es : List Event) →
+        IsSchedule rules i.system (code_meaning i.code) n forbidden es →
+        NeverTold i b.tasks.bodies n forbidden rules.monitors es }
+{
+    built_image_prints_text();
+}
+
+/// Where something holds along all schedules of the image of two texts within n instructions a stretch, it holds of
+/// every list of events that the texts complete, in whatever number of turns of loops: no forbidden line is told, no
+/// line and no state breaks a sentence, and no deadlock is reached. No answer is told to its call where it must never
+/// be: the code, beside the texts, stands behind no such call. For whatever the texts complete, the image does
+/// too, with the same lines, along a schedule of its own in which it keeps the places of long stretches now and then.
+pub fn texts_hold()
+    ensures all { (cfg src : List ℕ) (i : ImageTables) (b : Builds cfg src i) (rules : Rules) (n : ℕ)
+        (forbidden : Line → Bool) (rest : List Bool) → 1 ≤ n →
+        Holds rules i.system (code_meaning i.code) n forbidden rest →
+        HoldsAtAll rules i.system (text_meaning i.system b.tasks.bodies) forbidden rest }
+    ensures there { (cfg src : List ℕ) (i : ImageTables) (b : Builds cfg src i) (rules : Rules) (n : ℕ)
+        (forbidden : Line → Bool) (there : World MachineContext → Line → Bool) → 1 ≤ n →
+        HoldsThere rules i.system (code_meaning i.code) n forbidden there →
+        HoldsThereAtAll (CodeTied i.system b.tasks.bodies i.code) rules i.system (code_meaning i.code) n
+        (text_meaning i.system b.tasks.bodies) forbidden there }
+    ensures done { (cfg src : List ℕ) (i : ImageTables) (b : Builds cfg src i) (rules : Rules) (n : ℕ)
+        (forbidden : Line → Bool) (turns : ℕ) (es : List Event) → 1 ≤ n →
+        IsCompleted rules i.system (text_meaning i.system b.tasks.bodies) turns es →
+        DoesBeside (CodeTied i.system b.tasks.bodies i.code) rules i.system (code_meaning i.code) n
+        (text_meaning i.system b.tasks.bodies) turns forbidden es }
+{
+    built_image_does_text();
+}

@@ -1,0 +1,475 @@
+//! Sentences, as a claim writes them.
+ghost use Rattle.std.specs.Prelude.{◌≡◌, [], ◌+◌, ◌++◌, IfOk, OnOk, decimal, if◌then◌else◌};
+ghost use Rattle.std.specs.List.{flat_map};
+ghost use Rattle.fmp_base.specs.Systems.{tables_of};
+ghost use Rattle.fmp_monitors.specs.Conditions.{tests_of};
+ghost use Rattle.fmp_searching.specs.Sentences as spec;
+
+use crate::claiming::{append, append_number, append_value, append_where};
+use fmp_base::{Name, System};
+use fmp_explore::Monitor;
+use fmp_monitors::{
+    Condition, ConditionTest, ExpectedActor, ExpectedDeed, ExpectedResponse, ExpectedTrigger,
+    Happening, MAX_TESTS, Measure, Relation, Sentence, TestedFact,
+};
+use fmp_named::append_task;
+use fmp_schedules::MonitorSubject;
+use std::alloc::{AllocError, Global};
+
+/// Appends a name, if there is one.
+fn append_named(name: Option<Name>, out: &mut Vec<u8>) -> Result<(), AllocError>
+    ensures { OnOk result (out.new.items ≡ out.old.items ++ spec.named_text name) }
+{
+    match name {
+        Some(name) => append(name.as_bytes(), out),
+        None => Ok(()),
+    }
+}
+
+/// Appends a deed.
+#[tactic(auto, unfolding(crate::specs::Sentences::deed_text))]
+fn append_deed(deed: ExpectedDeed, out: &mut Vec<u8>) -> Result<(), AllocError>
+    ensures { OnOk result (out.new.items ≡ out.old.items ++ spec.deed_text deed) }
+{
+    match deed {
+        ExpectedDeed::Answer(code) => append(code.name().as_bytes(), out),
+        ExpectedDeed::Put(value) => {
+            append(b"put(", out)?;
+            append_value(value, out)?;
+            append(b")", out)
+        }
+        ExpectedDeed::Stop(fault) => append(fault.name().as_bytes(), out),
+    }
+}
+
+/// The name of an actor, if it is there.
+fn actor_name(sys: &System, actor: ExpectedActor) -> Option<Name>
+    ensures { result ≡ spec.actor_name (tables_of sys.now) actor }
+{
+    match actor {
+        ExpectedActor::Task(task) => Some(sys.tasks.get(task)?.name),
+        ExpectedActor::Cyclic(cyclic) => Some(sys.cyclics.get(cyclic)?.name),
+    }
+}
+
+/// Appends whose deed it is, if that matters.
+#[tactic(auto, unfolding(crate::specs::Sentences::by_text))]
+fn append_by(sys: &System, by: Option<ExpectedActor>, out: &mut Vec<u8>) -> Result<(), AllocError>
+    ensures { OnOk result (out.new.items ≡ out.old.items ++ spec.by_text (tables_of sys.now) by) }
+{
+    match by {
+        Some(actor) => {
+            append(b" by ", out)?;
+            append_named(actor_name(sys, actor), out)
+        }
+        None => Ok(()),
+    }
+}
+
+/// Appends a happening.
+#[tactic(auto, unfolding(crate::specs::Sentences::happening_text))]
+fn append_happening(sys: &System, happening: Happening, out: &mut Vec<u8>) -> Result<(), AllocError>
+    ensures { OnOk result (out.new.items
+        ≡ out.old.items ++ spec.happening_text (tables_of sys.now) happening) }
+{
+    append_deed(happening.deed, out)?;
+    append_by(sys, happening.by, out)
+}
+
+/// Appends what is to come.
+#[tactic(auto, unfolding(crate::specs::Sentences::response_text))]
+fn append_response(
+    sys: &System,
+    response: ExpectedResponse,
+    out: &mut Vec<u8>,
+) -> Result<(), AllocError>
+    ensures { OnOk result (out.new.items
+        ≡ out.old.items ++ spec.response_text (tables_of sys.now) response) }
+{
+    match response {
+        ExpectedResponse::Runs(actor) => {
+            append_named(actor_name(sys, actor), out)?;
+            append(b" runs", out)
+        }
+        ExpectedResponse::Happens(happening) => append_happening(sys, happening, out),
+    }
+}
+
+/// Appends what starts the time.
+#[tactic(auto, unfolding(crate::specs::Sentences::trigger_text))]
+fn append_trigger(
+    sys: &System,
+    trigger: ExpectedTrigger,
+    out: &mut Vec<u8>,
+) -> Result<(), AllocError>
+    ensures { OnOk result (out.new.items ≡ out.old.items ++ spec.trigger_text (tables_of sys.now) trigger) }
+{
+    match trigger {
+        ExpectedTrigger::Interrupt(place) => {
+            append(b"int ", out)?;
+            append_number(u64::from(place) + 1, out)
+        }
+        ExpectedTrigger::Happens(happening) => append_happening(sys, happening, out),
+    }
+}
+
+/// Appends what closes a time, if something does.
+#[tactic(auto, unfolding(crate::specs::Sentences::until_text))]
+fn append_until(
+    sys: &System,
+    closing: Option<Happening>,
+    out: &mut Vec<u8>,
+) -> Result<(), AllocError>
+    ensures { OnOk result (out.new.items ≡ out.old.items ++ spec.until_text (tables_of sys.now) closing) }
+{
+    match closing {
+        Some(happening) => {
+            append(b" until ", out)?;
+            append_happening(sys, happening, out)
+        }
+        None => Ok(()),
+    }
+}
+
+/// The value of a happening that is just that it is put.
+fn put_of(happening: Happening) -> Option<i32>
+    ensures { result ≡ spec.put_of happening.deed happening.by }
+{
+    match (happening.deed, happening.by) {
+        (ExpectedDeed::Put(value), None) => Some(value),
+        (ExpectedDeed::Put(_), Some(_)) => None,
+        (ExpectedDeed::Answer(_), _) | (ExpectedDeed::Stop(_), _) => None,
+    }
+}
+
+/// Appends two values between which one task at a time may be.
+#[tactic(auto, unfolding(crate::specs::Sentences::alone_text))]
+fn append_alone(enters: i32, leaves: i32, out: &mut Vec<u8>) -> Result<(), AllocError>
+    ensures { OnOk result (out.new.items ≡ out.old.items ++ spec.alone_text enters leaves) }
+{
+    append(b"alone ", out)?;
+    append_value(enters, out)?;
+    append(b",", out)?;
+    append_value(leaves, out)?;
+    append(b", ", out)
+}
+
+/// Appends two happenings between which one task at a time may be.
+#[tactic(auto, unfolding(crate::specs::Sentences::between_text))]
+fn append_between(
+    sys: &System,
+    enters: Happening,
+    leaves: Happening,
+    out: &mut Vec<u8>,
+) -> Result<(), AllocError>
+    ensures { OnOk result (out.new.items
+        ≡ out.old.items ++ spec.between_text (tables_of sys.now) enters leaves) }
+{
+    append(b"between ", out)?;
+    append_happening(sys, enters, out)?;
+    append(b" and ", out)?;
+    append_happening(sys, leaves, out)?;
+    append(b" one at a time, ", out)
+}
+
+/// Appends where one task at a time may be.
+fn append_section(
+    sys: &System,
+    enters: Happening,
+    leaves: Happening,
+    out: &mut Vec<u8>,
+) -> Result<(), AllocError>
+    ensures { OnOk result (out.new.items ≡ out.old.items ++ spec.section_text (tables_of sys.now) enters leaves
+        (spec.put_of enters.deed enters.by) (spec.put_of leaves.deed leaves.by)) }
+{
+    match (put_of(enters), put_of(leaves)) {
+        (Some(first), Some(last)) => append_alone(first, last, out),
+        (Some(_), None) => append_between(sys, enters, leaves, out),
+        (None, _) => append_between(sys, enters, leaves, out),
+    }
+}
+
+/// The name of the object of a measure, if it is there.
+fn measure_name(sys: &System, measure: Measure) -> Option<Name>
+    ensures { result ≡ spec.measure_name (tables_of sys.now) measure }
+{
+    match measure {
+        Measure::SharedWord(place) => Some(sys.shared_words.get(place)?.name),
+        Measure::Count(place) => Some(sys.semaphores.get(place)?.name),
+        Measure::Pattern(place) => Some(sys.flags.get(place)?.name),
+        Measure::Words(place) => Some(sys.data_queues.get(place)?.name),
+        Measure::Messages(place) => Some(sys.mailboxes.get(place)?.name),
+        Measure::Priority(task) => Some(sys.tasks.get(task)?.name),
+    }
+}
+
+/// What stands before the name in a measure.
+fn measure_word(measure: Measure) -> &'static [u8]
+    ensures { result.now ≡ spec.measure_word measure }
+{
+    match measure {
+        Measure::Priority(_) => b"priority ",
+        _ => b"",
+    }
+}
+
+/// A relation, between blanks.
+fn relation_word(relation: Relation) -> &'static [u8]
+    ensures { result.now ≡ spec.relation_text relation }
+{
+    match relation {
+        Relation::Less => b" < ",
+        Relation::LessOrEqual => b" <= ",
+        Relation::Equal => b" == ",
+        Relation::Unequal => b" != ",
+        Relation::Greater => b" > ",
+        Relation::GreaterOrEqual => b" >= ",
+    }
+}
+
+/// Appends the task that a processor runs, or that it runs none.
+fn append_runner(sys: &System, task: Option<usize>, out: &mut Vec<u8>) -> Result<(), AllocError>
+    ensures { OnOk result (out.new.items ≡ out.old.items ++ spec.runner_text (tables_of sys.now) task) }
+{
+    match task {
+        Some(task) => append_task(sys, task, out),
+        None => append(b"nobody", out),
+    }
+}
+
+/// Appends a fact.
+#[tactic(auto, unfolding(crate::specs::Sentences::fact_text))]
+fn append_fact(sys: &System, fact: TestedFact, out: &mut Vec<u8>) -> Result<(), AllocError>
+    ensures { OnOk result (out.new.items ≡ out.old.items ++ spec.fact_text (tables_of sys.now) fact) }
+{
+    match fact {
+        TestedFact::Compares {
+            measure,
+            relation,
+            value,
+        } => {
+            append(measure_word(measure), out)?;
+            append_named(measure_name(sys, measure), out)?;
+            append(relation_word(relation), out)?;
+            append_value(value, out)
+        }
+        TestedFact::Is { task, word } => {
+            append_task(sys, task, out)?;
+            append(b" is ", out)?;
+            append(word.name().as_bytes(), out)
+        }
+        TestedFact::Runs { processor, task } => {
+            append_runner(sys, task, out)?;
+            append(b" runs on ", out)?;
+            append_number(u64::from(processor) + 1, out)
+        }
+    }
+}
+
+/// What joins a test to those before it.
+fn joint(alternative: bool) -> &'static [u8]
+    ensures { result.now ≡ spec.joint_text alternative }
+{
+    if alternative { b" or " } else { b" and " }
+}
+
+/// Appends a test behind others.
+#[tactic(auto, unfolding(crate::specs::Sentences::test_text))]
+fn append_test(sys: &System, test: &ConditionTest, out: &mut Vec<u8>) -> Result<(), AllocError>
+    ensures { OnOk result (out.new.items ≡ out.old.items ++ spec.test_text (tables_of sys.now) test.now) }
+{
+    append(joint(test.alternative), out)?;
+    append_where(test.negated, b"not ", out)?;
+    append_fact(sys, test.fact, out)
+}
+
+/// The tests of a condition.
+fn tests_in(condition: &Condition) -> &[ConditionTest]
+    ensures { result.now ≡ tests_of condition.now }
+{
+    let count = condition.count.min(MAX_TESTS);
+    &condition.tests[..count]
+}
+
+/// Appends tests, each behind others.
+fn append_tests(sys: &System, tests: &[ConditionTest], out: &mut Vec<u8>) -> Result<(), AllocError>
+    ensures { OnOk result (out.new.items
+        ≡ out.old.items ++ flat_map (λ t. spec.test_text (tables_of sys.now) t) tests.now) }
+{
+    for test in tests {
+        append_test(sys, test, out)?;
+    }
+    Ok(())
+}
+
+/// Appends tests without the ` or ` of the first.
+#[tactic(auto, unfolding(crate::specs::Sentences::without_or))]
+fn append_without_or(tests: &[u8], out: &mut Vec<u8>) -> Result<(), AllocError>
+    ensures { OnOk result (out.new.items ≡ out.old.items ++ spec.without_or tests.now) }
+{
+    if tests.len() <= 4 {
+        return Ok(());
+    }
+    append(&tests[4..], out)
+}
+
+/// Appends a condition.
+fn append_condition(
+    alloc: Global,
+    sys: &System,
+    condition: &Condition,
+    out: &mut Vec<u8>,
+) -> Result<(), AllocError>
+    ensures { OnOk result (out.new.items
+        ≡ out.old.items ++ spec.without_or (spec.tests_text (tables_of sys.now) condition.now)) }
+{
+    let mut tests = Vec::new(alloc);
+    append_tests(sys, tests_in(condition), &mut tests)?;
+    append_without_or(&tests, out)
+}
+
+/// Appends that something does not happen.
+#[tactic(auto, unfolding(crate::specs::Sentences::never_text))]
+fn append_never(sys: &System, happening: Happening, out: &mut Vec<u8>) -> Result<(), AllocError>
+    ensures { OnOk result (out.new.items ≡ out.old.items ++ spec.never_text (tables_of sys.now) happening) }
+{
+    append(b"never ", out)?;
+    append_happening(sys, happening, out)?;
+    append(b", ", out)
+}
+
+/// Appends that the second does not happen until the first has.
+#[tactic(auto, unfolding(crate::specs::Sentences::before_text))]
+fn append_before(
+    sys: &System,
+    first: Happening,
+    second: Happening,
+    out: &mut Vec<u8>,
+) -> Result<(), AllocError>
+    ensures { OnOk result (out.new.items
+        ≡ out.old.items ++ spec.before_text (tables_of sys.now) first second) }
+{
+    append_happening(sys, first, out)?;
+    append(b" before ", out)?;
+    append_happening(sys, second, out)?;
+    append(b", ", out)
+}
+
+/// Appends that something does not happen after an opening, until a closing if one is given.
+#[tactic(auto, unfolding(crate::specs::Sentences::never_after_text))]
+fn append_never_after(
+    sys: &System,
+    happening: Happening,
+    opening: Happening,
+    closing: Option<Happening>,
+    out: &mut Vec<u8>,
+) -> Result<(), AllocError>
+    ensures { OnOk result (out.new.items
+        ≡ out.old.items ++ spec.never_after_text (tables_of sys.now) happening opening closing) }
+{
+    append(b"never ", out)?;
+    append_happening(sys, happening, out)?;
+    append(b" after ", out)?;
+    append_happening(sys, opening, out)?;
+    append_until(sys, closing, out)?;
+    append(b", ", out)
+}
+
+/// Appends that a response comes in time.
+#[tactic(auto, unfolding(crate::specs::Sentences::within_text))]
+fn append_within(
+    sys: &System,
+    response: ExpectedResponse,
+    ticks: u32,
+    trigger: ExpectedTrigger,
+    out: &mut Vec<u8>,
+) -> Result<(), AllocError>
+    ensures { OnOk result (out.new.items
+        ≡ out.old.items ++ spec.within_text (tables_of sys.now) response ticks trigger) }
+{
+    append_response(sys, response, out)?;
+    append(b" within ", out)?;
+    append_number(u64::from(ticks), out)?;
+    append(b" ticks of ", out)?;
+    append_trigger(sys, trigger, out)?;
+    append(b", ", out)
+}
+
+/// Appends that a condition is always so.
+#[tactic(auto, unfolding(crate::specs::Sentences::always_text))]
+fn append_always(
+    alloc: Global,
+    sys: &System,
+    condition: &Condition,
+    out: &mut Vec<u8>,
+) -> Result<(), AllocError>
+    ensures { OnOk result (out.new.items
+        ≡ out.old.items ++ spec.always_text (tables_of sys.now) condition.now) }
+{
+    append(b"always ", out)?;
+    append_condition(alloc, sys, condition, out)?;
+    append(b", ", out)
+}
+
+/// Appends a sentence, and a comma behind it. Nothing of a task that may rest, or of the end. `AllocError` if memory
+/// runs out.
+pub fn append_sentence(
+    alloc: Global,
+    sys: &System,
+    sentence: &Sentence,
+    out: &mut Vec<u8>,
+) -> Result<(), AllocError>
+    ensures { OnOk result (out.new.items
+        ≡ out.old.items ++ spec.sentence_text (tables_of sys.now) sentence.now) }
+{
+    match sentence {
+        Sentence::Never(happening) => append_never(sys, *happening, out),
+        Sentence::Before { first, second } => append_before(sys, *first, *second, out),
+        Sentence::NeverAfter {
+            happening,
+            opening,
+            closing,
+        } => append_never_after(sys, *happening, *opening, *closing, out),
+        Sentence::Within {
+            response,
+            ticks,
+            trigger,
+        } => append_within(sys, *response, *ticks, *trigger, out),
+        Sentence::OneAtATime { entering, leaving } => append_section(sys, *entering, *leaving, out),
+        Sentence::Always(condition) => append_always(alloc, sys, condition, out),
+        Sentence::Rests(_) | Sentence::End { .. } => Ok(()),
+    }
+}
+
+/// Appends what a monitor watches, if it is a sentence.
+pub(crate) fn append_subject(
+    alloc: Global,
+    sys: &System,
+    subject: &MonitorSubject,
+    out: &mut Vec<u8>,
+) -> Result<(), AllocError>
+    ensures { OnOk result (out.new.items
+        ≡ out.old.items ++ spec.subject_text (tables_of sys.now) subject.now) }
+{
+    match subject {
+        MonitorSubject::Sentence(sentence) => append_sentence(alloc, sys, sentence, out),
+        MonitorSubject::Limit(_) => Ok(()),
+    }
+}
+
+/// Appends the sentences of monitors.
+#[tactic(auto, unfolding(crate::specs::Sentences::monitors_text))]
+pub(crate) fn append_monitors(
+    alloc: Global,
+    sys: &System,
+    monitors: &[Monitor],
+    out: &mut Vec<u8>,
+) -> Result<(), AllocError>
+    ensures { OnOk result (out.new.items
+        ≡ out.old.items ++ spec.monitors_text (tables_of sys.now) monitors.now) }
+{
+    for monitor in monitors {
+        append_subject(alloc, sys, &monitor.subject, out)?;
+    }
+    Ok(())
+}
