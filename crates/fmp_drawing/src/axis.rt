@@ -141,7 +141,7 @@ fn put_first_clock(scene: &Scene<'_>, span: &PanelSpan, top: Tenths, out: &mut C
     x + number_width(note.clock, SMALL).half() + px(2)
 }
 
-/// The badge of an event, if it has one that begins behind this place: where it ends.
+/// The badge of an event, if it has one that begins after this place: where it ends.
 fn put_badge_after(
     scene: &Scene<'_>,
     note: &Note,

@@ -69,7 +69,7 @@ fn put_call_text(scene: &Scene<'_>, strip: &Strip, x: Tenths, text: &Canvas, out
     );
 }
 
-/// A call of a lane, and where it can be named: its own room, behind the lane's call before it, and all that the
+/// A call of a lane, and where it can be named: its own room, after the lane's call before it, and all that the
 /// stretch has.
 #[derive(Clone, Copy)]
 struct CallPlace {

@@ -140,7 +140,7 @@ fn stretches_of(
     Ok(all)
 }
 
-/// Stretches as the boxes of a path, behind its class.
+/// Stretches as the boxes of a path, after its class.
 fn put_boxes(bins: &Bins, stretches: &[PartRange], y: u32, out: &mut Canvas) {
     out.raw("\" d=\"");
     for stretch in stretches {

@@ -65,7 +65,7 @@ fn put_handler_box(
     put_handler_plate(scene, strip, handler, (text_left(span, stay), right), out);
 }
 
-/// How many letters of a name stand in its box, and what stands behind them, where some fit.
+/// How many letters of a name stand in its box, and what stands after them, where some fit.
 fn fit_name(name: &[u8], room: Tenths) -> Option<(usize, &'static str)> {
     if width(name, BOLD).is_below(room) {
         return Some((name.len(), ""));

@@ -3,7 +3,6 @@ use crate::scene::{Scene, TakenPixels};
 use crate::shapes::{put_box, put_text};
 use crate::strips::{Lane, Strip};
 use crate::titles::put_event_title;
-use fmp_base::Fault;
 use fmp_timeline::CanvasPiece::{At, Raw, Text};
 use fmp_timeline::{Canvas, EventMark, PanelSpan, Run, Sign, Tenths, px, width};
 use std::alloc::AllocError;
@@ -69,9 +68,7 @@ fn priority_tag(priority: u8) -> &'static str {
 fn tag_text(sign: Sign) -> &'static str {
     match sign {
         Sign::Refused(code) => code.name(),
-        Sign::Faulted(Fault::Overflow) => "F_OVF",
-        Sign::Faulted(Fault::Division) => "F_DIV",
-        Sign::Faulted(Fault::Index) => "F_IDX",
+        Sign::Faulted(fault) => fault.name(),
         Sign::Priority(priority) => priority_tag(priority),
         _ => "",
     }

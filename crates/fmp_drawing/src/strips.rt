@@ -109,7 +109,7 @@ fn is_here(run: &Run, task: u8, processor: u8, first: u32, last: u32) -> bool {
     any_state(track, first, last, |shown| shown.processor == processor)
 }
 
-/// Whether a task is assigned to a processor after the event before a panel, and not behind the panel's first event.
+/// Whether a task is assigned to a processor after the event before a panel, and not after the panel's first event.
 fn leaves(run: &Run, task: u8, processor: u8, first: u32) -> bool {
     let before = first.saturating_sub(1);
     is_here(run, task, processor, before, before) && !is_here(run, task, processor, first, first)

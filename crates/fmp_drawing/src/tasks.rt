@@ -18,18 +18,6 @@ pub const NAME: Tenths = Tenths(115);
 /// The size of the texts in waits.
 const SMALL: Tenths = Tenths(90);
 
-/// The word of a state.
-pub fn word_of(word: StateWord) -> &'static str {
-    match word {
-        StateWord::Running => "RUNNING",
-        StateWord::Ready => "READY",
-        StateWord::Waiting => "WAITING",
-        StateWord::Suspended => "SUSPENDED",
-        StateWord::WaitingSuspended => "WAITING-SUSPENDED",
-        StateWord::Dormant => "DORMANT",
-    }
-}
-
 /// A name of this width in the gutter, squeezed where it is wider than its room.
 pub fn put_name(
     strip: &Strip,
@@ -211,7 +199,7 @@ fn fit_label(
 fn append_head(scene: &Scene<'_>, task: u8, shown: &TaskShown, head: &mut Canvas) {
     head.plain(task_bytes(scene.sys, task));
     head.raw(" ");
-    head.raw(word_of(shown.word));
+    head.raw(shown.word.name());
     if shown.wait.is_some() {
         head.raw(" ");
         append_wait(scene, shown, None, true, head);

@@ -114,7 +114,7 @@ fn labelled(scene: &Scene<'_>, span: &PanelSpan, event: u32, step: u64) -> Optio
     is_first.then_some(time)
 }
 
-/// The time of an event over it, if it begins behind this place: where it ends.
+/// The time of an event over it, if it begins after this place: where it ends.
 fn put_label(
     scene: &Scene<'_>,
     (x, time): (Tenths, u64),
@@ -133,7 +133,7 @@ fn put_label(
     x + half + px(4)
 }
 
-/// The row of times of a panel that begins at this height: few of them, those behind round times, but those that would
+/// The row of times of a panel that begins at this height: few of them, those after round times, but those that would
 /// touch the one before.
 fn put_row(scene: &Scene<'_>, span: &PanelSpan, top: Tenths, out: &mut Canvas) {
     let (x, y) = (At(scene.page.left() - px(8)), At(top + px(10)));

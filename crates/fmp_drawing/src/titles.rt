@@ -69,8 +69,8 @@ pub fn put_area(
     out.raw("</path>\n");
 }
 
-/// The end of a path with a title: a head as a form and its values, from where to where a state lasts, also in real time
-/// if that is known, and the lines of the event that began it.
+/// The end of a path with a title: a head as a form and its values, from where to where a state lasts, also in real
+/// time if that is known, and the lines of the event that began it.
 pub fn put_title<S>(
     scene: &Scene<'_>,
     head: &str,
@@ -81,7 +81,7 @@ pub fn put_title<S>(
     put_title_with(scene, (head, values), Raw(""), stay, out);
 }
 
-/// The same, with this behind its first line.
+/// The same, with this after its first line.
 pub fn put_title_with<S>(
     scene: &Scene<'_>,
     (head, values): (&str, &[CanvasPiece<'_>]),

@@ -1,7 +1,9 @@
 //! The functions of bodies in C.
 ghost use Rattle.std.specs.Prelude.{◌≡◌, ◌++◌, map, IfOk, OnOk};
 ghost use Rattle.fmp_tasklang.specs.Views.{body_view};
-ghost use Rattle.fmp_export.specs.Bodies.{body_end, c_bodies, c_body, c_commented, c_commented_bodies, c_declared, c_heading, c_initial, c_inside, c_prototype, c_prototypes, c_row, c_rows, c_variable, c_variables, gap_behind, inside_end, variables_end};
+ghost use Rattle.fmp_export.specs.Bodies.{body_end, c_bodies, c_body, c_commented, c_commented_bodies, c_declared};
+ghost use Rattle.fmp_export.specs.Bodies.{c_heading, c_initial, c_inside, c_prototype, c_prototypes, c_row, c_rows};
+ghost use Rattle.fmp_export.specs.Bodies.{c_variable, c_variables, gap_behind, inside_end, variables_end};
 ghost use Rattle.fmp_export.specs.Sources.{source_view};
 
 use crate::pieces::append_number;
@@ -48,7 +50,7 @@ fn append_variable(
     append_initial(source, variable.length, out)
 }
 
-/// Appends a declaration below the comments of a gap, with the comment of another behind it.
+/// Appends a declaration below the comments of a gap, with the comment of another after it.
 #[tactic(auto, unfolding(crate::specs::Bodies::c_declared))]
 fn append_declared(
     alloc: Global,
@@ -68,7 +70,7 @@ fn append_declared(
 }
 
 /// Appends the declarations of variables from a place on, and an empty line. The first line of the gap before them is
-/// written already. Gives the place behind them.
+/// written already. Gives the place after them.
 fn append_variables(
     alloc: Global,
     source: &Source<'_>,
@@ -152,7 +154,7 @@ fn append_body(
     append_inside(alloc, source, &before, at, body, out)
 }
 
-/// Appends the function of a body below the comments of these lines, and gives what stands behind the body in the text.
+/// Appends the function of a body below the comments of these lines, and gives what stands after the body in the text.
 #[tactic(auto, unfolding(crate::specs::Bodies::c_commented))]
 fn append_commented(
     alloc: Global,

@@ -131,7 +131,7 @@ fn append_before(
     append_listed(ordered, 0, &pieces[..count.min(pieces.len())], out)
 }
 
-/// Appends the arguments behind the out place.
+/// Appends the arguments after the out place.
 #[tactic(auto, using(crate::proofs::Passed::dropped))]
 fn append_behind(
     ordered: bool,

@@ -69,7 +69,7 @@ fn chain(
     Ok(piece)
 }
 
-/// Expressions, one behind another.
+/// Expressions, one after another.
 pub fn expressions(
     alloc: Global,
     source: &Source<'_>,

@@ -43,7 +43,7 @@ pub const MAIN_START: &[u8] = b"#include \"bodies.h\"
 static const struct fmp_body fmp_bodies[] = {
 ";
 
-/// What stands behind them.
+/// What stands after them.
 pub const MAIN_END: &[u8] = b"    {NULL, NULL},
 };
 

@@ -1,10 +1,11 @@
 //! Expressions in C: the text of each, which faults its evaluation may end with, whether an operator stands outermost,
-//! and where the task text goes on behind its numbers.
+//! and where the task text goes on after its numbers.
 ghost use Rattle.std.specs.Prelude.{◌≡◌, ◌++◌, IfOk, OnOk};
 ghost use Rattle.std.specs.Option.{option_map};
 ghost use Rattle.fmp_export.specs.Sources.{source_view};
 ghost use Rattle.fmp_export.specs.Pieces as spec;
-ghost use Rattle.fmp_export.specs.Pieces.{piece_view, operand, number_piece, name_piece, element_piece, unary_piece, binary_piece, both_piece, either_piece};
+ghost use Rattle.fmp_export.specs.Pieces.{piece_view, operand, number_piece, name_piece, element_piece, unary_piece};
+ghost use Rattle.fmp_export.specs.Pieces.{binary_piece, both_piece, either_piece};
 ghost use Rattle.fmp_export.specs.Words.{c_name};
 
 use crate::source::{Landmark, Source, before, behind, from, landmark_from};
@@ -46,7 +47,7 @@ pub struct Piece {
     pub risk: Risk,
     /// What stands outermost in it.
     pub shape: ExpressionShape,
-    /// The place behind its last number in the list of tokens; if it has none, where it was begun.
+    /// The place after its last number in the list of tokens; if it has none, where it was begun.
     pub next: usize,
 }
 
@@ -301,7 +302,7 @@ fn infixed(alloc: Global, sign: &[u8], a: &Piece, b: &Piece) -> Result<Piece, Al
     })
 }
 
-/// Appends the arguments of a function, and the `)` behind them.
+/// Appends the arguments of a function, and the `)` after them.
 fn append_both(a: &Piece, b: &Piece, out: &mut Vec<u8>) -> Result<(), AllocError>
     ensures { OnOk result (out.new.items ≡ out.old.items ++ spec.arguments_of (piece_view a.now) (piece_view b.now)) }
 {

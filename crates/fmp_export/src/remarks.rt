@@ -133,7 +133,7 @@ fn first_line(alloc: Global, text: &[u8]) -> Result<Vec<u8>, AllocError>
     Ok(line)
 }
 
-/// What stands behind the first line of a text.
+/// What stands after the first line of a text.
 pub fn other_lines(text: &[u8]) -> &[u8]
     ensures { result.now ≡ spec.other_lines text.now }
 {
@@ -168,7 +168,7 @@ pub fn append_own_lines(
     append_comment(alloc, margin, &line, out)
 }
 
-/// Appends a comment behind the code of its line, if there is one.
+/// Appends a comment after the code of its line, if there is one.
 fn append_behind_code(comment: &[u8], out: &mut Vec<u8>) -> Result<(), AllocError>
     ensures { OnOk result (out.new.items ≡ out.old.items ++ spec.behind_code comment.now) }
 {
@@ -179,7 +179,7 @@ fn append_behind_code(comment: &[u8], out: &mut Vec<u8>) -> Result<(), AllocErro
     append(comment, out)
 }
 
-/// Appends the comment of the first line of a gap, behind the code of its line.
+/// Appends the comment of the first line of a gap, after the code of its line.
 pub fn append_behind(alloc: Global, gap: &[u8], out: &mut Vec<u8>) -> Result<(), AllocError>
     ensures { OnOk result (out.new.items ≡ out.old.items ++ c_behind gap.now) }
 {
@@ -215,7 +215,7 @@ fn append_line_end(
     append_above(alloc, margin, gap, out)
 }
 
-/// Appends the end of a line of C for the tokens from a place up to a landmark, and gives the place behind it.
+/// Appends the end of a line of C for the tokens from a place up to a landmark, and gives the place after it.
 pub fn finish(
     alloc: Global,
     margin: &[u8],

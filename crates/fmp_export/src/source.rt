@@ -1,7 +1,8 @@
 //! A text and its tokens, in which the writers of C look up how a number is written and where a statement ends.
 ghost use Rattle.std.specs.Prelude.{◌≡◌, ◌+◌, ◌++◌, ◌<◌, drop, length, slice_get, take, IfOk, OnOk};
 ghost use Rattle.fmp_export.specs.Sources as spec;
-ghost use Rattle.fmp_export.specs.Sources.{gap, gaps, head_of, is_landmark, landmark_in, no_source, source_view, start_of};
+ghost use Rattle.fmp_export.specs.Sources.{gap, gaps, head_of, is_landmark, landmark_in, no_source, source_view};
+ghost use Rattle.fmp_export.specs.Sources.{start_of};
 
 use crate::text::append;
 use fmp_lex::{Keyword, Symbol, Token, TokenKind, Tokens};
@@ -63,7 +64,7 @@ fn token_at(tokens: &Tokens<'_>, at: usize) -> Option<Token>
     })
 }
 
-/// Puts the token at a place behind those before it.
+/// Puts the token at a place after those before it.
 #[tactic(auto, using(crate::proofs::Places::moved))]
 fn push_token(tokens: &Tokens<'_>, at: usize, before: &mut Vec<Token>) -> Result<(), AllocError>
     requires { at < length tokens.now }
@@ -120,7 +121,7 @@ impl<'a> Source<'a> {
     }
 }
 
-/// The place behind the first landmark from a place on; behind all tokens if there is none.
+/// The place after the first landmark from a place on; after all tokens if there is none.
 #[tactic(auto, unfolding(crate::specs::Sources::behind))]
 pub fn behind(landmark: Landmark, source: &Source<'_>, at: usize) -> usize
     ensures { result ≡ spec.behind landmark (source_view source.now) at }
@@ -193,14 +194,14 @@ fn start(text: &[u8], tokens: &[Token]) -> usize
     }
 }
 
-/// What stands between a token and those behind it.
+/// What stands between a token and those after it.
 fn between<'a>(text: &'a [u8], token: &Token, tokens: &[Token]) -> &'a [u8]
     ensures { result.now ≡ gap text.now token.now tokens.now }
 {
     from(before(text, start(text, tokens)), token.end as usize)
 }
 
-/// What stands behind each of the tokens from a place up to another.
+/// What stands after each of the tokens from a place up to another.
 #[tactic(auto, unfolding(crate::specs::Sources::gaps))]
 pub fn gaps_between(
     alloc: Global,

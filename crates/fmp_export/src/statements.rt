@@ -5,7 +5,8 @@ ghost use Rattle.fmp_export.specs.declared.source.Landmark.TheVariants as landma
 ghost use Rattle.fmp_export.specs.Pieces.{piece_view};
 ghost use Rattle.fmp_export.specs.Sources.{behind, source_view};
 ghost use Rattle.fmp_export.specs.Statements as spec;
-ghost use Rattle.fmp_export.specs.Statements.{block_end, c_block, c_chained, c_choice, c_closed, c_statement, c_store, choice_end, statement_end};
+ghost use Rattle.fmp_export.specs.Statements.{block_end, c_block, c_chained, c_choice, c_closed, c_statement, c_store};
+ghost use Rattle.fmp_export.specs.Statements.{choice_end, statement_end};
 ghost use Rattle.fmp_export.specs.Words.{c_name, tab};
 
 use crate::calls::append_call;
@@ -94,7 +95,7 @@ fn append_assign_element(
     append_store(front, &array.name, &index, &value, out)
 }
 
-/// Appends a condition, what stands before it in its line, and `{`. Gives the place behind the `{`.
+/// Appends a condition, what stands before it in its line, and `{`. Gives the place after the `{`.
 #[tactic(auto, unfolding(crate::specs::Statements::c_head))]
 fn append_head(
     alloc: Global,
@@ -119,7 +120,7 @@ fn append_head(
     finish(alloc, &inner, Landmark::LeftBrace, source, at, out)
 }
 
-/// Appends the `}` at a place, and gives the place behind it.
+/// Appends the `}` at a place, and gives the place after it.
 #[tactic(auto, unfolding(crate::specs::Statements::c_close))]
 fn append_close(
     alloc: Global,
@@ -136,7 +137,7 @@ fn append_close(
     finish(alloc, margin, Landmark::RightBrace, source, at, out)
 }
 
-/// Appends a word alone, and gives the place behind its `;`.
+/// Appends a word alone, and gives the place after its `;`.
 #[tactic(auto, unfolding(crate::specs::Statements::c_jump))]
 fn append_jump(
     alloc: Global,
@@ -156,7 +157,7 @@ fn append_jump(
     finish(alloc, margin, Landmark::Semicolon, source, at, out)
 }
 
-/// Appends the `{` behind the `else` that stands behind the `}` at a place, and gives the place behind it.
+/// Appends the `{` after the `else` that stands after the `}` at a place, and gives the place after it.
 #[tactic(auto, unfolding(crate::specs::Statements::c_else_head))]
 fn append_else_head(
     alloc: Global,
@@ -192,7 +193,7 @@ fn is_chain(statements: &[Statement]) -> bool
     }
 }
 
-/// Whether this is an `if` alone that stands in no braces behind its `else`, which stands behind the `}` at a place.
+/// Whether this is an `if` alone that stands in no braces after its `else`, which stands after the `}` at a place.
 fn goes_on(source: &Source<'_>, at: usize, otherwise: &[Statement]) -> bool
     ensures { result ≡ spec.goes_on (source_view source.now) at (block_view otherwise.now) }
 {
@@ -205,7 +206,7 @@ fn goes_on(source: &Source<'_>, at: usize, otherwise: &[Statement]) -> bool
 }
 
 /// Appends a statement at a place, of which the first line begins with `front` and each other line with the margin.
-/// Gives the place behind it.
+/// Gives the place after it.
 #[cycle(statements_in_c)]
 fn append_statement(
     alloc: Global,
@@ -261,7 +262,7 @@ fn append_statement(
     }
 }
 
-/// Appends what stands behind the `if` of a choice, whose `}` stands at a place.
+/// Appends what stands after the `if` of a choice, whose `}` stands at a place.
 #[cycle(statements_in_c)]
 fn append_choice(
     alloc: Global,
@@ -282,7 +283,7 @@ fn append_choice(
     append_closed(alloc, source, margin, next, otherwise, out)
 }
 
-/// Appends an `if` behind the `else` before it.
+/// Appends an `if` after the `else` before it.
 #[cycle(statements_in_c)]
 fn append_chained(
     alloc: Global,
@@ -306,7 +307,7 @@ fn append_chained(
     Ok(next)
 }
 
-/// Appends the statements of a block within a statement of this margin, and the `}` behind them.
+/// Appends the statements of a block within a statement of this margin, and the `}` after them.
 #[cycle(statements_in_c)]
 fn append_closed(
     alloc: Global,
@@ -344,7 +345,7 @@ fn append_inner(
     append_block(alloc, source, &inner, at, statements, out)
 }
 
-/// Appends statements, of which the first begins at a place. Gives the place behind them.
+/// Appends statements, of which the first begins at a place. Gives the place after them.
 #[cycle(statements_in_c)]
 pub fn append_block(
     alloc: Global,

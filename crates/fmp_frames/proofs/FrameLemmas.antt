@@ -10,8 +10,8 @@ use Rattle.fmp_base.specs.declared.states.Processor.{Processor}
 use Rattle.fmp_base.specs.declared.states.TaskBlock.{TaskBlock}
 use Rattle.fmp_base.specs.Meanings.{Meaning}
 use Rattle.fmp_base.specs.Steps.{Reaction, Nothing, Did, Kept, effect_of}
-use Rattle.fmp_coming.specs.Comings.{IsPlaceOf, reaction_of}
-use Rattle.fmp_coming.proofs.Comings.{cut}
+use Rattle.fmp_kernel.specs.Comings.{IsPlaceOf, reaction_of}
+use Rattle.fmp_kernel.proofs.Comings.{cut}
 use Rattle.fmp_kernel.specs.KernelViews.{KernelView, view_after}
 use Rattle.fmp_why.specs.declared.obstacles.SpinWait.{SpinWait}
 use Rattle.fmp_frames.specs.Frames.{FrameTable, frame_of, framed, framed_on, frames, frames_of_each, kept_frame}

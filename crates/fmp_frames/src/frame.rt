@@ -49,13 +49,9 @@ pub struct Frame {
 fn frame_with<B: Body>(
     alloc: Global,
     kernel: &Kernel<B>,
-    body: &B,
-    n: u64,
     told: &[Line],
     kept: Option<u8>,
 ) -> Result<Frame, AllocError>
-    requires body { body.now ≡ kernel.now.body }
-    requires bound { n ≡ kernel.now.bound }
     ensures { IfOk result (λ f. table_of f ≡ record (frame_of kernel.now.system (B.meaning kernel.now.body)
         kernel.now.bound kernel.now.world told.now) { kept = kept }) }
 {
@@ -69,7 +65,7 @@ fn frame_with<B: Body>(
         clock: tables.clock(),
         states: states(alloc, kernel)?,
         blocks: blocks(alloc, tables)?,
-        spins: spins(alloc, kernel, body, n, &processors)?,
+        spins: spins(alloc, kernel, &processors)?,
         processors,
         semaphores: semaphores(alloc, tables)?,
         flags: flags(alloc, tables)?,
@@ -81,20 +77,12 @@ fn frame_with<B: Body>(
     })
 }
 
-/// The frame of setup, or of the last event that was done, of a kernel over these bodies with this bound. `AllocError`
-/// if memory runs out.
-pub fn last_frame<B: Body>(
-    alloc: Global,
-    kernel: &Kernel<B>,
-    body: &B,
-    n: u64,
-) -> Result<Frame, AllocError>
-    requires body { body.now ≡ kernel.now.body }
-    requires bound { n ≡ kernel.now.bound }
+/// The frame of setup, or of the last event that was done, of a kernel. `AllocError` if memory runs out.
+pub fn last_frame<B: Body>(alloc: Global, kernel: &Kernel<B>) -> Result<Frame, AllocError>
     ensures { IfOk result (λ f. table_of f ≡ frame_of kernel.now.system (B.meaning kernel.now.body) kernel.now.bound
         kernel.now.world kernel.now.lines) }
 {
-    frame_with(alloc, kernel, body, n, kernel.lines(), None)
+    frame_with(alloc, kernel, kernel.lines(), None)
 }
 
 /// The frame of an event that kept the place of the actor of the processor that it ran. `AllocError` if memory runs
@@ -102,14 +90,10 @@ pub fn last_frame<B: Body>(
 pub fn kept_frame<B: Body>(
     alloc: Global,
     kernel: &Kernel<B>,
-    body: &B,
-    n: u64,
     ran: Option<u8>,
 ) -> Result<Frame, AllocError>
-    requires body { body.now ≡ kernel.now.body }
-    requires bound { n ≡ kernel.now.bound }
     ensures { IfOk result (λ f. table_of f ≡ frame_of_kept kernel.now.system (B.meaning kernel.now.body)
         kernel.now.bound kernel.now.world ran) }
 {
-    frame_with(alloc, kernel, body, n, &[], ran)
+    frame_with(alloc, kernel, &[], ran)
 }

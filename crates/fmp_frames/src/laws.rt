@@ -1,7 +1,7 @@
-//! Where what comes is events.
+//! What holds of frames where only events come, the contract of a function that does nothing.
 ghost use Rattle.std.specs.Prelude.{◌≡◌, List};
 ghost use Rattle.fmp_base.specs.declared.events.Event.{Event};
-ghost use Rattle.fmp_coming.specs.Comings.{reaction_of};
+ghost use Rattle.fmp_kernel.specs.Comings.{reaction_of};
 ghost use Rattle.fmp_frames.specs.Frames.{frames, frames_of_each};
 ghost use Rattle.fmp_kernel.specs.KernelViews.{KernelView};
 

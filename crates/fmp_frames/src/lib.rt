@@ -1,20 +1,31 @@
 //! The frames of a run: what each event told, and the state after it; and ways to show a run: a table of what each task
-//! did, one of the service calls, a value change dump, and the responses to handlers.
+//! did, one of the service calls, a value change dump, and the responses to handlers. It also finds where the calls of
+//! a run stand in the text of its bodies, which of them are refused, what tasks wait for at its end, its idle turns,
+//! and the first event in which two runs differ.
 #![tactic(auto)]
 
+mod answers;
 mod call_counts;
+mod call_places;
 mod call_table;
 mod codes;
+mod columns;
+mod comparing;
 mod counting;
 mod dump;
 mod frame;
 mod head;
 mod laws;
+mod made;
+mod placed_lines;
 mod places;
 mod reading;
+mod refusal_lines;
+mod refusals;
 mod response_table;
 mod responses;
 mod showing;
+mod sites;
 mod spinning;
 mod summaries;
 mod table;
@@ -24,21 +35,33 @@ mod text;
 mod times;
 mod timing;
 mod told;
+mod turns;
 mod values;
 mod variable;
+mod watching;
 
+pub use answers::{SiteAnswer, answers_in};
+pub use call_places::{CallPlace, CallPlaces};
 pub use call_table::append_calls;
+pub use comparing::{ToldRun, append_difference, first_difference, told_on};
 pub use counting::TaskTally;
 pub use dump::Waves;
 pub use frame::{Frame, last_frame};
 pub use laws::frames_are_of_the_run;
+pub use made::{CodePlaces, event_place, places_made};
+pub use placed_lines::{LineForm, append_placed};
+pub use refusal_lines::append_refused;
+pub use refusals::{Refusal, RefusedCall, refused_calls};
 pub use response_table::append_responses;
 pub use responses::{Release, Response, Responses};
 pub use showing::{Viewer, show_all};
+pub use sites::{CallSite, SiteCall};
 pub use summaries::ResponseSummary;
 pub use taking::frames;
 pub use tallies::Tallies;
 pub use times::known_times;
 pub use timing::Timing;
 pub use told::{CallTold, ToldCalls, ToldOutcome};
+pub use turns::{IdleTurn, idle_turns};
 pub use variable::{Variable, WaitedObject};
+pub use watching::{RunWatcher, count_up_to, why};

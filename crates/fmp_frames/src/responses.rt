@@ -7,7 +7,7 @@ use crate::places::{at, nothing, put};
 use fmp_base::{Caller, Handler, Line};
 use std::alloc::{AllocError, Global};
 
-/// Places of interrupts begin here, behind those of the cyclic handlers.
+/// Places of interrupts begin here, after those of the cyclic handlers.
 const INTERRUPTS: usize = 256;
 
 /// Places of handlers end here.

@@ -2,12 +2,11 @@
 ghost use Rattle.std.specs.Prelude.{◌≡◌, ◌+◌, ◌≤◌, ◌^◌, length, OnOk};
 ghost use Rattle.fmp_frames.specs.Frames.{FrameTable, frame_of, frames_of_each, kept_frame as frame_of_kept, table_of};
 ghost use Rattle.fmp_frames.specs.Showing.{HasShown};
-ghost use Rattle.fmp_coming.specs.Comings.{view_after_each};
+ghost use Rattle.fmp_kernel.specs.Comings.{view_after_each};
 
 use crate::frame::{Frame, kept_frame, last_frame};
 use fmp_base::Effect;
-use fmp_coming::Coming;
-use fmp_kernel::{Body, Kernel};
+use fmp_kernel::{Body, Coming, Kernel};
 use std::alloc::{AllocError, Global};
 
 /// A viewer, to which a run is shown frame by frame.
@@ -24,16 +23,13 @@ pub trait Viewer {
 fn show_last<B: Body, V: Viewer>(
     alloc: Global,
     kernel: &Kernel<B>,
-    body: &B,
-    n: u64,
     viewer: &mut V,
 ) -> Result<(), AllocError>
-    requires body { body.now ≡ kernel.now.body }
-    requires bound { n ≡ kernel.now.bound }
     ensures { OnOk result (V.shown viewer.old
-        (frame_of kernel.now.system (B.meaning kernel.now.body) kernel.now.bound kernel.now.world kernel.now.lines) viewer.new) }
+        (frame_of kernel.now.system (B.meaning kernel.now.body) kernel.now.bound kernel.now.world kernel.now.lines)
+        viewer.new) }
 {
-    let frame = last_frame(alloc, kernel, body, n)?;
+    let frame = last_frame(alloc, kernel)?;
     viewer.show(alloc, &frame)
 }
 
@@ -41,17 +37,14 @@ fn show_last<B: Body, V: Viewer>(
 fn show_kept<B: Body, V: Viewer>(
     alloc: Global,
     kernel: &Kernel<B>,
-    body: &B,
-    n: u64,
     ran: Option<u8>,
     viewer: &mut V,
 ) -> Result<(), AllocError>
-    requires body { body.now ≡ kernel.now.body }
-    requires bound { n ≡ kernel.now.bound }
     ensures { OnOk result (V.shown viewer.old
-        (frame_of_kept kernel.now.system (B.meaning kernel.now.body) kernel.now.bound kernel.now.world ran) viewer.new) }
+        (frame_of_kept kernel.now.system (B.meaning kernel.now.body) kernel.now.bound kernel.now.world ran)
+        viewer.new) }
 {
-    let frame = kept_frame(alloc, kernel, body, n, ran)?;
+    let frame = kept_frame(alloc, kernel, ran)?;
     viewer.show(alloc, &frame)
 }
 
@@ -59,25 +52,19 @@ fn show_kept<B: Body, V: Viewer>(
 pub fn show_all<B: Body, T: Coming<B>, V: Viewer>(
     alloc: Global,
     kernel: &mut Kernel<B>,
-    body: &B,
-    n: u64,
     events: &[T],
     viewer: &mut V,
 ) -> Result<(), AllocError>
     requires few { kernel.old.taken + length events.now ≤ 2 ^ 31 }
-    requires body { body.now ≡ kernel.old.body }
-    requires bound { n ≡ kernel.old.bound }
     ensures shown { OnOk result (HasShown V.shown viewer.old
         (frames_of_each B.meaning T.reaction kernel.old events.now)
         viewer.new) }
     ensures after { OnOk result (kernel.new ≡ view_after_each T.reaction kernel.old events.now) }
-    ensures body { OnOk result (kernel.new.body ≡ kernel.old.body) }
-    ensures bound { OnOk result (kernel.new.bound ≡ kernel.old.bound) }
 {
     for e in events {
         match e.take(kernel) {
-            Effect::Done => show_last(alloc, kernel, body, n, viewer)?,
-            Effect::Kept => show_kept(alloc, kernel, body, n, e.place(), viewer)?,
+            Effect::Done => show_last(alloc, kernel, viewer)?,
+            Effect::Kept => show_kept(alloc, kernel, e.place(), viewer)?,
             Effect::Nothing => {}
         }
     }

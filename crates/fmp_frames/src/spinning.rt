@@ -20,31 +20,25 @@ fn call_of<C: Copy>(stretch: Stretch<C>) -> Option<Call>
     }
 }
 
-/// The call that the next run of the processor at a place comes to, if it comes to one, on a kernel over these bodies
-/// with this bound.
-fn next_call<B: Body>(kernel: &Kernel<B>, body: &B, n: u64, p: u8) -> Option<Call>
-    requires body { body.now ≡ kernel.now.body }
-    requires bound { n ≡ kernel.now.bound }
+/// The call that the next run of the processor at a place comes to, if it comes to one, on a kernel.
+fn next_call<B: Body>(kernel: &Kernel<B>, p: u8) -> Option<Call>
     requires below { p < 255 }
-    ensures { result ≡ spec.next_call kernel.now.system (B.meaning kernel.now.body) kernel.now.bound kernel.now.world p }
+    ensures { result
+        ≡ spec.next_call kernel.now.system (B.meaning kernel.now.body) kernel.now.bound kernel.now.world p }
 {
     match kernel.actor(p + 1) {
-        Some(actor) => call_of(body.stretch(actor.entry, n, actor.context)),
+        Some(actor) => call_of(
+            kernel
+                .body()
+                .stretch(actor.entry, kernel.bound(), actor.context),
+        ),
         None => None,
     }
 }
 
 /// What the actor of the processor at a place spins for; these are all processors. No stretch is made where no spin
 /// lock is held, or the processor may not ask for one.
-fn spin_at<B: Body>(
-    kernel: &Kernel<B>,
-    body: &B,
-    n: u64,
-    processors: &[Processor],
-    p: u8,
-) -> Option<SpinWait>
-    requires body { body.now ≡ kernel.now.body }
-    requires bound { n ≡ kernel.now.bound }
+fn spin_at<B: Body>(kernel: &Kernel<B>, processors: &[Processor], p: u8) -> Option<SpinWait>
     requires there { p < kernel.now.system.processors }
     requires below { p < 255 }
     ensures { result ≡ spec.spin_at kernel.now.system (B.meaning kernel.now.body) kernel.now.bound kernel.now.world
@@ -55,25 +49,21 @@ fn spin_at<B: Body>(
         return None;
     }
     let locks = kernel.tables().spin_lock_count() as u8;
-    spin_on(processors, locks, &cpu, next_call(kernel, body, n, p))
+    spin_on(processors, locks, &cpu, next_call(kernel, p))
 }
 
 /// What the actor of each processor spins for; these are all processors. `AllocError` if memory runs out.
 pub fn spins<B: Body>(
     alloc: Global,
     kernel: &Kernel<B>,
-    body: &B,
-    n: u64,
     processors: &[Processor],
 ) -> Result<Vec<Option<SpinWait>>, AllocError>
-    requires body { body.now ≡ kernel.now.body }
-    requires bound { n ≡ kernel.now.bound }
     ensures { IfOk result (λ xs. xs.items ≡ each_of (spec.spin_at kernel.now.system (B.meaning kernel.now.body)
         kernel.now.bound kernel.now.world processors.now) kernel.now.system.processors) }
 {
     each(
         alloc,
         kernel.tables().processor_count() as u8,
-        |p| spin_at(kernel, body, n, processors, p),
+        |p| spin_at(kernel, processors, p),
     )
 }

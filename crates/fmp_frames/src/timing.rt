@@ -56,7 +56,7 @@ impl<'a> Timing<'a> {
 impl Viewer for Timing<'_> {
     ghost shown = { λ x f y. spec.timed_of y ≡ spec.timed_after (spec.timed_of x) f };
 
-    /// One event more. One that kept a place has no time, and one behind the last time is left out.
+    /// One event more. One that kept a place has no time, and one after the last time is left out.
     fn show(&mut self, _alloc: Global, frame: &Frame) -> Result<(), AllocError> {
         match frame.kept {
             Some(_) => Ok(()),

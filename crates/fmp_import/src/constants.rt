@@ -31,8 +31,11 @@ pub struct Constants {
     definitions: Vec<Definition>,
 }
 
+/// What `fmp_view export --toppers` writes for the bytes of a stack beside those of the text.
+const STACK_BESIDE: &[u8] = b"FMP_STACK";
+
 impl Constants {
-    /// No constants but those of uITRON.
+    /// No constants but those of uITRON, and what `export` writes for a stack.
     pub fn new(alloc: Global) -> Constants {
         Constants {
             definitions: Vec::new(alloc),
@@ -46,7 +49,7 @@ impl Constants {
                 return Some(definition.value);
             }
         }
-        if word == b"NULL".as_slice() {
+        if word == b"NULL".as_slice() || word == STACK_BESIDE {
             return Some(0);
         }
         Some(i64::from(find_constant(word)?.value()))

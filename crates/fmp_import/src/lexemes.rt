@@ -69,7 +69,7 @@ fn line_end(text: &[u8], from: usize) -> usize
     text.len()
 }
 
-/// Where the comment ends that goes on at a place: behind its `*/`, or where the text ends.
+/// Where the comment ends that goes on at a place: after its `*/`, or where the text ends.
 fn comment_end(text: &[u8], from: usize) -> usize
     requires { from ≤ length text.now }
     ensures from { from ≤ result }
@@ -85,7 +85,7 @@ fn comment_end(text: &[u8], from: usize) -> usize
     text.len()
 }
 
-/// Where what is quoted ends that goes on at a place: behind the quote, or where its line ends.
+/// Where what is quoted ends that goes on at a place: after the quote, or where its line ends.
 fn quote_end(text: &[u8], from: usize, quote: u8) -> usize
     requires { from ≤ length text.now }
     ensures from { from ≤ result }

@@ -5,7 +5,7 @@ ghost use Rattle.fmp_import.specs.Written.{note_end, note_text};
 use crate::text::{append, append_count, append_shown};
 use std::alloc::AllocError;
 
-/// Appends what is said of a word, behind the word.
+/// Appends what is said of a word, after the word.
 fn append_end(says: &str, why: &str, out: &mut Vec<u8>) -> Result<(), AllocError>
     ensures { OnOk result (out.new.items ≡ out.old.items ++ note_end says.now why.now) }
 {

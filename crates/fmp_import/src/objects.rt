@@ -98,7 +98,7 @@ fn is_name(word: &[u8]) -> bool {
 }
 
 impl Parameters<'_> {
-    /// What stands behind an attribute.
+    /// What stands after an attribute.
     fn items(&self, items: &[PlanItem]) -> Result<Vec<PlanItem>, AllocError> {
         let mut rest = Vec::new(self.alloc);
         rest.extend_from_slice(items)?;

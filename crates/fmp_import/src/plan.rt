@@ -26,7 +26,7 @@ pub struct Record {
     /// The name, or the number of an interrupt.
     pub subject: PlanItem,
     pub attribute: PlanItem,
-    /// What stands behind the attribute.
+    /// What stands after the attribute.
     pub rest: Vec<PlanItem>,
 }
 

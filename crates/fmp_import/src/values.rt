@@ -23,7 +23,7 @@ impl<T: Drop> From<AllocFailed<T>> for NoValue {
     }
 }
 
-/// An operator that waits for what stands behind it.
+/// An operator that waits for what stands after it.
 #[derive(Clone, Copy, PartialEq, Eq)]
 enum PendingOperator {
     Open,
@@ -244,7 +244,7 @@ impl Calculation {
         Ok(at + 1)
     }
 
-    /// Takes a lexeme behind an operand.
+    /// Takes a lexeme after an operand.
     fn operator(&mut self, lexeme: Lexeme) -> Result<(), NoValue> {
         match lexeme.kind {
             LexemeKind::Sign(b'|') => self.take_operator(PendingOperator::Or),

@@ -1,7 +1,8 @@
 //! The configuration that is written.
 ghost use Rattle.std.specs.Prelude.{◌≡◌, ◌++◌, map, OnOk};
 ghost use Rattle.fmp_import.specs.Written as spec;
-ghost use Rattle.fmp_import.specs.Written.{block_text, block_view, blocks_text, class_text, further_text, item_text, more_text, or_text, plan_text, record_text, record_view, records_text};
+ghost use Rattle.fmp_import.specs.Written.{block_text, block_view, blocks_text, class_text, further_text, item_text};
+ghost use Rattle.fmp_import.specs.Written.{more_text, or_text, plan_text, record_text, record_view, records_text};
 
 use crate::plan::{Block, PlanItem, Record, SourceClass};
 use crate::text::{append, append_count, append_signed, bytes_of};
@@ -37,7 +38,7 @@ fn append_item(source: &[u8], item: PlanItem, out: &mut Vec<u8>) -> Result<(), A
     }
 }
 
-/// Appends something that stands behind an attribute.
+/// Appends something that stands after an attribute.
 #[tactic(auto, unfolding(crate::specs::Written::further_text))]
 fn append_further(source: &[u8], item: PlanItem, out: &mut Vec<u8>) -> Result<(), AllocError>
     ensures { OnOk result (out.new.items ≡ out.old.items ++ further_text source.now item) }
@@ -46,7 +47,7 @@ fn append_further(source: &[u8], item: PlanItem, out: &mut Vec<u8>) -> Result<()
     append_item(source, item, out)
 }
 
-/// Appends what stands behind an attribute.
+/// Appends what stands after an attribute.
 fn append_more(source: &[u8], items: &[PlanItem], out: &mut Vec<u8>) -> Result<(), AllocError>
     ensures { OnOk result (out.new.items ≡ out.old.items ++ more_text source.now items.now) }
 {
@@ -89,7 +90,7 @@ fn append_records(source: &[u8], objects: &[Record], out: &mut Vec<u8>) -> Resul
     Ok(())
 }
 
-/// What stands behind the number of a class.
+/// What stands after the number of a class.
 fn only_text(only: bool) -> &'static [u8]
     ensures { result.now ≡ spec.only_text only }
 {

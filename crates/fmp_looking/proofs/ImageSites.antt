@@ -1,11 +1,11 @@
 -- The code of an image is short enough for the places of its calls.
 use Rattle.std.proofs.Common.{ℕ, zero, suc, ◌≤◌, List, [], ◌∷◌, length, arith}
 use Rattle.fmp_image_bytes.specs.Images.{ImageTables, IsImage}
-use Rattle.fmp_image_parts.specs.declared.heads.BodyHead.{BodyHead}
-use Rattle.fmp_image_parts.specs.Bodies.{IsBody}
-use Rattle.fmp_image_parts.specs.Pairs.{AllPairs}
+use Rattle.fmp_image_bytes.specs.declared.heads.BodyHead.{BodyHead}
+use Rattle.fmp_image_bytes.specs.Bodies.{IsBody}
+use Rattle.fmp_image_bytes.specs.Pairs.{AllPairs}
 use Rattle.fmp_instructions.specs.Instructions.{BodyTables, instructions_at}
-use Rattle.fmp_places.specs.Sites.{HasSites}
+use Rattle.fmp_frames.specs.Sites.{HasSites}
 
 sized : (version : ℕ) (heads : List BodyHead) (code : List BodyTables) → AllPairs (IsBody version) heads code
     → (body : ℕ) → length (instructions_at code body) ≤ 65535

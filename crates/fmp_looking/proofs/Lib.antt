@@ -1,2 +1,8 @@
+mod BranchLemmas
+pub mod CoveredLines
+pub mod Failed
 pub mod Fresh
+mod HeardLemmas
 pub mod ImageSites
+mod MarkLemmas
+mod TrialRuns

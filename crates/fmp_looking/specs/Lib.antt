@@ -1,7 +1,17 @@
+pub mod Asked
+pub mod Branches
 pub mod Called
+pub mod Coverage
+pub mod Covered
 pub mod Drives
 pub mod Exits
 pub mod Expects
+pub mod Judgements
+pub mod Marks
+pub mod Observed
 pub mod OpenSystems
 pub mod Refused
+pub mod Tables
+pub mod TestRecords
+pub mod Tested
 pub mod Traces

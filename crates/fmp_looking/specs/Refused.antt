@@ -5,12 +5,12 @@ use Rattle.fmp_base.specs.declared.events.Event.{Event}
 use Rattle.fmp_image_bytes.specs.Images.{ImageTables}
 use Rattle.fmp_instructions.specs.Instructions.{BodyTables}
 use Rattle.fmp_instructions.specs.Machine.{code_meaning}
-use Rattle.fmp_places.specs.declared.calls.CallPlace.{CallPlace}
-use Rattle.fmp_places.specs.Answers.{answers_in}
-use Rattle.fmp_places.specs.Made.{site_place}
-use Rattle.fmp_places.specs.declared.lines.LineForm.{LineForm}
-use Rattle.fmp_places.specs.RefusalLines.{refused_line}
-use Rattle.fmp_places.specs.Refusals.{Refused, refused_calls}
+use Rattle.fmp_frames.specs.declared.call_places.CallPlace.{CallPlace}
+use Rattle.fmp_frames.specs.Answers.{answers_in}
+use Rattle.fmp_frames.specs.Made.{site_place}
+use Rattle.fmp_frames.specs.declared.placed_lines.LineForm.{LineForm}
+use Rattle.fmp_frames.specs.RefusalLines.{refused_line}
+use Rattle.fmp_frames.specs.Refusals.{Refused, refused_calls}
 use Rattle.fmp_replay.specs.Replays.{kernel_after}
 
 -- the calls of a run of an image that are refused

@@ -17,12 +17,12 @@ use Rattle.fmp_warnings.specs.declared.verdicts.Form.TheVariants as form
 use Rattle.fmp_looking.specs.declared.tracing.Tracer.{Tracer}
 use Rattle.fmp_image_bytes.specs.Images.{ImageTables}
 use Rattle.fmp_instructions.specs.Machine.{code_meaning}
-use Rattle.fmp_places.specs.declared.calls.CallPlace.{CallPlace}
-use Rattle.fmp_places.specs.declared.lines.LineForm.{LineForm}
-use Rattle.fmp_places.specs.declared.lines.LineForm.TheVariants as written
-use Rattle.fmp_places.specs.Lines.{placed}
-use Rattle.fmp_places.specs.Made.{places_made}
-use Rattle.fmp_places.specs.Places.{AreCallsOf}
+use Rattle.fmp_frames.specs.declared.call_places.CallPlace.{CallPlace}
+use Rattle.fmp_frames.specs.declared.placed_lines.LineForm.{LineForm}
+use Rattle.fmp_frames.specs.declared.placed_lines.LineForm.TheVariants as written
+use Rattle.fmp_frames.specs.PlacedLines.{placed}
+use Rattle.fmp_frames.specs.Made.{places_made}
+use Rattle.fmp_frames.specs.CallPlaces.{AreCallsOf}
 use Rattle.fmp_replay.specs.Replays.{kernel_after}
 
 -- the form of a line that says where its call stands

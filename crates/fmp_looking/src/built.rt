@@ -1,25 +1,28 @@
 //! A run of a system that is built from its texts in memory.
-ghost use Rattle.std.specs.Prelude.{◌≡◌, ◌≤◌, ◌^◌, [], IfOk, length};
-ghost use Rattle.fmp_coming.specs.Comings.{reaction_of};
+ghost use Rattle.std.specs.Prelude.{◌≡◌, ◌≤◌, ◌∷◌, ◌^◌, [], IfOk, length, true};
+ghost use Rattle.fmp_kernel.specs.Comings.{reaction_of};
 ghost use Rattle.fmp_image.specs.Building.{Builds};
 ghost use Rattle.fmp_instructions.specs.Machine.{code_meaning};
 ghost use Rattle.fmp_replay.specs.Replays.{kernel_after};
+ghost use Rattle.fmp_looking.specs.Covered.{IsCoverage, IsLcov};
 ghost use Rattle.fmp_looking.specs.Traces.{AreShown, IsTrace};
 
 use crate::commands::{DriveEnding, RunOutput, output_of};
+use crate::covering::{run_coverage, run_tracefile};
 use crate::driving::driven;
 use crate::open_image::OpenImage;
 use crate::opening::events_of;
 use crate::placing::placed;
+use crate::refused::NamedText;
 use crate::tracing::trace_of;
 use crate::why::why_of;
-use fmp_arguments::{kept_bound, kept_events};
+use fmp_arguments::kept_events;
 use fmp_base::Event;
 use fmp_engine::SimFault;
+use fmp_frames::CallPlace;
 use fmp_image::build;
 use fmp_image_bytes::Image;
 use fmp_lex::BuildFault;
-use fmp_places::CallPlace;
 use fmp_warnings::Form;
 use std::alloc::{AllocError, Global};
 
@@ -31,11 +34,15 @@ pub struct Running {
     pub calls: bool,
     /// Whether the lines of a trace say where their calls stand; objects of JSON always do.
     pub places: bool,
+    /// Whether a table of what calls and branches come to is made.
+    pub coverage: bool,
+    /// Whether a tracefile of lcov is made.
+    pub lcov: bool,
     /// How many events are done at most where there are no steps, 0 to 2^20.
     pub events: u32,
     /// Whether processors go at random there, and by which number.
     pub seed: Option<u64>,
-    /// The bound of a stretch, 1 to 2^48.
+    /// The bound of a stretch.
     pub bound: u64,
 }
 
@@ -57,6 +64,10 @@ pub struct Traced {
     pub ending: Option<DriveEnding>,
     /// What each task waits or spins for at the end.
     pub why: Vec<u8>,
+    /// The tracefile of lcov; empty if it is not asked for.
+    pub tracefile: Vec<u8>,
+    /// The table of what calls and branches come to; empty if it is not asked for.
+    pub coverage: Vec<u8>,
 }
 
 /// Steps, and how their drive ended if they were driven.
@@ -86,8 +97,6 @@ fn image_trace(
     events: &[Event],
     n: u64,
 ) -> Result<Vec<u8>, AllocError>
-    requires low { 1 ≤ n }
-    requires high { n ≤ 2 ^ 48 }
     requires few { length events.now ≤ 2 ^ 20 }
     ensures { IfOk result (λ out. IsTrace form image.now.system places.now code_meaning (reaction_of code_meaning)
         (kernel_after image.now n []) events.now out.items) }
@@ -100,13 +109,7 @@ fn image_trace(
 fn driven_events(alloc: Global, image: &Image, run: Running) -> Result<Stepped, AllocError>
     ensures { IfOk result (λ s. length s.events.items ≤ 2 ^ 20) }
 {
-    let drive = driven(
-        alloc,
-        image,
-        kept_events(run.events),
-        run.seed,
-        kept_bound(run.bound),
-    )?;
+    let drive = driven(alloc, image, kept_events(run.events), run.seed, run.bound)?;
     let next = drive.next;
     let ending = DriveEnding {
         stop: drive.driven.stop,
@@ -161,8 +164,6 @@ fn shown_places(
     run: Running,
     bound: u64,
 ) -> Result<Vec<Option<CallPlace>>, AllocError>
-    requires low { 1 ≤ bound }
-    requires high { bound ≤ 2 ^ 48 }
     requires few { length events.now ≤ 2 ^ 20 }
     ensures { IfOk result (λ made. AreShown run.form run.places src.now image.now bound events.now made.items) }
 {
@@ -188,7 +189,7 @@ fn printed(
 ) -> Result<Vec<u8>, AllocError>
     requires { length events.now ≤ 2 ^ 20 }
 {
-    let bound = kept_bound(run.bound);
+    let bound = run.bound;
     if run.calls {
         return output_of(
             alloc,
@@ -201,23 +202,66 @@ fn printed(
     image_trace(alloc, run.form, &places, image, events, bound)
 }
 
+/// The tracefile of lcov of what a run of an image comes to in this text of its bodies, if it is asked for; else empty.
+fn tracefile_for(
+    alloc: Global,
+    image: &Image,
+    source: NamedText<'_>,
+    events: &[Event],
+    run: Running,
+) -> Result<Vec<u8>, AllocError>
+    requires few { length events.now ≤ 2 ^ 20 }
+    ensures { run.lcov ≡ true → IfOk result (λ out. IsLcov source.entry.name.now source.entry.text.now image.now
+        run.bound (events.now ∷ []) out.items) }
+{
+    if run.lcov {
+        run_tracefile(alloc, image, source, events, run.bound)
+    } else {
+        Ok(Vec::new(alloc))
+    }
+}
+
+/// The table of what the calls and branches of this text of its bodies come to in a run of an image, if it is asked
+/// for; else empty.
+fn coverage_for(
+    alloc: Global,
+    image: &Image,
+    source: NamedText<'_>,
+    events: &[Event],
+    run: Running,
+) -> Result<Vec<u8>, AllocError>
+    requires few { length events.now ≤ 2 ^ 20 }
+    ensures { run.coverage ≡ true → IfOk result (λ out. IsCoverage source.entry.name.now source.entry.text.now
+        image.now run.bound (events.now ∷ []) out.items) }
+{
+    if run.coverage {
+        run_coverage(alloc, image, source, events, run.bound)
+    } else {
+        Ok(Vec::new(alloc))
+    }
+}
+
 /// What is printed of a run of an image over steps.
 fn traced_over(
     alloc: Global,
     image: &Image,
-    src: &[u8],
+    source: NamedText<'_>,
     stepped: &Stepped,
     run: Running,
 ) -> Result<Traced, AllocError>
     requires { length stepped.now.events.items ≤ 2 ^ 20 }
 {
-    let text = printed(alloc, image, src, &stepped.events, run)?;
+    let text = printed(alloc, image, source.text, &stepped.events, run)?;
     let opened = OpenImage::new(image, run.bound);
     let why = why_of(alloc, &opened, &stepped.events)?;
+    let tracefile = tracefile_for(alloc, image, source, &stepped.events, run)?;
+    let coverage = coverage_for(alloc, image, source, &stepped.events, run)?;
     Ok(Traced {
         text,
         ending: stepped.ending,
         why,
+        tracefile,
+        coverage,
     })
 }
 
@@ -225,24 +269,24 @@ fn traced_over(
 fn traced_image(
     alloc: Global,
     image: &Image,
-    src: &[u8],
+    source: NamedText<'_>,
     steps: Option<&[u8]>,
     run: Running,
 ) -> Result<Traced, NoTrace> {
     let stepped = steps_for(alloc, image, steps, run)?;
-    traced_over(alloc, image, src, &stepped, run).map_err(|_| NoTrace::Memory)
+    traced_over(alloc, image, source, &stepped, run).map_err(|_| NoTrace::Memory)
 }
 
 /// What is printed of a run of the system of two texts: over a steps text, or of a drive where there is none.
 pub fn traced_texts(
     alloc: Global,
     cfg: &[u8],
-    src: &[u8],
+    source: NamedText<'_>,
     steps: Option<&[u8]>,
     run: Running,
 ) -> Result<Traced, NoTrace> {
-    let image = built(alloc, cfg, src)?;
-    let traced = traced_image(alloc, &image, src, steps, run);
+    let image = built(alloc, cfg, source.text)?;
+    let traced = traced_image(alloc, &image, source, steps, run);
     drop(image);
     traced
 }

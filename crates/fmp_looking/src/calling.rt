@@ -5,9 +5,8 @@ ghost use Rattle.fmp_frames.specs.Shown.{WasShown};
 ghost use Rattle.fmp_looking.specs.Called.{begins_called};
 
 use fmp_base::System;
-use fmp_coming::Coming;
 use fmp_frames::{Frame, ToldCalls, Viewer, append_calls, last_frame, show_all};
-use fmp_kernel::{Body, Kernel};
+use fmp_kernel::{Body, Coming, Kernel};
 use std::alloc::{AllocError, Global};
 
 /// The calls of a run so far.
@@ -41,20 +40,16 @@ impl Viewer for CallView {
 fn called<B: Body, T: Coming<B>>(
     alloc: Global,
     kernel: &mut Kernel<B>,
-    body: &B,
-    n: u64,
     events: &[T],
 ) -> Result<CallView, AllocError>
     requires few { kernel.old.taken + length events.now ≤ 2 ^ 31 }
-    requires body { body.now ≡ kernel.old.body }
-    requires bound { n ≡ kernel.old.bound }
     ensures { IfOk result (λ called. WasShown (λ x f. told_of x.calls ≡ begins_called (length f.states))
         ⟦<CallView as Viewer>⟧.shown B.meaning T.reaction kernel.old events.now called) }
 {
-    let setup = last_frame(alloc, kernel, body, n)?;
+    let setup = last_frame(alloc, kernel)?;
     let mut called = CallView::new(alloc, &setup)?;
     drop(setup);
-    show_all(alloc, kernel, body, n, events, &mut called)?;
+    show_all(alloc, kernel, events, &mut called)?;
     Ok(called)
 }
 
@@ -64,15 +59,11 @@ pub fn calls_on<B: Body, T: Coming<B>>(
     alloc: Global,
     sys: &System,
     kernel: &mut Kernel<B>,
-    body: &B,
-    n: u64,
     events: &[T],
 ) -> Result<Vec<u8>, AllocError>
     requires few { kernel.old.taken + length events.now ≤ 2 ^ 31 }
-    requires body { body.now ≡ kernel.old.body }
-    requires bound { n ≡ kernel.old.bound }
 {
-    let called = called(alloc, kernel, body, n, events)?;
+    let called = called(alloc, kernel, events)?;
     let mut out = Vec::new(alloc);
     append_calls(alloc, sys, &called.calls, &mut out)?;
     Ok(out)

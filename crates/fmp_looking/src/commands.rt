@@ -13,15 +13,14 @@ use crate::opened::Opened;
 use crate::opening::image_of;
 use crate::stats_records::append_tally_records;
 use crate::why::why_of;
-use fmp_arguments::{kept_bound, kept_events};
+use fmp_arguments::kept_events;
 use fmp_base::System;
-use fmp_coming::Coming;
 use fmp_diagnosis::{explain, topic_asked};
 use fmp_drive::{DriveStop, NextRun};
 use fmp_engine::SimFault;
 use fmp_frames::{Tallies, Viewer, Waves, last_frame, show_all};
 use fmp_image_bytes::Image;
-use fmp_kernel::{Body, Kernel};
+use fmp_kernel::{Body, Coming, Kernel};
 use fmp_trace::print_steps;
 use fmp_warnings::Form;
 use std::alloc::{AllocError, Global};
@@ -70,7 +69,7 @@ fn driven_text(
     seed: Option<u64>,
     bound: u64,
 ) -> Result<DrivenText, AllocError> {
-    let drive = driven(alloc, image, kept_events(events), seed, kept_bound(bound))?;
+    let drive = driven(alloc, image, kept_events(events), seed, bound)?;
     let mut steps = Vec::new(alloc);
     print_steps(&drive.driven.steps, &mut steps)?;
     let why = why_of(alloc, &OpenImage::new(image, bound), &drive.driven.steps)?;
@@ -103,20 +102,16 @@ pub fn steps(
 fn tallied<B: Body, T: Coming<B>>(
     alloc: Global,
     kernel: &mut Kernel<B>,
-    body: &B,
-    n: u64,
     events: &[T],
 ) -> Result<Tallies, AllocError>
     requires few { kernel.old.taken + length events.now ≤ 2 ^ 31 }
-    requires body { body.now ≡ kernel.old.body }
-    requires bound { n ≡ kernel.old.bound }
     ensures { IfOk result (λ tallies. WasShown (λ x f. counts_of x ≡ first_counts f)
         ⟦<Tallies as Viewer>⟧.shown B.meaning T.reaction kernel.old events.now tallies) }
 {
-    let setup = last_frame(alloc, kernel, body, n)?;
+    let setup = last_frame(alloc, kernel)?;
     let mut tallies = Tallies::new(alloc, &setup)?;
     drop(setup);
-    show_all(alloc, kernel, body, n, events, &mut tallies)?;
+    show_all(alloc, kernel, events, &mut tallies)?;
     Ok(tallies)
 }
 
@@ -141,15 +136,11 @@ fn table_on<B: Body, T: Coming<B>>(
     form: Form,
     sys: &System,
     kernel: &mut Kernel<B>,
-    body: &B,
-    n: u64,
     events: &[T],
 ) -> Result<Vec<u8>, AllocError>
     requires few { kernel.old.taken + length events.now ≤ 2 ^ 31 }
-    requires body { body.now ≡ kernel.old.body }
-    requires bound { n ≡ kernel.old.bound }
 {
-    let tallies = tallied(alloc, kernel, body, n, events)?;
+    let tallies = tallied(alloc, kernel, events)?;
     let mut out = Vec::new(alloc);
     append_tallies(alloc, form, sys, &tallies, &mut out)?;
     Ok(out)
@@ -161,20 +152,16 @@ fn waved<B: Body, T: Coming<B>>(
     alloc: Global,
     sys: &System,
     kernel: &mut Kernel<B>,
-    body: &B,
-    n: u64,
     events: &[T],
 ) -> Result<Waves, AllocError>
     requires few { kernel.old.taken + length events.now ≤ 2 ^ 31 }
-    requires body { body.now ≡ kernel.old.body }
-    requires bound { n ≡ kernel.old.bound }
     ensures { IfOk result (λ waves. WasShown (λ x f. x.values.items ≡ values_of f x.variables.items)
         ⟦<Waves as Viewer>⟧.shown B.meaning T.reaction kernel.old events.now waves) }
 {
-    let setup = last_frame(alloc, kernel, body, n)?;
+    let setup = last_frame(alloc, kernel)?;
     let mut waves = Waves::new(alloc, sys, &setup)?;
     drop(setup);
-    show_all(alloc, kernel, body, n, events, &mut waves)?;
+    show_all(alloc, kernel, events, &mut waves)?;
     Ok(waves)
 }
 
@@ -184,15 +171,11 @@ fn dump_on<B: Body, T: Coming<B>>(
     alloc: Global,
     sys: &System,
     kernel: &mut Kernel<B>,
-    body: &B,
-    n: u64,
     events: &[T],
 ) -> Result<Vec<u8>, AllocError>
     requires few { kernel.old.taken + length events.now ≤ 2 ^ 31 }
-    requires body { body.now ≡ kernel.old.body }
-    requires bound { n ≡ kernel.old.bound }
 {
-    waved(alloc, sys, kernel, body, n, events)?.finish()
+    waved(alloc, sys, kernel, events)?.finish()
 }
 
 /// What is made of a run.
@@ -212,19 +195,15 @@ fn output_on<B: Body, T: Coming<B>>(
     alloc: Global,
     sys: &System,
     kernel: &mut Kernel<B>,
-    body: &B,
-    n: u64,
     events: &[T],
     output: RunOutput,
 ) -> Result<Vec<u8>, AllocError>
     requires few { kernel.old.taken + length events.now ≤ 2 ^ 31 }
-    requires body { body.now ≡ kernel.old.body }
-    requires bound { n ≡ kernel.old.bound }
 {
     match output {
-        RunOutput::Table(form) => table_on(alloc, form, sys, kernel, body, n, events),
-        RunOutput::Dump => dump_on(alloc, sys, kernel, body, n, events),
-        RunOutput::Calls => calls_on(alloc, sys, kernel, body, n, events),
+        RunOutput::Table(form) => table_on(alloc, form, sys, kernel, events),
+        RunOutput::Dump => dump_on(alloc, sys, kernel, events),
+        RunOutput::Calls => calls_on(alloc, sys, kernel, events),
     }
 }
 
@@ -239,17 +218,7 @@ pub fn output_of<O: Opened, T: Coming<O::Bodies>>(
     requires { length events.now ≤ 2 ^ 31 }
 {
     let mut kernel = opened.kernel(alloc)?;
-    let bodies = opened.bodies();
-    let made = output_on(
-        alloc,
-        opened.system(),
-        &mut kernel,
-        &bodies,
-        opened.bound(),
-        events,
-        output,
-    );
-    drop(bodies);
+    let made = output_on(alloc, opened.system(), &mut kernel, events, output);
     drop(kernel);
     made
 }

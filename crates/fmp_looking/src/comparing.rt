@@ -8,9 +8,9 @@ use crate::open_image::OpenImage;
 use crate::open_system::OpenSystem;
 use crate::opened::Opened;
 use crate::opening::{events_for, image_of};
-use fmp_coming::Coming;
+use fmp_frames::{ToldRun, append_difference, count_up_to, first_difference, told_on};
 use fmp_image_bytes::Image;
-use fmp_watch::{ToldRun, append_difference, count_up_to, first_difference, told_on};
+use fmp_kernel::Coming;
 use std::alloc::{AllocError, Global};
 
 /// What is told of a run of a system.
@@ -23,16 +23,7 @@ fn told_of<'a, O: Opened, T: Coming<O::Bodies>>(
     requires { length events.now ≤ 2 ^ 31 }
 {
     let mut kernel = opened.kernel(alloc)?;
-    let bodies = opened.bodies();
-    let told = told_on(
-        alloc,
-        opened.system(),
-        &mut kernel,
-        &bodies,
-        opened.bound(),
-        events,
-    );
-    drop(bodies);
+    let told = told_on(alloc, opened.system(), &mut kernel, events);
     drop(kernel);
     told
 }

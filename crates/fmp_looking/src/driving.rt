@@ -64,7 +64,7 @@ fn drive_on<'a>(
     ensures { IfOk result (λ d. DrivesImage image.now n events d) }
 {
     let driven = driven_on(alloc, kernel, image.system(), events, seed)?;
-    let next = next_runs(kernel, &image.vm(), n);
+    let next = next_runs(kernel);
     Ok(Drive { driven, next })
 }
 
@@ -77,8 +77,6 @@ pub fn driven(
     seed: Option<u64>,
     n: u64,
 ) -> Result<Drive, AllocError>
-    requires low { 1 ≤ n }
-    requires high { n ≤ 2 ^ 48 }
     requires few { events ≤ 2 ^ 20 }
     ensures { IfOk result (λ d. DrivesImage image.now n events d) }
 {

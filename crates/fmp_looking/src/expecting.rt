@@ -10,22 +10,21 @@ use crate::flaws::flaw_text;
 use crate::looking::RunLook;
 use crate::opened::Opened;
 use fmp_base::{Line, System};
-use fmp_coming::Coming;
 use fmp_expect::{
     BrokenExpectation, Checker, ExpectFault, ExpectationFlaw, Expected, read_expectations, tell_run,
 };
-use fmp_kernel::{Body, Kernel};
+use fmp_kernel::{Body, Coming, Kernel};
 use fmp_named::append_lines;
 use fmp_trials::verdict_at_end;
 use std::alloc::{AllocError, Global};
 
 /// What a run comes to, where something is expected of it.
 #[derive(Drop)]
-struct Verdict {
+pub struct Verdict {
     /// The first expectation that it breaks.
-    broken: Option<BrokenExpectation>,
+    pub broken: Option<BrokenExpectation>,
     /// The lines of the expectations that say nothing of it, since what they speak of never comes.
-    empty: Vec<usize>,
+    pub empty: Vec<usize>,
 }
 
 /// What a run of a kernel comes to, where this is expected of it.
@@ -46,15 +45,19 @@ fn verdict_on<B: Body, T: Coming<B>>(
     Ok(Verdict { broken, empty })
 }
 
-/// What a run of a system comes to, where this is expected of it.
+/// What a run of a system comes to, where this is expected of it. `AllocError` if memory runs out.
 #[tactic(none)]
-fn verdict_of<O: Opened, T: Coming<O::Bodies>>(
+pub fn verdict_of<O: Opened, T: Coming<O::Bodies>>(
     alloc: Global,
     opened: &O,
     events: &[T],
     expected: &[Expected],
 ) -> Result<Verdict, AllocError>
     requires { length events.now ≤ 2 ^ 31 }
+    ensures broken { IfOk result (λ v.
+        v.broken ≡ verdict T.reaction (O.start opened.now) events.now expected.now) }
+    ensures empty { IfOk result (λ v.
+        v.empty.items ≡ empty_claims T.reaction (O.start opened.now) events.now expected.now) }
 {
     let mut kernel = opened.kernel(alloc)?;
     let verdict = verdict_on(alloc, &mut kernel, events, expected);
@@ -86,9 +89,9 @@ fn lines_text(
     Ok(out)
 }
 
-/// The lines of the event of this number, with the names of objects.
+/// The lines of the event of this number, with the names of objects. `AllocError` if memory runs out.
 #[tactic(none)]
-fn event_text<O: Opened, T: Coming<O::Bodies>>(
+pub fn event_text<O: Opened, T: Coming<O::Bodies>>(
     alloc: Global,
     opened: &O,
     events: &[T],
@@ -104,7 +107,7 @@ fn event_text<O: Opened, T: Coming<O::Bodies>>(
 }
 
 /// The line of this number of a text, from 1, without its line feed.
-fn line_of(text: &[u8], number: usize) -> &[u8] {
+pub fn line_of(text: &[u8], number: usize) -> &[u8] {
     let mut lines = text.split(|byte| *byte == b'\n');
     match lines.nth(number.saturating_sub(1)) {
         Some(line) => line,
@@ -209,8 +212,8 @@ fn flawed(
     }
 }
 
-/// The expectations of a text for a system. The reason to give none is the first faulty line of the text, or that memory
-/// runs out.
+/// The expectations of a text for a system. The reason to give none is the first faulty line of the text, or that
+/// memory runs out.
 pub fn expected_of(alloc: Global, sys: &System, text: &[u8]) -> Result<Vec<Expected>, ViewExit>
     ensures { IfOk result (λ xs. expectations_of (tables_of sys.now) text.now ≡ Ok xs.items) }
 {

@@ -2,12 +2,12 @@
 use fmp_arguments::{add_deeds, add_name, add_tasks, question_text};
 use fmp_base::{Name, System};
 use fmp_diagnosis::nearest;
-use fmp_expect::{ExpectationFlaw, Expects, STATES, faulty_word, state_name};
+use fmp_expect::{ExpectationFlaw, Expects, STATES, faulty_word};
 use std::alloc::{AllocError, Global};
 
 fn add_states(known: &mut Vec<Name>) -> Result<(), AllocError> {
     for state in STATES {
-        add_name(known, state_name(state))?;
+        add_name(known, state.name())?;
     }
     Ok(())
 }

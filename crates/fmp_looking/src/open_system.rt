@@ -53,14 +53,6 @@ impl Opened for OpenSystem {
         &self.system
     }
 
-    fn bodies(&self) -> Foreign {
-        Foreign
-    }
-
-    fn bound(&self) -> u64 {
-        1
-    }
-
     fn kernel(&self, alloc: Global) -> Result<Kernel<Foreign>, AllocError> {
         match Kernel::new(alloc, Foreign, &self.system, 1) {
             Ok(kernel) => Ok(kernel),

@@ -19,14 +19,6 @@ pub trait Opened {
     fn system(&self) -> &System
         ensures { tables_of result.now ≡ (start self.now).system };
 
-    /// Its bodies.
-    fn bodies(&self) -> Self::Bodies
-        ensures { result ≡ (start self.now).body };
-
-    /// The bound of a stretch.
-    fn bound(&self) -> u64
-        ensures { result ≡ (start self.now).bound };
-
     /// Its kernel after setup, which has taken nothing yet. `AllocError` if memory runs out.
     fn kernel(&self, alloc: Global) -> Result<Kernel<Self::Bodies>, AllocError>
         ensures start { IfOk result (λ kernel. kernel ≡ start self.now) }

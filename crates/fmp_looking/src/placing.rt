@@ -1,6 +1,6 @@
 //! Where the calls of a run stand in the text of its bodies.
 ghost use Rattle.std.specs.Prelude.{◌≡◌, ◌≤◌, ◌^◌, [], IfOk, length};
-ghost use Rattle.fmp_places.specs.Made.{places_made as made_by};
+ghost use Rattle.fmp_frames.specs.Made.{places_made as made_by};
 ghost use Rattle.fmp_replay.specs.Replays.{kernel_after};
 ghost use Rattle.fmp_instructions.specs.Machine.{code_meaning};
 ghost use Rattle.fmp_looking.specs.Traces.{ArePlaced};
@@ -8,12 +8,11 @@ ghost use Rattle.fmp_looking.specs.Traces.{ArePlaced};
 use crate::exit::{ViewExit, memory};
 use crate::kinds::exit_over;
 use crate::opening::{events_for, image_of};
-use fmp_arguments::kept_bound;
 use fmp_base::{Event, Line};
 use fmp_code::Vm;
+use fmp_frames::{CallPlace, CallPlaces, CodePlaces, places_made};
 use fmp_image_bytes::Image;
 use fmp_kernel::Kernel;
-use fmp_places::{CallPlace, CallPlaces, CodePlaces, places_made};
 use fmp_replay::kernel_of;
 use std::alloc::{AllocError, Global};
 
@@ -37,20 +36,18 @@ fn places_on<'a>(
         code: image.code(),
         places,
     };
-    places_made(alloc, kernel, &image.vm(), n, text, events)
+    places_made(alloc, kernel, text, events)
 }
 
 /// The same on a new kernel of the image.
 #[tactic(none)]
-fn places_over(
+pub fn places_over(
     alloc: Global,
     image: &Image,
     n: u64,
     places: &CallPlaces,
     events: &[Event],
 ) -> Result<Vec<Option<CallPlace>>, AllocError>
-    requires low { 1 ≤ n }
-    requires high { n ≤ 2 ^ 48 }
     requires few { length events.now ≤ 2 ^ 20 }
     ensures { IfOk result (λ made. made.items
         ≡ made_by code_meaning image.now.code places.now (kernel_after image.now n []) events.now) }
@@ -71,8 +68,6 @@ pub fn placed(
     events: &[Event],
     n: u64,
 ) -> Result<Vec<Option<CallPlace>>, AllocError>
-    requires low { 1 ≤ n }
-    requires high { n ≤ 2 ^ 48 }
     requires few { length events.now ≤ 2 ^ 20 }
     ensures { IfOk result (λ made. ArePlaced src.now image.now n events.now made.items) }
 {
@@ -131,7 +126,7 @@ fn placed_over(
     {
         return Err(ViewExit::OtherText);
     }
-    places_over(alloc, image, kept_bound(bound), &places, &events).map_err(|error| memory(error))
+    places_over(alloc, image, bound, &places, &events).map_err(|error| memory(error))
 }
 
 /// Where the calls of a run of the image of these bytes over a steps text stand in this text of its bodies, for each

@@ -4,11 +4,9 @@ ghost use Rattle.fmp_timeline.specs.Shown as spec;
 
 use crate::placing::{place_at, with_place};
 use fmp_base::System;
-use fmp_frames::{Frame, Viewer};
-use fmp_places::CallPlace;
+use fmp_frames::{CallPlace, Frame, IdleTurn, Viewer};
 use fmp_timeline::{Moment, Run, TaskShown, tasks_shown};
 use fmp_trace::print;
-use fmp_watch::IdleTurn;
 use std::alloc::{AllocError, Global};
 
 /// What is recorded of a run beside its frames.

@@ -1,25 +1,24 @@
 //! The calls of a run that are refused.
-ghost use Rattle.std.specs.Prelude.{◌≡◌, ◌≤◌, ◌^◌, ◌++◌, [], IfOk, OnOk, length, map};
+ghost use Rattle.std.specs.Prelude.{◌≡◌, ◌+◌, ◌≤◌, ◌^◌, ◌++◌, [], IfOk, OnOk, length, map};
 ghost use Rattle.fmp_instructions.specs.Instructions.{code_tables};
 ghost use Rattle.fmp_instructions.specs.Machine.{code_meaning};
 ghost use Rattle.fmp_looking.specs.Refused.{refused_in, refused_lines};
-ghost use Rattle.fmp_places.specs.Answers.{answers_in as answers_by};
-ghost use Rattle.fmp_places.specs.Refusals.{refused_of};
+ghost use Rattle.fmp_frames.specs.Answers.{answers_in as answers_by};
+ghost use Rattle.fmp_frames.specs.Refusals.{refused_of};
 ghost use Rattle.fmp_replay.specs.Replays.{kernel_after};
 
 use crate::exit::{ViewExit, memory};
 use crate::kinds::exit_over;
 use crate::opening::{events_for, image_of};
 use crate::tracing::line_form;
-use fmp_arguments::kept_bound;
 use fmp_base::Event;
 use fmp_code::Vm;
-use fmp_image_bytes::Image;
-use fmp_kernel::Kernel;
-use fmp_places::{
+use fmp_frames::{
     CallPlaces, CodePlaces, LineForm, RefusedCall, SiteAnswer, answers_in, append_refused,
     refused_calls,
 };
+use fmp_image_bytes::Image;
+use fmp_kernel::Kernel;
 use fmp_replay::kernel_of;
 use fmp_warnings::Form;
 use std::alloc::{AllocError, Global};
@@ -38,21 +37,19 @@ fn task_count(image: &Image) -> usize
     image.system().tasks.len()
 }
 
-/// What the calls of a run are answered on the kernel of an image after setup.
+/// What the calls of a run are answered on a kernel of an image.
 #[tactic(none)]
 fn answers_on<'a>(
     alloc: Global,
     kernel: &mut Kernel<Vm<'a>>,
     image: &'a Image,
-    n: u64,
     events: &[Event],
 ) -> Result<Vec<SiteAnswer>, AllocError>
-    requires kernel { kernel.old ≡ kernel_after image.now n [] }
-    requires few { length events.now ≤ 2 ^ 20 }
+    requires few { kernel.old.taken + length events.now ≤ 2 ^ 31 }
     ensures { IfOk result (λ answers. answers.items
-        ≡ answers_by code_meaning (kernel_after image.now n []) events.now (length image.now.system.tasks)) }
+        ≡ answers_by code_meaning kernel.old events.now (length image.now.system.tasks)) }
 {
-    answers_in(alloc, kernel, &image.vm(), n, events, task_count(image))
+    answers_in(alloc, kernel, events, task_count(image))
 }
 
 /// The same on a new kernel of the image.
@@ -63,14 +60,12 @@ fn answers_over(
     n: u64,
     events: &[Event],
 ) -> Result<Vec<SiteAnswer>, AllocError>
-    requires low { 1 ≤ n }
-    requires high { n ≤ 2 ^ 48 }
     requires few { length events.now ≤ 2 ^ 20 }
     ensures { IfOk result (λ answers. answers.items
         ≡ answers_by code_meaning (kernel_after image.now n []) events.now (length image.now.system.tasks)) }
 {
     let mut kernel = kernel_of(alloc, image, n)?;
-    let answers = answers_on(alloc, &mut kernel, image, n, events);
+    let answers = answers_on(alloc, &mut kernel, image, events);
     drop(kernel);
     answers
 }
@@ -83,8 +78,6 @@ pub fn refused_on(
     n: u64,
     events: &[Event],
 ) -> Result<Vec<RefusedCall>, AllocError>
-    requires low { 1 ≤ n }
-    requires high { n ≤ 2 ^ 48 }
     requires few { length events.now ≤ 2 ^ 20 }
     ensures { IfOk result (λ refused. map refused_of refused.items ≡ refused_in image.now n events.now) }
 {
@@ -119,7 +112,8 @@ fn file_of<'a>(source: Option<NamedText<'a>>) -> &'a [u8] {
     }
 }
 
-/// Appends a line of this form for each call that is refused, where the calls of bodies stand at these places of a file.
+/// Appends a line of this form for each call that is refused, where the calls of bodies stand at these places of a
+/// file.
 fn append_all(
     alloc: Global,
     form: LineForm,
@@ -148,8 +142,6 @@ fn lines_on(
     n: u64,
     events: &[Event],
 ) -> Result<Vec<u8>, AllocError>
-    requires low { 1 ≤ n }
-    requires high { n ≤ 2 ^ 48 }
     requires few { length events.now ≤ 2 ^ 20 }
     ensures { IfOk result (λ out. out.items ≡ refused_lines form file.now image.now.code places.now
         (refused_in image.now n events.now)) }
@@ -181,7 +173,7 @@ fn lines_over(
         file_of(source),
         &places,
         image,
-        kept_bound(bound),
+        bound,
         &events,
     )
     .map_err(|error| memory(error))

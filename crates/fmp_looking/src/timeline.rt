@@ -8,15 +8,12 @@ use crate::looking::{RunLook, known_of};
 use crate::opened::Opened;
 use crate::recording::{Beside, Recorder};
 use fmp_base::System;
-use fmp_coming::Coming;
 use fmp_drawing::{DrawFault, MOST_BYTES, draw_timed};
 use fmp_engine::SimFault;
-use fmp_frames::{Viewer, last_frame, show_all};
-use fmp_kernel::{Body, Kernel};
-use fmp_page::page_of;
-use fmp_places::CallPlace;
+use fmp_frames::{CallPlace, IdleTurn, Viewer, idle_turns, last_frame, show_all};
+use fmp_kernel::{Body, Coming, Kernel};
+use fmp_slices::page_of;
 use fmp_timeline::{Choice, PicturePage, Run};
-use fmp_watch::{IdleTurn, idle_turns};
 use std::alloc::{AllocError, Global};
 use thiserror::Error;
 
@@ -80,22 +77,18 @@ fn recorded<'a, B: Body, T: Coming<B>>(
     alloc: Global,
     sys: &'a System,
     kernel: &mut Kernel<B>,
-    body: &B,
-    n: u64,
     events: &[T],
     beside: Beside<'a>,
 ) -> Result<Recorder<'a>, AllocError>
     requires few { kernel.old.taken + length events.now ≤ 2 ^ 31 }
-    requires body { body.now ≡ kernel.old.body }
-    requires bound { n ≡ kernel.old.bound }
     ensures { IfOk result (λ recorder. WasShown
         (λ x f. x.shown.items ≡ tasks_shown f.states f.blocks f.processors)
         ⟦<Recorder<'a> as Viewer>⟧.shown B.meaning T.reaction kernel.old events.now recorder) }
 {
-    let setup = last_frame(alloc, kernel, body, n)?;
+    let setup = last_frame(alloc, kernel)?;
     let mut recorder = Recorder::new(alloc, sys, beside, &setup)?;
     drop(setup);
-    show_all(alloc, kernel, body, n, events, &mut recorder)?;
+    show_all(alloc, kernel, events, &mut recorder)?;
     Ok(recorder)
 }
 
@@ -105,16 +98,12 @@ fn run_on<B: Body, T: Coming<B>>(
     alloc: Global,
     sys: &System,
     kernel: &mut Kernel<B>,
-    body: &B,
-    n: u64,
     events: &[T],
     beside: Beside<'_>,
 ) -> Result<Run, AllocError>
     requires few { kernel.old.taken + length events.now ≤ 2 ^ 31 }
-    requires body { body.now ≡ kernel.old.body }
-    requires bound { n ≡ kernel.old.bound }
 {
-    let recorder = recorded(alloc, sys, kernel, body, n, events, beside)?;
+    let recorder = recorded(alloc, sys, kernel, events, beside)?;
     Ok(recorder.finish())
 }
 
@@ -144,17 +133,7 @@ fn run_with<O: Opened, T: Coming<O::Bodies>>(
     requires { length events.now ≤ 2 ^ 31 }
 {
     let mut kernel = opened.kernel(alloc)?;
-    let bodies = opened.bodies();
-    let run = run_on(
-        alloc,
-        opened.system(),
-        &mut kernel,
-        &bodies,
-        opened.bound(),
-        events,
-        beside,
-    );
-    drop(bodies);
+    let run = run_on(alloc, opened.system(), &mut kernel, events, beside);
     drop(kernel);
     run
 }

@@ -9,9 +9,8 @@ use crate::looking::RunLook;
 use crate::opened::Opened;
 use crate::stats_records::append_response_records;
 use fmp_base::System;
-use fmp_coming::Coming;
 use fmp_frames::{Responses, Timing, Viewer, append_responses, known_times, last_frame, show_all};
-use fmp_kernel::{Body, Kernel};
+use fmp_kernel::{Body, Coming, Kernel};
 use fmp_warnings::Form;
 use std::alloc::{AllocError, Global};
 
@@ -20,21 +19,17 @@ use std::alloc::{AllocError, Global};
 fn timed<'a, B: Body, T: Coming<B>>(
     alloc: Global,
     kernel: &mut Kernel<B>,
-    body: &B,
-    n: u64,
     events: &[T],
     times: &'a [u64],
 ) -> Result<Timing<'a>, AllocError>
     requires few { kernel.old.taken + length events.now ≤ 2 ^ 31 }
-    requires body { body.now ≡ kernel.old.body }
-    requires bound { n ≡ kernel.old.bound }
     ensures { IfOk result (λ timing. WasShown (λ x f. timed_of x ≡ first_timed times.now f)
         ⟦<Timing<'a> as Viewer>⟧.shown B.meaning T.reaction kernel.old events.now timing) }
 {
-    let setup = last_frame(alloc, kernel, body, n)?;
+    let setup = last_frame(alloc, kernel)?;
     let mut timing = Timing::new(alloc, times, &setup)?;
     drop(setup);
-    show_all(alloc, kernel, body, n, events, &mut timing)?;
+    show_all(alloc, kernel, events, &mut timing)?;
     Ok(timing)
 }
 
@@ -76,16 +71,12 @@ fn responses_on<B: Body, T: Coming<B>>(
     form: Form,
     sys: &System,
     kernel: &mut Kernel<B>,
-    body: &B,
-    n: u64,
     events: &[T],
     times: &[u64],
 ) -> Result<Vec<u8>, AllocError>
     requires few { kernel.old.taken + length events.now ≤ 2 ^ 31 }
-    requires body { body.now ≡ kernel.old.body }
-    requires bound { n ≡ kernel.old.bound }
 {
-    let timing = timed(alloc, kernel, body, n, events, times)?;
+    let timing = timed(alloc, kernel, events, times)?;
     responses_text(alloc, form, sys, &timing)
 }
 
@@ -101,18 +92,7 @@ fn responses_of<O: Opened, T: Coming<O::Bodies>>(
     requires { length events.now ≤ 2 ^ 31 }
 {
     let mut kernel = opened.kernel(alloc)?;
-    let bodies = opened.bodies();
-    let made = responses_on(
-        alloc,
-        form,
-        opened.system(),
-        &mut kernel,
-        &bodies,
-        opened.bound(),
-        events,
-        times,
-    );
-    drop(bodies);
+    let made = responses_on(alloc, form, opened.system(), &mut kernel, events, times);
     drop(kernel);
     made
 }

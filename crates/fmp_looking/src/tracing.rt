@@ -11,11 +11,9 @@ use crate::looking::RunLook;
 use crate::opened::Opened;
 use crate::why::why_of;
 use fmp_base::{System, TaskBlock, TaskState};
-use fmp_coming::Coming;
-use fmp_frames::{Frame, Viewer, last_frame, show_all};
-use fmp_kernel::{Body, Kernel};
+use fmp_frames::{CallPlace, Frame, LineForm, Viewer, append_placed, last_frame, show_all};
+use fmp_kernel::{Body, Coming, Kernel};
 use fmp_named::{append_state_records, append_states};
-use fmp_places::{CallPlace, LineForm, append_placed};
 use fmp_warnings::Form;
 use std::alloc::{AllocError, Global};
 
@@ -155,20 +153,16 @@ fn traced<'a, B: Body, T: Coming<B>>(
     sys: &'a System,
     places: &'a [Option<CallPlace>],
     kernel: &mut Kernel<B>,
-    body: &B,
-    n: u64,
     events: &[T],
 ) -> Result<Tracer<'a>, AllocError>
     requires few { kernel.old.taken + length events.now ≤ 2 ^ 31 }
-    requires body { body.now ≡ kernel.old.body }
-    requires bound { n ≡ kernel.old.bound }
     ensures { IfOk result (λ tracer. WasShown (IsBegun form (tables_of sys.now) places.now)
         ⟦<Tracer<'a> as Viewer>⟧.shown B.meaning T.reaction kernel.old events.now tracer) }
 {
-    let setup = last_frame(alloc, kernel, body, n)?;
+    let setup = last_frame(alloc, kernel)?;
     let mut tracer = Tracer::new(alloc, form, sys, places, &setup)?;
     drop(setup);
-    show_all(alloc, kernel, body, n, events, &mut tracer)?;
+    show_all(alloc, kernel, events, &mut tracer)?;
     Ok(tracer)
 }
 
@@ -180,17 +174,13 @@ fn trace_on<B: Body, T: Coming<B>>(
     sys: &System,
     places: &[Option<CallPlace>],
     kernel: &mut Kernel<B>,
-    body: &B,
-    n: u64,
     events: &[T],
 ) -> Result<Vec<u8>, AllocError>
     requires few { kernel.old.taken + length events.now ≤ 2 ^ 31 }
-    requires body { body.now ≡ kernel.old.body }
-    requires bound { n ≡ kernel.old.bound }
     ensures { IfOk result (λ out. IsTrace form (tables_of sys.now) places.now B.meaning T.reaction kernel.old
         events.now out.items) }
 {
-    let tracer = traced(alloc, form, sys, places, kernel, body, n, events)?;
+    let tracer = traced(alloc, form, sys, places, kernel, events)?;
     tracer.finish(alloc)
 }
 
@@ -209,18 +199,7 @@ pub fn trace_of<O: Opened, T: Coming<O::Bodies>>(
         (O.start opened.now) events.now out.items) }
 {
     let mut kernel = opened.kernel(alloc)?;
-    let bodies = opened.bodies();
-    let trace = trace_on(
-        alloc,
-        form,
-        opened.system(),
-        places,
-        &mut kernel,
-        &bodies,
-        opened.bound(),
-        events,
-    );
-    drop(bodies);
+    let trace = trace_on(alloc, form, opened.system(), places, &mut kernel, events);
     drop(kernel);
     trace
 }

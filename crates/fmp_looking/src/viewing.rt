@@ -6,7 +6,7 @@ use crate::looking::RunLook;
 use crate::opened::Opened;
 use crate::timeline::run_of;
 use fmp_base::System;
-use fmp_coming::Coming;
+use fmp_kernel::Coming;
 use fmp_slices::{Clock, resources, standard_log, trace_events};
 use fmp_timeline::Run;
 use std::alloc::{AllocError, Global};

@@ -5,10 +5,10 @@ use crate::exit::{ViewExit, exit_of, memory};
 use crate::looking::RunLook;
 use crate::opened::Opened;
 use crate::timeline::TimelineFault;
-use fmp_coming::Coming;
+use fmp_frames::count_up_to;
 use fmp_json::{begin, finish, text_member};
+use fmp_kernel::Coming;
 use fmp_warnings::Form;
-use fmp_watch::count_up_to;
 use std::alloc::{AllocError, Global};
 
 /// Why nothing goes on after what came to a system: what each task waits or spins for, and how they stand. `AllocError`
@@ -22,16 +22,7 @@ pub fn why_of<O: Opened, T: Coming<O::Bodies>>(
     requires { length events.now ≤ 2 ^ 31 }
 {
     let mut kernel = opened.kernel(alloc)?;
-    let bodies = opened.bodies();
-    let text = fmp_watch::why(
-        alloc,
-        opened.system(),
-        &mut kernel,
-        &bodies,
-        opened.bound(),
-        events,
-    );
-    drop(bodies);
+    let text = fmp_frames::why(alloc, opened.system(), &mut kernel, events);
     drop(kernel);
     text
 }

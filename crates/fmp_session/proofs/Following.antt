@@ -158,7 +158,7 @@ module _ {B C : Type 0} (meaning : B → Meaning C) where
   cut : (es : List Event) (j : ℕ) (d : Event) → j < length es → drop j es ≡ get_or es j d ∷ drop (j + 1) es
   cut es j d h = rw add-one (drop-cons es j d h)
 
-  -- the event at a place, and those behind it
+  -- the event at a place, and those after it
   pub state_step : (k k' last : KernelView B C) (es : List Event) (j : ℕ) (d : Event) → j < length es
       → k' ≡ view_after k (step k.system (meaning k.body) k.bound k.world (get_or es j d))
       → view_after_all meaning k (drop j es) ≡ last → view_after_all meaning k' (drop (j + 1) es) ≡ last

@@ -5,8 +5,8 @@ use Rattle.std.specs.Option.{option_and_then, option_map, option_or}
 use Rattle.fmp_base.specs.declared.events.Event.{Event}
 use Rattle.fmp_base.specs.declared.events.Event.TheVariants as event
 use Rattle.fmp_base.specs.Names.{name_text}
-use Rattle.fmp_steps.specs.declared.faults.StepsFault.{StepsFault}
-use Rattle.fmp_steps.specs.Steps.{behind, numeral_value, steps_of}
+use Rattle.fmp_trace.specs.declared.faults.StepsFault.{StepsFault}
+use Rattle.fmp_trace.specs.Steps.{behind, numeral_value, steps_of}
 use Rattle.fmp_session.specs.declared.command.Command.{Command}
 use Rattle.fmp_session.specs.declared.command.Command.TheVariants as command
 use Rattle.fmp_session.specs.declared.command.LineMistake.{LineMistake}
@@ -40,7 +40,7 @@ abbrev pub rest_behind : Option ℕ → List ℕ → Option (List ℕ)
 rest_behind None line = None
 rest_behind (Some k) line = Some (drop (k + 1) line)
 
--- what stands behind the first blank of a text, if there is one
+-- what stands after the first blank of a text, if there is one
 abbrev pub rest_of : List ℕ → Option (List ℕ)
 rest_of line = rest_behind (blank_of line) line
 
@@ -48,7 +48,7 @@ abbrev pub or_nothing : Option (List ℕ) → List ℕ
 or_nothing None = []
 or_nothing (Some text) = text
 
--- what stands behind the first blank of a line, or nothing
+-- what stands after the first blank of a line, or nothing
 abbrev pub argument_of : List ℕ → List ℕ
 argument_of line = or_nothing (rest_of line)
 
@@ -93,12 +93,12 @@ number_named name is = only_at name is (place_of name is)
 abbrev pub interrupt_of : List NamedInterrupt → (word : List ℕ) → Option ℕ
 interrupt_of is word = option_or (number_of 32 word) (number_named word is)
 
--- how many, by what stands behind a word: one, or the number that it spells
+-- how many, by what stands after a word: one, or the number that it spells
 abbrev pub count_behind : Option (List ℕ) → Option ℕ
 count_behind None = Some 1
 count_behind (Some text) = count_of text
 
--- how often, by what stands behind an event: once, or K times where it is `xK`
+-- how often, by what stands after an event: once, or K times where it is `xK`
 abbrev pub times_behind : Option (List ℕ) → Option ℕ
 times_behind None = Some 1
 times_behind (Some text) = option_and_then count_of (behind (codes "x") text)
@@ -122,7 +122,7 @@ abbrev pub run_by : Option ℕ → Option ℕ → Result Command LineMistake
 run_by None times = Err mistake.Processor
 run_by (Some p) times = taken (event.Run p) times
 
--- `run` with what stands behind it: a processor, and how often it runs
+-- `run` with what stands after it: a processor, and how often it runs
 abbrev pub run_of : (processors : ℕ) → (text : List ℕ) → Result Command LineMistake
 run_of processors text = run_by (number_of processors (word_of text)) (times_behind (rest_of text))
 
@@ -130,11 +130,11 @@ abbrev pub int_by : Option ℕ → Option ℕ → Result Command LineMistake
 int_by None times = Err mistake.Interrupt
 int_by (Some i) times = taken (event.Int i) times
 
--- `int` with what stands behind it: an interrupt, and how often it is raised
+-- `int` with what stands after it: an interrupt, and how often it is raised
 abbrev pub int_of : List NamedInterrupt → (text : List ℕ) → Result Command LineMistake
 int_of is text = int_by (interrupt_of is (word_of text)) (times_behind (rest_of text))
 
--- a command of one word, with what stands behind it
+-- a command of one word, with what stands after it
 abbrev pub alone : Command → Option (List ℕ) → Result Command LineMistake
 alone c None = Ok c
 alone c (Some rest) = Err mistake.Alone
@@ -154,7 +154,7 @@ abbrev pub state_of : Option (List ℕ) → Result Command LineMistake
 state_of None = Ok command.State
 state_of (Some name) = Ok command.StateOf
 
--- the command by a first word and by what stands behind it, where the line is no event of a steps text
+-- the command by a first word and by what stands after it, where the line is no event of a steps text
 abbrev pub by_word : (processors : ℕ) → List NamedInterrupt → (word : List ℕ) → (rest : Option (List ℕ))
     → Result Command LineMistake
 by_word processors is word rest =
@@ -170,6 +170,7 @@ by_word processors is word rest =
     else if bytes_eq word (codes "until") then until_of (or_nothing rest)
     else if bytes_eq word (codes "help") then alone command.Help rest
     else if bytes_eq word (codes "quit") then alone command.Quit rest
+    else if bytes_eq word (codes "exit") then alone command.Quit rest
     else Err mistake.Unknown
 
 abbrev pub once_or : Option Event → Result Command LineMistake → Result Command LineMistake

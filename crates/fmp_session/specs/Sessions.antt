@@ -6,9 +6,9 @@ use Rattle.fmp_instructions.specs.declared.instructions.MachineContext.{MachineC
 use Rattle.fmp_instructions.specs.Instructions.{BodyTables}
 use Rattle.fmp_kernel.specs.KernelViews.{KernelView}
 use Rattle.fmp_named.specs.Lines.{named_lines}
-use Rattle.fmp_places.specs.declared.calls.CallPlace.{CallPlace}
-use Rattle.fmp_places.specs.declared.lines.LineForm.TheVariants as form
-use Rattle.fmp_places.specs.Lines.{placed}
+use Rattle.fmp_frames.specs.declared.call_places.CallPlace.{CallPlace}
+use Rattle.fmp_frames.specs.declared.placed_lines.LineForm.TheVariants as form
+use Rattle.fmp_frames.specs.PlacedLines.{placed}
 use Rattle.fmp_replay.specs.Replays.{IsLegal, kernel_after, reaction}
 use Rattle.fmp_session.specs.declared.session.Session.{Session}
 use Rattle.fmp_session.specs.declared.session.TakenEvent.{TakenEvent}
@@ -16,8 +16,6 @@ use Rattle.fmp_session.specs.declared.session.TakenEvent.TheVariants as taken
 
 -- each event of a session did something, and its kernel is that of the image after them
 pub record IsSession (s : Session) : Type 0 where
-  pub low : 1 ≤ s.bound
-  pub high : s.bound ≤ 2 ^ 48
   pub few : length s.events.items ≤ 2 ^ 20
   pub legal : IsLegal s.image.now s.bound s.events.items
   pub kernel : s.kernel ≡ kernel_after s.image.now s.bound s.events.items

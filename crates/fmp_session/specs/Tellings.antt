@@ -7,7 +7,7 @@ use Rattle.fmp_base.specs.Systems.{SystemTables}
 use Rattle.fmp_drive.specs.declared.next.NextRun.{NextRun}
 use Rattle.fmp_drive.specs.declared.next.NextRun.TheVariants as next
 
--- words, a number, and words behind it
+-- words, a number, and words after it
 abbrev pub around : (front : List ℕ) → ℕ → (behind : List ℕ) → List ℕ
 around front n behind = front ++ (decimal n ++ behind)
 

@@ -5,7 +5,7 @@ ghost use Rattle.fmp_session.specs.Commands as spec;
 use crate::interrupts::{NamedInterrupt, interrupt_of};
 use crate::numbers::{count_in, number_in};
 use fmp_base::Event;
-use fmp_steps::Steps;
+use fmp_trace::Steps;
 
 /// What a line asks for.
 #[derive(Clone, Copy)]
@@ -39,19 +39,19 @@ pub enum Command {
 pub enum LineMistake {
     /// No command begins with its first word.
     Unknown,
-    /// Behind `run` there is no number of a processor.
+    /// After `run` there is no number of a processor.
     Processor,
-    /// Behind `int` there is neither a number of an interrupt, 1 to 32, nor the name of the body of one handler.
+    /// After `int` there is neither a number of an interrupt, 1 to 32, nor the name of the body of one handler.
     Interrupt,
-    /// What stands behind the processor or the interrupt is not `xK` with K from 1 to 2^20.
+    /// What stands after the processor or the interrupt is not `xK` with K from 1 to 2^20.
     Times,
-    /// What stands behind `tick` or `back` is no number from 1 to 2^20.
+    /// What stands after `tick` or `back` is no number from 1 to 2^20.
     Count,
-    /// There is no name behind `load` or `save`.
+    /// There is no name after `load` or `save`.
     Name,
-    /// There is no deed behind `until`.
+    /// There is no deed after `until`.
     Deed,
-    /// Something stands behind a command of one word.
+    /// Something stands after a command of one word.
     Alone,
 }
 
@@ -85,7 +85,7 @@ pub fn word_of(line: &[u8]) -> &[u8]
     }
 }
 
-/// What stands behind the first blank of a line, if there is one.
+/// What stands after the first blank of a line, if there is one.
 fn rest_of(line: &[u8]) -> Option<&[u8]>
     ensures { MatchOption result (spec.rest_of line.now ≡ None) (λ rest. spec.rest_of line.now ≡ Some rest.now) }
 {
@@ -93,7 +93,7 @@ fn rest_of(line: &[u8]) -> Option<&[u8]>
     Some(&line[place + 1..])
 }
 
-/// What stands behind the first word of a line; empty if nothing does.
+/// What stands after the first word of a line; empty if nothing does.
 pub fn argument_of(line: &[u8]) -> &[u8]
     ensures { result.now ≡ spec.argument_of line.now }
 {
@@ -103,7 +103,7 @@ pub fn argument_of(line: &[u8]) -> &[u8]
     }
 }
 
-/// How many a line asks for behind its first word.
+/// How many a line asks for after its first word.
 fn count_behind(line: &[u8]) -> Option<u32>
     ensures { result ≡ spec.count_behind (spec.rest_of line.now) }
 {
@@ -144,7 +144,7 @@ fn tick_of(line: &[u8]) -> Result<Command, LineMistake>
     }
 }
 
-/// The command that takes an event as often as a text says behind its first word.
+/// The command that takes an event as often as a text says after its first word.
 fn taken(event: Event, text: &[u8]) -> Result<Command, LineMistake>
     ensures { result ≡ spec.taken event (spec.times_behind (spec.rest_of text.now)) }
 {
@@ -154,7 +154,7 @@ fn taken(event: Event, text: &[u8]) -> Result<Command, LineMistake>
     }
 }
 
-/// The command of what stands behind `run`: a processor, and how often it runs.
+/// The command of what stands after `run`: a processor, and how often it runs.
 fn run_of(text: &[u8], processors: u8) -> Result<Command, LineMistake>
     ensures { result ≡ spec.run_of processors text.now }
 {
@@ -164,7 +164,7 @@ fn run_of(text: &[u8], processors: u8) -> Result<Command, LineMistake>
     }
 }
 
-/// The command of what stands behind `int`: an interrupt, and how often it is raised.
+/// The command of what stands after `int`: an interrupt, and how often it is raised.
 fn int_of(text: &[u8], interrupts: &[NamedInterrupt]) -> Result<Command, LineMistake>
     ensures { result ≡ spec.int_of interrupts.now text.now }
 {
@@ -184,7 +184,7 @@ fn alone(command: Command, line: &[u8]) -> Result<Command, LineMistake>
     }
 }
 
-/// A command, if a name stands behind it.
+/// A command, if a name stands after it.
 fn named(command: Command, argument: &[u8]) -> Result<Command, LineMistake>
     ensures { result ≡ spec.named command argument.now }
 {
@@ -194,7 +194,7 @@ fn named(command: Command, argument: &[u8]) -> Result<Command, LineMistake>
     }
 }
 
-/// The command of a line that begins with `until`, by what stands behind it.
+/// The command of a line that begins with `until`, by what stands after it.
 fn until_of(argument: &[u8]) -> Result<Command, LineMistake>
     ensures { result ≡ spec.until_of argument.now }
 {
@@ -235,6 +235,7 @@ fn by_word(
         b"until" => until_of(argument_of(line)),
         b"help" => alone(Command::Help, line),
         b"quit" => alone(Command::Quit, line),
+        b"exit" => alone(Command::Quit, line),
         _ => Err(LineMistake::Unknown),
     }
 }
@@ -245,7 +246,7 @@ fn by_word(
 /// - a line of a steps text
 /// - `run P xK`; `tick K`; `int N xK`, where `xK` may be left out and N may be the name of the body of one handler
 /// - `back`, `back K`
-/// - `why`, `state`, `help`, `quit`
+/// - `why`, `state`, `help`, `quit` and `exit`, which are the same
 /// - `state NAME`, `load FILE`, `save FILE`
 /// - `until DEED`
 ///

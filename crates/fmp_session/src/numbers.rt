@@ -1,12 +1,12 @@
 //! Numbers in decimal digits.
 ghost use Rattle.std.specs.Prelude.{◌≡◌};
-ghost use Rattle.fmp_steps.specs.Steps.{digits_number, numeral_value};
+ghost use Rattle.fmp_trace.specs.Steps.{digits_number, numeral_value};
 ghost use Rattle.fmp_session.specs.Commands.{capped, count_of, number_of};
 
 /// The greatest number of events, 2^20.
 const MOST: u32 = 1 << 20;
 
-/// The number that digits spell, or the one behind the greatest number of events where it is greater; none if a byte
+/// The number that digits spell, or the one after the greatest number of events where it is greater; none if a byte
 /// is no digit.
 fn digits_in(text: &[u8]) -> Option<u32>
     ensures { result ≡ capped (digits_number text.now) }

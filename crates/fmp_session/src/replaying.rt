@@ -28,8 +28,6 @@ pub fn kernel_over<'a>(
     n: u64,
     events: &[Event],
 ) -> Result<Kernel<Vm<'a>>, AllocError>
-    requires low { 1 ≤ n }
-    requires high { n ≤ 2 ^ 48 }
     requires few { length events.now ≤ 2 ^ 20 }
     requires legal { IsLegal image.now n events.now }
     ensures { IfOk result (λ kernel. kernel ≡ kernel_after image.now n events.now) }

@@ -1,19 +1,19 @@
 //! The events of a session, and the kernel after them.
-ghost use Rattle.std.specs.Prelude.{◌≡◌, ◌≤◌, ◌^◌, ◌-◌, ◌++◌, IfOk, OnErr, OnOk, [], length, take};
+ghost use Rattle.std.specs.Prelude.{◌≡◌, ◌-◌, ◌++◌, IfOk, OnErr, OnOk, [], length, take};
 ghost use Rattle.fmp_drive.specs.NextRuns.{AreNext};
 ghost use Rattle.fmp_instructions.specs.Machine.{code_meaning};
-ghost use Rattle.fmp_places.specs.Made.{event_place as place_of};
-ghost use Rattle.fmp_steps.specs.Steps.{steps_text};
+ghost use Rattle.fmp_frames.specs.Made.{event_place as place_of};
+ghost use Rattle.fmp_trace.specs.Steps.{steps_text};
 ghost use Rattle.fmp_session.specs.Sessions.{IsSession, IsTakenAs, lines_now, records_now, with_event};
 
 use crate::replaying::kernel_over;
 use fmp_base::{Effect, Event};
 use fmp_code::Vm;
 use fmp_drive::{NextRun, next_runs};
+use fmp_frames::{CallPlace, CallPlaces, CodePlaces, LineForm, append_placed, event_place};
 use fmp_image_bytes::Image;
 use fmp_kernel::Kernel;
 use fmp_named::append_lines;
-use fmp_places::{CallPlace, CallPlaces, CodePlaces, LineForm, append_placed, event_place};
 use fmp_replay::kernel_of;
 use fmp_trace::print_steps;
 use std::alloc::{AllocError, Global};
@@ -39,19 +39,17 @@ pub enum TakenEvent {
 #[derive(Drop)]
 pub struct Session<'a> {
     image: &'a Image,
-    /// The bound of a stretch, 1 to 2^48.
+    /// The bound of a stretch.
     bound: u64,
     events: Vec<Event>,
     kernel: Kernel<Vm<'a>>,
 }
 
 impl<'a> Session<'a> {
-    /// The session of an image after setup, with no event yet. A stretch of a body takes at most n instructions, 1 to
-    /// 2^48. `AllocError` if memory runs out.
+    /// The session of an image after setup, with no event yet. A stretch of a body takes at most n instructions.
+    /// `AllocError` if memory runs out.
     #[tactic(none)]
     pub fn new(alloc: Global, image: &'a Image, n: u64) -> Result<Session<'a>, AllocError>
-        requires low { 1 ≤ n }
-        requires high { n ≤ 2 ^ 48 }
         ensures session { IfOk result (λ session. IsSession session) }
         ensures image { IfOk result (λ session. session.image.now ≡ image.now) }
         ensures bound { IfOk result (λ session. session.bound ≡ n) }
@@ -143,7 +141,7 @@ impl<'a> Session<'a> {
         requires { IsSession self.now }
         ensures { AreNext code_meaning self.now.kernel result }
     {
-        next_runs(&self.kernel, &self.image.vm(), self.bound)
+        next_runs(&self.kernel)
     }
 
     /// Where the call stands that an event would make now, if it makes one. The calls of the bodies stand at these
@@ -156,7 +154,7 @@ impl<'a> Session<'a> {
             code: self.image.code(),
             places,
         };
-        event_place(&self.kernel, &self.image.vm(), self.bound, text, e)
+        event_place(&self.kernel, text, e)
     }
 
     /// The lines of the last event that was done, or of setup, with the names of objects. `AllocError` if memory runs

@@ -8,7 +8,7 @@ use fmp_drive::NextRun;
 use itoa::Buffer;
 use std::alloc::AllocError;
 
-/// Appends words, a number, and words behind it.
+/// Appends words, a number, and words after it.
 fn append_around(
     front: &[u8],
     number: u8,

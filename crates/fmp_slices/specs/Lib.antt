@@ -1,5 +1,6 @@
 pub mod Clocks
 pub mod Entries
+pub mod Escaped
 pub mod Labels
-pub mod StandardLog
 pub mod Resources
+pub mod StandardLog

@@ -1,4 +1,4 @@
-//! The entries of a trace, each an object of JSON in a line of its own behind a comma.
+//! The entries of a trace, each an object of JSON in a line of its own after a comma.
 ghost use Rattle.std.specs.Prelude.{◌≡◌, ◌++◌, ◌∷◌, [], IfOk, OnOk};
 ghost use Rattle.fmp_json.specs.Members.{finished};
 ghost use Rattle.fmp_slices.specs.Entries as spec;
@@ -9,7 +9,7 @@ use fmp_json::{begin, finish, number_member, text_member};
 use json::Writer;
 use std::alloc::{AllocError, Global};
 
-/// Appends an object that was begun, behind a comma.
+/// Appends an object that was begun, after a comma.
 fn append_object(writer: Writer, out: &mut Vec<u8>) -> Result<(), AllocError>
     requires { writer.before ≡ [] }
     ensures { OnOk result (out.new.items ≡ out.old.items ++ (44 ∷ finished writer.tokens)) }

@@ -9,7 +9,7 @@ use fmp_timeline::{Note, Occupant, Run, Stay, TaskShown, Track};
 use itoa::Buffer;
 use std::alloc::{AllocError, Global};
 
-/// The name of a group of tracks, behind no comma.
+/// The name of a group of tracks, after no comma.
 const HEAD: &[u8] =
     b"[{\"ph\":\"M\",\"pid\":1,\"tid\":0,\"name\":\"process_name\",\"args\":{\"name\":\"processors\"}}\n";
 
@@ -23,7 +23,7 @@ struct SliceSource<'a> {
     clock: &'a Clock,
 }
 
-/// Words and a number behind them, from 1.
+/// Words and a number after them, from 1.
 fn numbered(alloc: Global, words: &[u8], place: u8) -> Result<Vec<u8>, AllocError> {
     let mut text = Vec::from_slice(alloc, words)?;
     append(
@@ -34,7 +34,7 @@ fn numbered(alloc: Global, words: &[u8], place: u8) -> Result<Vec<u8>, AllocErro
 }
 
 impl SliceSource<'_> {
-    /// When a state begins and ends: that of the end of the run lasts a microsecond behind the last event.
+    /// When a state begins and ends: that of the end of the run lasts a microsecond after the last event.
     fn span<S>(self, stay: &Stay<S>) -> (u64, u64) {
         let from = self.clock.at(stay.from);
         let to = match stay.to {

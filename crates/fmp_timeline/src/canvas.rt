@@ -27,7 +27,7 @@ pub enum CanvasPiece<'a> {
 /// The digits of hexadecimal numbers.
 const DIGITS: &[u8; 16] = b"0123456789ABCDEF";
 
-/// The text of a picture, or of a label in it. What is written while it is raised comes behind what is written before
+/// The text of a picture, or of a label in it. What is written while it is raised comes after what is written before
 /// it settles, and so stands above that in the picture. Once memory has run out it takes no more, which `finish`
 /// reports.
 #[derive(Drop)]
@@ -93,7 +93,7 @@ impl Canvas {
         swap(&mut self.bytes, &mut self.other);
     }
 
-    /// Puts the upper layer behind the lower one, and begins a new one.
+    /// Puts the upper layer after the lower one, and begins a new one.
     pub fn settle(&mut self) {
         self.is_cut = self.is_cut || self.bytes.extend_from_slice(&self.other).is_err();
         self.other.truncate(0);

@@ -14,7 +14,7 @@ pub struct BarLook {
     pub hatch: u8,
 }
 
-/// The look of the task that has this many above it: the first eight have no hatch, and each eight behind them the next
+/// The look of the task that has this many above it: the first eight have no hatch, and each eight after them the next
 /// one.
 pub fn look_of(above: usize) -> BarLook
     ensures { result ≡ spec.look_of above }

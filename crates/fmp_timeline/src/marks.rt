@@ -35,7 +35,7 @@ pub enum Sign {
     Requested,
     /// A cyclic handler became due.
     Due,
-    /// A stretch was cut short behind the event, and kept its place.
+    /// A stretch was cut short after the event, and kept its place.
     Kept,
 }
 

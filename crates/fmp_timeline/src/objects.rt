@@ -49,7 +49,7 @@ struct Wait {
 pub struct ObjectHistories {
     pub all: Vec<ObjectHistory>,
     waits: Vec<Option<Wait>>,
-    /// Lists of tasks that waited for an object, one behind another.
+    /// Lists of tasks that waited for an object, one after another.
     pub waiting: Vec<u8>,
 }
 

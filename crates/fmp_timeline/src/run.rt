@@ -174,7 +174,7 @@ impl Run {
         Ok(())
     }
 
-    /// Whether the last mark of an actor says that it kept its place behind this event.
+    /// Whether the last mark of an actor says that it kept its place after this event.
     fn has_kept(&self, event: u32, actor: Caller) -> bool {
         match self.deeds_of(actor) {
             Some(deeds) => match deeds.marks.last() {
@@ -185,7 +185,7 @@ impl Run {
         }
     }
 
-    /// The actor of the processor at this place kept its place behind the last event; of several times there is one
+    /// The actor of the processor at this place kept its place after the last event; of several times there is one
     /// mark.
     pub fn keep_place(&mut self, processor: u8) -> Result<(), AllocError> {
         let event = self.next_event().saturating_sub(1);

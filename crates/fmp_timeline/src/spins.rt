@@ -127,7 +127,7 @@ impl Spins {
         }
     }
 
-    /// The places of all spans: of those that ended, and behind them of the one that has not.
+    /// The places of all spans: of those that ended, and after them of the one that has not.
     pub fn places(&self) -> Range<usize> {
         0..self.ended.len().saturating_add(1)
     }

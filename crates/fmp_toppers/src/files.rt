@@ -96,8 +96,8 @@ fn written(
 
 /// The files of a task text and the system of its configuration, for a TOPPERS/FMP kernel. `Name` if the headers have
 /// the name of an object, else `Mailbox` if there is a mailbox and the kernel has none, else `Fault` for the first
-/// fault of the text's syntax or if an allocation is refused. That the text is one of the configuration is left to those
-/// who call it.
+/// fault of the text's syntax or if an allocation is refused. That the text is one of the configuration is left to
+/// those who call it.
 pub fn export_toppers(
     alloc: Global,
     target: Target,

@@ -29,7 +29,7 @@ fn append_class_front(target: Target, only: bool, out: &mut Vec<u8>) -> Result<(
     }
 }
 
-/// Appends what stands behind that number.
+/// Appends what stands after that number.
 fn append_class_back(target: Target, only: bool, out: &mut Vec<u8>) -> Result<(), AllocError>
     ensures { OnOk result (out.new.items ≡ out.old.items ++ spec.class_back target only) }
 {

@@ -2,8 +2,8 @@
 use Rattle.std.proofs.Common.{◌≡◌, ◌∙◌, ℕ, ◌+◌, ◌≤◌, ◌^◌, Bool, true, false, List, [], ◌∷◌, ap, arith, refl, subst, sym}
 use Rattle.fmp_base.specs.declared.events.Effect.TheVariants as effect
 use Rattle.fmp_base.specs.Steps.{Reaction, Nothing, Did, Kept, effect_of}
-use Rattle.fmp_coming.specs.Comings.{view_after_each}
-use Rattle.fmp_coming.proofs.Comings.{body-step, bound-step, system-step, taken-step}
+use Rattle.fmp_kernel.specs.Comings.{view_after_each}
+use Rattle.fmp_kernel.proofs.Comings.{body-step, bound-step, system-step, taken-step}
 use Rattle.fmp_kernel.specs.KernelViews.{KernelView, view_after}
 use Rattle.fmp_trials.specs.Taking.{HasMoved, HasStepped}
 use Rattle.fmp_trials.specs.Verdicts.{IsBeside}

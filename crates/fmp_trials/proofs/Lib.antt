@@ -1,3 +1,4 @@
 pub mod Attempts
 pub mod Besides
 pub mod States
+mod AlongLaws

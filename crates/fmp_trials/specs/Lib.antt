@@ -3,3 +3,4 @@ pub mod Taking
 pub mod Trials
 pub mod Shortening
 pub mod Found
+pub mod Lines

@@ -2,7 +2,7 @@
 use Rattle.std.specs.Prelude.{ℕ, ◌≡◌, ◌+◌, ◌<◌, ◌++◌, List, Option, Some, None, Bool, false, take, drop, length, nat_eq}
 use Rattle.fmp_base.specs.declared.events.Event.{Event}
 use Rattle.fmp_base.specs.Meanings.{Meaning}
-use Rattle.fmp_coming.specs.Comings.{reaction_of}
+use Rattle.fmp_kernel.specs.Comings.{reaction_of}
 use Rattle.fmp_expect.specs.declared.checker.BrokenExpectation.{BrokenExpectation}
 use Rattle.fmp_expect.specs.declared.expectation.Expected.{Expected}
 use Rattle.fmp_kernel.specs.KernelViews.{KernelView}

@@ -4,7 +4,7 @@ use Rattle.std.specs.List.{range_with_len}
 use Rattle.fmp_base.specs.declared.events.TaskState.{TaskState}
 use Rattle.fmp_base.specs.Runs.{task_state}
 use Rattle.fmp_base.specs.Steps.{Reaction}
-use Rattle.fmp_coming.specs.Comings.{view_after_each}
+use Rattle.fmp_kernel.specs.Comings.{view_after_each}
 use Rattle.fmp_expect.specs.declared.checker.BrokenExpectation.{BrokenExpectation}
 use Rattle.fmp_expect.specs.declared.checker.Watch.{Watch}
 use Rattle.fmp_expect.specs.declared.expectation.Expected.{Expected}

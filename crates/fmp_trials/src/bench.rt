@@ -1,9 +1,9 @@
 //! Runs that are tried one after the other, each from the same kernel.
-ghost use Rattle.std.specs.Prelude.{◌≡◌, ◌≤◌, ◌^◌, IfOk, IfSome, length};
+ghost use Rattle.std.specs.Prelude.{◌≡◌, ◌≤◌, ◌^◌, IfOk, length};
 ghost use Rattle.fmp_trials.specs.Verdicts.{IsBeside};
 
 use crate::choices::Choices;
-use crate::random_run::random_run;
+use crate::random_run::{RandomRun, random_run};
 use crate::verdict::run_verdict;
 use fmp_base::Event;
 use fmp_expect::{BrokenExpectation, Checker, Expected};
@@ -63,14 +63,13 @@ impl<'a, B: Body> Bench<'a, B> {
         run_verdict(alloc, &mut self.kernel, events, self.expected)
     }
 
-    /// The events of a random run up to the first that breaks a sentence; none if the run breaks none. `AllocError` if
-    /// memory runs out.
+    /// A random run up to the first event that breaks a sentence, or the last. `AllocError` if memory runs out.
     pub fn random_run(
         &mut self,
         alloc: Global,
         choices: &mut Choices<'_>,
-    ) -> Result<Option<Vec<Event>>, AllocError>
-        ensures few { IfOk result (λ run. IfSome run (λ steps. length steps.items ≤ 2 ^ 20)) }
+    ) -> Result<RandomRun, AllocError>
+        ensures few { IfOk result (λ run. length run.steps.items ≤ 2 ^ 20) }
         ensures same { self.new ≡ self.old }
     {
         let mut checker = Checker::new(alloc, self.expected)?;

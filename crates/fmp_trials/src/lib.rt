@@ -3,6 +3,7 @@
 
 mod bench;
 mod choices;
+mod laws;
 mod random_run;
 mod shortening;
 mod testing;
@@ -10,6 +11,7 @@ mod verdict;
 
 pub use bench::Bench;
 pub use choices::{InterruptRate, RunPlan};
+pub use laws::{monitors_go_by_histories, runs_are_judged_as_searches_judge};
 pub use shortening::FailingRun;
-pub use testing::{FailedTrial, first_failed_trial};
+pub use testing::{FailedTrial, first_failed_trial, random_steps};
 pub use verdict::{run_verdict, verdict_at_end};

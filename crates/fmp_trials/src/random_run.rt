@@ -1,5 +1,5 @@
 //! Random runs, which are judged as they go.
-ghost use Rattle.std.specs.Prelude.{◌≡◌, ◌<◌, ◌≤◌, ◌^◌, IfOk, IfSome, is_some, length, true};
+ghost use Rattle.std.specs.Prelude.{◌≡◌, ◌<◌, ◌≤◌, ◌^◌, IfOk, is_some, length, true};
 ghost use Rattle.fmp_trials.specs.Taking.{HasMoved};
 ghost use Rattle.fmp_trials.specs.Verdicts.{IsBeside};
 
@@ -8,6 +8,15 @@ use fmp_base::{Effect, Event};
 use fmp_expect::Checker;
 use fmp_kernel::{Body, Kernel};
 use std::alloc::{AllocError, Global};
+
+/// A random run.
+#[derive(Drop)]
+pub struct RandomRun {
+    /// Its events.
+    pub steps: Vec<Event>,
+    /// Whether the last of them, or setup, breaks a sentence.
+    pub is_broken: bool,
+}
 
 /// The most events of a run.
 const EVENTS_MOST: u32 = 1 << 20;
@@ -113,7 +122,7 @@ fn is_broken<B: Body>(kernel: &Kernel<B>, checker: &mut Checker) -> bool {
     checker.verdict(&[], kernel.done()).is_some()
 }
 
-/// The next event, which is taken, and whether a sentence is broken behind it.
+/// The next event, which is taken, and whether a sentence is broken after it.
 fn judged_next<B: Body>(
     kernel: &mut Kernel<B>,
     choices: &mut Choices<'_>,
@@ -127,28 +136,36 @@ fn judged_next<B: Body>(
     (e, kernel.done() > done && is_broken(kernel, checker))
 }
 
-/// The events of a random run of a kernel up to the first that breaks a sentence; none if the run breaks none.
-/// `AllocError` if memory runs out.
+/// A random run of a kernel up to the first event that breaks a sentence, or the last. `AllocError` if memory runs out.
 pub fn random_run<B: Body>(
     alloc: Global,
     kernel: &mut Kernel<B>,
     checker: &mut Checker,
     choices: &mut Choices<'_>,
-) -> Result<Option<Vec<Event>>, AllocError>
+) -> Result<RandomRun, AllocError>
     requires { kernel.old.taken ≡ 0 }
-    ensures few { IfOk result (λ run. IfSome run (λ steps. length steps.items ≤ 2 ^ 20)) }
+    ensures few { IfOk result (λ run. length run.steps.items ≤ 2 ^ 20) }
     ensures beside { IsBeside kernel.old kernel.new }
 {
     let mut steps = Vec::new(alloc);
     if is_broken(kernel, checker) {
-        return Ok(Some(steps));
+        return Ok(RandomRun {
+            steps,
+            is_broken: true,
+        });
     }
     for _turn in 0..choices.plan.events.min(EVENTS_MOST) {
         let (e, broken) = judged_next(kernel, choices, checker);
         steps.push(e)?;
         if broken {
-            return Ok(Some(steps));
+            return Ok(RandomRun {
+                steps,
+                is_broken: true,
+            });
         }
     }
-    Ok(None)
+    Ok(RandomRun {
+        steps,
+        is_broken: false,
+    })
 }

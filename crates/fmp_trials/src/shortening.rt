@@ -174,8 +174,8 @@ fn drop_pieces_of<B: Body>(
     Ok(())
 }
 
-/// Leaves out pieces without which the run fails, first of all events and then of fewer and fewer. Runs of one processor
-/// stay.
+/// Leaves out pieces without which the run fails, first of all events and then of fewer and fewer. Runs of one
+/// processor stay.
 fn drop_pieces<B: Body>(
     alloc: Global,
     bench: &mut Bench<'_, B>,
@@ -232,7 +232,7 @@ fn drop_single<B: Body>(
     try_steps(alloc, bench, run, steps)
 }
 
-/// Leaves out the event at a place, if the run fails without it: whether it was left out, or one behind it.
+/// Leaves out the event at a place, if the run fails without it: whether it was left out, or one after it.
 fn drop_event<B: Body>(
     alloc: Global,
     bench: &mut Bench<'_, B>,
@@ -275,7 +275,8 @@ fn drop_events<B: Body>(
     Ok(dropped)
 }
 
-/// Leaves out events one by one until the run fails without none of them, or there is no room: whether none can go.
+/// Leaves out events one by one until the run fails only with all that are left, or there is no more room for trials:
+/// whether it ended because none can go.
 fn drop_until_none<B: Body>(
     alloc: Global,
     bench: &mut Bench<'_, B>,
@@ -296,7 +297,7 @@ fn drop_until_none<B: Body>(
     Ok(false)
 }
 
-/// The place behind the last event of the same processor before the one at a place, if there is another event between.
+/// The place after the last event of the same processor before the one at a place, if there is another event between.
 fn place_behind(events: &[Event], at: usize) -> Option<usize>
     requires { at < length events.now }
     ensures { IfSome result (λ to. to ≤ at) }
@@ -312,7 +313,7 @@ fn place_behind(events: &[Event], at: usize) -> Option<usize>
     None
 }
 
-/// Moves the event at a place behind the last one of the same processor before it, if the run fails then.
+/// Moves the event at a place after the last one of the same processor before it, if the run fails then.
 fn gather_event<B: Body>(
     alloc: Global,
     bench: &mut Bench<'_, B>,

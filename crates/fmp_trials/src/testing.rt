@@ -5,6 +5,7 @@ ghost use Rattle.fmp_trials.specs.Found.{IsFound};
 
 use crate::bench::Bench;
 use crate::choices::{Choices, RunPlan};
+use crate::random_run::RandomRun;
 use crate::shortening::{FailingRun, shorten};
 use fmp_base::Event;
 use fmp_kernel::Body;
@@ -81,10 +82,27 @@ fn tried<B: Body>(
     ensures found { IfOk result (λ found. IfSome found (IsFound B.meaning bench.new)) }
 {
     let mut choices = Choices::new(plan, seed);
-    match bench.random_run(alloc, &mut choices)? {
-        Some(steps) => failed(alloc, bench, seed, steps),
-        None => Ok(None),
+    let RandomRun { steps, is_broken } = bench.random_run(alloc, &mut choices)?;
+    if !is_broken {
+        return Ok(None);
     }
+    failed(alloc, bench, seed, steps)
+}
+
+/// The events of the random run of this seed up to the first that breaks a sentence, or the last. `AllocError` if
+/// memory runs out.
+pub fn random_steps<B: Body>(
+    alloc: Global,
+    bench: &mut Bench<'_, B>,
+    plan: RunPlan<'_>,
+    seed: u64,
+) -> Result<Vec<Event>, AllocError>
+    ensures same { bench.new ≡ bench.old }
+    ensures few { IfOk result (λ steps. length steps.items ≤ 2 ^ 20) }
+{
+    let mut choices = Choices::new(plan, seed);
+    let run = bench.random_run(alloc, &mut choices)?;
+    Ok(run.steps)
 }
 
 /// The first of the random runs of the seeds from 1 to this one that fails an expectation, made shorter. Where there is

@@ -4,9 +4,8 @@ ghost use Rattle.fmp_trials.specs.Verdicts as spec;
 ghost use Rattle.fmp_trials.specs.Verdicts.{IsBeside};
 
 use fmp_base::TaskState;
-use fmp_coming::Coming;
 use fmp_expect::{BrokenExpectation, Checker, Expected, tell_run};
-use fmp_kernel::{Body, Kernel};
+use fmp_kernel::{Body, Coming, Kernel};
 use std::alloc::{AllocError, Global};
 
 /// The states of the tasks.

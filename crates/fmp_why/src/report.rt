@@ -384,7 +384,7 @@ fn append_link(scene: &Scene<'_>, task: usize, out: &mut Vec<u8>) -> Result<(), 
     }
 }
 
-/// Appends further tasks of a cycle, each behind a comma.
+/// Appends further tasks of a cycle, each after a comma.
 fn append_more_links(scene: &Scene<'_>, tasks: &[u8], out: &mut Vec<u8>) -> Result<(), AllocError>
     ensures { OnOk result (out.new.items ≡ out.old.items ++ spec.more_links (sight_of scene.now) tasks.now) }
 {

@@ -1,5 +1,5 @@
 use Rattle.std.proofs.Common.{arith, ◌∙◌, ◌≤◌, ◌+◌, sym}
-use Rattle.fmp_coming.proofs.Comings.{after-step, body-step, bound-step, taken-step}
+use Rattle.fmp_kernel.proofs.Comings.{after-step, taken-step}
 use Rattle.fmp_frames.proofs.FrameLemmas.{shown-done, shown-kept, shown-nothing}
 use Rattle.fmp_frames.proofs.showing.show_all.Goals as goal
 use Rattle.fmp_frames.proofs.showing.show_all.Goals.{in-Done+in_ok-show_last-in-Done, in-Kept+in_ok-show_kept-in-Kept}
@@ -32,27 +32,5 @@ loop-e-preserved g c =
       after = after-step g.T.Coming.reaction c.loop-e.kernel c.take.new.kernel _ c.args.events.now c.loop-e.e-index
           c.e-item.result c.loop-e-test.true c.e-item.is
           c.take.ensures.state c.loop-e.invariant.after;
-      body = body-step c.loop-e.kernel c.take.new.kernel _ c.take.ensures.state ∙ c.loop-e.invariant.body;
-      bound = bound-step c.loop-e.kernel c.take.new.kernel _ c.take.ensures.state ∙ c.loop-e.invariant.bound;
       few = omega arith;
     }
-
-pub show_last-requires-clause-body : goal.show_last-requires-clause-body
-show_last-requires-clause-body g c =
-    c.requires.body
-    ∙ sym (body-step c.loop-e.kernel c.take.new.kernel _ c.take.ensures.state ∙ c.loop-e.invariant.body)
-
-pub show_last-requires-clause-bound : goal.show_last-requires-clause-bound
-show_last-requires-clause-bound g c =
-    c.requires.bound
-    ∙ sym (bound-step c.loop-e.kernel c.take.new.kernel _ c.take.ensures.state ∙ c.loop-e.invariant.bound)
-
-pub show_kept-requires-clause-body : goal.show_kept-requires-clause-body
-show_kept-requires-clause-body g c =
-    c.requires.body
-    ∙ sym (body-step c.loop-e.kernel c.take.new.kernel _ c.take.ensures.state ∙ c.loop-e.invariant.body)
-
-pub show_kept-requires-clause-bound : goal.show_kept-requires-clause-bound
-show_kept-requires-clause-bound g c =
-    c.requires.bound
-    ∙ sym (bound-step c.loop-e.kernel c.take.new.kernel _ c.take.ensures.state ∙ c.loop-e.invariant.bound)

@@ -1,5 +1,5 @@
 use Rattle.std.proofs.Common.{◌≡◌, ◌+◌, ◌≤◌, ◌^◌, drop, length}
-use Rattle.fmp_coming.specs.Comings.{view_after_each}
+use Rattle.fmp_kernel.specs.Comings.{view_after_each}
 use Rattle.fmp_frames.specs.Showing.{HasShown}
 use Rattle.fmp_frames.proofs.FrameLemmas.{frames_of}
 use Rattle.fmp_frames.proofs.showing.show_all.Given as goal
@@ -13,7 +13,5 @@ invariant-loop-e g l =
           l.events) last;
       after : view_after_each g.T.Coming.reaction l.kernel (drop l.e-index l.events)
           ≡ view_after_each g.T.Coming.reaction l.fn.kernel l.events;
-      body : l.kernel.body ≡ l.fn.kernel.body;
-      bound : l.kernel.bound ≡ l.fn.kernel.bound;
       few : l.kernel.taken + length l.events ≤ 2 ^ 31 + l.e-index;
     }

@@ -1,5 +1,5 @@
 use Rattle.std.proofs.Common.{arith, ◌∙◌, ◌≤◌, ◌+◌, sym}
-use Rattle.fmp_coming.proofs.Comings.{after-step, body-step, bound-step, system-step, taken-step}
+use Rattle.fmp_kernel.proofs.Comings.{after-step, system-step, taken-step}
 use Rattle.fmp_frames.proofs.FrameLemmas.{frames-done, frames-kept, frames-nothing}
 use Rattle.fmp_frames.proofs.taking.frames.Goals as goal
 use Rattle.fmp_frames.proofs.taking.frames.Goals.{in-Done+in_ok-append_last-in-Done, in-Kept+in_ok-append_kept-in-Kept}
@@ -29,29 +29,7 @@ loop-e-preserved g c =
       after = after-step g.T.Coming.reaction c.loop-e.kernel c.take.new.kernel _ c.args.events.now c.loop-e.e-index
           c.e-item.result c.loop-e-test.true c.e-item.is
           c.take.ensures.state c.loop-e.invariant.after;
-      body = body-step c.loop-e.kernel c.take.new.kernel _ c.take.ensures.state ∙ c.loop-e.invariant.body;
-      bound = bound-step c.loop-e.kernel c.take.new.kernel _ c.take.ensures.state ∙ c.loop-e.invariant.bound;
       system = system-step c.loop-e.kernel c.take.new.kernel _ c.take.ensures.state ∙ c.loop-e.invariant.system;
       count = omega arith;
       few = omega arith;
     }
-
-pub append_last-requires-clause-body : goal.append_last-requires-clause-body
-append_last-requires-clause-body g c =
-    c.requires.body
-    ∙ sym (body-step c.loop-e.kernel c.take.new.kernel _ c.take.ensures.state ∙ c.loop-e.invariant.body)
-
-pub append_last-requires-clause-bound : goal.append_last-requires-clause-bound
-append_last-requires-clause-bound g c =
-    c.requires.bound
-    ∙ sym (bound-step c.loop-e.kernel c.take.new.kernel _ c.take.ensures.state ∙ c.loop-e.invariant.bound)
-
-pub append_kept-requires-clause-body : goal.append_kept-requires-clause-body
-append_kept-requires-clause-body g c =
-    c.requires.body
-    ∙ sym (body-step c.loop-e.kernel c.take.new.kernel _ c.take.ensures.state ∙ c.loop-e.invariant.body)
-
-pub append_kept-requires-clause-bound : goal.append_kept-requires-clause-bound
-append_kept-requires-clause-bound g c =
-    c.requires.bound
-    ∙ sym (bound-step c.loop-e.kernel c.take.new.kernel _ c.take.ensures.state ∙ c.loop-e.invariant.bound)

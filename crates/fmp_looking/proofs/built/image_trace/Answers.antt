@@ -1,5 +1,5 @@
 use Rattle.std.proofs.Common.{ℕ, [], IfOk, subst}
-use Rattle.fmp_coming.specs.Comings.{reaction_of}
+use Rattle.fmp_kernel.specs.Comings.{reaction_of}
 use Rattle.fmp_image_bytes.specs.Images.{ImageTables}
 use Rattle.fmp_instructions.specs.Machine.{code_meaning}
 use Rattle.fmp_replay.specs.Replays.{kernel_after}
@@ -19,4 +19,4 @@ returns c =
     IfOk c.trace_of.result
     (λ out. IsTrace c.args.form c.new.result.image.now.system c.args.places.now code_meaning (reaction_of code_meaning)
     (kernel_after c.new.result.image.now b []) c.args.events.now out.items))
-    (c.new.ensures.bound c.requires.low c.requires.high) c.trace_of.ensures)
+    c.new.ensures.bound c.trace_of.ensures)

@@ -4,20 +4,8 @@ use Rattle.fmp_frames.specs.Frames.{FrameTable}
 use Rattle.fmp_looking.specs.Called.{begins_called}
 use Rattle.fmp_looking.proofs.calling.called.Goals as goal
 
-pub last_frame-requires-clause-body : goal.last_frame-requires-clause-body
-last_frame-requires-clause-body g c = c.requires.body
-
-pub last_frame-requires-clause-bound : goal.last_frame-requires-clause-bound
-last_frame-requires-clause-bound g c = c.requires.bound
-
-pub show_all-requires-clause-few : goal.show_all-requires-clause-few
-show_all-requires-clause-few g c = c.requires.few
-
-pub show_all-requires-clause-body : goal.show_all-requires-clause-body
-show_all-requires-clause-body g c = c.requires.body
-
-pub show_all-requires-clause-bound : goal.show_all-requires-clause-bound
-show_all-requires-clause-bound g c = c.requires.bound
+pub show_all-requires : goal.show_all-requires
+show_all-requires g c = record { few = c.requires.few }
 
 pub returns-in_err-setup : goal.returns-in_err-setup
 returns-in_err-setup g c =

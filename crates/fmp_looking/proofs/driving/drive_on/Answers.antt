@@ -1,4 +1,4 @@
-use Rattle.std.proofs.Common.{◌≡◌, ◌∙◌, ℕ, List, ap, refl, subst, sym}
+use Rattle.std.proofs.Common.{◌≡◌, ℕ, List, ap, refl, subst}
 use Rattle.std.proofs.lemmas.Result.{err_from_is_err_and}
 use Rattle.fmp_base.specs.declared.events.Event.{Event}
 use Rattle.fmp_base.specs.Systems.{SystemTables}
@@ -30,16 +30,6 @@ driven_on-requires-clause-eight c = c.system.ensures.ranges.processors.most
 
 pub returns-in_err-driven : goal.returns-in_err-driven
 returns-in_err-driven c = rw ((err_from_is_err_and c.from_residual.result c.from_residual.ensures.1).1) tt
-
-pub next_runs-next-requires-clause-body : goal.next_runs-next-requires-clause-body
-next_runs-next-requires-clause-body c =
-    c.vm.ensures ∙ sym (c.in_ok-driven.ensures.ran.body
-    ∙ ap (λ (k : KernelView (List BodyTables) MachineContext). k.body) c.requires.kernel)
-
-pub next_runs-next-requires-clause-bound : goal.next_runs-next-requires-clause-bound
-next_runs-next-requires-clause-bound c =
-    sym (c.in_ok-driven.ensures.ran.bound
-    ∙ ap (λ (k : KernelView (List BodyTables) MachineContext). k.bound) c.requires.kernel)
 
 pub returns : goal.returns
 returns c =

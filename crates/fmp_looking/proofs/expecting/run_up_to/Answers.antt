@@ -1,5 +1,5 @@
 use Rattle.std.proofs.Common.{arith, ◌+◌, ◌≤◌}
-use Rattle.fmp_coming.proofs.Comings.{taken-step}
+use Rattle.fmp_kernel.proofs.Comings.{taken-step}
 use Rattle.fmp_looking.proofs.expecting.run_up_to.Goals as goal
 
 pub loop-e-preserved : goal.loop-e-preserved

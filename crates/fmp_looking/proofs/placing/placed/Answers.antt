@@ -4,14 +4,8 @@ use Rattle.fmp_looking.proofs.placing.placed.Goals as goal
 pub returns-in_err-places : goal.returns-in_err-places
 returns-in_err-places c = rw ((err_from_is_err_and c.from_residual.result c.from_residual.ensures.1).1) tt
 
-pub places_over-requires-clause-low : goal.places_over-requires-clause-low
-places_over-requires-clause-low c = c.requires.low
-
-pub places_over-requires-clause-high : goal.places_over-requires-clause-high
-places_over-requires-clause-high c = c.requires.high
-
-pub places_over-requires-clause-few : goal.places_over-requires-clause-few
-places_over-requires-clause-few c = c.requires.few
+pub places_over-requires : goal.places_over-requires
+places_over-requires c = record { few = c.requires.few }
 
 pub returns : goal.returns
 returns c =

@@ -1,23 +1,15 @@
-use Rattle.std.proofs.Common.{◌≡◌, ◌∙◌, List, Option, IfOk, [], ap, subst, sym, refl}
+use Rattle.std.proofs.Common.{◌∙◌, List, ap, refl}
 use Rattle.std.proofs.lemmas.Result.{IfOk-weaker}
 use Rattle.fmp_instructions.specs.declared.instructions.MachineContext.{MachineContext}
 use Rattle.fmp_instructions.specs.Instructions.{BodyTables}
 use Rattle.fmp_instructions.specs.Machine.{code_meaning}
 use Rattle.fmp_kernel.specs.KernelViews.{KernelView}
-use Rattle.fmp_places.specs.Made.{places_made}
+use Rattle.fmp_frames.specs.Made.{places_made}
 use Rattle.fmp_looking.proofs.Fresh.{room_of_steps}
 use Rattle.fmp_looking.proofs.placing.places_on.Goals as goal
 
-pub places_made-requires-clause-few : goal.places_made-requires-clause-few
-places_made-requires-clause-few c = rw c.requires.kernel (room_of_steps 0 _ refl c.requires.few)
-
-pub places_made-requires-clause-body : goal.places_made-requires-clause-body
-places_made-requires-clause-body c =
-    c.vm.ensures ∙ sym (ap (λ (k : KernelView (List BodyTables) MachineContext). k.body) c.requires.kernel)
-
-pub places_made-requires-clause-bound : goal.places_made-requires-clause-bound
-places_made-requires-clause-bound c =
-    sym (ap (λ (k : KernelView (List BodyTables) MachineContext). k.bound) c.requires.kernel)
+pub places_made-requires : goal.places_made-requires
+places_made-requires c = record { few = rw c.requires.kernel (room_of_steps 0 _ refl c.requires.few) }
 
 pub returns : goal.returns
 returns c =

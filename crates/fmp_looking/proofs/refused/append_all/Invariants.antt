@@ -1,6 +1,6 @@
 use Rattle.std.proofs.Common.{◌≡◌, ◌++◌, drop, map}
 use Rattle.fmp_instructions.specs.Instructions.{code_tables}
-use Rattle.fmp_places.specs.Refusals.{refused_of}
+use Rattle.fmp_frames.specs.Refusals.{refused_of}
 use Rattle.fmp_looking.specs.Refused.{refused_lines}
 use Rattle.fmp_looking.proofs.refused.append_all.Given as goal
 

@@ -3,18 +3,12 @@ use Rattle.std.proofs.lemmas.Result.{IfOk-weaker, err_from_is_err_and}
 use Rattle.fmp_instructions.specs.Instructions.{BodyTables}
 use Rattle.fmp_looking.proofs.ImageSites.{image_sites}
 use Rattle.fmp_looking.proofs.refused.refused_on.Goals as goal
-use Rattle.fmp_places.specs.declared.answers.SiteAnswer.{SiteAnswer}
-use Rattle.fmp_places.specs.Refusals.{refused_calls}
-use Rattle.fmp_places.specs.Sites.{HasSites}
+use Rattle.fmp_frames.specs.declared.answers.SiteAnswer.{SiteAnswer}
+use Rattle.fmp_frames.specs.Refusals.{refused_calls}
+use Rattle.fmp_frames.specs.Sites.{HasSites}
 
-pub answers_over-requires-clause-low : goal.answers_over-requires-clause-low
-answers_over-requires-clause-low c = c.requires.low
-
-pub answers_over-requires-clause-high : goal.answers_over-requires-clause-high
-answers_over-requires-clause-high c = c.requires.high
-
-pub answers_over-requires-clause-few : goal.answers_over-requires-clause-few
-answers_over-requires-clause-few c = c.requires.few
+pub answers_over-requires : goal.answers_over-requires
+answers_over-requires c = record { few = c.requires.few }
 
 pub returns-in_err-answers : goal.returns-in_err-answers
 returns-in_err-answers c = rw ((err_from_is_err_and c.from_residual.result c.from_residual.ensures.1).1) tt

@@ -1,4 +1,4 @@
-use Rattle.std.proofs.Common.{◌≡◌, ◌∙◌, List, Option, ℕ, ap, subst, sym}
+use Rattle.std.proofs.Common.{◌≡◌, List, Option, ℕ, subst}
 use Rattle.std.proofs.lemmas.Result.{IfOk-weaker, err_from_is_err_and}
 use Rattle.fmp_base.specs.Meanings.{Meaning}
 use Rattle.fmp_base.specs.Steps.{Reaction}
@@ -8,7 +8,7 @@ use Rattle.fmp_warnings.specs.declared.verdicts.Form.{Form}
 use Rattle.fmp_looking.specs.Traces.{IsTrace}
 use Rattle.fmp_looking.proofs.Fresh.{room}
 use Rattle.fmp_looking.proofs.tracing.trace_of.Goals as goal
-use Rattle.fmp_places.specs.declared.calls.CallPlace.{CallPlace}
+use Rattle.fmp_frames.specs.declared.call_places.CallPlace.{CallPlace}
 
 -- a trace, by other names of the system and of the kernel
 traced_so : {B C X : Type 0} (form : Form) (places : List (Option CallPlace)) (meaning : B → Meaning C)
@@ -23,15 +23,8 @@ traced_so {B} {C} {X} form places meaning reaction sys sys' k k' xs out same is 
 pub returns-in_err-kernel : goal.returns-in_err-kernel
 returns-in_err-kernel g c = rw ((err_from_is_err_and c.from_residual.result c.from_residual.ensures.1).1) tt
 
-pub trace_on-trace-requires-clause-few : goal.trace_on-trace-requires-clause-few
-trace_on-trace-requires-clause-few g c = room _ _ c.in_ok-kernel.ensures.taken c.requires
-
-pub trace_on-trace-requires-clause-body : goal.trace_on-trace-requires-clause-body
-trace_on-trace-requires-clause-body g c =
-    c.bodies-bodies.ensures ∙ sym (ap (λ k. k.body) c.in_ok-kernel.ensures.start)
-
-pub trace_on-trace-requires-clause-bound : goal.trace_on-trace-requires-clause-bound
-trace_on-trace-requires-clause-bound g c = c.bound.ensures ∙ sym (ap (λ k. k.bound) c.in_ok-kernel.ensures.start)
+pub trace_on-trace-requires : goal.trace_on-trace-requires
+trace_on-trace-requires g c = record { few = room _ _ c.in_ok-kernel.ensures.taken c.requires }
 
 pub returns : goal.returns
 returns g c =

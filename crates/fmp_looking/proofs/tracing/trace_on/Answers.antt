@@ -1,14 +1,8 @@
 use Rattle.std.proofs.lemmas.Result.{IfOk-weaker, err_from_is_err_and}
 use Rattle.fmp_looking.proofs.tracing.trace_on.Goals as goal
 
-pub traced-requires-clause-few : goal.traced-requires-clause-few
-traced-requires-clause-few g c = c.requires.few
-
-pub traced-requires-clause-body : goal.traced-requires-clause-body
-traced-requires-clause-body g c = c.requires.body
-
-pub traced-requires-clause-bound : goal.traced-requires-clause-bound
-traced-requires-clause-bound g c = c.requires.bound
+pub traced-requires : goal.traced-requires
+traced-requires g c = record { few = c.requires.few }
 
 pub returns-in_err-tracer : goal.returns-in_err-tracer
 returns-in_err-tracer g c =

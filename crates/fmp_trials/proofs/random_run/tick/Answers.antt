@@ -1,5 +1,5 @@
 use Rattle.fmp_base.specs.declared.events.Event.TheVariants.{Tick}
-use Rattle.fmp_coming.specs.Comings.{reaction_of}
+use Rattle.fmp_kernel.specs.Comings.{reaction_of}
 use Rattle.fmp_trials.proofs.Besides.{stepped}
 use Rattle.fmp_trials.proofs.random_run.tick.Goals as goal
 

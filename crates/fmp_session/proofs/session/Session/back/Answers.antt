@@ -17,8 +17,6 @@ returns-clause-session c =
     let left = c.saturating_sub-left.result in
     let short = length-take left s.events.items in
     record {
-      low = c.requires.low;
-      high = c.requires.high;
       few = rw c.truncate.ensures.items (omega (arith, short, c.requires.few));
       legal = rw c.truncate.ensures.items (legal_take s.image.now s.bound s.events.items left c.requires.legal);
       kernel = rw c.truncate.ensures.items

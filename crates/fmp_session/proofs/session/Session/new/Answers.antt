@@ -3,12 +3,6 @@ use Rattle.std.proofs.lemmas.Result.{err_from_is_err_and}
 use Rattle.fmp_replay.proofs.Replaying.{none_legal}
 use Rattle.fmp_session.proofs.session.Session.new.Goals as goal
 
-pub kernel_of-requires-clause-low : goal.kernel_of-requires-clause-low
-kernel_of-requires-clause-low c = c.requires.low
-
-pub kernel_of-requires-clause-high : goal.kernel_of-requires-clause-high
-kernel_of-requires-clause-high c = c.requires.high
-
 pub returns-in_err-kernel-clause-session : goal.returns-in_err-kernel-clause-session
 returns-in_err-kernel-clause-session c =
     rw ((err_from_is_err_and c.from_residual.result c.from_residual.ensures.1).1) tt
@@ -28,8 +22,6 @@ returns-in_err-kernel-clause-events c =
 pub returns-clause-session : goal.returns-clause-session
 returns-clause-session c =
     record {
-      low = c.requires.low;
-      high = c.requires.high;
       few = rw c.new.ensures.items (omega arith);
       legal = rw c.new.ensures.items (none_legal c.args.image.now c.args.n);
       kernel = rw c.new.ensures.items c.in_ok-kernel.ensures;

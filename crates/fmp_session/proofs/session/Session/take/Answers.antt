@@ -13,8 +13,6 @@ returns-in-Done-clause-session c =
     let does : IsTaken (step_on s.kernel c.args.e) = done_taken _ (sym c.in-Done.is ∙ c.step.ensures.effect) in
     let was : s.kernel.taken ≡ length es = ap (λ (k : Kernels). k.taken) c.requires.kernel in
     record {
-      low = c.requires.low;
-      high = c.requires.high;
       few = rw c.in_ok-push.ensures.items
           (omega (arith, length-append es (c.args.e ∷ []), c.taken.ensures.value, was, c.if-taken-ge-MOST.false));
       legal = rw c.in_ok-push.ensures.items
@@ -38,8 +36,6 @@ returns-in-Kept-clause-session c =
     let does : IsTaken (step_on s.kernel c.args.e) = kept_taken _ (sym c.in-Kept.is ∙ c.step.ensures.effect) in
     let was : s.kernel.taken ≡ length es = ap (λ (k : Kernels). k.taken) c.requires.kernel in
     record {
-      low = c.requires.low;
-      high = c.requires.high;
       few = rw c.in_ok-push.ensures.items
           (omega (arith, length-append es (c.args.e ∷ []), c.taken.ensures.value, was, c.if-taken-ge-MOST.false));
       legal = rw c.in_ok-push.ensures.items

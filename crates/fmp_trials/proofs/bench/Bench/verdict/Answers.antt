@@ -1,6 +1,6 @@
 use Rattle.std.proofs.Common.{◌≡◌, Option, Result, subst}
 use Rattle.std.specs.Result.{IfOk}
-use Rattle.fmp_coming.specs.Comings.{reaction_of}
+use Rattle.fmp_kernel.specs.Comings.{reaction_of}
 use Rattle.fmp_trials.specs.Verdicts.{verdict}
 use Rattle.fmp_trials.proofs.Besides.{put_beside, put_room}
 use Rattle.fmp_trials.proofs.bench.Bench.verdict.Goals as goal

@@ -1,0 +1,8 @@
+use Rattle.std.proofs.Common.{◌≡◌, drop}
+use Rattle.fmp_frames.specs.Answers.{heard_lines, heard_of}
+use Rattle.fmp_frames.proofs.answers.RunAnswers.note.Given as goal
+
+-- what is known so far, and by the lines that are left
+abbrev pub invariant-loop-line : goal.invariant-loop-line
+invariant-loop-line l =
+    heard_lines (heard_of l.self) l.site (drop l.line-index l.lines) ≡ heard_lines (heard_of l.initial.self) l.site l.lines

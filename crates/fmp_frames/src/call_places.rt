@@ -1,0 +1,252 @@
+//! Where the calls of bodies stand in their text.
+ghost use Rattle.std.specs.Prelude.{◌≡◌, ◌+◌, ◌≤◌, ◌^◌, ◌++◌, IfOk, OnOk, count_by, drop, false, length, map};
+ghost use Rattle.std.specs.Prelude.{option_map, slice_get, take, unwrap_or};
+ghost use Rattle.fmp_instructions.specs.Instructions.{body_tables, code_tables};
+ghost use Rattle.fmp_frames.specs.CallPlaces as spec;
+
+use crate::columns::{column_of, line_begins};
+use fmp_instructions::{BodyCode, Code, Instruction};
+use fmp_lex::{Keyword, TextFault, TokenKind, Tokens, tokens};
+use std::alloc::{AllocError, Global};
+use std::marker::Model;
+
+/// Where a call stands in a text: its line and its column, both from 1. Columns are counted in bytes.
+#[derive(Clone, Copy, Debug, PartialEq, Eq)]
+pub struct CallPlace {
+    pub line: u32,
+    pub column: usize,
+}
+
+/// The places of the calls of a body, in order.
+#[derive(Drop)]
+struct BodyCalls {
+    calls: Vec<CallPlace>,
+}
+
+/// Where the calls of each body of a text stand. The code of a body has its calls in the order of the text, so the
+/// call at a place of the code is the one of the same number in the text.
+#[derive(Drop)]
+pub struct CallPlaces {
+    bodies: Vec<BodyCalls>,
+}
+
+impl Model for CallPlaces {
+    ghost use Rattle.std.specs.Prelude.{List, map};
+    ghost use Rattle.fmp_frames.specs.CallPlaces.{calls_of};
+    ghost use Rattle.fmp_frames.specs.declared.call_places.CallPlace.{CallPlace as Place};
+
+    ghost Value = { List (List Place) };
+
+    ghost view = { λ c. map calls_of c.bodies.items };
+}
+
+/// Whether a token begins a body.
+fn begins_body(kind: TokenKind) -> bool
+    ensures { result ≡ spec.is_head kind }
+{
+    match kind {
+        TokenKind::Keyword(Keyword::Task) | TokenKind::Keyword(Keyword::Handler) => true,
+        _ => false,
+    }
+}
+
+/// Whether the token at a place begins a body.
+fn begins_at(tokens: &Tokens<'_>, at: usize) -> bool
+    ensures { result ≡ spec.head_at tokens.now at }
+{
+    match tokens.kind(at) {
+        Some(kind) => begins_body(kind),
+        None => false,
+    }
+}
+
+/// Whether the token at a place names a service call.
+fn is_service_at(tokens: &Tokens<'_>, at: usize) -> bool
+    ensures { result ≡ unwrap_or (option_map (λ t. spec.is_service t.kind) (slice_get tokens.now at)) false }
+{
+    match tokens.kind(at) {
+        Some(TokenKind::Service(_)) => true,
+        _ => false,
+    }
+}
+
+/// Where the token at a place of a list stands in a text whose lines begin at these places.
+fn place_at(begins: &[u32], tokens: &Tokens<'_>, at: usize) -> CallPlace
+    ensures { result ≡ spec.place_at begins.now tokens.now at }
+{
+    match tokens.place(at) {
+        Some(place) => CallPlace {
+            line: place.line,
+            column: column_of(begins, place.line, place.start),
+        },
+        None => CallPlace { line: 0, column: 1 },
+    }
+}
+
+/// Adds where the token at a place of a list stands, if it names a service call.
+#[tactic(auto, using(crate::proofs::Bodies::call_place_by))]
+fn add_call_at(
+    begins: &[u32],
+    tokens: &Tokens<'_>,
+    at: usize,
+    calls: &mut Vec<CallPlace>,
+) -> Result<(), AllocError>
+    ensures { OnOk result (calls.new.items ≡ calls.old.items ++ spec.call_place_at begins.now tokens.now at) }
+{
+    if !is_service_at(tokens, at) {
+        return Ok(());
+    }
+    calls.push(place_at(begins, tokens, at))?;
+    Ok(())
+}
+
+/// Where the calls stand from a token on, up to where the next body begins.
+fn calls_behind(
+    alloc: Global,
+    begins: &[u32],
+    tokens: &Tokens<'_>,
+    start: usize,
+) -> Result<Vec<CallPlace>, AllocError>
+    ensures { IfOk result (λ calls. calls.items ≡ spec.call_places begins.now (drop start tokens.now)) }
+{
+    let mut calls = Vec::new(alloc);
+    for at in start..tokens.len() {
+        if begins_at(tokens, at) {
+            return Ok(calls);
+        }
+        add_call_at(begins, tokens, at, &mut calls)?;
+    }
+    Ok(calls)
+}
+
+/// Adds the calls of the body that the token at a place begins, if it begins one. The next token stands at the place
+/// after it.
+fn add_body_at(
+    alloc: Global,
+    begins: &[u32],
+    tokens: &Tokens<'_>,
+    at: usize,
+    next: usize,
+    bodies: &mut Vec<BodyCalls>,
+) -> Result<(), AllocError>
+    requires { next ≡ at + 1 }
+    ensures { OnOk result (map spec.calls_of bodies.new.items
+        ≡ map spec.calls_of bodies.old.items ++ spec.body_at begins.now tokens.now at) }
+{
+    if !begins_at(tokens, at) {
+        return Ok(());
+    }
+    let calls = calls_behind(alloc, begins, tokens, next)?;
+    bodies.push(BodyCalls { calls })?;
+    Ok(())
+}
+
+/// The calls of the bodies that begin in tokens.
+fn bodies_in(
+    alloc: Global,
+    begins: &[u32],
+    tokens: &Tokens<'_>,
+) -> Result<Vec<BodyCalls>, AllocError>
+    ensures { IfOk result (λ bodies. map spec.calls_of bodies.items ≡ spec.bodies_in begins.now tokens.now) }
+{
+    let mut bodies = Vec::new(alloc);
+    for at in 0..tokens.len() {
+        add_body_at(alloc, begins, tokens, at, at + 1, &mut bodies)?;
+    }
+    Ok(bodies)
+}
+
+/// The calls of the bodies of a text with these tokens.
+fn bodies_of(alloc: Global, src: &[u8], tokens: &Tokens<'_>) -> Result<Vec<BodyCalls>, AllocError>
+    requires { length src.now ≤ 2 ^ 20 }
+    ensures { IfOk result (λ bodies. map spec.calls_of bodies.items
+        ≡ spec.bodies_in (spec.line_begins src.now) tokens.now) }
+{
+    let begins = line_begins(alloc, src)?;
+    bodies_in(alloc, &begins, tokens)
+}
+
+/// Whether an instruction is a call.
+pub fn is_call(instruction: &Instruction) -> bool
+    ensures { result ≡ spec.is_call instruction.now }
+{
+    match instruction {
+        Instruction::Call { .. } => true,
+        _ => false,
+    }
+}
+
+/// How many of these instructions are calls.
+fn call_count(instructions: &[Instruction]) -> usize
+    ensures { result ≡ count_by spec.is_call instructions.now }
+{
+    instructions.iter().filter(|i| is_call(*i)).count()
+}
+
+/// How many calls each body of a code has.
+fn code_counts(alloc: Global, bodies: &[BodyCode]) -> Result<Vec<usize>, AllocError>
+    ensures { IfOk result (λ counts. counts.items ≡ spec.code_counts (map body_tables bodies.now)) }
+{
+    let mut counts = Vec::new(alloc);
+    for body in bodies {
+        counts.push(call_count(&body.instructions))?;
+    }
+    Ok(counts)
+}
+
+/// How many calls each body of a text has.
+fn text_counts(alloc: Global, bodies: &[BodyCalls]) -> Result<Vec<usize>, AllocError>
+    ensures { IfOk result (λ counts. counts.items ≡ map length (map spec.calls_of bodies.now)) }
+{
+    let mut counts = Vec::new(alloc);
+    for body in bodies {
+        counts.push(body.calls.len())?;
+    }
+    Ok(counts)
+}
+
+/// The place of the call at a place among instructions, whose calls stand at these places.
+fn place_among(instructions: &[Instruction], calls: &[CallPlace], pc: u16) -> Option<CallPlace>
+    ensures { result ≡ slice_get calls.now (count_by spec.is_call (take pc instructions.now)) }
+{
+    let end = usize::from(pc).min(instructions.len());
+    calls.get(call_count(&instructions[..end])).copied()
+}
+
+impl CallPlaces {
+    ghost use Rattle.std.specs.Prelude.{◌≡◌, IfOk};
+    ghost use Rattle.fmp_instructions.specs.Instructions.{code_tables};
+    ghost use Rattle.fmp_frames.specs.CallPlaces.{AreCallsOf, fits, place_of};
+
+    /// Those of a text that an image was built of; none of a text that is too long. `AllocError` if memory runs out.
+    pub fn new(alloc: Global, src: &[u8]) -> Result<CallPlaces, AllocError>
+        ensures { IfOk result (λ places. AreCallsOf src.now places) }
+    {
+        let bodies = match tokens(alloc, src) {
+            Ok(list) => bodies_of(alloc, src, &list.tokens)?,
+            Err(TextFault::TooLong) => Vec::new(alloc),
+            Err(TextFault::Memory) => return Err(AllocError),
+        };
+        Ok(CallPlaces { bodies })
+    }
+
+    /// Where the call stands at a place of the body of this number of this code, or the next call of the body if none
+    /// is there.
+    pub fn place(&self, code: &Code, body: u8, pc: u16) -> Option<CallPlace>
+        ensures { result ≡ place_of (code_tables code.now) self.now body pc }
+    {
+        let code = code.bodies.get(usize::from(body))?;
+        let text = self.bodies.get(usize::from(body))?;
+        place_among(&code.instructions, &text.calls, pc)
+    }
+
+    /// Whether the text has as many bodies as this code, each with as many calls: if not, it is not the text of the
+    /// code. `AllocError` if memory runs out.
+    pub fn fits(&self, alloc: Global, code: &Code) -> Result<bool, AllocError>
+        ensures { IfOk result (λ same. same ≡ fits (code_tables code.now) self.now) }
+    {
+        let code = code_counts(alloc, &code.bodies)?;
+        let text = text_counts(alloc, &self.bodies)?;
+        Ok(code == text)
+    }
+}

@@ -1,0 +1,104 @@
+//! Where the calls stand that a run makes.
+ghost use Rattle.std.specs.Prelude.{◌≡◌, ◌+◌, ◌≤◌, ◌^◌, IfOk, Some, length};
+ghost use Rattle.fmp_base.specs.Stretches.{ending};
+ghost use Rattle.fmp_instructions.specs.Instructions.{code_tables};
+ghost use Rattle.fmp_frames.specs.Made as spec;
+
+use crate::call_places::{CallPlace, CallPlaces};
+use crate::sites::CallSite;
+use fmp_base::{Effect, Event, Stretch};
+use fmp_instructions::{Code, MachineContext};
+use fmp_kernel::{Actor, Body, Coming, Kernel};
+use std::alloc::{AllocError, Global};
+
+/// The code of bodies, and where its calls stand in their text.
+#[derive(Clone, Copy)]
+pub struct CodePlaces<'a> {
+    pub code: &'a Code,
+    pub places: &'a CallPlaces,
+}
+
+/// The call that ends a stretch of a body, if a call ends it: its context is after the call then.
+fn stretch_site(body: u8, stretch: Stretch<MachineContext>) -> Option<CallSite>
+    ensures { result ≡ spec.ending_site body (ending stretch) }
+{
+    match stretch {
+        Stretch::Call(context, _) => Some(CallSite {
+            body,
+            pc: context.pc.saturating_sub(1),
+        }),
+        Stretch::End(_) | Stretch::Fault(..) | Stretch::Over(_) => None,
+    }
+}
+
+/// The call to which an actor over these bodies comes next within a bound; none if it comes to none.
+fn actor_site<B: Body<Ctx = MachineContext>>(
+    body: &B,
+    n: u64,
+    actor: &Actor<MachineContext>,
+) -> Option<CallSite>
+    requires entry { B.has_entry body.now actor.now.entry }
+    requires context { B.is_context body.now actor.now.entry actor.now.context }
+    ensures { result ≡ spec.actor_site (B.meaning body.now) n (Some actor.now) }
+{
+    stretch_site(actor.entry, body.stretch(actor.entry, n, actor.context))
+}
+
+/// The call that an event makes on a kernel, where it makes one.
+pub fn event_site<B: Body<Ctx = MachineContext>>(kernel: &Kernel<B>, e: Event) -> Option<CallSite>
+    ensures { result ≡ spec.event_site B.meaning kernel.now e }
+{
+    match e {
+        Event::Run(p) => match kernel.actor(p) {
+            Some(actor) => actor_site(kernel.body(), kernel.bound(), &actor),
+            None => None,
+        },
+        Event::Tick | Event::Int(_) => None,
+    }
+}
+
+/// Where a call stands, if it is known.
+fn site_place(text: CodePlaces<'_>, site: Option<CallSite>) -> Option<CallPlace>
+    ensures { result ≡ spec.site_place (code_tables text.entry.code.now) text.entry.places.now site }
+{
+    match site {
+        Some(site) => text.places.place(text.code, site.body, site.pc),
+        None => None,
+    }
+}
+
+/// Where the call stands that an event makes on a kernel, where it makes one.
+pub fn event_place<B: Body<Ctx = MachineContext>>(
+    kernel: &Kernel<B>,
+    text: CodePlaces<'_>,
+    e: Event,
+) -> Option<CallPlace>
+    ensures { result ≡ spec.event_place B.meaning (code_tables text.entry.code.now) text.entry.places.now
+        kernel.now e }
+{
+    site_place(text, event_site(kernel, e))
+}
+
+/// Takes events, and gives for each that is done where the call stands that it makes, if it makes one. `AllocError` if
+/// memory runs out.
+pub fn places_made<B: Body<Ctx = MachineContext>>(
+    alloc: Global,
+    kernel: &mut Kernel<B>,
+    text: CodePlaces<'_>,
+    events: &[Event],
+) -> Result<Vec<Option<CallPlace>>, AllocError>
+    requires few { kernel.old.taken + length events.now ≤ 2 ^ 31 }
+    ensures { IfOk result (λ made. made.items ≡ spec.places_made B.meaning (code_tables text.entry.code.now)
+        text.entry.places.now kernel.old events.now) }
+{
+    let mut made = Vec::new(alloc);
+    for e in events {
+        let place = event_place(kernel, text, *e);
+        match e.take(kernel) {
+            Effect::Done => made.push(place)?,
+            Effect::Kept => {}
+            Effect::Nothing => {}
+        }
+    }
+    Ok(made)
+}

@@ -1,0 +1,156 @@
+//! The lines of a trace with where their calls stand.
+ghost use Rattle.std.specs.Prelude.{◌≡◌, ◌++◌, IfOk, OnOk};
+ghost use Rattle.fmp_base.specs.Systems.{tables_of};
+ghost use Rattle.fmp_frames.specs.PlacedLines as spec;
+
+use crate::call_places::CallPlace;
+use fmp_base::{Line, System};
+use fmp_named::{append_lines, append_records};
+use itoa::Buffer;
+use std::alloc::{AllocError, Global};
+
+/// What a line of a trace is.
+#[derive(Clone, Copy)]
+pub enum LineForm {
+    /// A text: where its call stands comes last, as in ` at 10:5`.
+    Text,
+    /// An object of JSON: where its call stands are its last members, `line` and `column`.
+    Record,
+}
+
+/// Appends lines of the event of this number.
+fn append_told(
+    alloc: Global,
+    form: LineForm,
+    sys: &System,
+    number: u32,
+    lines: &[Line],
+    out: &mut Vec<u8>,
+) -> Result<(), AllocError>
+    ensures { OnOk result (out.new.items
+        ≡ out.old.items ++ spec.told form (tables_of sys.now) number lines.now) }
+{
+    match form {
+        LineForm::Text => append_lines(sys, number, lines, out),
+        LineForm::Record => append_records(alloc, sys, number, lines, out),
+    }
+}
+
+/// Where the call of a line stands, if the line tells a call.
+fn place_in(line: Line, place: Option<CallPlace>) -> Option<CallPlace>
+    ensures { result ≡ spec.place_in line place }
+{
+    match line {
+        Line::Call { .. } => place,
+        _ => None,
+    }
+}
+
+/// How many bytes end a line.
+fn end_length(form: LineForm) -> usize
+    ensures { result ≡ spec.end_length form }
+{
+    match form {
+        LineForm::Text => 1,
+        LineForm::Record => 2,
+    }
+}
+
+/// What stands before the number of a line.
+fn before_line(form: LineForm) -> &'static [u8]
+    ensures { result.now ≡ spec.before_line form }
+{
+    match form {
+        LineForm::Text => b" at ",
+        LineForm::Record => b",\"line\":",
+    }
+}
+
+/// What stands before the number of a column.
+fn before_column(form: LineForm) -> &'static [u8]
+    ensures { result.now ≡ spec.before_column form }
+{
+    match form {
+        LineForm::Text => b":",
+        LineForm::Record => b",\"column\":",
+    }
+}
+
+/// What stands after the number of a column.
+fn behind_column(form: LineForm) -> &'static [u8]
+    ensures { result.now ≡ spec.behind_column form }
+{
+    match form {
+        LineForm::Text => b"\n",
+        LineForm::Record => b"}\n",
+    }
+}
+
+/// Appends where a call stands, and the end of its line.
+fn append_place(form: LineForm, place: CallPlace, out: &mut Vec<u8>) -> Result<(), AllocError>
+    ensures { OnOk result (out.new.items ≡ out.old.items ++ spec.place_text form place) }
+{
+    out.extend_from_slice(before_line(form))?;
+    out.extend_from_slice(Buffer::new().format(place.line).as_bytes())?;
+    out.extend_from_slice(before_column(form))?;
+    out.extend_from_slice(Buffer::new().format(place.column as u64).as_bytes())?;
+    out.extend_from_slice(behind_column(form))
+}
+
+/// A printed line, with where its call stands if that is known.
+fn with_place(
+    form: LineForm,
+    place: Option<CallPlace>,
+    text: Vec<u8>,
+) -> Result<Vec<u8>, AllocError>
+    ensures { IfOk result (λ out. out.items ≡ spec.with_place form place text.items) }
+{
+    let mut text = text;
+    if let Some(place) = place {
+        text.truncate(text.len().saturating_sub(end_length(form)));
+        append_place(form, place, &mut text)?;
+    }
+    Ok(text)
+}
+
+/// Appends the first line of the event of this number, with where its call stands if that is known.
+fn append_first(
+    alloc: Global,
+    form: LineForm,
+    sys: &System,
+    number: u32,
+    place: Option<CallPlace>,
+    line: Line,
+    out: &mut Vec<u8>,
+) -> Result<(), AllocError>
+    ensures { OnOk result (out.new.items
+        ≡ out.old.items ++ spec.first_text form (tables_of sys.now) number place line) }
+{
+    let mut text = Vec::new(alloc);
+    append_told(alloc, form, sys, number, &[line], &mut text)?;
+    let text = with_place(form, place_in(line, place), text)?;
+    out.extend_from_slice(&text)
+}
+
+/// Appends the lines of the event of this number, with the names of objects, and where its call stands if that is
+/// known. `AllocError` if memory runs out.
+pub fn append_placed(
+    alloc: Global,
+    form: LineForm,
+    sys: &System,
+    number: u32,
+    place: Option<CallPlace>,
+    lines: &[Line],
+    out: &mut Vec<u8>,
+) -> Result<(), AllocError>
+    ensures { OnOk result (out.new.items
+        ≡ out.old.items ++ spec.placed form (tables_of sys.now) number place lines.now) }
+{
+    match lines {
+        [] => Ok(()),
+        [first, rest @ ..] => {
+            append_first(alloc, form, sys, number, place, *first, out)?;
+            append_told(alloc, form, sys, number, rest, out)
+        }
+    }
+}

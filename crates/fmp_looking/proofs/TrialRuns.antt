@@ -1,0 +1,34 @@
+-- What is seen of runs, one run after the other.
+use Rattle.std.proofs.Common.{◌≡◌, ◌∙◌, ℕ, suc, ◌+◌, List, [], ◌∷◌, ◌++◌, ap, arith, length, refl, sym}
+use Rattle.fmp_base.specs.declared.events.Event.{Event}
+use Rattle.fmp_image_bytes.specs.Images.{ImageTables}
+use Rattle.fmp_looking.specs.Covered.{AreTrialsSeen, IsNoneSeen, Seen, with_run, with_runs}
+
+runs_and : (i : ImageTables) (n : ℕ) (s : Seen) (runs : List (List Event)) (es : List Event)
+    → with_runs i n s (runs ++ es ∷ []) ≡ with_run i n (with_runs i n s runs) es
+runs_and i n s [] es = refl
+runs_and i n s (run ∷ runs) es = runs_and i n (with_run i n s run) runs es
+
+next : (i : ℕ) → suc (i + 1) ≡ suc i + 1
+next i = omega arith
+
+one_longer : (runs : List (List Event)) (es : List Event) → length (runs ++ es ∷ []) ≡ length runs + 1
+one_longer [] es = refl
+one_longer (run ∷ runs) es = ap (λ (k : ℕ). suc k) (one_longer runs es) ∙ next (length runs)
+
+-- before any run
+pub none_made : (src : List ℕ) (i : ImageTables) (n : ℕ) (s : Seen) → IsNoneSeen src s → AreTrialsSeen src i n 0 s
+none_made src i n s none = ([], refl, record { first = s; none = none; seen = refl })
+
+-- behind one run more
+pub one_made : (src : List ℕ) (i : ImageTables) (n count : ℕ) (s t : Seen) (es : List Event)
+    → AreTrialsSeen src i n count s → t ≡ with_run i n s es → AreTrialsSeen src i n (count + 1) t
+one_made src i n count s t es h more = (
+  h.0 ++ es ∷ [],
+  one_longer h.0 es ∙ ap (λ (k : ℕ). k + 1) h.1,
+  record {
+    first = h.2.first;
+    none = h.2.none;
+    seen = more ∙ ap (λ (x : Seen). with_run i n x es) h.2.seen ∙ sym (runs_and i n h.2.first h.0 es);
+  },
+)

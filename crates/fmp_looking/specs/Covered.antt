@@ -1,0 +1,84 @@
+-- What runs of an image come to in the text of its bodies: as a table, and as a tracefile of lcov.
+use Rattle.std.specs.Prelude.{ℕ, ◌≡◌, List, [], ◌∷◌, ◌++◌, Option, length, map}
+use Rattle.fmp_base.specs.declared.events.Event.{Event}
+use Rattle.fmp_looking.specs.declared.branches.BranchStep.{BranchStep}
+use Rattle.fmp_looking.specs.declared.marks.Mark.{Mark}
+use Rattle.fmp_looking.specs.declared.observing.CallSeen.{CallSeen}
+use Rattle.fmp_looking.specs.Branches.{branch_steps}
+use Rattle.fmp_looking.specs.Marks.{AreMarksOf}
+use Rattle.fmp_looking.specs.Observed.{calls_seen}
+use Rattle.fmp_looking.specs.Tables.{branch_counts, table_text}
+use Rattle.fmp_frames.specs.declared.call_places.CallPlace.{CallPlace}
+use Rattle.fmp_frames.specs.CallPlaces.{AreCallsOf}
+use Rattle.fmp_frames.specs.Made.{places_made}
+use Rattle.fmp_image_bytes.specs.Images.{ImageTables}
+use Rattle.fmp_instructions.specs.Machine.{code_meaning}
+use Rattle.fmp_replay.specs.Replays.{kernel_after}
+use Rattle.fmp_looking.specs.declared.covering.RunsSeen.{RunsSeen}
+use Rattle.fmp_looking.specs.Coverage.{AreLinesOf, count_of, tracefile}
+
+-- what is seen of runs so far: where their calls stand, what those were answered, and which ways their branches went
+pub record Seen : Type 0 where
+  pub places : List (List CallPlace)
+  pub made : List (Option CallPlace)
+  pub calls : List CallSeen
+  pub steps : List BranchStep
+
+abbrev pub seen_of : RunsSeen → Seen
+seen_of s = record { places = s.places; made = s.made.items; calls = s.calls.items; steps = s.steps.items }
+
+-- nothing yet, where calls of bodies stand at these places
+abbrev pub none_seen : List (List CallPlace) → Seen
+none_seen places = record { places = places; made = []; calls = []; steps = [] }
+
+-- nothing is seen yet of this text
+abbrev pub IsNoneSeen : (src : List ℕ) → Seen → Type 0
+IsNoneSeen src s = (bodies : List (List CallPlace)) × AreCallsOf src bodies × (s ≡ none_seen bodies)
+
+-- one run more
+abbrev pub with_run : ImageTables → (n : ℕ) → Seen → List Event → Seen
+with_run i n s es =
+    let start = kernel_after i n [] in
+    record s {
+      made = s.made ++ places_made code_meaning i.code s.places start es;
+      calls = calls_seen code_meaning i.code s.places start es (length i.system.tasks) s.calls;
+      steps = s.steps ++ branch_steps code_meaning i.code start es;
+    }
+
+-- what is seen of these runs, and of those before them
+abbrev pub with_runs : ImageTables → (n : ℕ) → Seen → List (List Event) → Seen
+with_runs i n s [] = s
+with_runs i n s (es ∷ runs) = with_runs i n (with_run i n s es) runs
+
+-- this was seen of these runs of an image, in this text of its bodies
+pub record IsSeen (src : List ℕ) (i : ImageTables) (n : ℕ) (runs : List (List Event)) (s : Seen) : Type 0 where
+  pub first : Seen
+  pub none : IsNoneSeen src first
+  pub seen : s ≡ with_runs i n first runs
+
+-- this was seen of some runs of an image, so many
+abbrev pub AreTrialsSeen : (src : List ℕ) → ImageTables → (n runs : ℕ) → Seen → Type 0
+AreTrialsSeen src i n count s = (runs : List (List Event)) × (length runs ≡ count) × IsSeen src i n runs s
+
+-- the table of what is seen, of a text in a file
+pub record IsTable (file src : List ℕ) (s : Seen) (out : List ℕ) : Type 0 where
+  pub marks : List Mark
+  pub are : AreMarksOf src marks
+  pub text : out ≡ table_text file s.calls s.steps marks
+
+-- the tracefile of what is seen, of a text in a file
+pub record IsTracefile (file src : List ℕ) (s : Seen) (out : List ℕ) : Type 0 where
+  pub lines : List ℕ
+  pub lines_are : AreLinesOf src lines
+  pub marks : List Mark
+  pub marks_are : AreMarksOf src marks
+  pub text : out ≡ tracefile file (map (count_of s.made) lines) (branch_counts s.steps marks)
+
+-- the table of what these runs of an image come to, in this text of its bodies
+abbrev pub IsCoverage : (file src : List ℕ) → ImageTables → (n : ℕ) → (runs : List (List Event)) → (out : List ℕ)
+    → Type 0
+IsCoverage file src i n runs out = (s : Seen) × IsSeen src i n runs s × IsTable file src s out
+
+-- the tracefile of lcov of them
+abbrev pub IsLcov : (file src : List ℕ) → ImageTables → (n : ℕ) → (runs : List (List Event)) → (out : List ℕ) → Type 0
+IsLcov file src i n runs out = (s : Seen) × IsSeen src i n runs s × IsTracefile file src s out

@@ -1,0 +1,107 @@
+-- How a run does by each expectation of a text alone, and how that is told.
+use Rattle.std.specs.Prelude.{ℕ, ◌≡◌, ◌==◌, Bool, true, false, not, ◌||◌, ◌&&◌, List, [], ◌∷◌, ◌++◌}
+use Rattle.std.specs.Prelude.{Ok, Option, Some, None, codes, if◌then◌else◌, is_some, length, map, string_bytes}
+use Rattle.std.specs.List.{flat_map}
+use Rattle.json.specs.Token.{Token}
+use Rattle.fmp_base.specs.Steps.{Reaction}
+use Rattle.fmp_base.specs.Systems.{SystemTables}
+use Rattle.fmp_expect.specs.declared.checker.BrokenExpectation.{BrokenExpectation}
+use Rattle.fmp_expect.specs.declared.expectation.Expected.{Expected}
+use Rattle.fmp_expect.specs.Grammar.{expectations_of}
+use Rattle.fmp_json.specs.declared.junit.TestCase.{TestCase}
+use Rattle.fmp_json.specs.declared.junit.TestSuite.{TestSuite}
+use Rattle.fmp_json.specs.Junit.{is_error, is_failure, report_text}
+use Rattle.fmp_json.specs.Members.{number_member, object_line, text_member}
+use Rattle.fmp_kernel.specs.KernelViews.{KernelView}
+use Rattle.fmp_trials.specs.Verdicts.{verdict}
+use Rattle.fmp_looking.specs.declared.judged_cases.JudgedCase.{JudgedCase}
+use Rattle.fmp_looking.specs.declared.judging.Judgement.{Judgement}
+use Rattle.fmp_looking.specs.declared.judging.JudgementForm.{JudgementForm}
+use Rattle.fmp_looking.specs.declared.judging.JudgementForm.TheVariants as form
+use Rattle.fmp_looking.specs.Expects.{empty_claims}
+
+-- how a run does by one expectation alone
+abbrev pub judged_by : {B C X : Type 0} → (KernelView B C → X → Reaction C) → KernelView B C → List X → Expected
+    → Judgement
+judged_by reaction k xs one =
+    record {
+      line = one.line;
+      broken = verdict reaction k xs (one ∷ []);
+      is_empty = not (length (empty_claims reaction k xs (one ∷ [])) == 0);
+    }
+
+-- what is broken, if it stands in this line
+abbrev pub broken_in : (line : ℕ) → Option BrokenExpectation → Option BrokenExpectation
+broken_in line None = None
+broken_in line (Some b) = if b.line == line then Some b else None
+
+-- how random runs do by an expectation, of which one breaks this, if one does
+abbrev pub tested_by : Option BrokenExpectation → Expected → Judgement
+tested_by broken one = record { line = one.line; broken = broken_in one.line broken; is_empty = false }
+
+-- a run fails an expectation; strictly, also one that says nothing of it
+abbrev pub fails : (strict : Bool) → Judgement → Bool
+fails strict j = is_some j.broken || (strict && j.is_empty)
+
+-- a test as it is counted: its line, whether it failed, and whether that is not known
+abbrev pub counted_test : TestCase → ℕ × Bool × Bool
+counted_test t = (t.line, is_failure t.verdict, is_error t.verdict)
+
+abbrev pub wanted_test : (strict : Bool) → Judgement → ℕ × Bool × Bool
+wanted_test strict j = (j.line, fails strict j, false)
+
+-- a report in the XML of JUnit: one suite of this name, which has these tests
+pub record IsSuiteReport (name : List ℕ) (tests : List TestCase) (out : List ℕ) : Type 0 where
+  pub suite : TestSuite
+  pub named : suite.name.now ≡ name
+  pub tests_are : suite.cases.now ≡ tests
+  pub text : out ≡ report_text (suite ∷ [])
+
+-- the same with a test for each judgement
+pub record IsReport (name : List ℕ) (strict : Bool) (js : List Judgement) (out : List ℕ) : Type 0 where
+  pub tests : List TestCase
+  pub are : map counted_test tests ≡ map (wanted_test strict) js
+  pub report : IsSuiteReport name tests out
+
+-- how a run does by an expectation, in a word
+abbrev pub verdict_word : Option BrokenExpectation → (is_empty : Bool) → List ℕ
+verdict_word (Some broken) is_empty = codes "fails"
+verdict_word None true = codes "empty"
+verdict_word None false = codes "holds"
+
+abbrev pub event_members : Option BrokenExpectation → List Token
+event_members None = []
+event_members (Some broken) = number_member (codes "event") broken.event
+
+-- a judgement: the file, the line and the text of its expectation, the verdict, and the event if there is one
+abbrev pub judgement_members : (file text : List ℕ) → Judgement → List Token
+judgement_members file text j =
+    text_member (codes "file") file
+    ++ (number_member (codes "line") j.line
+    ++ (text_member (codes "expectation") text
+    ++ (text_member (codes "verdict") (verdict_word j.broken j.is_empty) ++ event_members j.broken)))
+
+-- the same as an object of JSON in a line
+abbrev pub judgement_record : (file text : List ℕ) → Judgement → List ℕ
+judgement_record file text j = object_line (judgement_members file text j)
+
+abbrev pub case_record : (file : List ℕ) → JudgedCase → List ℕ
+case_record file c = judgement_record file (string_bytes c.name) c.judgement
+
+-- objects of JSON: one for each judgement
+pub record AreRecords (file : List ℕ) (js : List Judgement) (out : List ℕ) : Type 0 where
+  pub cases : List JudgedCase
+  pub judged : map (λ c. c.judgement) cases ≡ js
+  pub text : out ≡ flat_map (λ c. case_record file c) cases
+
+-- judgements told in a form
+abbrev pub IsTold : JudgementForm → (name : List ℕ) → (strict : Bool) → List Judgement → (out : List ℕ) → Type 0
+IsTold form.Junit name strict js out = IsReport name strict js out
+IsTold form.Records name strict js out = AreRecords name js out
+
+-- a report of random runs that were judged by a text of expectations: only what one of them breaks fails
+pub record IsTestReport
+    (sys : SystemTables) (name text : List ℕ) (broken : Option BrokenExpectation) (out : List ℕ) : Type 0 where
+  pub expected : List Expected
+  pub read : expectations_of sys text ≡ Ok expected
+  pub report : IsReport name false (map (tested_by broken) expected) out

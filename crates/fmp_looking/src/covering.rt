@@ -1,0 +1,234 @@
+//! What runs of an image come to in the text of its bodies: as a table, and as a tracefile of lcov.
+ghost use Rattle.std.specs.Prelude.{◌≡◌, ◌+◌, ◌≤◌, ◌++◌, ◌∷◌, ◌^◌, [], IfOk, OnOk, length};
+ghost use Rattle.fmp_looking.specs.Branches.{branch_steps};
+ghost use Rattle.fmp_looking.specs.Observed.{calls_seen as seen_calls};
+ghost use Rattle.fmp_frames.specs.Made.{places_made as made_by};
+ghost use Rattle.fmp_instructions.specs.Machine.{code_meaning};
+ghost use Rattle.fmp_replay.specs.Replays.{kernel_after};
+ghost use Rattle.fmp_looking.specs.Covered.{IsCoverage, IsLcov, IsSeen, seen_of};
+
+use crate::branches::{BranchStep, add_branch_steps};
+use crate::coverage::{counts_in, text_lines};
+use crate::lcov::tracefile;
+use crate::marks::marks_of;
+use crate::observing::{CallSeen, calls_seen};
+use crate::placing::places_over;
+use crate::refused::NamedText;
+use crate::tables::{branch_counts, coverage_table};
+use fmp_base::Event;
+use fmp_code::Vm;
+use fmp_frames::{CallPlace, CallPlaces, CodePlaces};
+use fmp_image_bytes::Image;
+use fmp_kernel::Kernel;
+use fmp_replay::kernel_of;
+use std::alloc::{AllocError, Global};
+
+/// What is seen of runs of an image.
+#[derive(Drop)]
+pub struct RunsSeen {
+    /// Where the calls of its bodies stand.
+    places: CallPlaces,
+    /// Where the calls stand that were made.
+    made: Vec<Option<CallPlace>>,
+    /// What they were answered.
+    calls: Vec<CallSeen>,
+    /// Which ways branches went.
+    steps: Vec<BranchStep>,
+}
+
+/// How many tasks the system of an image has.
+fn task_count(image: &Image) -> usize
+    ensures { result ≡ length image.now.system.tasks }
+{
+    image.system().tasks.len()
+}
+
+/// The calls of earlier runs, and those of a run on a kernel of an image.
+#[tactic(none)]
+fn calls_on<'a>(
+    alloc: Global,
+    kernel: &mut Kernel<Vm<'a>>,
+    image: &'a Image,
+    places: &CallPlaces,
+    events: &[Event],
+    calls: Vec<CallSeen>,
+) -> Result<Vec<CallSeen>, AllocError>
+    requires few { kernel.old.taken + length events.now ≤ 2 ^ 31 }
+    ensures { IfOk result (λ seen. seen.items ≡ seen_calls code_meaning image.now.code places.now kernel.old
+        events.now (length image.now.system.tasks) calls.items) }
+{
+    let text = CodePlaces {
+        code: image.code(),
+        places,
+    };
+    calls_seen(alloc, kernel, text, events, task_count(image), calls)
+}
+
+/// The same on a new kernel of the image.
+#[tactic(none)]
+fn calls_over(
+    alloc: Global,
+    image: &Image,
+    n: u64,
+    places: &CallPlaces,
+    events: &[Event],
+    calls: Vec<CallSeen>,
+) -> Result<Vec<CallSeen>, AllocError>
+    requires few { length events.now ≤ 2 ^ 20 }
+    ensures { IfOk result (λ seen. seen.items ≡ seen_calls code_meaning image.now.code places.now
+        (kernel_after image.now n []) events.now (length image.now.system.tasks) calls.items) }
+{
+    let mut kernel = kernel_of(alloc, image, n)?;
+    let seen = calls_on(alloc, &mut kernel, image, places, events, calls);
+    drop(kernel);
+    seen
+}
+
+/// Adds the ways that branches went in a run on a new kernel of an image.
+#[tactic(none)]
+fn add_steps(
+    alloc: Global,
+    image: &Image,
+    n: u64,
+    events: &[Event],
+    steps: &mut Vec<BranchStep>,
+) -> Result<(), AllocError>
+    requires few { length events.now ≤ 2 ^ 20 }
+    ensures { OnOk result (steps.new.items ≡ steps.old.items
+        ++ branch_steps code_meaning image.now.code (kernel_after image.now n []) events.now) }
+{
+    let mut kernel = kernel_of(alloc, image, n)?;
+    let added = add_branch_steps(alloc, &mut kernel, image.code(), events, steps);
+    drop(kernel);
+    added
+}
+
+/// Adds where the calls of a run of an image stand.
+fn add_made(
+    alloc: Global,
+    image: &Image,
+    n: u64,
+    places: &CallPlaces,
+    events: &[Event],
+    made: &mut Vec<Option<CallPlace>>,
+) -> Result<(), AllocError>
+    requires few { length events.now ≤ 2 ^ 20 }
+    ensures { OnOk result (made.new.items ≡ made.old.items
+        ++ made_by code_meaning image.now.code places.now (kernel_after image.now n []) events.now) }
+{
+    let more = places_over(alloc, image, n, places, events)?;
+    made.extend_from_slice(&more)
+}
+
+impl RunsSeen {
+    ghost use Rattle.std.specs.Prelude.{◌≡◌, ◌≤◌, ◌^◌, [], IfOk, length};
+    ghost use Rattle.fmp_looking.specs.Covered.{IsNoneSeen, IsTable, IsTracefile, seen_of, with_run as after_run};
+
+    /// Nothing is seen yet of an image with bodies of this text. `AllocError` if memory runs out.
+    pub fn new(alloc: Global, src: &[u8]) -> Result<RunsSeen, AllocError>
+        ensures { IfOk result (λ s. IsNoneSeen src.now (seen_of s)) }
+    {
+        let places = CallPlaces::new(alloc, src)?;
+        Ok(RunsSeen {
+            places,
+            made: Vec::new(alloc),
+            calls: Vec::new(alloc),
+            steps: Vec::new(alloc),
+        })
+    }
+
+    /// What is seen of a run of an image too, beside what was seen before. `AllocError` if memory runs out.
+    pub fn with_run(
+        self,
+        alloc: Global,
+        image: &Image,
+        n: u64,
+        events: &[Event],
+    ) -> Result<RunsSeen, AllocError>
+        requires few { length events.now ≤ 2 ^ 20 }
+        ensures { IfOk result (λ s. seen_of s ≡ after_run image.now n (seen_of self) events.now) }
+    {
+        let RunsSeen {
+            places,
+            mut made,
+            calls,
+            mut steps,
+        } = self;
+        add_made(alloc, image, n, &places, events, &mut made)?;
+        let calls = calls_over(alloc, image, n, &places, events, calls)?;
+        add_steps(alloc, image, n, events, &mut steps)?;
+        Ok(RunsSeen {
+            places,
+            made,
+            calls,
+            steps,
+        })
+    }
+
+    /// The table of what is seen, in this text of the file of this name. `AllocError` if memory runs out.
+    pub fn table(&self, alloc: Global, file: &str, src: &[u8]) -> Result<Vec<u8>, AllocError>
+        ensures { IfOk result (λ out. IsTable file.now src.now (seen_of self.now) out.items) }
+    {
+        let marks = marks_of(alloc, src)?;
+        coverage_table(alloc, file.as_bytes(), &self.calls, &self.steps, &marks)
+    }
+
+    /// The tracefile of lcov of what is seen, in this text of the file of this name. `AllocError` if memory runs out.
+    pub fn tracefile(&self, alloc: Global, file: &str, src: &[u8]) -> Result<Vec<u8>, AllocError>
+        ensures { IfOk result (λ out. IsTracefile file.now src.now (seen_of self.now) out.items) }
+    {
+        let lines = text_lines(alloc, src)?;
+        let counts = counts_in(alloc, &lines, &self.made)?;
+        let marks = marks_of(alloc, src)?;
+        let branches = branch_counts(alloc, &self.steps, &marks)?;
+        tracefile(alloc, file, &counts, &branches)
+    }
+}
+
+/// What is seen of a run of an image with bodies of this text.
+fn seen_of_run(
+    alloc: Global,
+    image: &Image,
+    src: &[u8],
+    events: &[Event],
+    n: u64,
+) -> Result<RunsSeen, AllocError>
+    requires few { length events.now ≤ 2 ^ 20 }
+    ensures { IfOk result (λ s. IsSeen src.now image.now n (events.now ∷ []) (seen_of s)) }
+{
+    let seen = RunsSeen::new(alloc, src)?;
+    seen.with_run(alloc, image, n, events)
+}
+
+/// The table of what a run of an image comes to in this text of its bodies. `AllocError` if memory runs out.
+pub fn run_coverage(
+    alloc: Global,
+    image: &Image,
+    source: NamedText<'_>,
+    events: &[Event],
+    n: u64,
+) -> Result<Vec<u8>, AllocError>
+    requires few { length events.now ≤ 2 ^ 20 }
+    ensures { IfOk result (λ out. IsCoverage source.entry.name.now source.entry.text.now image.now n
+        (events.now ∷ []) out.items) }
+{
+    let seen = seen_of_run(alloc, image, source.text, events, n)?;
+    seen.table(alloc, source.name, source.text)
+}
+
+/// The tracefile of lcov of what a run of an image comes to in this text of its bodies. `AllocError` if memory runs
+/// out.
+pub fn run_tracefile(
+    alloc: Global,
+    image: &Image,
+    source: NamedText<'_>,
+    events: &[Event],
+    n: u64,
+) -> Result<Vec<u8>, AllocError>
+    requires few { length events.now ≤ 2 ^ 20 }
+    ensures { IfOk result (λ out. IsLcov source.entry.name.now source.entry.text.now image.now n (events.now ∷ [])
+        out.items) }
+{
+    let seen = seen_of_run(alloc, image, source.text, events, n)?;
+    seen.tracefile(alloc, source.name, source.text)
+}

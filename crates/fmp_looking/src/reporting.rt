@@ -1,0 +1,137 @@
+//! Random runs of an image that are judged by a text of expectations, and what is printed of the first that fails.
+ghost use Rattle.std.specs.Prelude.{◌≡◌, ◌≤◌, ◌^◌, IfOk, IfSome, length};
+ghost use Rattle.fmp_instructions.specs.Machine.{code_meaning};
+ghost use Rattle.fmp_trace.specs.Steps.{steps_text};
+ghost use Rattle.fmp_trials.specs.Found.{IsFound};
+ghost use Rattle.fmp_looking.specs.Tested.{IsFailedTest, subject_of};
+
+use crate::exit::ViewExit;
+use crate::expecting::{Expectations, expected_of};
+use crate::looking::RunLook;
+use crate::open_image::OpenImage;
+use crate::trying::failed_trial_of;
+use crate::wanted::Testing;
+use fmp_base::Event;
+use fmp_expect::Expected;
+use fmp_files::Failure;
+use fmp_image_bytes::Image;
+use fmp_monitors::Sentence;
+use fmp_trace::print_steps;
+use fmp_trials::{FailedTrial, InterruptRate, RunPlan};
+use std::alloc::{AllocError, Global};
+
+/// A random run that fails an expectation, and what is printed of it.
+#[derive(Drop)]
+pub struct FailedTest {
+    /// The run, made shorter.
+    pub trial: FailedTrial,
+    /// The text of its steps.
+    pub steps: Vec<u8>,
+    /// What `expect` prints of them.
+    pub report: Vec<u8>,
+}
+
+/// Out of memory, as a reason.
+fn memory(error: AllocError) -> ViewExit {
+    ViewExit::Failed(Failure::Memory(error))
+}
+
+/// What is said of an expectation of the end of a run, in the line of this number.
+fn end_text(alloc: Global, line: usize) -> ViewExit {
+    match format!(in alloc;
+        "expect:{line}: `end` is of the end of a run; a random run is cut off"
+    ) {
+        Ok(text) => ViewExit::Expect(text),
+        Err(error) => memory(error),
+    }
+}
+
+/// Refuses expectations of the end of a run.
+fn refuse_ends(alloc: Global, expected: &[Expected]) -> Result<(), ViewExit> {
+    for one in expected {
+        if let Sentence::End { .. } = one.sentence {
+            return Err(end_text(alloc, one.line));
+        }
+    }
+    Ok(())
+}
+
+/// The text of steps.
+fn text_of(alloc: Global, steps: &[Event]) -> Result<Vec<u8>, AllocError>
+    ensures { IfOk result (λ text. text.items ≡ steps_text steps.now) }
+{
+    let mut text = Vec::new(alloc);
+    print_steps(steps, &mut text)?;
+    Ok(text)
+}
+
+/// What is printed of a run of an image that fails an expectation of a text.
+fn failed_test(
+    alloc: Global,
+    opened: &OpenImage<'_>,
+    expectations: &Expectations<'_>,
+    trial: FailedTrial,
+) -> Result<FailedTest, ViewExit>
+    requires { length trial.run.steps.items ≤ 2 ^ 20 }
+    ensures trial { IfOk result (λ test. test.trial ≡ trial) }
+    ensures steps { IfOk result (λ test. test.steps.items ≡ steps_text trial.run.steps.items) }
+{
+    let steps = text_of(alloc, &trial.run.steps).map_err(|error| memory(error))?;
+    let report = expectations.of(alloc, opened, &trial.run.steps, &[])?;
+    Ok(FailedTest {
+        trial,
+        steps,
+        report: report.unwrap_or(Vec::new(alloc)),
+    })
+}
+
+/// How the random runs go that are asked for, in which interrupts come so often.
+pub fn plan_of<'a>(rates: &'a [InterruptRate], testing: &Testing<'_>) -> RunPlan<'a> {
+    RunPlan {
+        events: testing.events,
+        tick: testing.tick,
+        interrupts: rates,
+    }
+}
+
+/// The first of the random runs that are asked for that fails one of these expectations, in which interrupts come so
+/// often.
+fn first_failed(
+    alloc: Global,
+    opened: &OpenImage<'_>,
+    expected: &[Expected],
+    rates: &[InterruptRate],
+    testing: &Testing<'_>,
+) -> Result<Option<FailedTrial>, ViewExit>
+    ensures { IfOk result (λ found. IfSome found
+        (IsFound code_meaning (subject_of opened.now.image.now opened.now.bound expected.now))) }
+{
+    let plan = plan_of(rates, testing);
+    failed_trial_of(alloc, opened, expected, plan, testing.seeds).map_err(|error| memory(error))
+}
+
+/// Makes the random runs that are asked for, in which interrupts come so often: the first that fails one of the
+/// expectations of a text. Where none does, nothing is said of other runs. The reasons to make none are a fault of the
+/// text, a line of it that begins with `end`, and that memory runs out.
+pub fn tested(
+    alloc: Global,
+    image: &Image,
+    expectations: &Expectations<'_>,
+    rates: &[InterruptRate],
+    testing: &Testing<'_>,
+) -> Result<Option<FailedTest>, ViewExit>
+    ensures { IfOk result (λ found. IfSome found
+        (IsFailedTest image.now testing.now.bound expectations.now.text.now)) }
+{
+    let expected = expected_of(alloc, image.system(), expectations.text)?;
+    refuse_ends(alloc, &expected)?;
+    let opened = OpenImage::new(image, testing.bound);
+    let found = first_failed(alloc, &opened, &expected, rates, testing)?;
+    match found {
+        Some(trial) => {
+            let test = failed_test(alloc, &opened, expectations, trial)?;
+            Ok(Some(test))
+        }
+        None => Ok(None),
+    }
+}

@@ -1,0 +1,315 @@
+//! How often the calls of a text were made and what they were answered, and which ways its branches went.
+ghost use Rattle.std.specs.Prelude.{◌≡◌, ◌++◌, IfOk, OnOk, count_by, decimal};
+ghost use Rattle.std.specs.List.{flat_map};
+ghost use Rattle.fmp_frames.specs.Answers.{is_same_code as is_same};
+ghost use Rattle.fmp_looking.specs.Tables as spec;
+
+use crate::branches::BranchStep;
+use crate::marks::{BranchKind, Mark, MarkKind};
+use crate::observing::{CallSeen, Outcome};
+use fmp_base::Er;
+use fmp_frames::CallPlace;
+use itoa::Buffer;
+use std::alloc::{AllocError, Global};
+
+/// How often a branch went each way.
+#[derive(Clone, Copy)]
+pub struct BranchCount {
+    pub place: CallPlace,
+    /// How often what it goes by was not 0.
+    pub is_true: usize,
+    /// How often it was.
+    pub is_false: usize,
+}
+
+/// The codes that calls and the ends of waits answer.
+const ANSWERS: [Er; 9] = [
+    Er::Ok,
+    Er::Par,
+    Er::Id,
+    Er::Ctx,
+    Er::Iluse,
+    Er::Obj,
+    Er::Qovr,
+    Er::Rlwai,
+    Er::Tmout,
+];
+
+/// Whether two places are one.
+fn is_at(place: CallPlace, other: CallPlace) -> bool
+    ensures { result ≡ spec.is_at place other }
+{
+    other.line == place.line && other.column == place.column
+}
+
+/// Whether two codes are one.
+fn is_same_code(a: Er, b: Er) -> bool
+    ensures { result ≡ is_same a b }
+{
+    a == b
+}
+
+/// Whether this says that a call was made.
+fn is_made(outcome: Outcome) -> bool
+    ensures { result ≡ spec.is_made outcome }
+{
+    match outcome {
+        Outcome::Made => true,
+        Outcome::Answered(_) => false,
+    }
+}
+
+/// Whether this says that a call was answered a code.
+fn is_answer(code: Er, outcome: Outcome) -> bool
+    ensures { result ≡ spec.is_answer code outcome }
+{
+    match outcome {
+        Outcome::Made => false,
+        Outcome::Answered(other) => is_same_code(other, code),
+    }
+}
+
+/// Whether this says that the call at a place was made.
+fn says_made(place: CallPlace, seen: &CallSeen) -> bool
+    ensures { result ≡ spec.says_made place seen.now }
+{
+    is_at(place, seen.place) && is_made(seen.outcome)
+}
+
+/// Whether this says that the call at a place was answered a code.
+fn says_answered(place: CallPlace, code: Er, seen: &CallSeen) -> bool
+    ensures { result ≡ spec.says_answered place code seen.now }
+{
+    is_at(place, seen.place) && is_answer(code, seen.outcome)
+}
+
+/// How often the call at a place was made.
+fn times_made(calls: &[CallSeen], place: CallPlace) -> usize
+    ensures { result ≡ spec.times_made calls.now place }
+{
+    calls.iter().filter(|seen| says_made(place, *seen)).count()
+}
+
+/// How often it was answered a code.
+fn times_answered(calls: &[CallSeen], place: CallPlace, code: Er) -> usize
+    ensures { result ≡ spec.times_answered calls.now place code }
+{
+    calls
+        .iter()
+        .filter(|seen| says_answered(place, code, *seen))
+        .count()
+}
+
+/// Whether a step goes this way.
+fn is_way(way: bool, step: &BranchStep) -> bool
+    ensures { result ≡ spec.is_way way step.now }
+{
+    if way { step.is_true } else { !step.is_true }
+}
+
+/// Whether the branch of a mark went this way.
+fn is_step(mark: &Mark, way: bool, step: &BranchStep) -> bool
+    ensures { result ≡ spec.is_step mark.now way step.now }
+{
+    usize::from(step.body) + 1 == mark.bodies && step.number == mark.branches && is_way(way, step)
+}
+
+/// How often it did.
+fn times_gone(steps: &[BranchStep], mark: &Mark, way: bool) -> usize
+    ensures { result ≡ spec.times_gone steps.now mark.now way }
+{
+    steps
+        .iter()
+        .filter(|step| is_step(mark, way, *step))
+        .count()
+}
+
+fn append(text: &[u8], out: &mut Vec<u8>) -> Result<(), AllocError>
+    ensures { OnOk result (out.new.items ≡ out.old.items ++ text.now) }
+{
+    out.extend_from_slice(text)
+}
+
+fn append_number(number: u64, out: &mut Vec<u8>) -> Result<(), AllocError>
+    ensures { OnOk result (out.new.items ≡ out.old.items ++ decimal number) }
+{
+    append(Buffer::new().format(number).as_bytes(), out)
+}
+
+/// Appends how often something was so.
+fn append_times(word: &[u8], times: usize, out: &mut Vec<u8>) -> Result<(), AllocError>
+    ensures { OnOk result (out.new.items ≡ out.old.items ++ spec.times word.now times) }
+{
+    if times == 0 {
+        append(b"never ", out)?;
+        return append(word, out);
+    }
+    append(word, out)?;
+    append(b" ", out)?;
+    append_number(times as u64, out)
+}
+
+/// Appends how often a call was answered a code, if it was.
+fn append_answer(code: Er, times: usize, out: &mut Vec<u8>) -> Result<(), AllocError>
+    ensures { OnOk result (out.new.items ≡ out.old.items ++ spec.answer_times code times) }
+{
+    if times == 0 {
+        return Ok(());
+    }
+    append(b", ", out)?;
+    append(code.name().as_bytes(), out)?;
+    append(b" ", out)?;
+    append_number(times as u64, out)
+}
+
+/// Appends how often a call was answered each of these codes.
+fn append_answers(
+    calls: &[CallSeen],
+    place: CallPlace,
+    codes: &[Er],
+    out: &mut Vec<u8>,
+) -> Result<(), AllocError>
+    ensures { OnOk result (out.new.items ≡ out.old.items
+        ++ flat_map (λ c. spec.answer_times c (spec.times_answered calls.now place c)) codes.now) }
+{
+    for code in codes {
+        append_answer(*code, times_answered(calls, place, *code), out)?;
+    }
+    Ok(())
+}
+
+/// The word of a branch.
+fn branch_word(kind: BranchKind) -> &'static [u8]
+    ensures { result.now ≡ spec.branch_word kind }
+{
+    match kind {
+        BranchKind::If => b"if",
+        BranchKind::While => b"while",
+        BranchKind::And => b"&&",
+        BranchKind::Or => b"||",
+    }
+}
+
+/// The word of a mark.
+fn kind_word(kind: MarkKind) -> &'static [u8]
+    ensures { result.now ≡ spec.kind_word kind }
+{
+    match kind {
+        MarkKind::Call(service) => service.name().as_bytes(),
+        MarkKind::Branch(kind) => branch_word(kind),
+    }
+}
+
+/// Appends a place in a file.
+fn append_place(file: &[u8], place: CallPlace, out: &mut Vec<u8>) -> Result<(), AllocError>
+    ensures { OnOk result (out.new.items ≡ out.old.items ++ spec.place_text file.now place) }
+{
+    append(file, out)?;
+    append(b":", out)?;
+    append_number(u64::from(place.line), out)?;
+    append(b":", out)?;
+    append_number(place.column as u64, out)
+}
+
+/// Appends where a mark stands in a file, with the word that stands there.
+fn append_mark(file: &[u8], mark: &Mark, word: &[u8], out: &mut Vec<u8>) -> Result<(), AllocError>
+    ensures { OnOk result (out.new.items ≡ out.old.items ++ spec.mark_text file.now mark.now word.now) }
+{
+    append_place(file, mark.place, out)?;
+    append(b": ", out)?;
+    append(word, out)?;
+    append(b": ", out)
+}
+
+/// Appends what is seen of a mark.
+fn append_seen(
+    calls: &[CallSeen],
+    steps: &[BranchStep],
+    mark: &Mark,
+    out: &mut Vec<u8>,
+) -> Result<(), AllocError>
+    ensures { OnOk result (out.new.items
+        ≡ out.old.items ++ spec.seen_text calls.now steps.now mark.now mark.now.kind) }
+{
+    match mark.kind {
+        MarkKind::Call(_) => {
+            append_times(b"made", times_made(calls, mark.place), out)?;
+            append_answers(calls, mark.place, &ANSWERS, out)
+        }
+        MarkKind::Branch(_) => {
+            append_times(b"true", times_gone(steps, mark, true), out)?;
+            append(b", ", out)?;
+            append_times(b"false", times_gone(steps, mark, false), out)
+        }
+    }
+}
+
+/// Appends a line of the table.
+fn append_row(
+    file: &[u8],
+    calls: &[CallSeen],
+    steps: &[BranchStep],
+    mark: &Mark,
+    out: &mut Vec<u8>,
+) -> Result<(), AllocError>
+    ensures { OnOk result (out.new.items
+        ≡ out.old.items ++ spec.row_text file.now calls.now steps.now mark.now) }
+{
+    append_mark(file, mark, kind_word(mark.kind), out)?;
+    append_seen(calls, steps, mark, out)?;
+    append(b"\n", out)
+}
+
+/// The table of the calls and branches of a text in a file, by its marks: a line for each, with how often a call was
+/// made and answered each code, and how often a branch went each way. `AllocError` if memory runs out.
+pub fn coverage_table(
+    alloc: Global,
+    file: &[u8],
+    calls: &[CallSeen],
+    steps: &[BranchStep],
+    marks: &[Mark],
+) -> Result<Vec<u8>, AllocError>
+    ensures { IfOk result (λ out. out.items ≡ spec.table_text file.now calls.now steps.now marks.now) }
+{
+    let mut out = Vec::new(alloc);
+    for mark in marks {
+        append_row(file, calls, steps, mark, &mut out)?;
+    }
+    Ok(out)
+}
+
+/// Adds how often a branch went each way, if the mark is one.
+fn add_count(
+    steps: &[BranchStep],
+    mark: &Mark,
+    counts: &mut Vec<BranchCount>,
+) -> Result<(), AllocError>
+    ensures { OnOk result (counts.new.items ≡ counts.old.items ++ spec.counted steps.now mark.now mark.now.kind) }
+{
+    match mark.kind {
+        MarkKind::Call(_) => Ok(()),
+        MarkKind::Branch(_) => {
+            counts.push(BranchCount {
+                place: mark.place,
+                is_true: times_gone(steps, mark, true),
+                is_false: times_gone(steps, mark, false),
+            })?;
+            Ok(())
+        }
+    }
+}
+
+/// How often each branch among marks went each way. `AllocError` if memory runs out.
+pub fn branch_counts(
+    alloc: Global,
+    steps: &[BranchStep],
+    marks: &[Mark],
+) -> Result<Vec<BranchCount>, AllocError>
+    ensures { IfOk result (λ counts. counts.items ≡ spec.branch_counts steps.now marks.now) }
+{
+    let mut counts = Vec::new(alloc);
+    for mark in marks {
+        add_count(steps, mark, &mut counts)?;
+    }
+    Ok(counts)
+}

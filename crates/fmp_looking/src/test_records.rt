@@ -1,0 +1,117 @@
+//! What comes of random runs, as an object of JSON.
+ghost use Rattle.std.specs.Prelude.{◌≡◌, ◌++◌, IfOk, OnOk, Some, option_map};
+ghost use Rattle.fmp_looking.specs.TestRecords as spec;
+ghost use Rattle.fmp_looking.specs.TestRecords.{IsTestRecord};
+
+use crate::expecting::{Expectations, line_of};
+use crate::reporting::FailedTest;
+use fmp_json::{begin, finish, number_member, text_member};
+use fmp_trials::FailedTrial;
+use json::Writer;
+use std::alloc::{AllocError, Global};
+
+/// Writes which file runs are judged by, and how many runs were asked for, and made.
+fn write_asked(writer: &mut Writer, file: &str, seeds: u64, runs: u64) -> Result<(), AllocError>
+    ensures before { writer.new.before ≡ writer.old.before }
+    ensures tokens { OnOk result (writer.new.tokens
+        ≡ writer.old.tokens ++ spec.asked_members file.now seeds runs) }
+{
+    text_member(writer, "file", file)?;
+    number_member(writer, "seeds", seeds)?;
+    number_member(writer, "runs", runs)
+}
+
+/// Writes which run fails, and how many events it had.
+fn write_run(writer: &mut Writer, trial: &FailedTrial) -> Result<(), AllocError>
+    ensures before { writer.new.before ≡ writer.old.before }
+    ensures tokens { OnOk result (writer.new.tokens ≡ writer.old.tokens ++ spec.run_members trial.now) }
+{
+    text_member(writer, "verdict", "fails")?;
+    number_member(writer, "seed", trial.seed)?;
+    number_member(writer, "drawn", trial.drawn as u64)
+}
+
+/// Writes which line it fails, in which event, and its steps.
+fn write_failed(
+    writer: &mut Writer,
+    trial: &FailedTrial,
+    expectation: &str,
+    steps: &str,
+) -> Result<(), AllocError>
+    ensures before { writer.new.before ≡ writer.old.before }
+    ensures tokens { OnOk result (writer.new.tokens
+        ≡ writer.old.tokens ++ spec.failed_members trial.now expectation.now steps.now) }
+{
+    number_member(writer, "line", trial.run.broken.line as u64)?;
+    text_member(writer, "expectation", expectation)?;
+    number_member(writer, "event", u64::from(trial.run.broken.event))?;
+    text_member(writer, "steps", steps)
+}
+
+/// The object of runs of which this one fails.
+fn failed_record(
+    alloc: Global,
+    file: &str,
+    seeds: u32,
+    trial: &FailedTrial,
+    expectation: &str,
+    steps: &str,
+) -> Result<Vec<u8>, AllocError>
+    ensures { IfOk result (λ line. line.items
+        ≡ spec.failed_record file.now seeds trial.now expectation.now steps.now) }
+{
+    let mut writer = begin(alloc)?;
+    write_asked(&mut writer, file, u64::from(seeds), trial.seed)?;
+    write_run(&mut writer, trial)?;
+    write_failed(&mut writer, trial, expectation, steps)?;
+    finish(writer)
+}
+
+/// The object of runs of which none fails.
+fn none_record(alloc: Global, file: &str, seeds: u32) -> Result<Vec<u8>, AllocError>
+    ensures { IfOk result (λ line. line.items ≡ spec.none_record file.now seeds) }
+{
+    let mut writer = begin(alloc)?;
+    write_asked(&mut writer, file, u64::from(seeds), u64::from(seeds))?;
+    text_member(&mut writer, "verdict", "none fails")?;
+    finish(writer)
+}
+
+/// The object of runs of which this one fails, with its texts.
+fn shown_record(
+    alloc: Global,
+    expectations: &Expectations<'_>,
+    seeds: u32,
+    failed: &FailedTest,
+) -> Result<Vec<u8>, AllocError>
+    ensures { IfOk result (λ line. IsTestRecord expectations.now.name.now seeds (Some failed.now) line.items) }
+{
+    let text = line_of(expectations.text, failed.trial.run.broken.line);
+    let expectation = String::from_utf8_lossy(alloc, text)?;
+    let steps = String::from_utf8_lossy(alloc, &failed.steps)?;
+    failed_record(
+        alloc,
+        expectations.name,
+        seeds,
+        &failed.trial,
+        &expectation,
+        &steps,
+    )
+}
+
+/// What comes of this many random runs that are judged by a text, of which this one fails, if one does, as an object of
+/// JSON in a line. `AllocError` if memory runs out.
+pub fn test_record(
+    alloc: Global,
+    expectations: &Expectations<'_>,
+    seeds: u32,
+    failed: Option<&FailedTest>,
+) -> Result<Vec<u8>, AllocError>
+    ensures { IfOk result (λ line. IsTestRecord expectations.now.name.now seeds
+        (option_map (λ f. f.now) failed.entry) line.items) }
+{
+    match failed {
+        Some(failed) => shown_record(alloc, expectations, seeds, failed),
+        None => none_record(alloc, expectations.name, seeds),
+    }
+}

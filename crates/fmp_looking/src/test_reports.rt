@@ -1,0 +1,136 @@
+//! Reports of random runs in the XML of JUnit.
+ghost use Rattle.std.specs.Prelude.{◌≡◌, IfOk, false, map, option_map};
+ghost use Rattle.fmp_base.specs.Systems.{tables_of};
+ghost use Rattle.fmp_looking.specs.Judgements as spec;
+
+use crate::exit::{ViewExit, memory};
+use crate::expecting::{Expectations, expected_of, line_of};
+use crate::judged_cases::{JudgedCase, report_of};
+use crate::judging::Judgement;
+use crate::reporting::FailedTest;
+use fmp_base::System;
+use fmp_expect::{BrokenExpectation, Expected};
+use std::alloc::{AllocError, Global};
+
+/// What is broken, if it stands in this line.
+fn broken_in(line: usize, broken: Option<BrokenExpectation>) -> Option<BrokenExpectation>
+    ensures { result ≡ spec.broken_in line broken }
+{
+    match broken {
+        Some(broken) if broken.line == line => Some(broken),
+        _ => None,
+    }
+}
+
+/// How random runs do by an expectation, of which one breaks this, if one does.
+fn tested_by(broken: Option<BrokenExpectation>, one: &Expected) -> Judgement
+    ensures { result ≡ spec.tested_by broken one.now }
+{
+    Judgement {
+        line: one.line,
+        broken: broken_in(one.line, broken),
+        is_empty: false,
+    }
+}
+
+/// What a run breaks that fails, if there is one.
+fn broken_by(failed: Option<&FailedTest>) -> Option<BrokenExpectation>
+    ensures { result ≡ option_map (λ f. f.now.trial.run.broken) failed.entry }
+{
+    match failed {
+        Some(failed) => Some(failed.trial.run.broken),
+        None => None,
+    }
+}
+
+/// In which event a run of which seed breaks an expectation, if one does.
+fn message_of(
+    alloc: Global,
+    broken: Option<BrokenExpectation>,
+    failed: Option<&FailedTest>,
+) -> Result<String, AllocError> {
+    match (broken, failed) {
+        (Some(broken), Some(failed)) => format!(in alloc;
+            "fails in event {} of the run of seed {}",
+            broken.event, failed.trial.seed
+        ),
+        _ => Ok(String::new(alloc)),
+    }
+}
+
+/// The steps of a run that breaks an expectation, if it does.
+fn shown_of(
+    alloc: Global,
+    broken: Option<BrokenExpectation>,
+    failed: Option<&FailedTest>,
+) -> Result<String, AllocError> {
+    match (broken, failed) {
+        (Some(_), Some(failed)) => String::from_utf8_lossy(alloc, &failed.steps),
+        _ => Ok(String::new(alloc)),
+    }
+}
+
+/// How random runs do by an expectation of a text, with its texts.
+fn case_of(
+    alloc: Global,
+    text: &[u8],
+    failed: Option<&FailedTest>,
+    judgement: Judgement,
+) -> Result<JudgedCase, AllocError>
+    ensures { IfOk result (λ case. case.judgement ≡ judgement) }
+{
+    Ok(JudgedCase {
+        judgement,
+        name: String::from_utf8_lossy(alloc, line_of(text, judgement.line))?,
+        message: message_of(alloc, judgement.broken, failed)?,
+        shown: shown_of(alloc, judgement.broken, failed)?,
+    })
+}
+
+/// How random runs do by each of the expectations of a text.
+fn cases_of(
+    alloc: Global,
+    text: &[u8],
+    expected: &[Expected],
+    failed: Option<&FailedTest>,
+) -> Result<Vec<JudgedCase>, AllocError>
+    ensures { IfOk result (λ cases. map (λ c. c.judgement) cases.items
+        ≡ map (spec.tested_by (option_map (λ f. f.now.trial.run.broken) failed.entry)) expected.now) }
+{
+    let broken = broken_by(failed);
+    let mut cases = Vec::new(alloc);
+    for one in expected {
+        cases.push(case_of(alloc, text, failed, tested_by(broken, one))?)?;
+    }
+    Ok(cases)
+}
+
+/// A report of random runs that were judged by these expectations, of which this one fails, if one does.
+fn report_with(
+    alloc: Global,
+    expectations: &Expectations<'_>,
+    expected: &[Expected],
+    failed: Option<&FailedTest>,
+) -> Result<Vec<u8>, AllocError>
+    ensures { IfOk result (λ out. spec.IsReport expectations.now.name.now false
+        (map (spec.tested_by (option_map (λ f. f.now.trial.run.broken) failed.entry)) expected.now) out.items) }
+{
+    let cases = cases_of(alloc, expectations.text, expected, failed)?;
+    report_of(alloc, expectations.name, false, &cases)
+}
+
+/// A report of random runs of a system that were judged by the expectations of a text, of which this one fails, if one
+/// does: only the expectation that it breaks fails. The reasons to give none are a fault of the text, and that memory
+/// runs out.
+pub fn test_report(
+    alloc: Global,
+    sys: &System,
+    expectations: &Expectations<'_>,
+    failed: Option<&FailedTest>,
+) -> Result<Vec<u8>, ViewExit>
+    ensures { IfOk result (λ out. spec.IsTestReport (tables_of sys.now) expectations.now.name.now
+        expectations.now.text.now (option_map (λ f. f.now.trial.run.broken) failed.entry) out.items) }
+{
+    let expected = expected_of(alloc, sys, expectations.text)?;
+    report_with(alloc, expectations, &expected, failed).map_err(|error| memory(error))
+}

@@ -1,7 +1,0 @@
-use Rattle.fmp_watch.proofs.Differences.{appended, events-more}
-use Rattle.fmp_watch.proofs.comparing.append_before.Goals as goal
-
-pub loop-before-preserved : goal.loop-before-preserved
-loop-before-preserved c =
-    appended _ _ _ _ _ _ c.in_ok-append_event.ensures
-    (events-more c.args.told.now c.args.number c.loop-before.before c.loop-before-test.true) c.loop-before.invariant

@@ -1,7 +1,0 @@
-use Rattle.std.proofs.Common.{◌≡◌, ℕ, ◌<◌}
-use Rattle.std.specs.Prelude.{slice_get}
-use Rattle.fmp_watch.specs.Compares.{events_of}
-use Rattle.fmp_watch.proofs.comparing.first_difference.Given as goal
-
-abbrev pub invariant-loop-number : goal.invariant-loop-number
-invariant-loop-number l = (i : ℕ) → i < l.number → slice_get (events_of l.a) i ≡ slice_get (events_of l.b) i

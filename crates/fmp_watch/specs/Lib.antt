@@ -1,2 +1,0 @@
-pub mod Compares
-pub mod Watches
