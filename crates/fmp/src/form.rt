@@ -49,8 +49,9 @@ const INTERRUPT: &str =
 summary as with --tick-us, without which the run lasts to the end of the input";
 
 /// What a bound is.
-const BOUND: &str = "How many instructions a body may take in a step, 1 to 2^48; where its next
-service call is farther, its next step goes on from there";
+const BOUND: &str = "How many instructions a body may take in a step, 1 to 2^48 in decimal
+digits; where its next service call is farther, its next step goes on
+from there";
 
 /// An example, and what the program's answers mean.
 const EXAMPLE_AND_CODES: &str = "Example, on the files of the folder 'examples':
@@ -59,13 +60,16 @@ const EXAMPLE_AND_CODES: &str = "Example, on the files of the folder 'examples':
   fmp sim queue.img examples/queue.steps
   fmp host queue.img queue.journal --turns 7 --ticks 0
 
+'fmp_view fault CFG SRC' shows where a fault of a text stands, and says what was expected there;
+'fmp_view run CFG SRC' runs two texts. 'fmp_view --help' lists what else it does.
+
 Status, and the line on standard error with it:
   0        done; help or the version was asked for
   1        a fault of what was read: 'cfg:3: B4 E_PAR', 'src:2: B1', 'image: L2', 'steps:4: S1';
            no host for what is asked: 'host: H4'
   2        a mistake in the command line; OUT is one of the two texts, JOURNAL is the image
   3        'file: NAME', a file could not be read or written ('-' is standard output); 'memory'
-Fault of a text, behind the file and the line at which it stands:
+Fault of a text, after the file and the line at which it stands:
   B1       syntax: the first token that does not fit, or the end of the text
   B2       a name is used twice
   B3       an unknown class, constant or name; an entry that names no body
@@ -76,12 +80,12 @@ Fault of a text, behind the file and the line at which it stands:
   B9       an array without an index, or a variable or an object with one
 Fault of an image:
   L1       it ends too soon
-  L2       its first four bytes are not 'FMPI'
+  L2       its first four bytes are not 'FMPI': it is a text, or a file of another kind
   L3       its version is not 1 to 3
   L4       a value breaks a rule of its table
   L5       the code of a body is not fit to run
-  L6       bytes stand behind the last table
-Fault of a steps text, behind its line:
+  L6       bytes stand after the last table
+Fault of a steps text, after its line:
   S1       no event: 'run P', 'tick' and 'int I' are events
   S2       no processor P in the image, or I is not from 1 to 32
   S3       line 2^20 + 1: a run has at most 2^20 events

@@ -16,6 +16,7 @@ mod perform;
 mod printing;
 mod progress;
 mod reading;
+mod refusing;
 mod running;
 
 use fmp_files::{Host, refuse_words, words_of};

@@ -94,8 +94,8 @@ impl<R: Threads + Wait + Input + Copy + Send + 'static> Pacer<'_, R>
 where
     R::Reader: Send + 'static,
 {
-    /// Starts the thread that reads standard input, if lines raise an interrupt. If the system refuses the thread, there
-    /// are no lines.
+    /// Starts the thread that reads standard input, if lines raise an interrupt. If the system refuses the thread,
+    /// there are no lines.
     pub fn start_reading(&self) {
         let Some(interrupt) = self.plan.interrupt else {
             return;

@@ -1,11 +1,13 @@
 //! Carrying out a command, from the bytes that were read to those that are to be written.
-ghost use Rattle.std.specs.Prelude.{◌≡◌, ◌≢◌, ◌++◌, ℕ, List, [], None, OnOk, IfErr, IfOk, IfSome, codes, decimal, length, map, string_bytes};
+ghost use Rattle.std.specs.Prelude.{◌≡◌, ◌≢◌, ◌++◌, ℕ, List, [], None, OnOk, IfErr, IfOk, IfSome, codes, decimal};
+ghost use Rattle.std.specs.Prelude.{length, map, string_bytes};
 ghost use Rattle.fmp_image.specs.Building.{IsBuildFault};
 ghost use Rattle.fmp_engine.specs.Hosting.{IsWhyHost, IsWorkload};
 ghost use Rattle.fmp_engine.specs.Simulations.{IsWhySim};
 ghost use Rattle.fmp.specs.CommandRanges.{IsBound, IsCount, IsInterrupt, KeepsRanges};
 ghost use Rattle.fmp.specs.Commands.{input_count, output_of};
-ghost use Rattle.fmp.specs.Performed.{BuildsFile, CarriesOut, Checks, HostsImage, IsWhyNoImage, IsWhyNoRun, IsWhyNot, IsWhyNotHosted, IsWhyNotRun, RunsImage, RunsTexts, status_of, work_of};
+ghost use Rattle.fmp.specs.Performed.{BuildsFile, CarriesOut, Checks, HostsImage, IsWhyNoImage, IsWhyNoRun, IsWhyNot};
+ghost use Rattle.fmp.specs.Performed.{IsWhyNotHosted, IsWhyNotRun, RunsImage, RunsTexts, status_of, work_of};
 ghost use Rattle.fmp.specs.declared.perform.Exit.TheVariants.{Failed};
 ghost use Rattle.fmp.specs.Giving.{GivesText, IsStopped, IsWhyCut};
 

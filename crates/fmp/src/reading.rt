@@ -1,7 +1,8 @@
 //! What a subcommand and its words ask for.
 ghost use Rattle.std.specs.Prelude.{◌≡◌, IfOk, IfSome, codes, option_map, string_bytes};
 ghost use Rattle.clap.specs.Words.{found_of, rows_of, subcommand_rows_of};
-ghost use Rattle.fmp.specs.Asked.{HasNumber, HasNumberIfGiven, HasWord, HasWords, IsAsked, IsGiven, IsGivenBound, IsGivenCount, IsNumberIfGiven};
+ghost use Rattle.fmp.specs.Asked.{HasNumber, HasNumberIfGiven, HasWord, HasWords, IsAsked, IsGiven, IsGivenBound};
+ghost use Rattle.fmp.specs.Asked.{IsGivenCount, IsNumberIfGiven};
 ghost use Rattle.fmp.specs.CommandRanges.{IsBound, IsCount, IsInterrupt, IsPeriod, KeepsRanges};
 
 use crate::asking::Cmd;

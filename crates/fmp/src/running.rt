@@ -10,7 +10,8 @@ use crate::carrying::{borrowed, carry_out, read_inputs};
 use crate::pacing::Pacer;
 use crate::perform::CommandCut;
 use crate::printing::print_performed;
-use fmp_files::{Failure, Outside, end, failed, print, refuse, refuse_mistake};
+use crate::refusing::refuse_form;
+use fmp_files::{Failure, Outside, end, failed, print, refuse_mistake};
 use std::alloc::{AllocError, Global};
 use std::io::Input;
 use std::sync::Wait;
@@ -186,6 +187,6 @@ where
     };
     match command(alloc, &texts) {
         Ok(cmd) => run_command(rt, alloc, outside, &cmd),
-        Err(error) => refuse(alloc, outside, &error),
+        Err(error) => refuse_form(alloc, outside, &error),
     }
 }

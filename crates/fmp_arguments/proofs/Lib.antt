@@ -1,1 +1,4 @@
 pub mod GivenWords
+pub mod Lines
+pub mod Members
+pub mod More

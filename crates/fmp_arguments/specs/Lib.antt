@@ -1,1 +1,5 @@
 pub mod Given
+pub mod Joined
+pub mod Places
+pub mod Refusals
+pub mod Settings

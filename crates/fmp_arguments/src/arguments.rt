@@ -84,6 +84,27 @@ pub const BOUNDED: Argument = Argument(
     BOUND,
 );
 
+/// Asks for objects of JSON.
+pub const JSON: Argument = Argument(
+    "json",
+    ArgumentKind::Flag,
+    "Print an object of JSON a line, for other programs",
+);
+
+/// Asks for a report of tests.
+pub const JUNIT: Argument = Argument(
+    "junit",
+    ArgumentKind::Option("FILE", OptionValue::Text),
+    "Write a report to FILE too, in the XML of JUnit: each line of the text of expectations is a test",
+);
+
+/// Leaves out the settings.
+pub const NO_SETTINGS: Argument = Argument(
+    "no-settings",
+    ArgumentKind::Flag,
+    "Leave out the options of the file fmp.toml that stands beside the system",
+);
+
 /// An option with a number in this range. A number below 0 is no option, but refused as its value.
 fn with_number<'a>(option: Arg<'a>, low: u64, high: u64) -> Arg<'a> {
     option

@@ -1,6 +1,6 @@
 //! The words that are known where a word of a command line or of a text of expectations names none of them.
 use fmp_base::{Name, TaskConfig};
-use fmp_expect::{CODES, FAULTS, fault_name};
+use fmp_expect::{CODES, FAULTS};
 use std::alloc::{AllocError, Global};
 
 /// Adds a word, if it can be a name.
@@ -20,7 +20,7 @@ pub fn add_deeds(known: &mut Vec<Name>) -> Result<(), AllocError> {
         add_name(known, code.name())?;
     }
     for fault in FAULTS {
-        add_name(known, fault_name(fault))?;
+        add_name(known, fault.name())?;
     }
     Ok(())
 }

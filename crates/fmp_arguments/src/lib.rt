@@ -1,18 +1,30 @@
 //! The arguments of the command line of `fmp_view`, what its words say for them, and the words that are known where one
-//! of them names nothing.
+//! of them names nothing; and settings: a file beside a system, in TOML, that holds options of the commands that look
+//! at it. What it says becomes words of the command line.
 #![tactic(auto)]
 
 mod arguments;
 mod given;
+mod joining;
+mod keys;
 mod known_words;
+mod places;
 mod ranges;
+mod reading;
+mod refusals;
+mod values;
 
 pub use arguments::{
-    Argument, ArgumentKind, BOUND_MAX, BOUNDED, CFG, CommandForm, EVENTS_MAX, Made, OptionValue,
-    SRC, command_of,
+    Argument, ArgumentKind, BOUND_MAX, BOUNDED, CFG, CommandForm, EVENTS_MAX, JSON, JUNIT, Made,
+    NO_SETTINGS, OptionValue, SRC, command_of,
 };
 pub use given::{
     bound_of, byte_of, entered, flag_of, text_of, word_of, word32_of, word64_of, words_of,
 };
+pub use joining::{added_words, join, used_text};
+pub use keys::{KEYS, Key, SETTINGS, ValueKind};
 pub use known_words::{add_deeds, add_name, add_tasks, question_text};
-pub use ranges::{kept_bound, kept_events};
+pub use places::{Refusal, read_settings};
+pub use ranges::kept_events;
+pub use reading::{Setting, Wrong};
+pub use refusals::refusal_text;

@@ -27,7 +27,7 @@ joined (Some from) (Some to) =
 joined (Some from) None = None
 joined None to = None
 
--- behind the last byte of a token
+-- after the last byte of a token
 abbrev pub behind : Place → Place
 behind p = record { line = p.line; start = p.end; end = p.end }
 
@@ -51,7 +51,7 @@ abbrev pub is_syntax : FaultKind → Bool
 is_syntax fault.Syntax = true
 is_syntax _ = false
 
--- A fault of syntax is shown at its place, or at the token before it, or behind that; one at the word of a static API
+-- A fault of syntax is shown at its place, or at the token before it, or after that; one at the word of a static API
 -- at its place or at later tokens; any other at its place.
 abbrev pub fits : FaultKind → (i : ℕ) → Aim → Bool
 fits kind i aim.Here = true

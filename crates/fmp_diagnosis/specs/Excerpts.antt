@@ -14,7 +14,7 @@ pub record IsLine (text : List ℕ) (at begin finish : ℕ) : Type 0 where
   pub first : 0 < begin → (slice_index text (begin - 1) == 10) ≡ true
   pub last : finish < length text → (slice_index text finish == 10) ≡ true
 
--- where the line ends without a carriage return behind the place
+-- where the line ends without a carriage return after the place
 abbrev pub without_return : List ℕ → ℕ → ℕ → ℕ
 without_return text at finish =
     if nat_lt at finish && (slice_index text (finish - 1) == 13) then finish - 1 else finish

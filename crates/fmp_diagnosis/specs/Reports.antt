@@ -1,5 +1,7 @@
 -- What is said of a fault of a text.
-use Rattle.std.specs.Prelude.{◌≡◌, ℕ, ◌+◌, ◌-◌, ◌<◌, List, [], ◌++◌, length, max, min, codes, decimal}
+use Rattle.std.specs.Prelude.{◌≡◌, ℕ, ◌+◌, ◌-◌, ◌<◌, Bool, if◌then◌else◌, List, [], ◌∷◌, ◌++◌, length, max, min}
+use Rattle.std.specs.Prelude.{codes, decimal, nat_eq}
+use Rattle.std.specs.List.{starts_with}
 use Rattle.fmp_base.specs.Codes.{code_name}
 use Rattle.fmp_lex.specs.declared.fault.FaultKind.{FaultKind}
 use Rattle.fmp_lex.specs.declared.fault.FaultKind.TheVariants as fault
@@ -17,7 +19,7 @@ abbrev pub text_of : Texts → TextFile → List ℕ
 text_of t file.Configuration = t.cfg.now
 text_of t file.Source = t.src.now
 
--- the code of a kind of fault, and behind B4 that with which the static API refuses
+-- the code of a kind of fault, and after B4 that with which the static API refuses
 abbrev pub code : FaultKind → List ℕ
 code fault.Syntax = codes "B1"
 code fault.TwiceNamed = codes "B2"
@@ -42,15 +44,21 @@ code_words code refusal = code ++ refusal ++ codes ": "
 abbrev pub head : (name : List ℕ) → (line column : ℕ) → (code refusal : List ℕ) → List ℕ
 head name line column code refusal = name ++ numbers line column ++ code_words code refusal
 
--- the line and its marks
+-- the first line of an image, which is no text, as it is shown: FMPI, and the picture of a control byte
+abbrev pub is_of_image : List ℕ → Bool
+is_of_image line = starts_with nat_eq line (codes "FMPI" ++ 226 ∷ 144 ∷ [])
+
+-- the line and its marks; of an image nothing is shown
 abbrev pub lines : Excerpt → List ℕ
-lines e = codes "\n    " ++ e.line.items ++ codes "\n    " ++ e.marks.items ++ codes "\n"
+lines e =
+    if is_of_image e.line.items then codes "\n"
+    else codes "\n    " ++ e.line.items ++ codes "\n    " ++ e.marks.items ++ codes "\n"
 
 -- a finding of the text of a file of this name as it is printed: its head, its sentence, and the line that it stands in
 abbrev pub report : (name : List ℕ) → FaultReport → List ℕ
 report name f = head name f.line f.excerpt.column f.code.now f.refusal.now ++ f.sentence.items ++ lines f.excerpt
 
--- the column behind a token that begins at this column, from `at` up to `end`: at least one column is marked
+-- the column after a token that begins at this column, from `at` up to `end`: at least one column is marked
 abbrev pub column_behind : (column at end : ℕ) → ℕ
 column_behind column at end = column + max (end - at) 1
 

@@ -1,4 +1,4 @@
--- What is said of a fault of a steps text.
+-- What is said of lines of a steps text.
 use Rattle.std.specs.Prelude.{◌≡◌, ℕ, ◌+◌, ◌<◌, ◌≤◌, ◌==◌, List, [], length, max, codes, take}
 use Rattle.std.specs.List.{count_by}
 use Rattle.fmp_diagnosis.specs.declared.reports.FaultReport.{FaultReport}
@@ -23,14 +23,22 @@ pub record IsInLine (number : ℕ) (text : List ℕ) (at : ℕ) : Type 0 where
   pub line : line_at text at ≤ max number 1
   pub end : line_at text at < max number 1 → at ≡ length text
 
--- What is said of a line of a steps text: a place in this line, its code, and some sentence.
-pub record IsStepFinding (text : List ℕ) (number : ℕ) (flaw : StepFlaw) (f : FaultReport) : Type 0 where
+-- What is said of a line of a steps text: a place in this line, this code, and some sentence.
+pub record IsSaidOfLine (text : List ℕ) (number : ℕ) (code : List ℕ) (f : FaultReport) : Type 0 where
   pub at : ℕ
   pub behind : ℕ
   pub stands : IsInLine number text at
   pub line : f.line ≡ number
   pub shows : IsExcerpt text at behind f.excerpt
   pub end : f.end ≡ column_behind f.excerpt.column at behind
-  pub code : f.code.now ≡ code flaw
+  pub code_is : f.code.now ≡ code
   pub refusal : f.refusal.now ≡ []
   pub said : 0 < length f.sentence.items
+
+-- what is said of a line that has this flaw
+abbrev pub IsStepFinding : (text : List ℕ) → (number : ℕ) → StepFlaw → FaultReport → Type 0
+IsStepFinding text number flaw f = IsSaidOfLine text number (code flaw) f
+
+-- what is said of a line that does nothing, whatever happens before it
+abbrev pub IsStepWarning : (text : List ℕ) → (number : ℕ) → FaultReport → Type 0
+IsStepWarning text number f = IsSaidOfLine text number (codes "warning") f

@@ -17,7 +17,7 @@ pub fn api_at(tokens: &Tokens<'_>, at: usize) -> Option<Api> {
     }
 }
 
-/// Where a field of the API at a place begins: behind its `(` or its `{`, or behind a comma.
+/// Where a field of the API at a place begins: after its `(` or its `{`, or after a comma.
 fn field_begin(tokens: &Tokens<'_>, api_at: usize, field: usize) -> usize {
     let mut commas = 0usize;
     let mut found = api_at.saturating_add(2);
@@ -50,7 +50,7 @@ pub fn begin_of(tokens: &Tokens<'_>, at: usize, api: Api, field: Field) -> usize
     field_begin(tokens, at, place_of(api, field))
 }
 
-/// The number of the item at a place, or behind a minus sign there. 0 for another token.
+/// The number of the item at a place, or after a minus sign there. 0 for another token.
 fn item_value(tokens: &Tokens<'_>, at: usize) -> i32 {
     match tokens.kind(at) {
         Some(TokenKind::Number(number)) => number,

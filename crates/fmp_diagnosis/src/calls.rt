@@ -12,7 +12,7 @@ pub fn argument_count(service: Service) -> usize {
     service.parameters().len()
 }
 
-/// How far tokens behind a place are nested in parentheses and brackets, and how many commas stand at the first level.
+/// How far tokens after a place are nested in parentheses and brackets, and how many commas stand at the first level.
 #[derive(Clone, Copy)]
 pub struct Nesting {
     /// How many of them are open.

@@ -1,13 +1,14 @@
 //! Where a fault is shown: at its place, or at the tokens beside it that are to be changed.
 ghost use Rattle.std.specs.Prelude.{◌≡◌, true, length, option_map, slice_range, min, IfOk};
 ghost use Rattle.fmp_diagnosis.specs.Culprits as spec;
-ghost use Rattle.fmp_diagnosis.specs.Culprits.{IsCulprit};
+ghost use Rattle.fmp_diagnosis.specs.Culprits.{HasTokens, IsCulprit};
 
 use crate::apis::{api_at, begin_of, unknown_constant_place, value_last};
 use crate::around::{Around, around_place, list_of};
 use crate::fields::Field;
 use crate::refusals::field_refused;
 use crate::syntax::{is_due_to_word_before, wants_semicolon};
+use fmp_lex::laws::a_text_has_one_cut;
 use fmp_lex::{Api, FaultKind, Place, TextFile, Tokens};
 use std::alloc::{AllocError, Global};
 
@@ -18,7 +19,7 @@ pub enum Aim {
     Here,
     /// At the token before its place.
     Before,
-    /// Behind that token, where something is missing.
+    /// After that token, where something is missing.
     Behind,
     /// From the first byte of one token of the text to the last byte of another; the first alone, if the other one
     /// stands in another line.
@@ -42,7 +43,7 @@ fn joined(tokens: &Tokens<'_>, first: usize, last: usize) -> Option<Place>
     })
 }
 
-/// Behind the last byte of a token.
+/// After the last byte of a token.
 fn behind(tokens: &Tokens<'_>, at: usize) -> Option<Place>
     ensures { result ≡ option_map spec.behind (spec.place_at tokens.now at) }
 {
@@ -140,6 +141,32 @@ fn aim_of(
     }
 }
 
+/// Where a fault of this kind at a place of a text is shown, around which it was looked at.
+pub(crate) fn culprit_around(
+    alloc: Global,
+    text: &[u8],
+    file: TextFile,
+    around: &Around<'_>,
+    place: Place,
+    kind: FaultKind,
+) -> Result<Place, AllocError>
+    requires { HasTokens (slice_range text.now 0 (min place.start (length text.now))) around.now.before.tokens }
+    ensures { IfOk result (IsCulprit text.now place kind) }
+{
+    match aim_of(alloc, file, around, kind)? {
+        Aim::Here => {
+            // The text has tokens, which are not looked at.
+            a_text_has_one_cut();
+            Ok(place)
+        }
+        aim => {
+            let list = list_of(alloc, text)?;
+            let at = around.before.tokens.len();
+            Ok(aim.place(&list.tokens, at).unwrap_or(place))
+        }
+    }
+}
+
 /// Where a fault of this kind at a place of a text is shown. `AllocError` if memory runs out.
 pub fn culprit_of(
     alloc: Global,
@@ -151,10 +178,5 @@ pub fn culprit_of(
     ensures { IfOk result (IsCulprit text.now place kind) }
 {
     let around = around_place(alloc, text, place.start as usize)?;
-    let aim = aim_of(alloc, file, &around, kind)?;
-    let list = list_of(alloc, text)?;
-    Ok(
-        aim.place(&list.tokens, around.before.tokens.len())
-            .unwrap_or(place),
-    )
+    culprit_around(alloc, text, file, &around, place, kind)
 }

@@ -51,7 +51,7 @@ fn line_finish(text: &[u8], at: usize) -> usize
     text.len()
 }
 
-/// Where a line ends without a carriage return behind the place.
+/// Where a line ends without a carriage return after the place.
 fn without_return(text: &[u8], at: usize, finish: usize) -> usize
     requires { finish ≤ length text.now }
     ensures { result ≡ spec.without_return text.now at finish }

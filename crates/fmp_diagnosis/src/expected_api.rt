@@ -1,4 +1,4 @@
-//! What a configuration may go on with behind tokens that begin one.
+//! What a configuration may go on with after tokens that begin one.
 ghost use Rattle.std.specs.Prelude.{◌<◌, length, OnOk};
 ghost use Rattle.fmp_diagnosis.specs.Words.{IsSaid};
 
@@ -36,7 +36,7 @@ fn last_head(tokens: &Tokens<'_>) -> Option<(ConstructHead, usize)> {
     found
 }
 
-/// How many commas stand behind a place.
+/// How many commas stand after a place.
 fn commas_behind(tokens: &Tokens<'_>, at: usize) -> usize {
     let mut count = 0usize;
     for place in at..tokens.len() {
@@ -91,7 +91,7 @@ fn say_field(api: Api, field: usize, out: &mut Vec<u8>) -> Result<(), AllocError
     say(&[what, Word::Text(" of "), Word::Quoted(api.name())], out)
 }
 
-/// What is expected behind a field.
+/// What is expected after a field.
 fn say_behind_field(api: Api, field: usize, out: &mut Vec<u8>) -> Result<(), AllocError>
     ensures { OnOk result (IsSaid out.old.items out.new.items) }
 {
@@ -99,7 +99,7 @@ fn say_behind_field(api: Api, field: usize, out: &mut Vec<u8>) -> Result<(), All
     if next >= fields_of(api).len() {
         return say(
             &[
-                Word::Text("`}` behind the last value of "),
+                Word::Text("`}` after the last value of "),
                 Word::Quoted(api.name()),
             ],
             out,
@@ -109,7 +109,7 @@ fn say_behind_field(api: Api, field: usize, out: &mut Vec<u8>) -> Result<(), All
     say_field(api, next, out)
 }
 
-/// What is expected within the API at a place, behind its last token.
+/// What is expected within the API at a place, after its last token.
 fn say_in_api(
     tokens: &Tokens<'_>,
     at: usize,
@@ -134,7 +134,7 @@ fn say_in_api(
     }
 }
 
-/// What is expected behind the API at a place, whose last token stands at `last`.
+/// What is expected after the API at a place, whose last token stands at `last`.
 fn say_from_api(
     tokens: &Tokens<'_>,
     at: usize,
@@ -158,7 +158,7 @@ fn say_from_api(
     }
 }
 
-/// Whether a static API may come behind these tokens.
+/// Whether a static API may come after these tokens.
 pub fn may_be_api(tokens: &Tokens<'_>) -> bool {
     match last_head(tokens) {
         Some((ConstructHead::Class, at)) => tokens.len().saturating_sub(at) == 5,
@@ -169,7 +169,7 @@ pub fn may_be_api(tokens: &Tokens<'_>) -> bool {
     }
 }
 
-/// Says what a configuration may go on with behind these tokens, which begin one.
+/// Says what a configuration may go on with after these tokens, which begin one.
 pub fn say_expected(tokens: &Tokens<'_>, out: &mut Vec<u8>) -> Result<(), AllocError>
     ensures { OnOk result (IsSaid out.old.items out.new.items) }
 {

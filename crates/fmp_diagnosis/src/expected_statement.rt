@@ -1,4 +1,4 @@
-//! What a task text may go on with behind tokens that begin one.
+//! What a task text may go on with after tokens that begin one.
 ghost use Rattle.std.specs.Prelude.{◌<◌, length, OnOk};
 ghost use Rattle.fmp_diagnosis.specs.Words.{IsSaid};
 
@@ -12,7 +12,7 @@ use std::alloc::AllocError;
 /// What is said where an operand is expected.
 const OPERAND: &str = "an operand: a number, a constant, a name or `(`";
 
-/// The place behind the last token that ends a statement or begins a block.
+/// The place after the last token that ends a statement or begins a block.
 fn statement_begin(tokens: &Tokens<'_>) -> usize {
     let mut begin = 0;
     for at in 0..tokens.len() {
@@ -71,7 +71,7 @@ fn within_open(tokens: &Tokens<'_>, from: usize, last: TokenKind) -> &'static st
     }
 }
 
-/// What is expected behind the tokens of an expression, where this closes it.
+/// What is expected after the tokens of an expression, where this closes it.
 fn in_expression(last: TokenKind, closing: &'static str) -> &'static str
     requires { 0 < length closing.now }
     ensures { 0 < length result.now }
@@ -113,7 +113,7 @@ fn say_argument(service: Service, place: usize, out: &mut Vec<u8>) -> Result<(),
     )
 }
 
-/// What is expected behind an argument of a call.
+/// What is expected after an argument of a call.
 fn say_behind_argument(service: Service, place: usize, out: &mut Vec<u8>) -> Result<(), AllocError>
     ensures { OnOk result (IsSaid out.old.items out.new.items) }
 {
@@ -167,7 +167,7 @@ fn say_in_call(
     }
 }
 
-/// What is expected behind `if` or `while` at a place.
+/// What is expected after `if` or `while` at a place.
 fn in_condition(tokens: &Tokens<'_>, at: usize, last: TokenKind) -> &'static str
     ensures { 0 < length result.now }
 {
@@ -191,7 +191,7 @@ fn has_assign(tokens: &Tokens<'_>, begin: usize) -> bool {
     false
 }
 
-/// What is expected behind a name at the head of a statement, where no call is assigned to it.
+/// What is expected after a name at the head of a statement, where no call is assigned to it.
 fn behind_name(tokens: &Tokens<'_>, begin: usize, last: TokenKind) -> &'static str
     ensures { 0 < length result.now }
 {
@@ -204,7 +204,7 @@ fn behind_name(tokens: &Tokens<'_>, begin: usize, last: TokenKind) -> &'static s
     }
 }
 
-/// What is expected behind a name at the head of a statement.
+/// What is expected after a name at the head of a statement.
 fn say_assignment(
     tokens: &Tokens<'_>,
     begin: usize,
@@ -236,7 +236,7 @@ fn behind_keyword(keyword: Keyword, count: usize) -> &'static str
     }
 }
 
-/// What is expected behind a statement that begins with a keyword.
+/// What is expected after a statement that begins with a keyword.
 fn within_keyword(
     tokens: &Tokens<'_>,
     begin: usize,
@@ -264,7 +264,7 @@ fn at_begin(tokens: &Tokens<'_>) -> &'static str
     }
 }
 
-/// Says what a task text may go on with behind these tokens, which begin one.
+/// Says what a task text may go on with after these tokens, which begin one.
 pub fn say_expected(tokens: &Tokens<'_>, out: &mut Vec<u8>) -> Result<(), AllocError>
     ensures { OnOk result (IsSaid out.old.items out.new.items) }
 {

@@ -1,5 +1,5 @@
 //! The fields of the static APIs: what each is called, and the range of its value.
-use fmp_lex::Api;
+use fmp_lex::{Api, Constant};
 
 /// A field of a static API.
 #[derive(Clone, Copy, PartialEq, Eq)]
@@ -128,6 +128,23 @@ pub fn attributes_of(api: Api) -> &'static str {
         Api::CreMbx => "made of `TA_TPRI` and `TA_MPRI`, 0 to 3",
         Api::CreCyc => "0 or `TA_STA`",
         Api::CreMsg | Api::CreShr | Api::CreSpn | Api::DefInh => "0",
+    }
+}
+
+/// Whether the attribute of a static API may be made of a constant.
+pub fn takes_attribute(api: Api, constant: Constant) -> bool {
+    match constant {
+        Constant::TaNull => true,
+        Constant::TaHlng => matches!(api, Api::CreTsk | Api::CreCyc | Api::DefInh),
+        Constant::TaTfifo | Constant::TaTpri => matches!(
+            api,
+            Api::CreSem | Api::CreFlg | Api::CreDtq | Api::CreMbx
+        ),
+        Constant::TaMfifo | Constant::TaMpri => matches!(api, Api::CreMbx),
+        Constant::TaAct => matches!(api, Api::CreTsk),
+        Constant::TaWsgl | Constant::TaWmul | Constant::TaClr => matches!(api, Api::CreFlg),
+        Constant::TaSta => matches!(api, Api::CreCyc),
+        _ => false,
     }
 }
 

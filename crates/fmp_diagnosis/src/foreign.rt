@@ -45,7 +45,7 @@ fn foreign_length(bytes: &[u8]) -> usize {
         .unwrap_or(bytes.len())
 }
 
-/// Whether a letter stands behind the bytes above 127 at the head of these.
+/// Whether a letter stands after the bytes above 127 at the head of these.
 fn leads_letters(bytes: &[u8]) -> bool {
     bytes
         .get(foreign_length(bytes))

@@ -2,9 +2,10 @@
 ghost use Rattle.std.specs.Prelude.{◌<◌, length, IfSome, OnOk};
 ghost use Rattle.fmp_diagnosis.specs.Words.{MaySay};
 
-use crate::around::{Around, line_of, name_at};
+use crate::around::{Around, last_body, line_of, name_at};
 use crate::expected_statement::is_outside;
 use crate::words::{Word, say};
+use fmp_base::Name;
 use fmp_lex::{Keyword, Symbol, TextFile, TokenKind, Tokens};
 use std::alloc::AllocError;
 
@@ -12,8 +13,11 @@ use std::alloc::AllocError;
 /// written instead, and what is said of that.
 struct Habit(&'static str, &'static [&'static str], &'static str);
 
+/// What is said of a first value in a declaration.
+const ZERO_AT_FIRST: &str = "; a variable is 0 at first, and a statement gives it another value";
+
 /// Habits in configurations.
-static IN_CONFIGURATIONS: [Habit; 8] = [
+static IN_CONFIGURATIONS: [Habit; 10] = [
     Habit(
         "`NUM_PRC`",
         &["task ", "handler "],
@@ -32,20 +36,30 @@ static IN_CONFIGURATIONS: [Habit; 8] = [
         "; a static API stands in a class, as in `CLASS(TCL_1) { .. }`",
     ),
     Habit(
+        "`CLASS` or",
+        &["task ", "handler "],
+        "; a body stands in the task text",
+    ),
+    Habit(
         "`,` and",
         &["+", "-", "*", "/", "<<"],
         "; only `|` joins values",
     ),
     Habit(
-        "`}` behind",
+        "`}` after",
         &["+", "-", "*", "/", "<<"],
         "; only `|` joins values",
     ),
     Habit("the ", &["("], "; a value has no parentheses and no cast"),
+    Habit(
+        "the ",
+        &["{ TNFY_", "{TNFY_"],
+        "; `fmp_view import` reads configurations of FMP3",
+    ),
 ];
 
 /// Habits in task texts.
-static IN_TASK_TEXTS: [Habit; 14] = [
+static IN_TASK_TEXTS: [Habit; 17] = [
     Habit(
         "`task` or",
         &["NUM_PRC"],
@@ -54,21 +68,43 @@ static IN_TASK_TEXTS: [Habit; 14] = [
     Habit("`task` or", &["run ", "tick"], "; this is a steps text"),
     Habit("`task` or", &["FMPI"], "; this is an image"),
     Habit(
-        "`{`",
-        &["()", "(intptr_t", "(VP_INT"],
-        "; a body has no parameters: `exinf` is its first variable",
+        "`task`",
+        &[
+            "cyclic ",
+            "alarm ",
+            "isr ",
+            "interrupt ",
+            "thread ",
+            "process ",
+            "function ",
+            "func ",
+            "fn ",
+            "body ",
+        ],
+        "; a body begins `task NAME {` or `handler NAME {`",
     ),
     Habit(
-        "`;` or `[`",
-        &["="],
-        "; a variable is 0 at first, and a statement gives it another value",
+        "`{`",
+        &["()", "(exinf", "(void", "(intptr_t", "(VP_INT"],
+        "; a body has no parameters: `exinf` is its first variable",
     ),
+    Habit("`;` or `[`", &["="], ZERO_AT_FIRST),
     Habit(
         "`;` or `[`",
         &[","],
         "; each variable has a `var` of its own",
     ),
     Habit("an operator or `)`", &["="], "; `==` compares"),
+    Habit(
+        "an expression, argument",
+        &["&"],
+        "; `&` stands before a variable that gets a value",
+    ),
+    Habit(
+        "an operator or",
+        &["and ", "or "],
+        "; `&&` is the operator for and, `||` that for or",
+    ),
     Habit(
         "an operator or `;`",
         &["="],
@@ -105,7 +141,7 @@ pub fn begins_with_one(bytes: &[u8], texts: &[&str]) -> bool {
     texts.iter().any(|text| bytes.starts_with(text.as_bytes()))
 }
 
-/// What is said of what is written by habit in a place of a text, behind the words that say what is expected there;
+/// What is said of what is written by habit in a place of a text, after the words that say what is expected there;
 /// nothing of anything else.
 fn said_of_habit(file: TextFile, expected: &[u8], written: &[u8]) -> &'static str {
     let habits: &'static [Habit] = match file {
@@ -120,7 +156,7 @@ fn said_of_habit(file: TextFile, expected: &[u8], written: &[u8]) -> &'static st
     ""
 }
 
-/// The brace that is open behind tokens, the last one of several.
+/// The brace that is open after tokens, the last one of several.
 fn open_brace(tokens: &Tokens<'_>) -> Option<usize> {
     let mut closed = 0usize;
     for at in (0..tokens.len()).rev() {
@@ -143,7 +179,7 @@ fn is_unclosed(around: &Around<'_>, expected: &[u8]) -> bool {
         )
 }
 
-/// Says which brace is not closed behind these tokens of a text: that of a class, or one of a body.
+/// Says which brace is not closed after these tokens of a text: that of a class, or one of a body.
 fn say_open_brace(
     file: TextFile,
     tokens: &Tokens<'_>,
@@ -179,8 +215,64 @@ fn begins_value(kind: TokenKind) -> bool {
     )
 }
 
-/// What is said of a value behind `return` in its line, and of statements without braces behind a condition or `else`;
-/// nothing of anything else.
+/// Whether an operator is written so that stands between its operands.
+fn is_operator(kind: TokenKind) -> bool {
+    matches!(
+        kind,
+        TokenKind::Symbol(
+            Symbol::AndAnd
+                | Symbol::OrOr
+                | Symbol::Equal
+                | Symbol::NotEqual
+                | Symbol::LessEqual
+                | Symbol::GreaterEqual
+                | Symbol::Or
+                | Symbol::And
+                | Symbol::Xor
+                | Symbol::Less
+                | Symbol::Greater
+                | Symbol::Plus
+                | Symbol::Minus
+                | Symbol::Star
+                | Symbol::Slash
+                | Symbol::Percent
+        )
+    )
+}
+
+/// Whether a name has these letters.
+fn has_letters(name: &Name, letters: &[u8]) -> bool {
+    name.as_bytes() == letters
+}
+
+/// What is said of an expression as of another language, by the token before the place and that at it; nothing of
+/// anything else.
+fn said_of_expression(before: TokenKind, here: TokenKind, expected: &[u8]) -> &'static str {
+    match (before, here) {
+        (TokenKind::Name(not), _) if has_letters(&not, b"not") => "; `!` negates",
+        (TokenKind::Symbol(Symbol::Minus), TokenKind::Symbol(Symbol::Greater)) => {
+            "; there are no pointers and no structures"
+        }
+        (TokenKind::Symbol(Symbol::Less), TokenKind::Symbol(Symbol::Greater)) => {
+            "; `!=` is the operator for not equal"
+        }
+        (TokenKind::Symbol(Symbol::Equal), TokenKind::Symbol(Symbol::Assign)) => "; `==` compares",
+        (TokenKind::Keyword(Keyword::If | Keyword::While), _)
+            if expected == b"`(`".as_slice() && begins_value(here) => {
+            "; a condition stands in parentheses"
+        }
+        (TokenKind::Symbol(Symbol::RightBracket), TokenKind::Symbol(Symbol::Assign))
+            if expected == b"`;`".as_slice() => ZERO_AT_FIRST,
+        (TokenKind::Symbol(Symbol::RightParen), _)
+            if expected == b"`;`".as_slice() && is_operator(here) => {
+            "; a service call stands alone, or alone to the right of `=`"
+        }
+        _ => "",
+    }
+}
+
+/// What is said of a value after `return` in its line, and of statements without braces after a condition or `else`;
+/// of anything else what is said of expressions.
 fn said_of_statement(around: &Around<'_>, expected: &[u8]) -> &'static str {
     match (around.back(1), around.here()) {
         (_, None) => "",
@@ -190,15 +282,36 @@ fn said_of_statement(around: &Around<'_>, expected: &[u8]) -> &'static str {
             if expected.starts_with(b"`{`") => {
             "; the statements of `if`, `else` and `while` stand in braces"
         }
+        (Some(before), Some(here)) => said_of_expression(before, here, expected),
         _ => "",
     }
 }
 
-/// What is said of what is written by habit at the place of a text, behind the words that say what is expected there;
+/// What is said of the values of a static API without braces; nothing of anything else.
+fn said_of_api(around: &Around<'_>, expected: &[u8]) -> &'static str {
+    match (around.back(1), around.here()) {
+        (Some(TokenKind::Symbol(Symbol::Comma)), Some(_)) if expected == b"`{`".as_slice() => {
+            "; the values of a static API stand in braces"
+        }
+        _ => "",
+    }
+}
+
+/// Whether a semicolon stands at the place, after a brace that closes a class or a body.
+fn is_semicolon_behind(around: &Around<'_>, expected: &[u8]) -> bool {
+    expected.ends_with(b"the end of the text")
+        && around.here() == Some(TokenKind::Symbol(Symbol::Semicolon))
+        && around.back(1) == Some(TokenKind::Symbol(Symbol::RightBrace))
+}
+
+/// What is said of what is written by habit at the place of a text, after the words that say what is expected there;
 /// nothing of anything else.
 fn said_of_place(file: TextFile, around: &Around<'_>, expected: &[u8]) -> &'static str {
+    if is_semicolon_behind(around, expected) {
+        return "; no `;` stands after this `}`";
+    }
     let said = match file {
-        TextFile::Configuration => "",
+        TextFile::Configuration => said_of_api(around, expected),
         TextFile::Source => said_of_statement(around, expected),
     };
     if said.is_empty() {
@@ -208,8 +321,43 @@ fn said_of_place(file: TextFile, around: &Around<'_>, expected: &[u8]) -> &'stat
     }
 }
 
-/// Says what stands in the place of what is written by habit at the place of a text, behind the words that say what is
-/// expected there; or which brace is to be closed first.
+/// Whether a statement or a brace stands at the place, after the end of a body.
+fn is_behind_body(around: &Around<'_>, expected: &[u8]) -> bool {
+    if !expected.starts_with(b"`task`, `handler` or") {
+        return false;
+    }
+    match (around.here(), around.rest.tokens.kind(1)) {
+        (Some(TokenKind::Service(_) | TokenKind::Symbol(Symbol::RightBrace)), _) => true,
+        (Some(TokenKind::Keyword(keyword)), _) => matches!(
+            keyword,
+            Keyword::If | Keyword::Else | Keyword::While | Keyword::Return
+        ),
+        (Some(TokenKind::Name(_)), Some(TokenKind::Symbol(symbol))) => matches!(
+            symbol,
+            Symbol::Assign | Symbol::LeftBracket
+        ),
+        _ => false,
+    }
+}
+
+/// Says where the body ended that these tokens end with.
+fn say_ended_body(tokens: &Tokens<'_>, out: &mut Vec<u8>) -> Result<(), AllocError>
+    ensures { OnOk result (MaySay out.old.items out.new.items) }
+{
+    let end = line_of(tokens, tokens.len().saturating_sub(1)).unwrap_or(1);
+    let ended = Word::Text(" ended at line ");
+    let line = Word::Number(i64::from(end));
+    match name_at(tokens, last_body(tokens).saturating_add(1)) {
+        Some(name) => say(
+            &[Word::Text("; the body "), Word::Name(name), ended, line],
+            out,
+        ),
+        None => say(&[Word::Text("; the body before"), ended, line], out),
+    }
+}
+
+/// Says what stands in the place of what is written by habit at the place of a text, after the words that say what is
+/// expected there; or which brace is to be closed first, or where the body ended.
 pub fn say_habit(
     file: TextFile,
     around: &Around<'_>,
@@ -222,6 +370,9 @@ pub fn say_habit(
         if let Some(at) = open_brace(&around.before.tokens) {
             return say_open_brace(file, &around.before.tokens, at, out);
         }
+    }
+    if is_behind_body(around, expected) {
+        return say_ended_body(&around.before.tokens, out);
     }
     say(&[Word::Text(said_of_place(file, around, expected))], out)
 }
@@ -237,7 +388,7 @@ fn names_at_head(tokens: &Tokens<'_>) -> usize {
     tokens.len()
 }
 
-/// Whether the place stands before, between or behind the bodies of a task text.
+/// Whether the place stands before, between or after the bodies of a task text.
 fn is_between_bodies(around: &Around<'_>) -> bool {
     match around.back(1) {
         None => true,

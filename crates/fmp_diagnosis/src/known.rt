@@ -7,11 +7,12 @@ ghost use Rattle.fmp_diagnosis.specs.Words.{IsSaid, IsSaidFirst, MaySay, quoted}
 
 use crate::apis::object_name;
 use crate::around::{begins_body_at, last_body, name_at};
+use crate::fields::takes_attribute;
 use crate::nearness::{nearest, other_case};
 use crate::words::{Word, ask_whether, say_of};
 use fmp_base::{Name, SERVICES, Service};
 use fmp_lex::words::{APIS, CONSTANTS, KEYWORDS};
-use fmp_lex::{Keyword, TextFile, TokenKind, Tokens};
+use fmp_lex::{Api, Keyword, TextFile, TokenKind, Tokens};
 use std::alloc::{AllocError, Global};
 
 fn add(known: &mut Vec<Name>, text: &str) -> Result<(), AllocError> {
@@ -26,6 +27,17 @@ pub fn constants(alloc: Global) -> Result<Vec<Name>, AllocError> {
     let mut known = Vec::new(alloc);
     for constant in &CONSTANTS {
         add(&mut known, constant.name())?;
+    }
+    Ok(known)
+}
+
+/// The names of the constants of which the attribute of a static API is made.
+pub fn attributes(alloc: Global, api: Api) -> Result<Vec<Name>, AllocError> {
+    let mut known = Vec::new(alloc);
+    for constant in &CONSTANTS {
+        if takes_attribute(api, *constant) {
+            add(&mut known, constant.name())?;
+        }
     }
     Ok(known)
 }

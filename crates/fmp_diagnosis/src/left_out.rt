@@ -86,23 +86,27 @@ static WORDS: [&[&str]; 21] = [
     &["DEF_OVR", "sta_ovr", "stp_ovr", "ista_ovr", "istp_ovr"],
     &["DEF_SVC", "cal_svc"],
     &[
-        "CFG_INT", "ATT_ISR", "CRE_ISR", "dis_int", "ena_int", "chg_ipm", "get_ipm",
+        "CFG_INT", "ATT_ISR", "CRE_ISR", "DEF_ICS", "dis_int", "ena_int", "clr_int", "ras_int",
+        "prb_int", "chg_ipm", "get_ipm",
     ],
     &["DEF_EXC"],
     &["ATT_INI", "ATT_TER"],
-    &["get_tim", "set_tim"],
+    &["get_tim", "set_tim", "adj_tim", "fch_hrt", "get_utm"],
     &["get_pid"],
     &["frsm_tsk"],
     &["iloc_cpu", "iunl_cpu"],
-    &["syslog", "printf", "puts", "putchar"],
-    &["for", "do"],
-    &["switch", "case"],
+    &[
+        "syslog", "printf", "fprintf", "print", "println", "puts", "putchar",
+    ],
+    &["for", "foreach", "do", "loop", "until", "repeat"],
+    &["switch", "case", "elif", "elseif", "elsif"],
     &["goto"],
     &[
         "int", "char", "short", "long", "unsigned", "signed", "float", "double", "bool", "void",
         "const", "static", "struct", "volatile", "extern", "enum", "union", "typedef", "int8_t",
         "int16_t", "int32_t", "uint8_t", "uint16_t", "uint32_t", "int_t", "uint_t", "bool_t",
-        "intptr_t", "ER", "ID", "PRI", "TMO", "RELTIM", "FLGPTN",
+        "intptr_t", "size_t", "let", "auto", "ER", "ER_ID", "ER_UINT", "ID", "PRI", "TMO",
+        "RELTIM", "SYSTIM", "HRTCNT", "FLGPTN", "MODE", "ATR", "INTNO", "T_MSG",
     ],
 ];
 

@@ -36,5 +36,5 @@ pub use names::processors;
 pub use nearness::nearest;
 pub use reports::{FaultReport, column_behind, finding_at};
 pub use sentence::{Texts, say_fault};
-pub use steps::{StepFlaw, step_finding};
+pub use steps::{StepFlaw, step_finding, step_warning};
 pub use topics::{TOPICS, Topic, every_topic_is_found, topic_asked, topic_named};

@@ -91,7 +91,7 @@ fn excess_of_body(tokens: &Tokens<'_>) -> &'static str
     }
 }
 
-/// The place behind the body with whose first word the tokens begin.
+/// The place after the body with whose first word the tokens begin.
 fn body_end(tokens: &Tokens<'_>) -> usize {
     for at in 1..tokens.len() {
         if begins_body_at(tokens, at) {

@@ -7,7 +7,7 @@ use crate::apis::{api_at, entry_of, is_symbol, object_name, unknown_constant};
 use crate::around::{Around, is_same, last_body, line_of, list_of, name_at};
 use crate::fields::{Field, object_of};
 use crate::known::{
-    bodies, constants, name_meant, objects, say_nearest, say_unknown_of, variables,
+    attributes, bodies, constants, name_meant, objects, say_nearest, say_unknown_of, variables,
 };
 use crate::words::{Word, ask_whether, say, say_of, say_text};
 use fmp_base::Name;
@@ -50,7 +50,7 @@ fn has_name(tokens: &Tokens<'_>, at: usize, name: &Name) -> bool {
     }
 }
 
-/// Where this name stands behind a keyword for the first time from a place on, by its line.
+/// Where this name stands after a keyword for the first time from a place on, by its line.
 fn line_behind(tokens: &Tokens<'_>, from: usize, name: &Name, keywords: &[Keyword]) -> Option<u32> {
     for at in from..tokens.len() {
         if let Some(TokenKind::Keyword(keyword)) = tokens.kind(at) {
@@ -149,16 +149,26 @@ pub fn processors(tokens: &Tokens<'_>) -> i32 {
     }
 }
 
+/// What is said of the name of a class of FMP3; nothing of any other.
+fn said_of_class(name: &Name) -> &'static str {
+    if name.as_bytes().starts_with(b"CLS_") {
+        "; `fmp_view import` reads configurations of FMP3"
+    } else {
+        ""
+    }
+}
+
 /// Says that there is no class of this name.
 fn say_class(around: &Around<'_>, name: Name, out: &mut Vec<u8>) -> Result<(), AllocError>
     ensures { OnOk result (IsSaid out.old.items out.new.items) }
 {
     let count = processors(&around.before.tokens);
+    let import = Word::Text(said_of_class(&name));
     let none = Word::Text("there is no class ");
     let name = Word::Name(name);
     if count == 1 {
         let classes = Word::Text(": with 1 processor they are `TCL_1` and `TCL_1_ONLY`");
-        return say(&[none, name, classes], out);
+        return say(&[none, name, classes, import], out);
     }
     let count = Word::Number(i64::from(count));
     say(
@@ -169,6 +179,7 @@ fn say_class(around: &Around<'_>, name: Name, out: &mut Vec<u8>) -> Result<(), A
             count,
             Word::Text(" processors they are `TCL_n` and `TCL_n_ONLY` for n from 1 to "),
             count,
+            import,
         ],
         out,
     )
@@ -197,7 +208,11 @@ fn say_unknown_constant(
         Word::Quoted(api.name()),
         Word::Text(value),
     ];
-    let known = constants(alloc)?;
+    let known = if field == Field::Attribute {
+        attributes(alloc, api)?
+    } else {
+        constants(alloc)?
+    };
     say_unknown_of(alloc, &name, &words, &known, out)
 }
 
@@ -253,7 +268,7 @@ fn begins_element(around: &Around<'_>) -> bool {
     begins && is_symbol(&around.rest.tokens, 1, Symbol::LeftBracket)
 }
 
-/// Whether the name at the place is to be written: before `=`, with or without an index, or behind the `&` of an out
+/// Whether the name at the place is to be written: before `=`, with or without an index, or after the `&` of an out
 /// place.
 fn is_written(around: &Around<'_>) -> bool {
     if is_symbol(&around.rest.tokens, 1, Symbol::Assign) || begins_element(around) {
@@ -299,8 +314,12 @@ fn say_written(
         return say_object_written(&name, api, out);
     }
     let known = variables(alloc, &around.before.tokens)?;
-    let words = [Word::Text(" is no variable of this body")];
-    say_unknown_of(alloc, &name, &words, &known, out)
+    say_of(&name, &[Word::Text(" is no variable of this body")], out)?;
+    if name_meant(alloc, &name, &known)?.is_some() {
+        return say_nearest(alloc, &name, &known, out);
+    }
+    let declares = Word::Text("; `var` at the head of the body declares one");
+    say(&[declares], out)
 }
 
 /// Whether a body has this name.
@@ -338,6 +357,13 @@ fn whole_of(known: &[Name], name: &Name) -> Option<Name> {
     None
 }
 
+/// Whether a name is that of a truth value of another language.
+fn is_truth(name: &Name) -> bool {
+    ["true", "false", "TRUE", "FALSE"]
+        .iter()
+        .any(|text| text.as_bytes() == name.as_bytes())
+}
+
 /// Asks which known name was meant: one that resembles a name, or else the first one of which it is the last part.
 fn ask_for(alloc: Global, name: &Name, known: &[Name], out: &mut Vec<u8>) -> Result<(), AllocError>
     ensures { OnOk result (MaySay out.old.items out.new.items) }
@@ -371,6 +397,9 @@ fn say_read(
     let known = readable(alloc, cfg, around)?;
     let words = [Word::Text(" is neither a variable of this body, an object nor a constant")];
     say_of(&name, &words, out)?;
+    if is_truth(&name) {
+        return say(&[Word::Text("; 1 is true, and 0 is false")], out);
+    }
     ask_for(alloc, &name, &known, out)
 }
 
@@ -411,7 +440,7 @@ fn shape(around: &Around<'_>) -> &'static str
     } else if gets_answer(around) {
         " is an array; the answer of a call goes to a plain variable"
     } else {
-        " is an array; an index in brackets must stand behind it"
+        " is an array; an index in brackets must stand after it"
     }
 }
 

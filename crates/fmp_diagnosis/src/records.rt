@@ -46,8 +46,8 @@ fn code_of(alloc: Global, finding: &FaultReport) -> Result<String, AllocError>
 }
 
 impl FaultReport {
-    /// The finding as an object of JSON with a line feed behind it, under the name of its file: its members are `file`,
-    /// `line`, `column`, `end` (the column behind the token), `code` and `sentence`. Bytes of the sentence that are no
+    /// The finding as an object of JSON with a line feed after it, under the name of its file: its members are `file`,
+    /// `line`, `column`, `end` (the column after the token), `code` and `sentence`. Bytes of the sentence that are no
     /// UTF-8 are replaced. `AllocError` if memory runs out.
     pub fn record(&self, alloc: Global, name: &str) -> Result<Vec<u8>, AllocError>
         ensures { IfOk result (λ out. out.items ≡ spec.record_text name.now self.now) }

@@ -3,9 +3,10 @@ ghost use Rattle.std.specs.Prelude.{◌≡◌, ◌++◌, ◌+◌, ◌-◌, ◌^�
 ghost use Rattle.fmp_diagnosis.specs.Reports as spec;
 ghost use Rattle.fmp_diagnosis.specs.Reports.{IsFinding};
 
-use crate::culprit::culprit_of;
+use crate::around::{Around, around_place};
+use crate::culprit::culprit_around;
 use crate::excerpt::{Excerpt, excerpt_at};
-use crate::sentence::{Texts, say_fault};
+use crate::sentence::{Texts, say_kind};
 use fmp_lex::{FaultKind, Place, TextFile};
 use itoa::Buffer;
 use std::alloc::{AllocError, Global};
@@ -78,10 +79,24 @@ fn append_head(
     append_code(code, refusal, out)
 }
 
-/// Appends a line and the marks under it, each behind four spaces.
+/// What the first line of an image begins with as it is shown: a control byte comes after the letters, and two bytes of
+/// its picture are those of all pictures.
+const IMAGE_BEGIN: [u8; 6] = [b'F', b'M', b'P', b'I', 226, 144];
+
+/// Whether a line that is shown is the first one of an image, which is no text.
+fn is_of_image(line: &[u8]) -> bool
+    ensures { result ≡ spec.is_of_image line.now }
+{
+    line.starts_with(&IMAGE_BEGIN)
+}
+
+/// Appends a line and the marks under it, each after four spaces; of an image nothing but the end of the line before.
 fn append_excerpt(excerpt: &Excerpt, out: &mut Vec<u8>) -> Result<(), AllocError>
     ensures { OnOk result (out.new.items ≡ out.old.items ++ spec.lines excerpt.now) }
 {
+    if is_of_image(&excerpt.line) {
+        return out.extend_from_slice(b"\n");
+    }
     out.extend_from_slice(b"\n    ")?;
     out.extend_from_slice(&excerpt.line)?;
     out.extend_from_slice(b"\n    ")?;
@@ -96,11 +111,11 @@ pub struct FaultReport {
     pub line: u32,
     /// The column of the token's first byte, its line and the marks under it.
     pub excerpt: Excerpt,
-    /// The column behind the token's last byte.
+    /// The column after the token's last byte.
     pub end: usize,
     /// The code, `B4 ` with a blank.
     pub code: &'static str,
-    /// Behind `B4 ` the code with which a static API refuses, else nothing.
+    /// After `B4 ` the code with which a static API refuses, else nothing.
     pub refusal: &'static str,
     /// What is wrong, in one sentence.
     pub sentence: Vec<u8>,
@@ -108,7 +123,7 @@ pub struct FaultReport {
 
 impl FaultReport {
     /// The finding as it is printed, under the name of its file: the line, the column, the code and the sentence, and
-    /// the line of the text with marks. `AllocError` if memory runs out.
+    /// the line of the text with marks, if it is no image. `AllocError` if memory runs out.
     pub fn report(&self, alloc: Global, name: &str) -> Result<Vec<u8>, AllocError>
         ensures { IfOk result (λ out. out.items ≡ spec.report name.now self.now) }
     {
@@ -127,22 +142,22 @@ impl FaultReport {
     }
 }
 
-/// The sentence on a fault.
+/// The sentence on a fault at a place of one of two texts, around which it was looked at.
 fn sentence_of(
     alloc: Global,
     texts: Texts<'_>,
     file: TextFile,
-    at: usize,
+    around: &Around<'_>,
     kind: FaultKind,
 ) -> Result<Vec<u8>, AllocError>
     ensures { IfOk result (λ sentence. 0 < length sentence.items) }
 {
     let mut sentence = Vec::new(alloc);
-    say_fault(alloc, texts, file, at, kind, &mut sentence)?;
+    say_kind(alloc, texts, file, around, kind, &mut sentence)?;
     Ok(sentence)
 }
 
-/// The column behind a token that begins at this column, from `at` up to `end`; at least one column is marked.
+/// The column after a token that begins at this column, from `at` up to `end`; at least one column is marked.
 pub fn column_behind(column: usize, at: usize, end: usize) -> usize
     requires column { column ≤ 2 ^ 63 }
     requires end { end < 2 ^ 63 }
@@ -152,7 +167,7 @@ pub fn column_behind(column: usize, at: usize, end: usize) -> usize
 }
 
 /// What is said of a fault of one of two texts, which stands at this place of it. It is shown there, or where the text
-/// is to be changed: at a word before it, behind that, or at a value of the static API. `AllocError` if memory runs
+/// is to be changed: at a word before it, after that, or at a value of the static API. `AllocError` if memory runs
 /// out.
 pub fn finding_at(
     alloc: Global,
@@ -164,10 +179,11 @@ pub fn finding_at(
     ensures { IfOk result (IsFinding (spec.text_of texts.entry file) place kind) }
 {
     let text = texts.of(file);
-    let culprit = culprit_of(alloc, text, file, place, kind)?;
+    let around = around_place(alloc, text, place.start as usize)?;
+    let culprit = culprit_around(alloc, text, file, &around, place, kind)?;
     let at = (culprit.start as usize).min(text.len());
     let excerpt = excerpt_at(alloc, text, at, culprit.end as usize)?;
-    let sentence = sentence_of(alloc, texts, file, place.start as usize, kind)?;
+    let sentence = sentence_of(alloc, texts, file, &around, kind)?;
     Ok(FaultReport {
         line: culprit.line,
         end: column_behind(excerpt.column, at, culprit.end as usize),

@@ -50,7 +50,7 @@ pub fn say_fault(
 }
 
 /// The same, around a place that was looked at.
-fn say_kind(
+pub(crate) fn say_kind(
     alloc: Global,
     texts: Texts<'_>,
     file: TextFile,

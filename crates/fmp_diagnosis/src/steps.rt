@@ -1,7 +1,7 @@
-//! What is said of a fault of a steps text.
+//! What is said of lines of a steps text: of its fault, and of a line that does nothing.
 ghost use Rattle.std.specs.Prelude.{◌≡◌, ◌+◌, ◌<◌, ◌≤◌, ◌==◌, true, length, max, slice_index, IfOk, OnOk};
 ghost use Rattle.fmp_diagnosis.specs.StepFindings as spec;
-ghost use Rattle.fmp_diagnosis.specs.StepFindings.{IsStepFinding, line_at};
+ghost use Rattle.fmp_diagnosis.specs.StepFindings.{IsSaidOfLine, IsStepFinding, IsStepWarning, line_at};
 ghost use Rattle.fmp_diagnosis.specs.Words.{IsSaid};
 
 use crate::excerpt::excerpt_at;
@@ -33,12 +33,26 @@ impl StepFlaw {
     }
 }
 
-/// What is wrong in a line: where it begins there, how many bytes it has, and what is said of it.
+/// A stretch of a line: the bytes before it, and those that it has.
 #[derive(Clone, Copy)]
-struct Culprit {
+struct Stretch {
     from: usize,
     length: usize,
+}
+
+/// What is wrong in a line: where, and what is said of it.
+#[derive(Clone, Copy)]
+struct Culprit {
+    stretch: Stretch,
     said: &'static str,
+}
+
+/// What is said of a stretch of a line.
+fn wrong_at(from: usize, length: usize, said: &'static str) -> Culprit {
+    Culprit {
+        stretch: Stretch { from, length },
+        said,
+    }
 }
 
 /// A byte that shows as a blank.
@@ -49,18 +63,10 @@ fn is_blank(byte: Option<&u8>) -> bool {
 /// A byte order mark, or a line that is empty.
 fn empty_or_marked(line: &[u8]) -> Option<Culprit> {
     if line.is_empty() {
-        return Some(Culprit {
-            from: 0,
-            length: 0,
-            said: "the line is empty",
-        });
+        return Some(wrong_at(0, 0, "the line is empty"));
     }
     if line.starts_with(&BYTE_ORDER_MARK) {
-        return Some(Culprit {
-            from: 0,
-            length: 3,
-            said: "a byte order mark stands here",
-        });
+        return Some(wrong_at(0, 3, "a byte order mark stands here"));
     }
     None
 }
@@ -80,36 +86,75 @@ fn stray_byte(line: &[u8]) -> Option<Culprit> {
     } else {
         return None;
     };
-    Some(Culprit {
-        from,
-        length: 1,
-        said,
-    })
+    Some(wrong_at(from, 1, said))
+}
+
+/// Where these letters begin in a line.
+fn letters_in(line: &[u8], letters: &[u8]) -> Option<usize> {
+    line.windows(letters.len().max(1))
+        .position(|word| word == letters)
+}
+
+/// Where a comment stands in a line, or how often it is taken as in a session, and what is said.
+fn comment_or_count(line: &[u8]) -> Option<(usize, &'static str)> {
+    if line.starts_with(b"#") {
+        return Some((0, "steps have no comments"));
+    }
+    if let Some(from) = letters_in(line, b"//") {
+        return Some((from, "steps have no comments"));
+    }
+    if line.starts_with(b"run ") || line.starts_with(b"int ") {
+        let from = letters_in(line.get(4..)?, b" x")?.saturating_add(4);
+        return Some((from, "only a session takes how often an event comes"));
+    }
+    None
+}
+
+/// How lines of other kinds of files begin, and what is said of them.
+const KINDS: [(&str, &str); 4] = [
+    ("NUM_PRC", "this is a configuration"),
+    ("task ", "this is a task text"),
+    ("handler ", "this is a task text"),
+    ("FMPI", "this is an image"),
+];
+
+/// What is said of a line that begins as no event does.
+fn kind_of_line(line: &[u8]) -> &'static str {
+    for (begin, said) in KINDS {
+        if line.starts_with(begin.as_bytes()) {
+            return said;
+        }
+    }
+    "this is no event"
 }
 
 /// From where a line departs from an event as which it begins, and what is said.
 fn departure(line: &[u8]) -> (usize, &'static str) {
+    if let Some(found) = comment_or_count(line) {
+        return found;
+    }
     if line.starts_with(b"run 0") || line.starts_with(b"int 0") {
         (4, "the number begins with 0")
     } else if line.starts_with(b"run ") {
         (4, "expected the number of a processor")
     } else if line.starts_with(b"int ") {
         (4, "expected the number of an interrupt")
+    } else if line.starts_with(b"tick ") {
+        (
+            4,
+            "expected the end of the line after `tick`; only a session takes a number there",
+        )
     } else if line.starts_with(b"tick") {
-        (4, "expected the end of the line behind `tick`")
+        (4, "expected the end of the line after `tick`")
     } else {
-        (0, "this is no event")
+        (0, kind_of_line(line))
     }
 }
 
 /// A line that is no event for no reason that a byte alone tells.
 fn ill_formed(line: &[u8]) -> Culprit {
     let (from, said) = departure(line);
-    Culprit {
-        from,
-        length: line.len().saturating_sub(from),
-        said,
-    }
+    wrong_at(from, line.len().saturating_sub(from), said)
 }
 
 /// Why a line is no event.
@@ -127,16 +172,12 @@ fn no_event(line: &[u8]) -> Culprit {
 fn wrong_in(line: &[u8], flaw: StepFlaw) -> Culprit {
     match flaw {
         StepFlaw::Form => no_event(line),
-        StepFlaw::Range(_) => Culprit {
-            from: 4,
-            length: line.len().saturating_sub(4),
-            said: "the number is out of range",
-        },
-        StepFlaw::TooMany => Culprit {
-            from: 0,
-            length: line.len(),
-            said: "this is one step too many",
-        },
+        StepFlaw::Range(_) => wrong_at(
+            4,
+            line.len().saturating_sub(4),
+            "the number is out of range",
+        ),
+        StepFlaw::TooMany => wrong_at(0, line.len(), "this is one step too many"),
     }
 }
 
@@ -189,7 +230,7 @@ fn line_start(text: &[u8], number: u32) -> usize
     text.len()
 }
 
-/// The place this number of bytes behind another one, or the end of its line if that comes first.
+/// The place this number of bytes after another one, or the end of its line if that comes first.
 fn within_line(text: &[u8], from: usize, count: usize) -> usize
     requires { from ≤ length text.now }
     ensures low { from ≤ result }
@@ -206,6 +247,36 @@ fn within_line(text: &[u8], from: usize, count: usize) -> usize
     text.len()
 }
 
+/// What is said of the line of this number, which begins at a place of a steps text, with this code and sentence: it
+/// stands `from` bytes after that place, and has at most `length` bytes, all in that line.
+fn said_of_line(
+    alloc: Global,
+    text: &[u8],
+    number: u32,
+    start: usize,
+    stretch: Stretch,
+    code: &'static str,
+    sentence: Vec<u8>,
+) -> Result<FaultReport, AllocError>
+    requires within { start ≤ length text.now }
+    requires line { line_at text.now start ≤ max number 1 }
+    requires end { line_at text.now start < max number 1 → start ≡ length text.now }
+    requires said { 0 < length sentence.items }
+    ensures { IfOk result (IsSaidOfLine text.now number code.now) }
+{
+    let at = within_line(text, start, stretch.from);
+    let end = within_line(text, at, stretch.length);
+    let excerpt = excerpt_at(alloc, text, at, end)?;
+    Ok(FaultReport {
+        line: number,
+        end: column_behind(excerpt.column, at, end),
+        excerpt,
+        code,
+        refusal: "",
+        sentence,
+    })
+}
+
 /// What is said of the line of this number, from 1, of a steps text that has this flaw. `AllocError` if memory runs
 /// out.
 pub fn step_finding(
@@ -219,15 +290,47 @@ pub fn step_finding(
     let start = line_start(text, number);
     let finish = within_line(text, start, usize::MAX);
     let found = wrong_in(&text[start..finish], flaw);
-    let at = within_line(text, start, found.from);
-    let end = within_line(text, at, found.length);
-    let excerpt = excerpt_at(alloc, text, at, end)?;
-    Ok(FaultReport {
-        line: number,
-        end: column_behind(excerpt.column, at, end),
-        excerpt,
-        code: flaw.code(),
-        refusal: "",
-        sentence: sentence_on(alloc, found.said, flaw)?,
-    })
+    let sentence = sentence_on(alloc, found.said, flaw)?;
+    said_of_line(
+        alloc,
+        text,
+        number,
+        start,
+        found.stretch,
+        flaw.code(),
+        sentence,
+    )
+}
+
+/// The sentence on an interrupt that has no handler.
+fn sentence_on_interrupt(alloc: Global, interrupt: u8) -> Result<Vec<u8>, AllocError>
+    ensures { IfOk result (λ sentence. 0 < length sentence.items) }
+{
+    let mut sentence = Vec::new(alloc);
+    let words = [
+        Word::Text("no handler is defined for interrupt "),
+        Word::Number(i64::from(interrupt)),
+        Word::Text(": this line does nothing"),
+    ];
+    say(&words, &mut sentence)?;
+    Ok(sentence)
+}
+
+/// The warning of the line of this number, from 1, of a steps text: its interrupt has no handler. `AllocError` if
+/// memory runs out.
+pub fn step_warning(
+    alloc: Global,
+    text: &[u8],
+    number: u32,
+    interrupt: u8,
+) -> Result<FaultReport, AllocError>
+    ensures { IfOk result (IsStepWarning text.now number) }
+{
+    let start = line_start(text, number);
+    let sentence = sentence_on_interrupt(alloc, interrupt)?;
+    let stretch = Stretch {
+        from: 0,
+        length: usize::MAX,
+    };
+    said_of_line(alloc, text, number, start, stretch, "warning", sentence)
 }

@@ -17,7 +17,7 @@ use std::alloc::{AllocError, Global};
 /// A number of more bytes is not quoted.
 const SHOWN_MAX: usize = 40;
 
-/// What is said behind a number that is too great.
+/// What is said after a number that is too great.
 const TOO_GREAT: &str =
     " is too great: a number is at most 2147483647, with at most 8 hexadecimal digits";
 
@@ -45,20 +45,23 @@ fn why_no_number(number: &[u8]) -> &'static str {
     }
 }
 
-/// What stands in the place of a token of C that begins with this character.
-fn in_place_of(first: u8) -> &'static str {
-    match first {
+/// What stands in a text in the place of a token of another language with which these bytes begin.
+fn in_place_of(file: TextFile, bytes: &[u8]) -> &'static str {
+    match first_of(bytes) {
         b'#' => "; there is no preprocessor",
+        b'"' if file == TextFile::Configuration => "; a name stands without quotes",
         b'"' => "; there are no strings, and `put` prints a number",
         b'\'' => "; a character is written as its number",
         b'?' => "; the only choice is `if`, with or without `else`",
+        b':' if bytes.starts_with(b":=") => "; `=` gives a variable a value",
+        b':' => "; there are no labels, and a variable has no type",
         b'.' => "; numbers are whole, and there are no structures",
         _ => "",
     }
 }
 
 /// Says why no token begins at the place.
-fn say_no_token(around: &Around<'_>, out: &mut Vec<u8>) -> Result<(), AllocError>
+fn say_no_token(file: TextFile, around: &Around<'_>, out: &mut Vec<u8>) -> Result<(), AllocError>
     ensures { OnOk result (IsSaid out.old.items out.new.items) }
 {
     let bytes = around.bytes;
@@ -82,7 +85,7 @@ fn say_no_token(around: &Around<'_>, out: &mut Vec<u8>) -> Result<(), AllocError
     }
     if first.is_ascii_graphic() {
         say_text("no token begins with ", out)?;
-        return say_quoted(&[first], &[Word::Text(in_place_of(first))], out);
+        return say_quoted(&[first], &[Word::Text(in_place_of(file, bytes))], out);
     }
     if !first.is_ascii() {
         return say_foreign(around, first, out);
@@ -198,9 +201,31 @@ fn remark(around: &Around<'_>) -> Option<&'static str>
         }
         (TokenKind::Symbol(Symbol::Less), Some(TokenKind::Symbol(Symbol::Less)))
         | (TokenKind::Symbol(Symbol::Greater), Some(TokenKind::Symbol(Symbol::Greater))) => {
-            Some("there are no shifts")
+            Some("there are no shifts; `x * 2` stands for `x << 1`, and `x / 2` for `x >> 1`")
         }
         _ => None,
+    }
+}
+
+/// Says what is remarked of a token, and how the answer of a service call is kept.
+fn say_remark(
+    text: &'static str,
+    here: Option<TokenKind>,
+    out: &mut Vec<u8>,
+) -> Result<(), AllocError>
+    requires { 0 < length text.now }
+    ensures { OnOk result (IsSaid out.old.items out.new.items) }
+{
+    say_text(text, out)?;
+    match here {
+        Some(TokenKind::Service(service)) => {
+            let keeps = Word::Text("(..);` keeps its answer");
+            say(
+                &[Word::Text("; `x = "), Word::Text(service.name()), keeps],
+                out,
+            )
+        }
+        _ => Ok(()),
     }
 }
 
@@ -311,7 +336,7 @@ pub fn wants_semicolon(
     Ok(expected.windows(3).any(|word| word == b"`;`".as_slice()))
 }
 
-/// What may stand behind these tokens of a text.
+/// What may stand after these tokens of a text.
 fn expected_behind(
     alloc: Global,
     file: TextFile,
@@ -371,7 +396,7 @@ fn say_in_source(alloc: Global, around: &Around<'_>, out: &mut Vec<u8>) -> Resul
         return say_misspelt_call(alloc, &name, out);
     }
     match remark(around) {
-        Some(text) => say_text(text, out),
+        Some(text) => say_remark(text, around.here(), out),
         None => say_unexpected(alloc, TextFile::Source, around, out),
     }
 }
@@ -418,7 +443,7 @@ pub fn say_syntax(
     ensures { OnOk result (IsSaid out.old.items out.new.items) }
 {
     match (around.here(), file) {
-        (Some(TokenKind::Bad(LexFault::Syntax)), _) => say_no_token(around, out),
+        (Some(TokenKind::Bad(LexFault::Syntax)), _) => say_no_token(file, around, out),
         (Some(TokenKind::Bad(LexFault::Limit)), _) => say_too_great(around.bytes, out),
         _ => say_in_text(alloc, file, around, out),
     }

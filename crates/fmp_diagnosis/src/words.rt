@@ -18,7 +18,7 @@ pub const BYTE_ORDER_MARK: [u8; 3] = [0xEF, 0xBB, 0xBF];
 pub enum Word {
     /// These letters.
     Text(&'static str),
-    /// These letters behind `the`.
+    /// These letters after `the`.
     The(&'static str),
     /// A name of the texts, in quotes.
     Name(Name),
@@ -72,7 +72,7 @@ pub fn counted(count: usize) -> Word {
     Word::Number(i64::try_from(count).unwrap_or(i64::MAX))
 }
 
-/// Appends words, one behind another.
+/// Appends words, one after another.
 pub fn say(words: &[Word], out: &mut Vec<u8>) -> Result<(), AllocError>
     ensures { OnOk result (out.new.items ≡ out.old.items ++ spec.words_text words.now) }
 {
@@ -90,7 +90,7 @@ pub fn say_text(text: &str, out: &mut Vec<u8>) -> Result<(), AllocError>
     append(text, out)
 }
 
-/// Appends bytes in quotes, and words behind them.
+/// Appends bytes in quotes, and words after them.
 pub fn say_quoted(bytes: &[u8], words: &[Word], out: &mut Vec<u8>) -> Result<(), AllocError>
     ensures said { OnOk result (IsSaid out.old.items out.new.items) }
     ensures quotes { OnOk result (IsSaidFirst (spec.quoted bytes.now) out.old.items out.new.items) }
@@ -99,7 +99,7 @@ pub fn say_quoted(bytes: &[u8], words: &[Word], out: &mut Vec<u8>) -> Result<(),
     say(words, out)
 }
 
-/// Appends a name in quotes, and words behind it.
+/// Appends a name in quotes, and words after it.
 pub fn say_of(name: &Name, words: &[Word], out: &mut Vec<u8>) -> Result<(), AllocError>
     ensures said { OnOk result (IsSaid out.old.items out.new.items) }
     ensures names { OnOk result (IsSaidFirst (spec.quoted (name_text name.now)) out.old.items out.new.items) }

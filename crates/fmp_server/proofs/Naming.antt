@@ -14,7 +14,7 @@ use Rattle.fmp_server.specs.declared.roles.Role.{Role}
 use Rattle.fmp_server.specs.declared.roles.RoleWalk.{RoleWalk}
 use Rattle.fmp_server.specs.Roles.{named_places, places_of, stands_for, walked}
 
--- the token at a place, and those behind it
+-- the token at a place, and those after it
 held : (ts : List Token) (i : ℕ) (t : Token) → slice_get ts i ≡ Some t → drop i ts ≡ t ∷ drop (i + 1) ts
 held ts i t e =
     drop_more ts i t (slice_get_within ts i t e)

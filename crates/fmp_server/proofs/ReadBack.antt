@@ -1,5 +1,5 @@
 -- What is framed is read back.
-use Rattle.std.proofs.Common.{ℕ, ◌≡◌, ◌+◌, ◌-◌, ◌^◌, ◌<◌, ◌≤◌, ◌&&◌, ◌==◌, List, [], ◌∷◌, ◌++◌, Bool, true, false}
+use Rattle.std.proofs.Common.{ℕ, ◌≡◌, ◌+◌, ◌^◌, ◌<◌, ◌≤◌, ◌&&◌, ◌==◌, List, [], ◌∷◌, ◌++◌, Bool, true, false}
 use Rattle.std.proofs.Common.{Option, Some, None, length, min, codes, decimal, refl, ap, sym, ◌∙◌, arith, append_assoc}
 use Rattle.std.proofs.lemmas.Bool.{ne_eqb, le-leb, leb-true, lt-leb, lt-ltb}
 use Rattle.std.proofs.lemmas.Fmt.{digits_decimal, digits_value-decimal, length-decimal-le}
@@ -11,15 +11,15 @@ use Rattle.std.specs.Prelude.{if◌then◌else◌, nat_le}
 use Rattle.std.specs.Str.{all_ascii_digits}
 use Rattle.std.specs.Str.Parse.{digits_value}
 use Rattle.fmp_server.specs.Framing.{Part, fed, framed, fresh, step, tells_length, told, within}
-use Rattle.fmp_server.proofs.Feeding.{fed_append}
+use Rattle.fmp_server.proofs.Feeding.{body_part, fed_append, last_fed}
 
 -- a header whose line has begun
 abbrev in_line : List ℕ → Part
 in_line line = record { line = line; told = 0; left = 0; message = [] }
 
--- a message of which some bytes came
+-- a message of which some bytes came, after a header that left nothing
 abbrev in_body : (left : ℕ) → (message : List ℕ) → Part
-in_body left message = record { line = []; told = 0; left = left; message = message }
+in_body left message = body_part [] 0 left message
 
 abbrev field : List ℕ
 field = codes "content-length:"
@@ -78,24 +78,6 @@ header_ends ds a h =
     ap (λ (empty : Bool). fed (after_line line empty) (codes "\r\n")) some
     ∙ ap (λ (k : ℕ). (in_body k [], [])) (told_length ds a h)
 
-step_more : (m : List ℕ) (n b : ℕ) → 1 < n → step (in_body n m) b ≡ (in_body (n - 1) (m ++ b ∷ []), None)
-step_more m n b h =
-    let some = lt-ltb 0 n (omega arith) in
-    let more = lt-ltb 1 n h in
-    simp (some, more)
-
--- the bytes of a message that are still to come
-body_read : (m : List ℕ) (b : ℕ) (bs : List ℕ) → fed (in_body (length (b ∷ bs)) m) (b ∷ bs)
-    ≡ (fresh, (m ++ b ∷ bs) ∷ [])
-body_read m b [] = refl
-body_read m b (c ∷ cs) =
-    let one : length (b ∷ c ∷ cs) - 1 ≡ length (c ∷ cs) = omega arith in
-    ap (λ (s : Part × Option (List ℕ)). let r = fed s.0 (c ∷ cs) in (r.0, option_to_list s.1 ++ r.1))
-    (step_more m (length (b ∷ c ∷ cs)) b (omega arith))
-    ∙ ap (λ (k : ℕ). fed (in_body k (m ++ b ∷ [])) (c ∷ cs)) one
-    ∙ body_read (m ++ b ∷ []) c cs
-    ∙ ap (λ (l : List ℕ). (fresh, l ∷ [])) (append_assoc m (b ∷ []) (c ∷ cs))
-
 -- one part, and then another
 chain : (p q z : Part) (a b : List ℕ) (ms : List (List ℕ)) → fed p a ≡ (q, []) → fed q b ≡ (z, ms)
     → fed p (a ++ b) ≡ (z, ms)
@@ -121,4 +103,4 @@ read_back b bs h =
     let ended = chain fresh (in_line (field ++ ds)) (in_body (digits_value 10 ds) [])
     (codes "Content-Length: " ++ ds) (codes "\r\n\r\n") [] line (header_ends ds digits most) in
     chain fresh (in_body (digits_value 10 ds) []) fresh (codes "Content-Length: " ++ ds ++ codes "\r\n\r\n") m (m ∷ [])
-    ended (ap (λ (k : ℕ). fed (in_body k []) m) value ∙ body_read [] b bs)
+    ended (ap (λ (k : ℕ). fed (in_body k []) m) value ∙ last_fed [] 0 [] b bs)

@@ -19,7 +19,7 @@ pub record IsTold (t : Texts) (f : TextsFault) (told : ToldFault) : Type 0 where
   pub file : told.file ≡ f.file
   pub is_finding : IsFinding (text_of t f.file) f.place f.kind told.finding
 
--- what is told of two texts of which this is the first fault: that one, and those behind it
+-- what is told of two texts of which this is the first fault: that one, and those after it
 abbrev pub AreFaults : Texts → TextsFault → List ToldFault → Type 0
 AreFaults t f told =
     (first : ToldFault) × (more : List ToldFault) × IsTold t f first × AreFurther (both_of t) f more
@@ -34,7 +34,7 @@ AreFindingsOf _ _ _ = ⊥
 abbrev pub AreFindings : Texts → Found → Type 0
 AreFindings t found = (v : TextsVerdict) × IsFound t.cfg.now t.src.now v × AreFindingsOf t v found
 
--- What a finding marks: from its column up to that behind it, in its line. Columns are counted in bytes, from 1.
+-- What a finding marks: from its column up to that after it, in its line. Columns are counted in bytes, from 1.
 pub record IsMarked (text : List ℕ) (f : FaultReport) (r : TextRange) : Type 0 where
   pub begin : ℕ
   pub start : IsLineStart text (f.line - 1) begin

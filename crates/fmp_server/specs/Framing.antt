@@ -29,7 +29,7 @@ fresh = record { line = []; told = 0; left = 0; message = [] }
 abbrev pub is_blank : ℕ → Bool
 is_blank b = (b == 32) || (b == 9) || (b == 13)
 
--- the number that digits spell, or the one behind the greatest length
+-- the number that digits spell, or the one after the greatest length
 abbrev pub capped : List ℕ → Option ℕ
 capped digits = if all_ascii_digits digits then Some (min (digits_value 10 digits) (MESSAGE_MAX + 1)) else None
 
@@ -45,11 +45,11 @@ length_in digits = within (capped digits)
 unfoldable pub tells_length : List ℕ → Bool
 tells_length line = starts_with nat_eq line (codes "content-length:")
 
--- the length that a header has told behind a line
+-- the length that a header has told after a line
 abbrev pub told : List ℕ → ℕ → ℕ
 told line before = if tells_length line then length_in (drop 15 line) else before
 
--- behind an empty line the message begins, if a length was told
+-- after an empty line the message begins, if a length was told
 abbrev pub behind_line : Part → Part
 behind_line p =
     if length p.line == 0 then record p { told = 0; left = p.told }
@@ -75,10 +75,10 @@ abbrev pub fed : Part → List ℕ → Part × List (List ℕ)
 fed p [] = (p, [])
 fed p (b ∷ bs) = let s = step p b in let r = fed s.0 bs in (r.0, option_to_list s.1 ++ r.1)
 
--- a message behind its header
+-- a message after its header
 abbrev pub framed : List ℕ → List ℕ
 framed message = codes "Content-Length: " ++ decimal (length message) ++ codes "\r\n\r\n" ++ message
 
--- what bytes do behind these messages
+-- what bytes do after these messages
 abbrev pub fed_behind : Part → List (List ℕ) → List ℕ → Part × List (List ℕ)
 fed_behind p messages bytes = let r = fed p bytes in (r.0, messages ++ r.1)

@@ -12,7 +12,7 @@ units b = if nat_le 128 b && nat_lt b 192 then 0 else (if nat_le 240 b then 2 el
 abbrev pub width : List ℕ → ℕ
 width bytes = sum_by units bytes
 
--- The position of the byte `at` in a line: behind the units from the line's first byte on.
+-- The position of the byte `at` in a line: after the units from the line's first byte on.
 pub record IsPosition (text : List ℕ) (line at : ℕ) (p : Position) : Type 0 where
   pub line_is : p.line ≡ line
   pub begin : ℕ
@@ -33,7 +33,7 @@ AreRanges text (p ∷ ps) rs =
     (r : TextRange) × (more : List TextRange) × (rs ≡ r ∷ more) × IsRange text (p.line - 1) p.start p.end r
     × AreRanges text ps more
 
--- The line of this number, from 0, begins here: behind as many line feeds, of which one is the last byte before; or the
+-- The line of this number, from 0, begins here: after as many line feeds, of which one is the last byte before; or the
 -- text ends here, which has no such line.
 pub record IsLineStart (text : List ℕ) (line begin : ℕ) : Type 0 where
   pub within : begin ≤ length text

@@ -46,7 +46,7 @@ behind_keyword keyword.Handler = before.Heading
 behind_keyword keyword.Var = before.Variable
 behind_keyword _ = before.Other
 
--- the name of an object or of a class stands in the parenthesis behind its word
+-- the name of an object or of a class stands in the parenthesis after its word
 abbrev pub in_parenthesis : Before → Before
 in_parenthesis before.Maker = before.Object
 in_parenthesis before.Class = before.ClassName
@@ -56,7 +56,7 @@ abbrev pub behind_symbol : Before → Symbol → Before
 behind_symbol b symbol.LeftParen = in_parenthesis b
 behind_symbol b _ = before.Other
 
--- what stands before the token behind this one
+-- what stands before the token after this one
 abbrev pub behind : Before → TokenKind → Before
 behind b (kind.Api a) = behind_api a
 behind b (kind.Keyword k) = behind_keyword k
@@ -99,7 +99,7 @@ gone_on w k =
       is_variable = w.is_variable || (is_declaration w.before && is_name k w.name);
     }
 
--- the walk behind this token
+-- the walk after this token
 abbrev pub walked : RoleWalk → TokenKind → RoleWalk
 walked w k = if is_heading (behind w.before k) then begun w else gone_on w k
 

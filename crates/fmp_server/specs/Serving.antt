@@ -7,6 +7,6 @@ use Rattle.fmp_server.specs.Framing.{Part, framed, part_of}
 abbrev pub reading_of : Server → Part
 reading_of s = part_of s.framing
 
--- messages, one after the other, each behind its header
+-- messages, one after the other, each after its header
 abbrev pub IsFramed : List ℕ → Type 0
 IsFramed bytes = (messages : List (List ℕ)) × (bytes ≡ flat_map framed messages)

@@ -12,7 +12,7 @@ use fmp_json::{begin_list, number_member, text_member};
 use fmp_lex::{BuildFault, TextFile};
 use fmp_tasklang::read_tasks;
 use fmp_warnings::{
-    TextsFault, TextsVerdict, ToldFault, Warning, found_in, further_faults, warnings_of,
+    ROUNDS, TextsFault, TextsVerdict, ToldFault, Warning, found_in, further_faults, warnings_of,
 };
 use json::Writer;
 use std::alloc::{AllocError, Global};
@@ -22,6 +22,9 @@ const ERROR: u64 = 1;
 
 /// That of a warning.
 const WARNING: u64 = 2;
+
+/// How many bytes of texts are read at most to find the faults after the first one: an editor waits for the answer.
+const READ_MAX: usize = 1 << 19;
 
 /// What is found in the texts of a system.
 #[derive(Drop)]
@@ -82,7 +85,13 @@ fn told_of(alloc: Global, texts: Texts<'_>, fault: TextsFault) -> Result<ToldFau
     Ok(ToldFault { file, finding })
 }
 
-/// What is told of two texts of which this is the first fault: that one, and those behind it.
+/// How many constructs of two texts may be left out, after each of which the texts are read anew.
+fn rounds_for(texts: Texts<'_>) -> u32 {
+    let bytes = texts.cfg.len().saturating_add(texts.src.len()).max(1);
+    (READ_MAX / bytes).min(ROUNDS as usize) as u32
+}
+
+/// What is told of two texts of which this is the first fault: that one, and those after it, fewer of long texts.
 fn faults_of_both(
     alloc: Global,
     texts: Texts<'_>,
@@ -90,7 +99,7 @@ fn faults_of_both(
 ) -> Result<Vec<ToldFault>, AllocError>
     ensures { IfOk result (λ told. AreFaults texts.entry fault told.items) }
 {
-    let mut told = further_faults(alloc, texts, fault)?;
+    let mut told = further_faults(alloc, texts, fault, rounds_for(texts))?;
     let first = told_of(alloc, texts, fault)?;
     told.insert(0, first)?;
     Ok(told)

@@ -1,7 +1,8 @@
-//! Messages within a stream of bytes: each stands behind a header that tells how many bytes it has.
+//! Messages within a stream of bytes: each stands after a header that tells how many bytes it has.
 ghost use Rattle.std.specs.Prelude.{◌≡◌, ◌<◌, ◌≤◌, ◌++◌, IfOk, IsTrue, OnOk, length, map, option_map};
+ghost use Rattle.std.specs.Option.{option_to_list};
 ghost use Rattle.fmp_server.specs.Framing as spec;
-ghost use Rattle.fmp_server.specs.Framing.{fed, framed, fresh, part_of, step};
+ghost use Rattle.fmp_server.specs.Framing.{fed, framed, fresh, part_of};
 
 use itoa::Buffer;
 use std::alloc::{AllocError, Global};
@@ -39,7 +40,7 @@ fn is_blank(byte: u8) -> bool
     byte == b' ' || byte == b'\t' || byte == b'\r'
 }
 
-/// The number that digits spell, or the one behind the greatest length where it is greater; none if a byte is no digit.
+/// The number that digits spell, or the one after the greatest length where it is greater; none if a byte is no digit.
 fn digits_in(text: &[u8]) -> Option<usize>
     ensures { result ≡ spec.capped text.now }
 {
@@ -72,7 +73,7 @@ fn tells_length(line: &[u8]) -> bool
     line.starts_with(LENGTH_FIELD)
 }
 
-/// The length that a header has told behind this line.
+/// The length that a header has told after this line.
 fn told(line: &[u8], length: usize) -> usize
     ensures { result ≡ spec.told line.now length }
 {
@@ -96,7 +97,7 @@ impl Framing {
         }
     }
 
-    /// Takes the end of a line of a header. Behind an empty line the message begins.
+    /// Takes the end of a line of a header. After an empty line the message begins.
     fn end_line(&mut self)
         ensures { part_of self.new ≡ spec.behind_line (part_of self.old) }
     {
@@ -124,30 +125,52 @@ impl Framing {
         Ok(())
     }
 
-    /// Takes a byte of a message, and gives the message if this is its last one.
-    fn take_of_message(&mut self, alloc: Global, byte: u8) -> Result<Option<Vec<u8>>, AllocError>
-        requires { 0 < self.old.left }
-        ensures { IfOk result (λ message.
-            (part_of self.new, option_map (λ m. m.items) message) ≡ spec.in_message (part_of self.old) byte) }
+    /// Takes bytes of a message, at most those that are still to come, and gives the message if they are its last ones.
+    fn take_of_message(
+        &mut self,
+        alloc: Global,
+        bytes: &[u8],
+    ) -> Result<Option<Vec<u8>>, AllocError>
+        requires some { 0 < length bytes.now }
+        requires within { length bytes.now ≤ self.old.left }
+        ensures { IfOk result (λ message. (part_of self.new, option_to_list (option_map (λ m. m.items) message))
+            ≡ fed (part_of self.old) bytes.now) }
     {
-        self.message.push(byte)?;
-        if self.left > 1 {
-            self.left -= 1;
+        self.message.extend_from_slice(bytes)?;
+        self.left -= bytes.len();
+        if self.left > 0 {
             return Ok(None);
         }
-        self.left = 0;
         Ok(Some(mem::replace(&mut self.message, Vec::new(alloc))))
     }
 
-    /// Takes a byte, and gives the message that ends with it, if one does. `AllocError` if memory runs out.
-    fn take_byte(&mut self, alloc: Global, byte: u8) -> Result<Option<Vec<u8>>, AllocError>
-        ensures { IfOk result (λ message.
-            (part_of self.new, option_map (λ m. m.items) message) ≡ step (part_of self.old) byte) }
+    /// How many of these bytes are taken at once: those of the message, or one of a header.
+    fn stretch_of(&self, bytes: &[u8]) -> usize
+        requires { 0 < length bytes.now }
+        ensures some { 0 < result }
+        ensures within { result ≤ length bytes.now }
+        ensures message { 0 < self.now.left → result ≤ self.now.left }
+        ensures header { self.now.left ≡ 0 → result ≡ 1 }
     {
         if self.left > 0 {
-            return self.take_of_message(alloc, byte);
+            self.left.min(bytes.len())
+        } else {
+            1
         }
-        self.take_of_header(byte)?;
+    }
+
+    /// Takes a stretch of bytes, and gives the message that ends with it, if one does. `AllocError` if memory runs out.
+    fn take_stretch(&mut self, alloc: Global, bytes: &[u8]) -> Result<Option<Vec<u8>>, AllocError>
+        requires some { 0 < length bytes.now }
+        requires message { 0 < self.old.left → length bytes.now ≤ self.old.left }
+        requires header { self.old.left ≡ 0 → length bytes.now ≡ 1 }
+        ensures { IfOk result (λ message. (part_of self.new, option_to_list (option_map (λ m. m.items) message))
+            ≡ fed (part_of self.old) bytes.now) }
+    {
+        if self.left > 0 {
+            return self.take_of_message(alloc, bytes);
+        }
+        self.take_of_header(bytes[0])?;
         Ok(None)
     }
 
@@ -157,16 +180,22 @@ impl Framing {
             (part_of self.new, map (λ m. m.items) messages.items) ≡ fed (part_of self.old) bytes.now) }
     {
         let mut messages = Vec::new(alloc);
-        for byte in bytes {
-            if let Some(message) = self.take_byte(alloc, *byte)? {
-                messages.push(message)?;
+        let mut at = 0;
+        'stretches: while at < bytes.len() {
+            let end = at + self.stretch_of(&bytes[at..]);
+            match self.take_stretch(alloc, &bytes[at..end])? {
+                Some(message) => {
+                    messages.push(message)?;
+                }
+                None => {}
             }
+            at = end;
         }
         Ok(messages)
     }
 }
 
-/// Appends a message behind a header that tells its length. `AllocError` if memory runs out.
+/// Appends a message after a header that tells its length. `AllocError` if memory runs out.
 pub fn append_framed(message: &[u8], out: &mut Vec<u8>) -> Result<(), AllocError>
     ensures { OnOk result (out.new.items ≡ out.old.items ++ framed message.now) }
 {

@@ -6,7 +6,7 @@ pub fn parts_are_read_as_the_whole()
     ensures { ReadsParts }
 {}
 
-/// A message behind the header that it is written with is read back, if it has at most 64 MiB, and at least one byte.
+/// A message after the header that it is written with is read back, if it has at most 64 MiB, and at least one byte.
 pub fn what_is_framed_is_read_back()
     ensures { ReadsBack }
 {}

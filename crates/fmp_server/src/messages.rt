@@ -112,21 +112,21 @@ fn write_head(writer: &mut Writer) -> Result<(), AllocError> {
     text_member(writer, "jsonrpc", "2.0")
 }
 
-/// Writes how an answer to a request begins, whose result is to be written behind it.
+/// Writes how an answer to a request begins, whose result is to be written after it.
 fn write_answer_head(writer: &mut Writer, id: RequestId<'_>) -> Result<(), AllocError> {
     write_head(writer)?;
     write_id(writer, Some(id))?;
     writer.key("result")
 }
 
-/// Writes how a notification of this method begins, whose parameters are to be written behind it.
+/// Writes how a notification of this method begins, whose parameters are to be written after it.
 fn write_notification_head(writer: &mut Writer, method: &str) -> Result<(), AllocError> {
     write_head(writer)?;
     text_member(writer, "method", method)?;
     writer.key("params")
 }
 
-/// Begins the answer to a request, whose result is to be written behind it. `AllocError` if memory runs out, as of each
+/// Begins the answer to a request, whose result is to be written after it. `AllocError` if memory runs out, as of each
 /// function below.
 pub fn begin_answer(alloc: Global, id: RequestId<'_>) -> Result<Writer, AllocError> {
     let mut writer = Writer::new(Vec::new(alloc));
@@ -134,7 +134,7 @@ pub fn begin_answer(alloc: Global, id: RequestId<'_>) -> Result<Writer, AllocErr
     Ok(writer)
 }
 
-/// Begins a notification of this method, whose parameters are to be written behind it.
+/// Begins a notification of this method, whose parameters are to be written after it.
 pub fn begin_notification(alloc: Global, method: &str) -> Result<Writer, AllocError> {
     let mut writer = Writer::new(Vec::new(alloc));
     write_notification_head(&mut writer, method)?;

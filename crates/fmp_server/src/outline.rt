@@ -40,7 +40,7 @@ pub fn letters(name: &Name) -> &str {
     str::from_utf8(name.as_bytes()).unwrap_or("")
 }
 
-/// The place of the semicolon behind a place, or of the last token.
+/// The place of the semicolon after a place, or of the last token.
 fn end_of_api(tokens: &Tokens<'_>, at: usize) -> usize {
     for behind in at..tokens.len() {
         if is_symbol(tokens, behind, Symbol::Semicolon) {
@@ -50,7 +50,7 @@ fn end_of_api(tokens: &Tokens<'_>, at: usize) -> usize {
     tokens.len().saturating_sub(1)
 }
 
-/// The place of the last token before the body behind the one that begins at a place.
+/// The place of the last token before the body after the one that begins at a place.
 fn end_of_body(tokens: &Tokens<'_>, at: usize) -> usize {
     for behind in at.saturating_add(1)..tokens.len() {
         if begins_body_at(tokens, behind) {

@@ -1,4 +1,4 @@
-//! Where bytes of a text stand for an editor: in which line, and behind how many UTF-16 units of it. A carriage return
+//! Where bytes of a text stand for an editor: in which line, and after how many UTF-16 units of it. A carriage return
 //! alone ends no line, as in the language. Only comments may have bytes that are not ASCII.
 ghost use Rattle.std.specs.Prelude.{◌≡◌, ℕ, ◌-◌, ◌<◌, ◌≤◌, ◌==◌, true, false, length, slice_index};
 ghost use Rattle.fmp_server.specs.Positions as spec;

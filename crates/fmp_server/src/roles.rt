@@ -26,11 +26,11 @@ pub enum Role {
 enum Before {
     /// A static API that makes an object.
     Maker,
-    /// The parenthesis behind that: the name of the object follows.
+    /// The parenthesis after that: the name of the object follows.
     Object,
     /// `CLASS`.
     Class,
-    /// The parenthesis behind that: the name of the class follows.
+    /// The parenthesis after that: the name of the class follows.
     ClassName,
     /// `task` or `handler`: the name of the body follows.
     Heading,
@@ -140,7 +140,7 @@ fn behind_symbol(before: Before, symbol: Symbol) -> Before
     }
 }
 
-/// What stands before the token behind this one.
+/// What stands before the token after this one.
 fn behind(before: Before, kind: TokenKind) -> Before
     ensures { result ≡ spec.behind before kind }
 {
@@ -293,7 +293,7 @@ fn add_place(
     }
 }
 
-/// Takes the next token: adds its place if the name stands for this there, and moves the walk behind it.
+/// Takes the next token: adds its place if the name stands for this there, and moves the walk after it.
 #[tactic(auto, using(crate::proofs::Naming::kind_held))]
 fn take_token(
     tokens: &Tokens<'_>,
@@ -367,7 +367,7 @@ pub fn begun_at(tokens: &Tokens<'_>, offset: usize) -> usize {
     low
 }
 
-/// Whether a token is a word, and a byte is one of it or that behind it.
+/// Whether a token is a word, and a byte is one of it or that after it.
 fn is_word_at(tokens: &Tokens<'_>, at: usize, offset: usize) -> bool {
     if let Some(TokenKind::Symbol(_) | TokenKind::Bad(_)) = tokens.kind(at) {
         return false;

@@ -23,7 +23,7 @@ pub fn append_code(bytes: &[u8], out: &mut Vec<u8>) -> Result<(), AllocError> {
     append("`", out)
 }
 
-/// Appends texts, one behind the other.
+/// Appends texts, one after the other.
 pub fn append_all(texts: &[&str], out: &mut Vec<u8>) -> Result<(), AllocError> {
     for text in texts {
         append(*text, out)?;

@@ -42,7 +42,7 @@ impl Server {
     }
 
     /// Takes bytes of the editor, and gives those that are to be written: what answers the messages that end among
-    /// them, each behind a header that tells its length. `AllocError` if memory runs out.
+    /// them, each after a header that tells its length. `AllocError` if memory runs out.
     pub fn take(&mut self, alloc: Global, bytes: &[u8]) -> Result<Vec<u8>, AllocError>
         ensures read { IfOk result (λ _.
             reading_of self.new ≡ (fed (reading_of self.old) bytes.now).0) }

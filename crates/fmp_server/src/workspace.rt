@@ -386,7 +386,7 @@ impl Workspace {
         }
     }
 
-    /// Takes a message, and adds what answers it. Behind `exit` nothing does.
+    /// Takes a message, and adds what answers it. After `exit` nothing does.
     fn take_message(
         &mut self,
         alloc: Global,

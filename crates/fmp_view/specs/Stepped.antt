@@ -11,7 +11,7 @@ use Rattle.fmp_instructions.specs.Instructions.{BodyTables}
 use Rattle.fmp_kernel.specs.KernelViews.{KernelView}
 use Rattle.fmp_named.specs.Records.{state_records}
 use Rattle.fmp_named.specs.States.{named_states}
-use Rattle.fmp_places.specs.declared.calls.CallPlace.{CallPlace}
+use Rattle.fmp_frames.specs.declared.call_places.CallPlace.{CallPlace}
 use Rattle.fmp_session.specs.declared.session.Session.{Session}
 use Rattle.fmp_session.specs.Sessions.{lines_now, records_now}
 use Rattle.fmp_view.specs.declared.answering.Answer.{Answer}

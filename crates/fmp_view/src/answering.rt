@@ -9,10 +9,9 @@ use crate::session_objects::state_of;
 use crate::session_until::until;
 use fmp_base::{Event, System, TaskBlock, TaskState};
 use fmp_files::{Failure, Outside};
-use fmp_frames::last_frame;
+use fmp_frames::{CallPlace, CallPlaces, last_frame};
 use fmp_looking::{OpenImage, why_of};
 use fmp_named::{append_state_records, append_states};
-use fmp_places::{CallPlace, CallPlaces};
 use fmp_session::{
     Command, NamedInterrupt, Session, TakenEvent, append_kept, append_nothing, argument_of, note,
 };
@@ -25,7 +24,7 @@ const COMMANDS: &str =
     "run P [xK]   processor P goes on, to its next service call; K times, or until it does nothing
 tick [K]     the clock advances, K times
 int N [xK]   interrupt N is raised; N may be the body of its handler
-until DEED   all goes on until put(7), E_TMOUT or F_OVF happens; 'by TASK' may stand behind it
+until DEED   all goes on until put(7), E_TMOUT or F_OVF happens; 'by TASK' may stand after it
 back [K]     the last event is taken back, or the last K
 why          what each task waits or spins for
 state [X]    the states of the tasks, or that of the task or object X
@@ -293,7 +292,7 @@ pub fn states_text(alloc: Global, session: &Session<'_>, form: Form) -> Result<V
     ensures { IfOk result (λ out. out.items ≡ states_text_of form session.now.kernel) }
 {
     let image = session.image();
-    let frame = last_frame(alloc, session.kernel(), &image.vm(), session.bound())?;
+    let frame = last_frame(alloc, session.kernel())?;
     let mut out = Vec::new(alloc);
     let told = append_states_in(
         alloc,

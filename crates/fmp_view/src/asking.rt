@@ -4,7 +4,10 @@ ghost use Rattle.clap.specs.Words.{Row, found_of, rows_of, subcommand_rows_of};
 ghost use Rattle.fmp_view.specs.Commands.{AsksToExplore};
 
 use crate::exporting::Exporting;
-use crate::form::{export_command, import_command, program, timeline_command, waves_command};
+use crate::form::{
+    expect_command, export_command, import_command, program, run_command, timeline_command,
+    waves_command,
+};
 use crate::importing::Importing;
 use crate::targeting::Targeting;
 use clap::{ArgMatches, Error};
@@ -12,19 +15,29 @@ use fmp_arguments::{
     EVENTS_MAX, bound_of, entered, flag_of, text_of, word_of, word32_of, word64_of, words_of,
 };
 use fmp_files::{mistake, mistake_of};
-use fmp_looking::{Drawing, Format, Running, TraceFormat};
+use fmp_looking::{
+    CoverageFiles, Drawing, Format, Running, Testing, TraceFormat, files_of, testing_of,
+};
 use fmp_searching::{Exploring, exploring_of, said_of_code};
-use fmp_testing::{Testing, testing_of};
 use fmp_timeline::Choice;
 use fmp_toppers::Target;
 use fmp_warnings::{FileNames, Form};
 use std::alloc::{AllocError, Global};
 
 /// The message for a word that is no code.
-const NO_CODE: &str = "no code is printed so";
+const NO_CODE: &str = "there is no such code";
 
 /// The message for a file that would replace one that is read.
 const OUT_OVER_INPUT: &str = "the file OUT is one of those that are read";
+
+/// The message for a report that would replace a file that is read.
+const REPORT_OVER_INPUT: &str = "the file of --junit is one of those that are read";
+
+/// The message for a tracefile that would replace a file that is read.
+const LCOV_OVER_INPUT: &str = "the file of --lcov is one of those that are read";
+
+/// The message for a table of coverage that would replace a file that is read.
+const COVERAGE_OVER_INPUT: &str = "the file of --coverage is one of those that are read";
 
 /// The message for files of a folder that would replace one that is read.
 const FILES_OVER_INPUT: &str = "a file of the folder DIR is one of the two that are read";
@@ -76,6 +89,19 @@ pub struct RunPair<'a> {
     pub bound: Option<u64>,
 }
 
+/// What is expected of a run, and how what it comes to is told.
+#[derive(Clone, Copy)]
+pub struct Expecting<'a> {
+    /// The file of the text of expectations.
+    pub name: &'a str,
+    /// Whether an expectation fails that says nothing of the run.
+    pub strict: bool,
+    /// An object of JSON for each expectation, or the text of the first that fails.
+    pub form: Form,
+    /// The file of a report in the XML of JUnit, if one is written.
+    pub junit: Option<&'a str>,
+}
+
 /// What the program is asked to do.
 #[derive(Clone, Copy)]
 pub enum Cmd<'a> {
@@ -98,8 +124,9 @@ pub enum Asked<'a> {
     Import(Importing<'a>),
     /// Show the fault of the texts of these files, and of steps if there are steps, or their warnings.
     Fault(FileNames<'a>, Form),
-    /// Print the trace of a run of the texts of these files, over the steps if there are steps.
-    Run(FileNames<'a>, Running),
+    /// Print the trace of a run of the texts of these files, over the steps if there are steps. What its calls and
+    /// branches come to is written to these files.
+    Run(FileNames<'a>, Running, CoverageFiles<'a>),
     /// Print the trace of a recorded run of a system.
     Recorded(RunFiles<'a>, Form),
     /// Print the table of the calls of a recorded run of a system.
@@ -117,8 +144,8 @@ pub enum Asked<'a> {
     },
     /// Say what each task waits or spins for after an event of a run, by its number, or after the last one.
     Why(RunFiles<'a>, Option<u32>, Form),
-    /// Say whether a run meets the expectations of the text of this file, strictly or not.
-    Expect(RunFiles<'a>, &'a str, bool),
+    /// Say whether a run meets expectations.
+    Expect(RunFiles<'a>, Expecting<'a>),
     /// Make random runs of two texts, and print the steps of the first that fails an expectation.
     Test(Testing<'a>),
     /// Show the first event in which two runs of a system differ.
@@ -255,6 +282,8 @@ fn running_of(words: &ArgMatches<'_>) -> Running {
         form: form_of(words),
         calls: flag_of(words, "calls"),
         places: flag_of(words, "places"),
+        coverage: text_of(words, "coverage").is_some(),
+        lcov: text_of(words, "lcov").is_some(),
         events: word32_of(words, "events").unwrap_or(0),
         seed: word64_of(words, "seed"),
         bound: bound_of(words),
@@ -277,7 +306,7 @@ fn run_asked<'a>(words: &ArgMatches<'a>) -> Asked<'a> {
             let cfg = word_of(words, "CFG");
             recorded_asked(words, RunFiles::Recording { cfg, recording })
         }
-        None => Asked::Run(names_of(words), running_of(words)),
+        None => Asked::Run(names_of(words), running_of(words), files_of(words)),
     }
 }
 
@@ -289,8 +318,13 @@ fn serve_asked<'a>(_words: &ArgMatches<'a>) -> Asked<'a> {
 /// What `expect` asks for.
 fn expect_asked<'a>(words: &ArgMatches<'a>) -> Asked<'a> {
     let run = run_of(words);
-    let text = behind_run(words, "EXPECT");
-    Asked::Expect(run, text, flag_of(words, "strict"))
+    let expecting = Expecting {
+        name: behind_run(words, "EXPECT"),
+        strict: flag_of(words, "strict"),
+        form: form_of(words),
+        junit: text_of(words, "junit"),
+    };
+    Asked::Expect(run, expecting)
 }
 
 /// What `timeline` asks for.
@@ -336,6 +370,21 @@ pub fn no_code(alloc: Global, word: &str) -> Result<Error, AllocError> {
 /// The error for a dump that would replace a file that is read, which has the status 2.
 pub fn dump_over_input(alloc: Global) -> Result<Error, AllocError> {
     mistake_of(waves_command(alloc), "fmp_view waves", OUT_OVER_INPUT)
+}
+
+/// The error for a report that would replace a file that is read, which has the status 2.
+pub fn report_over_input(alloc: Global) -> Result<Error, AllocError> {
+    mistake_of(expect_command(alloc), "fmp_view expect", REPORT_OVER_INPUT)
+}
+
+/// The error for a tracefile that would replace a file that is read, which has the status 2.
+pub fn lcov_over_input(alloc: Global) -> Result<Error, AllocError> {
+    mistake_of(run_command(alloc), "fmp_view run", LCOV_OVER_INPUT)
+}
+
+/// The error for a table of coverage that would replace a file that is read, which has the status 2.
+pub fn coverage_over_input(alloc: Global) -> Result<Error, AllocError> {
+    mistake_of(run_command(alloc), "fmp_view run", COVERAGE_OVER_INPUT)
 }
 
 /// The error for C that would replace a file that is read, which has the status 2.

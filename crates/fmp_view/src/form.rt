@@ -1,17 +1,18 @@
 //! The form of the command line.
 use clap::Command;
 use fmp_arguments::{
-    Argument, ArgumentKind, BOUNDED, CFG, CommandForm, EVENTS_MAX, Made, OptionValue, SRC,
-    command_of,
+    Argument, ArgumentKind, BOUNDED, CFG, CommandForm, EVENTS_MAX, JSON, JUNIT, Made, NO_SETTINGS,
+    OptionValue, SRC, command_of,
 };
+use fmp_looking::TEST;
 use fmp_searching::EXPLORE;
-use fmp_testing::TEST;
 use std::alloc::Global;
 
 /// What the program is.
 const ABOUT: &str =
-    "Looks at systems of 'fmp': what a code means, what is wrong with a text, steps that run a system,
-a run as a table, as a waveform or as a picture. Writes the bodies of a text as C.";
+    "Looks at systems of 'fmp': what is wrong with a text, runs by steps, by commands or at random, all
+schedules, what is expected of a run, and a run as a table, as a waveform or as a picture. Serves
+editors, and writes and reads systems for C and for other kernels.";
 
 /// An example, and what the program's answers mean.
 const EXAMPLE_AND_STATUS: &str = "Example, with the image of the example of 'fmp build --help':
@@ -69,6 +70,16 @@ const CALLS: &str =
 const PLACES: &str =
     "Print where each call stands in SRC, its line and column; with --json it always is";
 
+/// What a tracefile is.
+const LCOV: &str =
+    "Write to FILE too how often the calls in each line of SRC were made, and which ways its branches went,
+as a tracefile of lcov";
+
+/// What a table of coverage is.
+const COVERAGE: &str =
+    "Write to FILE too how often each call of SRC was made and what it was answered, and which ways its
+branches went, as a table";
+
 /// What a seed is.
 const SEED: &str = "Order of processors at random by this number, with ticks and interrupts between;
 without it they run in turn, and the clock ticks where all are idle";
@@ -109,7 +120,7 @@ const LINES: &str = "Commands, one a line of standard input:
   run P [xK]   processor P goes on, to its next service call; K times, or until it does nothing
   tick [K]     the clock advances, K times
   int N [xK]   interrupt N is raised; N may be the body of its handler
-  until DEED   all goes on until put(7), E_TMOUT or F_OVF happens; 'by TASK' may stand behind it
+  until DEED   all goes on until put(7), E_TMOUT or F_OVF happens; 'by TASK' may stand after it
   back [K]     the last event is taken back, or the last K
   why          what each task waits or spins for, as 'fmp_view why' says it
   state [X]    the states of the tasks, or that of the task or object X
@@ -188,12 +199,6 @@ const AT_RANDOM: Argument = Argument(
     SEED,
 );
 
-const JSON: Argument = Argument(
-    "json",
-    ArgumentKind::Flag,
-    "Print an object of JSON a line, for other programs",
-);
-
 static CODE: CommandForm = CommandForm {
     name: "code",
     about: "Says what a code means, when it comes, and an example",
@@ -235,6 +240,12 @@ static RUN: CommandForm = CommandForm {
         RECORDED,
         JSON,
         Argument("places", ArgumentKind::FlagWithout("recording"), PLACES),
+        Argument("lcov", ArgumentKind::TextWithout("FILE", "recording"), LCOV),
+        Argument(
+            "coverage",
+            ArgumentKind::TextWithout("FILE", "recording"),
+            COVERAGE,
+        ),
         Argument("calls", ArgumentKind::FlagWithout("json"), CALLS),
         AT_MOST,
         AT_RANDOM,
@@ -346,6 +357,9 @@ static EXPECTED: CommandForm = CommandForm {
         BOUNDED,
         Argument("EXPECT", ArgumentKind::WordNoRecording, EXPECT),
         Argument("strict", ArgumentKind::Flag, STRICT),
+        JSON,
+        JUNIT,
+        NO_SETTINGS,
     ],
     example: "Example: fmp_view expect queue.img drive.steps queue.expect",
 };
@@ -424,6 +438,16 @@ objects are drawn too",
     ],
     example: "Example: fmp_view timeline queue.img drive.steps queue.svg --from 2 --to 5",
 };
+
+/// The command `run`.
+pub fn run_command<'a>(alloc: Global) -> Made<'a> {
+    command_of(alloc, &RUN)
+}
+
+/// The command `expect`.
+pub fn expect_command<'a>(alloc: Global) -> Made<'a> {
+    command_of(alloc, &EXPECTED)
+}
 
 /// The command `waves`.
 pub fn waves_command<'a>(alloc: Global) -> Made<'a> {

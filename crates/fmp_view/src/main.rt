@@ -1,13 +1,17 @@
-//! The program `fmp_view`: it looks at a system. It says what a code means, drives an image, takes events one by one as
-//! they are typed, and shows a run as a table, as a waveform or as a picture. It also writes the bodies of a text as C.
+//! The program `fmp_view`: it looks at a system. It says what is wrong with texts, runs them over steps or by commands,
+//! searches schedules, judges runs and shows them, and serves an editor. It also writes and reads systems for C and for
+//! other kernels.
 //!
 //! It ends with the statuses of `fmp`: 0 if it did what it was asked, 1 for a fault of what it read, 2 for a mistake in
-//! the command line, and 3 if a file could not be read or written or memory ran out; and with 4 if runs differ that it
-//! was asked to compare, or a run fails an expectation.
+//! the command line, and 3 if a file could not be read or written or memory ran out; with 4 if runs differ that it was
+//! asked to compare, a run fails an expectation or a search finds what it looks for; and with 5 if a search stops
+//! before its end.
 #![tactic(auto)]
 
 mod answering;
 mod asking;
+mod differing;
+mod expecting;
 mod exporting;
 mod form;
 mod importing;
@@ -15,9 +19,11 @@ mod mistakes;
 mod numbers;
 mod refusing;
 mod running;
+mod runs;
 mod session_files;
 mod session_objects;
 mod session_until;
+mod settings;
 mod stepping;
 mod targeting;
 mod telling;

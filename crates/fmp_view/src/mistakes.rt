@@ -1,7 +1,8 @@
 //! What is said of the lines of a session that are no commands.
+use fmp_arguments::question_text;
 use fmp_base::Name;
-use fmp_diagnosis::nearest;
-use fmp_session::{LineMistake, word_of};
+use fmp_diagnosis::{name_meant, nearest};
+use fmp_session::{LineMistake, NamedInterrupt, argument_of, word_of};
 use std::alloc::{AllocError, Global};
 
 /// The words that commands begin with.
@@ -41,7 +42,25 @@ fn unknown_text(alloc: Global, word: &[u8]) -> Result<String, AllocError> {
     }
 }
 
-/// What is said of a command that is known by its first word.
+/// Asks whether one of these names was meant by a word, if one resembles it; else nothing.
+pub fn asked_for(alloc: Global, word: &[u8], known: &[Name]) -> Result<String, AllocError> {
+    let meant = match Name::new(word) {
+        Some(name) => name_meant(alloc, &name, known)?,
+        None => None,
+    };
+    question_text(alloc, meant)
+}
+
+/// The names of the bodies of these interrupts' handlers.
+fn bodies_of(alloc: Global, interrupts: &[NamedInterrupt]) -> Result<Vec<Name>, AllocError> {
+    let mut names = Vec::new(alloc);
+    for interrupt in interrupts {
+        names.push(interrupt.body)?;
+    }
+    Ok(names)
+}
+
+/// What a command with this first word wants.
 fn wanted_text(
     alloc: Global,
     mistake: LineMistake,
@@ -50,9 +69,9 @@ fn wanted_text(
 ) -> Result<String, AllocError> {
     let word = String::from_utf8_lossy(alloc, word)?;
     match mistake {
-        LineMistake::Unknown | LineMistake::Alone => format!(in alloc;
-            "nothing stands behind `{word}`"
-        ),
+        LineMistake::Unknown | LineMistake::Alone => {
+            format!(in alloc; "nothing stands after `{word}`")
+        }
         LineMistake::Processor => {
             format!(in alloc; "`{word}` wants the number of a processor, 1 to {processors}")
         }
@@ -60,7 +79,7 @@ fn wanted_text(
             "`{word}` wants the number of an interrupt, 1 to 32, or the body of its handler"
         ),
         LineMistake::Times => format!(in alloc;
-            "`{word}` wants nothing behind its number, or how often, x1 to x1048576"
+            "`{word}` wants nothing after its number, or how often, x1 to x1048576"
         ),
         LineMistake::Count => {
             format!(in alloc; "`{word}` wants how many events, 1 to 1048576, or nothing")
@@ -72,15 +91,47 @@ fn wanted_text(
     }
 }
 
-/// What is said of a line that is no command.
+/// What is said of the word that a command got in place of what it wants, of which these are known; nothing if it got
+/// none.
+fn got_text(alloc: Global, word: &[u8], known: &[Name]) -> Result<String, AllocError> {
+    if word.is_empty() {
+        return String::from_str(alloc, "");
+    }
+    let question = asked_for(alloc, word, known)?;
+    let word = String::from_utf8_lossy(alloc, word)?;
+    format!(in alloc; ", not `{word}`{question}")
+}
+
+/// What is said of the word after that of `run` or `int`, if it is to name a processor or an interrupt.
+fn target_text(
+    alloc: Global,
+    mistake: LineMistake,
+    line: &[u8],
+    interrupts: &[NamedInterrupt],
+) -> Result<String, AllocError> {
+    let target = word_of(argument_of(line));
+    match mistake {
+        LineMistake::Processor => got_text(alloc, target, &[]),
+        LineMistake::Interrupt => {
+            let known = bodies_of(alloc, interrupts)?;
+            got_text(alloc, target, &known)
+        }
+        _ => String::from_str(alloc, ""),
+    }
+}
+
+/// What is said of a line that is no command, in a system with this many processors and these interrupts.
 pub fn mistake_text(
     alloc: Global,
     mistake: LineMistake,
     line: &[u8],
     processors: u8,
+    interrupts: &[NamedInterrupt],
 ) -> Result<String, AllocError> {
-    match mistake {
-        LineMistake::Unknown => unknown_text(alloc, word_of(line)),
-        mistake => wanted_text(alloc, mistake, word_of(line), processors),
+    if matches!(mistake, LineMistake::Unknown) {
+        return unknown_text(alloc, word_of(line));
     }
+    let wanted = wanted_text(alloc, mistake, word_of(line), processors)?;
+    let got = target_text(alloc, mistake, line, interrupts)?;
+    format!(in alloc; "{wanted}{got}")
 }

@@ -21,10 +21,63 @@ const TIPS: [(&str, &str); 2] = [
     ),
 ];
 
+/// The commands of `fmp`, which are none of this program.
+const OF_FMP: [&str; 4] = ["check", "build", "sim", "host"];
+
+/// A message without the tip that a word can stand for a value; none if it has no such tip.
+fn without_tip(alloc: Global, message: &str) -> Result<Option<String>, AllocError> {
+    let Some((front, rest)) = message.split_once("  tip: to pass '") else {
+        return Ok(None);
+    };
+    match rest.split_once("\n\n") {
+        Some((_, behind)) => Ok(Some(format!(in alloc; "{front}{behind}")?)),
+        None => Ok(None),
+    }
+}
+
+/// The command of `fmp` that a message names.
+fn command_of_fmp(message: &str) -> Option<&str> {
+    let (_, rest) = message.split_once("subcommand '")?;
+    let (name, _) = rest.split_once('\'')?;
+    if OF_FMP.iter().any(|one| *one == name) {
+        Some(name)
+    } else {
+        None
+    }
+}
+
+/// A message with the program that has its command, before the usage; none if it names no command of `fmp`.
+fn with_program(alloc: Global, message: &str) -> Result<Option<String>, AllocError> {
+    let Some(name) = command_of_fmp(message) else {
+        return Ok(None);
+    };
+    match message.split_once("Usage: ") {
+        Some((front, usage)) => {
+            let text = format!(in alloc; "{front}  tip: 'fmp {name}'\n\nUsage: {usage}")?;
+            Ok(Some(text))
+        }
+        None => Ok(None),
+    }
+}
+
+/// A message in which one of two options is wanted in place of both; none where it does not want these two.
+fn with_either(alloc: Global, message: &str) -> Result<Option<String>, AllocError> {
+    let Some((front, rest)) = message.split_once("  --c <DIR>\n  --toppers <DIR>\n") else {
+        return Ok(None);
+    };
+    let Some((usage, behind)) = rest.split_once("--c <DIR> --toppers <DIR>") else {
+        return Ok(None);
+    };
+    let text = format!(in alloc;
+        "{front}  --c <DIR> or --toppers <DIR>\n{usage}<--c <DIR>|--toppers <DIR>>{behind}"
+    )?;
+    Ok(Some(text))
+}
+
 /// A message with what is said of a word too many before its usage; none if nothing is said of it.
 fn with_tip(alloc: Global, message: &str) -> Result<Option<String>, AllocError> {
     if message.split_once("argument '-").is_some() {
-        return Ok(None);
+        return without_tip(alloc, message);
     }
     for (usage, tip) in TIPS {
         if let Some((front, behind)) = message.split_once(usage) {
@@ -35,12 +88,20 @@ fn with_tip(alloc: Global, message: &str) -> Result<Option<String>, AllocError> 
 }
 
 /// What is said of an error in place of its own message, if anything is: of a value which is no number in the range of
-/// its option, and of a word too many.
+/// its option, of two options of which one is wanted, of a command of the other program, and of a word too many.
 fn text_of(alloc: Global, error: &Error) -> Result<Option<String>, AllocError> {
     match error.kind() {
         ErrorKind::ValueValidation => {
             let message = format!(in alloc; "{error}")?;
             number_text(alloc, &forms(), &message)
+        }
+        ErrorKind::MissingRequiredArgument => {
+            let message = format!(in alloc; "{error}")?;
+            with_either(alloc, &message)
+        }
+        ErrorKind::InvalidSubcommand => {
+            let message = format!(in alloc; "{error}")?;
+            with_program(alloc, &message)
         }
         ErrorKind::UnknownArgument => {
             let message = format!(in alloc; "{error}")?;

@@ -5,30 +5,36 @@ ghost use Rattle.fmp_searching.specs.Claimed.{HoldsOfWords};
 ghost use Rattle.fmp_view.specs.Commands.{AsksToExplore};
 
 use crate::asking::{
-    Asked, Cmd, RunFiles, RunPair, command, dump_over_input, no_code, parsed, picture_of_nothing,
+    Asked, Cmd, RunFiles, command, dump_over_input, no_code, parsed, picture_of_nothing,
     picture_over_input,
 };
+use crate::differing::print_diff;
+use crate::expecting::run_expect;
 use crate::exporting::run_export;
 use crate::importing::run_import;
 use crate::refusing::refuse_form;
+use crate::runs::{is_read, is_this_file, made_of_run, write};
+use crate::settings::{Added, added_to};
 use crate::targeting::run_target;
 use crate::telling::{print_made, print_run};
 use crate::testing::run_test;
 use crate::texts::{run_step, run_texts};
 use clap::ArgMatches;
-use fmp_files::{Device, Failure, Outside, end, print, read_file, refuse_mistake, write_file};
+use fmp_arguments::join;
+use fmp_files::{Device, Failure, Outside, end, print, read_file, refuse_mistake};
+use fmp_frames::CallPlace;
 use fmp_looking::{
-    Drawing, DrivenText, Expectations, Format, NamedText, Picture, PictureCut, RunLook, RunOutput,
-    Stats, Titled, ViewExit, Why, code, diff, diff_recordings, exit_over, look_at_image,
-    look_at_recording, places_of_run, refused_in_run, steps,
+    Drawing, DrivenText, Format, NamedText, Picture, PictureCut, RunOutput, Stats, Titled,
+    ViewExit, Why, code, exit_over, places_of_run, refused_in_run, steps,
 };
-use fmp_places::CallPlace;
 use fmp_searching::{print_fault, read_both, run_explore};
 use fmp_server::serve;
 use fmp_warnings::Form;
 use std::alloc::{AllocError, Global};
 use std::io::{Input, IsTerminal};
 use std::rt::Files;
+use std::thread::Threads;
+use std::time::Clock;
 
 /// What a drive prints, and how it ended.
 fn driven_steps<O: Outside>(
@@ -61,43 +67,6 @@ fn run_drive<O: Outside>(
             print_run(alloc, outside, &driven.steps, ending, &driven.why)
         }
         Err(exit) => end(outside, &exit),
-    }
-}
-
-/// What a look makes of a run.
-fn made_of_run<O: Outside, L: RunLook>(
-    alloc: Global,
-    outside: &O,
-    run: RunFiles<'_>,
-    look: &L,
-) -> Result<L::Made, ViewExit> {
-    let (one, other) = run.files();
-    let (one, other) = read_both(alloc, outside, one, other)?;
-    match run {
-        RunFiles::Steps { bound, .. } => look_at_image(alloc, look, &one, &other, bound),
-        RunFiles::Recording { .. } => look_at_recording(alloc, look, &one, &other),
-    }
-}
-
-/// Writes all that there is to write to a file, and gives the status.
-fn write<O: Outside>(alloc: Global, outside: &mut O, out: &str, bytes: &[u8]) -> u8 {
-    match write_file(alloc, outside, out, bytes) {
-        Ok(()) => 0,
-        Err(failure) => end(outside, &failure),
-    }
-}
-
-/// Whether a file is one of those of a run.
-fn is_read<O: Outside>(outside: &O, out: &str, run: RunFiles<'_>) -> bool {
-    let (one, other) = run.files();
-    outside.is_one_file(out, one) || outside.is_one_file(out, other)
-}
-
-/// Whether a file is this one, if one is given.
-fn is_this_file<O: Outside>(outside: &O, out: &str, file: Option<&str>) -> bool {
-    match file {
-        Some(file) => outside.is_one_file(out, file),
-        None => false,
     }
 }
 
@@ -140,66 +109,6 @@ fn title_of(image: &str) -> &str {
     match file.rsplit_once('.') {
         Some((stem, _)) if !stem.is_empty() => stem,
         _ => file,
-    }
-}
-
-/// The status where two runs differ, or a run fails an expectation.
-const DIFFER: u8 = 4;
-
-/// The difference of two runs of the system of these bytes.
-fn difference_over<O: Outside>(
-    alloc: Global,
-    outside: &O,
-    system: &[u8],
-    runs: RunPair<'_>,
-) -> Result<Option<Vec<u8>>, ViewExit> {
-    let (a, b) = read_both(alloc, outside, runs.a, runs.b)?;
-    match runs.bound {
-        Some(bound) => diff(alloc, system, &a, &b, bound),
-        None => diff_recordings(alloc, system, &a, &b),
-    }
-}
-
-/// The difference of two runs of a system.
-fn difference_of<O: Outside>(
-    alloc: Global,
-    outside: &O,
-    runs: RunPair<'_>,
-) -> Result<Option<Vec<u8>>, ViewExit> {
-    let system = read_file(alloc, outside, runs.system, None)?;
-    difference_over(alloc, outside, &system, runs)
-}
-
-/// What is printed of a run that fails an expectation of the text of this file.
-fn failure_of<O: Outside>(
-    alloc: Global,
-    outside: &O,
-    run: RunFiles<'_>,
-    name: &str,
-    strict: bool,
-) -> Result<Option<Vec<u8>>, ViewExit> {
-    let text = read_file(alloc, outside, name, None)?;
-    let expectations = Expectations {
-        name,
-        text: &text,
-        strict,
-    };
-    made_of_run(alloc, outside, run, &expectations)
-}
-
-/// Prints a difference or a failure, if there is one, with status 4.
-fn print_difference<O: Outside>(
-    alloc: Global,
-    outside: &mut O,
-    made: Result<Option<Vec<u8>>, ViewExit>,
-) -> u8 {
-    match made {
-        Ok(Some(text)) => match print(alloc, outside, &text) {
-            0 => DIFFER,
-            status => status,
-        },
-        Ok(None) => 0,
-        Err(exit) => end(outside, &exit),
     }
 }
 
@@ -286,24 +195,6 @@ fn print_stats<O: Outside>(
 ) -> u8 {
     let made = stats_of(alloc, outside, run, src, form);
     print_made(alloc, outside, made)
-}
-
-/// Prints which expectation a run fails, with status 4 if it fails one.
-fn print_failure<O: Outside>(
-    alloc: Global,
-    outside: &mut O,
-    run: RunFiles<'_>,
-    name: &str,
-    strict: bool,
-) -> u8 {
-    let made = failure_of(alloc, outside, run, name, strict);
-    print_difference(alloc, outside, made)
-}
-
-/// Prints the first event in which two runs of a system differ, with status 4 if they differ.
-fn print_diff<O: Outside>(alloc: Global, outside: &mut O, runs: RunPair<'_>) -> u8 {
-    let made = difference_of(alloc, outside, runs);
-    print_difference(alloc, outside, made)
 }
 
 /// What is printed of a recorded run.
@@ -432,7 +323,7 @@ where
         Asked::Serve => run_server(alloc, outside, rt),
         Asked::Code(word) => say_code(alloc, outside, word),
         Asked::Fault(names, form) => print_fault(alloc, outside, names, form),
-        Asked::Run(names, run) => run_texts(alloc, outside, names, run),
+        Asked::Run(names, run, files) => run_texts(alloc, outside, names, run, files),
         Asked::Recorded(run, form) => print_recorded(alloc, outside, run, form),
         Asked::Calls(run) => print_calls(alloc, outside, run),
         Asked::Drive {
@@ -442,7 +333,7 @@ where
             bound,
         } => run_drive(alloc, outside, image, events, seed, bound),
         Asked::Why(run, at, form) => print_why(alloc, outside, run, at, form),
-        Asked::Expect(run, name, strict) => print_failure(alloc, outside, run, name, strict),
+        Asked::Expect(run, expecting) => run_expect(alloc, outside, run, expecting),
         Asked::Test(testing) => run_test(alloc, outside, &testing),
         Asked::Diff(runs) => print_diff(alloc, outside, runs),
         Asked::Stats(run, src, form) => print_stats(alloc, outside, run, src, form),
@@ -454,20 +345,25 @@ where
 }
 
 /// Does what a command asks for, and gives the status.
-fn obey<O: Outside, R: Input + Files>(alloc: Global, outside: &mut O, rt: &R, cmd: Cmd<'_>) -> u8
+fn obey<O: Outside, R: Input + Files + Clock + Threads + Sync>(
+    alloc: Global,
+    outside: &mut O,
+    rt: &R,
+    cmd: Cmd<'_>,
+) -> u8
 where
     R::Reader: IsTerminal,
     ensures { (rows : List Row) → AsksToExplore rows cmd.entry → result ≡ 0 →
         HoldsOfWords (O.files outside.old) rows (O.done outside.new) }
 {
     match cmd {
-        Cmd::Explore(exploring) => run_explore(alloc, outside, &exploring),
+        Cmd::Explore(exploring) => run_explore(alloc, outside, rt, &exploring),
         Cmd::Look(asked) => look_at(alloc, outside, rt, asked),
     }
 }
 
 /// Does what the words of a command line ask for, and gives the status.
-fn carry_out<O: Outside, R: Input + Files>(
+fn carry_out<O: Outside, R: Input + Files + Clock + Threads + Sync>(
     alloc: Global,
     outside: &mut O,
     rt: &R,
@@ -484,9 +380,63 @@ where
     }
 }
 
+/// Tells which words settings add, and gives the status.
+fn tell_added<O: Outside>(alloc: Global, outside: &mut O, added: &Added) -> u8 {
+    if added.is_said {
+        outside.say(added.line.as_str());
+        0
+    } else {
+        print(alloc, outside, added.line.as_bytes())
+    }
+}
+
+/// Does what typed words ask for with those that settings add, and gives the status. Before all else it tells which
+/// these are.
+fn run_added<O: Outside, R: Input + Files + Clock + Threads + Sync>(
+    alloc: Global,
+    outside: &mut O,
+    rt: &R,
+    typed: &[String],
+    added: &Added,
+) -> Result<u8, AllocError>
+where
+    R::Reader: IsTerminal,
+{
+    let words = join(alloc, typed, &added.words)?;
+    let status = tell_added(alloc, outside, added);
+    if status != 0 {
+        return Ok(status);
+    }
+    match parsed(alloc, &words) {
+        Ok(words) => Ok(carry_out(alloc, outside, rt, &words)),
+        Err(error) => Ok(refuse_form(alloc, outside, &error)),
+    }
+}
+
+/// Does what words ask for with those of settings, if there are settings, and gives the status.
+fn run_parsed<O: Outside, R: Input + Files + Clock + Threads + Sync>(
+    alloc: Global,
+    outside: &mut O,
+    rt: &R,
+    typed: &[String],
+    words: &ArgMatches<'_>,
+) -> u8
+where
+    R::Reader: IsTerminal,
+{
+    match added_to(alloc, outside, rt, words) {
+        Ok(None) => carry_out(alloc, outside, rt, words),
+        Ok(Some(added)) => match run_added(alloc, outside, rt, typed, &added) {
+            Ok(status) => status,
+            Err(error) => end(outside, &Failure::Memory(error)),
+        },
+        Err(exit) => end(outside, &exit),
+    }
+}
+
 /// Does what the words of a command line ask for, of which the first is the program's name, and gives the status.
 /// Its standard input and the folders that it makes are those of this runtime.
-pub fn run<O: Outside, R: Input + Files>(
+pub fn run<O: Outside, R: Input + Files + Clock + Threads + Sync>(
     alloc: Global,
     outside: &mut O,
     rt: &R,
@@ -496,7 +446,7 @@ where
     R::Reader: IsTerminal,
 {
     match parsed(alloc, words) {
-        Ok(words) => carry_out(alloc, outside, rt, &words),
+        Ok(parsed) => run_parsed(alloc, outside, rt, words, &parsed),
         Err(error) => refuse_form(alloc, outside, &error),
     }
 }

@@ -2,7 +2,7 @@
 ghost use Rattle.fmp_session.specs.Sessions.{IsSession};
 
 use crate::answering::{Answer, states_text};
-use crate::session_files::refused;
+use crate::mistakes::asked_for;
 use fmp_base::{Lock, Name, ObjectKind, Phase, Processor, System, TaskBlock, WaitCause};
 use fmp_frames::{Frame, last_frame};
 use fmp_named::{kind_word, object_name};
@@ -22,9 +22,6 @@ const KINDS: [ObjectKind; 9] = [
     ObjectKind::SpinLock,
     ObjectKind::Cyclic,
 ];
-
-/// Why a line fails whose name names nothing.
-const NO_OBJECT: &str = "no task or object of the configuration has this name";
 
 /// The places of objects end here.
 const MOST: u8 = 255;
@@ -58,6 +55,34 @@ fn find(sys: &System, name: &[u8]) -> Option<Named> {
         }
     }
     None
+}
+
+/// Adds the names of the objects of a kind.
+fn add_names(sys: &System, kind: ObjectKind, known: &mut Vec<Name>) -> Result<(), AllocError> {
+    for place in 0..MOST {
+        match object_name(sys, kind, i32::from(place) + 1) {
+            Some(name) => known.push(name)?,
+            None => return Ok(()),
+        }
+    }
+    Ok(())
+}
+
+/// The names of all tasks and objects.
+fn names_of(alloc: Global, sys: &System) -> Result<Vec<Name>, AllocError> {
+    let mut known = Vec::new(alloc);
+    for kind in KINDS {
+        add_names(sys, kind, &mut known)?;
+    }
+    Ok(known)
+}
+
+/// Why a line fails whose name names nothing.
+fn no_object(alloc: Global, sys: &System, name: &[u8]) -> Result<String, AllocError> {
+    let known = names_of(alloc, sys)?;
+    let question = asked_for(alloc, name, &known)?;
+    let name = String::from_utf8_lossy(alloc, name)?;
+    format!(in alloc; "no task or object of the configuration has the name `{name}`{question}")
 }
 
 /// The number of the processor that holds a spin lock; 0 if none does.
@@ -184,7 +209,7 @@ fn shown_of(
 {
     let states = states_text(alloc, session, form)?;
     let image = session.image();
-    let frame = last_frame(alloc, session.kernel(), &image.vm(), session.bound())?;
+    let frame = last_frame(alloc, session.kernel())?;
     let shown = shown_in(alloc, image.system(), &frame, (form, &states), named);
     drop(frame);
     shown
@@ -199,8 +224,9 @@ pub fn state_of(
 ) -> Result<Answer, AllocError>
     requires { IsSession session.now }
 {
-    match find(session.image().system(), name) {
+    let sys = session.image().system();
+    match find(sys, name) {
         Some(named) => Ok(Answer::Told(shown_of(alloc, session, form, named)?)),
-        None => refused(alloc, NO_OBJECT),
+        None => Ok(Answer::Refused(no_object(alloc, sys, name)?)),
     }
 }

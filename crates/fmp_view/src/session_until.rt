@@ -17,6 +17,10 @@ use std::alloc::{AllocError, Global};
 /// What is said where nothing goes on.
 const QUIET: &[u8] = b"quiet: no processor goes on, and the clock changes nothing\n";
 
+/// What is said where nothing goes on before an interrupt comes.
+const QUIET_UNTIL_INTERRUPT: &[u8] =
+    b"quiet: no processor goes on, and the clock changes nothing; an interrupt may still come\n";
+
 /// Why a line fails that names no deed.
 const WANTED: &str =
     "`until` wants a deed: a code as E_QOVR, a value as put(7), or a fault as F_IDX";
@@ -93,6 +97,15 @@ fn is_full(taken: TakenEvent) -> bool {
     matches!(taken, TakenEvent::Full)
 }
 
+/// What is said where nothing goes on in a session.
+fn quiet_text(session: &Session<'_>) -> &'static [u8] {
+    if session.image().system().interrupts.is_empty() {
+        QUIET
+    } else {
+        QUIET_UNTIL_INTERRUPT
+    }
+}
+
 /// Goes on until the deed of a checker happens, nothing goes on or the session is full, and appends what is told.
 fn go_on(
     alloc: Global,
@@ -107,7 +120,7 @@ fn go_on(
     let mut turn = 0;
     for _event in 0..EVENTS_MAX + 1 {
         let Some((e, taken)) = take_next(alloc, session, stepping, turn, out)? else {
-            return append_told(alloc, stepping.form, QUIET, out);
+            return append_told(alloc, stepping.form, quiet_text(session), out);
         };
         if is_full(taken) || has_happened(session, taken, checker) {
             return Ok(());

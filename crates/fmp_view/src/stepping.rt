@@ -5,7 +5,6 @@ ghost use Rattle.fmp_view.specs.Stepped.{last_lines};
 
 use crate::answering::{Answer, Stepping, answer_of, append_last};
 use crate::mistakes::mistake_text;
-use fmp_arguments::kept_bound;
 use fmp_files::{Failure, Outside, end, failed, print};
 use fmp_image_bytes::Image;
 use fmp_session::{Command, Session, answer_line, command_of, failure_line};
@@ -142,7 +141,11 @@ fn answered<O: Outside>(
     match command_of(line, processors, stepping.interrupts) {
         Ok(Command::Quit) => Ok(None),
         Ok(command) => Ok(Some(answer_of(alloc, outside, session, stepping, command, line)?)),
-        Err(mistake) => Ok(Some(Answer::Refused(mistake_text(alloc, mistake, line, processors)?))),
+        Err(mistake) => {
+            let interrupts = stepping.interrupts;
+            let reason = mistake_text(alloc, mistake, line, processors, interrupts)?;
+            Ok(Some(Answer::Refused(reason)))
+        }
     }
 }
 
@@ -259,7 +262,7 @@ fn session_over<O: Outside, I: BufRead>(
     stepping: Stepping<'_>,
     bound: u64,
 ) -> Result<u8, AllocError> {
-    let mut session = Session::new(alloc, image, kept_bound(bound))?;
+    let mut session = Session::new(alloc, image, bound)?;
     let status = begin(alloc, outside, input, &mut session, stepping);
     drop(session);
     Ok(status)

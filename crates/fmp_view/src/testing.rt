@@ -2,8 +2,8 @@
 use fmp_files::{Failure, Outside, end};
 use fmp_image::build;
 use fmp_lex::BuildFault;
+use fmp_looking::{Testing, test_image};
 use fmp_searching::{print_fault, read_both};
-use fmp_testing::{Testing, test_image};
 use fmp_warnings::{FileNames, Form};
 use std::alloc::{AllocError, Global};
 

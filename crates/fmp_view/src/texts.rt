@@ -1,16 +1,18 @@
 //! The commands over the two texts of a system: a run of it, and a session.
 use crate::answering::Stepping;
+use crate::asking::{coverage_over_input, lcov_over_input};
+use crate::runs::write;
 use crate::stepping::step_image;
 use crate::telling::print_run;
 use fmp_base::{Entry, System};
 use fmp_cfgparse::read_cfg;
 use fmp_diagnosis::Texts;
-use fmp_files::{Failure, Outside, end, read_file};
+use fmp_files::{Failure, Outside, end, read_file, refuse_mistake};
+use fmp_frames::CallPlaces;
 use fmp_image::build;
 use fmp_image_bytes::Image;
 use fmp_lex::BuildFault;
-use fmp_looking::{NoTrace, Running, Traced, traced_texts};
-use fmp_places::CallPlaces;
+use fmp_looking::{CoverageFiles, NamedText, NoTrace, Running, Traced, traced_texts};
 use fmp_searching::{print_fault, read_both};
 use fmp_session::NamedInterrupt;
 use fmp_warnings::{FileNames, Form};
@@ -25,11 +27,15 @@ fn traced_over<O: Outside>(
     texts: Texts<'_>,
     run: Running,
 ) -> Result<Result<Traced, NoTrace>, Failure> {
+    let source = NamedText {
+        name: names.src,
+        text: texts.src,
+    };
     if names.steps.is_empty() {
-        return Ok(traced_texts(alloc, texts.cfg, texts.src, None, run));
+        return Ok(traced_texts(alloc, texts.cfg, source, None, run));
     }
     let steps = read_file(alloc, outside, names.steps, None)?;
-    Ok(traced_texts(alloc, texts.cfg, texts.src, Some(&steps), run))
+    Ok(traced_texts(alloc, texts.cfg, source, Some(&steps), run))
 }
 
 /// What is printed of a run of the texts of these files, or why there is nothing.
@@ -47,19 +53,82 @@ fn traced_run<O: Outside>(
     traced_over(alloc, outside, names, texts, run)
 }
 
+/// Whether a file, if one is named, is one of those of these texts, or of the steps.
+fn is_read<O: Outside>(outside: &O, out: Option<&str>, names: FileNames<'_>) -> bool {
+    let Some(out) = out else {
+        return false;
+    };
+    outside.is_one_file(out, names.cfg)
+        || outside.is_one_file(out, names.src)
+        || (!names.steps.is_empty() && outside.is_one_file(out, names.steps))
+}
+
+/// Writes a text to its file, if one is named, and gives the status.
+fn write_to<O: Outside>(alloc: Global, outside: &mut O, out: Option<&str>, text: &[u8]) -> u8 {
+    match out {
+        Some(out) => write(alloc, outside, out, text),
+        None => 0,
+    }
+}
+
+/// Writes what calls and branches of a run come to, where that is asked for, and gives the status.
+fn write_coverage<O: Outside>(
+    alloc: Global,
+    outside: &mut O,
+    traced: &Traced,
+    files: CoverageFiles<'_>,
+) -> u8 {
+    match write_to(alloc, outside, files.lcov, &traced.tracefile) {
+        0 => write_to(alloc, outside, files.coverage, &traced.coverage),
+        status => status,
+    }
+}
+
+/// Prints a run, after what its calls and branches come to is written where that is asked for.
+fn tell_run<O: Outside>(
+    alloc: Global,
+    outside: &mut O,
+    traced: &Traced,
+    files: CoverageFiles<'_>,
+) -> u8 {
+    match write_coverage(alloc, outside, traced, files) {
+        0 => print_run(alloc, outside, &traced.text, traced.ending, &traced.why),
+        status => status,
+    }
+}
+
 /// Prints the trace of a run of the texts of these files, or their fault, with status 1.
+fn trace_texts<O: Outside>(
+    alloc: Global,
+    outside: &mut O,
+    names: FileNames<'_>,
+    run: Running,
+    files: CoverageFiles<'_>,
+) -> u8 {
+    match traced_run(alloc, outside, names, run) {
+        Ok(Ok(traced)) => tell_run(alloc, outside, &traced, files),
+        Ok(Err(NoTrace::Faulty)) => print_fault(alloc, outside, names, run.form),
+        Ok(Err(NoTrace::Memory)) => end(outside, &Failure::Memory(AllocError)),
+        Err(failure) => end(outside, &failure),
+    }
+}
+
+/// Prints the trace of a run of the texts of these files, or their fault, with status 1. What its calls and branches
+/// come to is written to these files.
 pub fn run_texts<O: Outside>(
     alloc: Global,
     outside: &mut O,
     names: FileNames<'_>,
     run: Running,
+    files: CoverageFiles<'_>,
 ) -> u8 {
-    match traced_run(alloc, outside, names, run) {
-        Ok(Ok(traced)) => print_run(alloc, outside, &traced.text, traced.ending, &traced.why),
-        Ok(Err(NoTrace::Faulty)) => print_fault(alloc, outside, names, run.form),
-        Ok(Err(NoTrace::Memory)) => end(outside, &Failure::Memory(AllocError)),
-        Err(failure) => end(outside, &failure),
+    if is_read(outside, files.lcov, names) {
+        return refuse_mistake(outside, lcov_over_input(alloc));
     }
+    if is_read(outside, files.coverage, names) {
+        return refuse_mistake(outside, coverage_over_input(alloc));
+    }
+    trace_texts(alloc, outside, names, run, files)
 }
 
 /// The interrupts of a configuration that have handlers, with the names of the bodies of these.

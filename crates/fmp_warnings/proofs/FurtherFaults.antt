@@ -1,4 +1,4 @@
--- What is told of two texts behind their first fault.
+-- What is told of two texts after their first fault.
 use Rattle.std.proofs.Common.{◌≡◌, ◌≤◌, ◌++◌, ℕ, List, [], ◌∷◌, append_assoc, refl, subst, sym}
 use Rattle.std.proofs.lemmas.List.{append-nil}
 use Rattle.fmp_lex.specs.declared.fault.TextFile.{TextFile}
@@ -34,7 +34,7 @@ told_is l r f x cfg src same found shown =
     go file.Configuration finding = subst (λ t. IsFinding t l.fault.place l.fault.kind f) cfg finding
     go file.Source finding = subst (λ t. IsFinding t l.fault.place l.fault.kind f) src finding
 
--- a fault is told behind others, or passed over
+-- a fault is told after others, or passed over
 pub adds_told : (left : BothTexts) (g : TextsFault) (old new : List ToldFault) (x : ToldFault) → IsToldOf left g x
     → new ≡ old ++ x ∷ [] → IsAdded left g old new
 adds_told left g old new x is added = is_told x is added

@@ -1,4 +1,4 @@
--- What is told of two texts behind their first fault: the faults of what is left of them where constructs with a fault
+-- What is told of two texts after their first fault: the faults of what is left of them where constructs with a fault
 -- are left out.
 use Rattle.std.specs.Prelude.{◌≡◌, ℕ, ◌==◌, ◌≤◌, if◌then◌else◌, List, [], ◌∷◌, ◌++◌, length, map, slice_range}
 use Rattle.fmp_lex.specs.declared.fault.FaultKind.{FaultKind}
@@ -56,7 +56,7 @@ pub record IsLeft (t : BothTexts) (f : TextsFault) (left : BothTexts) : Type 0 w
   pub begins : from ≤ f.place.start
   pub is : left ≡ with_one t f.file (left_out (one_of t f.file) from to)
 
--- what is left of them behind a fault, with its own first fault
+-- what is left of them after a fault, with its own first fault
 abbrev pub IsNext : Left → Left → Type 0
 IsNext l next = IsLeft (both_left l) l.fault (both_left next) × IsFirst (both_left next) next.fault
 
@@ -82,7 +82,7 @@ pub record IsToldOf (left : BothTexts) (g : TextsFault) (x : ToldFault) : Type 0
   pub is_finding : IsFinding (one_of left g.file) g.place g.kind finding
   pub shown : IsShownAs finding x.finding
 
--- What is told of two texts behind a fault of theirs: the first fault of what is left of them, and what is told behind
+-- What is told of two texts after a fault of theirs: the first fault of what is left of them, and what is told after
 -- that one. A fault that may follow is passed over, and there may be no more.
 pub data AreFurther : BothTexts → TextsFault → List ToldFault → Type 0 where
   no_more : {t : BothTexts} {f : TextsFault} → AreFurther t f []
@@ -92,12 +92,12 @@ pub data AreFurther : BothTexts → TextsFault → List ToldFault → Type 0 whe
   passed_over : {t : BothTexts} {f : TextsFault} {more : List ToldFault} (left : BothTexts) (g : TextsFault)
       → IsLeft t f left → IsFirst left g → MayFollow g.kind → AreFurther left g more → AreFurther t f more
 
--- a fault of what is left is told behind others, or passed over
+-- a fault of what is left is told after others, or passed over
 pub data IsAdded (left : BothTexts) (g : TextsFault) (old new : List ToldFault) : Type 0 where
   is_told : (x : ToldFault) → IsToldOf left g x → new ≡ old ++ x ∷ [] → IsAdded left g old new
   is_passed : MayFollow g.kind → new ≡ old → IsAdded left g old new
 
--- what is told behind a fault of what is left, behind these, is told behind the fault of the texts
+-- what is told after a fault of what is left, after these, is told after the fault of the texts
 abbrev pub LeadsTo : (all : BothTexts) → TextsFault → BothTexts → TextsFault → List ToldFault → Type 0
 LeadsTo all f left g before =
     (more : List ToldFault) → AreFurther left g more → AreFurther all f (before ++ more)

@@ -1,14 +1,15 @@
 -- What is shown of the texts of a system, and of the steps of a run of it.
 use Rattle.std.specs.Prelude.{◌≡◌, ℕ, List, ◌++◌, Option, Some, None, Ok, Err, flat_map}
+use Rattle.std.specs.List.{All}
 use Rattle.fmp_base.specs.declared.events.Event.{Event}
 use Rattle.fmp_lex.specs.declared.fault.BuildFault.TheVariants as build
 use Rattle.fmp_lex.specs.declared.fault.TextFile.{TextFile}
 use Rattle.fmp_lex.specs.declared.fault.TextFile.TheVariants as file
 use Rattle.fmp_image_bytes.specs.Images.{ImageTables}
 use Rattle.fmp_image.specs.Building.{Builds, IsBuildFault}
-use Rattle.fmp_steps.specs.declared.faults.StepsFault.{StepsFault}
-use Rattle.fmp_steps.specs.declared.faults.StepsFault.TheVariants as fault
-use Rattle.fmp_steps.specs.Steps.{steps_of}
+use Rattle.fmp_trace.specs.declared.faults.StepsFault.{StepsFault}
+use Rattle.fmp_trace.specs.declared.faults.StepsFault.TheVariants as fault
+use Rattle.fmp_trace.specs.Steps.{steps_of}
 use Rattle.fmp_warnings.specs.declared.found.Warning.{Warning}
 use Rattle.fmp_warnings.specs.declared.further.ToldFault.{ToldFault}
 use Rattle.fmp_diagnosis.specs.declared.reports.FaultReport.{FaultReport}
@@ -17,7 +18,7 @@ use Rattle.fmp_diagnosis.specs.declared.steps.StepFlaw.{StepFlaw}
 use Rattle.fmp_diagnosis.specs.declared.steps.StepFlaw.TheVariants as flaw
 use Rattle.fmp_diagnosis.specs.Records.{record_text}
 use Rattle.fmp_diagnosis.specs.Reports.{IsFinding, report, text_of}
-use Rattle.fmp_diagnosis.specs.StepFindings.{IsStepFinding}
+use Rattle.fmp_diagnosis.specs.StepFindings.{IsStepFinding, IsStepWarning}
 use Rattle.fmp_warnings.specs.declared.verdicts.FileNames.{FileNames}
 use Rattle.fmp_warnings.specs.declared.verdicts.Form.{Form}
 use Rattle.fmp_warnings.specs.declared.verdicts.Form.TheVariants as form
@@ -71,8 +72,20 @@ IsStepShown form names processors text out =
     × IsStepFinding text s.line s.flaw f
     × (out ≡ printed form names.steps.now f)
 
+-- what is said of a line of the steps that does nothing
+abbrev pub IsIdleStep : (steps : List ℕ) → FaultReport → Type 0
+IsIdleStep steps f = (line : ℕ) × IsStepWarning steps line f
+
+-- warnings of the texts, and then of the steps, as they are printed
+abbrev pub AreWarnings : Form → FileNames → (steps out : List ℕ) → Type 0
+AreWarnings form names steps out =
+    (ws : List Warning)
+    × (idle : List FaultReport)
+    × All (IsIdleStep steps) idle
+    × (out ≡ warnings_text form names ws ++ flat_map (printed form names.steps.now) idle)
+
 -- Of two texts with a fault their first one is reported, under the name of its file, and then what is told of them
--- behind it; of others the first fault of the steps, and if they have none, warnings.
+-- after it; of others the first fault of the steps, and if they have none, warnings.
 abbrev pub IsShownOf : Form → FileNames → Texts → (steps : List ℕ) → TextsVerdict → Shown → Type 0
 IsShownOf form names t steps (found.Faulty f) (shown.Faulty out) =
     (x : FaultReport)
@@ -84,7 +97,7 @@ IsShownOf form names t steps (found.Faulty f) (shown.Sound out) = ⊥
 IsShownOf form names t steps (found.Sound processors) (shown.Faulty out) =
     IsStepShown form names processors steps out.items
 IsShownOf form names t steps (found.Sound processors) (shown.Sound out) =
-    HasStepFault processors steps None × ((ws : List Warning) × (out.items ≡ warnings_text form names ws))
+    HasStepFault processors steps None × AreWarnings form names steps out.items
 
 -- what is shown of two texts and of steps
 pub record IsShown (form : Form) (names : FileNames) (t : Texts) (steps : List ℕ) (s : Shown) : Type 0 where

@@ -1,8 +1,9 @@
-//! Warnings of expressions that fault whenever they are evaluated, and of comparisons of the outcome of a comparison.
+//! Warnings of expressions that fault whenever they are evaluated, and of the outcome of a comparison as an operand.
 ghost use Rattle.std.specs.Prelude.{OnOk};
 ghost use Rattle.fmp_diagnosis.specs.Words.{IsSaid};
 
 use crate::found::FoundWarnings;
+use crate::landmarks::Landmarks;
 use fmp_diagnosis::words::{Word, say};
 use fmp_lex::{Symbol, TextFile, TokenKind, Tokens};
 use std::alloc::{AllocError, Global};
@@ -14,6 +15,8 @@ enum Flaw {
     Division,
     /// It compares the outcome of a comparison.
     Chain,
+    /// The outcome of a comparison is an operand of `&`, `|` or `^`.
+    Mixed,
     /// The sum or the product of these numbers does not fit into 32 bits.
     Overflow(i64, &'static str, i64),
 }
@@ -57,13 +60,28 @@ fn is_arithmetic(symbol: Symbol) -> bool {
     )
 }
 
+/// Whether no operand of a comparison reaches over a symbol.
+fn ends_operand(symbol: Symbol) -> bool {
+    let is_end = matches!(
+        symbol,
+        Symbol::AndAnd
+            | Symbol::OrOr
+            | Symbol::Assign
+            | Symbol::Comma
+            | Symbol::Semicolon
+            | Symbol::LeftBrace
+            | Symbol::RightBrace
+    );
+    is_end || is_bitwise(symbol) || is_comparison(symbol)
+}
+
 /// Whether a symbol multiplies or divides.
 fn is_factor(symbol: Symbol) -> bool {
     matches!(symbol, Symbol::Star | Symbol::Slash | Symbol::Percent)
 }
 
-/// How many parentheses and brackets of an operand of an order are open behind a symbol, where so many were open before
-/// it; none where the operand ends there.
+/// How many parentheses and brackets of an operand of an order are open after a symbol, where this many were open
+/// before it; none where the operand ends there.
 fn depth_behind(depth: usize, symbol: Symbol) -> Option<usize> {
     match symbol {
         Symbol::LeftParen | Symbol::LeftBracket => Some(depth.saturating_add(1)),
@@ -90,7 +108,66 @@ fn chained_at(tokens: &Tokens<'_>, at: usize) -> Option<usize> {
     None
 }
 
-/// Whether an expression begins behind the token at a place, or an operand of an operator that binds less than a sum.
+/// Whether a symbol compares its operands.
+fn is_comparison(symbol: Symbol) -> bool {
+    is_order(symbol) || matches!(symbol, Symbol::Equal | Symbol::NotEqual)
+}
+
+/// Whether a symbol joins the bits of its operands.
+fn is_bitwise(symbol: Symbol) -> bool {
+    matches!(symbol, Symbol::And | Symbol::Or | Symbol::Xor)
+}
+
+/// How many parentheses and brackets are open where tokens are gone through from right to left, before a symbol after
+/// which this many were; none where one opens that is not closed.
+fn depth_before(depth: usize, symbol: Symbol) -> Option<usize> {
+    match symbol {
+        Symbol::RightParen | Symbol::RightBracket => Some(depth.saturating_add(1)),
+        Symbol::LeftParen | Symbol::LeftBracket => depth.checked_sub(1),
+        _ => Some(depth),
+    }
+}
+
+/// The symbol that ends the right operand of the comparison at a place, where it is no arithmetic.
+fn symbol_behind(tokens: &Tokens<'_>, at: usize) -> Option<Symbol> {
+    let mut depth = 0;
+    for place in at.saturating_add(1)..tokens.len() {
+        if let Some(symbol) = symbol_at(tokens, place) {
+            match depth_behind(depth, symbol) {
+                Some(next) => depth = next,
+                None => return Some(symbol),
+            }
+        }
+    }
+    None
+}
+
+/// The symbol before the left operand of the comparison at a place, where it is no arithmetic.
+fn symbol_before(tokens: &Tokens<'_>, at: usize) -> Option<Symbol> {
+    let mut depth = 0;
+    for place in (0..at).rev() {
+        if let Some(symbol) = symbol_at(tokens, place) {
+            if depth == 0 && ends_operand(symbol) {
+                return Some(symbol);
+            }
+            depth = depth_before(depth, symbol)?;
+        }
+    }
+    None
+}
+
+/// Whether the comparison at a place is an operand of `&`, `|` or `^`.
+fn is_mixed(tokens: &Tokens<'_>, at: usize) -> bool {
+    match symbol_at(tokens, at) {
+        Some(symbol) if is_comparison(symbol) => {
+            symbol_behind(tokens, at).is_some_and(is_bitwise)
+                || symbol_before(tokens, at).is_some_and(is_bitwise)
+        }
+        _ => false,
+    }
+}
+
+/// Whether an expression begins after the token at a place, or an operand of an operator that binds less than a sum.
 fn begins_sum(tokens: &Tokens<'_>, at: usize) -> bool {
     match symbol_at(tokens, at) {
         Some(Symbol::RightParen | Symbol::RightBracket) => false,
@@ -143,6 +220,9 @@ fn flaw_at(tokens: &Tokens<'_>, at: usize) -> Option<(usize, Flaw)> {
     if let Some(place) = chained_at(tokens, at) {
         return Some((place, Flaw::Chain));
     }
+    if is_mixed(tokens, at) {
+        return Some((at, Flaw::Mixed));
+    }
     Some((at, overflow_at(tokens, at)?))
 }
 
@@ -155,6 +235,12 @@ fn say_flaw(flaw: Flaw, out: &mut Vec<u8>) -> Result<(), AllocError>
         Flaw::Chain => say(
             &[Word::Text(
                 "this compares the outcome of a comparison, 0 or 1; `&&` joins two comparisons",
+            )],
+            out,
+        ),
+        Flaw::Mixed => say(
+            &[Word::Text(
+                "a comparison binds tighter than `&`, `|` and `^`: parentheses tell what is meant",
             )],
             out,
         ),
@@ -171,14 +257,15 @@ fn say_flaw(flaw: Flaw, out: &mut Vec<u8>) -> Result<(), AllocError>
 }
 
 /// Warns of the expressions of a task text that divide by a 0, that add or multiply two numbers whose sum or product
-/// does not fit into 32 bits, or that compare the outcome of a comparison. That is certain: the operands are written
-/// there.
+/// does not fit into 32 bits, or that compare the outcome of a comparison or join it by `&`, `|` or `^`. That is
+/// certain: the operands are written there.
 pub fn warn_of_arithmetic(
     alloc: Global,
-    src: &Tokens<'_>,
+    (src, landmarks): (&Tokens<'_>, &Landmarks),
     found: &mut FoundWarnings<'_>,
 ) -> Result<(), AllocError> {
-    for at in 0..src.len() {
+    for place in &landmarks.operators {
+        let at = *place;
         if let Some((place, flaw)) = flaw_at(src, at) {
             let mut sentence = Vec::new(alloc);
             say_flaw(flaw, &mut sentence)?;

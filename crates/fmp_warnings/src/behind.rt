@@ -12,13 +12,15 @@ struct Behind {
     from: usize,
     /// Whether semicolons in its parentheses are its own, as in `for (;;)`.
     is_for: bool,
-    /// Whether a condition follows its block, as in `do { } while (1);`.
+    /// Whether more follows its block, up to a semicolon, as in `do { } while (1);`.
     is_do: bool,
     parens: usize,
     /// How many blocks of it are open.
     blocks: usize,
-    /// Behind its last block, which is closed.
+    /// After its last block, which is closed.
     closed: Option<usize>,
+    /// Whether `=` stands before the next piece, as before the block of `var x[2] = { 1, 2 };`.
+    is_value: bool,
 }
 
 impl Behind {
@@ -33,6 +35,7 @@ impl Behind {
             parens: 0,
             blocks: 0,
             closed: None,
+            is_value: false,
         }
     }
 
@@ -43,8 +46,9 @@ impl Behind {
             && (begins_unit(word, self.file) || self.blocks == 0 && find_api(word).is_some())
     }
 
-    /// A block of the construct opens.
+    /// A block of the construct opens. After a list of values a semicolon follows, as after the condition of `do`.
     fn open(&mut self) {
+        self.is_do = self.is_do || self.is_value && self.blocks == 0;
         self.blocks = self.blocks.saturating_add(1);
         self.parens = 0;
     }
@@ -90,7 +94,9 @@ impl Behind {
             Some(end) => return Some(end),
             None => {}
         }
-        self.end(text, at, piece)
+        let end = self.end(text, at, piece);
+        self.is_value = byte_at(text, at) == b'=';
+        end
     }
 }
 

@@ -3,6 +3,7 @@ ghost use Rattle.std.specs.Prelude.{OnOk};
 ghost use Rattle.fmp_diagnosis.specs.Words.{IsSaid};
 
 use crate::found::FoundWarnings;
+use crate::landmarks::Landmarks;
 use crate::objects::NamedObjects;
 use crate::walk::{WalkedArgument, lone_argument};
 use crate::wanted::waits_for_bits;
@@ -13,7 +14,7 @@ use fmp_diagnosis::words::{Word, say};
 use fmp_lex::{Api, Symbol, TextFile, TokenKind, Tokens};
 use std::alloc::{AllocError, Global};
 
-/// The name that is the first argument of the call whose word stands at a place, and has others behind it.
+/// The name that is the first argument of the call whose word stands at a place, and has others after it.
 fn first_name(tokens: &Tokens<'_>, at: usize) -> Option<Name> {
     if !is_symbol(tokens, at.saturating_add(3), Symbol::Comma) {
         return None;
@@ -40,7 +41,7 @@ pub fn note_bits(objects: &mut NamedObjects, tokens: &Tokens<'_>, argument: Walk
 struct MissedBits {
     service: Service,
     flag: Name,
-    bits: i64,
+    bits: u32,
 }
 
 /// Which of the bits that a call waits for are never set, where the wait needs one of those: any of them if it is for
@@ -79,6 +80,7 @@ fn missed_at(objects: &NamedObjects, tokens: &Tokens<'_>, at: usize) -> Option<M
         None => false,
     };
     let bits = missed_of(awaited, objects.bits_of(&object), waits_for_all)?;
+    let bits = u32::try_from(bits).ok()?;
     Some(MissedBits {
         service,
         flag,
@@ -87,13 +89,13 @@ fn missed_at(objects: &NamedObjects, tokens: &Tokens<'_>, at: usize) -> Option<M
 }
 
 /// Says which bits nothing sets.
-fn say_missed(missed: MissedBits, out: &mut Vec<u8>) -> Result<(), AllocError>
+fn say_missed(alloc: Global, missed: MissedBits, out: &mut Vec<u8>) -> Result<(), AllocError>
     ensures { OnOk result (IsSaid out.old.items out.new.items) }
 {
+    let bits = format!(in alloc; "nothing sets the bits 0x{:x}", missed.bits)?;
+    out.extend_from_slice(bits.as_bytes())?;
     say(
         &[
-            Word::Text("nothing sets the bits "),
-            Word::Number(missed.bits),
             Word::Text(" of "),
             Word::Name(missed.flag),
             Word::Text(", for which `"),
@@ -108,14 +110,15 @@ fn say_missed(missed: MissedBits, out: &mut Vec<u8>) -> Result<(), AllocError>
 /// certain: each call that sets bits of the eventflag gives them as a number.
 pub fn warn_of_bits(
     alloc: Global,
-    src: &Tokens<'_>,
+    (src, landmarks): (&Tokens<'_>, &Landmarks),
     objects: &NamedObjects,
     found: &mut FoundWarnings<'_>,
 ) -> Result<(), AllocError> {
-    for at in 0..src.len() {
+    for place in &landmarks.structure {
+        let at = *place;
         if let Some(missed) = missed_at(objects, src, at) {
             let mut sentence = Vec::new(alloc);
-            say_missed(missed, &mut sentence)?;
+            say_missed(alloc, missed, &mut sentence)?;
             found.warn(alloc, TextFile::Source, src, at.saturating_add(4), sentence)?;
         }
     }

@@ -1,10 +1,10 @@
-//! The construct that is left out where it has a fault, so that the faults behind it are told too: a static API or a
+//! The construct that is left out where it has a fault, so that the faults after it are told too: a static API or a
 //! class, a statement, a declaration or a body.
 ghost use Rattle.std.specs.Prelude.{◌≤◌, IfSome, length};
 
 use crate::before::{Before, before_place, begins_unit};
 use crate::behind::{end_behind, line_end, next_body};
-use crate::pieces::{byte_at, word_at};
+use crate::pieces::{byte_at, is_word, word_at};
 use crate::verdicts::TextsFault;
 use fmp_lex::TextFile;
 
@@ -54,8 +54,23 @@ fn configuration_stretch(text: &[u8], at: usize, before: &Before) -> Option<Stre
     from_to(from, end_behind(text, from, TextFile::Configuration))
 }
 
-/// What is left out of a task text: the statement or the declaration with the fault at this place, a body whose heading
-/// has it or that is not closed, or what stands between bodies.
+/// What is left out of the declaration that begins at a place, with the fault at another: a first value, or further
+/// names, up to its semicolon; the variable is declared all the same.
+fn declared_stretch(text: &[u8], from: usize, at: usize) -> Option<Stretch> {
+    let is_more = byte_at(text, at) == b'=' || byte_at(text, at) == b',';
+    if !is_more || !is_word(word_at(text, from), b"var") {
+        return None;
+    }
+    let last = end_behind(text, from, TextFile::Source)?.saturating_sub(1);
+    if byte_at(text, last) == b';' {
+        from_to(at, Some(last))
+    } else {
+        None
+    }
+}
+
+/// What is left out of a task text: the statement or the declaration with the fault at this place or a part of that, a
+/// body whose heading has it or that is not closed, or what stands between bodies.
 fn source_stretch(text: &[u8], at: usize, before: &Before) -> Option<Stretch> {
     let from = before.construct.unwrap_or(at);
     if before.blocks == 0 {
@@ -64,7 +79,10 @@ fn source_stretch(text: &[u8], at: usize, before: &Before) -> Option<Stretch> {
     if from == at && begins_unit(word_at(text, at), TextFile::Source) {
         return from_to(before.unit?, Some(at));
     }
-    from_to(from, end_behind(text, from, TextFile::Source))
+    match declared_stretch(text, from, at) {
+        Some(stretch) => Some(stretch),
+        None => from_to(from, end_behind(text, from, TextFile::Source)),
+    }
 }
 
 /// What is left out of a text with a fault: the construct in which it stands. Nothing if the rest depends on it, or if

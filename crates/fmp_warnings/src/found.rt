@@ -22,7 +22,7 @@ pub struct FoundWarnings<'a> {
     pub list: Vec<Warning>,
 }
 
-/// Where the token at a place stands, with the number behind it in its line if it is a minus.
+/// Where the token at a place stands, with the number after it in its line if it is a minus.
 fn place_at(tokens: &Tokens<'_>, at: usize) -> Place {
     let Some(place) = tokens.place(at) else {
         return Place {

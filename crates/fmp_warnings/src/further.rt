@@ -1,4 +1,4 @@
-//! The faults of two texts behind the first one that do not follow from those before them.
+//! The faults of two texts after the first one that do not follow from those before them.
 ghost use Rattle.std.specs.Prelude.{◌≡◌, IfOk, IsTrue, false};
 ghost use Rattle.fmp_warnings.specs.Further.{AreFurther, IsAdded, IsShownAs, IsToldOf, MayFollow, both_left, both_of};
 
@@ -9,11 +9,11 @@ use fmp_diagnosis::{FaultReport, Texts, culprit_of, excerpt_at, finding_at};
 use fmp_lex::{FaultKind, TextFile};
 use std::alloc::{AllocError, Global};
 
-/// The maximum number of faults behind the first one.
+/// The maximum number of faults after the first one.
 const FURTHER: usize = 19;
 
-/// How many constructs are left out at most.
-const ROUNDS: u32 = 60;
+/// How many constructs are left out at most where time is no matter.
+pub const ROUNDS: u32 = 60;
 
 /// A fault of one of two texts: which one, and what is said of it.
 #[derive(Drop)]
@@ -134,19 +134,21 @@ fn tell(
     Ok(true)
 }
 
-/// What is told of two texts behind their first fault, which this is: at most 19 faults of the same text, in the order
-/// in which they are found where the constructs with those before are left out. The name of an object or of a variable
-/// is not missed if it stands in what is left out. `AllocError` if memory runs out.
+/// What is told of two texts after their first fault, which this is: at most 19 faults of the same text, in the order
+/// in which they are found where the constructs with those before are left out, of which there are at most this many.
+/// The name of an object or of a variable is not missed if it stands in what is left out. `AllocError` if memory runs
+/// out.
 pub fn further_faults(
     alloc: Global,
     texts: Texts<'_>,
     fault: TextsFault,
+    rounds: u32,
 ) -> Result<Vec<ToldFault>, AllocError>
     ensures { IfOk result (λ told. AreFurther (both_of texts.entry) fault told.items) }
 {
     let mut left = Left::all(alloc, texts, fault)?;
     let mut told = Vec::new(alloc);
-    for _round in 0..ROUNDS {
+    for _round in 0..rounds {
         let Some(next) = left.next(alloc)? else {
             break;
         };

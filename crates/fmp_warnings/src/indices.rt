@@ -3,9 +3,10 @@ ghost use Rattle.std.specs.Prelude.{OnOk};
 ghost use Rattle.fmp_diagnosis.specs.Words.{IsSaid};
 
 use crate::found::FoundWarnings;
+use crate::landmarks::{Bracket, Landmarks};
 use fmp_base::Name;
 use fmp_diagnosis::apis::is_symbol;
-use fmp_diagnosis::around::{begins_body_at, is_same, name_at};
+use fmp_diagnosis::around::{is_same, name_at};
 use fmp_diagnosis::words::{Word, say};
 use fmp_lex::{Keyword, Symbol, TextFile, TokenKind, Tokens};
 use std::alloc::{AllocError, Global};
@@ -78,15 +79,15 @@ fn is_declared_at(tokens: &Tokens<'_>, at: usize) -> bool {
     at > 0 && tokens.kind(at - 1) == Some(TokenKind::Keyword(Keyword::Var))
 }
 
-/// The index behind the name at a place, where it is a number out of the range of its array. The body that the place is
-/// in begins at `body`.
-fn misplaced_at(tokens: &Tokens<'_>, body: usize, at: usize) -> Option<Misplaced> {
+/// The index after the bracket, where it is a number out of the range of the array whose name stands before it.
+fn misplaced_at(tokens: &Tokens<'_>, bracket: Bracket) -> Option<Misplaced> {
+    let at = bracket.at.saturating_sub(1);
     if is_declared_at(tokens, at) {
         return None;
     }
     let array = name_at(tokens, at)?;
-    let index = lone_index(tokens, at.saturating_add(1))?;
-    let places = places_of(tokens, body, &array)?;
+    let index = lone_index(tokens, bracket.at)?;
+    let places = places_of(tokens, bracket.body, &array)?;
     if 0 <= index && index < places {
         return None;
     }
@@ -118,18 +119,15 @@ fn say_misplaced(misplaced: Misplaced, out: &mut Vec<u8>) -> Result<(), AllocErr
 /// Warns of the indices of a task text that are numbers out of the range of their arrays.
 pub fn warn_of_indices(
     alloc: Global,
-    src: &Tokens<'_>,
+    (src, landmarks): (&Tokens<'_>, &Landmarks),
     found: &mut FoundWarnings<'_>,
 ) -> Result<(), AllocError> {
-    let mut body = 0;
-    for at in 0..src.len() {
-        if begins_body_at(src, at) {
-            body = at;
-        }
-        if let Some(misplaced) = misplaced_at(src, body, at) {
+    for bracket in &landmarks.brackets {
+        if let Some(misplaced) = misplaced_at(src, *bracket) {
             let mut sentence = Vec::new(alloc);
             say_misplaced(misplaced, &mut sentence)?;
-            found.warn(alloc, TextFile::Source, src, at.saturating_add(2), sentence)?;
+            let place = bracket.at.saturating_add(1);
+            found.warn(alloc, TextFile::Source, src, place, sentence)?;
         }
     }
     Ok(())

@@ -10,7 +10,9 @@ mod constructs;
 mod contexts;
 mod found;
 mod further;
+mod idle;
 mod indices;
+mod landmarks;
 mod left;
 mod locks;
 mod loops;
@@ -26,7 +28,7 @@ mod wanted;
 mod warnings;
 
 pub use found::Warning;
-pub use further::{ToldFault, further_faults};
+pub use further::{ROUNDS, ToldFault, further_faults};
 pub use verdicts::{
     FileNames, Form, Shown, StepFault, TextsFault, TextsVerdict, found_in, shown_fault,
 };

@@ -5,6 +5,7 @@ ghost use Rattle.fmp_diagnosis.specs.Words.{IsSaid};
 
 use crate::contexts::BodyKind;
 use crate::found::FoundWarnings;
+use crate::landmarks::Landmarks;
 use crate::objects::NamedObjects;
 use fmp_base::{Permission, Service};
 use fmp_diagnosis::apis::is_symbol;
@@ -34,7 +35,7 @@ impl Hold {
         }
     }
 
-    /// What is said of it before the line of the call that took it, and behind that.
+    /// What is said of it before the line of the call that took it, and after that.
     fn words(self) -> (&'static str, &'static str) {
         match self {
             Hold::SpinLock => ("the spin lock that line ", " takes is held"),
@@ -59,7 +60,7 @@ struct Held {
     hold: Hold,
     at: usize,
     depth: usize,
-    /// Whether a loop stands behind the call that may be left by no way but a jump.
+    /// Whether a loop stands after the call that may be left by no way but a jump.
     is_looped: bool,
 }
 
@@ -74,7 +75,7 @@ struct HeldWalk {
 }
 
 impl HeldWalk {
-    /// The walk behind the end of a block. What was taken in the block is known no more.
+    /// The walk after the end of a block. What was taken in the block is known no more.
     fn behind_block(self) -> HeldWalk {
         let depth = self.depth.saturating_sub(1);
         match self.held {
@@ -87,7 +88,7 @@ impl HeldWalk {
         }
     }
 
-    /// The walk behind a jump. Nothing reaches the rest of its block; what was taken outside the block is held behind
+    /// The walk after a jump. Nothing reaches the rest of its block; what was taken outside the block is held after
     /// it.
     fn behind_jump(self) -> HeldWalk {
         match self.held {
@@ -96,7 +97,7 @@ impl HeldWalk {
         }
     }
 
-    /// The walk behind a token. A call that gives something back may give back anything.
+    /// The walk after a token. A call that gives something back may give back anything.
     fn behind(self, kind: TokenKind) -> HeldWalk {
         match kind {
             TokenKind::Keyword(Keyword::Task | Keyword::Handler) => HeldWalk {
@@ -120,7 +121,7 @@ impl HeldWalk {
         }
     }
 
-    /// The walk behind a call at a place that takes something. Of what is held the lock tells most.
+    /// The walk after a call at a place that takes something. Of what is held the lock tells most.
     fn taking(self, at: usize, hold: Hold) -> HeldWalk {
         let is_more = match self.held {
             Some(held) => held.hold == Hold::Dispatching && hold != Hold::Dispatching,
@@ -141,7 +142,7 @@ impl HeldWalk {
         }
     }
 
-    /// The walk behind the head of a loop whose condition always holds.
+    /// The walk after the head of a loop whose condition always holds.
     fn looping(self) -> HeldWalk {
         match self.held {
             Some(held) => HeldWalk {
@@ -155,7 +156,7 @@ impl HeldWalk {
         }
     }
 
-    /// What is wrong with a token behind the walk, if anything is.
+    /// What is wrong with a token after the walk, if anything is.
     fn flaw(self, kind: TokenKind) -> Option<(Flaw, Held)> {
         let held = self.held?;
         let flaw = match kind {
@@ -235,7 +236,7 @@ fn say_held(flaw: Flaw, hold: Hold, line: u32, out: &mut Vec<u8>) -> Result<(), 
 /// loop may keep the task from nothing is said.
 pub fn warn_of_locks(
     alloc: Global,
-    src: &Tokens<'_>,
+    (src, landmarks): (&Tokens<'_>, &Landmarks),
     objects: &NamedObjects,
     found: &mut FoundWarnings<'_>,
 ) -> Result<(), AllocError> {
@@ -244,7 +245,8 @@ pub fn warn_of_locks(
         depth: 0,
         held: None,
     };
-    for at in 0..src.len() {
+    for place in &landmarks.structure {
+        let at = *place;
         if let Some(kind) = src.kind(at) {
             if let Some((flaw, held)) = walk.flaw(kind) {
                 let mut sentence = Vec::new(alloc);

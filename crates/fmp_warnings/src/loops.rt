@@ -1,5 +1,6 @@
 //! Warnings of loops that nothing in them can end.
 use crate::found::FoundWarnings;
+use crate::landmarks::Landmarks;
 use fmp_cfgparse::ObjectName;
 use fmp_diagnosis::apis::is_symbol;
 use fmp_diagnosis::around::name_at;
@@ -8,7 +9,7 @@ use fmp_lex::{Keyword, Symbol, TextFile, TokenKind, Tokens};
 use indexmap::IndexSet;
 use std::alloc::{AllocError, Global};
 
-/// The place behind the group that begins at a place, of which the first of these symbols opens a level and the second
+/// The place after the group that begins at a place, of which the first of these symbols opens a level and the second
 /// closes one.
 fn behind_group(tokens: &Tokens<'_>, begin: usize, opens: Symbol, closes: Symbol) -> usize {
     let mut open = 0usize;
@@ -86,10 +87,11 @@ fn is_endless(alloc: Global, tokens: &Tokens<'_>, at: usize) -> Result<bool, All
 /// of them.
 pub fn warn_of_loops(
     alloc: Global,
-    src: &Tokens<'_>,
+    (src, landmarks): (&Tokens<'_>, &Landmarks),
     found: &mut FoundWarnings<'_>,
 ) -> Result<(), AllocError> {
-    for at in 0..src.len() {
+    for place in &landmarks.structure {
+        let at = *place;
         if is_endless(alloc, src, at)? {
             let words = [Word::Text(
                 "nothing in this loop ends it: it makes no call, has no jump out, and does not change its condition",

@@ -1,7 +1,7 @@
 //! The objects of a configuration, and how a task text uses them.
 use fmp_base::{Action, Name, Service};
 use fmp_cfgparse::ObjectName;
-use fmp_diagnosis::apis::{api_at, object_name, value_of};
+use fmp_diagnosis::apis::{api_at, entry_of, object_name, value_of};
 use fmp_diagnosis::fields::Field;
 use fmp_lex::{Api, Tokens};
 use indexmap::IndexSet;
@@ -67,6 +67,8 @@ pub struct NamedObject {
     pub api: Api,
     /// The place of the API's word among the tokens of the configuration.
     pub at: usize,
+    /// The name of the body that it begins with, if it has one.
+    pub entry: Option<Name>,
     /// Whether its name stands in the task text.
     pub is_named: bool,
     /// The uses by calls that name it.
@@ -85,6 +87,19 @@ pub struct NamedObjects {
     unnamed: [Uses; 10],
 }
 
+/// The object of this name that the static API at a place makes, as it is at first.
+fn object_at(tokens: &Tokens<'_>, at: usize, api: Api, name: Name) -> NamedObject {
+    NamedObject {
+        name,
+        api,
+        at,
+        entry: entry_of(tokens, at, api),
+        is_named: false,
+        uses: Uses::none(),
+        bits: i64::from(value_of(tokens, at, api, Field::InitialPattern)),
+    }
+}
+
 impl NamedObjects {
     /// The objects that these tokens make. Of two of one name the first is found.
     pub fn of(alloc: Global, tokens: &Tokens<'_>) -> Result<NamedObjects, AllocError> {
@@ -95,23 +110,15 @@ impl NamedObjects {
         };
         for at in 0..tokens.len() {
             if let (Some(api), Some(name)) = (api_at(tokens, at), object_name(tokens, at)) {
-                let bits = i64::from(value_of(tokens, at, api, Field::InitialPattern));
-                objects.add(api, name, at, bits)?;
+                objects.add(object_at(tokens, at, api, name))?;
             }
         }
         Ok(objects)
     }
 
-    fn add(&mut self, api: Api, name: Name, at: usize, bits: i64) -> Result<(), AllocError> {
-        self.names.insert(ObjectName { name })?;
-        self.list.push(NamedObject {
-            name,
-            api,
-            at,
-            is_named: false,
-            uses: Uses::none(),
-            bits,
-        })?;
+    fn add(&mut self, object: NamedObject) -> Result<(), AllocError> {
+        self.names.insert(ObjectName { name: object.name })?;
+        self.list.push(object)?;
         Ok(())
     }
 
@@ -130,13 +137,12 @@ impl NamedObjects {
         Some(self.named(name)?.api)
     }
 
-    /// The name stands in the task text.
-    pub fn note_named(&mut self, name: Name) {
-        if let Some(place) = self.place(name) {
-            if let Some(object) = self.list.get_mut(place) {
-                object.is_named = true;
-            }
-        }
+    /// The name stands in the task text: what makes the object of this name.
+    pub fn note_named(&mut self, name: Name) -> Option<Api> {
+        let place = self.place(name)?;
+        let object = self.list.get_mut(place)?;
+        object.is_named = true;
+        Some(object.api)
     }
 
     /// A call has the name as its first argument.

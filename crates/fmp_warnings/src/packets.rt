@@ -4,7 +4,7 @@ ghost use Rattle.fmp_diagnosis.specs.Words.{IsSaid};
 
 use crate::found::FoundWarnings;
 use fmp_diagnosis::apis::{api_at, begin_of, value_last};
-use fmp_diagnosis::fields::{Field, attributes_of, fields_of};
+use fmp_diagnosis::fields::{Field, attributes_of, fields_of, takes_attribute};
 use fmp_diagnosis::words::{Word, say};
 use fmp_lex::{Api, Constant, TextFile, TokenKind, Tokens};
 use std::alloc::{AllocError, Global};
@@ -24,27 +24,10 @@ fn is_attribute(constant: Constant) -> bool {
     )
 }
 
-/// Whether a constant is an attribute of a static API.
-fn is_attribute_of(api: Api, constant: Constant) -> bool {
-    match constant {
-        Constant::TaNull => true,
-        Constant::TaHlng => matches!(api, Api::CreTsk | Api::CreCyc | Api::DefInh),
-        Constant::TaTfifo | Constant::TaTpri => matches!(
-            api,
-            Api::CreSem | Api::CreFlg | Api::CreDtq | Api::CreMbx
-        ),
-        Constant::TaMfifo | Constant::TaMpri => matches!(api, Api::CreMbx),
-        Constant::TaAct => matches!(api, Api::CreTsk),
-        Constant::TaWsgl | Constant::TaWmul | Constant::TaClr => matches!(api, Api::CreFlg),
-        Constant::TaSta => matches!(api, Api::CreCyc),
-        _ => false,
-    }
-}
-
 /// Whether a constant may well stand in a field of a static API. Any number is taken where the field is not a measure.
 fn is_at_home(api: Api, field: Field, constant: Constant) -> bool {
     match field {
-        Field::Attribute => is_attribute_of(api, constant),
+        Field::Attribute => takes_attribute(api, constant),
         Field::ExtendedInformation | Field::SharedWord => true,
         _ => !is_attribute(constant),
     }

@@ -82,7 +82,7 @@ impl Pieces {
         }
     }
 
-    /// What begins at the next byte, behind which this one stands; nothing inside words, spaces and comments.
+    /// What begins at the next byte, after which this one stands; nothing inside words, spaces and comments.
     pub fn take(&mut self, byte: u8, next: u8) -> Option<Piece> {
         match self.inside {
             Inside::Nothing | Inside::Word => return self.begin(byte, next),
@@ -99,7 +99,7 @@ impl Pieces {
     }
 }
 
-/// The byte at a place; 0 behind the end.
+/// The byte at a place; 0 after the end.
 pub fn byte_at(text: &[u8], at: usize) -> u8 {
     text.get(at).copied().unwrap_or(0)
 }

@@ -4,6 +4,7 @@ ghost use Rattle.fmp_diagnosis.specs.Words.{IsSaid};
 
 use crate::contexts::BodyKind;
 use crate::found::FoundWarnings;
+use crate::landmarks::Landmarks;
 use fmp_base::Service;
 use fmp_diagnosis::apis::is_symbol;
 use fmp_diagnosis::words::{Word, say};
@@ -24,7 +25,7 @@ fn jump_of(kind: TokenKind, body: Option<BodyKind>) -> Option<(&'static str, usi
     }
 }
 
-/// Whether a statement stands in the same block behind the semicolon at a place.
+/// Whether a statement stands in the same block after the semicolon at a place.
 fn goes_on(tokens: &Tokens<'_>, at: usize) -> bool {
     let next = at.saturating_add(1);
     next < tokens.len()
@@ -46,14 +47,15 @@ fn say_unreached(jump: &'static str, out: &mut Vec<u8>) -> Result<(), AllocError
     )
 }
 
-/// Warns of the statements of a task text behind a jump in the same block. That is certain: no jump leads there.
+/// Warns of the statements of a task text after a jump in the same block. That is certain: no jump leads there.
 pub fn warn_of_unreached(
     alloc: Global,
-    src: &Tokens<'_>,
+    (src, landmarks): (&Tokens<'_>, &Landmarks),
     found: &mut FoundWarnings<'_>,
 ) -> Result<(), AllocError> {
     let mut body = None;
-    for at in 0..src.len() {
+    for place in &landmarks.structure {
+        let at = *place;
         if let Some(kind) = src.kind(at) {
             if let Some(begun) = BodyKind::begun_by(kind) {
                 body = Some(begun);

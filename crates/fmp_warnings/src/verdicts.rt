@@ -1,11 +1,13 @@
 //! What is shown of the texts of a system, and of the steps of a run of it: the faults, or the warnings.
-ghost use Rattle.std.specs.Prelude.{◌≡◌, ◌++◌, IfOk, Ok, Some};
+ghost use Rattle.std.specs.Prelude.{◌≡◌, ◌++◌, IfOk, Ok, Some, flat_map};
 ghost use Rattle.fmp_warnings.specs.declared.verdicts.TextsVerdict.TheVariants as found;
 ghost use Rattle.fmp_warnings.specs.Verdicts as spec;
-ghost use Rattle.fmp_warnings.specs.Verdicts.{HasStepFault, IsFound, IsShown, IsShownOf, faults_text, warnings_text};
+ghost use Rattle.fmp_warnings.specs.Verdicts.{AreWarnings, HasStepFault, IsFound, IsShown, IsShownOf};
+ghost use Rattle.fmp_warnings.specs.Verdicts.{faults_text, warnings_text};
 
 use crate::found::Warning;
-use crate::further::{ToldFault, further_faults};
+use crate::further::{ROUNDS, ToldFault, further_faults};
+use crate::idle::idle_steps;
 use crate::warnings::warnings_of;
 use fmp_diagnosis::{FaultReport, StepFlaw, Texts, finding_at, step_finding};
 use fmp_image::build;
@@ -166,8 +168,59 @@ fn printed_warnings(
     Ok(out)
 }
 
+/// Findings in the text of a file of this name, as they are printed, one after the other.
+fn printed_findings(
+    alloc: Global,
+    form: Form,
+    name: &str,
+    findings: &[FaultReport],
+) -> Result<Vec<u8>, AllocError>
+    ensures { IfOk result (λ out. out.items ≡ flat_map (spec.printed form name.now) findings.now) }
+{
+    let mut out = Vec::new(alloc);
+    for finding in findings {
+        let text = printed(alloc, form, name, finding)?;
+        out.extend_from_slice(&text)?;
+    }
+    Ok(out)
+}
+
+/// Warnings of texts and findings of steps, as they are printed, one after the other.
+fn printed_both(
+    alloc: Global,
+    form: Form,
+    names: FileNames<'_>,
+    warnings: &[Warning],
+    idle: &[FaultReport],
+) -> Result<Vec<u8>, AllocError>
+    ensures { IfOk result (λ out. out.items ≡ warnings_text form names.entry warnings.now
+        ++ flat_map (spec.printed form names.entry.steps.now) idle.now) }
+{
+    let mut out = printed_warnings(alloc, form, names, warnings)?;
+    let text = printed_findings(alloc, form, names.steps, idle)?;
+    out.extend_from_slice(&text)?;
+    Ok(out)
+}
+
+/// The warnings of two texts and of steps for this many processors, none of which has a fault, as they are printed.
+fn printed_sound(
+    alloc: Global,
+    form: Form,
+    names: FileNames<'_>,
+    texts: Texts<'_>,
+    steps: &[u8],
+    processors: u8,
+) -> Result<Vec<u8>, AllocError>
+    ensures { IfOk result (λ out. AreWarnings form names.entry steps.now out.items) }
+{
+    let warnings = warnings_of(alloc, texts)?;
+    let idle = idle_steps(alloc, texts.cfg, steps, processors)?;
+    let out = printed_both(alloc, form, names, &warnings, &idle)?;
+    Ok(out)
+}
+
 /// What is shown of steps for this many processors, and of two texts that have no fault: the first fault of the steps,
-/// or the warnings of the texts.
+/// or the warnings.
 fn shown_behind(
     alloc: Global,
     form: Form,
@@ -182,8 +235,8 @@ fn shown_behind(
         let finding = step_finding(alloc, steps, fault.line, fault.flaw)?;
         return Ok(Shown::Faulty(printed(alloc, form, names.steps, &finding)?));
     }
-    let warnings = warnings_of(alloc, texts)?;
-    Ok(Shown::Sound(printed_warnings(alloc, form, names, &warnings)?))
+    let out = printed_sound(alloc, form, names, texts, steps, processors)?;
+    Ok(Shown::Sound(out))
 }
 
 /// The faults of two texts, as they are printed, one after the other.
@@ -203,7 +256,7 @@ fn printed_faults(
     Ok(out)
 }
 
-/// A fault of this text and those behind it, as they are printed.
+/// A fault of this text and those after it, as they are printed.
 fn printed_with(
     alloc: Global,
     form: Form,
@@ -221,7 +274,7 @@ fn printed_with(
     Ok(out)
 }
 
-/// What is shown of two texts with this first fault: the fault, and those behind it.
+/// What is shown of two texts with this first fault: the fault, and those after it.
 fn shown_of(
     alloc: Global,
     form: Form,
@@ -233,13 +286,13 @@ fn shown_of(
     ensures { IfOk result (IsShownOf form names.entry texts.entry steps.now (found.Faulty fault)) }
 {
     let finding = finding_at(alloc, texts, fault.file, fault.place, fault.kind)?;
-    let further = further_faults(alloc, texts, fault)?;
+    let further = further_faults(alloc, texts, fault, ROUNDS)?;
     let out = printed_with(alloc, form, names, fault.file, &finding, &further)?;
     Ok(Shown::Faulty(out))
 }
 
 /// What is said of the faults of two texts, the first one first, or else of the first fault of steps, which are empty
-/// where there are none; or the warnings of the texts. `AllocError` if memory runs out.
+/// where there are none; or the warnings of the texts, and then those of the steps. `AllocError` if memory runs out.
 pub fn shown_fault(
     alloc: Global,
     form: Form,

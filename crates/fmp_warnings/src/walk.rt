@@ -10,10 +10,12 @@ use fmp_lex::{Constant, Keyword, Symbol, TokenKind, Tokens};
 pub struct CallWalk {
     /// The kind of the body that it stands in.
     body: Option<BodyKind>,
+    /// Whether the last token began a body.
+    is_heading: bool,
     service: Option<Service>,
     /// How many parentheses are open in it.
     open: usize,
-    /// How many of its arguments are behind.
+    /// How many of its arguments stand before.
     argument: usize,
 }
 
@@ -22,17 +24,28 @@ impl CallWalk {
     pub fn new() -> CallWalk {
         CallWalk {
             body: None,
+            is_heading: false,
             service: None,
             open: 0,
             argument: 0,
         }
     }
 
-    /// The walk behind a token.
+    /// Whether the last token is the name of a body that begins.
+    pub fn is_heading(self) -> bool {
+        self.is_heading
+    }
+
+    /// The walk after a token.
     pub fn behind(self, kind: TokenKind) -> CallWalk {
         match kind {
             TokenKind::Keyword(Keyword::Task | Keyword::Handler) => CallWalk {
                 body: BodyKind::begun_by(kind),
+                is_heading: true,
+                ..self
+            },
+            TokenKind::Symbol(Symbol::LeftBrace) => CallWalk {
+                is_heading: false,
                 ..self
             },
             TokenKind::Service(service) => CallWalk {
@@ -61,11 +74,8 @@ impl CallWalk {
         }
     }
 
-    /// The call of this token, where the body that it stands in may never make it.
-    pub fn barred(self, kind: TokenKind) -> Option<BarredCall> {
-        let TokenKind::Service(service) = kind else {
-            return None;
-        };
+    /// The call of a service that begins here, where the body that it stands in may never make it.
+    pub fn barred(self, service: Service) -> Option<BarredCall> {
         let body = self.body?;
         if body.bars(service) {
             Some(BarredCall { service, body })
@@ -74,10 +84,10 @@ impl CallWalk {
         }
     }
 
-    /// The argument that begins behind this token at a place, if it should not be just any number.
-    pub fn argument_behind(self, at: usize, kind: TokenKind) -> Option<WalkedArgument> {
-        let service = match kind {
-            TokenKind::Symbol(Symbol::LeftParen | Symbol::Comma) if self.open == 1 => self.service?,
+    /// The argument that begins after this symbol at a place, if it should not be just any number.
+    pub fn argument_behind(self, at: usize, symbol: Symbol) -> Option<WalkedArgument> {
+        let service = match symbol {
+            Symbol::LeftParen | Symbol::Comma if self.open == 1 => self.service?,
             _ => return None,
         };
         Some(WalkedArgument {

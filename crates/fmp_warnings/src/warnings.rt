@@ -9,6 +9,7 @@ use crate::arithmetic::warn_of_arithmetic;
 use crate::bits::{note_bits, warn_of_bits};
 use crate::found::{FoundWarnings, Warning};
 use crate::indices::warn_of_indices;
+use crate::landmarks::Landmarks;
 use crate::locks::warn_of_locks;
 use crate::loops::warn_of_loops;
 use crate::mistakes::{Mistake, Wrong, say_mistake};
@@ -24,7 +25,7 @@ use fmp_diagnosis::around::{begins_body_at, is_among, list_of, name_at};
 use fmp_diagnosis::fields::Field;
 use fmp_diagnosis::words::{Word, say};
 use fmp_diagnosis::{Texts, processors};
-use fmp_lex::{Api, Constant, TextFile, Tokens};
+use fmp_lex::{Api, Constant, TextFile, TokenKind, Tokens};
 use std::alloc::{AllocError, Global};
 
 /// The maximum number of warnings about calls and arguments.
@@ -119,47 +120,81 @@ impl Warnings {
         }
     }
 
-    /// Notes the object whose name stands at a place. Bodies have names of their own. Of a shared word whose number is
-    /// used as a value there, its name.
-    fn note_name(&mut self, tokens: &Tokens<'_>, at: usize, walk: CallWalk) -> Option<Name> {
-        let name = name_at(tokens, at)?;
-        if at > 0 && begins_body_at(tokens, at - 1) {
-            return None;
+    /// Notes the object whose name stands at a place. Bodies have names of their own. Whether it is a shared word whose
+    /// number is used as a value there.
+    fn note_name(&mut self, tokens: &Tokens<'_>, at: usize, name: Name, walk: CallWalk) -> bool {
+        if walk.is_heading() {
+            return false;
         }
-        self.objects.note_named(name);
-        match self.objects.api_of(name) {
-            Some(Api::CreShr) if walk.is_value(tokens, at) => Some(name),
-            _ => None,
+        match self.objects.note_named(name) {
+            Some(Api::CreShr) => walk.is_value(tokens, at),
+            _ => false,
         }
     }
 
-    /// Walks over the calls of a task text.
+    /// Looks at the argument that begins after a token.
+    fn look_at_argument(
+        &mut self,
+        alloc: Global,
+        tokens: &Tokens<'_>,
+        argument: WalkedArgument,
+        found: &mut FoundWarnings<'_>,
+    ) -> Result<(), AllocError> {
+        note_bits(&mut self.objects, tokens, argument);
+        match self.wrong(tokens, argument) {
+            Some(wrong) => {
+                let mistake = Mistake::Argument(argument, wrong);
+                self.warn(alloc, tokens, argument.at, mistake, found)
+            }
+            None => Ok(()),
+        }
+    }
+
+    /// Looks at the token at a place, which the walk has reached.
+    fn look_at_token(
+        &mut self,
+        alloc: Global,
+        tokens: &Tokens<'_>,
+        (at, kind): (usize, TokenKind),
+        walk: CallWalk,
+        found: &mut FoundWarnings<'_>,
+    ) -> Result<(), AllocError> {
+        match kind {
+            TokenKind::Name(name) => {
+                if !self.note_name(tokens, at, name, walk) {
+                    return Ok(());
+                }
+                self.warn(alloc, tokens, at, Mistake::SharedWord(name), found)
+            }
+            TokenKind::Service(service) => match walk.barred(service) {
+                Some(barred) => self.warn(alloc, tokens, at, Mistake::Barred(barred), found),
+                None => Ok(()),
+            },
+            TokenKind::Symbol(symbol) => match walk.argument_behind(at, symbol) {
+                Some(argument) => self.look_at_argument(alloc, tokens, argument, found),
+                None => Ok(()),
+            },
+            _ => Ok(()),
+        }
+    }
+
+    /// Walks over the calls of a task text, and finds its landmarks.
     fn calls(
         &mut self,
         alloc: Global,
         tokens: &Tokens<'_>,
         found: &mut FoundWarnings<'_>,
-    ) -> Result<(), AllocError> {
+    ) -> Result<Landmarks, AllocError> {
+        let mut landmarks = Landmarks::new(alloc);
         let mut walk = CallWalk::new();
         for at in 0..tokens.len() {
             if let Some(kind) = tokens.kind(at) {
+                landmarks.note(at, kind)?;
                 walk = walk.behind(kind);
-                if let Some(name) = self.note_name(tokens, at, walk) {
-                    self.warn(alloc, tokens, at, Mistake::SharedWord(name), found)?;
-                }
-                if let Some(barred) = walk.barred(kind) {
-                    self.warn(alloc, tokens, at, Mistake::Barred(barred), found)?;
-                }
-                if let Some(argument) = walk.argument_behind(at, kind) {
-                    note_bits(&mut self.objects, tokens, argument);
-                    if let Some(wrong) = self.wrong(tokens, argument) {
-                        let mistake = Mistake::Argument(argument, wrong);
-                        self.warn(alloc, tokens, argument.at, mistake, found)?;
-                    }
-                }
+                self.look_at_token(alloc, tokens, (at, kind), walk, found)?;
             }
         }
-        Ok(())
+        Ok(landmarks)
     }
 }
 
@@ -192,10 +227,11 @@ fn body_beside(tokens: &Tokens<'_>, at: usize, entries: &[Name]) -> Option<Name>
 fn warn_of_bodies(
     alloc: Global,
     entries: &[Name],
-    src: &Tokens<'_>,
+    (src, landmarks): (&Tokens<'_>, &Landmarks),
     found: &mut FoundWarnings<'_>,
 ) -> Result<(), AllocError> {
-    for at in 0..src.len() {
+    for place in &landmarks.structure {
+        let at = *place;
         if let Some(body) = body_beside(src, at, entries) {
             let words = [
                 Word::Text("no static API names the body "),
@@ -276,6 +312,21 @@ impl Warnings {
         })
     }
 
+    /// Looks at the landmarks of the bodies.
+    fn look_at_bodies(
+        &self,
+        alloc: Global,
+        (src, landmarks): (&Tokens<'_>, &Landmarks),
+        found: &mut FoundWarnings<'_>,
+    ) -> Result<(), AllocError> {
+        warn_of_indices(alloc, (src, landmarks), found)?;
+        warn_of_arithmetic(alloc, (src, landmarks), found)?;
+        warn_of_loops(alloc, (src, landmarks), found)?;
+        warn_of_unreached(alloc, (src, landmarks), found)?;
+        warn_of_locks(alloc, (src, landmarks), &self.objects, found)?;
+        warn_of_bits(alloc, (src, landmarks), &self.objects, found)
+    }
+
     /// Looks at the tokens of both texts.
     fn look(
         &mut self,
@@ -284,16 +335,11 @@ impl Warnings {
         src: &Tokens<'_>,
         found: &mut FoundWarnings<'_>,
     ) -> Result<(), AllocError> {
-        self.calls(alloc, src, found)?;
-        warn_of_indices(alloc, src, found)?;
-        warn_of_arithmetic(alloc, src, found)?;
-        warn_of_loops(alloc, src, found)?;
-        warn_of_unreached(alloc, src, found)?;
-        warn_of_locks(alloc, src, &self.objects, found)?;
-        warn_of_bits(alloc, src, &self.objects, found)?;
-        warn_of_sleeps(alloc, cfg, src, &self.objects, found)?;
+        let landmarks = self.calls(alloc, src, found)?;
+        self.look_at_bodies(alloc, (src, &landmarks), found)?;
+        warn_of_sleeps(alloc, (src, &landmarks), &self.objects, found)?;
         let entries = entries(alloc, cfg)?;
-        warn_of_bodies(alloc, &entries, src, found)?;
+        warn_of_bodies(alloc, &entries, (src, &landmarks), found)?;
         warn_of_constants(alloc, cfg, found)?;
         self.neglected(alloc, cfg, found)
     }

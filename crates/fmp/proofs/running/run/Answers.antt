@@ -16,4 +16,4 @@ returns g c =
     let same : map (λ word. word.now) c.deref.result.now ≡ map string_bytes c.args.words.now = ap
     (map (λ word. word.now)) c.deref.ensures.value ∙ c.in-Ok.ensures in
     let kind = kind_of c.in-Err-command.error in
-    refused kind (subst (λ words. IsRefused words kind) same c.in-Err-command.ensures.refused) c.refuse.ensures
+    refused kind (subst (λ words. IsRefused words kind) same c.in-Err-command.ensures.refused) c.refuse_form.ensures
