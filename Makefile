@@ -1,8 +1,11 @@
+# make [help]
 # make quick [JOBS=2]
 # make install [PREFIX=/usr/local] [DESTDIR=] [QUICK=1]
 # make uninstall [PREFIX=/usr/local] [DESTDIR=]
 # make library
 # make install-c [PREFIX=/usr/local] [DESTDIR=] [QUICK=1]
+#
+# `help` prints this.
 #
 # `quick` builds optimized programs and the library for C below quick/, in minutes and with no proof: they say
 # `proved=no`. What stands there is built again only where its sources changed. JOBS are built at once, with up to 2 GB
@@ -13,6 +16,10 @@
 # `uninstall` removes these files. `install` builds nothing: each program stands in its crate's folder out once `rt run`
 # there, or the gate, has proved it. `install-c` is for the library alone. PREFIX and DESTDIR may have blanks in them.
 # With QUICK=1 both copy what `quick` built.
+
+.PHONY: help
+help:
+	@sed -n -e '/^#/!q' -e 's/^# \{0,1\}//p' Makefile
 
 PREFIX ?= /usr/local
 JOBS ?= 2

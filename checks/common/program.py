@@ -20,7 +20,7 @@ def located(crate, path=None):
 
 def unmarked(text):
     """What a program prints, without the mark at the end of a claim of one that `make quick` has built."""
-    return text.replace(", proved=no\n", "\n")
+    return text.replace(", proved=no\n", "\n").replace(', proved=no"', '"')
 
 
 def program_of_words(about, crate):

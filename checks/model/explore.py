@@ -18,6 +18,7 @@ import re
 import subprocess
 import sys
 from collections import Counter
+from copy import deepcopy
 from dataclasses import replace
 from pathlib import Path
 
@@ -26,18 +27,18 @@ sys.path[0] = str(Path(__file__).resolve().parents[1])  # the folder `checks`, w
 
 from model.bodies import Call, Statement  # noqa: E402
 from model.harness import SECONDS, expect, main, replayed  # noqa: E402
-from model.schedules import (  # noqa: E402
-    Question, goes_on_for_ever, inside_after, is_deadlock, searched, state_key, tells,
-)
+from model.schedules import Question, goes_on_for_ever, is_deadlock, searched, state_key, tells  # noqa: E402
+from model.sentences import FAULTS, Between, Happening, after_lines, broken_in, starts  # noqa: E402
 from model.systems import Generator  # noqa: E402
 
 MOST = 1_000
 BOUND = 12  # the greatest small bound
 NEVERS = ("E_QOVR", "E_ILUSE")
-FAULTS = ("F_OVF", "F_DIV", "F_IDX")
+EXPECT = "system.expect"  # the text of expectations
 SECTIONS = ((101, 102), (103, 104), (101, 104))  # the values by which tasks enter and leave
 KINDS = ("plain", "sections", "rest")
 ENDLESS = "a body that goes on for ever"
+STUCK = "a task that can never go on"
 NEVER_GOES_ON = r"T(\d+) .*, and can never go on though others run"
 
 
@@ -75,15 +76,16 @@ def asked(case, kind, chosen):
     return case, question
 
 
-def explored(trial, bound, question):
-    """What `fmp_view explore` ends with and prints."""
-    words = [word for never in NEVERS for word in ("--never", never)]
+def explored(trial, bound, question, most=MOST):
+    """What `fmp_view explore` ends with and prints, at this many states at most."""
+    words = [word for never in question.nevers if never not in FAULTS for word in ("--never", never)]
     words += [word for enters, leaves in question.sections for word in ("--alone", f"{enters},{leaves}")]
     words += [word for number in sorted(question.rest) for word in ("--rest", f"T{number}")]
+    words += ["--expect", EXPECT] if question.sentences else []
     words += ["--ticks", "idle"] if question.idle_ticks else []
     words += ["--ints", str(question.interrupts)] if question.interrupts is not None else []
     words += ["--queued", str(question.queued)] if question.queued is not None else []
-    words += ["--bound", str(bound), "--states", str(MOST)]
+    words += ["--bound", str(bound), "--states", str(most)]
     done = subprocess.run([trial.programs["fmp_view"], "explore", "system.cfg", "system.src", *words], cwd=trial.folder,
                           capture_output=True, text=True, check=False, timeout=SECONDS)
     return done.returncode, done.stdout
@@ -96,60 +98,116 @@ def numbers_of(text):
     return tuple(map(int, found.groups()))
 
 
+def lines_of_last(kernel):
+    """The lines of the last event that was done, or of setup."""
+    return [line for line in kernel.world.lines if line.startswith(f"{kernel.world.event} ")]
+
+
+def sentence_at(trial, place):
+    """A line of the text of expectations, without its comment."""
+    return " ".join(trial.read(EXPECT).split("\n")[place].split("#")[0].split())
+
+
+def claimed(sentence):
+    """A sentence as a claim has it: one about two values that are put is as the option for them, and what must not
+    happen until something is said the other way round."""
+    sentence = re.sub(r"between put\((-?\d+)\) and put\((-?\d+)\) one at a time", r"alone \1,\2", sentence)
+    return re.sub(r"never ((?:(?! after ).)*) until (.*)", r"\2 before \1", sentence)
+
+
 def shows_together(kernel, what):
     """By a line of the last event a task enters a section while the one that is named is there."""
-    line, holder, *section = re.fullmatch(r".*: (\d+ .*): while T(\d+) is between put\((\d+)\) and put\((\d+)\)",
+    line, holder, *section = re.fullmatch(r".*: (\d+ .*): while (T\d+) is between (put\(\d+\)) and (put\(\d+\))",
                                           what).groups()
-    section, lines = tuple(map(int, section)), kernel.world.lines
+    sections, lines = (Between(*map(Happening, section)),), kernel.world.lines
     expect(line in lines, f"there is no line '{line}' in the model")
-    inside, _ = inside_after(lines[: lines.index(line)], (section,), (None,))
-    expect(inside == (holder,), f"T{holder} is not in {section} before '{line}'")
-    expect(inside_after([line], (section,), inside)[1], f"'{line}' enters no section")
+    inside, _ = after_lines(sections, (None,), lines[: lines.index(line)])
+    expect(inside == (holder,), f"{holder} is not in {section} before '{line}'")
+    expect(after_lines(sections, inside, [line])[1], f"'{line}' enters no section")
+
+
+def kept_before(kernel, question, place):
+    """What the sentence at a place keeps before the line of the last event that breaks it; nothing if the state behind
+    that event does."""
+    lines, last = kernel.world.lines, lines_of_last(kernel)
+    kept, _ = after_lines(question.watched, starts(question.watched), lines[: len(lines) - len(last)])
+    for line in last:
+        reached, broken = after_lines(question.watched, kept, [line])
+        if place in broken:
+            return kept[place]
+        kept = reached
+    expect(place in broken_in(question.watched, kernel), f"the last event does not break line {place + 1}")
+    return None
+
+
+def shows_broken(trial, kernel, question, what):
+    """The sentence of a line of the text of expectations is broken by the last event or by the state behind it, and
+    told as it stands there; of a section it is told who was inside: its kind."""
+    number, said, holder = re.search(rf"(?:^|: ){EXPECT}:(\d+): (.*?)(?:: while (T\d+) is inside)?$", what).groups()
+    place = int(number) - 1
+    sentence, kept = question.sentences[place], kept_before(kernel, question, place)
+    expect(said == claimed(sentence_at(trial, place)), f"line {number} is not '{said}'")
+    inside = kept if isinstance(sentence, Between) else None
+    expect(holder == inside, f"{inside} is inside in line {number}, not {holder}")
+    return f"a broken `{type(sentence).__name__}`"
 
 
 def shows_stuck(second, kernel, came, number):
     """The task is started, and no events that may come let it go on, by the second search."""
-    inside, _ = inside_after(kernel.world.lines, second.question.sections, second.first[1])
+    kept, _ = after_lines(second.watched, starts(second.watched), kernel.world.lines)
     is_counted = second.question.interrupts is not None
-    key = state_key(kernel, second.codes), inside, came if is_counted else 0
+    key = state_key(kernel, second.codes), kept, came if is_counted else 0
     expect(key in second.never_going_on(number), f"T{number} can go on in the model")
 
 
 def shows(trial, case, bound, second, what, file):
     """Each event of the steps text in this file does something in the model, and after them this is seen: its kind."""
     steps = trial.read(file).splitlines()
-    kernel, came = replayed(case, bound, steps), sum(step.startswith("int") for step in steps)
-    last = [line for line in kernel.world.lines if line.startswith(f"{kernel.world.event} ")]
+    kernel, came = replayed(deepcopy(case), bound, steps), sum(step.startswith("int") for step in steps)
+    last = lines_of_last(kernel)
     if endless := re.search(r"processor (\d) goes on for ever", what):
         expect(goes_on_for_ever(kernel, f"run {endless[1]}"), f"no actor goes on for ever, as in '{what}'")
         return ENDLESS
     if stuck := re.search(NEVER_GOES_ON, what):
         shows_stuck(second, kernel, came, int(stuck[1]))
-        return "a task that can never go on"
+        return STUCK
     if "deadlock" in what:
         expect(is_deadlock(kernel, second.question, came), "there is no deadlock in the model")
         return "a deadlock"
+    if f"{EXPECT}:" in what:
+        return shows_broken(trial, kernel, second.question, what)
     if " is between " in what:
         expect(any(line in what for line in last), f"the last event does not tell '{what}'")
         shows_together(kernel, what)
         return "two tasks in a section"
-    expect(any(tells(line, never) for line in last for never in (*NEVERS, *FAULTS)), f"no line shows '{what}'")
+    expect(any(tells(line, never) for line in last for never in second.question.nevers), f"no line shows '{what}'")
     return "a line"
 
 
-def compare(trial, case, bound, question):
-    """Compares both searches: what was found, or nothing where the system was not examined whole."""
-    status, text = explored(trial, bound, question)
+def is_claimed(trial, question, text):
+    """Whether it was printed that nothing is found: what was asked, in order."""
+    nevers = [f"never {never}" for never in question.nevers if never not in FAULTS]
+    alone = [f"alone {enters},{leaves}" for enters, leaves in question.sections]
+    sentences = [claimed(sentence_at(trial, place)) for place in range(len(question.sentences))]
+    asked = [*nevers, *alone, *(each for each in sentences if each and " rests" not in each), "no deadlock"]
+    return f"\n{', '.join(asked)}" in f"\n{text}"
+
+
+def compare(trial, case, bound, question, most=MOST):
+    """Compares both searches, at this many states at most: what was found, or nothing where the system was not examined
+    whole."""
+    status, text = explored(trial, bound, question, most)
     if status == 5:
         return None
-    second, result = searched(case.system, bound, question, MOST)
+    second, result = searched(case.system, bound, question, most)
     if not result.found and not result.is_whole:
         return None
     is_found = result.found or result.endless
     expect(status == (4 if is_found else 0), f"it ends with status {status}; the second search: {result}")
     numbers = result.states, result.events, result.deep
-    is_stopped = re.search("^stopped", text, re.MULTILINE)
-    expect(is_stopped or numbers_of(text) == numbers, f"it printed {text!r}, and the second search has {numbers}")
+    printed = numbers_of(text)
+    is_stopped = printed[0] == most or re.search("^stopped", text, re.MULTILINE)
+    expect(is_stopped or printed == numbers, f"{numbers} are right, and it printed {text!r}")
     findings = re.findall(r"^(.*): after (\d+) steps?, in (\S+)$", text, re.MULTILINE)
     kinds = [shows(trial, case, bound, second, what, file) for what, _, file in findings]
     others = [(what, int(steps)) for (what, steps, _), kind in zip(findings, kinds) if kind != ENDLESS]
@@ -158,6 +216,8 @@ def compare(trial, case, bound, question):
     for what, steps in others:
         length = len(result.found[0][1])
         expect(steps == length, f"'{what}' was found after {steps} steps, and the second search: {result.found}")
+    is_right = is_claimed(trial, question, text) == (set(kinds) <= {ENDLESS, STUCK})
+    expect(is_right, f"of what was asked it is not claimed that nothing is found, or although it is: {text!r}")
     return ", and ".join(sorted(set(kinds))) if kinds else "nothing"
 
 

@@ -20,10 +20,11 @@ from pathlib import Path
 sys.dont_write_bytecode = True  # the folders of the checks stay as they are
 sys.path[0] = str(Path(__file__).resolve().parents[1])  # the folder `checks`, whose folders are packages
 
-from model.explore import BOUND, FAULTS, MOST  # noqa: E402
+from model.explore import BOUND, MOST  # noqa: E402
 from model.harness import SECONDS, expect, main  # noqa: E402
 from model.kernel import Kernel  # noqa: E402
 from model.schedules import Question, goes_on_for_ever, tells, tries_of  # noqa: E402
+from model.sentences import FAULTS  # noqa: E402
 from model.systems import Generator  # noqa: E402
 
 LISTS = 1_000  # of each system

@@ -10,6 +10,7 @@ from math import inf
 from model.bodies import stretch
 from model.instructions import Code
 from model.kernel import Kernel
+from model.sentences import Between, Happening, Rests, after_lines, broken_in, starts
 from model.world import Handler, State
 
 REFUSED = re.compile(r"\d+ p(\d) (\S+) .*\b(?!E_OK)E_[A-Z]+")  # a line with another code: its processor, and who
@@ -33,16 +34,28 @@ class Searched:
 @dataclass(frozen=True)
 class Question:
     """What is asked: what must never be told, the sections in which one task at a time may be, each the values by
-    which a task enters and leaves, the numbers of the tasks that may wait forever, whether the clock ticks only where
-    no processor can do anything, and how many interrupts may come and how many activations and wakeups of a task may be
-    queued after an event, if those are limited."""
+    which a task enters and leaves, the lines of a text of expectations, each as one sentence, the numbers of the tasks
+    that may wait forever, whether the clock ticks only where no processor can do anything, and how many interrupts may
+    come and how many activations and wakeups of a task may be queued after an event, if those are limited."""
 
     nevers: tuple = ()
     sections: tuple = ()
+    sentences: tuple = ()
     rest: frozenset = frozenset()
     idle_ticks: bool = False
     interrupts: int | None = None
     queued: int | None = None
+
+    @property
+    def watched(self):
+        """All that is kept of a run and judged: the sentences of the text, and one for each section."""
+        sections = [Between(*(Happening(f"put({value})") for value in section)) for section in self.sections]
+        return (*self.sentences, *sections)
+
+    @property
+    def resting(self):
+        """The numbers of the tasks that may wait forever, by an option or by a sentence."""
+        return self.rest | {int(each.task[1:]) for each in self.sentences if isinstance(each, Rests)}
 
     def lets(self, event, came, done):
         """Whether an event may come where this many interrupts came, and events of these kinds did something."""
@@ -133,26 +146,6 @@ def tries_of(system):
     return [*runs, "tick", *(f"int {number}" for number in sorted(h.number for h in system.interrupt_handlers))]
 
 
-def holder_after(line, section, holder):
-    """The task that is in a section after a line, by its number, and whether it entered while another was there."""
-    enters, leaves = section
-    number, told = OF_TASK.match(line).groups() if OF_TASK.match(line) else (None, "")
-    if told.startswith(f"put({enters}) "):
-        return number, holder not in (None, number)
-    is_own = number == holder and (told.startswith(f"put({leaves}) ") or told.startswith(("end", "F_")))
-    return None if is_own or told == f"ter_tsk({holder}) E_OK" else holder, False
-
-
-def inside_after(lines, sections, inside):
-    """Who is in each section after these lines, and the sections that a task entered while another was there."""
-    met = set()
-    for line in lines:
-        after_line = [holder_after(line, section, holder) for section, holder in zip(sections, inside)]
-        inside = tuple(holder for holder, _ in after_line)
-        met |= {section for section, (_, is_met) in zip(sections, after_line) if is_met}
-    return inside, met
-
-
 def actors_of(lines):
     """The numbers of the tasks of whose going on these lines tell: a call, the end of a wait, an end or a fault of
     theirs; or that they are terminated."""
@@ -196,7 +189,7 @@ def is_deadlock(kernel, question, came):
     """Whether no event but a tick does anything that may still come after this many interrupts, no time runs, and a
     task that may not wait forever is started."""
     events = [event for event in tries_of(kernel.system) if event != "tick" and question.lets(event, came, ())]
-    return is_stuck(kernel.world, question.rest) and not any(after(kernel, event) for event in events)
+    return is_stuck(kernel.world, question.resting) and not any(after(kernel, event) for event in events)
 
 
 def is_behind_place(kernel, number, name):
@@ -227,16 +220,19 @@ def searched(system, bound, question, most):
 
 class Search:
     """A search under way. The keys of the states that were seen, in the order in which they were, have the key before
-    them, the event between, and the depth. The key of a state has who is in each section, and how many interrupts came
-    where that is limited. An edge has the key before an event that did something, the one after it, and the tasks that
-    went on by it. Of the states in which an event was left out, since it would queue too much, the keys are kept."""
+    them, the event between, and the depth. The key of a state has what each sentence keeps, and how many interrupts
+    came where that is limited. An edge has the key before an event that did something, the one after it, and the tasks
+    that went on by it. Of the states in which an event was left out, since it would queue too much, the keys are
+    kept."""
 
     def __init__(self, system, bound, question, most, outs):
         self.start, self.question, self.most = Kernel(system, bound), question, most
         self.tries = tries_of(system)
         self.codes = [Code(body, outs) for body in system.bodies]
         self.outs, self.is_lost = outs, False
-        self.first = state_key(self.start, self.codes), len(question.sections) * (None,), 0
+        self.watched = question.watched
+        kept, _ = after_lines(self.watched, starts(self.watched), self.start.world.lines)
+        self.first = state_key(self.start, self.codes), kept, 0
         self.seen = {self.first: (None, None, 0)}
         self.edges, self.cut = [], set()
         self.queue = deque([(self.start, self.first)])
@@ -257,7 +253,7 @@ class Search:
             return set()
         actor = kernel.world.processors[int(event.split()[1]) - 1].actor
         number = None if isinstance(actor, Handler) else actor.number
-        if number in self.question.rest:
+        if number in self.question.resting:
             return set()
         self.result.endless.setdefault(actor.body, self.path(key))
         return {number} - {None}
@@ -271,10 +267,10 @@ class Search:
         for line in lines:
             if any(tells(line, never) for never in self.question.nevers):
                 result.found.append((line.split(" ", 1)[1], [*self.path(key), event]))
-        inside, met = inside_after(lines, self.question.sections, key[1])
-        result.found += [(f"two in {section}", [*self.path(key), event]) for section in met]
+        kept, broken = after_lines(self.watched, key[1], lines)
+        result.found += [(self.watched[place], [*self.path(key), event]) for place in broken]
         is_counted = event.startswith("int") and self.question.interrupts is not None
-        reached = state_key(kernel, self.codes), inside, key[2] + is_counted
+        reached = state_key(kernel, self.codes), kept, key[2] + is_counted
         if reached not in self.seen:
             self.seen[reached] = key, event, self.seen[key][2] + 1
             self.queue.append((kernel, reached))
@@ -282,6 +278,7 @@ class Search:
 
     def examine(self, kernel, key):
         done = set()
+        self.result.found += [(self.watched[place], self.path(key)) for place in broken_in(self.watched, kernel)]
         for event in self.tries:
             reached = after(kernel, event) if self.question.lets(event, key[2], done) else None
             if reached is None:
@@ -292,7 +289,7 @@ class Search:
                 self.cut.add(key)
                 continue
             self.note(reached, key, event, self.note_endless(kernel, key, event))
-        if "run" not in done and is_stuck(kernel.world, self.question.rest):
+        if "run" not in done and is_stuck(kernel.world, self.question.resting):
             if "int" in done:
                 self.result.waits = True
             else:
@@ -316,7 +313,7 @@ class Search:
     def note_stuck(self):
         """Where nothing was found: each task that can never go on from some state."""
         for task in self.start.system.tasks:
-            if task.number not in self.question.rest and (keys := self.never_going_on(task.number)):
+            if task.number not in self.question.resting and (keys := self.never_going_on(task.number)):
                 self.result.found.append((f"{task.name} can never go on", self.path(keys[0])))
 
     def run(self):

@@ -34,9 +34,12 @@ UNIT = "is no number; a number has no suffix and no unit: times are in ticks"
 ASSIGNED = "; only `=` changes a variable, as in `x = x + 1`"
 FUNCTION = "there are no functions; a body begins `task NAME {` or `handler NAME {`"
 VARIABLE = "a variable stands in a body; `CRE_SHR` makes a word that bodies share"
+OUTSIDE = "expected `task`, `handler` or the end of the text, found "
 PARAMETERS = "expected `{`, found `(`; a body has no parameters: `exinf` is its first variable"
 SEPARATED = "; tokens are separated by spaces, tabs and line ends"
 BRACES = "; the statements of `if`, `else` and `while` stand in braces"
+OF_FMP3 = "`fmp_view import` reads configurations of FMP3"
+DECLARED = "; `var` at the head of the body declares one"
 FLAG = "made of `TA_TPRI`, `TA_WMUL` and `TA_CLR`, 0 to 7"
 
 # A configuration; the line, the column and the bytes that are marked; the code; the sentence.
@@ -57,7 +60,7 @@ CONFIGURATIONS = [
     (ONE + "CRE_TSK(T, { 0, 0, m, 1, 256 + 256, NULL }); }", 1, 57, 1, "B1",
      "expected `,` and `NULL` of `CRE_TSK`, found `+`; only `|` joins values"),
     (ONE + "CRE_SHR(W, { 1 + 1 }); }", 1, 43, 1, "B1",
-     "expected `}` behind the last value of `CRE_SHR`, found `+`; only `|` joins values"),
+     "expected `}` after the last value of `CRE_SHR`, found `+`; only `|` joins values"),
     (ONE + "CRE_SEM(S, { (TA_TFIFO), 0, 1 }); }", 1, 41, 1, "B1",
      "expected the attribute of `CRE_SEM`, found `(`; a value has no parentheses and no cast"),
     ("NUM_PRC(1); CLAS(TCL_1) { }", 1, 13, 4, "B1",
@@ -73,10 +76,18 @@ CONFIGURATIONS = [
     (ONE + "CRE_SEM(S, { 0, 0 }); }", 1, 46, 1, "B1",
      "expected `,` and the greatest count of `CRE_SEM`, found `}`"),
     (ONE + "CRE_SEM(S, { 0, 0, 1, 1 }); }", 1, 48, 1, "B1",
-     "expected `}` behind the last value of `CRE_SEM`, found `,`"),
+     "expected `}` after the last value of `CRE_SEM`, found `,`"),
     (ONE + "CRE_SEM(put, { 0, 0, 1 }); }", 1, 36, 3, "B1",
      "expected a name for a semaphore, found the service call `put`"),
-    (ONE + "CRE_SEM(S, 0, 0, 1); }", 1, 39, 1, "B1", "expected `{`, found the number 0"),
+    (ONE + "CRE_SEM(S, 0, 0, 1); }", 1, 39, 1, "B1",
+     "expected `{`, found the number 0; the values of a static API stand in braces"),
+    (ONE + "CRE_SEM(\"S\", { 0, 0, 1 }); }", 1, 36, 1, "B1",
+     "no token begins with `\"`; a name stands without quotes"),
+    (ONE + "CRE_CYC(C, { TA_STA, { TNFY_HANDLER, 0, h }, 1, 0 }); }", 1, 49, 1, "B1",
+     "expected the extended information of `CRE_CYC`, found `{`; " + OF_FMP3),
+    (ONE + "}\ntask m { }", 2, 1, 4, "B1",
+     "expected `CLASS` or the end of the text, found `task`; a body stands in the task text"),
+    (ONE + "};", 1, 29, 1, "B1", "expected `CLASS` or the end of the text, found `;`; no `;` stands after this `}`"),
     (ONE + "CRE_TSK(T, { 0, 0, m, 1, 64, 0 }); }", 1, 57, 1, "B1", "expected `NULL` of `CRE_TSK`, found the number 0"),
     (ONE + "CRE_TASK(T, { 0, 0, m, 1, 64, NULL }); }", 1, 28, 8, "B1",
      "`CRE_TASK` is no static API; did you mean `CRE_TSK`?"),
@@ -110,10 +121,16 @@ CONFIGURATIONS = [
      "there is no class `TCL_2`: with 1 processor they are `TCL_1` and `TCL_1_ONLY`"),
     ("NUM_PRC(2); CLASS(MAIN) { }", 1, 19, 4, "B3",
      "there is no class `MAIN`: with 2 processors they are `TCL_n` and `TCL_n_ONLY` for n from 1 to 2"),
+    ("NUM_PRC(2); CLASS(CLS_PRC1) { }", 1, 19, 8, "B3",
+     "there is no class `CLS_PRC1`: with 2 processors they are `TCL_n` and `TCL_n_ONLY` for n from 1 to 2; " + OF_FMP3),
     ("NUM_PRC(2); CLASS(TCL_1) {\nCRE_SEM(S, { 0, 0, 1 }); }\nCLASS(TCL_2) {\nCRE_FLG(S, { 0, 0 }); }", 4, 9, 1, "B2",
      "`S` is the name of an object already, at line 2"),
     (ONE + "\nCRE_SEM(S, { TA_FIFO, 0, 1 }); }", 2, 14, 7, "B3",
      "`TA_FIFO` is no constant: the attribute of `CRE_SEM` is a value; did you mean `TA_TFIFO`?"),
+    (ONE + "CRE_TSK(T, { TA_RSTR, 0, m, 1, 64, NULL }); }", 1, 41, 7, "B3",
+     "`TA_RSTR` is no constant: the attribute of `CRE_TSK` is a value"),
+    (ONE + "CRE_TSK(T, { TA_ACTT, 0, m, 1, 64, NULL }); }", 1, 41, 7, "B3",
+     "`TA_ACTT` is no constant: the attribute of `CRE_TSK` is a value; did you mean `TA_ACT`?"),
     (ONE + "CRE_TSK(T, { 0, 0, m, MAIN_PRIORITY, 64, NULL }); }", 1, 50, 13, "B3",
      "`MAIN_PRIORITY` is no constant, and none can be defined: the priority of `CRE_TSK` is a number"),
     (ONE + "DEF_INH(INTNO_UART, { 0, h }); }", 1, 36, 10, "B3",
@@ -182,6 +199,13 @@ SOURCES = [
     ("task m { }\nint add(int a) { return a; }", 2, 1, 3, "B1", FUNCTION),
     ("var g;\ntask m { }", 1, 1, 3, "B1", VARIABLE),
     ("static uint32_t count = 0;", 1, 1, 6, "B1", VARIABLE),
+    ("task m { let x; }", 1, 10, 3, "B1",
+     "`let` is left out on purpose: all values are 32-bit numbers, and `var` declares a variable"),
+    ("task m { loop { put(1); } }", 1, 10, 4, "B1", "`loop` is left out on purpose: the only loop is `while`"),
+    ("task m { if (1) { } elif (1) { } }", 1, 21, 4, "B1",
+     "`elif` is left out on purpose: the only choice is `if`, with or without `else`"),
+    ("task m { print(1); }", 1, 10, 5, "B1",
+     "`print` is left out on purpose: `put` prints a number, and nothing prints a text"),
     ("task m { syslog(1); }", 1, 10, 6, "B1",
      "`syslog` is left out on purpose: `put` prints a number, and nothing prints a text"),
     ("task m { put(\"x\"); }", 1, 14, 1, "B1",
@@ -226,7 +250,14 @@ SOURCES = [
     ("task m(intptr_t exinf) { }", 1, 7, 1, "B1", PARAMETERS),
     ("tusk m { }", 1, 1, 4, "B1", "expected `task` or `handler`, found the name `tusk`; did you mean `task`?"),
     ("taks m { }", 1, 1, 4, "B1", "expected `task` or `handler`, found the name `taks`; did you mean `task`?"),
-    ("task m { } }", 1, 12, 1, "B1", "expected `task`, `handler` or the end of the text, found `}`"),
+    ("task m { } }", 1, 12, 1, "B1", OUTSIDE + "`}`; the body `m` ended at line 1"),
+    ("task m { put(1); } put(2); }", 1, 20, 3, "B1", OUTSIDE + "the service call `put`; the body `m` ended at line 1"),
+    ("task m { }\ntask n {\n}\nexinf = 1;", 4, 1, 5, "B1",
+     OUTSIDE + "the name `exinf`; the body `n` ended at line 3"),
+    ("task m { };", 1, 11, 1, "B1", OUTSIDE + "`;`; no `;` stands after this `}`"),
+    ("cyclic beat { }", 1, 1, 6, "B1",
+     "expected `task` or `handler`, found the name `cyclic`; a body begins `task NAME {` or `handler NAME {`"),
+    ("task m(exinf) { }", 1, 7, 1, "B1", PARAMETERS),
     ("task m { retrun; }", 1, 16, 1, "B1", "expected `=` or `[`, found `;`; did you mean `return`?"),
     ("task m { whlie (1) { } }", 1, 10, 5, "B1", "`whlie` is no service call; did you mean `while`?"),
     ("task m { else { } }", 1, 10, 4, "B1",
@@ -234,7 +265,8 @@ SOURCES = [
     ("task m { while (1) { } continue; }", 1, 24, 8, "B1", "`continue` stands in no loop"),
     ("task m { if (1 { } }", 1, 16, 1, "B1", "expected an operator or `)`, found `{`"),
     ("task m { put(1 + ); }", 1, 18, 1, "B1", "expected an operand: a number, a constant, a name or `(`, found `)`"),
-    ("task m { put(&exinf); }", 1, 14, 1, "B1", "expected an expression, argument 1 of `put`, found `&`"),
+    ("task m { put(&exinf); }", 1, 14, 1, "B1",
+     "expected an expression, argument 1 of `put`, found `&`; `&` stands before a variable that gets a value"),
     ("task m { break; }", 1, 10, 5, "B1", "`break` stands in no loop"),
     ("task m { if (1) put(1); }", 1, 17, 3, "B1", "expected `{`, found the service call `put`" + BRACES),
     ("task m { if (1) { } else put(1); }", 1, 26, 3, "B1",
@@ -245,7 +277,12 @@ SOURCES = [
     ("task m { return\nexinf = 1; }", 1, 16, 1, "B1", "expected `;`, found the name `exinf`"),
     ("task m { put(1); var x; }", 1, 18, 3, "B1",
      "variables are declared at the head of a body, before its statements"),
-    ("task m { put(act_tsk(1)); }", 1, 14, 7, "B1", "a service call is a statement, and no part of an expression"),
+    ("task m { put(act_tsk(1)); }", 1, 14, 7, "B1",
+     "a service call is a statement, and no part of an expression; `x = act_tsk(..);` keeps its answer"),
+    ("task m { if (pol_sem(SEM) == E_OK) { } }", 1, 14, 7, "B1",
+     "a service call is a statement, and no part of an expression; `x = pol_sem(..);` keeps its answer"),
+    ("task m { exinf = pol_sem(SEM) == E_OK; }", 1, 30, 1, "B1",
+     "expected `;`, found `==`; a service call stands alone, or alone to the right of `=`"),
     ("task m { wup_tks(1); }", 1, 10, 7, "B1", "`wup_tks` is no service call; did you mean `wup_tsk`?"),
     ("task m { put(012); }", 1, 14, 1, "B1", "`012` " + OCTAL),
     ("task m { var a[3; }", 1, 17, 1, "B1", "expected `]`, found `;`"),
@@ -253,8 +290,27 @@ SOURCES = [
     ("task m { var a[3]; put(a[1); }", 1, 27, 1, "B1", "expected an operator or `]`, found `)`"),
     ("task m { a[1 = 2; }", 1, 14, 1, "B1", "expected an operator or `]`, found `=`"),
     ("task m { a[1]; }", 1, 14, 1, "B1", "expected `=`, found `;`"),
-    ("task m { a[put(1)] = 2; }", 1, 12, 3, "B1", "a service call is a statement, and no part of an expression"),
-    ("task m { put(1 << 2); }", 1, 17, 1, "B1", "there are no shifts"),
+    ("task m { a[put(1)] = 2; }", 1, 12, 3, "B1",
+     "a service call is a statement, and no part of an expression; `x = put(..);` keeps its answer"),
+    ("task m { put(1 << 2); }", 1, 17, 1, "B1",
+     "there are no shifts; `x * 2` stands for `x << 1`, and `x / 2` for `x >> 1`"),
+    ("task m { put(exinf->a); }", 1, 20, 1, "B1",
+     "expected an operand: a number, a constant, a name or `(`, found `>`; there are no pointers and no structures"),
+    ("task m { if (not exinf) { } }", 1, 18, 5, "B1",
+     "expected an operator or `)`, found the name `exinf`; `!` negates"),
+    ("task m { if (exinf <> 1) { } }", 1, 21, 1, "B1",
+     "expected an operand: a number, a constant, a name or `(`, found `>`; `!=` is the operator for not equal"),
+    ("task m { while exinf < 3 { } }", 1, 16, 5, "B1",
+     "expected `(`, found the name `exinf`; a condition stands in parentheses"),
+    ("task m { if (exinf === 1) { } }", 1, 22, 1, "B1",
+     "expected an operand: a number, a constant, a name or `(`, found `=`; `==` compares"),
+    ("task m { exinf := 1; }", 1, 16, 1, "B1", "no token begins with `:`; `=` gives a variable a value"),
+    ("task m { var x: int; }", 1, 15, 1, "B1",
+     "no token begins with `:`; there are no labels, and a variable has no type"),
+    ("task m { if (exinf and 1) { } }", 1, 20, 3, "B1",
+     "expected an operator or `)`, found the name `and`; `&&` is the operator for and, `||` that for or"),
+    ("task m { var a[2] = { 1, 2 }; }", 1, 18, 1, "B1",
+     "expected `;`, found `=`; a variable is 0 at first, and a statement gives it another value"),
     ("task m { rcv_dtq(1, 2); }", 1, 21, 1, "B1",
      "expected `&` and a variable, the out place of `rcv_dtq`, found the number 2"),
     ("task m { var put; }", 1, 14, 3, "B1", "expected the name of a variable, found the service call `put`"),
@@ -290,12 +346,15 @@ SOURCES = [
      "`sem` is neither a variable of this body, an object nor a constant; did you mean `SEM`?"),
     ("task m { act_tsk(SELF); }", 1, 18, 4, "B3",
      "`SELF` is neither a variable of this body, an object nor a constant; did you mean `TSK_SELF`?"),
+    ("task m { while (true) { put(1); } }", 1, 17, 4, "B3",
+     "`true` is neither a variable of this body, an object nor a constant; 1 is true, and 0 is false"),
     ("task m { put(LF); }", 1, 14, 2, "B3", "`LF` is neither a variable of this body, an object nor a constant"),
     ("task m { put(TA_ACTT); }", 1, 14, 7, "B3",
      "`TA_ACTT` is neither a variable of this body, an object nor a constant; did you mean `TA_ACT`?"),
     ("task run { act_tsk(run); }", 1, 20, 3, "B3",
      "`run` is a body; what stands here is a variable of this body, an object or a constant"),
-    ("task m { x = 1; }", 1, 10, 1, "B3", "`x` is no variable of this body"),
+    ("task m { x = 1; }", 1, 10, 1, "B3", "`x` is no variable of this body" + DECLARED),
+    ("task m { var level; levle = 1; }", 1, 21, 5, "B3", "`levle` is no variable of this body; did you mean `level`?"),
     ("task m { SEM = 1; }", 1, 10, 3, "B3", "`SEM` is a semaphore; only a variable is written"),
     ("task m { get_tid(&SEM); }", 1, 19, 3, "B3", "`SEM` is a semaphore; only a variable is written"),
     ("task m {\n[64 times: var v#;\n]}", 65, 5, 3, "B5",
@@ -303,12 +362,12 @@ SOURCES = [
     ("task m { var a[63]; var b; }", 1, 25, 1, "B5",
      "`b` passes the 64 places of a body: `exinf` and a plain variable take 1, an array its length"),
     ("task m { var a[0]; }", 1, 16, 1, "B5", "an array has 1 to 63 places"),
-    ("task m { var a[3]; put(a); }", 1, 24, 1, "B9", "`a` is an array; an index in brackets must stand behind it"),
+    ("task m { var a[3]; put(a); }", 1, 24, 1, "B9", "`a` is an array; an index in brackets must stand after it"),
     ("task m { var a[3]; get_tid(&a); }", 1, 29, 1, "B9",
      "`a` is an array; the out place of a call is a plain variable"),
     ("task m { var a[3]; a = put(1); }", 1, 20, 1, "B9",
      "`a` is an array; the answer of a call goes to a plain variable"),
-    ("task m { var a[3]; a = 1; }", 1, 20, 1, "B9", "`a` is an array; an index in brackets must stand behind it"),
+    ("task m { var a[3]; a = 1; }", 1, 20, 1, "B9", "`a` is an array; an index in brackets must stand after it"),
     ("task m { var x; put(x[0]); }", 1, 21, 1, "B9", "`x` is no array; only an array has an index"),
     ("task m { put(SEM[0]); }", 1, 14, 3, "B9", "`SEM` is no array; only an array has an index"),
     ("task m { exinf[0] = 1; }", 1, 10, 5, "B9", "`exinf` is no array; only an array has an index"),
@@ -371,6 +430,11 @@ SEVERAL = [
      ("t.src", 5, 15, 1, "B1", "expected an operator or `)`, found `=`; `==` compares"),
      ("t.src", 6, 9, 1, "B1", "no token begins with `\"`; there are no strings, and `put` prints a number"),
      ("t.src", 7, 9, 1, "B3", "`z` " + UNKNOWN)),
+    # A list of values is left out with its semicolon.
+    (OBJECT, "task m {\n    var a[2] = { 1, 2 };\n    put(y);\n}\n",
+     ("t.src", 2, 13, 1, "B1",
+      "expected `;`, found `=`; a variable is 0 at first, and a statement gives it another value"),
+     ("t.src", 3, 9, 1, "B3", "`y` " + UNKNOWN)),
     # What stands between bodies, a heading, and a body that is not closed.
     (OBJECT, "void f(void) { g(); }\nint n;\ntask m { x++; }\ntask k() { put(x); }\nhandler h { put(y); }",
      ("t.src", 1, 1, 4, "B1", FUNCTION),
@@ -408,6 +472,7 @@ ON_TWO = "NUM_PRC(2); CLASS(TCL_1) { CRE_TSK(T, { TA_ACT, 0, m, 1, 64, NULL });\
 WITH_LOCK_AND_SEM = TASK + " CRE_SPN(L, { 0 }); CRE_SEM(S, { 0, 1, 1 }); }"
 DIVISION = "the divisor is 0: this is F_DIV"
 CHAIN = "this compares the outcome of a comparison, 0 or 1; `&&` joins two comparisons"
+MIXED = "a comparison binds tighter than `&`, `|` and `^`: parentheses tell what is meant"
 ENDLESS = "nothing in this loop ends it: it makes no call, has no jump out, and does not change its condition"
 
 # Texts without a fault: the configuration, the bodies, and of each warning the file, the line, the column, the bytes
@@ -479,7 +544,7 @@ WARNINGS = [
      ("t.src", 9, 16, 1, "the argument 0 is out of range; `wai_flg` takes a bit pattern, 1 to 65535"),
      ("t.src", 9, 19, 1, "the argument 2 is out of range; `wai_flg` takes `TWF_ANDW` or `TWF_ORW`, 0 to 1"),
      ("t.src", 10, 13, 8, "the argument -1 is out of range; `dly_tsk` takes a time, 0 to 1073741824"),
-     ("t.src", 17, 17, 5, "nothing sets the bits 65535 of `F`, for which `twai_flg` waits")),
+     ("t.src", 17, 17, 5, "nothing sets the bits 0xffff of `F`, for which `twai_flg` waits")),
     (TASK + " }",
      "task m {\n    var i;\n    var a[2];\n    while (1) { }\n    while (i < 3) { i = i + 1; }\n"
      "    while (i == 0) { put(i); }\n    while (exinf) {\n        while (i < 9) { exinf = 1; }\n    }\n"
@@ -510,6 +575,14 @@ WARNINGS = [
      ("t.src", 8, 20, 1, "2147483647 + 1 does not fit into 32 bits: this is F_OVF"),
      ("t.src", 10, 19, 1, "65536 * 32768 does not fit into 32 bits: this is F_OVF"),
      ("t.src", 13, 30, 2, CHAIN)),
+    # Comparisons as operands of `&`, `|` and `^`: not in parentheses.
+    (TASK + " }",
+     "task m {\n    var x;\n    if (x & 1 == 1) { put(1); }\n    if ((x & 1) == 1) { put(1); }\n"
+     "    x = 1 < x | x;\n    put(x ^ (x != 1) + 2 * x >= 3);\n    if (x == 1 && x & 2) { put(2); }\n"
+     "    x = (x == 1) & (x < 3);\n}\n",
+     ("t.src", 3, 15, 2, MIXED),
+     ("t.src", 5, 11, 1, MIXED),
+     ("t.src", 6, 30, 2, MIXED)),
     # Statements behind a jump.
     (TASK + " }",
      "task m {\n    while (exinf) {\n        if (exinf == 1) { break; put(1); }\n        continue;\n        put(2);\n"
@@ -537,8 +610,8 @@ WARNINGS = [
      "task m {\n    var v;\n    set_flg(F, 2);\n    wai_flg(F, 7, TWF_ANDW, &v);\n    wai_flg(F, 7, TWF_ORW, &v);\n"
      "    wai_flg(F, 3, TWF_ANDW, &v);\n    pol_flg(F, 12, TWF_ORW, &v);\n    set_flg(G, v);\n"
      "    wai_flg(G, 8, TWF_ORW, &v);\n}\n",
-     ("t.src", 4, 16, 1, "nothing sets the bits 4 of `F`, for which `wai_flg` waits"),
-     ("t.src", 7, 16, 2, "nothing sets the bits 12 of `F`, for which `pol_flg` waits")),
+     ("t.src", 4, 16, 1, "nothing sets the bits 0x4 of `F`, for which `wai_flg` waits"),
+     ("t.src", 7, 16, 2, "nothing sets the bits 0xc of `F`, for which `pol_flg` waits")),
     # Sleeps that nothing ends.
     (ONE + "CRE_TSK(T, { TA_ACT, 0, m, 1, 64, NULL });\nCRE_TSK(U, { TA_ACT, 0, n, 1, 64, NULL }); }",
      "task m { slp_tsk(); }\ntask n { slp_tsk(); wup_tsk(U); tslp_tsk(1); }",
@@ -571,8 +644,16 @@ STEPS = [
     ("run 01\n", 1, 5, 2, "S1", "the number begins with 0" + FORMS),
     ("run one\n", 1, 5, 3, "S1", "expected the number of a processor" + FORMS),
     ("int -1\n", 1, 5, 2, "S1", "expected the number of an interrupt" + FORMS),
-    ("tick 1\n", 1, 5, 2, "S1", "expected the end of the line behind `tick`" + FORMS),
+    ("tick 1\n", 1, 5, 2, "S1",
+     "expected the end of the line after `tick`; only a session takes a number there" + FORMS),
+    ("ticks\n", 1, 5, 1, "S1", "expected the end of the line after `tick`" + FORMS),
+    ("run 1 x3\n", 1, 6, 3, "S1", "only a session takes how often an event comes" + FORMS),
+    ("# first\nrun 1\n", 1, 1, 7, "S1", "steps have no comments" + FORMS),
+    ("run 1\nrun 1 // first\n", 2, 7, 8, "S1", "steps have no comments" + FORMS),
     ("run 1\nTick", 2, 1, 4, "S1", "this is no event" + FORMS),
+    ("NUM_PRC(1);\n", 1, 1, 11, "S1", "this is a configuration" + FORMS),
+    ("task m { }\n", 1, 1, 10, "S1", "this is a task text" + FORMS),
+    ("FMPI\x03\x00", 1, 1, 6, "S1", "this is an image" + FORMS),
     ("run 2\nrun 3\n", 2, 5, 1, "S2", RANGES),
     ("run 0\n", 1, 5, 1, "S2", RANGES),
     ("int 33\nrun 3\n", 1, 5, 2, "S2", RANGES),
@@ -588,6 +669,8 @@ PICTURES = {byte: 0x2400 + byte for byte in range(32) if byte != 9} | {127: 0x24
 def report(name, text, line, column, width, code, sentence):
     """What is printed of a fault: the head and the sentence, the line, and the marks under it."""
     shown = text.split("\n")[line - 1].removesuffix("\r").translate(PICTURES)
+    if shown[:4] == "FMPI" and ord(shown[4:5] or " ") in PICTURES.values():  # an image has no lines
+        return f"{name}:{line}:{column}: {code}: {sentence}\n"
     marks = "".join("\t" if letter == "\t" else " " for letter in shown[:column - 1]) + "^" * width
     if len(shown) > 100:
         assert column <= 47 or column == 78  # worked out for these alone
@@ -615,7 +698,14 @@ def findings():
         texts = {"t.cfg": cfg, "t.src": src}
         yield (cfg, src, ""), 0, [(name, texts[name], *place, "warning", sentence)
                                   for name, *place, sentence in warnings]
-    yield (*TWO, "run 1\ntick\nrun 2\nint 32"), 0, []
+    yield (*TWO, "run 1\ntick\nrun 2"), 0, []
+    text = "int 9\nrun 1\nint 32\nint 9\n"
+    yield (*TWO, text), 0, [("t.steps", text, line, 1, width, "warning",
+                             f"no handler is defined for interrupt {number}: this line does nothing")
+                            for line, width, number in ((1, 5, 9), (3, 6, 32))]
+    text = "int 1\nint 2\n"
+    yield (WITH_HANDLER, "task m { wai_sem(S); sig_sem(S); } handler h { }", text), 0, [
+        ("t.steps", text, 2, 1, 5, "warning", "no handler is defined for interrupt 2: this line does nothing")]
 
 
 def described(name, text, line, column, width, code, sentence):

@@ -200,13 +200,29 @@ same 'the image that was no JOURNAL' a.want a.img
 
 printf 'fmp 0.1.0\n' > version
 run 'the version' 0 version none --version
-for bound in 0 281474976710657; do
+# what is no number of an option's range: its words, the option and the range
+while IFS='|' read -r words option range; do
     {
-        printf "error: invalid value '%s' for '--bound <N>': %s is not in 1..=281474976710656\n\n" "$bound" "$bound"
+        printf "error: invalid value '%s' for '%s': it must be %s, in decimal digits\n\n" \
+            "${words##* }" "$option" "$range"
         printf "For more information, try '--help'.\n"
-    } > bound
-    run "a bound of $bound" 2 none bound sim a.img c.steps --bound "$bound"
-done
+    } > range
+    # shellcheck disable=SC2086
+    run "out of range: $words" 2 none range $words
+done << 'END'
+sim a.img c.steps --bound 0|--bound <N>|1 to 2^48
+sim a.img c.steps --bound 281474976710657|--bound <N>|1 to 2^48
+sim a.img c.steps --bound 1e6|--bound <N>|1 to 2^48
+host a.img j --ticks 1 --turns 1048577|--turns <T>|0 to 2^20
+host a.img j --turns 1 --ticks x|--ticks <K>|0 to 2^20
+host a.img j --turns 1 --ticks 1 --tick-us 0|--tick-us <U>|1 to 1000000
+host a.img j --turns 1 --ticks 1 --int 33|--int <I>|1 to 32
+END
+called=$(basename "$subject") # a usage of words that clap refuses names the program as it was called
+misused "$(printf "unrecognized subcommand 'run'\n\n  tip: 'fmp_view run'")" "$called <COMMAND>" > refused
+run 'a command of fmp_view' 2 none refused run a.cfg b.src
+misused "unexpected argument '--seed' found" "$called sim <IMAGE> <STEPS>" > refused
+run 'an option of fmp_view' 2 none refused sim a.img c.steps --seed 4
 run 'a bound of 2^48' 0 a.trace none sim a.img c.steps --bound 281474976710656
 for words in run 'check a.cfg' 'build a.cfg b.src' 'sim a.img' 'check a.cfg b.src c.steps' '--frob' \
     'sim a.img c.steps --bound x' 'host a.img' 'host a.img j' 'host a.img j --turns 1' 'host a.img j --ticks 1' \

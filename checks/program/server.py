@@ -527,12 +527,16 @@ def timed(program):
         least, answer = spent(editor, lambda: editor.ask(f"textDocument/{method}", {**position, "newName": "NEW"}))
         print(f"    {method}: {least:.1f} ms, {len(json.dumps(answer))} bytes")
 
-    def change():
+    def change(text):
         editor.notify("textDocument/didChange", {"textDocument": {"uri": FOLDER + "a.src", "version": 2},
-                                                 "contentChanges": [{"text": src}]})
+                                                 "contentChanges": [{"text": text}]})
         return editor.published(2)
 
-    print(f"    a change, and what is found: {spent(editor, change)[0]:.1f} ms")
+    print(f"    a change, and what is found: {spent(editor, lambda: change(src))[0]:.1f} ms")
+    for old, new in (("== 1", "= 1"), ("* 3);", "* 3)"), ("put(exinf", "put(exin")):
+        place = src.index(old, len(src) * 3 // 4)
+        faulty = src[:place] + new + src[place + len(old):]
+        print(f"    a change of `{old}` to `{new}`: {spent(editor, lambda: change(faulty))[0]:.1f} ms")
     editor.end()
 
 

@@ -33,7 +33,8 @@ from common.tally import Tally  # noqa: E402
 BOUND = "100000"  # where the options give none
 MEMORY = (30_000, 18_000, 12_000, 9_000, 7_000, 6_000, 5_400, 5_000)  # kilobytes that a search may take, less and less
 FURTHER = 300  # events after those of a task that can never go on
-FOLDERS = (ROOT / "checks/schedules/systems", ROOT / "examples")
+FOLDERS = (ROOT / "checks/schedules/systems", ROOT / "examples", ROOT / "bench/searches")
+JOBS = (("prod5", ()), ("count4", ()), ("phil7", ("--states", "60000")), ("flags", ("--states", "5000")))
 SECONDS = 120
 UNSTUCK = "no stuck task was found (searched, not proved)"
 CALLS = "|".join(service.name for service in SERVICES)
@@ -507,6 +508,24 @@ def try_memory(tally, programs):
     tally.verdict("rwnever, with least memory", [], [kind for kind in order[3:] if kind not in ("stopped", "memory")])
 
 
+def seen_with(programs, name, options, jobs):
+    """All that a search with this many jobs ends with, prints, tells on standard error and writes."""
+    with tempfile.TemporaryDirectory() as folder:
+        search = Search(*programs, folder, name, (*options, "--all", "--jobs", jobs))
+        done = subprocess.run(search.words(), cwd=folder, capture_output=True, text=True, check=False, timeout=SECONDS)
+        steps = [path.read_text() for path in sorted(search.folder.glob("found.*"))]
+        return done.returncode, done.stdout, done.stderr, steps
+
+
+def try_jobs(tally, programs):
+    """Searches systems of many states with several jobs, and counts whether each answer is that with one."""
+    for name, options in JOBS:
+        one = seen_with(programs, name, options, "1")
+        for jobs in ("2", "3", "4"):
+            same = "the same" if seen_with(programs, name, options, jobs) == one else "another answer"
+            tally.verdict(f"{name} with {jobs} jobs", "the same", same)
+
+
 def main():
     parser = argparse.ArgumentParser(description="Searches all schedules of systems, and replays what is found.")
     parser.add_argument("view", metavar="VIEW", nargs="?", help="crates/fmp_view/out/fmp_view")
@@ -517,6 +536,7 @@ def main():
     for name, options, row in ROWS:
         try_row(tally, programs, name, options, row)
     try_memory(tally, programs)
+    try_jobs(tally, programs)
     print(f"checks/schedules/schedules.py: {tally}")
     return tally.status
 

@@ -15,7 +15,7 @@ indented lines behind it:
                     command; or `begins LINE`: its first line is this one, and the others are not looked at
     ! LINE          its standard error has this line; or `err FILE`; or `says REGEX`: this is found in it
     < LINE          its standard input has this line; or `in FILE`
-    writes NAME ..  the files that `fmp_view` writes, or else it writes none
+    writes NAME ..  the files that `fmp_view` writes or removes, or else there are none
     NAME: LINE      the file NAME has this line when the row begins
 
 A line that is indented further goes on with the line above, and `#` begins a comment. Each row runs in a folder of its
