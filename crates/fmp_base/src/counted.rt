@@ -8,13 +8,13 @@ use std::alloc::{AllocError, Global};
 use std::marker::Model;
 use std::snapshot::Snapshot;
 
-/// A number of steps. It has no bytes: only the contracts see it.
+/// How much work was done, in steps. It has no bytes: only the contracts see it.
 #[derive(Drop)]
-pub struct Steps {
+pub struct WorkCount {
     tally: Snapshot<Tally>,
 }
 
-impl Model for Steps {
+impl Model for WorkCount {
     ghost use Rattle.std.specs.Prelude.{ℕ};
     ghost use Rattle.fmp_base.specs.Tallies.{count_of};
 
@@ -23,13 +23,13 @@ impl Model for Steps {
     ghost view = { λ s. count_of s.tally.value };
 }
 
-impl Steps {
+impl WorkCount {
     /// None so far.
-    pub fn new() -> Steps
+    pub fn new() -> WorkCount
         ensures { result ≡ 0 }
     {
         let start = Tally::Start;
-        Steps {
+        WorkCount {
             tally: Snapshot::of(&start),
         }
     }
@@ -45,22 +45,22 @@ impl Steps {
     }
 }
 
-/// A number of steps has no bytes.
+/// A count of work has no bytes.
 pub fn steps_are_ghost() -> bool
     ensures { result ≡ true }
 {
-    const _: () = prove!(size_of::<Steps>() == 0);
+    const _: () = prove!(size_of::<WorkCount>() == 0);
     true
 }
 
 /// An array of links, each from its own place to some place. Only `get` and `set` read and write them, and `put_back`,
 /// which is no step, since no call of the kernel makes it.
 #[derive(Drop)]
-pub struct Counted {
+pub struct CountedLinks {
     links: Vec<u32>,
 }
 
-impl Model for Counted {
+impl Model for CountedLinks {
     ghost use Rattle.std.specs.Prelude.{ℕ, List};
 
     ghost Value = { List ℕ };
@@ -68,17 +68,17 @@ impl Model for Counted {
     ghost view = { λ c. c.links.items };
 }
 
-impl Counted {
+impl CountedLinks {
     /// An array of this many links, each to its own place. `AllocError` if memory runs out.
-    pub fn new(alloc: Global, length: u32) -> Result<Counted, AllocError>
+    pub fn new(alloc: Global, length: u32) -> Result<CountedLinks, AllocError>
         ensures { IfOk result (λ c. c ≡ range_with_len 0 length) }
     {
         let links: Vec<u32> = (0..length).collect(alloc)?;
-        Ok(Counted { links })
+        Ok(CountedLinks { links })
     }
 
     /// The link at a place. One step.
-    pub fn get(&self, place: u32, steps: &mut Steps) -> u32
+    pub fn get(&self, place: u32, steps: &mut WorkCount) -> u32
         requires { place < length self.now }
         ensures link { result ≡ link_at self.now place }
         ensures steps { steps.new ≡ steps.old + 1 }
@@ -88,7 +88,7 @@ impl Counted {
     }
 
     /// Writes the link at a place. One step.
-    pub fn set(&mut self, place: u32, link: u32, steps: &mut Steps)
+    pub fn set(&mut self, place: u32, link: u32, steps: &mut WorkCount)
         requires { place < length self.old }
         ensures links { self.new ≡ slice_set self.old place link }
         ensures steps { steps.new ≡ steps.old + 1 }
@@ -98,7 +98,7 @@ impl Counted {
     }
 
     /// Puts the links of another array of this length in the place of these.
-    pub fn put_back(&mut self, from: &Counted)
+    pub fn put_back(&mut self, from: &CountedLinks)
         requires { length self.old ≡ length from.now }
         ensures { self.new ≡ from.now }
     {

@@ -32,7 +32,7 @@ pub use body::Body;
 pub use calls::{Answer, Call, Reply};
 pub use catalogue::{Action, ObjectKind, Parameter};
 pub use codes::Er;
-pub use counted::{Counted, Steps};
+pub use counted::{CountedLinks, WorkCount};
 pub use events::{Effect, Event, Line, StateWord, TaskState};
 pub use names::Name;
 pub use operators::{BinaryOperator, UnaryOperator};

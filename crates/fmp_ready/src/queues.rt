@@ -9,7 +9,7 @@ ghost use Rattle.fmp_ring.specs.RingLists.{is_linked, rotated};
 ghost use Rattle.fmp_ready.specs.ReadyLists.{head, queue_at, with_queue, most_urgent, AreExact};
 
 use crate::bits::{lowest_bit, with_bit, without_bit};
-use fmp_base::Steps;
+use fmp_base::WorkCount;
 use fmp_ring::{Rings, as_byte};
 use std::alloc::{AllocError, Global};
 use std::marker::Model;
@@ -51,7 +51,7 @@ impl ReadyQueues {
     }
 
     /// Puts a task, which stands in no list, last in a queue.
-    pub fn enqueue(&mut self, rings: &mut Rings, p: u8, priority: u8, t: u8, steps: &mut Steps)
+    pub fn enqueue(&mut self, rings: &mut Rings, p: u8, priority: u8, t: u8, steps: &mut WorkCount)
         requires exact { AreExact self.old rings.old }
         requires processor { p < length self.old }
         requires urgent { 1 ≤ priority }
@@ -68,7 +68,7 @@ impl ReadyQueues {
     }
 
     /// Takes a task out of the queue in which it is.
-    pub fn dequeue(&mut self, rings: &mut Rings, p: u8, priority: u8, t: u8, steps: &mut Steps)
+    pub fn dequeue(&mut self, rings: &mut Rings, p: u8, priority: u8, t: u8, steps: &mut WorkCount)
         requires exact { AreExact self.old rings.old }
         requires processor { p < length self.old }
         requires urgent { 1 ≤ priority }
@@ -87,7 +87,7 @@ impl ReadyQueues {
     }
 
     /// Puts the first task of a queue, if any, last (`rot_rdq`).
-    pub fn rotate(&self, rings: &mut Rings, p: u8, priority: u8, steps: &mut Steps)
+    pub fn rotate(&self, rings: &mut Rings, p: u8, priority: u8, steps: &mut WorkCount)
         requires exact { AreExact self.now rings.old }
         requires processor { p < length self.now }
         requires urgent { 1 ≤ priority }
@@ -100,7 +100,7 @@ impl ReadyQueues {
     }
 
     /// The first task of a queue, if any.
-    pub fn first(&self, rings: &Rings, p: u8, priority: u8, steps: &mut Steps) -> Option<u8>
+    pub fn first(&self, rings: &Rings, p: u8, priority: u8, steps: &mut WorkCount) -> Option<u8>
         requires exact { AreExact self.now rings.now }
         requires processor { p < length self.now }
         requires urgent { 1 ≤ priority }
@@ -113,7 +113,7 @@ impl ReadyQueues {
     }
 
     /// The task that a processor is to run, if any: the first of its most urgent queue that is not empty.
-    pub fn top(&self, rings: &Rings, p: u8, steps: &mut Steps) -> Option<u8>
+    pub fn top(&self, rings: &Rings, p: u8, steps: &mut WorkCount) -> Option<u8>
         requires exact { AreExact self.now rings.now }
         requires processor { p < length self.now }
         ensures value { result ≡ most_urgent rings.now p }

@@ -8,7 +8,7 @@ ghost use Rattle.fmp_ring.specs.Orders.{IsOrder};
 ghost use Rattle.fmp_ring.specs.RingLists.{AreDisjoint, list_at, is_in, is_linked, rotated, behind_first, follower};
 ghost use Rattle.fmp_ring.specs.RingLists.{inserted_before, with_before, without_node};
 
-use fmp_base::{Counted, Steps};
+use fmp_base::{CountedLinks, WorkCount};
 use std::alloc::{AllocError, Global};
 use std::marker::Model;
 
@@ -22,8 +22,8 @@ mod copying;
 pub struct Rings {
     nodes: u16,
     heads: u16,
-    next: Counted,
-    previous: Counted,
+    next: CountedLinks,
+    previous: CountedLinks,
 }
 
 impl Model for Rings {
@@ -39,7 +39,13 @@ impl Model for Rings {
 }
 
 /// Links one place to another, and that one back.
-fn link(next: &mut Counted, previous: &mut Counted, from: u32, to: u32, steps: &mut Steps)
+fn link(
+    next: &mut CountedLinks,
+    previous: &mut CountedLinks,
+    from: u32,
+    to: u32,
+    steps: &mut WorkCount,
+)
     requires from { from < length next.old }
     requires to { to < length previous.old }
     ensures next { next.new ≡ slice_set next.old from to }
@@ -56,8 +62,8 @@ impl Rings {
         ensures { IfOk result (λ r. r ≡ record { nodes = nodes; lists = replicate heads [] }) }
     {
         let places = nodes as u32 + heads as u32;
-        let next = Counted::new(alloc, places)?;
-        let previous = Counted::new(alloc, places)?;
+        let next = CountedLinks::new(alloc, places)?;
+        let previous = CountedLinks::new(alloc, places)?;
         Ok(Rings {
             nodes,
             heads,
@@ -75,7 +81,7 @@ impl Rings {
     }
 
     /// The first of the list of a head, if any. No node stands in that list twice. At most 1 step.
-    pub fn first(&self, h: u16, steps: &mut Steps) -> Option<u16>
+    pub fn first(&self, h: u16, steps: &mut WorkCount) -> Option<u16>
         requires { h < length self.now.lists }
         ensures value { result ≡ first_of (list_at self.now.lists h) }
         ensures node { IfSome result (λ x. x < self.now.nodes) }
@@ -91,7 +97,7 @@ impl Rings {
     }
 
     /// The node that follows another in its list, if any. At most 1 step.
-    pub fn next(&self, x: u16, steps: &mut Steps) -> Option<u16>
+    pub fn next(&self, x: u16, steps: &mut WorkCount) -> Option<u16>
         requires { is_linked x self.now.lists ≡ true }
         ensures value { (h : ℕ)
             → is_in x (list_at self.now.lists h) ≡ true
@@ -108,7 +114,7 @@ impl Rings {
     }
 
     /// Whether a number is that of a node that stands in a list. At most 1 step.
-    pub fn is_linked(&self, x: u16, steps: &mut Steps) -> bool
+    pub fn is_linked(&self, x: u16, steps: &mut WorkCount) -> bool
         ensures value { result ≡ is_linked x self.now.lists }
         ensures steps { AddsAtMost 1 steps.old steps.new }
     {
@@ -119,7 +125,7 @@ impl Rings {
     }
 
     /// Puts a node, which stands in no list, last in the list of a head. At most 5 steps.
-    pub fn push_back(&mut self, h: u16, x: u16, steps: &mut Steps)
+    pub fn push_back(&mut self, h: u16, x: u16, steps: &mut WorkCount)
         requires head { h < length self.old.lists }
         requires node { x < self.old.nodes }
         requires free { is_linked x self.old.lists ≡ false }
@@ -134,7 +140,7 @@ impl Rings {
     }
 
     /// Puts a node, which stands in no list, right before one that stands in one. At most 5 steps.
-    pub fn insert_before(&mut self, x: u16, at: u16, steps: &mut Steps)
+    pub fn insert_before(&mut self, x: u16, at: u16, steps: &mut WorkCount)
         requires node { x < self.old.nodes }
         requires free { is_linked x self.old.lists ≡ false }
         requires there { is_linked at self.old.lists ≡ true }
@@ -156,7 +162,7 @@ impl Rings {
     }
 
     /// Takes a node out of the list in which it stands. At most 5 steps.
-    pub fn remove(&mut self, x: u16, steps: &mut Steps)
+    pub fn remove(&mut self, x: u16, steps: &mut WorkCount)
         requires { is_linked x self.old.lists ≡ true }
         ensures lists { self.new ≡ record self.old { lists = without_node x self.old.lists } }
         ensures gone { is_linked x self.new.lists ≡ false }
@@ -172,7 +178,7 @@ impl Rings {
     }
 
     /// Takes the first of the list of a head, if any. At most 6 steps.
-    pub fn pop_front(&mut self, h: u16, steps: &mut Steps) -> Option<u16>
+    pub fn pop_front(&mut self, h: u16, steps: &mut WorkCount) -> Option<u16>
         requires { h < length self.old.lists }
         ensures value { result ≡ first_of (list_at self.old.lists h) }
         ensures lists { self.new
@@ -190,7 +196,7 @@ impl Rings {
     }
 
     /// Puts the first of the list of a head, if any, last. At most 11 steps.
-    pub fn rotate(&mut self, h: u16, steps: &mut Steps)
+    pub fn rotate(&mut self, h: u16, steps: &mut WorkCount)
         requires { h < length self.old.lists }
         ensures lists { self.new
             ≡ record self.old { lists = slice_set self.old.lists h (rotated (list_at self.old.lists h)) } }

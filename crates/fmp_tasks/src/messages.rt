@@ -5,7 +5,7 @@ ghost use Rattle.fmp_base.specs.Systems.{tables_of};
 ghost use Rattle.fmp_ring.specs.Places.{IsPlace};
 ghost use Rattle.fmp_ring.specs.RingLists.{list_at};
 
-use fmp_base::{QueueOrder, Steps, System};
+use fmp_base::{QueueOrder, System, WorkCount};
 use fmp_ring::Rings;
 
 /// The priority of a message; 1 if there is none.
@@ -19,7 +19,7 @@ fn priority_of(sys: &System, g: u16) -> u8
 }
 
 /// The message before which another comes in a mailbox: the first that is less urgent, if any. Walks from the front.
-fn place(rings: &Rings, sys: &System, x: u16, g: u16, steps: &mut Steps) -> Option<u16>
+fn place(rings: &Rings, sys: &System, x: u16, g: u16, steps: &mut WorkCount) -> Option<u16>
     requires { x < length rings.now.lists }
     ensures { IsPlace (message_priority (tables_of sys.now)) g (list_at rings.now.lists x) result }
 {
@@ -39,7 +39,7 @@ pub fn length_of(rings: &Rings, x: u16) -> u8
     requires few { rings.now.nodes ≤ 255 }
     ensures { result ≡ length (list_at rings.now.lists x) }
 {
-    let mut steps = Steps::new();
+    let mut steps = WorkCount::new();
     let mut count = 0;
     let mut at = rings.first(x, &mut steps);
     while let Some(u) = at {
@@ -60,7 +60,7 @@ pub fn put(rings: &mut Rings, sys: &System, x: u8, order: QueueOrder, g: u8)
               (enqueued order (message_priority (tables_of sys.now)) g (list_at rings.old.lists x));
         } }
 {
-    let mut steps = Steps::new();
+    let mut steps = WorkCount::new();
     let (head, node) = (x as u16, g as u16);
     match order {
         QueueOrder::Fifo => rings.push_back(head, node, &mut steps),

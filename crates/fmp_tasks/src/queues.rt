@@ -13,7 +13,7 @@ ghost use Rattle.fmp_tasks.specs.Joining.{AreOrdered, IsOrdered};
 
 use crate::config::order_of;
 use crate::latest::Latest;
-use fmp_base::{Phase, QueueOrder, Steps, System, TaskBlock, WaitCause, WaitQueue};
+use fmp_base::{Phase, QueueOrder, System, TaskBlock, WaitCause, WaitQueue, WorkCount};
 use fmp_ready::ReadyQueues;
 use fmp_ring::Rings;
 use fmp_ticks::{Cyclics, TickQueue};
@@ -61,7 +61,7 @@ pub fn leave(ready: &mut ReadyQueues, waits: WaitQueues, rings: &mut Rings, x: &
     ensures exact { AreExact ready.new rings.new }
     ensures lent { AreLent waits rings.new }
 {
-    let mut steps = Steps::new();
+    let mut steps = WorkCount::new();
     if is_ready(x) {
         ready.dequeue(rings, x.processor, x.priority, t, &mut steps);
     } else if let Some(queue) = queue_of(x.phase) {
@@ -133,7 +133,7 @@ fn join_by_priority(
     ensures rings { rings.new
         ≡ with_queue waits rings.old queue (behind_equals (priority_in blocks.now) t (queue_at waits rings.old queue)) }
 {
-    let mut steps = Steps::new();
+    let mut steps = WorkCount::new();
     match remembered(latest, blocks, queue, t) {
         Some(u) => waits.join_behind(rings, queue, blocks, t, u, &mut steps),
         None => waits.join(rings, queue, QueueOrder::Priority, blocks, t, &mut steps),
@@ -165,7 +165,14 @@ fn join_queue(
 {
     match order_of(sys, queue) {
         QueueOrder::Fifo => {
-            waits.join(rings, queue, QueueOrder::Fifo, blocks, t, &mut Steps::new());
+            waits.join(
+                rings,
+                queue,
+                QueueOrder::Fifo,
+                blocks,
+                t,
+                &mut WorkCount::new(),
+            );
         }
         QueueOrder::Priority => join_by_priority(waits, rings, latest, blocks, queue, t),
     }
@@ -205,7 +212,7 @@ pub fn join(
     ensures lent { AreLent waits rings.new }
 {
     if is_ready(x) {
-        ready.enqueue(rings, x.processor, x.priority, t, &mut Steps::new());
+        ready.enqueue(rings, x.processor, x.priority, t, &mut WorkCount::new());
     } else if let Some(queue) = queue_of(x.phase) {
         join_queue(waits, rings, latest, sys, blocks, queue, t);
     }
@@ -217,7 +224,7 @@ pub fn set_deadline(deadlines: &mut TickQueue, t: u8, deadline: Option<u32>)
     requires { t < length deadlines.old }
     ensures { deadlines.new ≡ slice_set deadlines.old t deadline }
 {
-    let mut steps = Steps::new();
+    let mut steps = WorkCount::new();
     match deadline {
         Some(when) => deadlines.set(t, when, &mut steps),
         None => deadlines.cancel(t, &mut steps),

@@ -7,7 +7,7 @@ ghost use Rattle.fmp_ticks.specs.Times.{first_due as first_due_of, NoneBefore};
 use crate::deadline_heap::DeadlineHeap;
 use crate::heap::{is_before, rank};
 use crate::times::unset;
-use fmp_base::Steps;
+use fmp_base::WorkCount;
 use std::alloc::{AllocError, Global};
 use std::marker::Model;
 
@@ -45,7 +45,7 @@ impl TickQueue {
 
     /// A task's wait ends when the clock is `when`.
     #[inline(never)]
-    pub fn set(&mut self, t: u8, when: u32, steps: &mut Steps)
+    pub fn set(&mut self, t: u8, when: u32, steps: &mut WorkCount)
         requires { t < length self.old }
         ensures value { self.new ≡ slice_set self.old t (Some when) }
         ensures steps { AddsAtMost 22 steps.old steps.new }
@@ -63,7 +63,7 @@ impl TickQueue {
 
     /// A task that has a deadline has none any more.
     #[inline(never)]
-    fn take_out(&mut self, t: u8, steps: &mut Steps)
+    fn take_out(&mut self, t: u8, steps: &mut WorkCount)
         requires there { t < length self.old }
         requires stood { is_some (slice_index_or self.old t None) ≡ true }
         ensures value { self.new ≡ slice_set self.old t None }
@@ -81,7 +81,7 @@ impl TickQueue {
 
     /// A task has no deadline any more.
     #[inline(always)]
-    pub fn cancel(&mut self, t: u8, steps: &mut Steps)
+    pub fn cancel(&mut self, t: u8, steps: &mut WorkCount)
         requires { t < length self.old }
         ensures value { self.new ≡ slice_set self.old t None }
         ensures steps { AddsAtMost 22 steps.old steps.new }
@@ -92,7 +92,7 @@ impl TickQueue {
     }
 
     /// Of the tasks whose deadline is now the first by number, if any. No deadline lies before now. Nothing changes.
-    pub fn due(&self, now: u32, steps: &mut Steps) -> Option<u8>
+    pub fn due(&self, now: u32, steps: &mut WorkCount) -> Option<u8>
         requires { NoneBefore now self.now }
         ensures value { result ≡ first_due_of now self.now }
         ensures there { IfSome result (λ t. t < length self.now) }

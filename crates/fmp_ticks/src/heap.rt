@@ -4,7 +4,7 @@ ghost use Rattle.fmp_base.specs.Links.{AddsAtMost};
 ghost use Rattle.fmp_ticks.specs.Ranks.{rank as rank_of, rank_in, AreRowsFor, KeepRanks, IsHeap, IsOpenAt, IsHeapBelow};
 ghost use Rattle.fmp_ticks.specs.Slots.{Slots, AreInverse, exchanged, rows_of, held_at};
 
-use fmp_base::Steps;
+use fmp_base::WorkCount;
 
 /// A task and its rank, which are taken out of the rows while the task goes to its slot.
 #[derive(Clone, Copy)]
@@ -24,7 +24,7 @@ pub fn rank(deadline: Option<u32>, task: u8) -> u64
 }
 
 /// Whether a rank is before another. This is one step.
-pub fn is_before(a: u64, b: u64, steps: &mut Steps) -> bool
+pub fn is_before(a: u64, b: u64, steps: &mut WorkCount) -> bool
     ensures value { result ≡ nat_lt a b }
     ensures steps { steps.new ≡ steps.old + 1 }
 {
@@ -34,7 +34,7 @@ pub fn is_before(a: u64, b: u64, steps: &mut Steps) -> bool
 
 /// Of the two children of a slot, the one whose task is first. The result of the comparison is subtracted: a branch
 /// here would be mispredicted half of the time.
-fn first_child(ranks: &[u64], slot: usize, steps: &mut Steps) -> usize
+fn first_child(ranks: &[u64], slot: usize, steps: &mut WorkCount) -> usize
     requires within { slot * 2 + 2 < length ranks.now }
     requires few { length ranks.now ≤ 255 }
     ensures low { slot * 2 + 1 ≤ result }
@@ -95,7 +95,7 @@ fn descend(
     positions: &mut [u8],
     count: usize,
     from: usize,
-    steps: &mut Steps,
+    steps: &mut WorkCount,
 ) -> usize
     requires inverse { AreInverse slots.old positions.old }
     requires long { length ranks.old ≡ length slots.old }
@@ -165,7 +165,7 @@ fn rise(
     positions: &mut [u8],
     from: usize,
     held: HeldTask,
-    steps: &mut Steps,
+    steps: &mut WorkCount,
 ) -> usize
     requires here { from < length slots.old }
     requires long { length ranks.old ≡ length slots.old }
@@ -204,7 +204,7 @@ pub fn mend(
     positions: &mut [u8],
     count: usize,
     slot: usize,
-    steps: &mut Steps,
+    steps: &mut WorkCount,
 )
     requires inverse { AreInverse slots.old positions.old }
     requires long { length ranks.old ≡ length slots.old }
@@ -235,7 +235,7 @@ pub fn enter(
     positions: &mut [u8],
     count: usize,
     slot: usize,
-    steps: &mut Steps,
+    steps: &mut WorkCount,
 )
     requires inverse { AreInverse slots.old positions.old }
     requires long { length ranks.old ≡ length slots.old }
@@ -273,7 +273,7 @@ pub fn leave(
     positions: &mut [u8],
     count: usize,
     slot: usize,
-    steps: &mut Steps,
+    steps: &mut WorkCount,
 )
     requires inverse { AreInverse slots.old positions.old }
     requires long { length ranks.old ≡ length slots.old }

@@ -6,7 +6,7 @@ ghost use Rattle.fmp_ring.specs.Orders.{IsOrder};
 ghost use Rattle.fmp_ring.specs.Places.{IsPlace, Walked};
 ghost use Rattle.fmp_ring.specs.RingLists.{list_at};
 
-use fmp_base::{Steps, TaskBlock};
+use fmp_base::{TaskBlock, WorkCount};
 use fmp_ring::Rings;
 
 /// The priority of a task; 1 if there is none.
@@ -27,7 +27,7 @@ pub fn place_from(
     blocks: &[TaskBlock],
     t: u16,
     start: Option<u16>,
-    steps: &mut Steps,
+    steps: &mut WorkCount,
 ) -> Option<u16>
     requires order { IsOrder rings.now.nodes (list_at rings.now.lists head) }
     requires walked { Walked (priority_in blocks.now) t (list_at rings.now.lists head) start }
@@ -50,7 +50,7 @@ pub fn place(
     head: u16,
     blocks: &[TaskBlock],
     t: u16,
-    steps: &mut Steps,
+    steps: &mut WorkCount,
 ) -> Option<u16>
     requires { head < length rings.now.lists }
     ensures place { IsPlace (priority_in blocks.now) t (list_at rings.now.lists head) result }

@@ -11,7 +11,7 @@ ghost use Rattle.fmp_ring.specs.RingLists.{is_linked, follower};
 ghost use Rattle.fmp_waitq.specs.WaitLists.{head, place_of, AreLent, IsThere, queue_at, with_queue};
 
 use crate::place::{place, place_from};
-use fmp_base::{QueueOrder, Steps, TaskBlock, WaitQueue};
+use fmp_base::{QueueOrder, TaskBlock, WaitQueue, WorkCount};
 use fmp_ring::{Rings, as_byte};
 
 /// How many objects of each kind have wait queues, 0 to 255 each.
@@ -57,7 +57,7 @@ fn head_of(w: WaitQueues, queue: WaitQueue) -> u16
 
 impl WaitQueues {
     /// The first task in a queue, if any.
-    pub fn first(self, rings: &Rings, queue: WaitQueue, steps: &mut Steps) -> Option<u8>
+    pub fn first(self, rings: &Rings, queue: WaitQueue, steps: &mut WorkCount) -> Option<u8>
         requires lent { AreLent self rings.now }
         requires queue { IsThere self.counts queue }
         ensures value { result ≡ first_of (queue_at self rings.now queue) }
@@ -69,7 +69,7 @@ impl WaitQueues {
     }
 
     /// The task that follows another in a queue, if any.
-    pub fn next(self, rings: &Rings, queue: WaitQueue, t: u8, steps: &mut Steps) -> Option<u8>
+    pub fn next(self, rings: &Rings, queue: WaitQueue, t: u8, steps: &mut WorkCount) -> Option<u8>
         requires lent { AreLent self rings.now }
         requires there { list_any (nat_eq t) (queue_at self rings.now queue) ≡ true }
         ensures value { result ≡ follower t (queue_at self rings.now queue) }
@@ -88,7 +88,7 @@ impl WaitQueues {
         order: QueueOrder,
         blocks: &[TaskBlock],
         t: u8,
-        steps: &mut Steps,
+        steps: &mut WorkCount,
     )
         requires lent { AreLent self rings.old }
         requires queue { IsThere self.counts queue }
@@ -119,7 +119,7 @@ impl WaitQueues {
         blocks: &[TaskBlock],
         t: u8,
         other: u8,
-        steps: &mut Steps,
+        steps: &mut WorkCount,
     )
         requires lent { AreLent self rings.old }
         requires queue { IsThere self.counts queue }
@@ -142,7 +142,7 @@ impl WaitQueues {
     }
 
     /// Takes a task out of the queue in which it is.
-    pub fn leave(self, rings: &mut Rings, queue: WaitQueue, t: u8, steps: &mut Steps)
+    pub fn leave(self, rings: &mut Rings, queue: WaitQueue, t: u8, steps: &mut WorkCount)
         requires { list_any (nat_eq t) (queue_at self rings.old queue) ≡ true }
         ensures rings { rings.new ≡ with_queue self rings.old queue (without (queue_at self rings.old queue) t) }
         ensures gone { is_linked t rings.new.lists ≡ false }
@@ -159,7 +159,7 @@ impl WaitQueues {
         queue: WaitQueue,
         blocks: &[TaskBlock],
         t: u8,
-        steps: &mut Steps,
+        steps: &mut WorkCount,
     )
         requires lent { AreLent self rings.old }
         requires queue { IsThere self.counts queue }

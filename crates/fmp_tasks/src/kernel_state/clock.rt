@@ -12,7 +12,7 @@ use crate::kernel_state::KernelState;
 use crate::marks::SettleMarks;
 use crate::queues::set_due_time;
 use crate::restart::{restart_blocks, restart_deadlines, restart_due_times};
-use fmp_base::{Handler, Steps};
+use fmp_base::{Handler, WorkCount};
 
 impl KernelState {
     /// The system clock.
@@ -55,7 +55,7 @@ impl KernelState {
         ensures value { result ≡ first_due (self.now.state.clock + 1) (map (λ x. x.deadline) self.now.state.tasks) }
         ensures there { IfSome result (λ t. t < length self.now.system.tasks) }
     {
-        self.deadlines.due(self.clock + 1, &mut Steps::new())
+        self.deadlines.due(self.clock + 1, &mut WorkCount::new())
     }
 
     /// How many cyclic handlers there are.

@@ -7,7 +7,7 @@ ghost use Rattle.fmp_tasks.specs.Homes.{Standing};
 ghost use Rattle.fmp_ticks.specs.Times.{NoneBefore};
 
 use crate::kernel_state::KernelState;
-use fmp_base::Steps;
+use fmp_base::WorkCount;
 
 impl KernelState {
     /// Each task that is ready or waiting stands in the order, once, and no other one does.
@@ -46,6 +46,6 @@ impl KernelState {
         requires { x < length self.now.system.mailboxes }
         ensures { IsOrder (length self.now.system.messages) (messages_at self.now.state x) }
     {
-        let _ = self.mailboxes.first(x as u16, &mut Steps::new());
+        let _ = self.mailboxes.first(x as u16, &mut WorkCount::new());
     }
 }

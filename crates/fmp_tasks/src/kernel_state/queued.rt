@@ -9,7 +9,7 @@ ghost use Rattle.fmp_tasks.specs.Holding.{messages_holding};
 
 use crate::kernel_state::KernelState;
 use crate::messages::{length_of, put};
-use fmp_base::Steps;
+use fmp_base::WorkCount;
 use fmp_ring::as_byte;
 
 impl KernelState {
@@ -111,7 +111,7 @@ impl KernelState {
     pub fn is_queued(&self, g: u8) -> bool
         ensures { result ≡ is_queued g self.now.state.mailboxes }
     {
-        self.mailboxes.is_linked(g as u16, &mut Steps::new())
+        self.mailboxes.is_linked(g as u16, &mut WorkCount::new())
     }
 
     /// How many messages are in a mailbox. Walks over them.
@@ -127,7 +127,7 @@ impl KernelState {
         requires { x < length self.now.system.mailboxes }
         ensures { result ≡ first_of (messages_at self.now.state x) }
     {
-        as_byte(self.mailboxes.first(x as u16, &mut Steps::new()))
+        as_byte(self.mailboxes.first(x as u16, &mut WorkCount::new()))
     }
 
     /// The message right behind another one in its mailbox; none where that one is the last, or is queued nowhere.
@@ -135,10 +135,10 @@ impl KernelState {
         ensures value { result ≡ follower g (messages_holding self.now.state.mailboxes g) }
         ensures there { IfSome result (λ u. u < length self.now.system.messages) }
     {
-        if !self.mailboxes.is_linked(g as u16, &mut Steps::new()) {
+        if !self.mailboxes.is_linked(g as u16, &mut WorkCount::new()) {
             return None;
         }
-        as_byte(self.mailboxes.next(g as u16, &mut Steps::new()))
+        as_byte(self.mailboxes.next(g as u16, &mut WorkCount::new()))
     }
 
     /// Queues a message, which is queued nowhere, in a mailbox: last in FIFO order (TA_MFIFO), after those that are at
@@ -164,6 +164,6 @@ impl KernelState {
         ensures { self.new
             ≡ record self.old { state = with_messages self.old.state x (behind_first (messages_at self.old.state x)) } }
     {
-        let _ = self.mailboxes.pop_front(x as u16, &mut Steps::new());
+        let _ = self.mailboxes.pop_front(x as u16, &mut WorkCount::new());
     }
 }

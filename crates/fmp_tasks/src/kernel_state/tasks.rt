@@ -13,7 +13,7 @@ ghost use Rattle.fmp_waitq.specs.WaitLists.{IsThere};
 use crate::config::order_of;
 use crate::kernel_state::KernelState;
 use crate::queues::{is_ready as is_able, join, leave, queue_of, set_deadline};
-use fmp_base::{QueueOrder, Steps, TaskBlock, WaitQueue};
+use fmp_base::{QueueOrder, TaskBlock, WaitQueue, WorkCount};
 use fmp_ring::as_byte;
 
 impl KernelState {
@@ -42,7 +42,7 @@ impl KernelState {
         ensures value { result ≡ top self.now.state p }
         ensures there { IfSome result (λ t. t < length self.now.system.tasks) }
     {
-        self.ready.top(&self.rings, p, &mut Steps::new())
+        self.ready.top(&self.rings, p, &mut WorkCount::new())
     }
 
     /// The first ready task of a priority, 1 to 16, on a processor, if any.
@@ -55,7 +55,7 @@ impl KernelState {
         ensures ready { IfSome result (λ t. is_ready (task_at self.now.state.tasks t) ≡ true) }
     {
         self.ready
-            .first(&self.rings, p, priority, &mut Steps::new())
+            .first(&self.rings, p, priority, &mut WorkCount::new())
     }
 
     /// The first task that waits in a queue, if any.
@@ -64,7 +64,7 @@ impl KernelState {
         ensures value { result ≡ first_waiting self.now.system self.now.state queue }
         ensures there { IfSome result (λ t. t < length self.now.system.tasks) }
     {
-        self.waits.first(&self.rings, queue, &mut Steps::new())
+        self.waits.first(&self.rings, queue, &mut WorkCount::new())
     }
 
     /// The task that waits in a queue right behind another one, if any. No task stands in a queue twice.
@@ -75,7 +75,8 @@ impl KernelState {
         ensures there { IfSome result (λ u. u < length self.now.system.tasks) }
         ensures order { IsOrder (length self.now.system.tasks) (wait_queue self.now.system self.now.state queue) }
     {
-        self.waits.next(&self.rings, queue, t, &mut Steps::new())
+        self.waits
+            .next(&self.rings, queue, t, &mut WorkCount::new())
     }
 
     /// The task that stands right behind another one in its queue, the ready queue of its processor and priority or the
@@ -84,10 +85,10 @@ impl KernelState {
         ensures value { result ≡ follower t (queue_holding self.now.system self.now.state t) }
         ensures there { IfSome result (λ u. u < length self.now.system.tasks) }
     {
-        if !self.rings.is_linked(t as u16, &mut Steps::new()) {
+        if !self.rings.is_linked(t as u16, &mut WorkCount::new()) {
             return None;
         }
-        as_byte(self.rings.next(t as u16, &mut Steps::new()))
+        as_byte(self.rings.next(t as u16, &mut WorkCount::new()))
     }
 
     /// Whether a task goes to the end when its priority changes: a ready one, and one in a queue of priority order.
@@ -178,7 +179,7 @@ impl KernelState {
         if let Some(t) = self.first_ready(p, priority) {
             self.marks.mark(p);
             self.ready
-                .rotate(&mut self.rings, p, priority, &mut Steps::new());
+                .rotate(&mut self.rings, p, priority, &mut WorkCount::new());
             self.order.to_end(t);
         }
     }

@@ -1,6 +1,6 @@
 use Rattle.std.proofs.Common.{refl, arith}
 use Rattle.std.proofs.lemmas.Iterator.{items_from_collect, YieldsList-from_range}
-use Rattle.fmp_base.proofs.counted.Counted.new.Goals as goal
+use Rattle.fmp_base.proofs.counted.CountedLinks.new.Goals as goal
 
 pub returns : goal.returns
 returns c =
