@@ -8,7 +8,7 @@ use Rattle.fmp_lex.specs.declared.token.TokenKind.{TokenKind}
 use Rattle.fmp_lex.specs.declared.token.TokenKind.TheVariants as kind
 use Rattle.fmp_export.specs.declared.source.Landmark.{Landmark}
 use Rattle.fmp_export.specs.declared.source.Landmark.TheVariants as landmark
-use Rattle.fmp_export.specs.declared.source.Source as declared
+use Rattle.fmp_export.specs.declared.source.LexedText as declared
 
 pub record SourceText : Type 0 where
   pub text : List ℕ
@@ -16,8 +16,8 @@ pub record SourceText : Type 0 where
   -- C tells its debugger the lines of the text
   pub lines : Bool
 
--- what a `Source` holds
-abbrev pub source_view : declared.Source → SourceText
+-- what a `LexedText` holds
+abbrev pub source_view : declared.LexedText → SourceText
 source_view s = record { text = s.text.now; tokens = s.tokens.items; lines = s.lines }
 
 -- no text at all: numbers are written by their values, and there are no comments

@@ -10,7 +10,7 @@ use crate::pieces::append_number;
 use crate::remarks::{
     append_above, append_behind, append_directive, append_own_lines, other_lines,
 };
-use crate::source::{Landmark, Source, behind, gaps_between};
+use crate::source::{Landmark, LexedText, behind, gaps_between};
 use crate::statements::append_block;
 use crate::text::append;
 use crate::words::{append_function, append_name};
@@ -20,7 +20,7 @@ use std::alloc::{AllocError, Global};
 
 /// Appends the values of a variable when its body begins.
 fn append_initial(
-    source: &Source<'_>,
+    source: &LexedText<'_>,
     length: Option<Length>,
     out: &mut Vec<u8>,
 ) -> Result<(), AllocError>
@@ -39,7 +39,7 @@ fn append_initial(
 /// Appends the declaration of a variable.
 #[tactic(auto, unfolding(crate::specs::Bodies::c_variable))]
 fn append_variable(
-    source: &Source<'_>,
+    source: &LexedText<'_>,
     variable: &Declaration,
     out: &mut Vec<u8>,
 ) -> Result<(), AllocError>
@@ -54,7 +54,7 @@ fn append_variable(
 #[tactic(auto, unfolding(crate::specs::Bodies::c_declared))]
 fn append_declared(
     alloc: Global,
-    source: &Source<'_>,
+    source: &LexedText<'_>,
     before: &[u8],
     gap: &[u8],
     variable: &Declaration,
@@ -73,7 +73,7 @@ fn append_declared(
 /// written already. Gives the place after them.
 fn append_variables(
     alloc: Global,
-    source: &Source<'_>,
+    source: &LexedText<'_>,
     before: &[u8],
     at: usize,
     variables: &[Declaration],
@@ -119,7 +119,7 @@ fn append_heading(
 #[tactic(auto, unfolding(crate::specs::Bodies::c_inside))]
 fn append_inside(
     alloc: Global,
-    source: &Source<'_>,
+    source: &LexedText<'_>,
     before: &[u8],
     at: usize,
     body: &Body,
@@ -139,7 +139,7 @@ fn append_inside(
 /// Appends the function of a body up to its `}`, and gives the place of that.
 fn append_body(
     alloc: Global,
-    source: &Source<'_>,
+    source: &LexedText<'_>,
     body: &Body,
     out: &mut Vec<u8>,
 ) -> Result<usize, AllocError>
@@ -158,7 +158,7 @@ fn append_body(
 #[tactic(auto, unfolding(crate::specs::Bodies::c_commented))]
 fn append_commented(
     alloc: Global,
-    source: &Source<'_>,
+    source: &LexedText<'_>,
     above: &[u8],
     body: &Body,
     out: &mut Vec<u8>,
@@ -185,7 +185,7 @@ fn append_commented(
 /// `above` come first.
 pub fn append_commented_bodies(
     alloc: Global,
-    source: &Source<'_>,
+    source: &LexedText<'_>,
     above: &[u8],
     bodies: &[Body],
     out: &mut Vec<u8>,
@@ -207,7 +207,7 @@ pub fn append_commented_bodies(
 pub fn append_bodies(alloc: Global, bodies: &[Body], out: &mut Vec<u8>) -> Result<(), AllocError>
     ensures { OnOk result (out.new.items ≡ out.old.items ++ c_bodies (map body_view bodies.now)) }
 {
-    append_commented_bodies(alloc, &Source::none(alloc), b"", bodies, out)
+    append_commented_bodies(alloc, &LexedText::none(alloc), b"", bodies, out)
 }
 
 /// Appends the prototype of the function of a body.

@@ -12,7 +12,7 @@ ghost use Rattle.fmp_export.specs.Statements.{c_call};
 
 use crate::expressions::expressions;
 use crate::pieces::{Piece, Risk, joint_risk, matters};
-use crate::source::Source;
+use crate::source::LexedText;
 use crate::text::{append, append_count, inner_margin};
 use crate::words::append_name;
 use fmp_base::Service;
@@ -264,7 +264,7 @@ fn append_call_of(
 #[tactic(auto, unfolding(crate::specs::Statements::c_call))]
 pub fn append_call(
     alloc: Global,
-    source: &Source<'_>,
+    source: &LexedText<'_>,
     front: &[u8],
     margin: &[u8],
     at: usize,

@@ -7,7 +7,7 @@ ghost use Rattle.fmp_export.specs.Pieces.{piece_view};
 ghost use Rattle.fmp_export.specs.Sources.{source_view};
 
 use crate::pieces::{Piece, binary, both, either, element, name, number, unary};
-use crate::source::Source;
+use crate::source::LexedText;
 use fmp_tasklang::{Expression, Link, Operator};
 use std::alloc::{AllocError, Global};
 
@@ -26,7 +26,7 @@ fn joined(alloc: Global, operator: Operator, a: &Piece, b: &Piece) -> Result<Pie
 #[cycle(expressions_in_c)]
 pub fn expression(
     alloc: Global,
-    source: &Source<'_>,
+    source: &LexedText<'_>,
     at: usize,
     e: &Expression,
 ) -> Result<Piece, AllocError>
@@ -54,7 +54,7 @@ pub fn expression(
 #[cycle(expressions_in_c)]
 fn chain(
     alloc: Global,
-    source: &Source<'_>,
+    source: &LexedText<'_>,
     first: Piece,
     links: &[Link],
 ) -> Result<Piece, AllocError>
@@ -72,7 +72,7 @@ fn chain(
 /// Expressions, one after another.
 pub fn expressions(
     alloc: Global,
-    source: &Source<'_>,
+    source: &LexedText<'_>,
     at: usize,
     list: &[Expression],
 ) -> Result<Vec<Piece>, AllocError>

@@ -7,7 +7,7 @@ ghost use Rattle.fmp_export.specs.Sources.{source_view};
 
 use crate::bodies::{append_commented_bodies, append_prototypes, append_rows};
 use crate::objects::append_enumeration;
-use crate::source::{Source, head};
+use crate::source::{LexedText, head};
 use crate::text::append;
 use fmp_base::System;
 use fmp_lex::{BuildFault, Tokens, tokens};
@@ -93,7 +93,7 @@ pub fn append_header(
 #[tactic(auto, unfolding(crate::specs::Files::c_file))]
 fn append_file(
     alloc: Global,
-    source: &Source<'_>,
+    source: &LexedText<'_>,
     program: &Program,
     out: &mut Vec<u8>,
 ) -> Result<(), AllocError>
@@ -116,7 +116,7 @@ pub fn append_c(
     ensures { OnOk result (out.new.items ≡ out.old.items
         ++ c_file (record { text = text.now; tokens = tokens.now; lines = lines }) (program_view program.now)) }
 {
-    let source = Source::new(alloc, text, tokens, lines)?;
+    let source = LexedText::new(alloc, text, tokens, lines)?;
     append_file(alloc, &source, program, out)
 }
 

@@ -8,7 +8,7 @@ ghost use Rattle.fmp_export.specs.Pieces.{piece_view, operand, number_piece, nam
 ghost use Rattle.fmp_export.specs.Pieces.{binary_piece, both_piece, either_piece};
 ghost use Rattle.fmp_export.specs.Words.{c_name};
 
-use crate::source::{Landmark, Source, before, behind, from, landmark_from};
+use crate::source::{Landmark, LexedText, before, behind, from, landmark_from};
 use crate::text::{append, append_signed};
 use crate::words::append_name;
 use fmp_base::{BinaryOperator, Name, UnaryOperator};
@@ -95,7 +95,7 @@ fn append_operand(piece: &Piece, out: &mut Vec<u8>) -> Result<(), AllocError>
 /// Appends a number as it is written at the next number or constant from a place on, or by its value if there is none.
 #[tactic(auto, unfolding(crate::specs::Pieces::number_text))]
 pub fn append_number(
-    source: &Source<'_>,
+    source: &LexedText<'_>,
     at: usize,
     number: i32,
     out: &mut Vec<u8>,
@@ -129,7 +129,7 @@ fn number_shape(number: i32) -> ExpressionShape
 /// A number, or a constant, which is the next one from a place on.
 pub fn number(
     alloc: Global,
-    source: &Source<'_>,
+    source: &LexedText<'_>,
     at: usize,
     number: i32,
 ) -> Result<Piece, AllocError>

@@ -4,7 +4,7 @@ ghost use Rattle.fmp_export.specs.Remarks as spec;
 ghost use Rattle.fmp_export.specs.Remarks.{c_above, c_behind, c_directive, c_finish, c_line_end, own_line, own_lines};
 ghost use Rattle.fmp_export.specs.Sources.{behind, source_view};
 
-use crate::source::{Landmark, Source, before, behind, from, gaps_between};
+use crate::source::{Landmark, LexedText, before, behind, from, gaps_between};
 use crate::text::{append, append_count};
 use std::alloc::{AllocError, Global};
 
@@ -220,7 +220,7 @@ pub fn finish(
     alloc: Global,
     margin: &[u8],
     landmark: Landmark,
-    source: &Source<'_>,
+    source: &LexedText<'_>,
     at: usize,
     out: &mut Vec<u8>,
 ) -> Result<usize, AllocError>
@@ -245,7 +245,11 @@ fn append_line_directive(line: u32, out: &mut Vec<u8>) -> Result<(), AllocError>
 }
 
 /// Appends what tells a debugger that the next line of C is that of the token at a place, if the debugger is to know.
-pub fn append_directive(source: &Source<'_>, at: usize, out: &mut Vec<u8>) -> Result<(), AllocError>
+pub fn append_directive(
+    source: &LexedText<'_>,
+    at: usize,
+    out: &mut Vec<u8>,
+) -> Result<(), AllocError>
     ensures { OnOk result (out.new.items ≡ out.old.items ++ c_directive (source_view source.now) at) }
 {
     match source.tokens.get(at) {

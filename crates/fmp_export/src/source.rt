@@ -10,7 +10,7 @@ use std::alloc::{AllocError, Global};
 
 /// A text and its tokens. With none of both, bodies are written without comments, and numbers by their values.
 #[derive(Drop)]
-pub struct Source<'a> {
+pub struct LexedText<'a> {
     /// The bytes of the text.
     pub text: &'a [u8],
     /// Its tokens, in order.
@@ -90,19 +90,19 @@ fn all_tokens(alloc: Global, tokens: &Tokens<'_>) -> Result<Vec<Token>, AllocErr
     Ok(all)
 }
 
-impl<'a> Source<'a> {
+impl<'a> LexedText<'a> {
     /// A text and its tokens, so that each is looked up at once.
     pub fn new(
         alloc: Global,
         text: &'a [u8],
         tokens: &Tokens<'_>,
         lines: bool,
-    ) -> Result<Source<'a>, AllocError>
+    ) -> Result<LexedText<'a>, AllocError>
         ensures { IfOk result (λ s. source_view s
             ≡ record { text = text.now; tokens = tokens.now; lines = lines }) }
     {
         let tokens = all_tokens(alloc, tokens)?;
-        Ok(Source {
+        Ok(LexedText {
             text,
             tokens,
             lines,
@@ -110,10 +110,10 @@ impl<'a> Source<'a> {
     }
 
     /// No text at all.
-    pub fn none(alloc: Global) -> Source<'a>
+    pub fn none(alloc: Global) -> LexedText<'a>
         ensures { source_view result ≡ no_source }
     {
-        Source {
+        LexedText {
             text: b"",
             tokens: Vec::new(alloc),
             lines: false,
@@ -123,7 +123,7 @@ impl<'a> Source<'a> {
 
 /// The place after the first landmark from a place on; after all tokens if there is none.
 #[tactic(auto, unfolding(crate::specs::Sources::behind))]
-pub fn behind(landmark: Landmark, source: &Source<'_>, at: usize) -> usize
+pub fn behind(landmark: Landmark, source: &LexedText<'_>, at: usize) -> usize
     ensures { result ≡ spec.behind landmark (source_view source.now) at }
 {
     let mut place = at;
@@ -137,7 +137,7 @@ pub fn behind(landmark: Landmark, source: &Source<'_>, at: usize) -> usize
 }
 
 /// The first landmark from a place on.
-pub fn landmark_from(landmark: Landmark, source: &Source<'_>, at: usize) -> Option<Token>
+pub fn landmark_from(landmark: Landmark, source: &LexedText<'_>, at: usize) -> Option<Token>
     ensures { result ≡ landmark_in landmark (drop at source.now.tokens.items) }
 {
     let mut place = at;
@@ -151,7 +151,7 @@ pub fn landmark_from(landmark: Landmark, source: &Source<'_>, at: usize) -> Opti
 }
 
 /// Whether a landmark stands at a place.
-pub fn stands_at(landmark: Landmark, source: &Source<'_>, at: usize) -> bool
+pub fn stands_at(landmark: Landmark, source: &LexedText<'_>, at: usize) -> bool
     ensures { result ≡ spec.stands_at landmark (source_view source.now) at }
 {
     match source.tokens.get(at) {
@@ -205,7 +205,7 @@ fn between<'a>(text: &'a [u8], token: &Token, tokens: &[Token]) -> &'a [u8]
 #[tactic(auto, unfolding(crate::specs::Sources::gaps))]
 pub fn gaps_between(
     alloc: Global,
-    source: &Source<'_>,
+    source: &LexedText<'_>,
     from: usize,
     to: usize,
 ) -> Result<Vec<u8>, AllocError>
@@ -226,7 +226,7 @@ pub fn gaps_between(
 }
 
 /// What stands before the first token.
-pub fn head<'a>(source: &Source<'a>) -> &'a [u8]
+pub fn head<'a>(source: &LexedText<'a>) -> &'a [u8]
     ensures { result.now ≡ head_of (source_view source.now) }
 {
     before(source.text, start(source.text, &source.tokens))

@@ -13,7 +13,7 @@ use crate::calls::append_call;
 use crate::expressions::expression;
 use crate::pieces::{Piece, matters};
 use crate::remarks::{append_directive, finish};
-use crate::source::{Landmark, Source, behind, stands_at};
+use crate::source::{Landmark, LexedText, behind, stands_at};
 use crate::text::{append, inner_margin};
 use crate::words::append_name;
 use fmp_base::Name;
@@ -57,7 +57,7 @@ fn append_store(
 #[tactic(auto, unfolding(crate::specs::Statements::c_assign))]
 fn append_assign(
     alloc: Global,
-    source: &Source<'_>,
+    source: &LexedText<'_>,
     front: &[u8],
     at: usize,
     target: &Word,
@@ -79,7 +79,7 @@ fn append_assign(
 #[tactic(auto, unfolding(crate::specs::Statements::c_assign_element))]
 fn append_assign_element(
     alloc: Global,
-    source: &Source<'_>,
+    source: &LexedText<'_>,
     front: &[u8],
     at: usize,
     array: &Word,
@@ -99,7 +99,7 @@ fn append_assign_element(
 #[tactic(auto, unfolding(crate::specs::Statements::c_head))]
 fn append_head(
     alloc: Global,
-    source: &Source<'_>,
+    source: &LexedText<'_>,
     front: &[u8],
     margin: &[u8],
     word: &[u8],
@@ -124,7 +124,7 @@ fn append_head(
 #[tactic(auto, unfolding(crate::specs::Statements::c_close))]
 fn append_close(
     alloc: Global,
-    source: &Source<'_>,
+    source: &LexedText<'_>,
     margin: &[u8],
     at: usize,
     out: &mut Vec<u8>,
@@ -141,7 +141,7 @@ fn append_close(
 #[tactic(auto, unfolding(crate::specs::Statements::c_jump))]
 fn append_jump(
     alloc: Global,
-    source: &Source<'_>,
+    source: &LexedText<'_>,
     front: &[u8],
     margin: &[u8],
     word: &[u8],
@@ -161,7 +161,7 @@ fn append_jump(
 #[tactic(auto, unfolding(crate::specs::Statements::c_else_head))]
 fn append_else_head(
     alloc: Global,
-    source: &Source<'_>,
+    source: &LexedText<'_>,
     margin: &[u8],
     at: usize,
     out: &mut Vec<u8>,
@@ -194,7 +194,7 @@ fn is_chain(statements: &[Statement]) -> bool
 }
 
 /// Whether this is an `if` alone that stands in no braces after its `else`, which stands after the `}` at a place.
-fn goes_on(source: &Source<'_>, at: usize, otherwise: &[Statement]) -> bool
+fn goes_on(source: &LexedText<'_>, at: usize, otherwise: &[Statement]) -> bool
     ensures { result ≡ spec.goes_on (source_view source.now) at (block_view otherwise.now) }
 {
     is_chain(otherwise)
@@ -210,7 +210,7 @@ fn goes_on(source: &Source<'_>, at: usize, otherwise: &[Statement]) -> bool
 #[cycle(statements_in_c)]
 fn append_statement(
     alloc: Global,
-    source: &Source<'_>,
+    source: &LexedText<'_>,
     front: &[u8],
     margin: &[u8],
     at: usize,
@@ -266,7 +266,7 @@ fn append_statement(
 #[cycle(statements_in_c)]
 fn append_choice(
     alloc: Global,
-    source: &Source<'_>,
+    source: &LexedText<'_>,
     margin: &[u8],
     at: usize,
     otherwise: &[Statement],
@@ -287,7 +287,7 @@ fn append_choice(
 #[cycle(statements_in_c)]
 fn append_chained(
     alloc: Global,
-    source: &Source<'_>,
+    source: &LexedText<'_>,
     margin: &[u8],
     at: usize,
     statements: &[Statement],
@@ -311,7 +311,7 @@ fn append_chained(
 #[cycle(statements_in_c)]
 fn append_closed(
     alloc: Global,
-    source: &Source<'_>,
+    source: &LexedText<'_>,
     margin: &[u8],
     at: usize,
     statements: &[Statement],
@@ -331,7 +331,7 @@ fn append_closed(
 #[cycle(statements_in_c)]
 fn append_inner(
     alloc: Global,
-    source: &Source<'_>,
+    source: &LexedText<'_>,
     margin: &[u8],
     at: usize,
     statements: &[Statement],
@@ -349,7 +349,7 @@ fn append_inner(
 #[cycle(statements_in_c)]
 pub fn append_block(
     alloc: Global,
-    source: &Source<'_>,
+    source: &LexedText<'_>,
     margin: &[u8],
     at: usize,
     statements: &[Statement],

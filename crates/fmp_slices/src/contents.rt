@@ -14,7 +14,7 @@ use std::alloc::{AllocError, Global};
 
 /// What the data is made from.
 #[derive(Clone, Copy)]
-pub struct Source<'a> {
+pub struct PageSource<'a> {
     pub alloc: Global,
     pub sys: &'a System,
     pub run: &'a Run,
@@ -22,7 +22,7 @@ pub struct Source<'a> {
     pub page: PicturePage,
 }
 
-impl Source<'_> {
+impl PageSource<'_> {
     /// Whether an event is drawn.
     fn has(self, event: u32) -> bool {
         self.page.first <= event && event <= self.page.last
@@ -254,7 +254,7 @@ impl Source<'_> {
 }
 
 /// The data of a page, which can stand in a script of HTML. `AllocError` if memory runs out.
-pub fn contents_of(source: Source<'_>) -> Result<Vec<u8>, AllocError>
+pub fn contents_of(source: PageSource<'_>) -> Result<Vec<u8>, AllocError>
     ensures { IfOk result (λ json. All (λ byte. byte ≢ 60) json.items) }
 {
     let mut writer = begin(source.alloc)?;

@@ -1,5 +1,5 @@
 //! The page: its controls, the picture, the data and the script.
-use crate::contents::{Source, contents_of};
+use crate::contents::{PageSource, contents_of};
 use crate::script::SCRIPT;
 use crate::style::STYLE;
 use fmp_base::System;
@@ -51,7 +51,7 @@ pub fn page_of(
     page: PicturePage,
     picture: &[u8],
 ) -> Result<Vec<u8>, AllocError> {
-    let contents = contents_of(Source {
+    let contents = contents_of(PageSource {
         alloc,
         sys,
         run,
