@@ -12,7 +12,7 @@ use crate::kernel_state::KernelState;
 use crate::queues::{is_ready, queue_of};
 use crate::saved::{SavedMessage, SavedState, SavedWord};
 use crate::setup::created;
-use fmp_base::{Handler, Phase, Processor, TaskBlock, WaitQueue};
+use fmp_base::{Handler, Phase, Processor, TaskBlock, WaitCause, WaitQueue};
 
 /// How many interrupts there are.
 const INTERRUPTS: u8 = 32;
@@ -127,6 +127,97 @@ fn fitting(tables: &KernelState, x: &TaskBlock) -> Option<TaskBlock>
     Some(*x)
 }
 
+/// Whether two waits are for the same. False of two for bits of an eventflag, and of two to send a word.
+fn is_same_cause(a: WaitCause, b: WaitCause) -> bool {
+    match (a, b) {
+        (WaitCause::Sleep, WaitCause::Sleep) | (WaitCause::Delay, WaitCause::Delay) => true,
+        (WaitCause::Semaphore(s), WaitCause::Semaphore(r)) => s == r,
+        (WaitCause::Receiving(d), WaitCause::Receiving(e)) => d == e,
+        (WaitCause::Mailbox(x), WaitCause::Mailbox(y)) => x == y,
+        _ => false,
+    }
+}
+
+/// Whether two phases are the same. False of two in which a task waits so that it may be.
+fn is_same_phase(a: Phase, b: Phase) -> bool {
+    match (a, b) {
+        (Phase::Dormant, Phase::Dormant) | (Phase::Ready, Phase::Ready) => true,
+        (Phase::Waiting(cause), Phase::Waiting(other)) => is_same_cause(cause, other),
+        _ => false,
+    }
+}
+
+/// Whether two blocks are the same. False of two in which a task waits so that it may be.
+fn is_same_block(a: &TaskBlock, b: &TaskBlock) -> bool {
+    is_same_phase(a.phase, b.phase)
+        && a.suspended == b.suspended
+        && a.priority == b.priority
+        && a.processor == b.processor
+        && a.activations == b.activations
+        && a.next_processor == b.next_processor
+        && a.wakeups == b.wakeups
+        && a.deadline == b.deadline
+}
+
+/// Whether a task with a block stands in the queue of another one.
+fn shares_queue(a: &TaskBlock, other: &TaskBlock) -> bool {
+    if is_ready(a) {
+        return is_ready(other) && a.processor == other.processor && a.priority == other.priority;
+    }
+    queue_of(a.phase).is_some() && is_same_phase(a.phase, other.phase)
+}
+
+/// Marks the tasks that stand after another one in their queue.
+fn mark_behind(tables: &KernelState, marks: &mut [bool; 256]) {
+    let count = tables.task_count() as u8;
+    for t in 0..count {
+        if let Some(next) = tables.behind(t) {
+            marks[next as usize] = true;
+        }
+    }
+}
+
+/// The saved block of a task, if that is the block that the task has.
+fn kept_block<'a>(tables: &KernelState, blocks: &'a [TaskBlock], t: u8) -> Option<&'a TaskBlock> {
+    if t as usize >= tables.task_count() {
+        return None;
+    }
+    let block = blocks.get(t as usize)?;
+    if is_same_block(&tables.task(t), block) {
+        Some(block)
+    } else {
+        None
+    }
+}
+
+/// The task before another one in the saved order, with this block, if both stand in one queue.
+fn in_front(blocks: &[TaskBlock], before: Option<u8>, block: &TaskBlock) -> Option<u8> {
+    let other = before?;
+    if shares_queue(block, blocks.get(other as usize)?) {
+        Some(other)
+    } else {
+        None
+    }
+}
+
+/// Marks the tasks of the saved order that stay as they are: those with the saved block, which in their queue stand
+/// after the same tasks.
+fn mark_staying(tables: &KernelState, blocks: &[TaskBlock], order: &[u8], stays: &mut [bool; 256]) {
+    let mut are_behind = [false; 256];
+    mark_behind(tables, &mut are_behind);
+    let mut before: Option<u8> = None;
+    for task in order {
+        let t = *task;
+        if let Some(block) = kept_block(tables, blocks, t) {
+            stays[t as usize] = match in_front(blocks, before, block) {
+                Some(other) => stays[other as usize] && tables.behind(other) == Some(t),
+                None => !are_behind[t as usize],
+            };
+        }
+        before = Some(t);
+    }
+}
+
 /// Task t leaves its queue, as created and not started.
 fn put_out(tables: &mut KernelState, t: u8)
     requires { t < length tables.old.system.tasks }
@@ -136,8 +227,8 @@ fn put_out(tables: &mut KernelState, t: u8)
     tables.set_removed(t, created(&config));
 }
 
-/// Task t leaves its queue and becomes x, which has to fit; if x stands in a queue, it is not started until it is put
-/// there. Gives whether x fits.
+/// Task t leaves its queue and becomes x, which has to fit, if it is not x; if x stands in a queue, it is not started
+/// until it is put there. Gives whether x fits.
 fn put_aside(tables: &mut KernelState, t: u8, x: &TaskBlock) -> bool
     requires { t < length tables.old.system.tasks }
     ensures { SameShape tables.old tables.new }
@@ -147,7 +238,7 @@ fn put_aside(tables: &mut KernelState, t: u8, x: &TaskBlock) -> bool
     };
     if stands(&block) {
         put_out(tables, t);
-    } else {
+    } else if !is_same_block(&tables.task(t), x) {
         tables.set_removed(t, block);
     }
     true
@@ -169,9 +260,9 @@ fn put_last(tables: &mut KernelState, t: u8, x: &TaskBlock) -> bool
     }
 }
 
-/// All tasks leave their queues, and become as saved where they stand in none. Gives whether the blocks are those of
-/// the tasks.
-fn put_blocks(tables: &mut KernelState, blocks: &[TaskBlock]) -> bool
+/// All tasks but those that stay leave their queues, and become as saved where they stand in none. Gives whether the
+/// blocks are those of the tasks.
+fn put_blocks(tables: &mut KernelState, blocks: &[TaskBlock], stays: &[bool; 256]) -> bool
     ensures { SameShape tables.old tables.new }
 {
     let count = tables.task_count() as u8;
@@ -179,16 +270,21 @@ fn put_blocks(tables: &mut KernelState, blocks: &[TaskBlock]) -> bool
         return false;
     }
     for t in 0..count {
-        if !put_aside(tables, t, &blocks[t as usize]) {
+        if !stays[t as usize] && !put_aside(tables, t, &blocks[t as usize]) {
             return false;
         }
     }
     true
 }
 
-/// The tasks of an order go to the end of the order, one after the other. Gives whether they are tasks that stand
-/// there.
-fn put_order(tables: &mut KernelState, blocks: &[TaskBlock], order: &[u8]) -> bool
+/// The tasks of an order, but those that stay, go to the end of the order, one after the other. Gives whether they are
+/// tasks that stand there.
+fn put_order(
+    tables: &mut KernelState,
+    blocks: &[TaskBlock],
+    order: &[u8],
+    stays: &[bool; 256],
+) -> bool
     ensures { SameShape tables.old tables.new }
 {
     for task in order {
@@ -199,7 +295,7 @@ fn put_order(tables: &mut KernelState, blocks: &[TaskBlock], order: &[u8]) -> bo
         let Some(block) = blocks.get(t as usize) else {
             return false;
         };
-        if !put_last(tables, t, block) {
+        if !stays[t as usize] && !put_last(tables, t, block) {
             return false;
         }
     }
@@ -418,12 +514,29 @@ fn put_interrupt(tables: &mut KernelState, i: u8, pending: bool)
     }
 }
 
+/// Whether an interrupt is pending, here or as saved. They are counted, so several are looked at at once.
+fn is_any_pending(tables: &KernelState, pending: &[bool]) -> bool
+    requires { length pending.now ≡ 32 }
+{
+    let mut count: u32 = 0;
+    for i in 0..INTERRUPTS {
+        if pending[i as usize] | tables.is_interrupt_pending(i) {
+            count += 1;
+        }
+    }
+    count != 0
+}
+
 /// The pending interrupts. Gives whether it is said of all 32.
 fn put_interrupts(tables: &mut KernelState, pending: &[bool]) -> bool
     ensures { SameShape tables.old tables.new }
 {
     if pending.len() != INTERRUPTS as usize {
         return false;
+    }
+    // Mostly none is pending.
+    if !is_any_pending(tables, pending) {
+        return true;
     }
     for i in 0..INTERRUPTS {
         put_interrupt(tables, i, pending[i as usize]);
@@ -435,10 +548,12 @@ fn put_interrupts(tables: &mut KernelState, pending: &[bool]) -> bool
 fn put_tasks(tables: &mut KernelState, saved: &SavedState) -> bool
     ensures { SameShape tables.old tables.new }
 {
-    if !put_blocks(tables, &saved.blocks) {
+    let mut stays = [false; 256];
+    mark_staying(tables, &saved.blocks, &saved.order, &mut stays);
+    if !put_blocks(tables, &saved.blocks, &stays) {
         return false;
     }
-    if !put_order(tables, &saved.blocks, &saved.order) {
+    if !put_order(tables, &saved.blocks, &saved.order, &stays) {
         return false;
     }
     put_processors(tables, &saved.processors)
@@ -482,7 +597,9 @@ pub fn restore(tables: &mut KernelState, saved: &SavedState) -> bool
     ensures system { tables.new.system ≡ tables.old.system }
     ensures clock { tables.new.state.clock ≡ 0 }
 {
-    tables.restart_clock();
+    if tables.clock() != 0 {
+        tables.restart_clock();
+    }
     if !put_tasks(tables, saved) {
         return false;
     }
