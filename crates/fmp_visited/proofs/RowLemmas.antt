@@ -1,6 +1,7 @@
 -- Rows tell values.
 use Rattle.std.proofs.Common.{◌≡◌, ◌<◌, ◌≤◌, ◌+◌, ◌-◌, ◌*◌, ◌/◌, ◌^◌, min, ℕ, zero, suc, Bool, true, false, cond}
 use Rattle.std.proofs.Common.{nat_eq, List, [], ◌∷◌, ◌++◌, refl, sym, ap, subst, ◌∙◌, append_assoc}
+use Rattle.std.proofs.Common.{append-nil}
 use Rattle.std.proofs.Common.{add_assoc, add-zero, zero-add, mul_assoc, mul-add, mul-one, mul-zero, le-add_right}
 use Rattle.std.proofs.Common.{pow-suc, inl, inr, get_or, length, take, drop, arith, length-drop}
 use Rattle.std.proofs.lemmas.Bool.{cases_lt, eqb-true, eq-eqb, ne_eqb}
@@ -249,3 +250,25 @@ pack-more i count row new f v g h total lt a b e done =
     ap (λ (r : List ℕ). r ++ rest) written
     ∙ (append_assoc row (mask_of first values ∷ changes_of first values) rest
     ∙ (ap (λ (bytes : List ℕ). row ++ bytes) (sym (groups-more count i f v lt)) ∙ done))
+
+-- one more group is written after bytes that are left in a block
+pub pack-next : (i count : ℕ) (row left block kept written f v total : List ℕ) → i < count
+    → left ++ kept ≡ row ++ block
+    → written ≡ kept ++ mask_of (group_at (i * 8) f) (group_at (i * 8) v)
+    ∷ changes_of (group_at (i * 8) f) (group_at (i * 8) v)
+    → (row ++ block) ++ groups_from (count - i) (i * 8) f v ≡ total
+    → (left ++ written) ++ groups_from (count - (i + 1)) ((i + 1) * 8) f v ≡ total
+pack-next i count row left block kept written f v total lt same e done =
+    let here : List ℕ = mask_of (group_at (i * 8) f) (group_at (i * 8) v)
+    ∷ changes_of (group_at (i * 8) f) (group_at (i * 8) v) in
+    pack-more i count (row ++ block) (left ++ written) f v (group_at (i * 8) f) (group_at (i * 8) v) total lt refl refl
+    (ap (λ (bytes : List ℕ). left ++ bytes) e
+    ∙ (sym (append_assoc left kept here) ∙ ap (λ (bytes : List ℕ). bytes ++ here) same))
+    done
+
+-- after the last group
+pub pack-whole : (count i : ℕ) (row all f v : List ℕ) → count ≤ i → row ++ groups_from (count - i) (i * 8) f v ≡ all
+    → row ≡ all
+pack-whole count i row all f v le e =
+    let none : count - i ≡ 0 = omega arith in
+    sym (ap (λ (n : ℕ). row ++ groups_from n (i * 8) f v) none ∙ append-nil row) ∙ e

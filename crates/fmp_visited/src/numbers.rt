@@ -1,39 +1,46 @@
 //! Numbers in rows: seven bits in a byte, the lowest first.
-ghost use Rattle.std.specs.Prelude.{◌≡◌, ◌<◌, ◌%◌, ◌^◌, ◌++◌, ℕ, List, drop, OnOk};
+ghost use Rattle.std.specs.Prelude.{◌≡◌, ◌+◌, ◌<◌, ◌≤◌, ◌%◌, ◌^◌, ◌++◌, ℕ, List, drop, length, take};
 ghost use Rattle.fmp_visited.specs.Rows.{bytes_of};
-
-use std::alloc::AllocError;
 
 /// How many bytes a number has at most.
 const LONGEST: usize = 5;
 
-/// Appends a number byte by byte.
-fn push_bytes(row: &mut Vec<u8>, number: u32) -> Result<(), AllocError>
-    ensures { OnOk result (row.new.items ≡ row.old.items ++ bytes_of number) }
+/// Writes a number byte by byte over the bytes from a place on. Gives the place after it.
+fn write_bytes(row: &mut [u8], at: usize, number: u32) -> usize
+    requires { at + 5 ≤ length row.old }
+    ensures length { length row.new ≡ length row.old }
+    ensures room { result ≤ at + 5 }
+    ensures bytes { take result row.new ≡ take at row.old ++ bytes_of number }
 {
     let mut rest = number;
+    let mut end = at;
     for _byte in 0..LONGEST {
         if rest < 128 {
-            row.push(rest as u8)?;
-            return Ok(());
+            row[end] = rest as u8;
+            return end + 1;
         }
-        row.push((rest % 128 + 128) as u8)?;
+        row[end] = (rest % 128 + 128) as u8;
+        end += 1;
         rest /= 128;
     }
-    Ok(())
+    end
 }
 
-/// Appends a number. Each byte but the last has its highest bit set.
+/// Writes a number over the bytes from a place on. Gives the place after it. Each byte but the last has its highest bit
+/// set.
 #[inline(always)]
 #[tactic(auto, using(crate::proofs::NumberLemmas::bytes_small))]
-pub fn push_number(row: &mut Vec<u8>, number: u32) -> Result<(), AllocError>
-    ensures { OnOk result (row.new.items ≡ row.old.items ++ bytes_of number) }
+pub fn write_number(row: &mut [u8], at: usize, number: u32) -> usize
+    requires { at + 5 ≤ length row.old }
+    ensures length { length row.new ≡ length row.old }
+    ensures room { result ≤ at + 5 }
+    ensures bytes { take result row.new ≡ take at row.old ++ bytes_of number }
 {
     if number < 128 {
-        row.push(number as u8)?;
-        return Ok(());
+        row[at] = number as u8;
+        return at + 1;
     }
-    push_bytes(row, number)
+    write_bytes(row, at, number)
 }
 
 /// The value of 32 bits that a number is; its lowest bits, if it is no such value.

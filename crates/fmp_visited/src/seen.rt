@@ -20,7 +20,7 @@ ghost use Rattle.fmp_visited.specs.Seen.{Adds, with_state};
 
 use crate::kept::StateStore;
 use crate::link::{RowEntry, StateLink};
-use crate::slots::{Slot, empty_slots, enter, slot_of};
+use crate::slots::{FreeSlot, Slot, empty_slots, enter_all, slot_of, slot_with};
 use fmp_base::Event;
 use std::alloc::{AllocError, Global};
 use std::marker::Model;
@@ -33,7 +33,7 @@ const SLOTS: usize = 1024;
 #[derive(Drop)]
 pub struct Seen {
     kept: StateStore,
-    slots: Vec<u32>,
+    slots: Vec<u64>,
     /// How many states may be kept.
     most: u32,
 }
@@ -117,23 +117,21 @@ impl Seen {
             return Ok(());
         }
         let mut slots = empty_slots(alloc, self.slots.len().saturating_mul(2))?;
-        for i in 0..self.kept.len() as u32 {
-            enter(&mut slots, &self.kept, i);
-        }
+        enter_all(&mut slots, &self.slots);
         self.slots = slots;
         Ok(())
     }
 
     /// Keeps a state of a row that is new, and whose slot is this one.
-    fn keep(&mut self, slot: usize, row: &[u8], link: StateLink) -> Result<u32, AllocError>
+    fn keep(&mut self, slot: FreeSlot, row: &[u8], link: StateLink) -> Result<u32, AllocError>
         requires { length self.old.links < self.old.most }
         ensures ok { IfOk result (λ i. (i ≡ length self.old.links) × (self.new ≡ with_state self.old row.now link)) }
         ensures err { OnErr result (self.new ≡ self.old) }
     {
         let i = self.kept.len() as u32;
         self.kept.push(row, link)?;
-        if slot < self.slots.len() {
-            self.slots[slot] = i;
+        if slot.place < self.slots.len() {
+            self.slots[slot.place] = slot_with(slot.tag, i);
         }
         Ok(i)
     }

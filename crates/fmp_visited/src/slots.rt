@@ -1,15 +1,26 @@
-//! The slots, which say where the state with a hash stands.
+//! The slots, which say where the state with a tag stands. A slot holds the tag, so that the row of a state with another
+//! tag is not looked at.
 ghost use Rattle.std.specs.Prelude.{◌≡◌, ◌+◌, ◌<◌, ◌≤◌, ◌↔◌, Some, IsTrue, IfSome, length, slice_get};
 ghost use Rattle.fmp_visited.specs.Slots.{IsSlotFor};
 
 use crate::kept::StateStore;
 use std::alloc::{AllocError, Global};
 
-/// The number in a slot with no state.
-const EMPTY: u32 = u32::MAX;
+/// A slot with no state.
+const EMPTY: u64 = u64::MAX;
+
+/// How many tags there are.
+const TAGS: u64 = 4_294_967_296;
 
 /// What a hash is multiplied by: odd, and 2^64 times the golden ratio.
 const SPREAD: u64 = 0x9e37_79b9_7f4a_7c15;
+
+/// An empty slot, and the tag of the row whose state comes there.
+#[derive(Clone, Copy)]
+pub struct FreeSlot {
+    pub place: usize,
+    pub tag: u32,
+}
 
 /// Where a row belongs.
 #[derive(Clone, Copy)]
@@ -17,7 +28,7 @@ pub enum Slot {
     /// The state at this place has it.
     Taken(u32),
     /// No state has it: one that does comes into this slot.
-    Free(usize),
+    Free(FreeSlot),
 }
 
 /// The eight bytes of a row from a place on, as one number.
@@ -59,8 +70,28 @@ fn hash_of(row: &[u8]) -> u64 {
     hash ^ (hash >> 32)
 }
 
+/// The tag of a row: 32 bits of its hash. Its slot is looked for from the place on that the last of them tell.
+fn tag_of(row: &[u8]) -> u32 {
+    (hash_of(row) % TAGS) as u32
+}
+
+/// The slot of a state whose row has this tag.
+pub fn slot_with(tag: u32, state: u32) -> u64 {
+    u64::from(tag) << 32 | u64::from(state)
+}
+
+/// The tag in a slot.
+fn tag_in(slot: u64) -> u32 {
+    (slot >> 32) as u32
+}
+
+/// The state in a slot.
+fn state_in(slot: u64) -> u32 {
+    (slot % TAGS) as u32
+}
+
 /// Slots, this many, with no state. `AllocError` if memory runs out.
-pub fn empty_slots(alloc: Global, count: usize) -> Result<Vec<u32>, AllocError> {
+pub fn empty_slots(alloc: Global, count: usize) -> Result<Vec<u64>, AllocError> {
     vec![in alloc; EMPTY; count]
 }
 
@@ -75,29 +106,47 @@ fn has_row(kept: &StateStore, state: u32, row: &[u8]) -> bool
 }
 
 /// The slot of this row: the one that has its state, or else the empty one where it comes. None if there is neither.
-pub fn slot_of(slots: &[u32], kept: &StateStore, row: &[u8]) -> Option<Slot>
+pub fn slot_of(slots: &[u64], kept: &StateStore, row: &[u8]) -> Option<Slot>
     ensures { IfSome result (IsSlotFor (length slots.now) kept.now.rows row.now) }
 {
     let last = slots.len().checked_sub(1)?;
-    let first = hash_of(row) as usize;
+    let tag = tag_of(row);
     for i in 0..slots.len() {
-        let at = first.wrapping_add(i) & last;
-        let state = slots[at];
-        if state == EMPTY {
-            return Some(Slot::Free(at));
+        let place = (tag as usize).wrapping_add(i) & last;
+        let slot = slots[place];
+        if slot == EMPTY {
+            return Some(Slot::Free(FreeSlot { place, tag }));
         }
-        if has_row(kept, state, row) {
+        let state = state_in(slot);
+        if tag_in(slot) == tag && has_row(kept, state, row) {
             return Some(Slot::Taken(state));
         }
     }
     None
 }
 
-/// Puts a state into the slot of its row.
-pub fn enter(slots: &mut [u32], kept: &StateStore, state: u32) {
-    if let Some(row) = kept.row(state as usize)
-        && let Some(Slot::Free(slot)) = slot_of(slots, kept, row)
-    {
-        slots[slot] = state;
+/// The first empty slot for a tag. None if none is empty.
+fn free_place(slots: &[u64], tag: u32) -> Option<usize>
+    ensures { IfSome result (λ place. place < length slots.now) }
+{
+    let last = slots.len().checked_sub(1)?;
+    for i in 0..slots.len() {
+        let place = (tag as usize).wrapping_add(i) & last;
+        if slots[place] == EMPTY {
+            return Some(place);
+        }
+    }
+    None
+}
+
+/// Puts the states of other slots into these, in which they are not.
+pub fn enter_all(slots: &mut [u64], from: &[u64]) {
+    for i in 0..from.len() {
+        let slot = from[i];
+        if slot != EMPTY
+            && let Some(place) = free_place(slots, tag_in(slot))
+        {
+            slots[place] = slot;
+        }
     }
 }
