@@ -1,6 +1,6 @@
 -- Numbers in rows.
 use Rattle.std.proofs.Common.{◌≡◌, ◌<◌, ◌≤◌, ◌+◌, ◌-◌, ◌/◌, ◌%◌, ◌^◌, ℕ, zero, suc, Bool, true, false, cond, nat_lt}
-use Rattle.std.proofs.Common.{List, [], ◌∷◌, ◌++◌, refl, sym, ap, ◌∙◌, append_assoc, append-nil, arith, lit<}
+use Rattle.std.proofs.Common.{List, [], ◌∷◌, ◌++◌, refl, sym, ap, ◌∙◌, append_assoc, arith, lit<}
 use Rattle.std.proofs.Math.Nat.{pow-suc}
 use Rattle.std.proofs.lemmas.Bool.{ltb-true, lt-ltb, le-ltb}
 use Rattle.std.proofs.lemmas.Nat.{div_below}
@@ -76,12 +76,6 @@ pub written-more : (row front : List ℕ) (i n : ℕ) (all : List ℕ) → i < 5
 written-more row front i n all lt great e =
     append_assoc row ((n % 128 + 128) ∷ []) (number_in (5 - (i + 1)) (n / 128))
     ∙ (ap (λ (bytes : List ℕ). row ++ bytes) (sym (bytes-more i n lt great)) ∙ e)
-
--- a number that was written to its end
-pub written-all : (row all : List ℕ) (i n : ℕ) → 5 ≤ i → row ++ number_in (5 - i) n ≡ all → row ≡ all
-written-all row all i n le e =
-    let left : 5 - i ≡ 0 = omega arith in
-    sym (ap (λ (k : ℕ). row ++ number_in k n) left ∙ append-nil row) ∙ e
 
 -- a number of one byte
 pub bytes_small : (n : ℕ) → n < 128 → bytes_of n ≡ n ∷ []

@@ -1,7 +1,6 @@
 -- Rows tell values.
 use Rattle.std.proofs.Common.{◌≡◌, ◌<◌, ◌≤◌, ◌+◌, ◌-◌, ◌*◌, ◌/◌, ◌^◌, min, ℕ, zero, suc, Bool, true, false, cond}
 use Rattle.std.proofs.Common.{nat_eq, List, [], ◌∷◌, ◌++◌, refl, sym, ap, subst, ◌∙◌, append_assoc}
-use Rattle.std.proofs.Common.{append-nil}
 use Rattle.std.proofs.Common.{add_assoc, add-zero, zero-add, mul_assoc, mul-add, mul-one, mul-zero, le-add_right}
 use Rattle.std.proofs.Common.{pow-suc, inl, inr, get_or, length, take, drop, arith, length-drop}
 use Rattle.std.proofs.lemmas.Bool.{cases_lt, eqb-true, eq-eqb, ne_eqb}
@@ -265,10 +264,3 @@ pack-next i count row left block kept written f v total lt same e done =
     (ap (λ (bytes : List ℕ). left ++ bytes) e
     ∙ (sym (append_assoc left kept here) ∙ ap (λ (bytes : List ℕ). bytes ++ here) same))
     done
-
--- after the last group
-pub pack-whole : (count i : ℕ) (row all f v : List ℕ) → count ≤ i → row ++ groups_from (count - i) (i * 8) f v ≡ all
-    → row ≡ all
-pack-whole count i row all f v le e =
-    let none : count - i ≡ 0 = omega arith in
-    sym (ap (λ (n : ℕ). row ++ groups_from n (i * 8) f v) none ∙ append-nil row) ∙ e

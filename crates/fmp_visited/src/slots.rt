@@ -1,5 +1,5 @@
-//! The slots, which say where the state with a tag stands. A slot holds the tag, so that the row of a state with another
-//! tag is not looked at.
+//! The slots, which say where the state with a tag stands. A slot holds the tag: so the row of a state with another tag
+//! is not looked at.
 ghost use Rattle.std.specs.Prelude.{◌≡◌, ◌+◌, ◌<◌, ◌≤◌, ◌↔◌, Some, IsTrue, IfSome, length, slice_get};
 ghost use Rattle.fmp_visited.specs.Slots.{IsSlotFor};
 

@@ -1,7 +1,7 @@
 use Rattle.std.proofs.Common.{◌++◌, ◌-◌, ◌+◌, ◌/◌, ◌%◌, ℕ, List, refl, ap, ◌∙◌, take, arith}
 use Rattle.std.proofs.lemmas.List.{length-set, take_more_set}
 use Rattle.fmp_visited.specs.Rows.{bytes_of, number_in}
-use Rattle.fmp_visited.proofs.NumberLemmas.{written-all, written-last, written-more}
+use Rattle.fmp_visited.proofs.NumberLemmas.{written-more}
 use Rattle.fmp_visited.proofs.numbers.write_bytes.Goals as goal
 
 pub loop-byte-init : goal.loop-byte-init

@@ -1,7 +1,7 @@
-use Rattle.std.proofs.Common.{◌≡◌, ◌≤◌, ◌+◌, ◌-◌, ◌*◌, ◌/◌, ◌++◌, [], ℕ, List, length, refl, subst, append-nil, ◌∙◌, arith}
+use Rattle.std.proofs.Common.{◌≡◌, ◌+◌, ◌-◌, ◌*◌, ◌/◌, ◌++◌, [], ℕ, length, refl, subst, append-nil, ◌∙◌, arith}
 use Rattle.std.proofs.Common.{take}
 use Rattle.fmp_visited.specs.Rows.{groups_from, row_of}
-use Rattle.fmp_visited.proofs.RowLemmas.{pack-begun, pack-next, pack-whole}
+use Rattle.fmp_visited.proofs.RowLemmas.{pack-begun, pack-next}
 use Rattle.fmp_visited.proofs.packing.pack.Goals as goal
 
 pub loop-group-init : goal.loop-group-init

@@ -1,4 +1,4 @@
-use Rattle.std.proofs.Common.{◌≡◌, ◌+◌, ◌∷◌, ◌++◌, [], ℕ, List, append_assoc, ap, ◌∙◌, arith, take}
+use Rattle.std.proofs.Common.{◌∷◌, ◌++◌, [], ℕ, List, append_assoc, ap, ◌∙◌, arith, take}
 use Rattle.std.proofs.lemmas.List.{take_more_set}
 use Rattle.fmp_visited.specs.Rows.{changes_of, mask_of}
 use Rattle.fmp_visited.proofs.packing.write_group.Goals as goal
