@@ -9,11 +9,11 @@ use Rattle.fmp_fields.specs.declared.piece.Piece.{Piece}
 use Rattle.fmp_fields.specs.declared.piece.Piece.TheVariants as piece
 use Rattle.fmp_fields.specs.declared.room.Room.{Room}
 
--- the fields of a task's block
+-- the fields of a task's block, and the task behind it in its queue
 abbrev pub block_fields : ℕ → List What
 block_fields t =
     what.Phase t ∷ what.Object t ∷ what.Wanted t ∷ what.Suspended t ∷ what.Priority t ∷ what.Processor t
-    ∷ what.Activations t ∷ what.NextProcessor t ∷ what.Wakeups t ∷ what.TicksLeft t ∷ []
+    ∷ what.Activations t ∷ what.NextProcessor t ∷ what.Wakeups t ∷ what.TicksLeft t ∷ what.Behind t ∷ []
 
 -- the fields of a processor, without those of its handler's body
 abbrev pub processor_fields : ℕ → List What

@@ -1,5 +1,6 @@
 //! Numbers of a row as parts of a state. Any number is taken: one that no state has gives some other part.
 use crate::field::low_byte;
+use crate::piece::BLOCK;
 use fmp_base::{FlagMode, Handler, Lock, Phase, Processor, TaskBlock, WaitCause};
 
 /// The number at a place; 0 if there is none.
@@ -74,22 +75,21 @@ fn phase_of(kind: u32, object: u32, wanted: u32) -> Phase {
     }
 }
 
-/// The block of a task whose numbers, from its phase on, these begin with.
-pub fn block_of(numbers: &[u32]) -> TaskBlock {
-    TaskBlock {
-        phase: phase_of(
-            number_at(numbers, 0),
-            number_at(numbers, 1),
-            number_at(numbers, 2),
-        ),
-        suspended: number_at(numbers, 3) == 1,
-        priority: byte_of(number_at(numbers, 4)),
-        processor: byte_of(number_at(numbers, 5)),
-        activations: byte_of(number_at(numbers, 6)),
-        next_processor: place_of(number_at(numbers, 7)),
-        wakeups: byte_of(number_at(numbers, 8)),
-        deadline: ticks_of(number_at(numbers, 9)),
+/// The block of a task whose numbers, from its phase on, these begin with. `None` where there are too few.
+pub fn block_of(numbers: &[u32]) -> Option<TaskBlock> {
+    if numbers.len() < BLOCK {
+        return None;
     }
+    Some(TaskBlock {
+        phase: phase_of(numbers[0], numbers[1], numbers[2]),
+        suspended: numbers[3] == 1,
+        priority: byte_of(numbers[4]),
+        processor: byte_of(numbers[5]),
+        activations: byte_of(numbers[6]),
+        next_processor: place_of(numbers[7]),
+        wakeups: byte_of(numbers[8]),
+        deadline: ticks_of(numbers[9]),
+    })
 }
 
 /// Whether a task with this block is not started.

@@ -93,11 +93,15 @@ fn fill_context(context: &mut MachineContext, room: Room, numbers: &[u32]) {
         &mut context.locals,
         numbers_from(numbers, 1, usize::from(room.locals)),
     );
-    context.count = byte_of(number_at(numbers, count));
-    put_signed(
-        &mut context.operands,
-        numbers_from(numbers, count + 1, usize::from(room.operands)),
-    );
+    let operands = byte_of(number_at(numbers, count));
+    // Where there was no operand and is none, all their places hold 0.
+    if operands != 0 || context.count != 0 {
+        put_signed(
+            &mut context.operands,
+            numbers_from(numbers, count + 1, usize::from(room.operands)),
+        );
+    }
+    context.count = operands;
 }
 
 /// Puts the numbers of a body of this room, with which these begin, into the context that is there, or else into a new
@@ -188,6 +192,15 @@ impl SavedRow {
         }
     }
 
+    /// Takes the block of a task, and the task behind it in its queue.
+    fn take_block(&mut self, numbers: &[u32]) -> Result<(), AllocError> {
+        if let Some(block) = block_of(numbers) {
+            self.saved.state.blocks.push(block)?;
+            self.behind.push(byte_of(number_at(numbers, 10)))?;
+        }
+        Ok(())
+    }
+
     /// Takes the context of an owner's body, whose block or processor was taken last.
     fn take_body(&mut self, owner: Owner, room: Room, numbers: &[u32]) -> Result<(), AllocError> {
         let goes = self.is_started(owner);
@@ -246,7 +259,7 @@ impl SavedRow {
     /// Takes the piece that these numbers begin with.
     fn take(&mut self, piece: Piece, numbers: &[u32]) -> Result<(), AllocError> {
         match piece {
-            Piece::Block(_) => self.saved.state.blocks.push(block_of(numbers))?,
+            Piece::Block(_) => self.take_block(numbers)?,
             Piece::Body(owner, room) => self.take_body(owner, room, numbers)?,
             Piece::Processor(_) => self.saved.state.processors.push(processor_of(numbers))?,
             Piece::Single(what) => self.take_object(what, numbers)?,

@@ -8,8 +8,8 @@ use crate::owner::Owner;
 use crate::room::Room;
 use std::alloc::{AllocError, Global};
 
-/// How many fields the block of a task has.
-pub const BLOCK: usize = 10;
+/// How many fields the block of a task has, with the task behind it in its queue.
+pub const BLOCK: usize = 11;
 
 /// How many fields a processor has, without those of its handler's body.
 pub const PROCESSOR: usize = 5;
@@ -17,7 +17,7 @@ pub const PROCESSOR: usize = 5;
 /// Fields that stand in order and are read together.
 #[derive(Clone, Copy)]
 pub enum Piece {
-    /// The fields of a task's block.
+    /// The fields of a task's block, and the task behind it in its queue.
     Block(u8),
     /// The fields of a body that has this many locals and operands.
     Body(Owner, Room),
@@ -115,6 +115,7 @@ fn push_block(fields: &mut Vec<What>, t: u8) -> Result<(), AllocError>
         What::NextProcessor(t),
         What::Wakeups(t),
         What::TicksLeft(t),
+        What::Behind(t),
     ])?;
     Ok(())
 }

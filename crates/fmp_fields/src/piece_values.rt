@@ -9,6 +9,7 @@ ghost use Rattle.fmp_fields.specs.Reading.{context_numbers};
 ghost use Rattle.fmp_instructions.specs.declared.instructions.MachineContext.{MachineContext};
 ghost use Rattle.fmp_live.specs.LiveLocals.{live_tables};
 ghost use Rattle.fmp_live.specs.Zeroed.{zeroed, zeroed_by};
+ghost use Rattle.fmp_reachable.specs.Behind.{task_behind};
 ghost use Rattle.fmp_reachable.specs.Numbers as numbers;
 
 use crate::body_values::{body_value, context_of, local_at, number_at, row_of};
@@ -37,6 +38,14 @@ fn write_array<const N: usize>(numbers: [u32; N], values: &mut [u32], at: usize)
     values[at..at + N].copy_from_slice(&numbers);
 }
 
+/// The task behind another one in its queue, with 1 added; 0 if none is.
+#[inline(always)]
+fn behind_value(tables: &KernelState, t: u8) -> u32
+    ensures { result ≡ numbers.place (task_behind tables.now.system tables.now.state t) }
+{
+    place(tables.behind(t))
+}
+
 /// The values of the fields of a task's block. `None` if a time is too far ahead.
 #[inline(always)]
 fn block_values(tables: &KernelState, t: u8) -> Option<[u32; BLOCK]>
@@ -56,16 +65,17 @@ fn block_values(tables: &KernelState, t: u8) -> Option<[u32; BLOCK]>
         place(block.next_processor),
         u32::from(block.wakeups),
         left,
+        behind_value(tables, t),
     ])
 }
 
 /// Writes the values of the fields of a task's block over those from a place on: whether no time is too far ahead.
 #[inline(always)]
 fn write_block(tables: &KernelState, t: u8, values: &mut [u32], at: usize) -> bool
-    requires { at + 10 ≤ length values.old }
+    requires { at + 11 ≤ length values.old }
     ensures length { length values.new ≡ length values.old }
     ensures values { (w : World MachineContext) (came : ℕ) → w.state ≡ tables.now.state → result ≡ true →
-        take (at + 10) values.new
+        take (at + 11) values.new
         ≡ take at values.old ++ map (number_of tables.now.system w came) (block_fields t) }
 {
     match block_values(tables, t) {

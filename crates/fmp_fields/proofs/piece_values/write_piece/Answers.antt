@@ -32,7 +32,7 @@ returns-in-Block-clause-values g c = λ yes.
     let old = c.args.values.now in
     let new = c.write_block.new.values in
     let told = c.write_block.ensures.values world c.args.came (sym c.tables.ensures.state) yes in
-    let here = subst (λ (sys : SystemTables). take (at + 10) new
+    let here = subst (λ (sys : SystemTables). take (at + 11) new
     ≡ take at old ++ map (number_of sys world c.args.came) (block_fields c.in-Block.t)) c.tables.ensures.system told in
     subst (λ (p : Piece). take (at + length (fields_of_piece p)) new
     ≡ take at old ++ map (number_of kernel.system world c.args.came) (fields_of_piece p)) (sym c.in-Block.is) here
