@@ -1,4 +1,5 @@
-use Rattle.std.proofs.Common.{◌+◌, ℕ, refl, ◌∙◌, take, arith}
+use Rattle.std.proofs.Common.{◌≡◌, ◌+◌, ◌++◌, ℕ, map, refl, subst, sym, ◌∙◌, take, arith}
+use Rattle.std.specs.List.{range_with_len}
 use Rattle.std.proofs.lemmas.List.{length-set}
 use Rattle.fmp_fields.proofs.Pieces.{written-more, written-none}
 use Rattle.fmp_fields.proofs.piece_values.write_zeros.Goals as goal
@@ -20,3 +21,9 @@ loop-field-preserved c =
           (take c.args.at c.args.values.now) l.values 0 refl (omega (arith, c.requires, l.invariant.long))
           l.invariant.told;
     }
+
+pub returns-then-count-eq2-clause-values : goal.returns-then-count-eq2-clause-values
+returns-then-count-eq2-clause-values c =
+    subst (λ (n : ℕ). take (c.args.at + n) c.write_array.new.values
+    ≡ take c.args.at c.args.values.now ++ map (λ (k : ℕ). 0) (range_with_len 0 n)) (sym c.if-count-eq2.true)
+    c.write_array.ensures.values
