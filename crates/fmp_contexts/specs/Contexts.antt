@@ -1,5 +1,6 @@
 -- What holds of the contexts of bodies.
-use Rattle.std.specs.Prelude.{◌≡◌, ◌<◌, ℕ, zero, suc, List, [], ◌∷◌, Option, Some, None, Bool, true, false, length}
+use Rattle.std.specs.Prelude.{◌≡◌, ◌<◌, ℕ, zero, suc, List, [], ◌∷◌, Option, Some, None, Bool, true, false, not, length}
+use Rattle.std.proofs.Common.{refl}
 use Rattle.fmp_base.specs.declared.bodies.HandlerContext.{HandlerContext}
 use Rattle.fmp_base.specs.declared.bodies.HandlerStart.{HandlerStart}
 use Rattle.fmp_base.specs.declared.bodies.Held.{Held}
@@ -82,6 +83,15 @@ abbrev pub is_going : {C : Type 0} → Option (Held C) → Bool
 is_going None = false
 is_going (Some (Awaits c)) = false
 is_going (Some (Goes c)) = true
+
+-- what is kept tells whether it awaits a reply, and its context
+pub awaits_told : {C : Type 0} (awaits : Bool) (c : C) → not (is_going (Some (held_by awaits c))) ≡ awaits
+awaits_told true c = refl
+awaits_told false c = refl
+
+pub context_told : {C : Type 0} (awaits : Bool) (c : C) → context_held (held_by awaits c) ≡ c
+context_told true c = refl
+context_told false c = refl
 
 -- how a stretch from what is kept of a body ends; it is over with nothing where no context goes on
 abbrev pub stretched_from : {C : Type 0} → Meaning C → (body bound : ℕ) → Option (Held C) → Ending C

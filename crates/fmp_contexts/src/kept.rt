@@ -9,16 +9,26 @@ ghost use Rattle.fmp_contexts.specs.Contexts.{OfHeld, context_held, going_contex
 ghost use Rattle.fmp_contexts.specs.Contexts.{stretched_from};
 
 use fmp_base::{Body, Held, Reply, StretchStop};
+use std::alloc::AllocError;
 use std::marker::Model;
 
-mod copying;
-
 /// A context, and whether it awaits the reply to the call of its body.
-#[derive(Drop)]
 pub struct KeptContext<C: Copy> {
     awaits: bool,
     context: C,
 }
+
+impl<C: Copy> Clone for KeptContext<C> {
+    ghost is_clone = { λ x y. y ≡ x };
+
+    ghost is_infallible = { λ _. Unit {0} };
+
+    fn clone(&self) -> Result<Self, AllocError> {
+        Ok(*self)
+    }
+}
+
+impl<C: Copy> Copy for KeptContext<C> {}
 
 impl<C: Copy> Model for KeptContext<C> {
     ghost use Rattle.fmp_base.specs.declared.bodies.Held.{Held};
@@ -27,6 +37,16 @@ impl<C: Copy> Model for KeptContext<C> {
     ghost Value = { Held C };
 
     ghost view = { λ k. held_by k.awaits k.context };
+
+    ghost use Rattle.std.specs.Prelude.{Some, not};
+    ghost use Rattle.fmp_contexts.specs.Contexts.{awaits_told, context_held, context_told, is_going};
+
+    ghost inverse = { λ h. record { awaits = not (is_going (Some h)); context = context_held h } };
+
+    ghost inverse_ok = { λ k h i. record {
+      awaits = awaits_told k.awaits k.context i;
+      context = context_told k.awaits k.context i;
+    } };
 }
 
 impl<C: Copy> KeptContext<C> {

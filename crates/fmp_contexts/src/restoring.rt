@@ -144,7 +144,9 @@ fn restore_on<B: Body, T: ContextTest<B>>(
             None => false,
         },
         None => {
-            contexts.forget_handler(p);
+            if contexts.has_handler(p) {
+                contexts.forget_handler(p);
+            }
             saved.is_none()
         }
     }

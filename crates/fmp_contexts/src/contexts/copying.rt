@@ -2,20 +2,6 @@
 ghost use Rattle.std.specs.Prelude.{◌≡◌, length};
 
 use crate::contexts::{BodyContexts, KeptHandler};
-use crate::kept::KeptContext;
-
-/// Puts what is kept of another task in the place of this.
-fn put_task_back<C: Copy>(kept: &mut Option<KeptContext<C>>, from: &Option<KeptContext<C>>)
-    ensures { kept.new ≡ from.now }
-{
-    match from {
-        Some(from) => match kept {
-            Some(kept) => kept.put_back(from),
-            None => *kept = Some(from.copied()),
-        },
-        None => *kept = None,
-    }
-}
 
 /// Puts what is kept of another handler in the place of this.
 fn put_handler_back<C: Copy>(handler: &mut Option<KeptHandler<C>>, from: &Option<KeptHandler<C>>)
@@ -25,7 +11,7 @@ fn put_handler_back<C: Copy>(handler: &mut Option<KeptHandler<C>>, from: &Option
         Some(from) => {
             *handler = Some(KeptHandler {
                 body: from.body,
-                kept: from.kept.copied(),
+                kept: from.kept,
             });
         }
         None => {
@@ -34,16 +20,6 @@ fn put_handler_back<C: Copy>(handler: &mut Option<KeptHandler<C>>, from: &Option
                 *handler = None;
             }
         }
-    }
-}
-
-/// Puts what is kept of as many other tasks in the place of this.
-fn put_tasks_back<C: Copy>(tasks: &mut [Option<KeptContext<C>>], from: &[Option<KeptContext<C>>])
-    requires { length tasks.old ≡ length from.now }
-    ensures { tasks.new ≡ from.now }
-{
-    for t in 0..tasks.len() {
-        put_task_back(&mut tasks[t], &from[t]);
     }
 }
 
@@ -67,7 +43,7 @@ impl<C: Copy> BodyContexts<C> {
         requires handlers { length self.old.handlers ≡ length from.now.handlers }
         ensures { self.new ≡ from.now }
     {
-        put_tasks_back(self.tasks.as_mut_slice(), from.tasks.as_slice());
+        self.tasks.copy_from_slice(from.tasks.as_slice());
         put_handlers_back(self.handlers.as_mut_slice(), from.handlers.as_slice());
     }
 }
