@@ -109,11 +109,11 @@ impl Seen {
         }
     }
 
-    /// Makes twice as many slots where more than half of them are full. `AllocError` if memory runs out.
+    /// Makes twice as many slots where more than three quarters of them are full. `AllocError` if memory runs out.
     fn make_room(&mut self, alloc: Global) -> Result<(), AllocError>
         ensures { self.new ≡ self.old }
     {
-        if self.kept.len() < self.slots.len() / 2 {
+        if self.kept.len() < self.slots.len() / 4 * 3 {
             return Ok(());
         }
         let mut slots = empty_slots(alloc, self.slots.len().saturating_mul(2))?;
