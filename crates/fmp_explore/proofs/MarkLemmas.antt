@@ -34,6 +34,7 @@ use Rattle.fmp_schedules.proofs.IdleLaws.{each-none, none-each}
 use Rattle.fmp_schedules.proofs.MonitorLaws.{runs-let, ticks-let}
 use Rattle.fmp_schedules.proofs.TriedLaws.{other-nothing}
 use Rattle.fmp_explore.proofs.StateLemmas.{readable}
+use Rattle.fmp_witness.specs.Asked.{Asked}
 
 -- the numbers of interrupts that have handlers end at 32
 number_low : (processors number : ℕ) (rows : List InterruptConfig) → AllByRecursion (InterruptInRange processors) rows
@@ -74,17 +75,26 @@ module _ (q : Question) (came : ℕ) where
       → AreFew q (came_on q.interrupts came (event.Int number))
   few_more number low = more_on q.interrupts came number low
 
-module _ (i : ImageTables) (n : ℕ) (q : Question) (w : World MachineContext) (a : Watched) where
+module _ (asked : Asked) (w : World MachineContext) (a : Watched) where
+  abbrev i : ImageTables
+  i = asked.image
+
+  abbrev n : ℕ
+  n = asked.bound
+
+  abbrev q : Question
+  q = asked.question
+
   abbrev idle : Bool
   idle = none_runs i.system (code_meaning i.code) n w i.system.processors
 
   -- nothing was done yet
-  pub no_marks : AreMarks i n q w a (record { idle = true; interrupted = false })
+  pub no_marks : AreMarks asked w a (record { idle = true; interrupted = false })
   no_marks = record { idle = λ e. absurd (cc (e)); interrupted = λ e. absurd (cc (e)) }
 
   -- ---- runs
 
-  run_nothing : IsSound i.system i.code w → (p : ℕ) → idle ≡ true → reaction_in i n w (event.Run p) ≡ Nothing
+  run_nothing : IsSound i.system i.code w → (p : ℕ) → idle ≡ true → reaction_in asked w (event.Run p) ≡ Nothing
   run_nothing sound zero none = refl
   run_nothing sound (suc p) none =
       elim (cases_lt p i.system.processors) [
@@ -92,10 +102,10 @@ module _ (i : ImageTables) (n : ℕ) (q : Question) (w : World MachineContext) (
             (omega arith)
         | inr past ↦
             other-nothing i.system (code_meaning i.code) n w (event.Run (suc p))
-            (readable i n q w sound).sizes.processors (le-ltb p i.system.processors past)
+            (readable asked w sound).sizes.processors (le-ltb p i.system.processors past)
       ]
 
-  not_idle : IsSound i.system i.code w → (p : ℕ) → reaction_in i n w (event.Run p) ≢ Nothing → (b : Bool)
+  not_idle : IsSound i.system i.code w → (p : ℕ) → reaction_in asked w (event.Run p) ≢ Nothing → (b : Bool)
       → idle ≡ b → b ≡ false
   not_idle sound p does true e = absurd (does (run_nothing sound p e))
   not_idle sound p does false e = refl
@@ -103,7 +113,7 @@ module _ (i : ImageTables) (n : ℕ) (q : Question) (w : World MachineContext) (
   -- ---- interrupts
 
   -- the number of an interrupt that does something
-  number_within : IsInRange i.system → (number : ℕ) → reaction_in i n w (event.Int number) ≢ Nothing
+  number_within : IsInRange i.system → (number : ℕ) → reaction_in asked w (event.Int number) ≢ Nothing
       → (1 ≤ number) × (number < 33)
   number_within ranges zero does = absurd (does refl)
   number_within ranges (suc p) does =
@@ -115,8 +125,8 @@ module _ (i : ImageTables) (n : ℕ) (q : Question) (w : World MachineContext) (
 
   -- ---- marks
 
-  pub marks_more : (m : StateMarks) (e : Event) → IsImage i → IsSound i.system i.code w → AreMarks i n q w a m
-      → reaction_in i n w e ≢ Nothing → MayRequest q a e → AreMarks i n q w a (marked m e)
+  pub marks_more : (m : StateMarks) (e : Event) → IsImage i → IsSound i.system i.code w → AreMarks asked w a m
+      → reaction_in asked w e ≢ Nothing → MayRequest q a e → AreMarks asked w a (marked m e)
   marks_more m (event.Run p) image sound h does may =
       record { idle = λ _. not_idle sound p does idle refl; interrupted = h.interrupted }
   marks_more m event.Tick image sound h does may = h
@@ -130,36 +140,36 @@ module _ (i : ImageTables) (n : ℕ) (q : Question) (w : World MachineContext) (
 
   -- ---- deadlocks
 
-  pub still_of_stuck : IsStuckIn i n q w a → StandsStill q.rest.items i.system w.state
+  pub still_of_stuck : IsStuckIn asked w a → StandsStill q.rest.items i.system w.state
   still_of_stuck d = record { waits = d.waits; handlers = d.handlers; stuck = d.stuck }
 
   -- where a processor does something, no deadlock is reached
-  pub running_free : (m : StateMarks) → AreMarks i n q w a m → m.idle ≡ false → IsStuckIn i n q w a → ⊥
+  pub running_free : (m : StateMarks) → AreMarks asked w a m → m.idle ≡ false → IsStuckIn asked w a → ⊥
   running_free m h busy d =
       cc (h.idle busy, each-none i.system (code_meaning i.code) n w i.system.processors d.runs)
 
   -- nor where an interrupt does that may come
-  pub interrupted_free : (m : StateMarks) → AreMarks i n q w a m → m.interrupted ≡ true → IsStuckIn i n q w a → ⊥
+  pub interrupted_free : (m : StateMarks) → AreMarks asked w a m → m.interrupted ≡ true → IsStuckIn asked w a → ⊥
   interrupted_free m h does d =
-      let r : HasRequest i n q w a = h.interrupted does in
+      let r : HasRequest asked w a = h.interrupted does in
       r.does (d.requests r.may r.number r.first r.last)
 
   -- ---- the rules
 
   -- an event that may come may be tried, and leaves no more queued than may be
-  may_parts : (e : Event) → MayCome i n q w a e
+  may_parts : (e : Event) → MayCome asked w a e
       → (may_try (rules_of q) i.system (code_meaning i.code) n w a e ≡ true)
-      × (stays_within q.queued (reaction_in i n w e) ≡ true)
+      × (stays_within q.queued (reaction_in asked w e) ≡ true)
   may_parts e may = (
     and-left (may_try (rules_of q) i.system (code_meaning i.code) n w a e)
-        (stays_within q.queued (reaction_in i n w e)) may,
+        (stays_within q.queued (reaction_in asked w e)) may,
     and-right (may_try (rules_of q) i.system (code_meaning i.code) n w a e)
-        (stays_within q.queued (reaction_in i n w e)) may,
+        (stays_within q.queued (reaction_in asked w e)) may,
   )
 
   -- one that leaves more queued may not come
-  pub left_out : (k : KernelView (List BodyTables) MachineContext) (e : Event) → HasDone i n w e k
-      → are_within q.queued k.world.state.tasks ≡ false → MayCome i n q w a e → ⊥
+  pub left_out : (k : KernelView (List BodyTables) MachineContext) (e : Event) → HasDone asked w e k
+      → are_within q.queued k.world.state.tasks ≡ false → MayCome asked w a e → ⊥
   left_out k e h more may =
       let stays : are_within q.queued k.world.state.tasks ≡ true =
       ap (λ (v : World MachineContext). are_within q.queued v.state.tasks) h.world
@@ -167,7 +177,7 @@ module _ (i : ImageTables) (n : ℕ) (q : Question) (w : World MachineContext) (
       cc (more, stays)
 
   -- nor may an interrupt that a limit holds back
-  pub held_back : (e : Event) → all_let a.monitors e ≡ false → MayCome i n q w a e → ⊥
+  pub held_back : (e : Event) → all_let a.monitors e ≡ false → MayCome asked w a e → ⊥
   held_back (event.Run p) held may = cc (held, runs-let a.monitors p)
   held_back event.Tick held may = cc (held, ticks-let a.monitors)
   held_back (event.Int number) held may =
@@ -178,14 +188,14 @@ module _ (i : ImageTables) (n : ℕ) (q : Question) (w : World MachineContext) (
       )
 
   -- where the code lets the clock not advance, the rules do not
-  pub tick_never : (m : StateMarks) → AreMarks i n q w a m → q.ticks ≢ ticks.Any → m.idle ≡ false
-      → MayCome i n q w a event.Tick → ⊥
+  pub tick_never : (m : StateMarks) → AreMarks asked w a m → q.ticks ≢ ticks.Any → m.idle ≡ false
+      → MayCome asked w a event.Tick → ⊥
   tick_never m h some busy may = by_ticks q.ticks some (may_parts event.Tick may).0 where
     by_ticks : (t : Ticks) → t ≢ ticks.Any → (not (is_idle t) || idle) ≡ true → ⊥
     by_ticks ticks.Any other e = absurd (other refl)
     by_ticks ticks.Idle other e = cc (e, h.idle busy)
 
-  pub interrupt_never : (number : ℕ) → may_still q.interrupts a.came ≡ false → MayCome i n q w a (event.Int number) → ⊥
+  pub interrupt_never : (number : ℕ) → may_still q.interrupts a.came ≡ false → MayCome asked w a (event.Int number) → ⊥
   interrupt_never number never may =
       cc (
         never,

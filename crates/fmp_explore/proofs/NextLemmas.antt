@@ -35,24 +35,34 @@ use Rattle.fmp_witness.proofs.OverLemmas.{Kernels}
 use Rattle.fmp_witness.proofs.StepLemmas.{kept_by_run}
 use Rattle.fmp_explore.proofs.StateLemmas.{fit_by, leads_done, leads_kept}
 use Rattle.fmp_explore.proofs.SearchStepLemmas.{grows_on, grows_search, stays_grows, stays_search}
+use Rattle.fmp_witness.specs.Asked.{Asked}
 
-module _ (i : ImageTables) (n : ℕ) (q : Question) where
+module _ (asked : Asked) where
+  abbrev i : ImageTables
+  i = asked.image
+
+  abbrev n : ℕ
+  n = asked.bound
+
+  abbrev q : Question
+  q = asked.question
+
   -- what an event that is done leads to is kept
   pub dealt_done : (a b c : Search) (k : Kernels) (w : World MachineContext) (came : ℕ) (ss : List Monitor) (e : Event)
-      → IsSearch i q a → Stays a b
+      → IsSearch asked a → Stays a b
       → (b.sure ≡ true → list_any (is_bad i.system q k.world) k.lines ≡ false)
       → (b.sure ≡ true → is_any_broken ss k.lines ≡ false)
       → (b.sure ≡ true → b.rows.outs ≡ true → list_all (is_written i.system i.code k.world) k.lines ≡ true)
-      → HasDone i n w e k → IsSound i.system i.code k.world
-      → HasKept i q b c k.world (watched_with q (came_on q.interrupts came e) (monitors_after ss k.lines))
-      → HasDealt i n q a c w (watched_with q came ss) e
+      → HasDone asked w e k → IsSound i.system i.code k.world
+      → HasKept asked b c k.world (watched_with q (came_on q.interrupts came e) (monitors_after ss k.lines))
+      → HasDealt asked a c w (watched_with q came ss) e
   dealt_done a b c k w came ss e h stays clean alone written done sound kept =
       let grows = grows_on a b c (stays_grows a b stays) kept.grows in
       record {
         grows = grows;
         leads = λ sure may.
-            leads_done i n q (rows_of c) (grows_search i q a c grows h).survey.fields w came ss e done.done done.did
-            (fit_by i n q (rows_of c) (grows_search i q a c grows h).survey.fields c.rows.outs w e (Did done.done)
+            leads_done asked (rows_of c) (grows_search asked a c grows h).survey.fields w came ss e done.done done.did
+            (fit_by asked (rows_of c) (grows_search asked a c grows h).survey.fields c.rows.outs w e (Did done.done)
             done.did (λ outs.
             subst (λ (v : World MachineContext). list_all (is_written i.system i.code v) done.done.lines ≡ true)
             done.world
@@ -69,23 +79,23 @@ module _ (i : ImageTables) (n : ℕ) (q : Question) where
             (none-there i.system q k.world k.lines (clean (kept.grows.sure sure)))))
             (subst (λ (ls : List Line). is_any_broken ss ls ≡ false) done.lines (alone (kept.grows.sure sure)))
             (subst (λ (v : World MachineContext). IsSound i.system i.code v) done.world sound)
-            (subst (λ (v : World MachineContext). IsKept i q (rows_of c) v
+            (subst (λ (v : World MachineContext). IsKept asked (rows_of c) v
             (watched_with q (came_on q.interrupts came e) (monitors_after ss done.done.lines))) done.world
-            (subst (λ (ls : List Line). IsKept i q (rows_of c) k.world
+            (subst (λ (ls : List Line). IsKept asked (rows_of c) k.world
             (watched_with q (came_on q.interrupts came e) (monitors_after ss ls))) done.lines (kept.known sure)));
       }
 
   -- what an event that keeps a place leads to is kept
   pub dealt_kept : (a b c : Search) (k : Kernels) (w : World MachineContext) (came : ℕ) (ss : List Monitor) (e : Event)
-      → IsSearch i q a → Stays a b → HasKeptPlace i n w e k → IsSound i.system i.code k.world
-      → HasKept i q b c k.world (watched_with q (came_on q.interrupts came e) ss)
-      → HasDealt i n q a c w (watched_with q came ss) e
+      → IsSearch asked a → Stays a b → HasKeptPlace asked w e k → IsSound i.system i.code k.world
+      → HasKept asked b c k.world (watched_with q (came_on q.interrupts came e) ss)
+      → HasDealt asked a c w (watched_with q came ss) e
   dealt_kept a b c k w came ss e h stays kept_place sound kept =
       let grows = grows_on a b c (stays_grows a b stays) kept.grows in
       record {
         grows = grows;
         leads = λ sure may.
-            leads_kept i n q (rows_of c) (grows_search i q a c grows h).survey.fields w came ss e kept_place.place
+            leads_kept asked (rows_of c) (grows_search asked a c grows h).survey.fields w came ss e kept_place.place
             k.world kept_place.keeps
             (kept_by_run i.system (code_meaning i.code) w kept_place.place k.world n e kept_place.keeps) sound
             (kept.known sure);
@@ -93,13 +103,13 @@ module _ (i : ImageTables) (n : ℕ) (q : Question) where
 
   -- an event that may not come is left out
   pub dealt_not : (a b : Search) (w : World MachineContext) (x : Watched) (e : Event) → Stays a b
-      → (MayCome i n q w x e → ⊥) → HasDealt i n q a b w x e
+      → (MayCome asked w x e → ⊥) → HasDealt asked a b w x e
   dealt_not a b w x e stays never =
       record { grows = stays_grows a b stays; leads = λ sure may. absurd (never may) }
 
   -- what an event leads to is kept, where something was noted before
   pub dealt_after : (a b c : Search) (w : World MachineContext) (x : Watched) (e : Event) → Stays a b
-      → HasDealt i n q b c w x e → HasDealt i n q a c w x e
+      → HasDealt asked b c w x e → HasDealt asked a c w x e
   dealt_after a b c w x e stays h =
       record { grows = grows_on a b c (stays_grows a b stays) h.grows; leads = h.leads }
 
@@ -118,11 +128,11 @@ module _ (i : ImageTables) (n : ℕ) (q : Question) where
 
   -- where no line of setup is forbidden, what is watched then is what is watched after no event
   watched_clean : list_any (forbids q.nevers.items) (setup i.system (code_meaning i.code)).lines ≡ false
-      → is_any_broken q.monitors.items (setup i.system (code_meaning i.code)).lines ≡ false → IsClean i q
+      → is_any_broken q.monitors.items (setup i.system (code_meaning i.code)).lines ≡ false → IsClean asked
   watched_clean clean alone =
       let with : ℕ → Bool → Bool → Watched =
       λ (came : ℕ) (told broken : Bool).
-      record { came = came; told = told; monitors = monitors_at_setup i q; broken = broken } in
+      record { came = came; told = told; monitors = monitors_at_setup asked; broken = broken } in
       let ls : List Line = (setup i.system (code_meaning i.code)).lines in
       let came : ℕ = came_after q.interrupts 0 (setup i.system (code_meaning i.code)).lines in
       let told : Bool = list_any (forbids q.nevers.items) (setup i.system (code_meaning i.code)).lines in
@@ -133,7 +143,7 @@ module _ (i : ImageTables) (n : ℕ) (q : Question) where
 
   -- where no line that a kernel told at setup is forbidden, setup is clean
   pub clean_setup : (k : Kernels) → k ≡ kernel_after i n [] → list_any (is_bad i.system q k.world) k.lines ≡ false
-      → is_any_broken q.monitors.items k.lines ≡ false → IsClean i q
+      → is_any_broken q.monitors.items k.lines ≡ false → IsClean asked
   unfolding replay
   clean_setup k first clean alone =
       watched_clean
@@ -143,38 +153,38 @@ module _ (i : ImageTables) (n : ℕ) (q : Question) where
 
   -- the lines of setup
   pub lines_at_setup : (k : Kernels) → k ≡ kernel_after i n []
-      → monitors_after q.monitors.items k.lines ≡ monitors_at_setup i q
+      → monitors_after q.monitors.items k.lines ≡ monitors_at_setup asked
   unfolding replay
   lines_at_setup k first = ap (λ (x : Kernels). monitors_after q.monitors.items x.lines) first
 
   -- the first state is kept
-  pub begun_of : (a b : Search) (k : Kernels) (ss : List Monitor) → IsSearch i q a → (a.sure ≡ true → IsClean i q)
-      → IsFollowed i n q.after.items k → ss ≡ monitors_at_setup i q
-      → HasKept i q a b k.world (watched_with q (count_by is_interrupt q.after.items) ss) → IsBegun i n q b
+  pub begun_of : (a b : Search) (k : Kernels) (ss : List Monitor) → IsSearch asked a → (a.sure ≡ true → IsClean asked)
+      → IsFollowed i n q.after.items k → ss ≡ monitors_at_setup asked
+      → HasKept asked a b k.world (watched_with q (count_by is_interrupt q.after.items) ss) → IsBegun asked b
   begun_of a b k ss h clean followed is kept =
       record {
-        survey = grows_search i q a b kept.grows h;
+        survey = grows_search asked a b kept.grows h;
         clean = λ sure. clean (kept.grows.sure sure);
         first = λ sure.
-            subst (λ (xs : List Monitor). IsKept i q (rows_of b) (replay i n q.after.items).world
+            subst (λ (xs : List Monitor). IsKept asked (rows_of b) (replay i n q.after.items).world
             (watched_with q (count_by is_interrupt q.after.items) xs)) is
-            (subst (λ (x : Kernels). IsKept i q (rows_of b) x.world
+            (subst (λ (x : Kernels). IsKept asked (rows_of b) x.world
             (watched_with q (count_by is_interrupt q.after.items) ss)) followed.kernel (kept.known sure));
       }
 
   -- the first state cannot be reached
-  pub begun_nowhere : (a b : Search) → Stays a b → IsSearch i q a → b.sure ≡ false → IsBegun i n q b
+  pub begun_nowhere : (a b : Search) → Stays a b → IsSearch asked a → b.sure ≡ false → IsBegun asked b
   begun_nowhere a b stays h lost =
       record {
-        survey = stays_search i q a b stays h;
+        survey = stays_search asked a b stays h;
         clean = λ sure. absurd (cc (sure, lost));
         first = λ sure. absurd (cc (sure, lost));
       }
 
   -- a search that has no state yet, once the first numbers of its fields are read
-  pub fresh_search : (a b : Search) → IsFresh i q a → b.tries.items ≡ a.tries.items
+  pub fresh_search : (a b : Search) → IsFresh asked a → b.tries.items ≡ a.tries.items
       → b.rows.fields.items ≡ a.rows.fields.items → b.rows.outs ≡ a.rows.outs → b.rows.live ≡ a.rows.live
-      → length b.rows.first.items ≡ length b.rows.fields.items + 2 * length q.monitors.items → IsSearch i q b
+      → length b.rows.first.items ≡ length b.rows.fields.items + 2 * length q.monitors.items → IsSearch asked b
   fresh_search a b h tries fields outs live size =
       record {
         survey =

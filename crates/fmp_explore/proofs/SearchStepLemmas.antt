@@ -6,7 +6,7 @@ use Rattle.fmp_question.specs.declared.question.Question.{Question}
 use Rattle.fmp_explore.specs.declared.rows.Rows.{Rows}
 use Rattle.fmp_explore.specs.declared.searches.Search.{Search}
 use Rattle.fmp_explore.specs.declared.trying.ExaminedState.{ExaminedState}
-use Rattle.fmp_explore.specs.Searching.{CanStep, Grows, HasKept, IsSearch, SameTable, StandsAt, Stays, rows_of}
+use Rattle.fmp_explore.specs.Searching.{CanStep, Grows, HasKept, HasLive, IsSearch, SameTable, StandsAt, Stays, rows_of}
 use Rattle.fmp_explore.specs.States.{AreFew, AreMonitorsOf, HasRow, IsRowOf, KeptRows, numbers_in, watched_with}
 use Rattle.fmp_fields.specs.declared.field.What.{What}
 use Rattle.fmp_fields.specs.Fields.{AreAllFields}
@@ -20,9 +20,10 @@ use Rattle.fmp_visited.specs.declared.link.RowEntry.{RowEntry}
 use Rattle.fmp_visited.specs.declared.link.RowEntry.TheVariants as entry
 use Rattle.fmp_visited.specs.Seen.{Adds, SeenStates, with_state}
 use Rattle.fmp_base.specs.Systems.{SystemTables}
-use Rattle.fmp_witness.specs.Followed.{IsOver}
 use Rattle.fmp_witness.proofs.OverLemmas.{Kernels}
 use Rattle.fmp_explore.proofs.StateLemmas.{element_last, grown}
+use Rattle.fmp_witness.specs.Asked.{Asked}
+use Rattle.fmp_explore.specs.Searching.{IsKernelOf}
 
 -- what becomes of the states where a row is looked up
 adds_at : (old new : SeenStates) (row : List ℕ) (link : StateLink) (x y : RowEntry) → x ≡ y → Adds old new row link x
@@ -44,10 +45,6 @@ adds_none old new row link x e h = (adds_at old new row link x entry.Full e h).0
 
 -- ---- the same table
 
--- the tables of live locals are those of the image
-abbrev pub HasLive : ImageTables → Search → Type 0
-HasLive i a = AreLiveTables a.rows.outs i.code (live_tables a.rows.live)
-
 pub same_self : (a : Search) → SameTable a a
 same_self a = record { tries = refl; fields = refl; first = refl; outs = refl; live = refl }
 
@@ -61,28 +58,30 @@ same_on a b c g h =
       live = h.live ∙ g.live;
     }
 
-pub live_on : (i : ImageTables) (outs outs' : Bool) (x x' : LiveLocals) → outs' ≡ outs → x' ≡ x
-    → AreLiveTables outs i.code (live_tables x) → AreLiveTables outs' i.code (live_tables x')
-live_on i outs outs' x x' e f h =
-    subst (λ (b : Bool). AreLiveTables b i.code (live_tables x')) (sym e)
-    (subst (λ (y : LiveLocals). AreLiveTables outs i.code (live_tables y)) (sym f) h)
+pub live_on : (asked : Asked) (outs outs' : Bool) (x x' : LiveLocals) → outs' ≡ outs → x' ≡ x
+    → AreLiveTables outs asked.image.code (live_tables x) → AreLiveTables outs' asked.image.code (live_tables x')
+live_on asked outs outs' x x' e f h =
+    subst (λ (b : Bool). AreLiveTables b asked.image.code (live_tables x')) (sym e)
+    (subst (λ (y : LiveLocals). AreLiveTables outs asked.image.code (live_tables y)) (sym f) h)
 
-pub same_live : (i : ImageTables) (a b : Search) → SameTable a b → HasLive i a → HasLive i b
-same_live i a b s h = live_on i a.rows.outs b.rows.outs a.rows.live b.rows.live s.outs s.live h
+pub same_live : (asked : Asked) (a b : Search) → SameTable a b → HasLive asked a.rows → HasLive asked b.rows
+same_live asked a b s h = live_on asked a.rows.outs b.rows.outs a.rows.live b.rows.live s.outs s.live h
 
-pub same_search : (i : ImageTables) (q : Question) (a b : Search) → SameTable a b → IsSearch i q a → IsSearch i q b
-same_search i q a b s h =
+pub same_search : (asked : Asked) (a b : Search) → SameTable a b → IsSearch asked a → IsSearch asked b
+same_search asked a b s h =
     record {
       survey =
           record {
             tries = s.tries ∙ h.survey.tries;
-            fields = subst (λ (fs : List What). AreAllFields i.system i.code (is_some q.interrupts) fs)
+            fields = subst
+                (λ (fs : List What). AreAllFields asked.image.system asked.image.code
+                (is_some asked.question.interrupts) fs)
                 (sym s.fields) h.survey.fields;
-            live = same_live i a b s h.survey.live;
+            live = same_live asked a b s h.survey.live;
           };
       first =
           ap (λ (xs : List ℕ). length xs) s.first ∙ h.first
-          ∙ sym (ap (λ (fs : List What). length fs + 2 * length q.monitors.items) s.fields);
+          ∙ sym (ap (λ (fs : List What). length fs + 2 * length asked.question.monitors.items) s.fields);
     }
 
 -- ---- growing
@@ -129,11 +128,11 @@ stays_rows a c r fields first outs live h =
       sure = h.sure;
     }
 
-pub grows_search : (i : ImageTables) (q : Question) (a b : Search) → Grows a b → IsSearch i q a → IsSearch i q b
-grows_search i q a b g h = same_search i q a b g.same h
+pub grows_search : (asked : Asked) (a b : Search) → Grows a b → IsSearch asked a → IsSearch asked b
+grows_search asked a b g h = same_search asked a b g.same h
 
-pub stays_search : (i : ImageTables) (q : Question) (a b : Search) → Stays a b → IsSearch i q a → IsSearch i q b
-stays_search i q a b s h = same_search i q a b s.same h
+pub stays_search : (asked : Asked) (a b : Search) → Stays a b → IsSearch asked a → IsSearch asked b
+stays_search asked a b s h = same_search asked a b s.same h
 
 table_is : (a b : Search) → SameTable a b
     → rows_of b
@@ -167,15 +166,21 @@ found_there [] k d x lt e = absurd (omega (arith, lt))
 found_there (y ∷ xs) zero d x lt e = ap Some e
 found_there (y ∷ xs) (suc k) d x lt e = found_there xs k d x (omega (arith, lt)) e
 
-module _ (i : ImageTables) (n : ℕ) (q : Question) where
+module _ (asked : Asked) where
+  abbrev i : ImageTables
+  i = asked.image
+
+  abbrev q : Question
+  q = asked.question
+
   -- the row of a kernel in a sound world
   pub row_of_kernel : (a b : Search) → SameTable a b → (k : Kernels) (came : ℕ) (ss : List Monitor)
-      (tables : List LiveTable) (row : List ℕ) → IsOver i n k → IsSound i.system i.code k.world → AreFew q came
+      (tables : List LiveTable) (row : List ℕ) → IsKernelOf asked k → IsSound i.system i.code k.world → AreFew q came
       → AreMonitorsOf q.monitors.items ss → AreLiveTables a.rows.outs i.code tables
       → IsRowOf a.rows.first.items (numbers_in k.system tables a.rows.fields.items k.world came ss) row
-      → HasRow i q (rows_of b) k.world (watched_with q came ss) row
+      → HasRow asked (rows_of b) k.world (watched_with q came ss) row
   row_of_kernel a b same k came ss tables row over sound few held live is =
-      subst (λ (kept : KeptRows). HasRow i q kept k.world (watched_with q came ss) row) (sym (table_is a b same))
+      subst (λ (kept : KeptRows). HasRow asked kept k.world (watched_with q came ss) row) (sym (table_is a b same))
       (record {
         sound = sound;
         came = came;
@@ -191,11 +196,11 @@ module _ (i : ImageTables) (n : ℕ) (q : Question) where
 
   -- a kernel whose row is that of a state is in the state
   pub stands_of : (a b : Search) → Stays a b → (at : ExaminedState) (k : Kernels) (tables : List LiveTable)
-      (row : List ℕ) → CanStep i n k → at.state < length a.seen.rows → AreFew q at.came
+      (row : List ℕ) → CanStep asked k → at.state < length a.seen.rows → AreFew q at.came
       → AreMonitorsOf q.monitors.items at.monitors.items → AreLiveTables a.rows.outs i.code tables
       → IsRowOf a.rows.first.items
       (numbers_in k.system tables a.rows.fields.items k.world at.came at.monitors.items) row
-      → unwrap_or (slice_get a.seen.rows at.state) [] ≡ row → StandsAt i n q b at k
+      → unwrap_or (slice_get a.seen.rows at.state) [] ≡ row → StandsAt asked b at k
   stands_of a b stays at k tables row ready there few held live is same =
       record {
         ready = ready;
@@ -208,15 +213,15 @@ module _ (i : ImageTables) (n : ℕ) (q : Question) where
       }
 
   module _ (a b : Search) (same : SameTable a b) (sure : b.sure ≡ true → a.sure ≡ true) (k : Kernels) (came : ℕ)
-      (ss : List Monitor) (tables : List LiveTable) (row : List ℕ) (over : IsOver i n k)
+      (ss : List Monitor) (tables : List LiveTable) (row : List ℕ) (over : IsKernelOf asked k)
       (sound : IsSound i.system i.code k.world) (few : AreFew q came) (held : AreMonitorsOf q.monitors.items ss)
       (live : AreLiveTables a.rows.outs i.code tables)
       (is : IsRowOf a.rows.first.items (numbers_in k.system tables a.rows.fields.items k.world came ss) row)
     where
       abbrev pub Keeps : Type 0
-      Keeps = HasKept i q a b k.world (watched_with q came ss)
+      Keeps = HasKept asked a b k.world (watched_with q came ss)
 
-      has : HasRow i q (rows_of b) k.world (watched_with q came ss) row
+      has : HasRow asked (rows_of b) k.world (watched_with q came ss) row
       has = row_of_kernel a b same k came ss tables row over sound few held live is
 
       -- the row is new

@@ -5,103 +5,102 @@ use Rattle.std.proofs.Common.{length-append, slice_get}
 use Rattle.std.proofs.lemmas.Bool.{cases_lt}
 use Rattle.std.proofs.lemmas.Option.{slice_get_within}
 use Rattle.std.specs.Prelude.{unwrap_or}
-use Rattle.fmp_question.specs.declared.question.Question.{Question}
 use Rattle.fmp_explore.specs.declared.searches.Search.{Search}
 use Rattle.fmp_explore.specs.declared.slices.Slice.{Slice}
-use Rattle.fmp_explore.specs.Searching.{Grows, IsSearch, IsSearching, SameTable, rows_of}
+use Rattle.fmp_explore.specs.Searching.{Grows, HasLive, IsSearch, IsSearching, SameTable, rows_of}
 use Rattle.fmp_explore.specs.Slices.{AreEntered, AreExamined, HasEntered, HasExaminedRow, HasKeptRow, IsAmong, IsSlice}
 use Rattle.fmp_explore.specs.Slices.{IsInRound, IsSliceOf}
 use Rattle.fmp_explore.specs.States.{IsExamined, KeptRows}
 use Rattle.fmp_fields.specs.declared.field.What.{What}
 use Rattle.fmp_fields.specs.Fields.{AreAllFields}
-use Rattle.fmp_image_bytes.specs.Images.{ImageTables}
-use Rattle.fmp_live.specs.LiveLocals.{AreLiveTables, live_tables}
 use Rattle.fmp_visited.specs.Seen.{SeenStates, with_state}
 use Rattle.fmp_visited.specs.declared.link.StateLink.{StateLink}
 use Rattle.fmp_explore.proofs.SearchLemmas.{element_before, more_examined}
 use Rattle.fmp_explore.proofs.SearchStepLemmas.{grows_on, grows_rows, grows_search, stays_grows}
 use Rattle.fmp_explore.proofs.StateLemmas.{element_last, element_stays, examined_grown, examined_with}
 use Rattle.fmp_explore.proofs.StateLemmas.{with_rows}
+use Rattle.fmp_witness.specs.Asked.{Asked}
 
-module _ (i : ImageTables) (n : ℕ) (q : Question) (whole : Search) (slice : Slice) (h : IsSlice i n q whole slice)
-  where
-    -- the rows of a search that the whole one became, beside those of the slice
-    rows_beside : (b : Search) → Grows whole b → with_rows (rows_of slice.search) b.seen.rows ≡ rows_of b
-    rows_beside b g =
-        let with : Bool → List What → List ℕ → KeptRows = λ (outs : Bool) (fields : List What) (first : List ℕ).
-        record { outs = outs; fields = fields; first = first; rows = b.seen.rows } in
-        let s = slice.search.rows in
-        ap (λ (outs : Bool). with outs s.fields.items s.first.items) (h.same.outs ∙ sym g.same.outs)
-        ∙ ap (λ (fields : List What). with b.rows.outs fields s.first.items) (h.same.fields ∙ sym g.same.fields)
-        ∙ ap (λ (first : List ℕ). with b.rows.outs b.rows.fields.items first) (h.same.first ∙ sym g.same.first)
+module _ (asked : Asked) (whole : Search) (slice : Slice) (h : IsSlice asked whole slice) where
+  -- the rows of a search that the whole one became, beside those of the slice
+  rows_beside : (b : Search) → Grows whole b → with_rows (rows_of slice.search) b.seen.rows ≡ rows_of b
+  rows_beside b g =
+      let with : Bool → List What → List ℕ → KeptRows = λ (outs : Bool) (fields : List What) (first : List ℕ).
+      record { outs = outs; fields = fields; first = first; rows = b.seen.rows } in
+      let s = slice.search.rows in
+      ap (λ (outs : Bool). with outs s.fields.items s.first.items) (h.same.outs ∙ sym g.same.outs)
+      ∙ ap (λ (fields : List What). with b.rows.outs fields s.first.items) (h.same.fields ∙ sym g.same.fields)
+      ∙ ap (λ (first : List ℕ). with b.rows.outs b.rows.fields.items first) (h.same.first ∙ sym g.same.first)
 
-    -- where a slice is entered, its states are examined
-    pub slice_examined : (a b : Search) → Grows whole a → slice.span.first ≤ length a.seen.rows
-        → slice.span.end ≤ length whole.seen.rows → HasEntered slice.search a b
-        → IsSearching i n q slice.span.first a → IsSearching i n q slice.span.end b
-    slice_examined a b g le within entered x =
-        let grows : Grows whole b = grows_on whole a b g entered.grows in
-        more_examined i n q slice.span.first slice.span.end a b x le entered.grows
-        (λ sure k row past before there.
-        subst (λ (kept : KeptRows). IsExamined i n q kept row) (rows_beside b grows)
-        (examined_with i n q (rows_of slice.search) b.seen.rows
-        (λ j r at. entered.each sure j r (slice_get_within slice.search.seen.rows j r at) at) row
-        (h.each (entered.sure sure) k row past before
-        (element_before whole.seen.rows grows.more k row (omega (arith, before, within))
-        (ap (λ (rs : List (List ℕ)). slice_get rs k) (sym grows.rows) ∙ there)))))
+  -- where a slice is entered, its states are examined
+  pub slice_examined : (a b : Search) → Grows whole a → slice.span.first ≤ length a.seen.rows
+      → slice.span.end ≤ length whole.seen.rows → HasEntered slice.search a b
+      → IsSearching asked slice.span.first a → IsSearching asked slice.span.end b
+  slice_examined a b g le within entered x =
+      let grows : Grows whole b = grows_on whole a b g entered.grows in
+      more_examined asked slice.span.first slice.span.end a b x le entered.grows
+      (λ sure k row past before there.
+      subst (λ (kept : KeptRows). IsExamined asked kept row) (rows_beside b grows)
+      (examined_with asked (rows_of slice.search) b.seen.rows
+      (λ j r at. entered.each sure j r (slice_get_within slice.search.seen.rows j r at) at) row
+      (h.each (entered.sure sure) k row past before
+      (element_before whole.seen.rows grows.more k row (omega (arith, before, within))
+      (ap (λ (rs : List (List ℕ)). slice_get rs k) (sym grows.rows) ∙ there)))))
 
 -- ---- the search of a slice
 
 -- a search that keeps rows as the whole one does, where it has the same tables
-pub slice_of : (i : ImageTables) (q : Question) (whole s : Search) → IsSearch i q whole
+pub slice_of : (asked : Asked) (whole s : Search) → IsSearch asked whole
     → s.tries.items ≡ whole.tries.items → s.rows.fields.items ≡ whole.rows.fields.items
     → s.rows.first.items ≡ whole.rows.first.items → s.rows.outs ≡ whole.rows.outs
-    → AreLiveTables s.rows.outs i.code (live_tables s.rows.live) → IsSliceOf i q whole s
-slice_of i q whole s h tries fields first outs live =
+    → HasLive asked s.rows → IsSliceOf asked whole s
+slice_of asked whole s h tries fields first outs live =
     record {
       survey =
           record {
             survey =
                 record {
                   tries = tries ∙ h.survey.tries;
-                  fields = subst (λ (fs : List What). AreAllFields i.system i.code (is_some q.interrupts) fs)
+                  fields = subst
+                      (λ (fs : List What). AreAllFields asked.image.system asked.image.code
+                      (is_some asked.question.interrupts) fs)
                       (sym fields) h.survey.fields;
                   live = live;
                 };
             first =
                 ap (λ (xs : List ℕ). length xs) first ∙ h.first
-                ∙ sym (ap (λ (fs : List What). length fs + 2 * length q.monitors.items) fields);
+                ∙ sym (ap (λ (fs : List What). length fs + 2 * length asked.question.monitors.items) fields);
           };
       outs = outs;
       fields = fields;
       first = first;
     }
 
-pub slice_grows : (i : ImageTables) (q : Question) (whole a b : Search) → Grows a b → IsSliceOf i q whole a
-    → IsSliceOf i q whole b
-slice_grows i q whole a b g h =
+pub slice_grows : (asked : Asked) (whole a b : Search) → Grows a b → IsSliceOf asked whole a
+    → IsSliceOf asked whole b
+slice_grows asked whole a b g h =
     record {
-      survey = grows_search i q a b g h.survey;
+      survey = grows_search asked a b g h.survey;
       outs = g.same.outs ∙ h.outs;
       fields = g.same.fields ∙ h.fields;
       first = g.same.first ∙ h.first;
     }
 
 -- the state of one more row is examined
-pub row_examined : (i : ImageTables) (n : ℕ) (q : Question) (whole : Search) (first place : ℕ) (read : List ℕ)
-    (a b : Search) → read ≡ unwrap_or (slice_get whole.seen.rows place) [] → AreExamined i n q whole first place a
-    → HasExaminedRow i n q a b read → AreExamined i n q whole first (place + 1) b
-row_examined i n q whole first place read a b is h x sure k row past before there = by_order (cases_lt k place) where
-  by_order : (k < place) ⊎ (place ≤ k) → IsExamined i n q (rows_of b) row
+pub row_examined : (asked : Asked) (whole : Search) (first place : ℕ) (read : List ℕ)
+    (a b : Search) → read ≡ unwrap_or (slice_get whole.seen.rows place) [] → AreExamined asked whole first place a
+    → HasExaminedRow asked a b read → AreExamined asked whole first (place + 1) b
+row_examined asked whole first place read a b is h x sure k row past before there = by_order (cases_lt k place) where
+  by_order : (k < place) ⊎ (place ≤ k) → IsExamined asked (rows_of b) row
   by_order (inl low) =
-      subst (λ (kept : KeptRows). IsExamined i n q kept row) (sym (grows_rows a b x.grows))
-      (examined_grown i n q (rows_of a) x.grows.more row (h (x.grows.sure sure) k row past low there))
+      subst (λ (kept : KeptRows). IsExamined asked kept row) (sym (grows_rows a b x.grows))
+      (examined_grown asked (rows_of a) x.grows.more row (h (x.grows.sure sure) k row past low there))
   by_order (inr far) =
       let last : k ≡ place = omega (arith, before, far) in
       let at : unwrap_or (slice_get whole.seen.rows place) [] ≡ row =
       ap (λ (r : Option (List ℕ)). unwrap_or r [])
       (ap (λ (m : ℕ). slice_get whole.seen.rows m) (sym last) ∙ there) in
-      subst (λ (r : List ℕ). IsExamined i n q (rows_of b) r) (is ∙ at) (x.examined sure)
+      subst (λ (r : List ℕ). IsExamined asked (rows_of b) r) (is ∙ at) (x.examined sure)
 
 -- ---- entering
 
@@ -199,10 +198,10 @@ grows_longer a b g =
     omega (arith, rows)
 
 -- a slice is entered in a round
-pub slice_entered : (i : ImageTables) (n : ℕ) (q : Question) (whole : Search) (slice : Slice)
-    → IsSlice i n q whole slice → (a b : Search) (next : ℕ) → slice.span.first ≡ next → HasEntered slice.search a b
-    → IsInRound i n q whole next a → IsInRound i n q whole slice.span.end b
-slice_entered i n q whole slice h a b next at entered round =
+pub slice_entered : (asked : Asked) (whole : Search) (slice : Slice)
+    → IsSlice asked whole slice → (a b : Search) (next : ℕ) → slice.span.first ≡ next → HasEntered slice.search a b
+    → IsInRound asked whole next a → IsInRound asked whole slice.span.end b
+slice_entered asked whole slice h a b next at entered round =
     let grows : Grows whole b = grows_on whole a b round.grows entered.grows in
     let long : length whole.seen.rows ≤ length a.seen.rows = grows_longer whole a round.grows in
     let low : slice.span.first ≤ length a.seen.rows = omega (arith, at, round.within, long) in
@@ -210,6 +209,6 @@ slice_entered i n q whole slice h a b next at entered round =
       grows = grows;
       within = h.within;
       searching =
-          slice_examined i n q whole slice h a b round.grows low h.within entered
-          (subst (λ (k : ℕ). IsSearching i n q k a) (sym at) round.searching);
+          slice_examined asked whole slice h a b round.grows low h.within entered
+          (subst (λ (k : ℕ). IsSearching asked k a) (sym at) round.searching);
     }

@@ -38,6 +38,7 @@ use Rattle.fmp_schedules.specs.Schedules.{watch}
 use Rattle.fmp_schedules.proofs.EventLines.{done-counts}
 use Rattle.fmp_visited.proofs.RowLemmas.{rows-told}
 use Rattle.fmp_explore.proofs.MonitorLemmas.{append-parts, held-length, held-told, numbers-length, numbers_of}
+use Rattle.fmp_witness.specs.Asked.{Asked}
 
 -- ---- more rows
 
@@ -67,17 +68,26 @@ element_last (y ∷ xs) x = element_last xs x
 pub among_more : (rows more : List (List ℕ)) → AreAmong rows (rows ++ more)
 among_more rows more k row e = record { place = k; there = element_stays rows more k row e }
 
-module _ (i : ImageTables) (n : ℕ) (q : Question) where
+module _ (asked : Asked) where
+  abbrev i : ImageTables
+  i = asked.image
+
+  abbrev n : ℕ
+  n = asked.bound
+
+  abbrev q : Question
+  q = asked.question
+
   abbrev pub Leads : KeptRows → Watched → Reaction MachineContext → Type 0
   Leads kept a r =
-      LeadsIn (IsLike kept.outs i.system i.code) (watch (rules_of q) (forbids q.nevers.items)) (IsKept i q kept) a r
+      LeadsIn (IsLike kept.outs i.system i.code) (watch (rules_of q) (forbids q.nevers.items)) (IsKept asked kept) a r
 
   abbrev Silent : Reaction MachineContext → Type 0
   Silent r = IsSilent (forbids_there i.system q.nevers_at.items) r
 
   -- a row says nothing of the other rows
   pub row_with : (kept : KeptRows) (rows : List (List ℕ)) (w : World MachineContext) (a : Watched) (row : List ℕ)
-      → HasRow i q kept w a row → HasRow i q (with_rows kept rows) w a row
+      → HasRow asked kept w a row → HasRow asked (with_rows kept rows) w a row
   row_with kept rows w a row h =
       record {
         sound = h.sound;
@@ -93,15 +103,15 @@ module _ (i : ImageTables) (n : ℕ) (q : Question) where
   -- ---- what is so of rows is so where each is one of others
 
   module _ (kept : KeptRows) (rows : List (List ℕ)) (all : AreAmong kept.rows rows) where
-    pub kept_with : (w : World MachineContext) (a : Watched) → IsKept i q kept w a
-        → IsKept i q (with_rows kept rows) w a
+    pub kept_with : (w : World MachineContext) (a : Watched) → IsKept asked kept w a
+        → IsKept asked (with_rows kept rows) w a
     kept_with w a h =
         let at : IsAmong rows h.row = all h.state h.row h.there in
         record { state = at.place; row = h.row; there = at.there; has = row_with kept rows w a h.row h.has }
 
     covered_with : (w : World MachineContext) (a : Watched)
-        → IsCovered (IsLike kept.outs i.system i.code) (IsKept i q kept) w a
-        → IsCovered (IsLike kept.outs i.system i.code) (IsKept i q (with_rows kept rows)) w a
+        → IsCovered (IsLike kept.outs i.system i.code) (IsKept asked kept) w a
+        → IsCovered (IsLike kept.outs i.system i.code) (IsKept asked (with_rows kept rows)) w a
     covered_with w a c = record { world = c.world; alike = c.alike; kept = kept_with c.world a c.kept }
 
     leads_with : (a : Watched) (r : Reaction MachineContext) → Leads kept a r → Leads (with_rows kept rows) a r
@@ -109,17 +119,17 @@ module _ (i : ImageTables) (n : ℕ) (q : Question) where
     leads_with a (Did d) l = covered_with d.world _ l
     leads_with a (Kept p w) l = covered_with w a l
 
-    pub leads_on_with : (w : World MachineContext) (a : Watched) (e : Event) → LeadsOn i n q kept w a e
-        → LeadsOn i n q (with_rows kept rows) w a e
+    pub leads_on_with : (w : World MachineContext) (a : Watched) (e : Event) → LeadsOn asked kept w a e
+        → LeadsOn asked (with_rows kept rows) w a e
     leads_on_with w a e l =
-        record { fit = l.fit; leads = leads_with a (reaction_in i n w e) l.leads; silent = l.silent }
+        record { fit = l.fit; leads = leads_with a (reaction_in asked w e) l.leads; silent = l.silent }
 
-    tried_out_with : (w : World MachineContext) (a : Watched) → IsTriedOut i n q kept w a
-        → IsTriedOut i n q (with_rows kept rows) w a
+    tried_out_with : (w : World MachineContext) (a : Watched) → IsTriedOut asked kept w a
+        → IsTriedOut asked (with_rows kept rows) w a
     tried_out_with w a t =
         record { each = λ e is may. leads_on_with w a e (t.each e is may); upheld = t.upheld; free = t.free }
 
-    pub examined_with : (row : List ℕ) → IsExamined i n q kept row → IsExamined i n q (with_rows kept rows) row
+    pub examined_with : (row : List ℕ) → IsExamined asked kept row → IsExamined asked (with_rows kept rows) row
     examined_with row x =
         record {
           world = x.world;
@@ -131,19 +141,19 @@ module _ (i : ImageTables) (n : ℕ) (q : Question) where
   -- ---- where there are more rows
 
   pub row_grown : (kept : KeptRows) (more : List (List ℕ)) (w : World MachineContext) (a : Watched) (row : List ℕ)
-      → HasRow i q kept w a row → HasRow i q (grown kept more) w a row
+      → HasRow asked kept w a row → HasRow asked (grown kept more) w a row
   row_grown kept more w a row h = row_with kept (kept.rows ++ more) w a row h
 
   pub kept_grown : (kept : KeptRows) (more : List (List ℕ)) (w : World MachineContext) (a : Watched)
-      → IsKept i q kept w a → IsKept i q (grown kept more) w a
+      → IsKept asked kept w a → IsKept asked (grown kept more) w a
   kept_grown kept more w a h = kept_with kept (kept.rows ++ more) (among_more kept.rows more) w a h
 
   pub leads_on_grown : (kept : KeptRows) (more : List (List ℕ)) (w : World MachineContext) (a : Watched) (e : Event)
-      → LeadsOn i n q kept w a e → LeadsOn i n q (grown kept more) w a e
+      → LeadsOn asked kept w a e → LeadsOn asked (grown kept more) w a e
   leads_on_grown kept more w a e l = leads_on_with kept (kept.rows ++ more) (among_more kept.rows more) w a e l
 
-  pub examined_grown : (kept : KeptRows) (more : List (List ℕ)) (row : List ℕ) → IsExamined i n q kept row
-      → IsExamined i n q (grown kept more) row
+  pub examined_grown : (kept : KeptRows) (more : List (List ℕ)) (row : List ℕ) → IsExamined asked kept row
+      → IsExamined asked (grown kept more) row
   examined_grown kept more row x = examined_with kept (kept.rows ++ more) (among_more kept.rows more) row x
 
   -- ---- one row
@@ -162,7 +172,7 @@ module _ (i : ImageTables) (n : ℕ) (q : Question) where
         (fields-told i.system i.code (is_some q.interrupts) kept.fields w w 0 0 all (readable w h) (readable w h) refl)
 
     module _ (size : length kept.first ≡ length kept.fields + 2 * length q.monitors.items) (v w : World MachineContext)
-        (a b : Watched) (row : List ℕ) (h : HasRow i q kept v a row) (k : HasRow i q kept w b row) where
+        (a b : Watched) (row : List ℕ) (h : HasRow asked kept v a row) (k : HasRow asked kept w b row) where
       abbrev fields_in : List LiveTable → World MachineContext → (came : ℕ) → List ℕ
       fields_in tables x came = map (number_of i.system (zeroed i.system tables x) came) kept.fields
 
@@ -228,18 +238,18 @@ module _ (i : ImageTables) (n : ℕ) (q : Question) where
 
     -- an event that does this fits, if its replies are written
     pub fit_by : (b : Bool) (w : World MachineContext) (e : Event) (r : Reaction MachineContext)
-        → reaction_in i n w e ≡ r → (b ≡ true → AreWritten i.system i.code r) → IsFit b i.system i.code n w e
+        → reaction_in asked w e ≡ r → (b ≡ true → AreWritten i.system i.code r) → IsFit b i.system i.code n w e
     fit_by false w e r is h = tt
     fit_by true w e r is h = subst (λ (x : Reaction MachineContext). AreWritten i.system i.code x) (sym is) (h refl)
 
     -- an event that is done, where no line is forbidden and the world after it is kept
     pub leads_done : (w : World MachineContext) (came : ℕ) (ss : List Monitor) (e : Event) (d : Done MachineContext)
-        → reaction_in i n w e ≡ Did d → IsFit kept.outs i.system i.code n w e
+        → reaction_in asked w e ≡ Did d → IsFit kept.outs i.system i.code n w e
         → list_any (forbids q.nevers.items) d.lines ≡ false
         → list_any (forbids_there i.system q.nevers_at.items d.world) d.lines ≡ false
         → is_any_broken ss d.lines ≡ false → IsSound i.system i.code d.world
-        → IsKept i q kept d.world (watched_with q (came_on q.interrupts came e) (monitors_after ss d.lines))
-        → LeadsOn i n q kept w (watched_with q came ss) e
+        → IsKept asked kept d.world (watched_with q (came_on q.interrupts came e) (monitors_after ss d.lines))
+        → LeadsOn asked kept w (watched_with q came ss) e
     leads_done w came ss e d did fit clean clean_there alone sound known =
         let count : count_by is_request d.lines ≡ cond (is_interrupt e) 1 0 =
         done-counts i.system (code_meaning i.code) n w e d did in
@@ -256,14 +266,14 @@ module _ (i : ImageTables) (n : ℕ) (q : Question) where
           fit = fit;
           leads =
               subst (λ (r : Reaction MachineContext). Leads kept (watched_with q came ss) r) (sym did)
-              (subst (λ (a : Watched). IsCovered (IsLike kept.outs i.system i.code) (IsKept i q kept) d.world a) watch
+              (subst (λ (a : Watched). IsCovered (IsLike kept.outs i.system i.code) (IsKept asked kept) d.world a) watch
               (record { world = d.world; alike = alike_self d.world sound; kept = known }));
           silent = subst (λ (r : Reaction MachineContext). Silent r) (sym did) clean_there;
         }
 
     -- an event that does nothing
-    pub leads_nowhere : (w : World MachineContext) (a : Watched) (e : Event) → reaction_in i n w e ≡ Nothing
-        → LeadsOn i n q kept w a e
+    pub leads_nowhere : (w : World MachineContext) (a : Watched) (e : Event) → reaction_in asked w e ≡ Nothing
+        → LeadsOn asked kept w a e
     leads_nowhere w a e none =
         record {
           fit = fit_by kept.outs w e Nothing none (λ b. tt);
@@ -280,9 +290,9 @@ module _ (i : ImageTables) (n : ℕ) (q : Question) where
 
     -- an event that keeps a place, where the world after it is kept
     pub leads_kept : (w : World MachineContext) (came : ℕ) (ss : List Monitor) (e : Event) (p : ℕ)
-        (v : World MachineContext) → reaction_in i n w e ≡ Kept p v → is_interrupt e ≡ false
-        → IsSound i.system i.code v → IsKept i q kept v (watched_with q (came_on q.interrupts came e) ss)
-        → LeadsOn i n q kept w (watched_with q came ss) e
+        (v : World MachineContext) → reaction_in asked w e ≡ Kept p v → is_interrupt e ≡ false
+        → IsSound i.system i.code v → IsKept asked kept v (watched_with q (came_on q.interrupts came e) ss)
+        → LeadsOn asked kept w (watched_with q came ss) e
     leads_kept w came ss e p v keeps runs sound known =
         let with : ℕ → Watched = λ (came : ℕ). record { came = came; told = false; monitors = ss; broken = false } in
         record {
@@ -293,7 +303,7 @@ module _ (i : ImageTables) (n : ℕ) (q : Question) where
                 world = v;
                 alike = alike_self v sound;
                 kept =
-                    subst (λ (a : Watched). IsKept i q kept v a)
+                    subst (λ (a : Watched). IsKept asked kept v a)
                     (ap (λ (k : ℕ). with k) (came_stays q.interrupts came e runs)) known;
               });
           silent = subst (λ (r : Reaction MachineContext). Silent r) (sym keeps) tt;

@@ -42,47 +42,58 @@ use Rattle.fmp_schedules.proofs.TriedLaws.{tried-under}
 use Rattle.fmp_question.proofs.ForbiddenLemmas.{forbids-timeless}
 use Rattle.fmp_explore.proofs.SearchLemmas.{clean, likeness, tried, whole}
 use Rattle.fmp_explore.proofs.StateLemmas.{alike_self}
+use Rattle.fmp_witness.specs.Asked.{Asked}
 
 came_counted : (most : Option ℕ) (came : ℕ) → SameCame most came (counted most came)
 came_counted None came = tt
 came_counted (Some most) came = refl
 
-module _ (i : ImageTables) (n : ℕ) (q : Question) (s : Search) (h : IsWhole i n q s) (sure : s.sure ≡ true) where
+module _ (asked : Asked) (s : Search) (h : IsWhole asked s) (sure : s.sure ≡ true) where
+  abbrev i : ImageTables
+  i = asked.image
+
+  abbrev n : ℕ
+  n = asked.bound
+
+  abbrev q : Question
+  q = asked.question
+
   abbrev K : World MachineContext → Watched → Type 0
-  K w a = IsKept i q (rows_of s) w a
+  K w a = IsKept asked (rows_of s) w a
 
   closed : IsClosedUnder (IsLike s.rows.outs i.system i.code) (watch (rules_of q) (forbids q.nevers.items))
       (may_come (rules_of q) i.system (code_meaning i.code) n) (step i.system (code_meaning i.code) n) K
   closed =
       tried-under i.system (code_meaning i.code) n (IsLike s.rows.outs i.system i.code)
-      (IsFit s.rows.outs i.system i.code n) (likeness s.rows.outs i n)
+      (IsFit s.rows.outs i.system i.code n) (likeness s.rows.outs asked)
       (watch (rules_of q) (forbids q.nevers.items))
       (may_come (rules_of q) i.system (code_meaning i.code) n) K
       (watch-blind (forbids q.nevers.items) (forbids-timeless q.nevers.items) (rules_of q))
-      (whole i n q s h.begun.survey) (tried i n q s h.begun.survey (h.each sure))
+      (whole asked s h.begun.survey) (tried asked s h.begun.survey (h.each sure))
 
   first : IsCovered (IsLike s.rows.outs i.system i.code) K (reached i.system (code_meaning i.code) n q.after.items)
-      (watched_first i q)
+      (watched_first asked)
   first =
-      let known : IsKept i q (rows_of s) (replay i n q.after.items).world (watched_first i q) = h.begun.first sure in
-      subst (λ (w : World MachineContext). IsCovered (IsLike s.rows.outs i.system i.code) K w (watched_first i q))
+      let known : IsKept asked (rows_of s) (replay i n q.after.items).world (watched_first asked) = h.begun.first sure
+      in
+      subst (λ (w : World MachineContext). IsCovered (IsLike s.rows.outs i.system i.code) K w (watched_first asked))
       (world_of i n q.after.items)
       (record {
         world = (replay i n q.after.items).world;
         alike =
-            alike_self i n q (rows_of s) h.begun.survey.survey.fields (replay i n q.after.items).world
+            alike_self asked (rows_of s) h.begun.survey.survey.fields (replay i n q.after.items).world
             known.has.sound;
         kept = known;
       })
 
   -- no forbidden line is told behind the events where the search began
-  pub none_follows : NoneFollows i n q
+  pub none_follows : NoneFollows asked
   none_follows none more follow =
       none-behind (rules_of q) i.system (code_meaning i.code) n (forbids q.nevers.items) K
       (forbids-timeless q.nevers.items) (IsLike s.rows.outs i.system i.code) (IsFit s.rows.outs i.system i.code n)
-      (likeness s.rows.outs i n) closed
-      (clean i n q s h.begun.survey) q.after.items more
-      (watched_first i q) refl
+      (likeness s.rows.outs asked) closed
+      (clean asked s h.begun.survey) q.after.items more
+      (watched_first asked) refl
       (ap (λ (ms : List Monitor). monitors_after ms (setup i.system (code_meaning i.code)).lines) none)
       (came_counted q.interrupts (count_by is_interrupt q.after.items)) first follow
 
@@ -93,9 +104,12 @@ follow_too : (i : ImageTables) (n : ℕ) (idle : Bool) (most queued : Option ℕ
 follow_too i n idle most queued ss ts es more h = h
 
 -- the task of which a question forbids the acts never acts
-pub none_acts : (i : ImageTables) (n : ℕ) (q about : Question) (es : List Event) (t : ℕ) → IsAbout q es t about
-    → NoneFollows i n about → NeverActs i n q es t
-none_acts i n q about es t is none more follow =
+pub none_acts : (asked : Asked) (about : Question) (es : List Event) (t : ℕ) → IsAbout asked.question es t about
+    → NoneFollows (record asked { question = about }) → NeverActs asked es t
+none_acts asked about es t is none more follow =
+    let i = asked.image in
+    let n = asked.bound in
+    let q = asked.question in
     let told : List Event → Bool =
     λ (fs : List Event). is_told (acts t)
     (run i.system (code_meaning i.code) n (reached i.system (code_meaning i.code) n fs) more).events in

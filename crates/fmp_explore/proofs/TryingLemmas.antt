@@ -5,7 +5,6 @@ use Rattle.std.proofs.lemmas.Bool.{cases_lt}
 use Rattle.std.proofs.lemmas.Option.{slice_get-get_or}
 use Rattle.fmp_base.specs.declared.events.Event.{Event}
 use Rattle.fmp_base.specs.Meanings.{World}
-use Rattle.fmp_question.specs.declared.question.Question.{Question}
 use Rattle.fmp_explore.specs.declared.searches.Search.{Search}
 use Rattle.fmp_explore.specs.declared.trying.StateMarks.{StateMarks}
 use Rattle.fmp_explore.specs.Searching.{AreMarks, Grows, HasLookedAt, HasTried, HasTriedOut, IsSearch, IsTrying}
@@ -19,54 +18,58 @@ use Rattle.fmp_instructions.specs.declared.instructions.MachineContext.{MachineC
 use Rattle.fmp_explore.proofs.StateLemmas.{leads_on_grown}
 use Rattle.fmp_schedules.proofs.TryLemmas.{each-tried}
 use Rattle.fmp_explore.proofs.SearchStepLemmas.{grows_on, grows_rows, grows_search, stays_grows, stays_search}
+use Rattle.fmp_witness.specs.Asked.{Asked}
 
-module _ (i : ImageTables) (n : ℕ) (q : Question) (w : World MachineContext) (x : Watched) where
+module _ (asked : Asked) (w : World MachineContext) (x : Watched) where
+  abbrev i : ImageTables
+  i = asked.image
+
   -- what an event led to is kept where more states are
-  leads_later : (a b : Search) (e : Event) → Grows a b → LeadsOn i n q (rows_of a) w x e
-      → LeadsOn i n q (rows_of b) w x e
+  leads_later : (a b : Search) (e : Event) → Grows a b → LeadsOn asked (rows_of a) w x e
+      → LeadsOn asked (rows_of b) w x e
   leads_later a b e g l =
-      subst (λ (kept : KeptRows). LeadsOn i n q kept w x e) (sym (grows_rows a b g))
-      (leads_on_grown i n q (rows_of a) g.more w x e l)
+      subst (λ (kept : KeptRows). LeadsOn asked kept w x e) (sym (grows_rows a b g))
+      (leads_on_grown asked (rows_of a) g.more w x e l)
 
   -- nothing was tried yet
-  pub none_tried : (s : Search) (m : StateMarks) → IsSearch i q s → AreMarks i n q w x m → IsTrying i n q w x m 0 s
+  pub none_tried : (s : Search) (m : StateMarks) → IsSearch asked s → AreMarks asked w x m → IsTrying asked w x m 0 s
   none_tried s m h marks =
       record { survey = h; marks = marks; each = λ sure place e lt. absurd (omega (arith, lt)) }
 
   -- the event at this place was tried, or may not come
-  pub one_tried : (a b : Search) (l m : StateMarks) (place : ℕ) (e : Event) → IsTrying i n q w x l place a
-      → slice_get (all_tries i.system) place ≡ Some e → Grows a b → AreMarks i n q w x m
-      → (b.sure ≡ true → MayCome i n q w x e → LeadsOn i n q (rows_of b) w x e)
-      → IsTrying i n q w x m (place + 1) b
+  pub one_tried : (a b : Search) (l m : StateMarks) (place : ℕ) (e : Event) → IsTrying asked w x l place a
+      → slice_get (all_tries i.system) place ≡ Some e → Grows a b → AreMarks asked w x m
+      → (b.sure ≡ true → MayCome asked w x e → LeadsOn asked (rows_of b) w x e)
+      → IsTrying asked w x m (place + 1) b
   one_tried a b l m place e t found grows marks leads =
       record {
-        survey = grows_search i q a b grows t.survey;
+        survey = grows_search asked a b grows t.survey;
         marks = marks;
         each = λ sure p f lt there may. by_order sure p f lt there may (cases_lt p place);
       } where
         by_order : b.sure ≡ true → (p : ℕ) (f : Event) → p < place + 1 → slice_get (all_tries i.system) p ≡ Some f
-            → MayCome i n q w x f → (p < place) ⊎ (place ≤ p) → LeadsOn i n q (rows_of b) w x f
+            → MayCome asked w x f → (p < place) ⊎ (place ≤ p) → LeadsOn asked (rows_of b) w x f
         by_order sure p f lt there may (inl before) =
             leads_later a b f grows (t.each (grows.sure sure) p f before there may)
         by_order sure p f lt there may (inr past) =
             let last : p ≡ place = omega (arith, lt, past) in
             let same : e ≡ f = cc (found, there, ap (λ (k : ℕ). slice_get (all_tries i.system) k) last) in
-            subst (λ (y : Event). LeadsOn i n q (rows_of b) w x y) same
-            (leads sure (subst (λ (y : Event). MayCome i n q w x y) (sym same) may))
+            subst (λ (y : Event). LeadsOn asked (rows_of b) w x y) same
+            (leads sure (subst (λ (y : Event). MayCome asked w x y) (sym same) may))
 
   -- where only notes are made, as many were tried
-  pub tried_stays : (a b : Search) (m : StateMarks) (tried : ℕ) → Stays a b → IsTrying i n q w x m tried a
-      → IsTrying i n q w x m tried b
+  pub tried_stays : (a b : Search) (m : StateMarks) (tried : ℕ) → Stays a b → IsTrying asked w x m tried a
+      → IsTrying asked w x m tried b
   tried_stays a b m tried s t =
       record {
-        survey = stays_search i q a b s t.survey;
+        survey = stays_search asked a b s t.survey;
         marks = t.marks;
         each = λ sure p e lt found may. leads_later a b e (stays_grows a b s) (t.each (s.sure sure) p e lt found may);
       }
 
   -- fewer were tried too
-  fewer_tried : (s : Search) (m : StateMarks) (tried fewer : ℕ) → fewer ≤ tried → IsTrying i n q w x m tried s
-      → IsTrying i n q w x m fewer s
+  fewer_tried : (s : Search) (m : StateMarks) (tried fewer : ℕ) → fewer ≤ tried → IsTrying asked w x m tried s
+      → IsTrying asked w x m fewer s
   fewer_tried s m tried fewer le t =
       record {
         survey = t.survey;
@@ -75,16 +78,16 @@ module _ (i : ImageTables) (n : ℕ) (q : Question) (w : World MachineContext) (
       }
 
   pub enough_tried : (a b : Search) (m : StateMarks) (tried : ℕ) → length (all_tries i.system) ≤ tried
-      → HasTried i n q w x m a b tried → HasTried i n q w x m a b (length (all_tries i.system))
+      → HasTried asked w x m a b tried → HasTried asked w x m a b (length (all_tries i.system))
   enough_tried a b m tried le t =
       record { trying = fewer_tried b m tried (length (all_tries i.system)) le t.trying; grows = t.grows }
 
   -- every event was tried, the world is no deadlock, and its state breaks no sentence
   pub all_tried : (a b c : Search) (m : StateMarks) → IsImage i
-      → HasTried i n q w x m a b (length (all_tries i.system)) → HasLookedAt i n q b c w x → HasTriedOut i n q a c w x
+      → HasTried asked w x m a b (length (all_tries i.system)) → HasLookedAt asked b c w x → HasTriedOut asked a c w x
   all_tried a b c m image t look =
       record {
-        survey = stays_search i q b c look.stays t.trying.survey;
+        survey = stays_search asked b c look.stays t.trying.survey;
         grows = grows_on a b c t.grows (stays_grows b c look.stays);
         tried = λ sure.
             record {

@@ -6,26 +6,29 @@ use Rattle.fmp_question.specs.declared.question.Never.TheVariants as kind
 use Rattle.fmp_question.specs.declared.question.Question.{Question}
 use Rattle.fmp_question.specs.Forbidden.{forbids}
 use Rattle.fmp_question.specs.Rules.{rules_of}
-use Rattle.fmp_image_bytes.specs.Images.{ImageTables}
-use Rattle.fmp_instructions.specs.Machine.{code_meaning}
 use Rattle.fmp_schedules.specs.Schedules.{is_told, reached}
 use Rattle.fmp_schedules.specs.Stuck.{MayFollow, acts}
+use Rattle.fmp_witness.specs.Asked.{Asked, meaning_of}
 
 -- where nothing is watched, whatever events follow those behind which a search begins, as the rules let them come, no
 -- forbidden line is told
-abbrev pub NoneFollows : ImageTables → (n : ℕ) → Question → Type 0
-NoneFollows i n q =
-    q.monitors.items ≡ [] → (more : List Event) →
-    MayFollow (rules_of q) i.system (code_meaning i.code) n q.after.items more →
-    is_told (forbids q.nevers.items)
-    (run i.system (code_meaning i.code) n (reached i.system (code_meaning i.code) n q.after.items) more).events ≡ false
+abbrev pub NoneFollows : Asked → Type 0
+NoneFollows asked =
+    asked.question.monitors.items ≡ [] → (more : List Event) →
+    MayFollow (rules_of asked.question) asked.image.system (meaning_of asked) asked.bound
+    asked.question.after.items more →
+    is_told (forbids asked.question.nevers.items)
+    (run asked.image.system (meaning_of asked) asked.bound
+    (reached asked.image.system (meaning_of asked) asked.bound asked.question.after.items) more).events ≡ false
 
 -- whatever events follow these, as the rules of a question let them come, the task does not act
-abbrev pub NeverActs : ImageTables → (n : ℕ) → Question → List Event → (t : ℕ) → Type 0
-NeverActs i n q es t =
-    (more : List Event) → MayFollow (rules_of q) i.system (code_meaning i.code) n es more →
+abbrev pub NeverActs : Asked → List Event → (t : ℕ) → Type 0
+NeverActs asked es t =
+    (more : List Event) →
+    MayFollow (rules_of asked.question) asked.image.system (meaning_of asked) asked.bound es more →
     is_told (acts t)
-    (run i.system (code_meaning i.code) n (reached i.system (code_meaning i.code) n es) more).events ≡ false
+    (run asked.image.system (meaning_of asked) asked.bound
+    (reached asked.image.system (meaning_of asked) asked.bound es) more).events ≡ false
 
 -- a question asks whether task t acts behind these events, by the rules of another one without limits of single
 -- interrupts

@@ -1,6 +1,6 @@
 -- What holds of a search under way.
 use Rattle.std.specs.Prelude.{ℕ, ◌≡◌, ◌+◌, ◌<◌, ◌≤◌, ◌^◌, List, [], ◌++◌, Option, Some, None, true, false, count_by}
-use Rattle.std.specs.Prelude.{◌*◌, is_some, length}
+use Rattle.std.specs.Prelude.{◌*◌, All, is_some, length}
 use Rattle.std.specs.Prelude.{slice_get}
 use Rattle.fmp_base.specs.declared.events.Effect.{Effect}
 use Rattle.fmp_base.specs.declared.events.Event.{Event}
@@ -11,13 +11,17 @@ use Rattle.fmp_base.specs.Steps.{Done, Did, Kept, Nothing, effect_of}
 use Rattle.fmp_question.specs.declared.question.Question.{Question}
 use Rattle.fmp_explore.specs.declared.searching.Ending.{Ending}
 use Rattle.fmp_explore.specs.declared.searching.Ending.TheVariants as ending
+use Rattle.fmp_explore.specs.declared.rows.Rows.{Rows}
 use Rattle.fmp_explore.specs.declared.searches.Search.{Search}
 use Rattle.fmp_explore.specs.declared.trying.ExaminedState.{ExaminedState}
 use Rattle.fmp_explore.specs.declared.trying.StateMarks.{StateMarks}
+use Rattle.fmp_witness.specs.declared.finding.Finding.{Finding}
+use Rattle.fmp_witness.specs.Findings.{IsFound}
 use Rattle.fmp_witness.specs.Followed.{IsOver}
 use Rattle.fmp_question.specs.Forbidden.{forbids}
 use Rattle.fmp_question.specs.Places.{forbids_there}
 use Rattle.fmp_question.specs.Rules.{rules_of}
+use Rattle.fmp_explore.specs.States.{AreFew, AreMonitorsOf}
 use Rattle.fmp_explore.specs.States.{HasRow, IsExamined, IsKept, IsStuckIn, IsTriedOut, KeptRows, LeadsOn, MayCome}
 use Rattle.fmp_explore.specs.States.{reaction_in, watched_with}
 use Rattle.fmp_schedules.specs.Tries.{all_tries}
@@ -35,35 +39,45 @@ use Rattle.fmp_schedules.specs.declared.monitor.Monitor.{Monitor}
 use Rattle.fmp_schedules.specs.Monitors.{is_any_broken_in}
 use Rattle.fmp_schedules.specs.Schedules.{Holds, HoldsThere, Watched, may_still, none_runs, monitors_after}
 use Rattle.fmp_schedules.specs.Schedules.{watched_at_setup}
+use Rattle.fmp_witness.specs.Asked.{Asked, meaning_of}
 
 -- ---- kernels
 
+-- a kernel of the image, at the bound, in whatever state
+abbrev pub IsKernelOf : Asked → KernelView (List BodyTables) MachineContext → Type 0
+IsKernelOf asked k = IsOver asked.image asked.bound k
+
+-- such a kernel in a sound world
+pub record IsSoundKernel (asked : Asked) (k : KernelView (List BodyTables) MachineContext) : Type 0 where
+  pub over : IsKernelOf asked k
+  pub sound : IsSound asked.image.system asked.image.code k.world
+
 -- a kernel of the image that can take an event, in a sound world
-pub record CanStep (i : ImageTables) (n : ℕ) (k : KernelView (List BodyTables) MachineContext) : Type 0 where
-  pub over : IsOver i n k
+pub record CanStep (asked : Asked) (k : KernelView (List BodyTables) MachineContext) : Type 0 where
+  pub over : IsKernelOf asked k
   pub early : k.taken < 2 ^ 20
-  pub sound : IsSound i.system i.code k.world
+  pub sound : IsSound asked.image.system asked.image.code k.world
 
 -- what an event has done on a kernel, and the kernel then
-pub record HasStepped (i : ImageTables) (n : ℕ) (before : KernelView (List BodyTables) MachineContext) (e : Event)
+pub record HasStepped (asked : Asked) (before : KernelView (List BodyTables) MachineContext) (e : Event)
     (k : KernelView (List BodyTables) MachineContext) (x : Effect) : Type 0 where
-  pub could : CanStep i n before
-  pub effect : x ≡ effect_of (reaction_in i n before.world e)
-  pub kernel : k ≡ view_after before (reaction_in i n before.world e)
+  pub could : CanStep asked before
+  pub effect : x ≡ effect_of (reaction_in asked before.world e)
+  pub kernel : k ≡ view_after before (reaction_in asked before.world e)
 
 -- an event was done in a world
-pub record HasDone (i : ImageTables) (n : ℕ) (w : World MachineContext) (e : Event)
+pub record HasDone (asked : Asked) (w : World MachineContext) (e : Event)
     (k : KernelView (List BodyTables) MachineContext) : Type 0 where
   pub done : Done MachineContext
-  pub did : reaction_in i n w e ≡ Did done
+  pub did : reaction_in asked w e ≡ Did done
   pub lines : k.lines ≡ done.lines
   pub world : k.world ≡ done.world
 
 -- an event kept a place in a world
-pub record HasKeptPlace (i : ImageTables) (n : ℕ) (w : World MachineContext) (e : Event)
+pub record HasKeptPlace (asked : Asked) (w : World MachineContext) (e : Event)
     (k : KernelView (List BodyTables) MachineContext) : Type 0 where
   pub place : ℕ
-  pub keeps : reaction_in i n w e ≡ Kept place k.world
+  pub keeps : reaction_in asked w e ≡ Kept place k.world
 
 -- ---- searches
 
@@ -72,21 +86,25 @@ abbrev pub rows_of : Search → KeptRows
 rows_of s =
     record { outs = s.rows.outs; fields = s.rows.fields.items; first = s.rows.first.items; rows = s.seen.rows }
 
+-- the live locals by which rows are written are those of the image
+abbrev pub HasLive : Asked → Rows → Type 0
+HasLive asked r = AreLiveTables r.outs asked.image.code (live_tables r.live)
+
 -- the fields, the live locals and the events of a search are those of its image
-pub record IsSearchOf (i : ImageTables) (q : Question) (s : Search) : Type 0 where
-  pub tries : s.tries.items ≡ all_tries i.system
-  pub fields : AreAllFields i.system i.code (is_some q.interrupts) s.rows.fields.items
-  pub live : AreLiveTables s.rows.outs i.code (live_tables s.rows.live)
+pub record IsSearchOf (asked : Asked) (s : Search) : Type 0 where
+  pub tries : s.tries.items ≡ all_tries asked.image.system
+  pub fields : AreAllFields asked.image.system asked.image.code (is_some asked.question.interrupts) s.rows.fields.items
+  pub live : HasLive asked s.rows
 
 -- a search that has no state yet
-pub record IsFresh (i : ImageTables) (q : Question) (s : Search) : Type 0 where
-  pub survey : IsSearchOf i q s
+pub record IsFresh (asked : Asked) (s : Search) : Type 0 where
+  pub survey : IsSearchOf asked s
   pub none : s.seen.rows ≡ []
 
 -- a search that keeps states
-pub record IsSearch (i : ImageTables) (q : Question) (s : Search) : Type 0 where
-  pub survey : IsSearchOf i q s
-  pub first : length s.rows.first.items ≡ length s.rows.fields.items + 2 * length q.monitors.items
+pub record IsSearch (asked : Asked) (s : Search) : Type 0 where
+  pub survey : IsSearchOf asked s
+  pub first : length s.rows.first.items ≡ length s.rows.fields.items + 2 * length asked.question.monitors.items
 
 -- two searches have the same events, fields, live locals and first numbers
 pub record SameTable (old new : Search) : Type 0 where
@@ -110,69 +128,84 @@ pub record Stays (old new : Search) : Type 0 where
   pub sure : new.sure ≡ true → old.sure ≡ true
 
 -- a world is kept
-pub record HasKept (i : ImageTables) (q : Question) (old new : Search) (w : World MachineContext) (a : Watched) : Type 0
-  where
-    pub grows : Grows old new
-    pub known : new.sure ≡ true → IsKept i q (rows_of new) w a
+pub record HasKept (asked : Asked) (old new : Search) (w : World MachineContext) (a : Watched) : Type 0 where
+  pub grows : Grows old new
+  pub known : new.sure ≡ true → IsKept asked (rows_of new) w a
 
 -- the monitors after setup
-abbrev pub monitors_at_setup : ImageTables → Question → List Monitor
-monitors_at_setup i q = monitors_after q.monitors.items (setup i.system (code_meaning i.code)).lines
+abbrev pub monitors_at_setup : Asked → List Monitor
+monitors_at_setup asked =
+    monitors_after asked.question.monitors.items (setup asked.image.system (meaning_of asked)).lines
 
 -- what is watched in the state in which a search begins
-abbrev pub watched_first : ImageTables → Question → Watched
-watched_first i q = watched_with q (count_by is_interrupt q.after.items) (monitors_at_setup i q)
+abbrev pub watched_first : Asked → Watched
+watched_first asked =
+    watched_with asked.question (count_by is_interrupt asked.question.after.items) (monitors_at_setup asked)
 
 -- no line of setup is forbidden, and none breaks a sentence
-abbrev pub IsClean : ImageTables → Question → Type 0
-IsClean i q =
-    watched_with q 0 (monitors_at_setup i q)
-    ≡ watched_at_setup (rules_of q) i.system (code_meaning i.code) (forbids q.nevers.items)
+abbrev pub IsClean : Asked → Type 0
+IsClean asked =
+    watched_with asked.question 0 (monitors_at_setup asked)
+    ≡ watched_at_setup (rules_of asked.question) asked.image.system (meaning_of asked)
+    (forbids asked.question.nevers.items)
 
 -- the state in which the search begins is kept
-pub record IsBegun (i : ImageTables) (n : ℕ) (q : Question) (s : Search) : Type 0 where
-  pub survey : IsSearch i q s
-  pub clean : s.sure ≡ true → IsClean i q
-  pub first : s.sure ≡ true → IsKept i q (rows_of s) (replay i n q.after.items).world (watched_first i q)
+pub record IsBegun (asked : Asked) (s : Search) : Type 0 where
+  pub survey : IsSearch asked s
+  pub clean : s.sure ≡ true → IsClean asked
+  pub first :
+      s.sure ≡ true →
+      IsKept asked (rows_of s) (replay asked.image asked.bound asked.question.after.items).world (watched_first asked)
+
+-- a state that is examined, as its row tells it: its interrupts fit a byte, where their number is limited, and its
+-- monitors are those of the question
+pub record IsStateFor (asked : Asked) (at : ExaminedState) : Type 0 where
+  pub few : AreFew asked.question at.came
+  pub held : AreMonitorsOf asked.question.monitors.items at.monitors.items
 
 -- what is watched in a state that is examined
 abbrev pub watched_in : Question → ExaminedState → Watched
 watched_in q at = watched_with q at.came at.monitors.items
 
 -- a kernel is in the state that is examined: it has the row that is kept of it
-pub record StandsAt (i : ImageTables) (n : ℕ) (q : Question) (s : Search) (at : ExaminedState)
+pub record StandsAt (asked : Asked) (s : Search) (at : ExaminedState)
     (k : KernelView (List BodyTables) MachineContext) : Type 0 where
-  pub ready : CanStep i n k
+  pub ready : CanStep asked k
   pub row : List ℕ
   pub there : slice_get s.seen.rows at.state ≡ Some row
-  pub has : HasRow i q (rows_of s) k.world (watched_in q at) row
+  pub has : HasRow asked (rows_of s) k.world (watched_in asked.question at) row
 
 -- what an event leads to is kept, if it may come
-pub record HasDealt (i : ImageTables) (n : ℕ) (q : Question) (old new : Search) (w : World MachineContext)
+pub record HasDealt (asked : Asked) (old new : Search) (w : World MachineContext)
     (a : Watched) (e : Event) : Type 0 where
   pub grows : Grows old new
-  pub leads : new.sure ≡ true → MayCome i n q w a e → LeadsOn i n q (rows_of new) w a e
+  pub leads : new.sure ≡ true → MayCome asked w a e → LeadsOn asked (rows_of new) w a e
 
 -- an interrupt that may come does something
-pub record HasRequest (i : ImageTables) (n : ℕ) (q : Question) (w : World MachineContext) (a : Watched) : Type 0 where
+pub record HasRequest (asked : Asked) (w : World MachineContext) (a : Watched) : Type 0 where
   pub number : ℕ
   pub first : 1 ≤ number
   pub last : number < 33
-  pub may : may_still q.interrupts a.came ≡ true
-  pub does : reaction_in i n w (event.Int number) ≡ Nothing → ⊥
+  pub may : may_still asked.question.interrupts a.came ≡ true
+  pub does : reaction_in asked w (event.Int number) ≡ Nothing → ⊥
 
 -- what was done in a world is so
-pub record AreMarks (i : ImageTables) (n : ℕ) (q : Question) (w : World MachineContext) (a : Watched) (m : StateMarks)
-    : Type 0 where
+pub record AreMarks (asked : Asked) (w : World MachineContext) (a : Watched) (m : StateMarks) : Type 0 where
   pub idle :
-      m.idle ≡ false → none_runs i.system (code_meaning i.code) n w i.system.processors ≡ false
-  pub interrupted : m.interrupted ≡ true → HasRequest i n q w a
+      m.idle ≡ false → none_runs asked.image.system (meaning_of asked) asked.bound w asked.image.system.processors
+      ≡ false
+  pub interrupted : m.interrupted ≡ true → HasRequest asked w a
 
 -- how many interrupts came after an event, where their number is limited
 abbrev pub came_on : Option ℕ → (came : ℕ) → Event → ℕ
 came_on None came e = 0
 came_on (Some most) came (event.Int number) = came + 1
 came_on (Some most) came _ = came
+
+-- an event is tried in such a state, and the interrupts still fit a byte with it
+pub record IsAttemptFor (asked : Asked) (at : ExaminedState) (e : Event) : Type 0 where
+  pub state : IsStateFor asked at
+  pub few : AreFew asked.question (came_on asked.question.interrupts at.came e)
 
 -- where the event is an interrupt, it may come
 abbrev pub MayRequest : Question → Watched → Event → Type 0
@@ -186,65 +219,63 @@ marked m event.Tick = m
 marked m (event.Int i) = record m { interrupted = true }
 
 -- the first events of those that are tried were tried in a world, this many
-pub record IsTrying (i : ImageTables) (n : ℕ) (q : Question) (w : World MachineContext) (a : Watched) (m : StateMarks)
+pub record IsTrying (asked : Asked) (w : World MachineContext) (a : Watched) (m : StateMarks)
     (tried : ℕ) (s : Search) : Type 0 where
-  pub survey : IsSearch i q s
-  pub marks : AreMarks i n q w a m
+  pub survey : IsSearch asked s
+  pub marks : AreMarks asked w a m
   pub each :
-      s.sure ≡ true → (place : ℕ) (e : Event) → place < tried → slice_get (all_tries i.system) place ≡ Some e →
-      MayCome i n q w a e → LeadsOn i n q (rows_of s) w a e
+      s.sure ≡ true → (place : ℕ) (e : Event) → place < tried →
+      slice_get (all_tries asked.image.system) place ≡ Some e → MayCome asked w a e →
+      LeadsOn asked (rows_of s) w a e
 
 -- this many events were tried in a world
-pub record HasTried (i : ImageTables) (n : ℕ) (q : Question) (w : World MachineContext) (a : Watched) (m : StateMarks)
+pub record HasTried (asked : Asked) (w : World MachineContext) (a : Watched) (m : StateMarks)
     (old new : Search) (tried : ℕ) : Type 0 where
-  pub trying : IsTrying i n q w a m tried new
+  pub trying : IsTrying asked w a m tried new
   pub grows : Grows old new
 
 -- a world was looked at: it is no deadlock
-pub record HasLooked (i : ImageTables) (n : ℕ) (q : Question) (old new : Search) (w : World MachineContext)
-    (a : Watched) : Type 0 where
+pub record HasLooked (asked : Asked) (old new : Search) (w : World MachineContext) (a : Watched) : Type 0 where
   pub stays : Stays old new
-  pub free : new.sure ≡ true → IsStuckIn i n q w a → ⊥
+  pub free : new.sure ≡ true → IsStuckIn asked w a → ⊥
 
 -- it was looked whether a world is a deadlock, and whether its state breaks a sentence
-pub record HasLookedAt (i : ImageTables) (n : ℕ) (q : Question) (old new : Search) (w : World MachineContext)
-    (a : Watched) : Type 0 where
+pub record HasLookedAt (asked : Asked) (old new : Search) (w : World MachineContext) (a : Watched) : Type 0 where
   pub stays : Stays old new
-  pub upheld : new.sure ≡ true → is_any_broken_in q.monitors.items w.state ≡ false
-  pub free : new.sure ≡ true → IsStuckIn i n q w a → ⊥
+  pub upheld : new.sure ≡ true → is_any_broken_in asked.question.monitors.items w.state ≡ false
+  pub free : new.sure ≡ true → IsStuckIn asked w a → ⊥
 
 -- a world was tried out
-pub record HasTriedOut (i : ImageTables) (n : ℕ) (q : Question) (old new : Search) (w : World MachineContext)
-    (a : Watched) : Type 0 where
-  pub survey : IsSearch i q new
+pub record HasTriedOut (asked : Asked) (old new : Search) (w : World MachineContext) (a : Watched) : Type 0 where
+  pub survey : IsSearch asked new
   pub grows : Grows old new
-  pub tried : new.sure ≡ true → IsTriedOut i n q (rows_of new) w a
+  pub tried : new.sure ≡ true → IsTriedOut asked (rows_of new) w a
 
 -- the state at a place was examined
-pub record HasExamined (i : ImageTables) (n : ℕ) (q : Question) (old new : Search) (state : ℕ) : Type 0 where
-  pub survey : IsSearch i q new
+pub record HasExamined (asked : Asked) (old new : Search) (state : ℕ) : Type 0 where
+  pub survey : IsSearch asked new
   pub grows : Grows old new
   pub examined :
       new.sure ≡ true → (row : List ℕ) → slice_get old.seen.rows state ≡ Some row →
-      IsExamined i n q (rows_of new) row
+      IsExamined asked (rows_of new) row
 
 -- the first states were examined, this many
-pub record IsSearching (i : ImageTables) (n : ℕ) (q : Question) (states : ℕ) (s : Search) : Type 0 where
-  pub begun : IsBegun i n q s
+pub record IsSearching (asked : Asked) (states : ℕ) (s : Search) : Type 0 where
+  pub begun : IsBegun asked s
   pub each :
       s.sure ≡ true → (k : ℕ) (row : List ℕ) → k < states → slice_get s.seen.rows k ≡ Some row →
-      IsExamined i n q (rows_of s) row
+      IsExamined asked (rows_of s) row
 
 -- every state was examined
-pub record IsWhole (i : ImageTables) (n : ℕ) (q : Question) (s : Search) : Type 0 where
-  pub begun : IsBegun i n q s
+pub record IsWhole (asked : Asked) (s : Search) : Type 0 where
+  pub begun : IsBegun asked s
   pub each :
       s.sure ≡ true → (k : ℕ) (row : List ℕ) → slice_get s.seen.rows k ≡ Some row →
-      IsExamined i n q (rows_of s) row
+      IsExamined asked (rows_of s) row
 
 -- a search that ended because no state is left has examined every state
-abbrev pub HasEnded : ImageTables → (n : ℕ) → Question → Search → Ending → Type 0
-HasEnded i n q s how = how ≡ ending.Whole → IsWhole i n q s
+abbrev pub HasEnded : Asked → Search → Ending → Type 0
+HasEnded asked s how = how ≡ ending.Whole → IsWhole asked s
 
 -- nothing that is asked about is found along any schedule
 pub record NothingIsFound (i : ImageTables) (n : ℕ) (q : Question) : Type 0 where
@@ -252,3 +283,11 @@ pub record NothingIsFound (i : ImageTables) (n : ℕ) (q : Question) : Type 0 wh
   pub there :
       HoldsThere (rules_of q) i.system (code_meaning i.code) n (forbids q.nevers.items)
       (forbids_there i.system q.nevers_at.items)
+
+-- the same of what is asked
+abbrev pub NoneIsFound : Asked → Type 0
+NoneIsFound asked = NothingIsFound asked.image asked.bound asked.question
+
+-- findings are so
+abbrev pub AreFound : Asked → List Finding → Type 0
+AreFound asked findings = All (IsFound asked.image asked.bound asked.question) findings

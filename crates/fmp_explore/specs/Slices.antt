@@ -1,41 +1,39 @@
 -- Slices of a search: states of it that were examined in a search of their own.
 use Rattle.std.specs.Prelude.{ℕ, ◌≡◌, ◌<◌, ◌≤◌, List, Some, true, length, slice_get}
-use Rattle.fmp_question.specs.declared.question.Question.{Question}
 use Rattle.fmp_explore.specs.declared.searches.Search.{Search}
 use Rattle.fmp_explore.specs.declared.slices.Slice.{Slice}
 use Rattle.fmp_explore.specs.Searching.{Grows, IsSearch, IsSearching, rows_of}
 use Rattle.fmp_explore.specs.States.{IsExamined}
-use Rattle.fmp_image_bytes.specs.Images.{ImageTables}
+use Rattle.fmp_witness.specs.Asked.{Asked}
 
 -- a search that keeps rows as the whole one does
-pub record IsSliceOf (i : ImageTables) (q : Question) (whole s : Search) : Type 0 where
-  pub survey : IsSearch i q s
+pub record IsSliceOf (asked : Asked) (whole s : Search) : Type 0 where
+  pub survey : IsSearch asked s
   pub outs : s.rows.outs ≡ whole.rows.outs
   pub fields : s.rows.fields.items ≡ whole.rows.fields.items
   pub first : s.rows.first.items ≡ whole.rows.first.items
 
 -- the state of a row was examined
-pub record HasExaminedRow (i : ImageTables) (n : ℕ) (q : Question) (old new : Search) (row : List ℕ) : Type 0 where
+pub record HasExaminedRow (asked : Asked) (old new : Search) (row : List ℕ) : Type 0 where
   pub grows : Grows old new
-  pub examined : new.sure ≡ true → IsExamined i n q (rows_of new) row
+  pub examined : new.sure ≡ true → IsExamined asked (rows_of new) row
 
 -- the states of the whole search from a place on, up to another one, are examined in a search
-abbrev pub AreExamined : ImageTables → (n : ℕ) → Question → (whole : Search) → (first end : ℕ) → Search → Type 0
-AreExamined i n q whole first end s =
+abbrev pub AreExamined : Asked → (whole : Search) → (first end : ℕ) → Search → Type 0
+AreExamined asked whole first end s =
     s.sure ≡ true → (k : ℕ) (row : List ℕ) → first ≤ k → k < end → slice_get whole.seen.rows k ≡ Some row →
-    IsExamined i n q (rows_of s) row
+    IsExamined asked (rows_of s) row
 
 -- they were examined
-pub record HasExaminedRows (i : ImageTables) (n : ℕ) (q : Question) (whole : Search) (first end : ℕ)
-    (old new : Search) : Type 0 where
+pub record HasExaminedRows (asked : Asked) (whole : Search) (first end : ℕ) (old new : Search) : Type 0 where
   pub grows : Grows old new
-  pub each : AreExamined i n q whole first end new
+  pub each : AreExamined asked whole first end new
 
 -- a slice of the whole search
-pub record IsSlice (i : ImageTables) (n : ℕ) (q : Question) (whole : Search) (slice : Slice) : Type 0 where
-  pub same : IsSliceOf i q whole slice.search
+pub record IsSlice (asked : Asked) (whole : Search) (slice : Slice) : Type 0 where
+  pub same : IsSliceOf asked whole slice.search
   pub within : slice.span.end ≤ length whole.seen.rows
-  pub each : AreExamined i n q whole slice.span.first slice.span.end slice.search
+  pub each : AreExamined asked whole slice.span.first slice.span.end slice.search
 
 -- a row is one of these
 pub record IsAmong (rows : List (List ℕ)) (row : List ℕ) : Type 0 where
@@ -61,7 +59,7 @@ pub record HasEntered (slice old new : Search) : Type 0 where
 
 -- a search has gone on since a round of slices of it began: it has examined its states up to a place, which was there
 -- then
-pub record IsInRound (i : ImageTables) (n : ℕ) (q : Question) (whole : Search) (next : ℕ) (s : Search) : Type 0 where
+pub record IsInRound (asked : Asked) (whole : Search) (next : ℕ) (s : Search) : Type 0 where
   pub grows : Grows whole s
   pub within : next ≤ length whole.seen.rows
-  pub searching : IsSearching i n q next s
+  pub searching : IsSearching asked next s

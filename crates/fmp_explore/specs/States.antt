@@ -14,8 +14,6 @@ use Rattle.fmp_question.specs.Places.{forbids_there}
 use Rattle.fmp_question.specs.Rules.{rules_of}
 use Rattle.fmp_fields.specs.declared.field.What.{What}
 use Rattle.fmp_fields.specs.FieldNumbers.{number_of}
-use Rattle.fmp_image_bytes.specs.Images.{ImageTables}
-use Rattle.fmp_instructions.specs.Machine.{code_meaning}
 use Rattle.fmp_instructions.specs.declared.instructions.MachineContext.{MachineContext}
 use Rattle.fmp_live.specs.Fits.{IsFit}
 use Rattle.fmp_live.specs.LiveLocals.{AreLiveTables, LiveTable}
@@ -29,6 +27,7 @@ use Rattle.fmp_schedules.specs.Monitors.{is_any_broken_in}
 use Rattle.fmp_schedules.specs.Schedules.{IsSilent, Watched, may_come, may_still, watch}
 use Rattle.fmp_schedules.specs.Tried.{is_event_of}
 use Rattle.fmp_visited.specs.Rows.{AreValues, row_of}
+use Rattle.fmp_witness.specs.Asked.{Asked, meaning_of}
 
 -- how many interrupts came, where their number is limited
 abbrev pub counted : Option ℕ → (came : ℕ) → ℕ
@@ -90,59 +89,58 @@ pub record KeptRows : Type 0 where
   pub rows : List (List ℕ)
 
 -- a sound world, where this is watched, has a row, by tables of live locals
-pub record HasRow (i : ImageTables) (q : Question) (kept : KeptRows) (w : World MachineContext) (a : Watched)
+pub record HasRow (asked : Asked) (kept : KeptRows) (w : World MachineContext) (a : Watched)
     (row : List ℕ) : Type 0 where
-  pub sound : IsSound i.system i.code w
+  pub sound : IsSound asked.image.system asked.image.code w
   pub came : ℕ
-  pub few : AreFew q came
-  pub held : AreMonitorsOf q.monitors.items a.monitors
-  pub watch : a ≡ watched_with q came a.monitors
+  pub few : AreFew asked.question came
+  pub held : AreMonitorsOf asked.question.monitors.items a.monitors
+  pub watch : a ≡ watched_with asked.question came a.monitors
   pub tables : List LiveTable
-  pub live : AreLiveTables kept.outs i.code tables
-  pub is : IsRowOf kept.first (numbers_in i.system tables kept.fields w came a.monitors) row
+  pub live : AreLiveTables kept.outs asked.image.code tables
+  pub is : IsRowOf kept.first (numbers_in asked.image.system tables kept.fields w came a.monitors) row
 
 -- such a world has one of the rows that are kept
-pub record IsKept (i : ImageTables) (q : Question) (kept : KeptRows) (w : World MachineContext) (a : Watched) : Type 0
-  where
-    pub state : ℕ
-    pub row : List ℕ
-    pub there : slice_get kept.rows state ≡ Some row
-    pub has : HasRow i q kept w a row
+pub record IsKept (asked : Asked) (kept : KeptRows) (w : World MachineContext) (a : Watched) : Type 0 where
+  pub state : ℕ
+  pub row : List ℕ
+  pub there : slice_get kept.rows state ≡ Some row
+  pub has : HasRow asked kept w a row
 
 -- what an event does in a world
-abbrev pub reaction_in : ImageTables → (n : ℕ) → World MachineContext → Event → Reaction MachineContext
-reaction_in i n w e = step i.system (code_meaning i.code) n w e
+abbrev pub reaction_in : Asked → World MachineContext → Event → Reaction MachineContext
+reaction_in asked w e = step asked.image.system (meaning_of asked) asked.bound w e
 
 -- an event leads to a world with a row that is kept, if it leads to any, and tells no answer that must never be given
 -- to its call; and the event fits
-pub record LeadsOn (i : ImageTables) (n : ℕ) (q : Question) (kept : KeptRows) (w : World MachineContext) (a : Watched)
-    (e : Event) : Type 0 where
-  pub fit : IsFit kept.outs i.system i.code n w e
+pub record LeadsOn (asked : Asked) (kept : KeptRows) (w : World MachineContext) (a : Watched) (e : Event) : Type 0 where
+  pub fit : IsFit kept.outs asked.image.system asked.image.code asked.bound w e
   pub leads :
-      LeadsIn (IsLike kept.outs i.system i.code) (watch (rules_of q) (forbids q.nevers.items)) (IsKept i q kept) a
-      (reaction_in i n w e)
-  pub silent : IsSilent (forbids_there i.system q.nevers_at.items) (reaction_in i n w e)
+      LeadsIn (IsLike kept.outs asked.image.system asked.image.code)
+      (watch (rules_of asked.question) (forbids asked.question.nevers.items)) (IsKept asked kept) a
+      (reaction_in asked w e)
+  pub silent : IsSilent (forbids_there asked.image.system asked.question.nevers_at.items) (reaction_in asked w e)
 
 -- the rules let an event come to a world
-abbrev pub MayCome : ImageTables → (n : ℕ) → Question → World MachineContext → Watched → Event → Type 0
-MayCome i n q w a e = may_come (rules_of q) i.system (code_meaning i.code) n w a e ≡ true
+abbrev pub MayCome : Asked → World MachineContext → Watched → Event → Type 0
+MayCome asked w a e = may_come (rules_of asked.question) asked.image.system (meaning_of asked) asked.bound w a e ≡ true
 
 -- a world is a deadlock
-abbrev pub IsStuckIn : ImageTables → (n : ℕ) → Question → World MachineContext → Watched → Type 0
-IsStuckIn i n q w a =
-    IsDeadlock i.system (code_meaning i.code) n w q.rest.items (may_still q.interrupts a.came)
+abbrev pub IsStuckIn : Asked → World MachineContext → Watched → Type 0
+IsStuckIn asked w a =
+    IsDeadlock asked.image.system (meaning_of asked) asked.bound w asked.question.rest.items
+    (may_still asked.question.interrupts a.came)
 
 -- each event that may come to a world leads to a row that is kept, the state breaks no sentence, and the world is no
 -- deadlock
-pub record IsTriedOut (i : ImageTables) (n : ℕ) (q : Question) (kept : KeptRows) (w : World MachineContext)
-    (a : Watched) : Type 0 where
-  pub each : (e : Event) → is_event_of i.system e ≡ true → MayCome i n q w a e → LeadsOn i n q kept w a e
-  pub upheld : is_any_broken_in q.monitors.items w.state ≡ false
-  pub free : IsStuckIn i n q w a → ⊥
+pub record IsTriedOut (asked : Asked) (kept : KeptRows) (w : World MachineContext) (a : Watched) : Type 0 where
+  pub each : (e : Event) → is_event_of asked.image.system e ≡ true → MayCome asked w a e → LeadsOn asked kept w a e
+  pub upheld : is_any_broken_in asked.question.monitors.items w.state ≡ false
+  pub free : IsStuckIn asked w a → ⊥
 
 -- so it is of some world with this row
-pub record IsExamined (i : ImageTables) (n : ℕ) (q : Question) (kept : KeptRows) (row : List ℕ) : Type 0 where
+pub record IsExamined (asked : Asked) (kept : KeptRows) (row : List ℕ) : Type 0 where
   pub world : World MachineContext
   pub watched : Watched
-  pub has : HasRow i q kept world watched row
-  pub tried : IsTriedOut i n q kept world watched
+  pub has : HasRow asked kept world watched row
+  pub tried : IsTriedOut asked kept world watched

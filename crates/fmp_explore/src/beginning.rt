@@ -1,19 +1,27 @@
 //! How a search begins: the state behind the events where it does is kept.
 ghost use Rattle.std.specs.Prelude.{◌≡◌, [], OnOk, count_by, false, true};
 ghost use Rattle.std.specs.List.{list_any};
-ghost use Rattle.fmp_live.specs.LiveLocals.{AreLiveTables, live_tables};
 ghost use Rattle.fmp_replay.specs.Replays.{kernel_after};
 ghost use Rattle.fmp_schedules.specs.Deadlocks.{is_interrupt as is_request};
 ghost use Rattle.fmp_schedules.specs.Schedules.{is_any_broken};
 ghost use Rattle.fmp_explore.specs.States.{AreFew, AreMonitorsOf, watched_with};
 ghost use Rattle.fmp_witness.specs.Followed.{IsFollowed};
 ghost use Rattle.fmp_question.specs.Places.{is_bad};
-ghost use Rattle.fmp_explore.specs.Searching.{HasKept, IsBegun, IsClean, IsFresh, IsSearch, Stays, monitors_at_setup};
+ghost use Rattle.fmp_explore.specs.Searching.{
+  HasKept,
+  HasLive,
+  IsBegun,
+  IsClean,
+  IsFresh,
+  IsSearch,
+  Stays,
+  monitors_at_setup,
+};
+ghost use Rattle.fmp_witness.specs.Asked.{asked_of};
 
 use crate::notes::PathEnd;
 use crate::searches::Search;
 use crate::standings::monitors_after;
-use crate::subject::SearchSubject;
 use fmp_base::Event;
 use fmp_code::Vm;
 use fmp_kernel::Kernel;
@@ -21,7 +29,7 @@ use fmp_question::interrupt_count;
 use fmp_replay::kernel_of;
 use fmp_schedules::Monitor;
 use fmp_visited::StateLink;
-use fmp_witness::follow;
+use fmp_witness::{SearchSubject, follow};
 use std::alloc::{AllocError, Global};
 
 impl Search {
@@ -65,14 +73,15 @@ impl Search {
         kernel: &Kernel<Vm<'_>>,
         monitors: &[Monitor],
     ) -> Result<(), AllocError>
-        requires live { AreLiveTables self.old.rows.outs subject.now.image.now.code (live_tables self.old.rows.live) }
+        requires live { HasLive (asked_of subject.now) self.old.rows }
         requires few { AreFew subject.now.question.now (count_by is_request subject.now.question.now.after.items) }
         requires followed { IsFollowed subject.now.image.now subject.now.n subject.now.question.now.after.items
             kernel.now }
         requires held { AreMonitorsOf subject.now.question.now.monitors.items monitors.now }
-        ensures { OnOk result (HasKept subject.now.image.now subject.now.question.now self.old self.new
-            kernel.now.world (watched_with subject.now.question.now
-            (count_by is_request subject.now.question.now.after.items) monitors.now)) }
+        ensures { OnOk result
+            (HasKept (asked_of subject.now) self.old self.new kernel.now.world
+            (watched_with subject.now.question.now (count_by is_request subject.now.question.now.after.items)
+            monitors.now)) }
     {
         let link = StateLink {
             parent: 0,
@@ -94,11 +103,11 @@ impl Search {
         kernel: &mut Kernel<Vm<'_>>,
         monitors: &[Monitor],
     ) -> Result<(), AllocError>
-        requires survey { IsSearch subject.now.image.now subject.now.question.now self.old }
+        requires survey { IsSearch (asked_of subject.now) self.old }
         requires kernel { kernel.old ≡ kernel_after subject.now.image.now subject.now.n [] }
-        requires monitors { monitors.now ≡ monitors_at_setup subject.now.image.now subject.now.question.now }
-        requires clean { self.old.sure ≡ true → IsClean subject.now.image.now subject.now.question.now }
-        ensures { OnOk result (IsBegun subject.now.image.now subject.now.n subject.now.question.now self.new) }
+        requires monitors { monitors.now ≡ monitors_at_setup (asked_of subject.now) }
+        requires clean { self.old.sure ≡ true → IsClean (asked_of subject.now) }
+        ensures { OnOk result (IsBegun (asked_of subject.now) self.new) }
     {
         let question = subject.question;
         if !question.can_begin() {
@@ -120,9 +129,9 @@ impl Search {
         subject: &SearchSubject<'_>,
         kernel: &mut Kernel<Vm<'_>>,
     ) -> Result<(), AllocError>
-        requires fresh { IsFresh subject.now.image.now subject.now.question.now self.old }
+        requires fresh { IsFresh (asked_of subject.now) self.old }
         requires kernel { kernel.old ≡ kernel_after subject.now.image.now subject.now.n [] }
-        ensures { OnOk result (IsBegun subject.now.image.now subject.now.n subject.now.question.now self.new) }
+        ensures { OnOk result (IsBegun (asked_of subject.now) self.new) }
     {
         self.notes.cover(alloc, subject, kernel)?;
         self.note_setup(alloc, subject, kernel)?;
@@ -133,8 +142,8 @@ impl Search {
 
     /// Keeps the state after the events behind which the search begins. `AllocError` if memory runs out.
     pub fn begin(&mut self, alloc: Global, subject: &SearchSubject<'_>) -> Result<(), AllocError>
-        requires { IsFresh subject.now.image.now subject.now.question.now self.old }
-        ensures { OnOk result (IsBegun subject.now.image.now subject.now.n subject.now.question.now self.new) }
+        requires { IsFresh (asked_of subject.now) self.old }
+        ensures { OnOk result (IsBegun (asked_of subject.now) self.new) }
     {
         let mut kernel = kernel_of(alloc, subject.image, subject.n)?;
         let begun = self.begin_on(alloc, subject, &mut kernel);

@@ -3,10 +3,11 @@ ghost use Rattle.std.specs.Prelude.{All, IfOk, ⊤};
 ghost use Rattle.std.specs.Thread.{IsSync};
 ghost use Rattle.fmp_explore.specs.Searching.{IsSearch};
 ghost use Rattle.fmp_explore.specs.Slices.{IsSlice};
+ghost use Rattle.fmp_witness.specs.Asked.{asked_of};
 
 use crate::searches::Search;
 use crate::slices::{Slice, Span};
-use crate::subject::SearchSubject;
+use fmp_witness::SearchSubject;
 use std::alloc::{AllocError, Global};
 use std::thread;
 use std::thread::Threads;
@@ -29,9 +30,8 @@ pub trait Crew {
         span: Span,
     ) -> Result<Vec<Result<Slice, AllocError>>, AllocError>
         requires crew { can_work self.now }
-        requires whole { IsSearch subject.now.image.now subject.now.question.now whole.now }
-        ensures { IfOk result (λ slices. All (λ s. IfOk s (IsSlice subject.now.image.now subject.now.n
-            subject.now.question.now whole.now)) slices.items) };
+        requires whole { IsSearch (asked_of subject.now) whole.now }
+        ensures { IfOk result (λ slices. All (λ s. IfOk s (IsSlice (asked_of subject.now) whole.now)) slices.items) };
 }
 
 /// Nobody: a search examines its states itself.
@@ -95,9 +95,8 @@ impl<R: Threads + Sync> Crew for Workers<'_, R> {
     ) -> Result<Vec<Result<Slice, AllocError>>, AllocError> {
         let jobs = self.jobs;
         let examine = |k: usize| -> Result<Slice, AllocError>
-            requires { IsSearch subject.now.image.now subject.now.question.now whole.now }
-            ensures { IfOk result (IsSlice subject.entry.now.image.now subject.entry.now.n
-                subject.entry.now.question.now whole.entry.now) }
+            requires { IsSearch (asked_of subject.now) whole.now }
+            ensures { IfOk result (IsSlice (asked_of subject.entry.now) whole.entry.now) }
         { whole.slice(alloc, subject, part(span, jobs, k)) };
         thread::map_indices(self.rt, alloc, jobs, &examine)
     }

@@ -7,8 +7,8 @@ ghost use Rattle.fmp_explore.specs.Slices.{AreEntered, HasEntered, IsAmong};
 use crate::searches::Search;
 use crate::searching::SearchWatcher;
 use crate::slices::Slice;
-use crate::subject::SearchSubject;
 use fmp_visited::StateLink;
+use fmp_witness::SearchSubject;
 use std::alloc::{AllocError, Global};
 
 /// Whether a search has no more states than this.

@@ -6,7 +6,8 @@ ghost use Rattle.fmp_witness.specs.Findings.{IsFound};
 ghost use Rattle.fmp_question.specs.Forbidden.{forbids};
 ghost use Rattle.fmp_question.specs.Places.{forbids_there};
 ghost use Rattle.fmp_question.specs.Rules.{rules_of};
-ghost use Rattle.fmp_explore.specs.Searching.{HasEnded, IsBegun, NothingIsFound};
+ghost use Rattle.fmp_explore.specs.Searching.{AreFound, HasEnded, IsBegun, NoneIsFound};
+ghost use Rattle.fmp_witness.specs.Asked.{asked_of};
 
 use crate::crew::{Alone, Crew, Workers};
 use crate::finding::{add_confirmed, confirmed, shortest_alone};
@@ -14,11 +15,10 @@ use crate::notes::is_beside;
 use crate::searches::Search;
 use crate::searching::{Ending, SearchWatcher};
 use crate::stuck::{Suspicions, suspected};
-use crate::subject::SearchSubject;
 use crate::values::Variety;
 use fmp_image_bytes::Image;
 use fmp_question::Question;
-use fmp_witness::{Coverage, Finding};
+use fmp_witness::{Coverage, Finding, SearchSubject};
 use std::alloc::{AllocError, Global};
 use std::thread::Threads;
 
@@ -99,16 +99,14 @@ struct SearchFindings {
 /// stuck.
 fn with_stuck(
     alloc: Global,
-    image: &Image,
-    n: u64,
-    question: &Question,
+    subject: &SearchSubject<'_>,
     mut findings: Vec<Finding>,
     more: Suspicions,
 ) -> SearchFindings
-    requires found { All (IsFound image.now n question.now) findings.items }
-    ensures { All (IsFound image.now n question.now) result.findings.items }
+    requires found { AreFound (asked_of subject.now) findings.items }
+    ensures { AreFound (asked_of subject.now) result.findings.items }
 {
-    let added = add_confirmed(alloc, image, n, question, &mut findings, more.findings);
+    let added = add_confirmed(alloc, subject, &mut findings, more.findings);
     SearchFindings {
         findings,
         looked: added.is_ok(),
@@ -125,19 +123,18 @@ fn is_open(question: &Question, ending: Ending, candidates: &[Finding]) -> bool 
 /// examined, and more is asked for.
 fn findings_of(
     alloc: Global,
-    image: &Image,
-    n: u64,
-    question: &Question,
+    subject: &SearchSubject<'_>,
     survey: &mut Search,
     ending: Ending,
 ) -> Result<SearchFindings, AllocError>
-    ensures { IfOk result (λ found. All (IsFound image.now n question.now) found.findings.items) }
+    ensures { IfOk result (λ found. AreFound (asked_of subject.now) found.findings.items) }
 {
+    let question = subject.question;
     let candidates = asked_for(alloc, question, survey.take_candidates(alloc)?)?;
     let goes_on = is_open(question, ending, &candidates);
-    let findings = confirmed(alloc, image, n, question, candidates)?;
-    if goes_on && let Ok(more) = suspected(alloc, survey, image.system(), question) {
-        return Ok(with_stuck(alloc, image, n, question, findings, more));
+    let findings = confirmed(alloc, subject, candidates)?;
+    if goes_on && let Ok(more) = suspected(alloc, survey, subject.image.system(), question) {
+        return Ok(with_stuck(alloc, subject, findings, more));
     }
     Ok(SearchFindings {
         findings,
@@ -161,19 +158,17 @@ fn shows_all(survey: &Search, question: &Question, ending: Ending) -> bool
 /// The report of a search that has ended, which forgets what it noted.
 fn make_report(
     alloc: Global,
-    image: &Image,
-    n: u64,
-    question: &Question,
+    subject: &SearchSubject<'_>,
     survey: &mut Search,
     ending: Ending,
 ) -> Result<Report, AllocError>
-    requires holds { ending ≡ Ending.Whole → survey.old.sure ≡ true → question.now.after.items ≡ [] →
-        NothingIsFound image.now n question.now }
-    ensures findings { IfOk result (λ r. All (IsFound image.now n question.now) r.findings.items) }
-    ensures holds { IfOk result (λ r. r.holds ≡ true → NothingIsFound image.now n question.now) }
+    requires holds { ending ≡ Ending.Whole → survey.old.sure ≡ true →
+        subject.now.question.now.after.items ≡ [] → NoneIsFound (asked_of subject.now) }
+    ensures findings { IfOk result (λ r. AreFound (asked_of subject.now) r.findings.items) }
+    ensures holds { IfOk result (λ r. r.holds ≡ true → NoneIsFound (asked_of subject.now)) }
 {
-    let holds = shows_all(survey, question, ending);
-    let found = findings_of(alloc, image, n, question, survey, ending)?;
+    let holds = shows_all(survey, subject.question, ending);
+    let found = findings_of(alloc, subject, survey, ending)?;
     Ok(Report {
         findings: found.findings,
         ending,
@@ -196,7 +191,7 @@ pub fn start_search(
     outs: bool,
     subject: &SearchSubject<'_>,
 ) -> Result<Search, AllocError>
-    ensures { IfOk result (IsBegun subject.now.image.now subject.now.n subject.now.question.now) }
+    ensures { IfOk result (IsBegun (asked_of subject.now)) }
 {
     let mut survey = Search::new(alloc, outs, subject)?;
     survey.begin(alloc, subject)?;
@@ -211,9 +206,9 @@ pub fn run_search<W: SearchWatcher, C: Crew>(
     subject: &SearchSubject<'_>,
     watcher: &mut W,
 ) -> Ending
-    requires begun { IsBegun subject.now.image.now subject.now.n subject.now.question.now survey.old }
+    requires begun { IsBegun (asked_of subject.now) survey.old }
     requires crew { C.can_work crew.now }
-    ensures { HasEnded subject.now.image.now subject.now.n subject.now.question.now survey.new result }
+    ensures { HasEnded (asked_of subject.now) survey.new result }
 {
     match survey.run(alloc, crew, subject, watcher) {
         Ok(ending) => ending,
@@ -230,25 +225,15 @@ fn explore_written<W: SearchWatcher, C: Crew>(
     watcher: &mut W,
 ) -> Result<Option<Report>, AllocError>
     requires { C.can_work crew.now }
-    ensures findings { IfOk result (λ found. IfSome found (λ r. All (IsFound subject.now.image.now subject.now.n
-        subject.now.question.now) r.findings.items)) }
-    ensures holds { IfOk result (λ found. IfSome found (λ r. r.holds ≡ true → NothingIsFound subject.now.image.now
-        subject.now.n subject.now.question.now)) }
+    ensures findings { IfOk result (λ found. IfSome found (λ r. AreFound (asked_of subject.now) r.findings.items)) }
+    ensures holds { IfOk result (λ found. IfSome found (λ r. r.holds ≡ true → NoneIsFound (asked_of subject.now))) }
 {
     let mut survey = start_search(alloc, true, subject)?;
     let ending = run_search(alloc, crew, &mut survey, subject, watcher);
     if survey.unwritten {
         return Ok(None);
     }
-    let question = subject.question;
-    let report = make_report(
-        alloc,
-        subject.image,
-        subject.n,
-        question,
-        &mut survey,
-        ending,
-    )?;
+    let report = make_report(alloc, subject, &mut survey, ending)?;
     Ok(Some(report))
 }
 
@@ -260,21 +245,12 @@ fn explore_plainly<W: SearchWatcher, C: Crew>(
     watcher: &mut W,
 ) -> Result<Report, AllocError>
     requires { C.can_work crew.now }
-    ensures findings { IfOk result (λ r. All (IsFound subject.now.image.now subject.now.n subject.now.question.now)
-        r.findings.items) }
-    ensures holds { IfOk result (λ r. r.holds ≡ true → NothingIsFound subject.now.image.now subject.now.n
-        subject.now.question.now) }
+    ensures findings { IfOk result (λ r. AreFound (asked_of subject.now) r.findings.items) }
+    ensures holds { IfOk result (λ r. r.holds ≡ true → NoneIsFound (asked_of subject.now)) }
 {
     let mut survey = start_search(alloc, false, subject)?;
     let ending = run_search(alloc, crew, &mut survey, subject, watcher);
-    make_report(
-        alloc,
-        subject.image,
-        subject.n,
-        subject.question,
-        &mut survey,
-        ending,
-    )
+    make_report(alloc, subject, &mut survey, ending)
 }
 
 /// Explores the schedules of an image in one search; in another one too, where a reply left an out place as it was.
@@ -285,10 +261,8 @@ fn explore_subject<W: SearchWatcher, C: Crew>(
     watcher: &mut W,
 ) -> Result<Report, AllocError>
     requires { C.can_work crew.now }
-    ensures findings { IfOk result (λ r. All (IsFound subject.now.image.now subject.now.n subject.now.question.now)
-        r.findings.items) }
-    ensures holds { IfOk result (λ r. r.holds ≡ true → NothingIsFound subject.now.image.now subject.now.n
-        subject.now.question.now) }
+    ensures findings { IfOk result (λ r. AreFound (asked_of subject.now) r.findings.items) }
+    ensures holds { IfOk result (λ r. r.holds ≡ true → NoneIsFound (asked_of subject.now)) }
 {
     match explore_written(alloc, crew, subject, watcher)? {
         Some(report) => Ok(report),

@@ -1,17 +1,17 @@
 //! Which of the candidates that a search has noted are so, and which of them are told.
-ghost use Rattle.std.specs.Prelude.{◌≡◌, [], All, IfOk, IsTrue, OnOk};
+ghost use Rattle.std.specs.Prelude.{◌≡◌, [], IfOk, IsTrue};
 ghost use Rattle.fmp_replay.specs.Replays.{kernel_after};
-ghost use Rattle.fmp_witness.specs.Findings.{IsFound, IsSo};
+ghost use Rattle.fmp_witness.specs.Findings.{IsSo};
+ghost use Rattle.fmp_witness.specs.Asked.{asked_of};
+ghost use Rattle.fmp_explore.specs.Searching.{AreFound};
 
 use crate::notes::is_beside;
 use crate::stuck::is_stuck;
 use fmp_base::Event;
 use fmp_code::Vm;
-use fmp_image_bytes::Image;
 use fmp_kernel::Kernel;
-use fmp_question::Question;
 use fmp_replay::kernel_of;
-use fmp_witness::{Finding, FindingKind, is_so};
+use fmp_witness::{Finding, FindingKind, SearchSubject, is_so};
 use std::alloc::{AllocError, Global};
 
 /// Whether each of these events does something, and this is seen after them, on a kernel that was just set up.
@@ -19,35 +19,31 @@ use std::alloc::{AllocError, Global};
 fn is_shown_on<'a>(
     alloc: Global,
     kernel: &mut Kernel<Vm<'a>>,
-    image: &'a Image,
-    n: u64,
-    question: &Question,
+    subject: &SearchSubject<'a>,
     steps: &[Event],
     kind: FindingKind,
 ) -> Result<bool, AllocError>
-    requires begun { kernel.old ≡ kernel_after image.now n [] }
-    ensures { IfOk result (λ shown. IsTrue shown → IsSo image.now n question.now steps.now kind) }
+    requires begun { kernel.old ≡ kernel_after subject.now.image.now subject.now.n [] }
+    ensures { IfOk result (λ shown. IsTrue shown → IsSo (asked_of subject.now) steps.now kind) }
 {
     if let FindingKind::Stuck(t) = kind {
-        let stuck = is_stuck(alloc, kernel, image, n, question, steps, t)?;
+        let stuck = is_stuck(alloc, kernel, subject, steps, t)?;
         return Ok(stuck);
     }
-    Ok(is_so(kernel, image, n, question, steps, kind))
+    Ok(is_so(kernel, subject, steps, kind))
 }
 
 /// Whether each of these events does something, and this is seen after them. `AllocError` if memory runs out.
 fn is_shown(
     alloc: Global,
-    image: &Image,
-    n: u64,
-    question: &Question,
+    subject: &SearchSubject<'_>,
     steps: &[Event],
     kind: FindingKind,
 ) -> Result<bool, AllocError>
-    ensures { IfOk result (λ found. IsTrue found → IsSo image.now n question.now steps.now kind) }
+    ensures { IfOk result (λ found. IsTrue found → IsSo (asked_of subject.now) steps.now kind) }
 {
-    let mut kernel = kernel_of(alloc, image, n)?;
-    let shown = is_shown_on(alloc, &mut kernel, image, n, question, steps, kind);
+    let mut kernel = kernel_of(alloc, subject.image, subject.n)?;
+    let shown = is_shown_on(alloc, &mut kernel, subject, steps, kind);
     drop(kernel);
     shown
 }
@@ -55,29 +51,26 @@ fn is_shown(
 /// Whether a finding is so. `AllocError` if memory runs out.
 fn is_found(
     alloc: Global,
-    image: &Image,
-    n: u64,
-    question: &Question,
+    subject: &SearchSubject<'_>,
     finding: &Finding,
 ) -> Result<bool, AllocError>
-    ensures { IfOk result (λ found. IsTrue found → IsFound image.now n question.now finding.now) }
+    ensures { IfOk result (λ found. IsTrue found →
+        IsSo (asked_of subject.now) finding.now.steps.items finding.now.kind) }
 {
-    is_shown(alloc, image, n, question, &finding.steps, finding.kind)
+    is_shown(alloc, subject, &finding.steps, finding.kind)
 }
 
 /// Adds a finding to others, if it is so. `AllocError` if memory runs out: then the others stay alone.
 fn add_if_found(
     alloc: Global,
-    image: &Image,
-    n: u64,
-    question: &Question,
+    subject: &SearchSubject<'_>,
     findings: &mut Vec<Finding>,
     finding: Finding,
 ) -> Result<(), AllocError>
-    requires found { All (IsFound image.now n question.now) findings.old.items }
-    ensures { All (IsFound image.now n question.now) findings.new.items }
+    requires found { AreFound (asked_of subject.now) findings.old.items }
+    ensures { AreFound (asked_of subject.now) findings.new.items }
 {
-    let found = is_found(alloc, image, n, question, &finding)?;
+    let found = is_found(alloc, subject, &finding)?;
     if !found {
         return Ok(());
     }
@@ -89,17 +82,15 @@ fn add_if_found(
 /// are added.
 pub fn add_confirmed(
     alloc: Global,
-    image: &Image,
-    n: u64,
-    question: &Question,
+    subject: &SearchSubject<'_>,
     findings: &mut Vec<Finding>,
     candidates: Vec<Finding>,
 ) -> Result<(), AllocError>
-    requires found { All (IsFound image.now n question.now) findings.old.items }
-    ensures { All (IsFound image.now n question.now) findings.new.items }
+    requires found { AreFound (asked_of subject.now) findings.old.items }
+    ensures { AreFound (asked_of subject.now) findings.new.items }
 {
     for candidate in candidates {
-        add_if_found(alloc, image, n, question, findings, candidate)?;
+        add_if_found(alloc, subject, findings, candidate)?;
     }
     Ok(())
 }
@@ -107,15 +98,13 @@ pub fn add_confirmed(
 /// Those of the candidates that are so. `AllocError` if memory runs out.
 pub fn confirmed(
     alloc: Global,
-    image: &Image,
-    n: u64,
-    question: &Question,
+    subject: &SearchSubject<'_>,
     candidates: Vec<Finding>,
 ) -> Result<Vec<Finding>, AllocError>
-    ensures { IfOk result (λ findings. All (IsFound image.now n question.now) findings.items) }
+    ensures { IfOk result (λ findings. AreFound (asked_of subject.now) findings.items) }
 {
     let mut findings = Vec::new(alloc);
-    add_confirmed(alloc, image, n, question, &mut findings, candidates)?;
+    add_confirmed(alloc, subject, &mut findings, candidates)?;
     Ok(findings)
 }
 

@@ -19,7 +19,6 @@ mod standing;
 mod standings;
 mod stretching;
 mod stuck;
-mod subject;
 mod trying;
 mod values;
 

@@ -6,7 +6,6 @@ ghost use Rattle.fmp_schedules.specs.Monitors.{is_any_broken_in, is_broken, is_b
 ghost use Rattle.fmp_question.specs.Places.{is_bad as is_bad_line};
 
 use crate::outlooks::Outlooks;
-use crate::subject::SearchSubject;
 use fmp_base::{Event, Line};
 use fmp_code::Vm;
 use fmp_kernel::Kernel;
@@ -15,7 +14,7 @@ use fmp_question::{CallSite, first_bad_at, first_forbidden, is_bad};
 use fmp_schedules::{Monitor, MonitorSubject};
 use fmp_tasks::KernelState;
 use fmp_visited::Seen;
-use fmp_witness::{Coverage, Finding, FindingKind, SentenceBreach};
+use fmp_witness::{Coverage, Finding, FindingKind, SearchSubject, SentenceBreach};
 use std::alloc::{AllocError, Global};
 use std::mem;
 

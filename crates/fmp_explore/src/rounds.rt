@@ -1,17 +1,17 @@
 //! How a search goes on: it examines the next state, or a round of slices of the next states.
 ghost use Rattle.std.specs.Prelude.{◌≡◌, ◌+◌, ◌<◌, ◌≤◌, All, IfOk, OnOk, length};
-ghost use Rattle.fmp_explore.specs.Searching.{IsSearching};
+ghost use Rattle.fmp_explore.specs.Searching.{IsKernelOf, IsSearching};
 ghost use Rattle.fmp_explore.specs.Slices.{IsInRound, IsSlice};
 ghost use Rattle.fmp_explore.specs.declared.searches.Search.{Search};
-ghost use Rattle.fmp_witness.specs.Followed.{IsOver};
+ghost use Rattle.fmp_witness.specs.Asked.{asked_of};
 
 use crate::crew::Crew;
 use crate::searches::Search;
 use crate::searching::SearchWatcher;
 use crate::slices::{Slice, Span};
-use crate::subject::SearchSubject;
 use fmp_code::Vm;
 use fmp_kernel::Kernel;
+use fmp_witness::SearchSubject;
 use std::alloc::{AllocError, Global};
 
 /// How many states there are when it is told first how far the search has come.
@@ -122,15 +122,13 @@ impl Search {
         watcher: &mut W,
         progress: &mut Progress,
     ) -> Result<(), AllocError>
-        requires searching { IsSearching subject.now.image.now subject.now.n subject.now.question.now
-            progress.old.next self.old }
+        requires searching { IsSearching (asked_of subject.now) progress.old.next self.old }
         requires there { progress.old.next < length self.old.seen.rows }
-        requires top { IsOver subject.now.image.now subject.now.n top.old }
-        requires work { IsOver subject.now.image.now subject.now.n work.old }
-        ensures searching { OnOk result (IsSearching subject.now.image.now subject.now.n subject.now.question.now
-            progress.new.next self.new) }
-        ensures top { IsOver subject.now.image.now subject.now.n top.new }
-        ensures work { IsOver subject.now.image.now subject.now.n work.new }
+        requires top { IsKernelOf (asked_of subject.now) top.old }
+        requires work { IsKernelOf (asked_of subject.now) work.old }
+        ensures searching { OnOk result (IsSearching (asked_of subject.now) progress.new.next self.new) }
+        ensures top { IsKernelOf (asked_of subject.now) top.new }
+        ensures work { IsKernelOf (asked_of subject.now) work.new }
     {
         self.examine(alloc, subject, top, work, progress.next)?;
         progress.next = place_after(progress.next);
@@ -147,11 +145,9 @@ impl Search {
         watcher: &mut W,
         progress: &mut Progress,
     ) -> Result<bool, AllocError>
-        ensures { (whole : Search) →
-            IsSlice subject.now.image.now subject.now.n subject.now.question.now whole slice.now →
-            IsInRound subject.now.image.now subject.now.n subject.now.question.now whole progress.old.next self.old →
-            OnOk result (IsInRound subject.now.image.now subject.now.n subject.now.question.now whole
-            progress.new.next self.new) }
+        ensures { (whole : Search) → IsSlice (asked_of subject.now) whole slice.now →
+            IsInRound (asked_of subject.now) whole progress.old.next self.old →
+            OnOk result (IsInRound (asked_of subject.now) whole progress.new.next self.new) }
     {
         if slice.span.first != progress.next {
             return Ok(false);
@@ -173,11 +169,9 @@ impl Search {
         watcher: &mut W,
         progress: &mut Progress,
     ) -> Result<bool, AllocError>
-        ensures { (whole : Search) →
-            IfOk made.now (IsSlice subject.now.image.now subject.now.n subject.now.question.now whole) →
-            IsInRound subject.now.image.now subject.now.n subject.now.question.now whole progress.old.next self.old →
-            OnOk result (IsInRound subject.now.image.now subject.now.n subject.now.question.now whole
-            progress.new.next self.new) }
+        ensures { (whole : Search) → IfOk made.now (IsSlice (asked_of subject.now) whole) →
+            IsInRound (asked_of subject.now) whole progress.old.next self.old →
+            OnOk result (IsInRound (asked_of subject.now) whole progress.new.next self.new) }
     {
         match made {
             Ok(slice) => self.enter_slice(alloc, subject, slice, watcher, progress),
@@ -194,11 +188,9 @@ impl Search {
         watcher: &mut W,
         progress: &mut Progress,
     ) -> Result<(), AllocError>
-        ensures { (whole : Search) →
-            All (λ s. IfOk s (IsSlice subject.now.image.now subject.now.n subject.now.question.now whole)) slices.now →
-            IsInRound subject.now.image.now subject.now.n subject.now.question.now whole progress.old.next self.old →
-            OnOk result (IsInRound subject.now.image.now subject.now.n subject.now.question.now whole
-            progress.new.next self.new) }
+        ensures { (whole : Search) → All (λ s. IfOk s (IsSlice (asked_of subject.now) whole)) slices.now →
+            IsInRound (asked_of subject.now) whole progress.old.next self.old →
+            OnOk result (IsInRound (asked_of subject.now) whole progress.new.next self.new) }
     {
         for k in 0..slices.len() {
             if !self.enter_made(alloc, subject, &slices[k], watcher, progress)? {
@@ -220,12 +212,10 @@ impl Search {
         watcher: &mut W,
         progress: &mut Progress,
     ) -> Result<(), AllocError>
-        requires searching { IsSearching subject.now.image.now subject.now.n subject.now.question.now
-            progress.old.next self.old }
+        requires searching { IsSearching (asked_of subject.now) progress.old.next self.old }
         requires there { progress.old.next < length self.old.seen.rows }
         requires crew { C.can_work crew.now }
-        ensures { OnOk result (IsSearching subject.now.image.now subject.now.n subject.now.question.now
-            progress.new.next self.new) }
+        ensures { OnOk result (IsSearching (asked_of subject.now) progress.new.next self.new) }
     {
         let slices = crew.slices(alloc, subject, self, span)?;
         self.enter_all(alloc, subject, &slices, watcher, progress)
@@ -242,16 +232,14 @@ impl Search {
         watcher: &mut W,
         progress: &mut Progress,
     ) -> Result<(), AllocError>
-        requires searching { IsSearching subject.now.image.now subject.now.n subject.now.question.now
-            progress.old.next self.old }
+        requires searching { IsSearching (asked_of subject.now) progress.old.next self.old }
         requires there { progress.old.next < length self.old.seen.rows }
         requires crew { C.can_work crew.now }
-        requires top { IsOver subject.now.image.now subject.now.n top.old }
-        requires work { IsOver subject.now.image.now subject.now.n work.old }
-        ensures searching { OnOk result (IsSearching subject.now.image.now subject.now.n subject.now.question.now
-            progress.new.next self.new) }
-        ensures top { IsOver subject.now.image.now subject.now.n top.new }
-        ensures work { IsOver subject.now.image.now subject.now.n work.new }
+        requires top { IsKernelOf (asked_of subject.now) top.old }
+        requires work { IsKernelOf (asked_of subject.now) work.old }
+        ensures searching { OnOk result (IsSearching (asked_of subject.now) progress.new.next self.new) }
+        ensures top { IsKernelOf (asked_of subject.now) top.new }
+        ensures work { IsKernelOf (asked_of subject.now) work.new }
     {
         let span = self.next_span(subject, crew.jobs(), progress);
         if span.first < span.end {

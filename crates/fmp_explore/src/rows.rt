@@ -2,21 +2,21 @@
 ghost use Rattle.std.specs.Prelude.{◌≡◌, ◌+◌, ◌*◌, ◌<◌, ◌^◌, IfOk, OnOk, is_some, length, true};
 ghost use Rattle.fmp_fields.specs.Fields.{AreAllFields};
 ghost use Rattle.fmp_live.specs.LiveLocals.{AreLiveTables, live_tables};
-ghost use Rattle.fmp_explore.specs.States.{AreFew, AreMonitorsOf, IsRowOf, numbers_in};
-ghost use Rattle.fmp_explore.specs.Searching.{CanStep};
-ghost use Rattle.fmp_witness.specs.Followed.{IsOver};
+ghost use Rattle.fmp_explore.specs.States.{IsRowOf, numbers_in};
+ghost use Rattle.fmp_explore.specs.Searching.{CanStep, HasLive, IsKernelOf, IsStateFor};
+ghost use Rattle.fmp_witness.specs.Asked.{asked_of};
 
 use crate::standings::{monitors_told, push_standings};
-use crate::subject::{CodeTest, SearchSubject};
 use crate::trying::ExaminedState;
-use fmp_code::Vm;
+use fmp_code::{MachineContext, Vm};
 use fmp_fields::{FieldPlan, SavedRow, fields_of, read};
 use fmp_image_bytes::Image;
-use fmp_kernel::Kernel;
+use fmp_kernel::{ContextTest, Kernel};
 use fmp_live::{LiveLocals, live_locals};
 use fmp_reachable::soundness::is_sound;
 use fmp_schedules::Monitor;
 use fmp_visited::{pack, unpack};
+use fmp_witness::SearchSubject;
 use std::alloc::{AllocError, Global};
 
 /// The live locals of the bodies of an image, where the local at the out place of a call counts as written by every
@@ -25,6 +25,16 @@ fn live_in(alloc: Global, outs: bool, image: &Image) -> LiveLocals
     ensures { AreLiveTables outs image.now.code (live_tables result) }
 {
     live_locals(alloc, outs, image.code())
+}
+
+/// Tells the contexts of bodies of code from other values.
+#[derive(Clone, Copy)]
+struct CodeTest;
+
+impl<'a> ContextTest<Vm<'a>> for CodeTest {
+    fn accepts(&self, body: &Vm<'a>, entry: u8, context: &MachineContext) -> bool {
+        body.is_context(entry, context)
+    }
 }
 
 /// The fields of the states, and room for the numbers and the row of one.
@@ -68,8 +78,7 @@ fn behind_fields(numbers: &[u32], fields: usize) -> &[u32] {
 impl Rows {
     /// Rows of the states of a system, of which none was looked at. `AllocError` if memory runs out.
     pub fn new(alloc: Global, outs: bool, subject: &SearchSubject<'_>) -> Result<Rows, AllocError>
-        ensures live { IfOk result (λ rows. AreLiveTables rows.outs subject.now.image.now.code
-            (live_tables rows.live)) }
+        ensures live { IfOk result (HasLive (asked_of subject.now)) }
         ensures fields { IfOk result (λ rows. AreAllFields subject.now.image.now.system subject.now.image.now.code
             (is_some subject.now.question.now.interrupts) rows.fields.items) }
     {
@@ -90,8 +99,7 @@ impl Rows {
 
     /// Rows of the same fields, live locals and first numbers. `AllocError` if memory runs out.
     pub fn again(&self, alloc: Global, subject: &SearchSubject<'_>) -> Result<Rows, AllocError>
-        ensures live { IfOk result (λ rows. AreLiveTables rows.outs subject.now.image.now.code
-            (live_tables rows.live)) }
+        ensures live { IfOk result (HasLive (asked_of subject.now)) }
         ensures outs { IfOk result (λ rows. rows.outs ≡ self.now.outs) }
         ensures fields { IfOk result (λ rows. rows.fields.items ≡ self.now.fields.items) }
         ensures first { IfOk result (λ rows. rows.first.items ≡ self.now.first.items) }
@@ -177,9 +185,7 @@ impl Rows {
         ensures live { self.new.live ≡ self.old.live }
         ensures first { self.new.first.items ≡ self.old.first.items }
         ensures state { IfOk result (λ at. at.state ≡ state) }
-        ensures few { IfOk result (λ at. AreFew subject.now.question.now at.came) }
-        ensures held { IfOk result
-            (λ at. AreMonitorsOf subject.now.question.now.monitors.items at.monitors.items) }
+        ensures told { IfOk result (IsStateFor (asked_of subject.now)) }
     {
         unpack(row, &self.first, &mut self.numbers)?;
         let question = subject.question;
@@ -202,15 +208,14 @@ impl Rows {
         fallback: &Kernel<Vm<'a>>,
         kernel: &mut Kernel<Vm<'a>>,
     ) -> Result<bool, AllocError>
-        requires fallback { IsOver subject.now.image.now subject.now.n fallback.now }
-        requires kernel { IsOver subject.now.image.now subject.now.n kernel.old }
+        requires fallback { IsKernelOf (asked_of subject.now) fallback.now }
+        requires kernel { IsKernelOf (asked_of subject.now) kernel.old }
         ensures fields { self.new.fields.items ≡ self.old.fields.items }
         ensures outs { self.new.outs ≡ self.old.outs }
         ensures live { self.new.live ≡ self.old.live }
         ensures first { self.new.first.items ≡ self.old.first.items }
-        ensures over { IsOver subject.now.image.now subject.now.n kernel.new }
-        ensures restored { IfOk result (λ restored. restored ≡ true →
-            CanStep subject.now.image.now subject.now.n kernel.new) }
+        ensures over { IsKernelOf (asked_of subject.now) kernel.new }
+        ensures restored { IfOk result (λ restored. restored ≡ true → CanStep (asked_of subject.now) kernel.new) }
     {
         self.saved.fill(&self.fields, &self.numbers)?;
         if !kernel.restore(fallback, self.saved.saved(), &CodeTest) {

@@ -5,33 +5,33 @@ ghost use Rattle.fmp_base.specs.Meanings.{World};
 ghost use Rattle.fmp_instructions.specs.Instructions.{BodyTables};
 ghost use Rattle.fmp_instructions.specs.declared.instructions.MachineContext.{MachineContext};
 ghost use Rattle.fmp_kernel.specs.KernelViews.{KernelView};
-ghost use Rattle.fmp_reachable.specs.Sound.{IsSound};
 ghost use Rattle.fmp_schedules.specs.Monitors.{is_any_broken_in};
 ghost use Rattle.fmp_schedules.specs.Schedules.{is_any_broken};
 ghost use Rattle.fmp_explore.specs.States.{AreFew, AreMonitorsOf, watched_with};
 ghost use Rattle.fmp_live.specs.Fits.{is_written};
-ghost use Rattle.fmp_live.specs.LiveLocals.{AreLiveTables, live_tables};
 ghost use Rattle.fmp_question.specs.Places.{is_bad};
 ghost use Rattle.fmp_explore.specs.Searching.{
   HasDealt,
   HasDone,
   HasKept,
   HasKeptPlace,
+  HasLive,
   HasStepped,
+  IsAttemptFor,
   IsFresh,
   IsSearch,
+  IsSoundKernel,
   Stays,
   came_on,
   watched_in,
 };
-ghost use Rattle.fmp_witness.specs.Followed.{IsOver};
+ghost use Rattle.fmp_witness.specs.Asked.{asked_of};
 
 use crate::edges::Edges;
 use crate::notes::{Notes, PathEnd};
 use crate::rows::Rows;
 use crate::standings::monitors_after;
 use crate::stretching::{Ahead, NextStretch, next_stretch, task_on};
-use crate::subject::SearchSubject;
 use crate::trying::{Attempt, ExaminedState};
 use crate::values::{Variety, varieties};
 use fmp_base::{Effect, Event, Line};
@@ -40,7 +40,7 @@ use fmp_kernel::Kernel;
 use fmp_question::{CallSite, Outlook, Question, are_written, may_rest, queues_within};
 use fmp_schedules::{InterruptLimit, Monitor, MonitorSubject, all_let, tries_of};
 use fmp_visited::{RowEntry, Seen, StateLink};
-use fmp_witness::{Coverage, Finding, FindingKind};
+use fmp_witness::{Coverage, Finding, FindingKind, SearchSubject};
 use std::alloc::{AllocError, Global};
 
 /// Whether a limit never lets an event come again.
@@ -75,7 +75,7 @@ impl Search {
     /// A search with no state yet, where the local at the out place of a call counts as written by every reply, or by
     /// E_OK alone. `AllocError` if memory runs out.
     pub fn new(alloc: Global, outs: bool, subject: &SearchSubject<'_>) -> Result<Search, AllocError>
-        ensures { IfOk result (IsFresh subject.now.image.now subject.now.question.now) }
+        ensures { IfOk result (IsFresh (asked_of subject.now)) }
     {
         let sys = subject.image.system();
         let tries = tries_of(alloc, sys)?;
@@ -156,13 +156,13 @@ impl Search {
         monitors: &[Monitor],
         link: StateLink,
     ) -> Result<(), AllocError>
-        requires live { AreLiveTables self.old.rows.outs subject.now.image.now.code (live_tables self.old.rows.live) }
-        requires over { IsOver subject.now.image.now subject.now.n kernel.now }
-        requires sound { IsSound subject.now.image.now.system subject.now.image.now.code kernel.now.world }
+        requires live { HasLive (asked_of subject.now) self.old.rows }
+        requires sound { IsSoundKernel (asked_of subject.now) kernel.now }
         requires few { AreFew subject.now.question.now came }
         requires held { AreMonitorsOf subject.now.question.now.monitors.items monitors.now }
-        ensures { OnOk result (HasKept subject.now.image.now subject.now.question.now self.old self.new
-            kernel.now.world (watched_with subject.now.question.now came monitors.now)) }
+        ensures { OnOk result
+            (HasKept (asked_of subject.now) self.old self.new kernel.now.world
+            (watched_with subject.now.question.now came monitors.now)) }
     {
         self.rows.write(kernel, came, monitors)?;
         let entry = self.seen.add(alloc, &self.rows.row, link)?;
@@ -232,17 +232,14 @@ impl Search {
         kept: bool,
         monitors: &[Monitor],
     ) -> Result<(), AllocError>
-        requires live { AreLiveTables self.old.rows.outs subject.now.image.now.code (live_tables self.old.rows.live) }
-        requires over { IsOver subject.now.image.now subject.now.n kernel.now }
-        requires sound { IsSound subject.now.image.now.system subject.now.image.now.code kernel.now.world }
-        requires before { AreFew subject.now.question.now attempt.at.now.came }
-        requires few { AreFew subject.now.question.now
-            (came_on subject.now.question.now.interrupts attempt.at.now.came attempt.event) }
+        requires live { HasLive (asked_of subject.now) self.old.rows }
+        requires sound { IsSoundKernel (asked_of subject.now) kernel.now }
+        requires attempt { IsAttemptFor (asked_of subject.now) attempt.at.now attempt.event }
         requires held { AreMonitorsOf subject.now.question.now.monitors.items monitors.now }
-        ensures { OnOk result (HasKept subject.now.image.now subject.now.question.now self.old self.new
-            kernel.now.world (watched_with subject.now.question.now
-            (came_on subject.now.question.now.interrupts attempt.entry.at.now.came attempt.entry.event)
-            monitors.now)) }
+        ensures { OnOk result
+            (HasKept (asked_of subject.now) self.old self.new kernel.now.world
+            (watched_with subject.now.question.now
+            (came_on subject.now.question.now.interrupts attempt.entry.at.now.came attempt.entry.event) monitors.now)) }
     {
         self.keep(
             alloc,
@@ -306,16 +303,11 @@ impl Search {
         attempt: Attempt<'_>,
         made: Option<CallSite>,
     ) -> Result<(), AllocError>
-        requires survey { IsSearch subject.now.image.now subject.now.question.now self.old }
-        requires over { IsOver subject.now.image.now subject.now.n kernel.now }
-        requires sound { IsSound subject.now.image.now.system subject.now.image.now.code kernel.now.world }
-        requires before { AreFew subject.now.question.now attempt.at.now.came }
-        requires few { AreFew subject.now.question.now
-            (came_on subject.now.question.now.interrupts attempt.at.now.came attempt.event) }
-        requires held { AreMonitorsOf subject.now.question.now.monitors.items attempt.at.now.monitors.items }
-        ensures { (w : World MachineContext) →
-            HasDone subject.now.image.now subject.now.n w attempt.entry.event kernel.now →
-            OnOk result (HasDealt subject.now.image.now subject.now.n subject.now.question.now self.old self.new w
+        requires survey { IsSearch (asked_of subject.now) self.old }
+        requires sound { IsSoundKernel (asked_of subject.now) kernel.now }
+        requires attempt { IsAttemptFor (asked_of subject.now) attempt.at.now attempt.event }
+        ensures { (w : World MachineContext) → HasDone (asked_of subject.now) w attempt.entry.event kernel.now →
+            OnOk result (HasDealt (asked_of subject.now) self.old self.new w
             (watched_in subject.now.question.now attempt.entry.at.now) attempt.entry.event) }
     {
         let before = &attempt.at.monitors;
@@ -343,16 +335,11 @@ impl Search {
         attempt: Attempt<'_>,
         made: Option<CallSite>,
     ) -> Result<(), AllocError>
-        requires survey { IsSearch subject.now.image.now subject.now.question.now self.old }
-        requires over { IsOver subject.now.image.now subject.now.n kernel.now }
-        requires sound { IsSound subject.now.image.now.system subject.now.image.now.code kernel.now.world }
-        requires before { AreFew subject.now.question.now attempt.at.now.came }
-        requires few { AreFew subject.now.question.now
-            (came_on subject.now.question.now.interrupts attempt.at.now.came attempt.event) }
-        requires held { AreMonitorsOf subject.now.question.now.monitors.items attempt.at.now.monitors.items }
-        ensures { (w : World MachineContext) →
-            HasDone subject.now.image.now subject.now.n w attempt.entry.event kernel.now →
-            OnOk result (HasDealt subject.now.image.now subject.now.n subject.now.question.now self.old self.new w
+        requires survey { IsSearch (asked_of subject.now) self.old }
+        requires sound { IsSoundKernel (asked_of subject.now) kernel.now }
+        requires attempt { IsAttemptFor (asked_of subject.now) attempt.at.now attempt.event }
+        ensures { (w : World MachineContext) → HasDone (asked_of subject.now) w attempt.entry.event kernel.now →
+            OnOk result (HasDealt (asked_of subject.now) self.old self.new w
             (watched_in subject.now.question.now attempt.entry.at.now) attempt.entry.event) }
     {
         if !queues_within(kernel, subject.question) {
@@ -461,16 +448,11 @@ impl Search {
         attempt: Attempt<'_>,
         outlook: Option<Outlook>,
     ) -> Result<(), AllocError>
-        requires survey { IsSearch subject.now.image.now subject.now.question.now self.old }
-        requires over { IsOver subject.now.image.now subject.now.n kernel.now }
-        requires sound { IsSound subject.now.image.now.system subject.now.image.now.code kernel.now.world }
-        requires before { AreFew subject.now.question.now attempt.at.now.came }
-        requires few { AreFew subject.now.question.now
-            (came_on subject.now.question.now.interrupts attempt.at.now.came attempt.event) }
-        requires held { AreMonitorsOf subject.now.question.now.monitors.items attempt.at.now.monitors.items }
-        ensures { (w : World MachineContext) →
-            HasKeptPlace subject.now.image.now subject.now.n w attempt.entry.event kernel.now →
-            OnOk result (HasDealt subject.now.image.now subject.now.n subject.now.question.now self.old self.new w
+        requires survey { IsSearch (asked_of subject.now) self.old }
+        requires sound { IsSoundKernel (asked_of subject.now) kernel.now }
+        requires attempt { IsAttemptFor (asked_of subject.now) attempt.at.now attempt.event }
+        ensures { (w : World MachineContext) → HasKeptPlace (asked_of subject.now) w attempt.entry.event kernel.now →
+            OnOk result (HasDealt (asked_of subject.now) self.old self.new w
             (watched_in subject.now.question.now attempt.entry.at.now) attempt.entry.event) }
     {
         self.note_place(kernel, attempt.event, outlook)?;
@@ -487,17 +469,13 @@ impl Search {
         effect: Effect,
         ahead: Ahead,
     ) -> Result<(), AllocError>
-        requires survey { IsSearch subject.now.image.now subject.now.question.now self.old }
-        requires over { IsOver subject.now.image.now subject.now.n kernel.now }
-        requires sound { IsSound subject.now.image.now.system subject.now.image.now.code kernel.now.world }
-        requires before { AreFew subject.now.question.now attempt.at.now.came }
-        requires few { AreFew subject.now.question.now
-            (came_on subject.now.question.now.interrupts attempt.at.now.came attempt.event) }
-        requires held { AreMonitorsOf subject.now.question.now.monitors.items attempt.at.now.monitors.items }
+        requires survey { IsSearch (asked_of subject.now) self.old }
+        requires sound { IsSoundKernel (asked_of subject.now) kernel.now }
+        requires attempt { IsAttemptFor (asked_of subject.now) attempt.at.now attempt.event }
         ensures { (before : KernelView (List BodyTables) MachineContext) →
-            HasStepped subject.now.image.now subject.now.n before attempt.entry.event kernel.now effect →
-            OnOk result (HasDealt subject.now.image.now subject.now.n subject.now.question.now self.old self.new
-            before.world (watched_in subject.now.question.now attempt.entry.at.now) attempt.entry.event) }
+            HasStepped (asked_of subject.now) before attempt.entry.event kernel.now effect →
+            OnOk result (HasDealt (asked_of subject.now) self.old self.new before.world
+            (watched_in subject.now.question.now attempt.entry.at.now) attempt.entry.event) }
     {
         subject.image.keeps_rules();
         match effect {

@@ -3,7 +3,6 @@ ghost use Rattle.std.specs.Prelude.{◌≡◌, ◌≢◌, ◌+◌, ◌<◌, IfOk
 ghost use Rattle.fmp_base.specs.Steps.{Nothing};
 ghost use Rattle.fmp_base.specs.Meanings.{World};
 ghost use Rattle.fmp_instructions.specs.declared.instructions.MachineContext.{MachineContext};
-ghost use Rattle.fmp_witness.specs.Followed.{IsOver};
 ghost use Rattle.fmp_explore.specs.Searching.{
   AreMarks,
   CanStep,
@@ -15,29 +14,32 @@ ghost use Rattle.fmp_explore.specs.Searching.{
   HasLookedAt,
   HasTried,
   HasTriedOut,
+  IsAttemptFor,
   IsBegun,
+  IsKernelOf,
   IsSearch,
+  IsStateFor,
   IsTrying,
   MayRequest,
   came_on,
   watched_in,
 };
-ghost use Rattle.fmp_explore.specs.States.{AreFew, AreMonitorsOf, MayCome, counted, reaction_in};
+ghost use Rattle.fmp_explore.specs.States.{AreFew, MayCome, counted, reaction_in};
 ghost use Rattle.fmp_schedules.specs.Schedules.{may_still};
 ghost use Rattle.fmp_schedules.specs.Tries.{all_tries};
+ghost use Rattle.fmp_witness.specs.Asked.{asked_of};
 
 use crate::crew::Crew;
 use crate::rounds::Progress;
 use crate::searches::Search;
 use crate::stretching::{Ahead, task_sites};
-use crate::subject::SearchSubject;
 use crate::trying::{Attempt, ExaminedState, StateMarks};
 use fmp_base::{Effect, Event};
 use fmp_code::Vm;
 use fmp_kernel::Kernel;
 use fmp_question::{Question, Ticks, stands_still};
 use fmp_replay::kernel_of;
-use fmp_witness::FindingKind;
+use fmp_witness::{FindingKind, SearchSubject};
 use std::alloc::{AllocError, Global};
 
 /// Who is told how far a search has come.
@@ -91,10 +93,9 @@ fn may_try(subject: &SearchSubject<'_>, at: &ExaminedState, marks: StateMarks, e
     requires few { AreFew subject.now.question.now at.now.came }
     ensures few { IsTrue result →
         AreFew subject.now.question.now (came_on subject.now.question.now.interrupts at.now.came event) }
-    ensures no { (w : World MachineContext) → result ≡ false → AreMarks subject.now.image.now subject.now.n
-        subject.now.question.now w (watched_in subject.now.question.now at.now) marks →
-        MayCome subject.now.image.now subject.now.n subject.now.question.now w
-        (watched_in subject.now.question.now at.now) event → ⊥ }
+    ensures no { (w : World MachineContext) → result ≡ false →
+        AreMarks (asked_of subject.now) w (watched_in subject.now.question.now at.now) marks →
+        MayCome (asked_of subject.now) w (watched_in subject.now.question.now at.now) event → ⊥ }
     ensures request { result ≡ true →
         MayRequest subject.now.question.now (watched_in subject.now.question.now at.now) event }
 {
@@ -127,19 +128,16 @@ impl Search {
         attempt: Attempt<'_>,
         ahead: Ahead,
     ) -> Result<bool, AllocError>
-        requires survey { IsSearch subject.now.image.now subject.now.question.now self.old }
-        requires ready { CanStep subject.now.image.now subject.now.n kernel.old }
-        requires before { AreFew subject.now.question.now attempt.at.now.came }
-        requires few { AreFew subject.now.question.now
-            (came_on subject.now.question.now.interrupts attempt.at.now.came attempt.event) }
-        requires held { AreMonitorsOf subject.now.question.now.monitors.items attempt.at.now.monitors.items }
-        ensures dealt { OnOk result (HasDealt subject.now.image.now subject.now.n subject.now.question.now self.old
-            self.new kernel.old.world (watched_in subject.now.question.now attempt.entry.at.now)
-            attempt.entry.event) }
+        requires survey { IsSearch (asked_of subject.now) self.old }
+        requires ready { CanStep (asked_of subject.now) kernel.old }
+        requires attempt { IsAttemptFor (asked_of subject.now) attempt.at.now attempt.event }
+        ensures dealt { OnOk result
+            (HasDealt (asked_of subject.now) self.old self.new kernel.old.world
+            (watched_in subject.now.question.now attempt.entry.at.now) attempt.entry.event) }
         ensures still { IfOk result (λ did. did ≡ false → kernel.new ≡ kernel.old) }
         ensures does { IfOk result (λ did. did ≡ true →
-            reaction_in subject.now.image.now subject.now.n kernel.old.world attempt.entry.event ≢ Nothing) }
-        ensures over { IsOver subject.now.image.now subject.now.n kernel.new }
+            reaction_in (asked_of subject.now) kernel.old.world attempt.entry.event ≢ Nothing) }
+        ensures over { IsKernelOf (asked_of subject.now) kernel.new }
     {
         subject.image.keeps_rules();
         let effect = kernel.step(attempt.event);
@@ -156,19 +154,16 @@ impl Search {
         kernel: &mut Kernel<Vm<'a>>,
         attempt: Attempt<'_>,
     ) -> Result<bool, AllocError>
-        requires survey { IsSearch subject.now.image.now subject.now.question.now self.old }
-        requires ready { CanStep subject.now.image.now subject.now.n kernel.old }
-        requires before { AreFew subject.now.question.now attempt.at.now.came }
-        requires few { AreFew subject.now.question.now
-            (came_on subject.now.question.now.interrupts attempt.at.now.came attempt.event) }
-        requires held { AreMonitorsOf subject.now.question.now.monitors.items attempt.at.now.monitors.items }
-        ensures dealt { OnOk result (HasDealt subject.now.image.now subject.now.n subject.now.question.now self.old
-            self.new kernel.old.world (watched_in subject.now.question.now attempt.entry.at.now)
-            attempt.entry.event) }
+        requires survey { IsSearch (asked_of subject.now) self.old }
+        requires ready { CanStep (asked_of subject.now) kernel.old }
+        requires attempt { IsAttemptFor (asked_of subject.now) attempt.at.now attempt.event }
+        ensures dealt { OnOk result
+            (HasDealt (asked_of subject.now) self.old self.new kernel.old.world
+            (watched_in subject.now.question.now attempt.entry.at.now) attempt.entry.event) }
         ensures still { IfOk result (λ did. did ≡ false → kernel.new ≡ kernel.old) }
         ensures does { IfOk result (λ did. did ≡ true →
-            reaction_in subject.now.image.now subject.now.n kernel.old.world attempt.entry.event ≢ Nothing) }
-        ensures over { IsOver subject.now.image.now subject.now.n kernel.new }
+            reaction_in (asked_of subject.now) kernel.old.world attempt.entry.event ≢ Nothing) }
+        ensures over { IsKernelOf (asked_of subject.now) kernel.new }
     {
         let ahead = self.note_ahead(alloc, subject, kernel, attempt)?;
         self.attempt_ahead(alloc, subject, kernel, attempt, ahead)
@@ -186,16 +181,16 @@ impl Search {
         place: usize,
     ) -> Result<bool, AllocError>
         requires place { place < length self.old.tries.items }
-        requires ready { CanStep subject.now.image.now subject.now.n kernel.old }
-        requires few { AreFew subject.now.question.now at.now.came }
-        requires held { AreMonitorsOf subject.now.question.now.monitors.items at.now.monitors.items }
-        requires trying { IsTrying subject.now.image.now subject.now.n subject.now.question.now kernel.old.world
-            (watched_in subject.now.question.now at.now) marks.old place self.old }
-        ensures trying { OnOk result (IsTrying subject.now.image.now subject.now.n subject.now.question.now
-            kernel.old.world (watched_in subject.now.question.now at.now) marks.new (place + 1) self.new) }
+        requires ready { CanStep (asked_of subject.now) kernel.old }
+        requires state { IsStateFor (asked_of subject.now) at.now }
+        requires trying { IsTrying (asked_of subject.now) kernel.old.world (watched_in subject.now.question.now at.now)
+            marks.old place self.old }
+        ensures trying { OnOk result
+            (IsTrying (asked_of subject.now) kernel.old.world (watched_in subject.now.question.now at.now) marks.new
+            (place + 1) self.new) }
         ensures grows { OnOk result (Grows self.old self.new) }
         ensures still { IfOk result (λ did. did ≡ false → kernel.new ≡ kernel.old) }
-        ensures over { IsOver subject.now.image.now subject.now.n kernel.new }
+        ensures over { IsKernelOf (asked_of subject.now) kernel.new }
     {
         let event = self.tries[place];
         if !may_try(subject, at, *marks, event) {
@@ -224,15 +219,15 @@ impl Search {
         first: usize,
     ) -> Result<usize, AllocError>
         requires first { first < length self.old.tries.items }
-        requires ready { CanStep subject.now.image.now subject.now.n kernel.old }
-        requires few { AreFew subject.now.question.now at.now.came }
-        requires held { AreMonitorsOf subject.now.question.now.monitors.items at.now.monitors.items }
-        requires trying { IsTrying subject.now.image.now subject.now.n subject.now.question.now kernel.old.world
-            (watched_in subject.now.question.now at.now) marks.old first self.old }
-        ensures tried { IfOk result (HasTried subject.now.image.now subject.now.n subject.now.question.now
-            kernel.old.world (watched_in subject.now.question.now at.now) marks.new self.old self.new) }
+        requires ready { CanStep (asked_of subject.now) kernel.old }
+        requires state { IsStateFor (asked_of subject.now) at.now }
+        requires trying { IsTrying (asked_of subject.now) kernel.old.world (watched_in subject.now.question.now at.now)
+            marks.old first self.old }
+        ensures tried { IfOk result
+            (HasTried (asked_of subject.now) kernel.old.world (watched_in subject.now.question.now at.now) marks.new
+            self.old self.new) }
         ensures above { IfOk result (λ next. first < next) }
-        ensures over { IsOver subject.now.image.now subject.now.n kernel.new }
+        ensures over { IsKernelOf (asked_of subject.now) kernel.new }
     {
         let end = self.tries.len();
         for place in first..end {
@@ -255,16 +250,16 @@ impl Search {
         first: usize,
     ) -> Result<usize, AllocError>
         requires first { first < length self.old.tries.items }
-        requires ready { CanStep subject.now.image.now subject.now.n from.now }
-        requires few { AreFew subject.now.question.now at.now.came }
-        requires held { AreMonitorsOf subject.now.question.now.monitors.items at.now.monitors.items }
-        requires trying { IsTrying subject.now.image.now subject.now.n subject.now.question.now from.now.world
-            (watched_in subject.now.question.now at.now) marks.old first self.old }
-        requires over { IsOver subject.now.image.now subject.now.n kernel.old }
-        ensures tried { IfOk result (HasTried subject.now.image.now subject.now.n subject.now.question.now
-            from.now.world (watched_in subject.now.question.now at.now) marks.new self.old self.new) }
+        requires ready { CanStep (asked_of subject.now) from.now }
+        requires state { IsStateFor (asked_of subject.now) at.now }
+        requires trying { IsTrying (asked_of subject.now) from.now.world (watched_in subject.now.question.now at.now)
+            marks.old first self.old }
+        requires over { IsKernelOf (asked_of subject.now) kernel.old }
+        ensures tried { IfOk result
+            (HasTried (asked_of subject.now) from.now.world (watched_in subject.now.question.now at.now) marks.new
+            self.old self.new) }
         ensures above { IfOk result (λ next. first < next) }
-        ensures over { IsOver subject.now.image.now subject.now.n kernel.new }
+        ensures over { IsKernelOf (asked_of subject.now) kernel.new }
     {
         kernel.put_back(from);
         self.try_from(alloc, subject, kernel, at, marks, first)
@@ -279,15 +274,14 @@ impl Search {
         kernel: &mut Kernel<Vm<'a>>,
         at: &ExaminedState,
     ) -> Result<StateMarks, AllocError>
-        requires survey { IsSearch subject.now.image.now subject.now.question.now self.old }
-        requires ready { CanStep subject.now.image.now subject.now.n from.now }
-        requires few { AreFew subject.now.question.now at.now.came }
-        requires held { AreMonitorsOf subject.now.question.now.monitors.items at.now.monitors.items }
-        requires over { IsOver subject.now.image.now subject.now.n kernel.old }
-        ensures tried { IfOk result (λ marks. HasTried subject.now.image.now subject.now.n subject.now.question.now
-            from.now.world (watched_in subject.now.question.now at.now) marks self.old self.new
-            (length (all_tries subject.now.image.now.system))) }
-        ensures over { IsOver subject.now.image.now subject.now.n kernel.new }
+        requires survey { IsSearch (asked_of subject.now) self.old }
+        requires ready { CanStep (asked_of subject.now) from.now }
+        requires state { IsStateFor (asked_of subject.now) at.now }
+        requires over { IsKernelOf (asked_of subject.now) kernel.old }
+        ensures tried { IfOk result
+            (λ marks. HasTried (asked_of subject.now) from.now.world (watched_in subject.now.question.now at.now) marks
+            self.old self.new (length (all_tries subject.now.image.now.system))) }
+        ensures over { IsKernelOf (asked_of subject.now) kernel.new }
     {
         let mut marks = StateMarks {
             idle: true,
@@ -316,11 +310,12 @@ impl Search {
         at: &ExaminedState,
         marks: StateMarks,
     ) -> Result<(), AllocError>
-        requires over { IsOver subject.now.image.now subject.now.n kernel.now }
-        requires marks { AreMarks subject.now.image.now subject.now.n subject.now.question.now kernel.now.world
-            (watched_in subject.now.question.now at.now) marks }
-        ensures { OnOk result (HasLooked subject.now.image.now subject.now.n subject.now.question.now self.old
-            self.new kernel.now.world (watched_in subject.now.question.now at.now)) }
+        requires over { IsKernelOf (asked_of subject.now) kernel.now }
+        requires marks { AreMarks (asked_of subject.now) kernel.now.world (watched_in subject.now.question.now at.now)
+            marks }
+        ensures { OnOk result
+            (HasLooked (asked_of subject.now) self.old self.new kernel.now.world
+            (watched_in subject.now.question.now at.now)) }
     {
         if !stands_still(kernel, subject.question) {
             return Ok(());
@@ -345,11 +340,12 @@ impl Search {
         at: &ExaminedState,
         marks: StateMarks,
     ) -> Result<(), AllocError>
-        requires over { IsOver subject.now.image.now subject.now.n kernel.now }
-        requires marks { AreMarks subject.now.image.now subject.now.n subject.now.question.now kernel.now.world
-            (watched_in subject.now.question.now at.now) marks }
-        ensures { OnOk result (HasLooked subject.now.image.now subject.now.n subject.now.question.now self.old
-            self.new kernel.now.world (watched_in subject.now.question.now at.now)) }
+        requires over { IsKernelOf (asked_of subject.now) kernel.now }
+        requires marks { AreMarks (asked_of subject.now) kernel.now.world (watched_in subject.now.question.now at.now)
+            marks }
+        ensures { OnOk result
+            (HasLooked (asked_of subject.now) self.old self.new kernel.now.world
+            (watched_in subject.now.question.now at.now)) }
     {
         if marks.idle {
             self.look(alloc, subject, kernel, at, marks)
@@ -368,11 +364,12 @@ impl Search {
         at: &ExaminedState,
         marks: StateMarks,
     ) -> Result<(), AllocError>
-        requires over { IsOver subject.now.image.now subject.now.n kernel.now }
-        requires marks { AreMarks subject.now.image.now subject.now.n subject.now.question.now kernel.now.world
-            (watched_in subject.now.question.now at.now) marks }
-        ensures { OnOk result (HasLookedAt subject.now.image.now subject.now.n subject.now.question.now self.old
-            self.new kernel.now.world (watched_in subject.now.question.now at.now)) }
+        requires over { IsKernelOf (asked_of subject.now) kernel.now }
+        requires marks { AreMarks (asked_of subject.now) kernel.now.world (watched_in subject.now.question.now at.now)
+            marks }
+        ensures { OnOk result
+            (HasLookedAt (asked_of subject.now) self.old self.new kernel.now.world
+            (watched_in subject.now.question.now at.now)) }
     {
         self.look_if_idle(alloc, subject, kernel, at, marks)?;
         self.note_state(alloc, subject, kernel, at)?;
@@ -389,14 +386,14 @@ impl Search {
         kernel: &mut Kernel<Vm<'a>>,
         at: &ExaminedState,
     ) -> Result<(), AllocError>
-        requires survey { IsSearch subject.now.image.now subject.now.question.now self.old }
-        requires ready { CanStep subject.now.image.now subject.now.n from.now }
-        requires few { AreFew subject.now.question.now at.now.came }
-        requires held { AreMonitorsOf subject.now.question.now.monitors.items at.now.monitors.items }
-        requires over { IsOver subject.now.image.now subject.now.n kernel.old }
-        ensures tried { OnOk result (HasTriedOut subject.now.image.now subject.now.n subject.now.question.now
-            self.old self.new from.now.world (watched_in subject.now.question.now at.now)) }
-        ensures over { IsOver subject.now.image.now subject.now.n kernel.new }
+        requires survey { IsSearch (asked_of subject.now) self.old }
+        requires ready { CanStep (asked_of subject.now) from.now }
+        requires state { IsStateFor (asked_of subject.now) at.now }
+        requires over { IsKernelOf (asked_of subject.now) kernel.old }
+        ensures tried { OnOk result
+            (HasTriedOut (asked_of subject.now) self.old self.new from.now.world
+            (watched_in subject.now.question.now at.now)) }
+        ensures over { IsKernelOf (asked_of subject.now) kernel.new }
     {
         subject.image.keeps_rules();
         let marks = self.try_all(alloc, subject, from, kernel, at)?;
@@ -412,14 +409,13 @@ impl Search {
         work: &mut Kernel<Vm<'a>>,
         state: u32,
     ) -> Result<(), AllocError>
-        requires survey { IsSearch subject.now.image.now subject.now.question.now self.old }
+        requires survey { IsSearch (asked_of subject.now) self.old }
         requires there { state < length self.old.seen.rows }
-        requires top { IsOver subject.now.image.now subject.now.n top.old }
-        requires work { IsOver subject.now.image.now subject.now.n work.old }
-        ensures examined { OnOk result (HasExamined subject.now.image.now subject.now.n subject.now.question.now
-            self.old self.new state) }
-        ensures top { IsOver subject.now.image.now subject.now.n top.new }
-        ensures work { IsOver subject.now.image.now subject.now.n work.new }
+        requires top { IsKernelOf (asked_of subject.now) top.old }
+        requires work { IsKernelOf (asked_of subject.now) work.old }
+        ensures examined { OnOk result (HasExamined (asked_of subject.now) self.old self.new state) }
+        ensures top { IsKernelOf (asked_of subject.now) top.new }
+        ensures work { IsKernelOf (asked_of subject.now) work.new }
     {
         let at = self.examined(alloc, subject, state)?;
         if !self.stand_at(alloc, subject, work, top, &at)? {
@@ -485,11 +481,11 @@ impl Search {
         work: &mut Kernel<Vm<'a>>,
         watcher: &mut W,
     ) -> Result<Ending, AllocError>
-        requires begun { IsBegun subject.now.image.now subject.now.n subject.now.question.now self.old }
+        requires begun { IsBegun (asked_of subject.now) self.old }
         requires crew { C.can_work crew.now }
-        requires top { IsOver subject.now.image.now subject.now.n top.old }
-        requires work { IsOver subject.now.image.now subject.now.n work.old }
-        ensures { IfOk result (HasEnded subject.now.image.now subject.now.n subject.now.question.now self.new) }
+        requires top { IsKernelOf (asked_of subject.now) top.old }
+        requires work { IsKernelOf (asked_of subject.now) work.old }
+        ensures { IfOk result (HasEnded (asked_of subject.now) self.new) }
     {
         let mut progress = Progress::new();
         for _turn in 0..u32::MAX {
@@ -514,10 +510,10 @@ impl Search {
         top: &mut Kernel<Vm<'a>>,
         watcher: &mut W,
     ) -> Result<Ending, AllocError>
-        requires begun { IsBegun subject.now.image.now subject.now.n subject.now.question.now self.old }
+        requires begun { IsBegun (asked_of subject.now) self.old }
         requires crew { C.can_work crew.now }
-        requires top { IsOver subject.now.image.now subject.now.n top.old }
-        ensures { IfOk result (HasEnded subject.now.image.now subject.now.n subject.now.question.now self.new) }
+        requires top { IsKernelOf (asked_of subject.now) top.old }
+        ensures { IfOk result (HasEnded (asked_of subject.now) self.new) }
     {
         let mut work = kernel_of(alloc, subject.image, subject.n)?;
         let ending = self.examine_all(alloc, crew, subject, top, &mut work, watcher);
@@ -534,9 +530,9 @@ impl Search {
         subject: &SearchSubject<'_>,
         watcher: &mut W,
     ) -> Result<Ending, AllocError>
-        requires begun { IsBegun subject.now.image.now subject.now.n subject.now.question.now self.old }
+        requires begun { IsBegun (asked_of subject.now) self.old }
         requires crew { C.can_work crew.now }
-        ensures { IfOk result (HasEnded subject.now.image.now subject.now.n subject.now.question.now self.new) }
+        ensures { IfOk result (HasEnded (asked_of subject.now) self.new) }
     {
         let mut top = kernel_of(alloc, subject.image, subject.n)?;
         let ending = self.run_on(alloc, crew, subject, &mut top, watcher);

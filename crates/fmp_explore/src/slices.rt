@@ -1,18 +1,18 @@
 //! Slices: states that a search keeps and has not examined yet, examined by a search of their own. What that finds is
 //! the same wherever it runs, so slices can be examined beside one another.
 ghost use Rattle.std.specs.Prelude.{◌≡◌, ◌-◌, ◌≤◌, IfOk, OnOk, Some, length, slice_get, true};
-ghost use Rattle.fmp_explore.specs.Searching.{Grows, IsSearch};
+ghost use Rattle.fmp_explore.specs.Searching.{Grows, IsKernelOf, IsSearch};
 ghost use Rattle.fmp_explore.specs.Slices.{HasExaminedRow, HasExaminedRows, HasKeptRow, IsSlice, IsSliceOf};
-ghost use Rattle.fmp_witness.specs.Followed.{IsOver};
+ghost use Rattle.fmp_witness.specs.Asked.{asked_of};
 
 use crate::edges::Edges;
 use crate::searches::Search;
 use crate::standing::is_same;
-use crate::subject::SearchSubject;
 use fmp_code::Vm;
 use fmp_kernel::Kernel;
 use fmp_replay::kernel_of;
 use fmp_visited::{RowEntry, Seen, StateLink};
+use fmp_witness::SearchSubject;
 use std::alloc::{AllocError, Global};
 
 /// Which states of a search are a slice.
@@ -49,8 +49,8 @@ impl Search {
         subject: &SearchSubject<'_>,
         kernel: &Kernel<Vm<'_>>,
     ) -> Result<Search, AllocError>
-        requires { IsSearch subject.now.image.now subject.now.question.now self.now }
-        ensures { IfOk result (IsSliceOf subject.now.image.now subject.now.question.now self.now) }
+        requires { IsSearch (asked_of subject.now) self.now }
+        ensures { IfOk result (IsSliceOf (asked_of subject.now) self.now) }
     {
         let rows = self.rows.again(alloc, subject)?;
         let tries = Vec::from_slice(alloc, &self.tries)?;
@@ -133,13 +133,12 @@ impl Search {
         row: &[u8],
         k: u32,
     ) -> Result<(), AllocError>
-        requires survey { IsSearch subject.now.image.now subject.now.question.now self.old }
-        requires top { IsOver subject.now.image.now subject.now.n top.old }
-        requires work { IsOver subject.now.image.now subject.now.n work.old }
-        ensures examined { OnOk result (HasExaminedRow subject.now.image.now subject.now.n subject.now.question.now
-            self.old self.new row.now) }
-        ensures top { IsOver subject.now.image.now subject.now.n top.new }
-        ensures work { IsOver subject.now.image.now subject.now.n work.new }
+        requires survey { IsSearch (asked_of subject.now) self.old }
+        requires top { IsKernelOf (asked_of subject.now) top.old }
+        requires work { IsKernelOf (asked_of subject.now) work.old }
+        ensures examined { OnOk result (HasExaminedRow (asked_of subject.now) self.old self.new row.now) }
+        ensures top { IsKernelOf (asked_of subject.now) top.new }
+        ensures work { IsKernelOf (asked_of subject.now) work.new }
     {
         if !self.has_at(k, row) {
             self.sure = false;
@@ -159,11 +158,10 @@ impl Search {
         whole: &Search,
         span: Span,
     ) -> Result<(), AllocError>
-        requires survey { IsSearch subject.now.image.now subject.now.question.now self.old }
-        requires top { IsOver subject.now.image.now subject.now.n top.old }
-        requires work { IsOver subject.now.image.now subject.now.n work.old }
-        ensures { OnOk result (HasExaminedRows subject.now.image.now subject.now.n subject.now.question.now
-            whole.now span.first span.end self.old self.new) }
+        requires survey { IsSearch (asked_of subject.now) self.old }
+        requires top { IsKernelOf (asked_of subject.now) top.old }
+        requires work { IsKernelOf (asked_of subject.now) work.old }
+        ensures { OnOk result (HasExaminedRows (asked_of subject.now) whole.now span.first span.end self.old self.new) }
     {
         for place in span.first..span.end {
             let row = whole.seen.row(place);
@@ -193,10 +191,10 @@ impl Search {
         work: &mut Kernel<Vm<'a>>,
         span: Span,
     ) -> Result<Slice, AllocError>
-        requires survey { IsSearch subject.now.image.now subject.now.question.now self.now }
-        requires top { IsOver subject.now.image.now subject.now.n top.old }
-        requires work { IsOver subject.now.image.now subject.now.n work.old }
-        ensures { IfOk result (IsSlice subject.now.image.now subject.now.n subject.now.question.now self.now) }
+        requires survey { IsSearch (asked_of subject.now) self.now }
+        requires top { IsKernelOf (asked_of subject.now) top.old }
+        requires work { IsKernelOf (asked_of subject.now) work.old }
+        ensures { IfOk result (IsSlice (asked_of subject.now) self.now) }
     {
         let span = self.within(span);
         let mut search = self.again(alloc, subject, top)?;
@@ -214,9 +212,9 @@ impl Search {
         top: &mut Kernel<Vm<'a>>,
         span: Span,
     ) -> Result<Slice, AllocError>
-        requires survey { IsSearch subject.now.image.now subject.now.question.now self.now }
-        requires top { IsOver subject.now.image.now subject.now.n top.old }
-        ensures { IfOk result (IsSlice subject.now.image.now subject.now.n subject.now.question.now self.now) }
+        requires survey { IsSearch (asked_of subject.now) self.now }
+        requires top { IsKernelOf (asked_of subject.now) top.old }
+        ensures { IfOk result (IsSlice (asked_of subject.now) self.now) }
     {
         let mut work = kernel_of(alloc, subject.image, subject.n)?;
         let slice = self.slice_on(alloc, subject, top, &mut work, span);
@@ -232,8 +230,8 @@ impl Search {
         subject: &SearchSubject<'_>,
         span: Span,
     ) -> Result<Slice, AllocError>
-        requires { IsSearch subject.now.image.now subject.now.question.now self.now }
-        ensures { IfOk result (IsSlice subject.now.image.now subject.now.n subject.now.question.now self.now) }
+        requires { IsSearch (asked_of subject.now) self.now }
+        ensures { IfOk result (IsSlice (asked_of subject.now) self.now) }
     {
         let mut top = kernel_of(alloc, subject.image, subject.n)?;
         let slice = self.slice_with(alloc, subject, &mut top, span);

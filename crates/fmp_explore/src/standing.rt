@@ -1,20 +1,17 @@
 //! How a kernel comes into a state that is examined: it is restored from the state's row, or takes the events that lead
 //! there. Either way it is in the state only where its own row is that of the state.
 ghost use Rattle.std.specs.Prelude.{◌≡◌, ◌<◌, [], IfOk, length, true};
-ghost use Rattle.fmp_live.specs.LiveLocals.{AreLiveTables, live_tables};
 ghost use Rattle.fmp_replay.specs.Replays.{kernel_after};
-ghost use Rattle.fmp_witness.specs.Followed.{IsOver};
-ghost use Rattle.fmp_explore.specs.Searching.{CanStep, StandsAt, Stays};
-ghost use Rattle.fmp_explore.specs.States.{AreFew, AreMonitorsOf};
+ghost use Rattle.fmp_explore.specs.Searching.{CanStep, HasLive, IsKernelOf, IsStateFor, StandsAt, Stays};
+ghost use Rattle.fmp_witness.specs.Asked.{asked_of};
 
 use crate::searches::Search;
-use crate::subject::SearchSubject;
 use crate::trying::ExaminedState;
 use fmp_base::Event;
 use fmp_code::Vm;
 use fmp_kernel::Kernel;
 use fmp_replay::kernel_of;
-use fmp_witness::{TAKEN_MOST, follow};
+use fmp_witness::{SearchSubject, TAKEN_MOST, follow};
 use std::alloc::{AllocError, Global};
 
 /// Whether two rows are the same.
@@ -33,9 +30,9 @@ fn follow_on<'a>(
     steps: &[Event],
 ) -> bool
     requires fresh { fresh.old ≡ kernel_after subject.now.image.now subject.now.n [] }
-    requires kernel { IsOver subject.now.image.now subject.now.n kernel.old }
-    ensures over { IsOver subject.now.image.now subject.now.n kernel.new }
-    ensures ready { result ≡ true → CanStep subject.now.image.now subject.now.n kernel.new }
+    requires kernel { IsKernelOf (asked_of subject.now) kernel.old }
+    ensures over { IsKernelOf (asked_of subject.now) kernel.new }
+    ensures ready { result ≡ true → CanStep (asked_of subject.now) kernel.new }
 {
     subject.image.keeps_rules();
     if !follow(fresh, subject.image, subject.n, steps) {
@@ -56,9 +53,9 @@ fn follow_to<'a>(
     kernel: &mut Kernel<Vm<'a>>,
     steps: &[Event],
 ) -> Result<bool, AllocError>
-    requires { IsOver subject.now.image.now subject.now.n kernel.old }
-    ensures over { IsOver subject.now.image.now subject.now.n kernel.new }
-    ensures ready { IfOk result (λ done. done ≡ true → CanStep subject.now.image.now subject.now.n kernel.new) }
+    requires { IsKernelOf (asked_of subject.now) kernel.old }
+    ensures over { IsKernelOf (asked_of subject.now) kernel.new }
+    ensures ready { IfOk result (λ done. done ≡ true → CanStep (asked_of subject.now) kernel.new) }
 {
     let mut fresh = kernel_of(alloc, subject.image, subject.n)?;
     let done = follow_on(subject, &mut fresh, kernel, steps);
@@ -76,9 +73,7 @@ impl Search {
     ) -> Result<ExaminedState, AllocError>
         ensures stays { Stays self.old self.new }
         ensures state { IfOk result (λ at. at.state ≡ state) }
-        ensures few { IfOk result (λ at. AreFew subject.now.question.now at.came) }
-        ensures held { IfOk result
-            (λ at. AreMonitorsOf subject.now.question.now.monitors.items at.monitors.items) }
+        ensures told { IfOk result (IsStateFor (asked_of subject.now)) }
     {
         let depth = self.depth_of(state);
         self.rows
@@ -93,14 +88,12 @@ impl Search {
         kernel: &Kernel<Vm<'_>>,
         at: &ExaminedState,
     ) -> Result<bool, AllocError>
-        requires live { AreLiveTables self.old.rows.outs subject.now.image.now.code (live_tables self.old.rows.live) }
+        requires live { HasLive (asked_of subject.now) self.old.rows }
         requires there { at.now.state < length self.old.seen.rows }
-        requires few { AreFew subject.now.question.now at.now.came }
-        requires held { AreMonitorsOf subject.now.question.now.monitors.items at.now.monitors.items }
-        requires ready { CanStep subject.now.image.now subject.now.n kernel.now }
+        requires state { IsStateFor (asked_of subject.now) at.now }
+        requires ready { CanStep (asked_of subject.now) kernel.now }
         ensures stays { Stays self.old self.new }
-        ensures stands { IfOk result (λ yes. yes ≡ true →
-            StandsAt subject.now.image.now subject.now.n subject.now.question.now self.new at.now kernel.now) }
+        ensures stands { IfOk result (λ yes. yes ≡ true → StandsAt (asked_of subject.now) self.new at.now kernel.now) }
     {
         self.rows.write(kernel, at.came, &at.monitors)?;
         Ok(is_same(self.seen.row(at.state), &self.rows.row))
@@ -115,15 +108,13 @@ impl Search {
         kernel: &mut Kernel<Vm<'a>>,
         at: &ExaminedState,
     ) -> Result<bool, AllocError>
-        requires live { AreLiveTables self.old.rows.outs subject.now.image.now.code (live_tables self.old.rows.live) }
+        requires live { HasLive (asked_of subject.now) self.old.rows }
         requires there { at.now.state < length self.old.seen.rows }
-        requires few { AreFew subject.now.question.now at.now.came }
-        requires held { AreMonitorsOf subject.now.question.now.monitors.items at.now.monitors.items }
-        requires over { IsOver subject.now.image.now subject.now.n kernel.old }
+        requires state { IsStateFor (asked_of subject.now) at.now }
+        requires over { IsKernelOf (asked_of subject.now) kernel.old }
         ensures stays { Stays self.old self.new }
-        ensures over { IsOver subject.now.image.now subject.now.n kernel.new }
-        ensures stands { IfOk result (λ yes. yes ≡ true →
-            StandsAt subject.now.image.now subject.now.n subject.now.question.now self.new at.now kernel.new) }
+        ensures over { IsKernelOf (asked_of subject.now) kernel.new }
+        ensures stands { IfOk result (λ yes. yes ≡ true → StandsAt (asked_of subject.now) self.new at.now kernel.new) }
     {
         let steps = self.steps_to(alloc, subject.question, at.state)?;
         if !follow_to(alloc, subject, kernel, &steps)? {
@@ -140,16 +131,14 @@ impl Search {
         kernel: &mut Kernel<Vm<'a>>,
         at: &ExaminedState,
     ) -> Result<bool, AllocError>
-        requires live { AreLiveTables self.old.rows.outs subject.now.image.now.code (live_tables self.old.rows.live) }
+        requires live { HasLive (asked_of subject.now) self.old.rows }
         requires there { at.now.state < length self.old.seen.rows }
-        requires few { AreFew subject.now.question.now at.now.came }
-        requires held { AreMonitorsOf subject.now.question.now.monitors.items at.now.monitors.items }
-        requires other { IsOver subject.now.image.now subject.now.n other.now }
-        requires over { IsOver subject.now.image.now subject.now.n kernel.old }
+        requires state { IsStateFor (asked_of subject.now) at.now }
+        requires other { IsKernelOf (asked_of subject.now) other.now }
+        requires over { IsKernelOf (asked_of subject.now) kernel.old }
         ensures stays { Stays self.old self.new }
-        ensures over { IsOver subject.now.image.now subject.now.n kernel.new }
-        ensures stands { IfOk result (λ yes. yes ≡ true →
-            StandsAt subject.now.image.now subject.now.n subject.now.question.now self.new at.now kernel.new) }
+        ensures over { IsKernelOf (asked_of subject.now) kernel.new }
+        ensures stands { IfOk result (λ yes. yes ≡ true → StandsAt (asked_of subject.now) self.new at.now kernel.new) }
     {
         if !self.rows.restore(subject, other, kernel)? {
             return Ok(false);
@@ -167,16 +156,14 @@ impl Search {
         kernel: &mut Kernel<Vm<'a>>,
         at: &ExaminedState,
     ) -> Result<bool, AllocError>
-        requires live { AreLiveTables self.old.rows.outs subject.now.image.now.code (live_tables self.old.rows.live) }
+        requires live { HasLive (asked_of subject.now) self.old.rows }
         requires there { at.now.state < length self.old.seen.rows }
-        requires few { AreFew subject.now.question.now at.now.came }
-        requires held { AreMonitorsOf subject.now.question.now.monitors.items at.now.monitors.items }
-        requires other { IsOver subject.now.image.now subject.now.n other.now }
-        requires over { IsOver subject.now.image.now subject.now.n kernel.old }
+        requires state { IsStateFor (asked_of subject.now) at.now }
+        requires other { IsKernelOf (asked_of subject.now) other.now }
+        requires over { IsKernelOf (asked_of subject.now) kernel.old }
         ensures stays { Stays self.old self.new }
-        ensures over { IsOver subject.now.image.now subject.now.n kernel.new }
-        ensures stands { IfOk result (λ yes. yes ≡ true →
-            StandsAt subject.now.image.now subject.now.n subject.now.question.now self.new at.now kernel.new) }
+        ensures over { IsKernelOf (asked_of subject.now) kernel.new }
+        ensures stands { IfOk result (λ yes. yes ≡ true → StandsAt (asked_of subject.now) self.new at.now kernel.new) }
     {
         if self.restore_to(subject, other, kernel, at)? {
             return Ok(true);

@@ -8,13 +8,13 @@ ghost use Rattle.fmp_explore.specs.Behind.{IsAbout, NeverActs, NoneFollows};
 ghost use Rattle.fmp_witness.specs.Findings.{IsSo};
 ghost use Rattle.fmp_witness.specs.Followed.{IsFollowed};
 ghost use Rattle.fmp_explore.specs.Searching.{IsBegun};
+ghost use Rattle.fmp_witness.specs.Asked.{asked_of};
 
 use crate::crew::Alone;
 use crate::edges::{Predecessors, goes_on_from};
 use crate::exploring::{run_search, start_search};
 use crate::searches::Search;
 use crate::searching::{Ending, SearchWatcher};
-use crate::subject::SearchSubject;
 use fmp_base::{Event, Phase, System};
 use fmp_code::Vm;
 use fmp_fields::{What, low_byte};
@@ -22,7 +22,7 @@ use fmp_image_bytes::Image;
 use fmp_kernel::Kernel;
 use fmp_question::{CallSite, Never, Question, body_of, is_started, may_rest};
 use fmp_visited::unpack;
-use fmp_witness::{Finding, FindingKind, follow};
+use fmp_witness::{Finding, FindingKind, SearchSubject, follow};
 use std::alloc::{AllocError, Global};
 
 /// Nobody is told how far a search has come.
@@ -282,9 +282,8 @@ fn shows_silence(
     subject: &SearchSubject<'_>,
     survey: &mut Search,
 ) -> Result<bool, AllocError>
-    requires { IsBegun subject.now.image.now subject.now.n subject.now.question.now survey.old }
-    ensures { IfOk result (λ yes. IsTrue yes →
-        NoneFollows subject.now.image.now subject.now.n subject.now.question.now) }
+    requires { IsBegun (asked_of subject.now) survey.old }
+    ensures { IfOk result (λ yes. IsTrue yes → NoneFollows (asked_of subject.now)) }
 {
     subject.image.keeps_rules();
     match run_search(alloc, &Alone, survey, subject, &mut Nobody) {
@@ -302,8 +301,7 @@ fn is_silent_so(
     outs: bool,
     subject: &SearchSubject<'_>,
 ) -> Result<Option<bool>, AllocError>
-    ensures { IfOk result (λ known. IfSome known (λ yes. IsTrue yes →
-        NoneFollows subject.now.image.now subject.now.n subject.now.question.now)) }
+    ensures { IfOk result (λ known. IfSome known (λ yes. IsTrue yes → NoneFollows (asked_of subject.now))) }
 {
     let mut survey = start_search(alloc, outs, subject)?;
     let yes = shows_silence(alloc, subject, &mut survey)?;
@@ -315,8 +313,7 @@ fn is_silent_so(
 
 /// The same of a search that is made once more where a reply left an out place as it was.
 fn is_silent(alloc: Global, subject: &SearchSubject<'_>) -> Result<bool, AllocError>
-    ensures { IfOk result (λ yes. IsTrue yes →
-        NoneFollows subject.now.image.now subject.now.n subject.now.question.now) }
+    ensures { IfOk result (λ yes. IsTrue yes → NoneFollows (asked_of subject.now)) }
 {
     if let Some(yes) = is_silent_so(alloc, true, subject)? {
         return Ok(yes);
@@ -327,33 +324,34 @@ fn is_silent(alloc: Global, subject: &SearchSubject<'_>) -> Result<bool, AllocEr
     }
 }
 
-/// The same of what is asked about an image.
+/// The same of another question about an image, at the same bound.
 fn is_silent_about(
     alloc: Global,
-    image: &Image,
-    n: u64,
-    question: &Question,
+    subject: &SearchSubject<'_>,
+    about: &Question,
 ) -> Result<bool, AllocError>
-    ensures { IfOk result (λ yes. IsTrue yes → NoneFollows image.now n question.now) }
+    ensures { IfOk result (λ yes. IsTrue yes → NoneFollows (record (asked_of subject.now) { question = about.now })) }
 {
-    let subject = SearchSubject { image, n, question };
-    is_silent(alloc, &subject)
+    let other = SearchSubject {
+        image: subject.image,
+        n: subject.n,
+        question: about,
+    };
+    is_silent(alloc, &other)
 }
 
 /// Whether a task never acts after these events, as a question lets others follow. `AllocError` if the search for that
 /// ends before it knows, as where memory runs out.
 fn never_acts(
     alloc: Global,
-    image: &Image,
-    n: u64,
-    question: &Question,
+    subject: &SearchSubject<'_>,
     steps: &[Event],
     t: u8,
 ) -> Result<bool, AllocError>
-    ensures { IfOk result (λ yes. IsTrue yes → NeverActs image.now n question.now steps.now t) }
+    ensures { IfOk result (λ yes. IsTrue yes → NeverActs (asked_of subject.now) steps.now t) }
 {
-    let about = question_of(alloc, image.system(), question, steps, t)?;
-    is_silent_about(alloc, image, n, &about)
+    let about = question_of(alloc, subject.image.system(), subject.question, steps, t)?;
+    is_silent_about(alloc, subject, &about)
 }
 
 /// Whether the task at a place is started on the kernel of an image, which has taken these events.
@@ -371,21 +369,19 @@ fn is_started_after(kernel: &Kernel<Vm<'_>>, image: &Image, n: u64, steps: &[Eve
 pub fn is_stuck<'a>(
     alloc: Global,
     kernel: &mut Kernel<Vm<'a>>,
-    image: &'a Image,
-    n: u64,
-    question: &Question,
+    subject: &SearchSubject<'a>,
     steps: &[Event],
     t: u8,
 ) -> Result<bool, AllocError>
-    requires begun { kernel.old ≡ kernel_after image.now n [] }
-    ensures { IfOk result (λ stuck. IsTrue stuck → IsSo image.now n question.now steps.now (FindingKind.Stuck t)) }
+    requires begun { kernel.old ≡ kernel_after subject.now.image.now subject.now.n [] }
+    ensures { IfOk result (λ stuck. IsTrue stuck → IsSo (asked_of subject.now) steps.now (FindingKind.Stuck t)) }
 {
-    if !follow(kernel, image, n, steps) {
+    if !follow(kernel, subject.image, subject.n, steps) {
         return Ok(false);
     }
-    if !is_started_after(kernel, image, n, steps, t) {
+    if !is_started_after(kernel, subject.image, subject.n, steps, t) {
         return Ok(false);
     }
-    let never = never_acts(alloc, image, n, question, steps, t)?;
+    let never = never_acts(alloc, subject, steps, t)?;
     Ok(never)
 }

@@ -10,7 +10,7 @@ use Rattle.fmp_base.specs.Steps.{Done, Reaction, Nothing, Did, Kept, effect_of, 
 use Rattle.fmp_drive.specs.Driving.{reaction as done_by}
 use Rattle.fmp_witness.specs.declared.finding.FindingKind.TheVariants as kind
 use Rattle.fmp_witness.specs.declared.finding.SentenceBreach.{SentenceBreach}
-use Rattle.fmp_question.specs.declared.question.Question.{Question}
+use Rattle.fmp_witness.specs.Asked.{Asked}
 use Rattle.fmp_witness.specs.Findings.{HasMonitor, IsBreachAfter, IsMonitorOn, IsSo, monitor_by}
 use Rattle.fmp_witness.specs.Followed.{HasDone}
 use Rattle.fmp_image_bytes.specs.Images.{ImageTables}
@@ -103,13 +103,13 @@ module _ (i : ImageTables) (n : ℕ) (first : Monitor) where
       }
 
 -- what is found of a sentence that a line breaks is so
-pub so_breached : (i : ImageTables) (n : ℕ) (q : Question) (es before : List Event) (last : Event) (s : Monitor)
-    (t : SentenceBreach) → es ≡ before ++ last ∷ [] → slice_get q.monitors.items t.monitor ≡ Some s
-    → IsBreachAfter i n s before last t.breach → IsSo i n q es (kind.Breach t)
+pub so_breached : (asked : Asked) (es before : List Event) (last : Event) (s : Monitor) (t : SentenceBreach)
+    → es ≡ before ++ last ∷ [] → slice_get asked.question.monitors.items t.monitor ≡ Some s
+    → IsBreachAfter asked.image asked.bound s before last t.breach → IsSo asked es (kind.Breach t)
 unfolding reaction
-so_breached i n q es before last s t parts there h =
+so_breached asked es before last s t parts there h =
     record {
-      legal = subst (λ (fs : List Event). IsLegal i n fs) (sym parts) h.legal;
+      legal = subst (λ (fs : List Event). IsLegal asked.image asked.bound fs) (sym parts) h.legal;
       shown =
           record {
             monitor = s;
@@ -119,8 +119,10 @@ so_breached i n q es before last s t parts there h =
             parts = parts;
             done = h.done;
             did =
-                ap (λ (w : World MachineContext). step i.system (code_meaning i.code) n w last)
-                (sym (world_of i n before))
+                ap
+                (λ (w : World MachineContext).
+                step asked.image.system (code_meaning asked.image.code) asked.bound w last)
+                (sym (world_of asked.image asked.bound before))
                 ∙ h.did;
             broken = h.broken;
           };

@@ -20,6 +20,7 @@ use Rattle.fmp_instructions.specs.Instructions.{BodyTables}
 use Rattle.fmp_kernel.specs.KernelViews.{KernelView}
 use Rattle.fmp_schedules.specs.declared.monitor.Breach.{Breach}
 use Rattle.fmp_schedules.specs.declared.monitor.Monitor.{Monitor}
+use Rattle.fmp_witness.specs.Asked.{Asked, meaning_of}
 use Rattle.fmp_witness.specs.Followed.{IsFollowed}
 use Rattle.fmp_schedules.specs.Deadlocks.{IsDeadlock, may_interrupt}
 use Rattle.fmp_schedules.specs.Schedules.{lines_after, reached}
@@ -65,14 +66,19 @@ IsSeen sys M n q es d (kind.Breach t) = IsBreached sys M n q es t
 IsSeen sys M n q es d (kind.State place) = HasBroken q.monitors.items d.world place
 IsSeen sys M n q es d (kind.Stuck t) = NeverGoesOn (rules_of q) sys M n es t
 
+-- this is seen after events, by what is asked
+abbrev pub IsSeenAfter : Asked → List Event → FindingKind → Type 0
+IsSeenAfter asked es seen =
+    IsSeen asked.image.system (meaning_of asked) asked.bound asked.question es (replay asked.image asked.bound es) seen
+
 -- each of these events does something at its place, and this is seen after them
-pub record IsSo (i : ImageTables) (n : ℕ) (q : Question) (es : List Event) (seen : FindingKind) : Type 0 where
-  pub legal : IsLegal i n es
-  pub shown : IsSeen i.system (code_meaning i.code) n q es (replay i n es) seen
+pub record IsSo (asked : Asked) (es : List Event) (seen : FindingKind) : Type 0 where
+  pub legal : IsLegal asked.image asked.bound es
+  pub shown : IsSeenAfter asked es seen
 
 -- a finding is so
 abbrev pub IsFound : ImageTables → ℕ → Question → Finding → Type 0
-IsFound i n q f = IsSo i n q f.steps.items f.kind
+IsFound i n q f = IsSo (record { image = i; bound = n; question = q }) f.steps.items f.kind
 
 -- what legal events have left: the lines of the last one that was done, with its number in the trace
 pub record IsLeft (i : ImageTables) (n : ℕ) (es : List Event) (left : Left) : Type 0 where

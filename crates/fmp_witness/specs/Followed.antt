@@ -8,6 +8,7 @@ use Rattle.fmp_instructions.specs.Instructions.{BodyTables}
 use Rattle.fmp_instructions.specs.declared.instructions.MachineContext.{MachineContext}
 use Rattle.fmp_kernel.specs.KernelViews.{KernelView, view_after}
 use Rattle.fmp_replay.specs.Replays.{IsLegal, kernel_after, reaction}
+use Rattle.fmp_witness.specs.Asked.{Asked}
 
 -- a kernel of an image, at a bound, in whatever state
 pub record IsOver (i : ImageTables) (n : ℕ) (k : KernelView (List BodyTables) MachineContext) : Type 0 where
@@ -20,6 +21,10 @@ pub record IsFollowed (i : ImageTables) (n : ℕ) (es : List Event) (k : KernelV
     Type 0 where
   pub legal : IsLegal i n es
   pub kernel : k ≡ kernel_after i n es
+
+-- the same of what is asked
+abbrev pub HasFollowed : Asked → List Event → KernelView (List BodyTables) MachineContext → Type 0
+HasFollowed asked es k = IsFollowed asked.image asked.bound es k
 
 -- what an event does after others, and the kernel then
 pub record HasStepped (i : ImageTables) (n : ℕ) (es : List Event) (e : Event)

@@ -1,17 +1,16 @@
 //! What is found, and whether it is so.
 ghost use Rattle.std.specs.Prelude.{◌≡◌, [], IfOk, IfSome, IsTrue};
 ghost use Rattle.fmp_base.specs.Systems.{tables_of};
-ghost use Rattle.fmp_instructions.specs.Machine.{code_meaning};
-ghost use Rattle.fmp_replay.specs.Replays.{kernel_after, replay};
+ghost use Rattle.fmp_replay.specs.Replays.{kernel_after};
 ghost use Rattle.fmp_schedules.specs.Monitors.{IsBreach};
-ghost use Rattle.fmp_schedules.specs.Deadlocks.{IsDeadlock, may_interrupt as may};
-ghost use Rattle.fmp_question.specs.Endless.{IsEndlessOn};
-ghost use Rattle.fmp_witness.specs.Findings.{HasBroken, HasForbidden, IsLeft, IsBreachAfter, IsSeen, IsSo};
-ghost use Rattle.fmp_witness.specs.Followed.{IsFollowed};
+ghost use Rattle.fmp_witness.specs.Asked.{asked_of};
+ghost use Rattle.fmp_witness.specs.Findings.{HasBroken, HasForbidden, IsLeft, IsBreachAfter, IsSeenAfter, IsSo};
+ghost use Rattle.fmp_witness.specs.Followed.{HasFollowed, IsFollowed};
 
 use crate::breaching::{follow_monitor, is_done};
 use crate::replaying::{TAKEN_MOST, follow};
 use crate::started::{Started, started_tasks};
+use crate::subject::SearchSubject;
 use fmp_base::{Event, Line, System};
 use fmp_code::Vm;
 use fmp_image_bytes::Image;
@@ -72,45 +71,34 @@ fn has_forbidden(kernel: &Kernel<Vm<'_>>, sys: &System, question: &Question, pla
 /// Whether the line at a place is forbidden, among those that these events left. The kernel of an image took them.
 fn tells_forbidden<'a>(
     kernel: &Kernel<Vm<'a>>,
-    image: &'a Image,
-    n: u64,
-    question: &Question,
+    subject: &SearchSubject<'a>,
     steps: &[Event],
     place: usize,
 ) -> bool
-    requires { IsFollowed image.now n steps.now kernel.now }
-    ensures { IsTrue result → HasForbidden image.now.system question.now (replay image.now n steps.now).world
-        (replay image.now n steps.now).lines place }
+    requires { HasFollowed (asked_of subject.now) steps.now kernel.now }
+    ensures { IsTrue result → IsSeenAfter (asked_of subject.now) steps.now (FindingKind.Line place) }
 {
-    has_forbidden(kernel, image.system(), question, place)
+    has_forbidden(kernel, subject.image.system(), subject.question, place)
 }
 
 /// Whether the kernel of an image, which has taken these events, is a deadlock.
-fn stands<'a>(
-    kernel: &mut Kernel<Vm<'a>>,
-    image: &'a Image,
-    n: u64,
-    question: &Question,
-    steps: &[Event],
-) -> bool
-    requires { IsFollowed image.now n steps.now kernel.old }
-    ensures { IsTrue result → IsDeadlock image.now.system (code_meaning image.now.code) n
-        (replay image.now n steps.now).world question.now.rest.items (may question.now.interrupts steps.now) }
+fn stands<'a>(kernel: &mut Kernel<Vm<'a>>, subject: &SearchSubject<'a>, steps: &[Event]) -> bool
+    requires { HasFollowed (asked_of subject.now) steps.now kernel.old }
+    ensures { IsTrue result → IsSeenAfter (asked_of subject.now) steps.now FindingKind.Deadlock }
 {
     if kernel.taken() >= TAKEN_MOST {
         return false;
     }
-    let interrupts = question.may_interrupt(steps);
-    is_deadlock(kernel, question, interrupts)
+    let interrupts = subject.question.may_interrupt(steps);
+    is_deadlock(kernel, subject.question, interrupts)
 }
 
 /// Whether the actor of a processor is known to go on forever on the kernel of an image, which has taken these events.
-fn goes_on<'a>(kernel: &Kernel<Vm<'a>>, image: &'a Image, n: u64, steps: &[Event], p: u8) -> bool
-    requires { IsFollowed image.now n steps.now kernel.now }
-    ensures { IsTrue result → IsEndlessOn image.now.system (code_meaning image.now.code)
-        (replay image.now n steps.now).world p }
+fn goes_on<'a>(kernel: &Kernel<Vm<'a>>, subject: &SearchSubject<'a>, steps: &[Event], p: u8) -> bool
+    requires { HasFollowed (asked_of subject.now) steps.now kernel.now }
+    ensures { IsTrue result → IsSeenAfter (asked_of subject.now) steps.now (FindingKind.Endless p) }
 {
-    is_endless(kernel, &image.vm(), p)
+    is_endless(kernel, &subject.image.vm(), p)
 }
 
 /// Whether the state of a kernel breaks the sentence at a place of these.
@@ -126,37 +114,31 @@ fn has_broken(kernel: &Kernel<Vm<'_>>, monitors: &[Monitor], place: usize) -> bo
 /// Whether the state that these events left breaks the sentence at a place. The kernel of an image took them.
 fn is_state_broken<'a>(
     kernel: &Kernel<Vm<'a>>,
-    image: &'a Image,
-    n: u64,
-    question: &Question,
+    subject: &SearchSubject<'a>,
     steps: &[Event],
     place: usize,
 ) -> bool
-    requires { IsFollowed image.now n steps.now kernel.now }
-    ensures { IsTrue result →
-        HasBroken question.now.monitors.items (replay image.now n steps.now).world place }
+    requires { HasFollowed (asked_of subject.now) steps.now kernel.now }
+    ensures { IsTrue result → IsSeenAfter (asked_of subject.now) steps.now (FindingKind.State place) }
 {
-    has_broken(kernel, &question.monitors, place)
+    has_broken(kernel, &subject.question.monitors, place)
 }
 
 /// Whether this is seen on the kernel of an image, which has taken these events.
 fn is_seen<'a>(
     kernel: &mut Kernel<Vm<'a>>,
-    image: &'a Image,
-    n: u64,
-    question: &Question,
+    subject: &SearchSubject<'a>,
     steps: &[Event],
     kind: FindingKind,
 ) -> bool
-    requires { IsFollowed image.now n steps.now kernel.old }
-    ensures { IsTrue result → IsSeen image.now.system (code_meaning image.now.code) n question.now steps.now
-        (replay image.now n steps.now) kind }
+    requires { HasFollowed (asked_of subject.now) steps.now kernel.old }
+    ensures { IsTrue result → IsSeenAfter (asked_of subject.now) steps.now kind }
 {
     match kind {
-        FindingKind::Line(place) => tells_forbidden(kernel, image, n, question, steps, place),
-        FindingKind::Deadlock => stands(kernel, image, n, question, steps),
-        FindingKind::Endless(p) => goes_on(kernel, image, n, steps, p),
-        FindingKind::State(place) => is_state_broken(kernel, image, n, question, steps, place),
+        FindingKind::Line(place) => tells_forbidden(kernel, subject, steps, place),
+        FindingKind::Deadlock => stands(kernel, subject, steps),
+        FindingKind::Endless(p) => goes_on(kernel, subject, steps, p),
+        FindingKind::State(place) => is_state_broken(kernel, subject, steps, place),
         FindingKind::Breach(_) | FindingKind::Stuck(_) => false,
     }
 }
@@ -216,16 +198,14 @@ fn is_broken<'a>(
 /// last one breaks a sentence of the question, as this tells.
 fn is_breached<'a>(
     kernel: &mut Kernel<Vm<'a>>,
-    image: &'a Image,
-    n: u64,
-    question: &Question,
+    subject: &SearchSubject<'a>,
     steps: &[Event],
     breached: SentenceBreach,
 ) -> bool
-    requires { kernel.old ≡ kernel_after image.now n [] }
-    ensures { IsTrue result → IsSo image.now n question.now steps.now (FindingKind.Breach breached) }
+    requires { kernel.old ≡ kernel_after subject.now.image.now subject.now.n [] }
+    ensures { IsTrue result → IsSo (asked_of subject.now) steps.now (FindingKind.Breach breached) }
 {
-    let Some(monitor) = question.monitors.get(breached.monitor) else {
+    let Some(monitor) = subject.question.monitors.get(breached.monitor) else {
         return false;
     };
     if steps.is_empty() {
@@ -234,8 +214,8 @@ fn is_breached<'a>(
     let end = steps.len() - 1;
     is_broken(
         kernel,
-        image,
-        n,
+        subject.image,
+        subject.n,
         *monitor,
         &steps[..end],
         steps[end],
@@ -247,22 +227,20 @@ fn is_breached<'a>(
 /// seen then. No claims nothing: of a task that is stuck it is always the answer.
 pub fn is_so<'a>(
     kernel: &mut Kernel<Vm<'a>>,
-    image: &'a Image,
-    n: u64,
-    question: &Question,
+    subject: &SearchSubject<'a>,
     steps: &[Event],
     kind: FindingKind,
 ) -> bool
-    requires begun { kernel.old ≡ kernel_after image.now n [] }
-    ensures { IsTrue result → IsSo image.now n question.now steps.now kind }
+    requires begun { kernel.old ≡ kernel_after subject.now.image.now subject.now.n [] }
+    ensures { IsTrue result → IsSo (asked_of subject.now) steps.now kind }
 {
     if let FindingKind::Breach(breached) = kind {
-        return is_breached(kernel, image, n, question, steps, breached);
+        return is_breached(kernel, subject, steps, breached);
     }
-    if !follow(kernel, image, n, steps) {
+    if !follow(kernel, subject.image, subject.n, steps) {
         return false;
     }
-    is_seen(kernel, image, n, question, steps, kind)
+    is_seen(kernel, subject, steps, kind)
 }
 
 /// What some events have left: the number in the trace of the last one that was done, or 0 for setup, its lines, and

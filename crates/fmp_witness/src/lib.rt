@@ -7,8 +7,10 @@ mod coverage;
 mod finding;
 mod replaying;
 mod started;
+mod subject;
 
 pub use coverage::{Coverage, Peaks, RunCoverage};
 pub use finding::{Finding, FindingKind, Left, SentenceBreach, is_so, left_by};
 pub use replaying::{TAKEN_MOST, follow};
 pub use started::Started;
+pub use subject::SearchSubject;

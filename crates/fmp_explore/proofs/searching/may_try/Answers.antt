@@ -3,6 +3,7 @@ use Rattle.fmp_base.specs.declared.events.Event.TheVariants as event
 use Rattle.fmp_explore.specs.Searching.{watched_in}
 use Rattle.fmp_explore.proofs.MarkLemmas.{few_more, few_still, interrupt_never, tick_never}
 use Rattle.fmp_explore.proofs.searching.may_try.Goals as goal
+use Rattle.fmp_witness.specs.Asked.{asked_of}
 
 pub returns-in-Run-clause-few : goal.returns-in-Run-clause-few
 returns-in-Run-clause-few c = λ yes limited.
@@ -23,14 +24,14 @@ returns-in-Int-clause-few c = λ yes limited.
 
 pub returns-in-Tick-clause-no : goal.returns-in-Tick-clause-no
 returns-in-Tick-clause-no c = λ w no marks.
-    let s = c.args.subject.now in
+    let asked = asked_of c.args.subject.now in
     rw c.in-Tick.is
-    (tick_never s.image.now s.n s.question.now w (watched_in s.question.now c.args.at.now) c.args.marks marks
+    (tick_never asked w (watched_in asked.question c.args.at.now) c.args.marks marks
     (c.may_tick.ensures.ticks no) (c.may_tick.ensures.marks no))
 
 pub returns-in-Int-clause-no : goal.returns-in-Int-clause-no
 returns-in-Int-clause-no c = λ w no marks.
-    let s = c.args.subject.now in
+    let asked = asked_of c.args.subject.now in
     rw c.in-Int.is
-    (interrupt_never s.image.now s.n s.question.now w (watched_in s.question.now c.args.at.now) c.in-Int.field-0
+    (interrupt_never asked w (watched_in asked.question c.args.at.now) c.in-Int.field-0
     (sym c.may_interrupt.ensures.may ∙ no))

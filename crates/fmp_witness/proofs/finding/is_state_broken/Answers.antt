@@ -6,7 +6,8 @@ use Rattle.fmp_witness.proofs.finding.is_state_broken.Goals as goal
 
 pub returns : goal.returns
 returns c = λ yes.
-    state_there c.args.image.now c.args.n c.args.steps.now c.args.kernel.now c.requires
-    c.args.question.now.monitors.items c.args.place
+    let s = c.args.subject.now in
+    state_there s.image.now s.n c.args.steps.now c.args.kernel.now c.requires
+    s.question.now.monitors.items c.args.place
     (subst (λ (ms : List Monitor). HasBroken ms c.args.kernel.now.world c.args.place) c.deref.ensures.value
     (c.has_broken.ensures yes))

@@ -7,10 +7,11 @@ use Rattle.fmp_witness.proofs.finding.stands.Goals as goal
 
 pub returns : goal.returns
 returns c = λ yes.
-    let i = c.args.image.now in
+    let s = c.args.subject.now in
+    let i = s.image.now in
     subst
-    (λ (b : Bool). IsDeadlock i.system (code_meaning i.code) c.args.n (replay i c.args.n c.args.steps.now).world
-    c.args.question.now.rest.items b)
+    (λ (b : Bool). IsDeadlock i.system (code_meaning i.code) s.n (replay i s.n c.args.steps.now).world
+    s.question.now.rest.items b)
     c.may_interrupt-interrupts.ensures.may
-    (deadlock_there i c.args.n c.args.steps.now c.args.kernel.now c.requires c.args.question.now.rest.items _
+    (deadlock_there i s.n c.args.steps.now c.args.kernel.now c.requires s.question.now.rest.items _
     (c.is_deadlock.ensures yes))

@@ -6,8 +6,9 @@ use Rattle.fmp_witness.proofs.finding.tells_forbidden.Goals as goal
 
 pub returns : goal.returns
 returns c = λ yes.
-    line_there c.args.image.now c.args.n c.args.steps.now c.args.kernel.now c.requires c.args.question.now c.args.place
+    let s = c.args.subject.now in
+    line_there s.image.now s.n c.args.steps.now c.args.kernel.now c.requires s.question.now c.args.place
     (subst
-    (λ (sys : SystemTables). HasForbidden sys c.args.question.now c.args.kernel.now.world c.args.kernel.now.lines
+    (λ (sys : SystemTables). HasForbidden sys s.question.now c.args.kernel.now.world c.args.kernel.now.lines
     c.args.place)
     c.system.ensures.tables (c.has_forbidden.ensures yes))

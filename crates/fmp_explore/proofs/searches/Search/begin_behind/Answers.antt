@@ -9,6 +9,7 @@ use Rattle.fmp_explore.specs.States.{AreMonitorsOf}
 use Rattle.fmp_explore.proofs.NextLemmas.{begun_nowhere, begun_of}
 use Rattle.fmp_explore.proofs.MonitorLemmas.{held-after, held-self}
 use Rattle.fmp_explore.proofs.searches.Search.begin_behind.Goals as goal
+use Rattle.fmp_witness.specs.Asked.{asked_of}
 
 pub keep_first-requires-clause-live : goal.keep_first-requires-clause-live
 keep_first-requires-clause-live c = c.requires.survey.survey.live
@@ -28,8 +29,8 @@ keep_first-requires-clause-held c =
 
 pub returns-then-not-can_begin : goal.returns-then-not-can_begin
 returns-then-not-can_begin c =
-    let s = c.args.subject.now in
-    begun_nowhere s.image.now s.n s.question.now c.args.self.now _
+    let asked = asked_of c.args.subject.now in
+    begun_nowhere asked c.args.self.now _
     (record {
       same = record { tries = refl; fields = refl; first = refl; outs = refl; live = refl };
       seen = refl;
@@ -39,8 +40,8 @@ returns-then-not-can_begin c =
 
 pub returns-then-not-follow : goal.returns-then-not-follow
 returns-then-not-follow c =
-    let s = c.args.subject.now in
-    begun_nowhere s.image.now s.n s.question.now c.args.self.now _
+    let asked = asked_of c.args.subject.now in
+    begun_nowhere asked c.args.self.now _
     (record {
       same = record { tries = refl; fields = refl; first = refl; outs = refl; live = refl };
       seen = refl;
@@ -50,10 +51,11 @@ returns-then-not-follow c =
 
 pub returns : goal.returns
 returns c =
-    let s = c.args.subject.now in
-    let followed = subst (λ (es : List Event). IsFollowed s.image.now s.n es c.follow.new.kernel) c.deref.ensures.value
+    let asked = asked_of c.args.subject.now in
+    let followed = subst (λ (es : List Event). IsFollowed asked.image asked.bound es c.follow.new.kernel)
+    c.deref.ensures.value
     (c.follow.ensures c.if-not-follow.false) in
     IfOk-weaker c.keep_first.result _ _
-    (λ _ kept. begun_of s.image.now s.n s.question.now c.args.self.now c.keep_first.new.self c.follow.new.kernel
+    (λ _ kept. begun_of asked c.args.self.now c.keep_first.new.self c.follow.new.kernel
     c.args.monitors.now c.requires.survey c.requires.clean followed c.requires.monitors kept)
     c.keep_first.ensures

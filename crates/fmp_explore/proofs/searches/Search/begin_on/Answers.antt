@@ -5,12 +5,13 @@ use Rattle.fmp_schedules.specs.declared.monitor.Monitor.{Monitor}
 use Rattle.fmp_schedules.specs.Schedules.{monitors_after}
 use Rattle.fmp_explore.proofs.NextLemmas.{clean_setup, fresh_search, lines_at_setup}
 use Rattle.fmp_explore.proofs.searches.Search.begin_on.Goals as goal
+use Rattle.fmp_witness.specs.Asked.{asked_of}
 
 pub begin_behind-requires-clause-survey : goal.begin_behind-requires-clause-survey
 begin_behind-requires-clause-survey c =
-    let s = c.args.subject.now in
+    let asked = asked_of c.args.subject.now in
     let stays = c.in_ok-note_setup.ensures.stays in
-    fresh_search s.image.now s.n s.question.now c.args.self.now _ c.requires.fresh stays.same.tries
+    fresh_search asked c.args.self.now _ c.requires.fresh stays.same.tries
     (c.begin.ensures.fields ∙ stays.same.fields) (c.begin.ensures.outs ∙ stays.same.outs)
     (c.begin.ensures.live ∙ stays.same.live)
     (c.in_ok-begin.ensures.first
@@ -21,15 +22,15 @@ begin_behind-requires-clause-survey c =
 
 pub begin_behind-requires-clause-monitors : goal.begin_behind-requires-clause-monitors
 begin_behind-requires-clause-monitors c =
-    let s = c.args.subject.now in
+    let asked = asked_of c.args.subject.now in
     c.deref-3.ensures.value
     ∙ c.in_ok-monitors.ensures
     ∙ ap (λ (ss : List Monitor). monitors_after ss c.lines.result.now) c.deref.ensures.value
-    ∙ ap (λ (ls : List Line). monitors_after s.question.now.monitors.items ls) c.lines.ensures
-    ∙ lines_at_setup s.image.now s.n s.question.now c.args.kernel.now c.requires.kernel
+    ∙ ap (λ (ls : List Line). monitors_after asked.question.monitors.items ls) c.lines.ensures
+    ∙ lines_at_setup asked c.args.kernel.now c.requires.kernel
 
 pub begin_behind-requires-clause-clean : goal.begin_behind-requires-clause-clean
 begin_behind-requires-clause-clean c = λ sure.
-    let s = c.args.subject.now in
-    clean_setup s.image.now s.n s.question.now c.args.kernel.now c.requires.kernel
+    let asked = asked_of c.args.subject.now in
+    clean_setup asked c.args.kernel.now c.requires.kernel
     (c.in_ok-note_setup.ensures.clean sure) (c.in_ok-note_setup.ensures.alone sure)

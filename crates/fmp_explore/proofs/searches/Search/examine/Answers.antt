@@ -5,10 +5,11 @@ use Rattle.fmp_explore.proofs.SearchLemmas.{state_examined, state_lost}
 use Rattle.fmp_explore.proofs.SearchStepLemmas.{same_live, stays_on, stays_search}
 use Rattle.fmp_visited.specs.Seen.{SeenStates}
 use Rattle.fmp_explore.proofs.searches.Search.examine.Goals as goal
+use Rattle.fmp_witness.specs.Asked.{asked_of}
 
 pub stand_at-requires-clause-live : goal.stand_at-requires-clause-live
 stand_at-requires-clause-live c =
-    same_live c.args.subject.now.image.now c.args.self.now c.examined.new.self c.examined.ensures.stays.same
+    same_live (asked_of c.args.subject.now) c.args.self.now c.examined.new.self c.examined.ensures.stays.same
     c.requires.survey.survey.live
 
 pub stand_at-requires-clause-there : goal.stand_at-requires-clause-there
@@ -18,8 +19,8 @@ stand_at-requires-clause-there c =
 
 pub examine_on-requires-clause-survey : goal.examine_on-requires-clause-survey
 examine_on-requires-clause-survey c =
-    let s = c.args.subject.now in
-    stays_search s.image.now s.question.now c.args.self.now c.stand_at.new.self
+    let asked = asked_of c.args.subject.now in
+    stays_search asked c.args.self.now c.stand_at.new.self
     (stays_on c.args.self.now c.examined.new.self c.stand_at.new.self c.examined.ensures.stays
     c.stand_at.ensures.stays) c.requires.survey
 
@@ -28,8 +29,8 @@ examine_on-requires-clause-ready c = (c.in_ok-stand_at.ensures.stands c.if-not-b
 
 pub returns-then-not-branch-clause-examined : goal.returns-then-not-branch-clause-examined
 returns-then-not-branch-clause-examined c =
-    let s = c.args.subject.now in
-    state_lost s.image.now s.n s.question.now c.args.self.now _ c.args.state c.requires.survey
+    let asked = asked_of c.args.subject.now in
+    state_lost asked c.args.self.now _ c.args.state c.requires.survey
     (stays_on c.args.self.now c.examined.new.self _ c.examined.ensures.stays
     (stays_on c.examined.new.self c.stand_at.new.self _ c.stand_at.ensures.stays
     (record {
@@ -41,12 +42,12 @@ returns-then-not-branch-clause-examined c =
 
 pub returns-clause-examined : goal.returns-clause-examined
 returns-clause-examined c =
-    let s = c.args.subject.now in
+    let asked = asked_of c.args.subject.now in
     let at = c.in_ok-at.at in
     IfOk-weaker c.examine_on.result _ _
-    (λ _ tried. subst (λ (state : ℕ). HasExamined s.image.now s.n s.question.now c.args.self.now c.examine_on.new.self
+    (λ _ tried. subst (λ (state : ℕ). HasExamined asked c.args.self.now c.examine_on.new.self
     state) c.in_ok-at.ensures.state
-    (state_examined s.image.now s.n s.question.now c.args.self.now c.stand_at.new.self c.examine_on.new.self at
+    (state_examined asked c.args.self.now c.stand_at.new.self c.examine_on.new.self at
     c.stand_at.new.kernel
     (stays_on c.args.self.now c.examined.new.self c.stand_at.new.self c.examined.ensures.stays
     c.stand_at.ensures.stays) (c.in_ok-stand_at.ensures.stands c.if-not-branch.false) tried))

@@ -2,14 +2,15 @@ use Rattle.std.proofs.Common.{ℕ, ◌≤◌, arith, length, subst, sym}
 use Rattle.fmp_explore.specs.Searching.{IsSearching}
 use Rattle.fmp_explore.proofs.SearchLemmas.{all_examined, none_examined}
 use Rattle.fmp_explore.proofs.searches.Search.examine_all.Goals as goal
+use Rattle.fmp_witness.specs.Asked.{asked_of}
 
 pub loop-turn-init : goal.loop-turn-init
 loop-turn-init g c =
-    let s = c.args.subject.now in
+    let asked = asked_of c.args.subject.now in
     record {
       searching =
-          subst (λ (k : ℕ). IsSearching s.image.now s.n s.question.now k c.args.self.now) (sym c.new-progress.ensures)
-          (none_examined s.image.now s.n s.question.now c.args.self.now c.requires.begun);
+          subst (λ (k : ℕ). IsSearching asked k c.args.self.now) (sym c.new-progress.ensures)
+          (none_examined asked c.args.self.now c.requires.begun);
       top = c.requires.top;
       work = c.requires.work;
     }
@@ -24,7 +25,7 @@ loop-turn-preserved g c =
 
 pub returns-then-progress-len : goal.returns-then-progress-len
 returns-then-progress-len g c = λ _.
-    let s = c.args.subject.now in
+    let asked = asked_of c.args.subject.now in
     let l = c.loop-turn in
     let past : length l.self.seen.rows ≤ l.progress.next = omega (arith, c.len.ensures.rows, c.if-progress-len.true) in
-    all_examined s.image.now s.n s.question.now l.self l.progress.next l.invariant.searching past
+    all_examined asked l.self l.progress.next l.invariant.searching past

@@ -2,6 +2,7 @@ use Rattle.std.proofs.Common.{arith}
 use Rattle.fmp_explore.proofs.SearchStepLemmas.{grows_on, grows_search, same_grows}
 use Rattle.fmp_explore.proofs.SliceLemmas.{row_examined}
 use Rattle.fmp_explore.proofs.searches.Search.examine_rows.Goals as goal
+use Rattle.fmp_witness.specs.Asked.{asked_of}
 
 pub loop-place-init : goal.loop-place-init
 loop-place-init c =
@@ -14,20 +15,20 @@ loop-place-init c =
 
 pub examine_row-requires-clause-survey : goal.examine_row-requires-clause-survey
 examine_row-requires-clause-survey c =
-    let s = c.args.subject.now in
-    grows_search s.image.now s.question.now c.args.self.now c.loop-place.self c.loop-place.invariant.grows
+    let asked = asked_of c.args.subject.now in
+    grows_search asked c.args.self.now c.loop-place.self c.loop-place.invariant.grows
     c.requires.survey
 
 pub loop-place-preserved : goal.loop-place-preserved
 loop-place-preserved c =
-    let s = c.args.subject.now in
+    let asked = asked_of c.args.subject.now in
     let l = c.loop-place in
     record {
       grows =
           grows_on c.args.self.now l.self c.examine_row.new.self l.invariant.grows
           c.in_ok-examine_row.ensures.examined.grows;
       each =
-          row_examined s.image.now s.n s.question.now c.args.whole.now c.args.span.first l.place c.row-row.result.now
+          row_examined asked c.args.whole.now c.args.span.first l.place c.row-row.result.now
           l.self c.examine_row.new.self c.row-row.ensures l.invariant.each c.in_ok-examine_row.ensures.examined;
       top = c.in_ok-examine_row.ensures.top;
       work = c.in_ok-examine_row.ensures.work;

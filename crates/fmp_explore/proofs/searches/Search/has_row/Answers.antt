@@ -4,12 +4,13 @@ use Rattle.fmp_explore.specs.States.{IsRowOf, numbers_in}
 use Rattle.fmp_schedules.specs.declared.monitor.Monitor.{Monitor}
 use Rattle.fmp_explore.proofs.SearchStepLemmas.{stands_of}
 use Rattle.fmp_explore.proofs.searches.Search.has_row.Goals as goal
+use Rattle.fmp_witness.specs.Asked.{asked_of}
 
 pub returns-clause-stands : goal.returns-clause-stands
 returns-clause-stands c = λ yes.
-    let s = c.args.subject.now in
+    let asked = asked_of c.args.subject.now in
     let a = c.args.self.now in
-    stands_of s.image.now s.n s.question.now a _
+    stands_of asked a _
     (record {
       same =
           record {
@@ -22,7 +23,7 @@ returns-clause-stands c = λ yes.
       seen = refl;
       sure = λ e. e;
     }) c.args.at.now c.args.kernel.now (live_tables a.rows.live) c.write.new.self.row.items c.requires.ready
-    c.requires.there c.requires.few c.requires.held c.requires.live
+    c.requires.there c.requires.state.few c.requires.state.held c.requires.live
     (subst
     (λ (ss : List Monitor). IsRowOf a.rows.first.items
     (numbers_in c.args.kernel.now.system (live_tables a.rows.live) a.rows.fields.items c.args.kernel.now.world

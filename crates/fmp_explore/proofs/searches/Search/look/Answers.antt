@@ -1,10 +1,11 @@
 use Rattle.std.proofs.Common.{refl}
 use Rattle.fmp_explore.proofs.MarkLemmas.{interrupted_free}
 use Rattle.fmp_explore.proofs.searches.Search.look.Goals as goal
+use Rattle.fmp_witness.specs.Asked.{asked_of}
 
 pub returns-then-marks : goal.returns-then-marks
 returns-then-marks c =
-    let s = c.args.subject.now in
+    let asked = asked_of c.args.subject.now in
     record {
       stays =
           record {
@@ -13,6 +14,6 @@ returns-then-marks c =
             sure = λ e. e;
           };
       free = λ _ d.
-          interrupted_free s.image.now s.n s.question.now c.args.kernel.now.world _ c.args.marks c.requires.marks
+          interrupted_free asked c.args.kernel.now.world _ c.args.marks c.requires.marks
           c.if-marks.true d;
     }

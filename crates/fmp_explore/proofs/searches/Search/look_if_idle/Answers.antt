@@ -1,10 +1,11 @@
 use Rattle.std.proofs.Common.{refl}
 use Rattle.fmp_explore.proofs.MarkLemmas.{running_free}
 use Rattle.fmp_explore.proofs.searches.Search.look_if_idle.Goals as goal
+use Rattle.fmp_witness.specs.Asked.{asked_of}
 
 pub returns-else-marks : goal.returns-else-marks
 returns-else-marks c =
-    let s = c.args.subject.now in
+    let asked = asked_of c.args.subject.now in
     record {
       stays =
           record {
@@ -13,6 +14,6 @@ returns-else-marks c =
             sure = λ e. e;
           };
       free = λ _ d.
-          running_free s.image.now s.n s.question.now c.args.kernel.now.world _ c.args.marks c.requires.marks
+          running_free asked c.args.kernel.now.world _ c.args.marks c.requires.marks
           c.if-marks.false d;
     }

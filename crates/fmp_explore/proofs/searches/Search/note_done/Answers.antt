@@ -9,10 +9,11 @@ use Rattle.fmp_explore.proofs.NextLemmas.{dealt_done}
 use Rattle.fmp_explore.proofs.MonitorLemmas.{held-after}
 use Rattle.fmp_explore.proofs.SearchStepLemmas.{same_live}
 use Rattle.fmp_explore.proofs.searches.Search.note_done.Goals as goal
+use Rattle.fmp_witness.specs.Asked.{asked_of}
 
 pub keep_next-requires-clause-live : goal.keep_next-requires-clause-live
 keep_next-requires-clause-live c =
-    same_live c.args.subject.now.image.now c.args.self.now c.note_lines.new.self c.in_ok-note_lines.ensures.stays.same
+    same_live (asked_of c.args.subject.now) c.args.self.now c.note_lines.new.self c.in_ok-note_lines.ensures.stays.same
     c.requires.survey.survey.live
 
 pub keep_next-requires-clause-held : goal.keep_next-requires-clause-held
@@ -21,22 +22,23 @@ keep_next-requires-clause-held c =
     subst (λ (ss : List Monitor). AreMonitorsOf s.question.now.monitors.items ss)
     (sym (c.deref-3.ensures.value ∙ c.in_ok-monitors.ensures
     ∙ ap (λ (ss : List Monitor). monitors_after ss c.lines.result.now) c.deref-2.ensures.value))
-    (held-after s.question.now.monitors.items c.args.attempt.at.now.monitors.items c.lines.result.now c.requires.held)
+    (held-after s.question.now.monitors.items c.args.attempt.at.now.monitors.items c.lines.result.now
+    c.requires.attempt.state.held)
 
 pub returns : goal.returns
 returns c = λ w done.
-    let s = c.args.subject.now in
+    let asked = asked_of c.args.subject.now in
     let a = c.args.attempt in
     let at = a.at.now in
     IfOk-weaker c.keep_next.result _ _
-    (λ _ kept. dealt_done s.image.now s.n s.question.now c.args.self.now c.note_lines.new.self c.keep_next.new.self
+    (λ _ kept. dealt_done asked c.args.self.now c.note_lines.new.self c.keep_next.new.self
     c.args.kernel.now w at.came at.monitors.items a.event c.requires.survey c.in_ok-note_lines.ensures.stays
     c.in_ok-note_lines.ensures.clean
     (λ sure. subst (λ (ss : List Monitor). is_any_broken ss c.args.kernel.now.lines ≡ false)
     c.deref.ensures.value (c.in_ok-note_lines.ensures.alone sure))
-    c.in_ok-note_lines.ensures.written done c.requires.sound
-    (subst (λ (ss : List Monitor). HasKept s.image.now s.question.now c.note_lines.new.self c.keep_next.new.self
-    c.args.kernel.now.world (watched_with s.question.now (came_on s.question.now.interrupts at.came a.event) ss))
+    c.in_ok-note_lines.ensures.written done c.requires.sound.sound
+    (subst (λ (ss : List Monitor). HasKept asked c.note_lines.new.self c.keep_next.new.self
+    c.args.kernel.now.world (watched_with asked.question (came_on asked.question.interrupts at.came a.event) ss))
     (c.deref-3.ensures.value ∙ c.in_ok-monitors.ensures
     ∙ ap (λ (ss : List Monitor). monitors_after ss c.lines.result.now) c.deref-2.ensures.value
     ∙ ap (λ (ls : List Line). monitors_after at.monitors.items ls) c.lines.ensures) kept)) c.keep_next.ensures

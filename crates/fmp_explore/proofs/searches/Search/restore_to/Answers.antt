@@ -1,12 +1,13 @@
 use Rattle.std.proofs.Common.{refl}
 use Rattle.fmp_explore.proofs.SearchStepLemmas.{live_on, stays_rows}
 use Rattle.fmp_explore.proofs.searches.Search.restore_to.Goals as goal
+use Rattle.fmp_witness.specs.Asked.{asked_of}
 
 pub has_row-requires-clause-live : goal.has_row-requires-clause-live
 has_row-requires-clause-live c =
     let a = c.args.self.now in
     let r = c.restore.new.self in
-    live_on c.args.subject.now.image.now a.rows.outs r.outs a.rows.live r.live c.restore.ensures.outs
+    live_on (asked_of c.args.subject.now) a.rows.outs r.outs a.rows.live r.live c.restore.ensures.outs
     c.restore.ensures.live c.requires.live
 
 pub has_row-requires-clause-ready : goal.has_row-requires-clause-ready

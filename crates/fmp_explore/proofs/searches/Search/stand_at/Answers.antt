@@ -2,10 +2,11 @@ use Rattle.std.proofs.Common.{◌<◌, length, subst, sym}
 use Rattle.fmp_visited.specs.Seen.{SeenStates}
 use Rattle.fmp_explore.proofs.SearchStepLemmas.{same_live, stays_on}
 use Rattle.fmp_explore.proofs.searches.Search.stand_at.Goals as goal
+use Rattle.fmp_witness.specs.Asked.{asked_of}
 
 pub replay_to-requires-clause-live : goal.replay_to-requires-clause-live
 replay_to-requires-clause-live c =
-    same_live c.args.subject.now.image.now c.args.self.now c.restore_to.new.self c.restore_to.ensures.stays.same
+    same_live (asked_of c.args.subject.now) c.args.self.now c.restore_to.new.self c.restore_to.ensures.stays.same
     c.requires.live
 
 pub replay_to-requires-clause-there : goal.replay_to-requires-clause-there

@@ -3,17 +3,18 @@ use Rattle.fmp_witness.proofs.OverLemmas.{Kernels}
 use Rattle.fmp_explore.specs.Searching.{CanStep, HasTried, IsTrying, watched_in}
 use Rattle.fmp_explore.proofs.SearchStepLemmas.{grows_on}
 use Rattle.fmp_explore.proofs.searches.Search.try_from.Goals as goal
+use Rattle.fmp_witness.specs.Asked.{asked_of}
 
 pub try_at-requires-clause-trying : goal.try_at-requires-clause-trying
 try_at-requires-clause-trying c =
-    let s = c.args.subject.now in
+    let asked = asked_of c.args.subject.now in
     let l = c.loop-place in
-    subst (λ (k : Kernels). IsTrying s.image.now s.n s.question.now k.world (watched_in s.question.now c.args.at.now)
+    subst (λ (k : Kernels). IsTrying asked k.world (watched_in asked.question c.args.at.now)
     l.marks l.place l.self) (sym l.invariant.same) l.invariant.tried.trying
 
 pub loop-place-preserved : goal.loop-place-preserved
 loop-place-preserved c =
-    let s = c.args.subject.now in
+    let asked = asked_of c.args.subject.now in
     let l = c.loop-place in
     let did = c.in_ok-try_at.ensures in
     let still = did.still c.if-branch.false in
@@ -21,33 +22,33 @@ loop-place-preserved c =
       tried =
           record {
             trying =
-                subst (λ (k : Kernels). IsTrying s.image.now s.n s.question.now k.world
-                (watched_in s.question.now c.args.at.now) c.try_at.new.marks (l.place + 1) c.try_at.new.self)
+                subst (λ (k : Kernels). IsTrying asked k.world
+                (watched_in asked.question c.args.at.now) c.try_at.new.marks (l.place + 1) c.try_at.new.self)
                 l.invariant.same did.trying;
             grows = grows_on c.args.self.now l.self c.try_at.new.self l.invariant.tried.grows did.grows;
           };
-      ready = subst (λ (k : Kernels). CanStep s.image.now s.n k) (sym still) l.invariant.ready;
+      ready = subst (λ (k : Kernels). CanStep asked k) (sym still) l.invariant.ready;
       same = still ∙ l.invariant.same;
     }
 
 pub returns-then-branch-clause-tried : goal.returns-then-branch-clause-tried
 returns-then-branch-clause-tried c =
-    let s = c.args.subject.now in
+    let asked = asked_of c.args.subject.now in
     let l = c.loop-place in
     let did = c.in_ok-try_at.ensures in
     record {
       trying =
-          subst (λ (k : Kernels). IsTrying s.image.now s.n s.question.now k.world
-          (watched_in s.question.now c.args.at.now) c.try_at.new.marks (l.place + 1) c.try_at.new.self)
+          subst (λ (k : Kernels). IsTrying asked k.world
+          (watched_in asked.question c.args.at.now) c.try_at.new.marks (l.place + 1) c.try_at.new.self)
           l.invariant.same did.trying;
       grows = grows_on c.args.self.now l.self c.try_at.new.self l.invariant.tried.grows did.grows;
     }
 
 pub returns-clause-tried : goal.returns-clause-tried
 returns-clause-tried c =
-    let s = c.args.subject.now in
+    let asked = asked_of c.args.subject.now in
     let l = c.loop-place in
     let long = c.args.self.now.tries.ok.0 in
     let last : l.place ≡ c.len-end.result = omega (arith, long) in
-    subst (λ (m : ℕ). HasTried s.image.now s.n s.question.now c.args.kernel.now.world
-    (watched_in s.question.now c.args.at.now) l.marks c.args.self.now l.self m) last l.invariant.tried
+    subst (λ (m : ℕ). HasTried asked c.args.kernel.now.world
+    (watched_in asked.question c.args.at.now) l.marks c.args.self.now l.self m) last l.invariant.tried
