@@ -1,4 +1,5 @@
 pub mod Attempts
 pub mod Besides
+pub mod Parts
 pub mod States
 mod AlongLaws

@@ -4,3 +4,4 @@ pub mod Trials
 pub mod Shortening
 pub mod Found
 pub mod Lines
+pub mod Parts

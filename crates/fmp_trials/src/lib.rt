@@ -5,6 +5,7 @@ mod bench;
 mod choices;
 mod laws;
 mod random_run;
+mod seeds;
 mod shortening;
 mod testing;
 mod verdict;
@@ -12,6 +13,9 @@ mod verdict;
 pub use bench::Bench;
 pub use choices::{InterruptRate, RunPlan};
 pub use laws::{monitors_go_by_histories, runs_are_judged_as_searches_judge};
+pub use seeds::{Seeds, first_of};
 pub use shortening::FailingRun;
-pub use testing::{FailedTrial, first_failed_trial, random_steps};
+pub use testing::{
+    FailedTrial, FailingSeed, first_failed_trial, first_failing, random_steps, shortened,
+};
 pub use verdict::{run_verdict, verdict_at_end};

@@ -1,11 +1,12 @@
 //! Random runs one after the other, until one fails.
-ghost use Rattle.std.specs.Prelude.{◌≡◌, ◌≤◌, ◌^◌, IfOk, IfSome, length};
+ghost use Rattle.std.specs.Prelude.{◌≡◌, ◌<◌, ◌≤◌, ◌^◌, IfOk, IfSome, length};
 ghost use Rattle.fmp_trials.specs.Shortening.{IsFailing};
 ghost use Rattle.fmp_trials.specs.Found.{IsFound};
 
 use crate::bench::Bench;
 use crate::choices::{Choices, RunPlan};
 use crate::random_run::RandomRun;
+use crate::seeds::Seeds;
 use crate::shortening::{FailingRun, shorten};
 use fmp_base::Event;
 use fmp_kernel::Body;
@@ -27,17 +28,87 @@ pub struct FailedTrial {
     pub shortest: bool,
 }
 
-/// What is left of a run that fails, after it was made shorter.
-fn shortened<B: Body>(
+/// A seed whose random run fails an expectation, and that run.
+#[derive(Drop)]
+pub struct FailingSeed {
+    pub seed: u64,
+    pub run: FailingRun,
+}
+
+/// The run over these steps, if it fails.
+fn failing<B: Body>(
     alloc: Global,
     bench: &mut Bench<'_, B>,
-    seed: u64,
-    mut run: FailingRun,
-) -> Result<FailedTrial, AllocError>
-    requires { IsFailing B.meaning bench.old run }
+    steps: Vec<Event>,
+) -> Result<Option<FailingRun>, AllocError>
+    requires { length steps.items ≤ 2 ^ 20 }
     ensures same { bench.new ≡ bench.old }
+    ensures failing { IfOk result (λ found. IfSome found (IsFailing B.meaning bench.new)) }
+{
+    match bench.verdict(alloc, &steps)? {
+        Some(broken) => Ok(Some(FailingRun {
+            steps,
+            broken,
+            room: ROOM,
+        })),
+        None => Ok(None),
+    }
+}
+
+/// The random run of this seed, if it fails.
+fn failing_run<B: Body>(
+    alloc: Global,
+    bench: &mut Bench<'_, B>,
+    plan: RunPlan<'_>,
+    seed: u64,
+) -> Result<Option<FailingRun>, AllocError>
+    ensures same { bench.new ≡ bench.old }
+    ensures failing { IfOk result (λ found. IfSome found (IsFailing B.meaning bench.new)) }
+{
+    let mut choices = Choices::new(plan, seed);
+    let RandomRun { steps, is_broken } = bench.random_run(alloc, &mut choices)?;
+    if !is_broken {
+        return Ok(None);
+    }
+    failing(alloc, bench, steps)
+}
+
+/// The first of these seeds whose random run fails an expectation, and that run. Where there is none, nothing is said
+/// of other runs. `AllocError` if memory runs out.
+pub fn first_failing<B: Body>(
+    alloc: Global,
+    bench: &mut Bench<'_, B>,
+    plan: RunPlan<'_>,
+    seeds: Seeds,
+) -> Result<Option<FailingSeed>, AllocError>
+    ensures same { bench.new ≡ bench.old }
+    ensures failing { IfOk result (λ found. IfSome found (λ f. IsFailing B.meaning bench.new f.run)) }
+    ensures after { IfOk result (λ found. IfSome found (λ f. seeds.before < f.seed)) }
+    ensures last { IfOk result (λ found. IfSome found (λ f. f.seed ≤ seeds.last)) }
+{
+    for before in seeds.before..seeds.last {
+        if let Some(run) = failing_run(alloc, bench, plan, before + 1)? {
+            return Ok(Some(FailingSeed {
+                seed: before + 1,
+                run,
+            }));
+        }
+    }
+    Ok(None)
+}
+
+/// A random run that fails, made shorter. `AllocError` if memory runs out.
+pub fn shortened<B: Body>(
+    alloc: Global,
+    bench: &mut Bench<'_, B>,
+    found: FailingSeed,
+) -> Result<FailedTrial, AllocError>
+    requires { IsFailing B.meaning bench.old found.run }
+    ensures same { bench.new ≡ bench.old }
+    ensures seed { IfOk result (λ trial. trial.seed ≡ found.seed) }
     ensures found { IfOk result (IsFound B.meaning bench.new) }
 {
+    let FailingSeed { seed, mut run } = found;
     let drawn = run.steps.len();
     let shortest = shorten(alloc, bench, &mut run)?;
     Ok(FailedTrial {
@@ -46,47 +117,6 @@ fn shortened<B: Body>(
         run,
         shortest,
     })
-}
-
-/// The run over these steps, made shorter, if it fails.
-fn failed<B: Body>(
-    alloc: Global,
-    bench: &mut Bench<'_, B>,
-    seed: u64,
-    steps: Vec<Event>,
-) -> Result<Option<FailedTrial>, AllocError>
-    requires { length steps.items ≤ 2 ^ 20 }
-    ensures same { bench.new ≡ bench.old }
-    ensures found { IfOk result (λ found. IfSome found (IsFound B.meaning bench.new)) }
-{
-    let Some(broken) = bench.verdict(alloc, &steps)? else {
-        return Ok(None);
-    };
-    let run = FailingRun {
-        steps,
-        broken,
-        room: ROOM,
-    };
-    let trial = shortened(alloc, bench, seed, run)?;
-    Ok(Some(trial))
-}
-
-/// The random run of this seed, made shorter, if it fails.
-fn tried<B: Body>(
-    alloc: Global,
-    bench: &mut Bench<'_, B>,
-    plan: RunPlan<'_>,
-    seed: u64,
-) -> Result<Option<FailedTrial>, AllocError>
-    ensures same { bench.new ≡ bench.old }
-    ensures found { IfOk result (λ found. IfSome found (IsFound B.meaning bench.new)) }
-{
-    let mut choices = Choices::new(plan, seed);
-    let RandomRun { steps, is_broken } = bench.random_run(alloc, &mut choices)?;
-    if !is_broken {
-        return Ok(None);
-    }
-    failed(alloc, bench, seed, steps)
 }
 
 /// The events of the random run of this seed up to the first that breaks a sentence, or the last. `AllocError` if
@@ -116,10 +146,12 @@ pub fn first_failed_trial<B: Body>(
     ensures same { bench.new ≡ bench.old }
     ensures found { IfOk result (λ found. IfSome found (IsFound B.meaning bench.new)) }
 {
-    for before in 0..seeds {
-        if let Some(trial) = tried(alloc, bench, plan, before + 1)? {
-            return Ok(Some(trial));
-        }
+    let seeds = Seeds {
+        before: 0,
+        last: seeds,
+    };
+    match first_failing(alloc, bench, plan, seeds)? {
+        Some(found) => Ok(Some(shortened(alloc, bench, found)?)),
+        None => Ok(None),
     }
-    Ok(None)
 }
