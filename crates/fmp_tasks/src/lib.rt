@@ -15,6 +15,7 @@ mod restart;
 pub mod restoring;
 pub mod saved;
 mod setup;
+mod staying;
 pub mod tasks;
 pub mod trail;
 mod words;
