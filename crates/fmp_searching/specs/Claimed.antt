@@ -15,7 +15,7 @@ use Rattle.fmp_witness.specs.Findings.{IsFound}
 use Rattle.fmp_trace.specs.Steps.{steps_text}
 use Rattle.fmp_explore.specs.declared.exploring.Report.{Report}
 use Rattle.fmp_explore.specs.Searching.{NothingIsFound}
-use Rattle.fmp_searching.specs.Claims.{ending_text, status_of}
+use Rattle.fmp_searching.specs.Claims.{ClaimTables, ending_text, status_of}
 use Rattle.fmp_searching.specs.Questions.{IsQuestionOf}
 use Rattle.fmp_searching.specs.Records.{IsReportRecords}
 use Rattle.fmp_searching.specs.Sites.{AreBodiesOf, TextBody}
@@ -28,12 +28,11 @@ use Rattle.fmp_searching.specs.declared.exploring.Explored.{Explored}
 use Rattle.fmp_searching.specs.Explored.{IsExploring}
 
 -- what is printed of a report: first its findings, then what is claimed of this question or why the search ended
-pub record IsReportText (i : ImageTables) (bodies : List TextBody) (q : Question) (n : ℕ) (r : Report) (text : List ℕ) :
-    Type 0 where
+pub record IsReportText (c : ClaimTables) (r : Report) (text : List ℕ) : Type 0 where
   pub findings : List ℕ
   pub extent : List ℕ
   pub none : r.findings.items ≡ [] → findings ≡ []
-  pub is : text ≡ findings ++ (ending_text i bodies q n r ++ extent)
+  pub is : text ≡ findings ++ (ending_text c r ++ extent)
 
 -- a search found nothing, has looked for stuck tasks too, and claims what holds; where it is strict, each sentence says
 -- something
@@ -48,26 +47,24 @@ abbrev pub text_of : Finding → List ℕ
 text_of f = steps_text f.steps.items
 
 -- the same in a form: for readers, or as objects of JSON
-abbrev pub IsReportIn : Form → (strict : Bool) → ImageTables → List TextBody → Question → ℕ → Report → List ℕ → Type 0
-IsReportIn form.Text strict i bodies q n r text = IsReportText i bodies q n r text
-IsReportIn form.Json strict i bodies q n r text = IsReportRecords strict i bodies q n r text
+abbrev pub IsReportIn : Form → (strict : Bool) → ClaimTables → Report → List ℕ → Type 0
+IsReportIn form.Text strict c r text = IsReportText c r text
+IsReportIn form.Json strict c r text = IsReportRecords strict c r text
 
 -- what is printed, the steps of the findings, and the status, are those of this report
-pub record Tells (f : Form) (strict : Bool) (i : ImageTables) (bodies : List TextBody) (q : Question) (n : ℕ)
-    (r : Report) (e : Explored) : Type 0 where
-  pub text : IsReportIn f strict i bodies q n r e.text.items
+pub record Tells (f : Form) (strict : Bool) (c : ClaimTables) (r : Report) (e : Explored) : Type 0 where
+  pub text : IsReportIn f strict c r e.text.items
   pub steps : map (λ text. text.items) e.steps.items ≡ map text_of r.findings.items
-  pub report : IfSome e.report (λ out. HasTestReport strict q r out.items)
-  pub status : e.status ≡ status_of (strict && has_unsaid q r) r
-  pub clean : e.status ≡ 0 → IsClean strict q r
+  pub report : IfSome e.report (λ out. HasTestReport strict c.question r out.items)
+  pub status : e.status ≡ status_of (strict && has_unsaid c.question r) r
+  pub clean : e.status ≡ 0 → IsClean strict c.question r
 
 -- they are those of a report that finds what is so, and claims what holds
-pub record IsExplored (f : Form) (strict : Bool) (i : ImageTables) (bodies : List TextBody) (q : Question) (n : ℕ)
-    (e : Explored) : Type 0 where
+pub record IsExplored (f : Form) (strict : Bool) (c : ClaimTables) (e : Explored) : Type 0 where
   pub report : Report
-  pub tells : Tells f strict i bodies q n report e
-  pub found : All (IsFound i n q) report.findings.items
-  pub nothing : report.holds ≡ true → NothingIsFound i n q
+  pub tells : Tells f strict c report e
+  pub found : All (IsFound c.image c.bound c.question) report.findings.items
+  pub nothing : report.holds ≡ true → NothingIsFound c.image c.bound c.question
 
 abbrev pub is_print : Deed → Bool
 is_print (printed bytes) = true
@@ -88,10 +85,9 @@ pub record PrintsOnly (text : List ℕ) (before after : Option (List Deed)) : Ty
   pub then : PrintsNothing between after
 
 -- what was printed last is what a search came to, whatever that is
-pub record HasShown (f : Form) (strict : Bool) (i : ImageTables) (bodies : List TextBody) (q : Question) (n : ℕ)
-    (done : Option (List Deed)) : Type 0 where
+pub record HasShown (f : Form) (strict : Bool) (c : ClaimTables) (done : Option (List Deed)) : Type 0 where
   pub explored : Explored
-  pub is : IsExplored f strict i bodies q n explored
+  pub is : IsExplored f strict c explored
   pub before : Option (List Deed)
   pub prints : PrintsOnly explored.text.items before done
 
@@ -100,14 +96,17 @@ abbrev pub HasPrinted : (text : List ℕ) → (done : Option (List Deed)) → Ty
 HasPrinted text done = (before : Option (List Deed)) × Prints before text done
 
 -- of an image nothing is found that a question asks about, and this was printed of it last
-pub record HasClaimed (f : Form) (strict : Bool) (i : ImageTables) (bodies : List TextBody) (q : Question) (n : ℕ)
-    (done : Option (List Deed)) : Type 0 where
-  pub nothing : NothingIsFound i n q
+pub record HasClaimed (f : Form) (strict : Bool) (c : ClaimTables) (done : Option (List Deed)) : Type 0 where
+  pub nothing : NothingIsFound c.image c.bound c.question
   pub report : Report
-  pub clean : IsClean strict q report
+  pub clean : IsClean strict c.question report
   pub text : List ℕ
-  pub is : IsReportIn f strict i bodies q n report text
+  pub is : IsReportIn f strict c report text
   pub printed : HasPrinted text done
+
+-- what an exploration claims of an image, of the bodies of its text, and of a question
+abbrev pub claim_of : ImageTables → List TextBody → Question → Exploring → ClaimTables
+claim_of i bodies q e = record { image = i; bodies = bodies; question = q; bound = e.bound }
 
 -- the same of an image whose bodies have this text, and of what the words and a text of sentences ask
 pub record HoldsOfImage (i : ImageTables) (src said : List ℕ) (e : Exploring) (done : Option (List Deed)) : Type 0 where
@@ -115,7 +114,7 @@ pub record HoldsOfImage (i : ImageTables) (src said : List ℕ) (e : Exploring) 
   pub are : AreBodiesOf src bodies
   pub question : Question
   pub asks : IsQuestionOf e.asked said i.system i.code bodies question
-  pub claimed : HasClaimed e.form e.strict i bodies question e.bound done
+  pub claimed : HasClaimed e.form e.strict (claim_of i bodies question e) done
 
 -- the same of the image that two texts build
 pub record HoldsOfTexts (cfg src said : List ℕ) (e : Exploring) (done : Option (List Deed)) : Type 0 where

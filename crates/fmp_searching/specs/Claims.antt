@@ -33,6 +33,17 @@ use Rattle.fmp_question.specs.Forbidden.{is_same_fault}
 use Rattle.fmp_searching.specs.Limits.{limits_text}
 use Rattle.fmp_searching.specs.Sentences.{monitors_text}
 use Rattle.fmp_searching.specs.Sites.{TextBody, line_of}
+use Rattle.fmp_searching.specs.declared.sources.Claim.{Claim}
+
+-- what a claim is about: an image, the bodies of its text, a question, and a bound
+pub record ClaimTables : Type 0 where
+  pub image : ImageTables
+  pub bodies : List TextBody
+  pub question : Question
+  pub bound : ℕ
+
+abbrev pub claim_tables : Claim → ClaimTables
+claim_tables c = record { image = c.image.now; bodies = c.lines.now; question = c.question.now; bound = c.bound }
 
 -- the status of a search: 4 where something was found, or what is unsaid counts so; 0 where the report holds and stuck
 -- tasks were looked for; else 5
@@ -83,7 +94,7 @@ abbrev pub may_come : Option ℕ → Bool
 may_come None = true
 may_come (Some most) = nat_lt 0 most
 
--- why a state is no deadlock though no task goes on, each behind `, `: a cyclic handler goes on, an interrupt may come,
+-- why a state is no deadlock though no task goes on, each after `, `: a cyclic handler goes on, an interrupt may come,
 -- a task may rest
 unfoldable pub reasons_text : SystemTables → Question → List ℕ
 reasons_text sys q =
@@ -135,7 +146,7 @@ ticks_text ticks.Any limited = []
 ticks_text ticks.Idle limited =
     (if limited then codes "," else []) ++ codes " in which the clock ticks only where no processor can do anything"
 
--- what stands in front of how much is queued: `and` behind when the clock ticks, else as in front of that
+-- what stands before how much is queued: `and` after when the clock ticks, else as before that
 unfoldable pub joint_text : Ticks → (limited : Bool) → List ℕ
 joint_text ticks.Any limited = (if limited then codes "," else []) ++ codes " in which"
 joint_text ticks.Idle limited = codes " and"
@@ -156,7 +167,7 @@ wakeups_text n = decimal n ++ wakeups_word n
 unfoldable pub queue_text : ℕ → List ℕ
 queue_text n = codes " at most " ++ (activations_text n ++ (wakeups_text n ++ codes " of a task are queued"))
 
--- how much may be queued, behind when the clock ticks
+-- how much may be queued, after when the clock ticks
 unfoldable pub queued_text : Option ℕ → Ticks → (limited : Bool) → List ℕ
 queued_text None ticks limited = []
 queued_text (Some n) ticks limited = joint_text ticks limited ++ queue_text n
@@ -182,23 +193,23 @@ unfoldable pub nevers_at_text : List BodyTables → List TextBody → List Never
 nevers_at_text code bodies nevers = flat_map (λ n. never_at_text code bodies n) nevers
 
 -- what the words ask for
-unfoldable pub asked_text : SystemTables → List BodyTables → List TextBody → Question → List ℕ
-asked_text sys code bodies q =
-    nevers_text sys q.nevers.items
-    ++ (nevers_at_text code bodies q.nevers_at.items ++ monitors_text sys q.monitors.items)
+unfoldable pub asked_text : ClaimTables → List ℕ
+asked_text c =
+    nevers_text c.image.system c.question.nevers.items
+    ++ (nevers_at_text c.image.code c.bodies c.question.nevers_at.items
+    ++ monitors_text c.image.system c.question.monitors.items)
 
 -- no deadlock, and why a state is none though no task goes on
 unfoldable pub deadlock_text : SystemTables → Question → List ℕ
 deadlock_text sys q = codes "no deadlock" ++ in_brackets (reasons_text sys q)
 
 -- what no list of events comes to
-unfoldable pub parts_text : SystemTables → List BodyTables → List TextBody → Question → List ℕ
-parts_text sys code bodies q =
-    asked_text sys code bodies q ++ (deadlock_text sys q ++ faults_text q.nevers.items)
+unfoldable pub parts_text : ClaimTables → List ℕ
+parts_text c = asked_text c ++ (deadlock_text c.image.system c.question ++ faults_text c.question.nevers.items)
 
 -- the line of a claim: what no list of events comes to, over which lists, at which bound
-unfoldable pub claim_text : ImageTables → List TextBody → Question → (bound : ℕ) → List ℕ
-claim_text i bodies q bound = parts_text i.system i.code bodies q ++ lists_text q bound
+unfoldable pub claim_text : ClaimTables → List ℕ
+claim_text c = parts_text c ++ lists_text c.question c.bound
 
 abbrev pub is_of_stuck : FindingKind → Bool
 is_of_stuck (kind.Stuck t) = true
@@ -243,8 +254,8 @@ end_text q ending.Whole found = unconfirmed_text found
 end_text q ending.Enough found = unconfirmed_text found
 
 -- what a search says at its end: its claim, if its report holds, or why it claims nothing
-unfoldable pub ending_text : ImageTables → List TextBody → Question → (bound : ℕ) → Report → List ℕ
-ending_text i bodies q bound r =
+unfoldable pub ending_text : ClaimTables → Report → List ℕ
+ending_text c r =
     if r.holds
-    then claim_text i bodies q bound ++ stuck_note r
-    else end_text q r.ending (nat_lt 0 (length r.findings.items))
+    then claim_text c ++ stuck_note r
+    else end_text c.question r.ending (nat_lt 0 (length r.findings.items))

@@ -61,11 +61,11 @@ is_section word = is_some (section_named word)
 abbrev pub are_sections : Words → Bool
 are_sections words = list_all (λ word. is_section word.now) words && nat_le (length words) 4
 
--- what the words of a command say before its files are read: what must never happen, the sections and the limits, or
--- which words are mistaken
+-- the words of a command, and what they say before its files are read: what must never happen, the sections and the
+-- limits; or which words are mistaken
 abbrev pub IsWanted : ExploreWords → Result ExploreChoices CommandMistake → Type 0
 IsWanted a (Ok w) =
-    (are_sections a.alone.now ≡ true) × (are_nevers a.nevers.now ≡ true)
+    (w.asked ≡ a) × (are_sections a.alone.now ≡ true) × (are_nevers a.nevers.now ≡ true)
     × (w.nevers.items ≡ nevers_in a.nevers.now) × (w.nevers_at.items ≡ codes_in a.nevers.now)
     × (w.sections.items ≡ sections_in a.alone.now)
     × ((are_counts a.counts.now ≡ true) × (are_gaps a.gaps.now ≡ true)

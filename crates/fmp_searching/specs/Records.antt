@@ -5,12 +5,10 @@ use Rattle.std.specs.List.{flat_map}
 use Rattle.std.specs.Str.Lossy.{utf8_lossy}
 use Rattle.json.specs.Token.{Token, string}
 use Rattle.fmp_explore.specs.declared.exploring.Report.{Report}
-use Rattle.fmp_image_bytes.specs.Images.{ImageTables}
 use Rattle.fmp_json.specs.Members.{list_begin, list_end, number_member, object_line, text_member}
 use Rattle.fmp_question.specs.declared.question.Question.{Question}
 use Rattle.fmp_witness.specs.declared.finding.Finding.{Finding}
-use Rattle.fmp_searching.specs.Claims.{claim_text, end_text, status_of}
-use Rattle.fmp_searching.specs.Sites.{TextBody}
+use Rattle.fmp_searching.specs.Claims.{ClaimTables, claim_text, end_text, status_of}
 use Rattle.fmp_searching.specs.Unsaid.{has_unsaid}
 use Rattle.fmp_searching.specs.declared.records.FoundRecord.{FoundRecord}
 use Rattle.fmp_searching.specs.declared.records.RecordPlace.{RecordPlace}
@@ -65,15 +63,15 @@ abbrev pub without_feed : List ℕ → List ℕ
 without_feed text = take (length text - 1) text
 
 -- what is claimed, and why a search that claims nothing ended; else nothing
-abbrev pub claimed_text : ImageTables → List TextBody → Question → (bound : ℕ) → Report → List ℕ
-claimed_text i bodies q n r = if r.holds then claim_text i bodies q n else []
+abbrev pub claimed_text : ClaimTables → Report → List ℕ
+claimed_text c r = if r.holds then claim_text c else []
 
 abbrev pub stopped_text : Question → Report → List ℕ
 stopped_text q r = if r.holds then [] else end_text q r.ending (nat_lt 0 (length r.findings.items))
 
 -- the same as lines, in the characters that JSON has
-abbrev pub claim_line : ImageTables → List TextBody → Question → (bound : ℕ) → Report → List ℕ
-claim_line i bodies q n r = utf8_lossy (without_feed (claimed_text i bodies q n r))
+abbrev pub claim_line : ClaimTables → Report → List ℕ
+claim_line c r = utf8_lossy (without_feed (claimed_text c r))
 
 abbrev pub stop_line : Question → Report → List ℕ
 stop_line q r = utf8_lossy (without_feed (stopped_text q r))
@@ -101,19 +99,17 @@ abbrev pub end_line : (status : ℕ) → (claim stopped : List ℕ) → (parts :
 end_line status claim stopped parts r =
     object_line (claim_members status claim ++ (part_members parts ++ extent_members stopped r))
 
-pub record IsEndRecord (strict : Bool) (i : ImageTables) (bodies : List TextBody) (q : Question) (n : ℕ) (r : Report)
-    (line : List ℕ) : Type 0 where
+pub record IsEndRecord (strict : Bool) (c : ClaimTables) (r : Report) (line : List ℕ) : Type 0 where
   pub parts : List (List ℕ)
   pub is :
       line
-      ≡ end_line (status_of (strict && has_unsaid q r) r) (claim_line i bodies q n r) (stop_line q r) parts r
+      ≡ end_line (status_of (strict && has_unsaid c.question r) r) (claim_line c r) (stop_line c.question r) parts r
 
 -- what is printed of a report: a line for each finding, then what falls out of the search, and how it ended
-pub record IsReportRecords (strict : Bool) (i : ImageTables) (bodies : List TextBody) (q : Question) (n : ℕ)
-    (r : Report) (text : List ℕ) : Type 0 where
+pub record IsReportRecords (strict : Bool) (c : ClaimTables) (r : Report) (text : List ℕ) : Type 0 where
   pub found : List ℕ
   pub are_found : AreFoundRecords r.findings.items found
   pub between : List ℕ
   pub end : List ℕ
-  pub is_end : IsEndRecord strict i bodies q n r end
+  pub is_end : IsEndRecord strict c r end
   pub is : text ≡ found ++ (between ++ end)

@@ -2,7 +2,6 @@
 ghost use Rattle.std.specs.Prelude.{◌≡◌, ◌++◌, IfOk, Ok, OnOk, map};
 ghost use Rattle.std.specs.List.{list_all};
 ghost use Rattle.fmp_base.specs.Names.{name_text};
-ghost use Rattle.fmp_base.specs.Systems.{tables_of};
 ghost use Rattle.fmp_instructions.specs.Instructions.{code_tables};
 ghost use Rattle.fmp_searching.specs.Questions as spec;
 ghost use Rattle.fmp_expect.specs.Grammar.{expectations_of};
@@ -12,7 +11,7 @@ ghost use Rattle.fmp_searching.specs.Sites.{HasSites};
 use crate::limits::{add_limits, are_counts, are_gaps, limits_in};
 use crate::sites::CallLines;
 use crate::words::{CodeAt, Section, never_at_named, never_named, section_named};
-use fmp_base::{Er, Fault, System, TaskConfig};
+use fmp_base::{Er, Fault, TaskConfig};
 use fmp_code::Code;
 use fmp_expect::{ExpectFault, ExpectationFlaw, Expected, read_expectations};
 use fmp_explore::{CallSite, Monitor, Never, NeverAt, Question, Ticks};
@@ -69,9 +68,10 @@ pub enum CommandMistake {
     End,
 }
 
-/// What the words of a command say before its files are read.
+/// The words of a command, and what they say before its files are read.
 #[derive(Drop)]
-pub struct ExploreChoices {
+pub struct ExploreChoices<'a> {
+    pub asked: ExploreWords<'a>,
     /// What must never happen anywhere, but for faults, which never may.
     pub nevers: Vec<Never>,
     /// The codes that must never be answered to the calls of a line.
@@ -164,10 +164,10 @@ fn sections_in(alloc: Global, words: &[&str]) -> Result<Vec<Section>, AllocError
 
 /// What the words of a command say before its files are read, or which of them are mistaken: those of the sections are
 /// read first, and those of the limits last. `AllocError` if memory runs out.
-pub fn wanted_by(
+pub fn wanted_by<'a>(
     alloc: Global,
-    asked: &ExploreWords<'_>,
-) -> Result<Result<ExploreChoices, CommandMistake>, AllocError>
+    asked: &ExploreWords<'a>,
+) -> Result<Result<ExploreChoices<'a>, CommandMistake>, AllocError>
     ensures { IfOk result (λ wanted. IsWanted asked.now wanted) }
 {
     if !are_all_sections(asked.alone) || asked.alone.len() > SECTIONS_MAX {
@@ -183,6 +183,7 @@ pub fn wanted_by(
         return Ok(Err(CommandMistake::Gap));
     }
     Ok(Ok(ExploreChoices {
+        asked: *asked,
         nevers: nevers_in(alloc, asked.nevers)?,
         nevers_at: codes_in(alloc, asked.nevers)?,
         sections: sections_in(alloc, asked.alone)?,
@@ -400,23 +401,22 @@ fn with_faults(alloc: Global, nevers: &[Never]) -> Result<Vec<Never>, AllocError
 /// The question of words that are not mistaken, and of these sentences.
 fn question_of(
     alloc: Global,
-    asked: &ExploreWords<'_>,
-    wanted: &ExploreChoices,
+    wanted: &ExploreChoices<'_>,
     expected: &[Expected],
-    sys: &System,
-    code: &Code,
+    image: &Image,
     lines: &CallLines,
 ) -> Result<Question, AllocError>
-    requires wanted { IsWanted asked.now (Ok wanted.now) }
-    requires sites { HasSites (code_tables code.now) }
-    ensures { IfOk result (λ q. IsQuestionWith asked.now expected.now (tables_of sys.now) (code_tables code.now)
+    requires { IsWanted wanted.now.asked (Ok wanted.now) }
+    ensures { IfOk result (λ q. IsQuestionWith wanted.now.asked expected.now image.now.system image.now.code
         lines.now q) }
 {
+    image.keeps_rules();
+    let asked = &wanted.asked;
     Ok(Question {
         nevers: with_faults(alloc, &wanted.nevers)?,
-        nevers_at: nevers_at_in(alloc, code, lines, &wanted.nevers_at)?,
+        nevers_at: nevers_at_in(alloc, image.code(), lines, &wanted.nevers_at)?,
         monitors: monitors_of(alloc, &wanted.sections, expected, &wanted.limits)?,
-        rest: marks(alloc, &sys.tasks, asked.rest, expected)?,
+        rest: marks(alloc, &image.system().tasks, asked.rest, expected)?,
         ticks: asked.ticks,
         interrupts: asked.interrupts,
         queued: asked.queued,
@@ -453,96 +453,62 @@ fn has_end(expected: &[Expected]) -> bool
 /// end of a run.
 fn lasting_question(
     alloc: Global,
-    asked: &ExploreWords<'_>,
-    wanted: &ExploreChoices,
+    wanted: &ExploreChoices<'_>,
     text: &[u8],
     expected: &[Expected],
-    sys: &System,
-    code: &Code,
+    image: &Image,
     lines: &CallLines,
 ) -> Result<Result<Question, CommandMistake>, AllocError>
-    requires wanted { IsWanted asked.now (Ok wanted.now) }
-    requires sites { HasSites (code_tables code.now) }
-    requires known { AreKnown asked.now (tables_of sys.now) (code_tables code.now) lines.now }
-    requires says { expectations_of (tables_of sys.now) text.now ≡ Ok expected.now }
-    ensures { IfOk result (λ q. IsAsked asked.now text.now (tables_of sys.now) (code_tables code.now) lines.now q) }
+    requires wanted { IsWanted wanted.now.asked (Ok wanted.now) }
+    requires known { AreKnown wanted.now.asked image.now.system image.now.code lines.now }
+    requires says { expectations_of image.now.system text.now ≡ Ok expected.now }
+    ensures { IfOk result (λ q. IsAsked wanted.now.asked text.now image.now.system image.now.code lines.now q) }
 {
     if has_end(expected) {
         return Ok(Err(CommandMistake::End));
     }
-    let question = question_of(alloc, asked, wanted, expected, sys, code, lines)?;
+    let question = question_of(alloc, wanted, expected, image, lines)?;
     Ok(Ok(question))
 }
 
 /// The question of words that are not mistaken, and of the sentences of a text.
 fn said_question(
     alloc: Global,
-    asked: &ExploreWords<'_>,
-    wanted: &ExploreChoices,
+    wanted: &ExploreChoices<'_>,
     text: &[u8],
-    sys: &System,
-    code: &Code,
+    image: &Image,
     lines: &CallLines,
 ) -> Result<Result<Question, CommandMistake>, AllocError>
-    requires wanted { IsWanted asked.now (Ok wanted.now) }
-    requires sites { HasSites (code_tables code.now) }
-    requires known { AreKnown asked.now (tables_of sys.now) (code_tables code.now) lines.now }
-    ensures { IfOk result (λ q. IsAsked asked.now text.now (tables_of sys.now) (code_tables code.now) lines.now q) }
+    requires wanted { IsWanted wanted.now.asked (Ok wanted.now) }
+    requires known { AreKnown wanted.now.asked image.now.system image.now.code lines.now }
+    ensures { IfOk result (λ q. IsAsked wanted.now.asked text.now image.now.system image.now.code lines.now q) }
 {
-    match read_expectations(alloc, sys, text) {
-        Ok(expected) => {
-            lasting_question(alloc, asked, wanted, text, &expected, sys, code, lines)
-        }
+    match read_expectations(alloc, image.system(), text) {
+        Ok(expected) => lasting_question(alloc, wanted, text, &expected, image, lines),
         Err(ExpectFault::Memory) => Err(AllocError),
         Err(ExpectFault::Line { line, flaw }) => Ok(Err(CommandMistake::Sentence { line, flaw })),
     }
 }
 
-/// The question of the words of a command and of the sentences of a text, or what is mistaken.
-fn asked_of(
-    alloc: Global,
-    asked: &ExploreWords<'_>,
-    wanted: &ExploreChoices,
-    text: &[u8],
-    sys: &System,
-    code: &Code,
-    lines: &CallLines,
-) -> Result<Result<Question, CommandMistake>, AllocError>
-    requires wanted { IsWanted asked.now (Ok wanted.now) }
-    requires sites { HasSites (code_tables code.now) }
-    ensures { IfOk result (λ q. IsAsked asked.now text.now (tables_of sys.now) (code_tables code.now) lines.now q) }
-{
-    if !are_tasks(&sys.tasks, asked.rest) {
-        return Ok(Err(CommandMistake::Rest));
-    }
-    if !are_called(alloc, code, lines, &wanted.nevers_at)? {
-        return Ok(Err(CommandMistake::Call));
-    }
-    said_question(alloc, asked, wanted, text, sys, code, lines)
-}
-
-/// The question of the words of a command, which say this, and of the sentences of a text, on an image whose bodies'
-/// calls stand in these lines; or what is mistaken: words that name tasks are read first, and the text last.
-/// `AllocError` if memory runs out.
+/// The question of the words of a command, and of the sentences of a text, on an image whose bodies' calls stand in
+/// these lines; or what is mistaken: words that name tasks are read first, and the text last. `AllocError` if memory
+/// runs out.
 pub fn question_by(
     alloc: Global,
-    asked: &ExploreWords<'_>,
-    wanted: &ExploreChoices,
+    wanted: &ExploreChoices<'_>,
     text: &[u8],
     image: &Image,
     lines: &CallLines,
 ) -> Result<Result<Question, CommandMistake>, AllocError>
-    requires { IsWanted asked.now (Ok wanted.now) }
-    ensures { IfOk result (λ q. IsAsked asked.now text.now image.now.system image.now.code lines.now q) }
+    requires { IsWanted wanted.now.asked (Ok wanted.now) }
+    ensures { IfOk result (λ q. IsAsked wanted.now.asked text.now image.now.system image.now.code lines.now q) }
 {
     image.keeps_rules();
-    asked_of(
-        alloc,
-        asked,
-        wanted,
-        text,
-        image.system(),
-        image.code(),
-        lines,
-    )
+    if !are_tasks(&image.system().tasks, wanted.asked.rest) {
+        return Ok(Err(CommandMistake::Rest));
+    }
+    if !are_called(alloc, image.code(), lines, &wanted.nevers_at)? {
+        return Ok(Err(CommandMistake::Call));
+    }
+    said_question(alloc, wanted, text, image, lines)
 }

@@ -4,14 +4,15 @@ ghost use Rattle.std.specs.Fmt.{signed_decimal};
 ghost use Rattle.fmp_base.specs.Systems.{tables_of};
 ghost use Rattle.fmp_instructions.specs.Instructions.{code_tables};
 ghost use Rattle.fmp_searching.specs.Claims as spec;
+ghost use Rattle.fmp_searching.specs.Claims.{claim_tables};
 
 use crate::lists::append_lists;
 use crate::sentences::append_monitors;
 use crate::sites::CallLines;
+use crate::sources::Claim;
 use fmp_base::{Fault, Service, System, TaskConfig};
 use fmp_code::{Code, Instruction};
 use fmp_explore::{CallSite, Never, NeverAt, Question, Report};
-use fmp_image_bytes::Image;
 use fmp_named::append_task;
 use itoa::Buffer;
 use std::alloc::{AllocError, Global};
@@ -193,7 +194,7 @@ pub(crate) fn append_where(is_so: bool, text: &[u8], out: &mut Vec<u8>) -> Resul
     if is_so { append(text, out) } else { Ok(()) }
 }
 
-/// Why a state is no deadlock though no task goes on, each behind `, `.
+/// Why a state is no deadlock though no task goes on, each after `, `.
 #[tactic(auto, unfolding(crate::specs::Claims::reasons_text))]
 fn reasons(alloc: Global, sys: &System, question: &Question) -> Result<Vec<u8>, AllocError>
     ensures { IfOk result (λ text. text.items ≡ spec.reasons_text (tables_of sys.now) question.now) }
@@ -283,19 +284,12 @@ pub(crate) fn append_faults(nevers: &[Never], out: &mut Vec<u8>) -> Result<(), A
 
 /// Appends what the words ask for.
 #[tactic(auto, unfolding(crate::specs::Claims::asked_text))]
-fn append_asked(
-    alloc: Global,
-    sys: &System,
-    code: &Code,
-    lines: &CallLines,
-    question: &Question,
-    out: &mut Vec<u8>,
-) -> Result<(), AllocError>
-    ensures { OnOk result (out.new.items ≡ out.old.items
-        ++ spec.asked_text (tables_of sys.now) (code_tables code.now) lines.now question.now) }
+fn append_asked(alloc: Global, claim: &Claim<'_>, out: &mut Vec<u8>) -> Result<(), AllocError>
+    ensures { OnOk result (out.new.items ≡ out.old.items ++ spec.asked_text (claim_tables claim.now)) }
 {
+    let (sys, question) = (claim.image.system(), claim.question);
     append_nevers(sys, &question.nevers, out)?;
-    append_nevers_at(code, lines, &question.nevers_at, out)?;
+    append_nevers_at(claim.image.code(), claim.lines, &question.nevers_at, out)?;
     append_monitors(alloc, sys, &question.monitors, out)
 }
 
@@ -316,34 +310,12 @@ pub(crate) fn append_deadlock(
 
 /// Appends what no list of events comes to.
 #[tactic(auto, unfolding(crate::specs::Claims::parts_text))]
-fn append_parts(
-    alloc: Global,
-    sys: &System,
-    code: &Code,
-    lines: &CallLines,
-    question: &Question,
-    out: &mut Vec<u8>,
-) -> Result<(), AllocError>
-    ensures { OnOk result (out.new.items ≡ out.old.items
-        ++ spec.parts_text (tables_of sys.now) (code_tables code.now) lines.now question.now) }
+fn append_parts(alloc: Global, claim: &Claim<'_>, out: &mut Vec<u8>) -> Result<(), AllocError>
+    ensures { OnOk result (out.new.items ≡ out.old.items ++ spec.parts_text (claim_tables claim.now)) }
 {
-    append_asked(alloc, sys, code, lines, question, out)?;
-    append_deadlock(alloc, sys, question, out)?;
-    append_faults(&question.nevers, out)
-}
-
-/// The same of an image.
-fn append_image_parts(
-    alloc: Global,
-    image: &Image,
-    lines: &CallLines,
-    question: &Question,
-    out: &mut Vec<u8>,
-) -> Result<(), AllocError>
-    ensures { OnOk result (out.new.items ≡ out.old.items
-        ++ spec.parts_text image.now.system image.now.code lines.now question.now) }
-{
-    append_parts(alloc, image.system(), image.code(), lines, question, out)
+    append_asked(alloc, claim, out)?;
+    append_deadlock(alloc, claim.image.system(), claim.question, out)?;
+    append_faults(&claim.question.nevers, out)
 }
 
 /// Appends the claim of a report that holds: what no list of events comes to, which the question is about, over which
@@ -351,17 +323,13 @@ fn append_image_parts(
 #[tactic(auto, unfolding(crate::specs::Claims::claim_text))]
 pub fn append_claim(
     alloc: Global,
-    image: &Image,
-    lines: &CallLines,
-    question: &Question,
-    bound: u64,
+    claim: &Claim<'_>,
     report: &Report,
     out: &mut Vec<u8>,
 ) -> Result<(), AllocError>
     requires { report.now.holds ≡ true }
-    ensures { OnOk result (out.new.items
-        ≡ out.old.items ++ spec.claim_text image.now lines.now question.now bound) }
+    ensures { OnOk result (out.new.items ≡ out.old.items ++ spec.claim_text (claim_tables claim.now)) }
 {
-    append_image_parts(alloc, image, lines, question, out)?;
-    append_lists(question, bound, out)
+    append_parts(alloc, claim, out)?;
+    append_lists(claim.question, claim.bound, out)
 }

@@ -69,7 +69,12 @@ fn append_answers(
     if !sources.named.answers {
         return Ok(());
     }
-    let calls = answered_calls(alloc, sources.image.code(), sources.lines, coverage)?;
+    let calls = answered_calls(
+        alloc,
+        sources.claim.image.code(),
+        sources.claim.lines,
+        coverage,
+    )?;
     for call in &calls {
         append_answered(alloc, out, call)?;
     }
@@ -84,8 +89,8 @@ fn append_all_refused(
     coverage: &Coverage,
 ) -> Result<(), AllocError> {
     let file = sources.named.src.as_bytes();
-    let code = sources.image.code();
-    for call in &refused_in(alloc, sources.image, coverage)? {
+    let code = sources.claim.image.code();
+    for call in &refused_in(alloc, sources.claim.image, coverage)? {
         let place = sources.places.place(code, call.site.body, call.site.pc);
         append_refused(alloc, LineForm::Record, file, place, call, out)?;
     }
@@ -187,7 +192,7 @@ fn append_unsaid(
     place: usize,
     sentence: &Sentence,
 ) -> Result<(), AllocError> {
-    let text = sentence_text(alloc, sources.image.system(), sentence)?;
+    let text = sentence_text(alloc, sources.claim.image.system(), sentence)?;
     let mut writer = begin(alloc)?;
     text_member(&mut writer, "what", "never_happens")?;
     write_number(&mut writer, "sentence", sources.sentences.line(place))?;
@@ -205,7 +210,7 @@ fn append_all_unsaid(
     if !is_whole(report.ending) {
         return Ok(());
     }
-    for (place, monitor) in sources.sentences.monitors.iter().enumerate() {
+    for (place, monitor) in sources.claim.question.monitors.iter().enumerate() {
         if let MonitorSubject::Sentence(sentence) = &monitor.subject
             && report.premises.get(place) == Some(&false)
             && has_premise(sentence)
@@ -223,7 +228,7 @@ fn append_all_unmade(
     sources: &ExploredSources<'_>,
     coverage: &Coverage,
 ) -> Result<(), AllocError> {
-    for site in &coverage.never_made(alloc, sources.image.code())? {
+    for site in &coverage.never_made(alloc, sources.claim.image.code())? {
         append_unmade(alloc, out, sources, *site)?;
     }
     Ok(())
@@ -243,7 +248,7 @@ fn append_varieties(
             append_name(
                 alloc,
                 &mut name,
-                sources.image.system(),
+                sources.claim.image.system(),
                 sources.names,
                 variety.what,
             )?;
@@ -259,7 +264,7 @@ pub fn coverage_records(
     sources: &ExploredSources<'_>,
     report: &Report,
 ) -> Result<Vec<u8>, AllocError> {
-    let (sys, coverage) = (sources.image.system(), &report.coverage);
+    let (sys, coverage) = (sources.claim.image.system(), &report.coverage);
     let mut out = Vec::new(alloc);
     append_all_unsaid(alloc, &mut out, sources, report)?;
     append_all_unmade(alloc, &mut out, sources, coverage)?;

@@ -26,7 +26,7 @@ fn say_unmade(
     sources: &ExploredSources<'_>,
     coverage: &Coverage,
 ) -> Result<(), AllocError> {
-    let sites = coverage.never_made(alloc, sources.image.code())?;
+    let sites = coverage.never_made(alloc, sources.claim.image.code())?;
     for site in &sites {
         say(out, "call never made: ")?;
         say_call(alloc, out, sources, *site)?;
@@ -45,7 +45,12 @@ fn say_answers(
     if !sources.named.answers {
         return Ok(());
     }
-    let calls = answered_calls(alloc, sources.image.code(), sources.lines, coverage)?;
+    let calls = answered_calls(
+        alloc,
+        sources.claim.image.code(),
+        sources.claim.lines,
+        coverage,
+    )?;
     append_answers(sources.named.src.as_bytes(), &calls, out)
 }
 
@@ -154,7 +159,7 @@ pub fn say_coverage(
     sources: &ExploredSources<'_>,
     coverage: &Coverage,
 ) -> Result<(), AllocError> {
-    let sys = sources.image.system();
+    let sys = sources.claim.image.system();
     say_unmade(alloc, out, sources, coverage)?;
     say_answers(alloc, out, sources, coverage)?;
     say_refused(alloc, out, sources, coverage)?;
@@ -201,7 +206,7 @@ pub fn say_varieties(
             append_name(
                 alloc,
                 out,
-                sources.image.system(),
+                sources.claim.image.system(),
                 sources.names,
                 variety.what,
             )?;

@@ -1,15 +1,14 @@
 //! How a search ended, for other programs: an object of JSON in a line.
 ghost use Rattle.std.specs.Prelude.{◌≡◌, ◌++◌, IfOk, OnOk, map, string_bytes};
+ghost use Rattle.fmp_searching.specs.Claims.{claim_tables};
 ghost use Rattle.fmp_searching.specs.Records as spec;
 
 use crate::claiming::append_claim;
 use crate::ending::{append_end, status_of};
 use crate::parts::parts_of;
-use crate::sites::CallLines;
-use crate::sources::ExploredSources;
+use crate::sources::{Claim, ExploredSources};
 use crate::unsaid::counts_unsaid;
 use fmp_explore::{Question, Report};
-use fmp_image_bytes::Image;
 use fmp_json::{begin, begin_list, end_list, finish, number_member, text_member};
 use json::Writer;
 use std::alloc::{AllocError, Global};
@@ -24,22 +23,14 @@ pub fn without_feed(text: Vec<u8>) -> Vec<u8>
 }
 
 /// What is claimed of a report that holds; else nothing.
-fn claimed(
-    alloc: Global,
-    image: &Image,
-    lines: &CallLines,
-    question: &Question,
-    bound: u64,
-    report: &Report,
-) -> Result<Vec<u8>, AllocError>
-    ensures { IfOk result (λ text. text.items
-        ≡ spec.claimed_text image.now lines.now question.now bound report.now) }
+fn claimed(alloc: Global, claim: &Claim<'_>, report: &Report) -> Result<Vec<u8>, AllocError>
+    ensures { IfOk result (λ text. text.items ≡ spec.claimed_text (claim_tables claim.now) report.now) }
 {
     let mut text = Vec::new(alloc);
     if !report.holds {
         return Ok(text);
     }
-    append_claim(alloc, image, lines, question, bound, report, &mut text)?;
+    append_claim(alloc, claim, report, &mut text)?;
     Ok(text)
 }
 
@@ -57,18 +48,10 @@ fn stopped(alloc: Global, question: &Question, report: &Report) -> Result<Vec<u8
 }
 
 /// What is claimed of a report, as a line; empty where nothing is.
-fn claim_line(
-    alloc: Global,
-    image: &Image,
-    lines: &CallLines,
-    question: &Question,
-    bound: u64,
-    report: &Report,
-) -> Result<String, AllocError>
-    ensures { IfOk result (λ line. string_bytes line
-        ≡ spec.claim_line image.now lines.now question.now bound report.now) }
+fn claim_line(alloc: Global, claim: &Claim<'_>, report: &Report) -> Result<String, AllocError>
+    ensures { IfOk result (λ line. string_bytes line ≡ spec.claim_line (claim_tables claim.now) report.now) }
 {
-    let text = claimed(alloc, image, lines, question, bound, report)?;
+    let text = claimed(alloc, claim, report)?;
     String::from_utf8_lossy(alloc, &without_feed(text))
 }
 
@@ -154,20 +137,19 @@ fn end_line(
     finish(writer)
 }
 
-/// How a search for a question ended, as an object of JSON in a line. `AllocError` if memory runs out.
+/// How a search ended, as an object of JSON in a line. `AllocError` if memory runs out.
 pub fn end_record(
     alloc: Global,
     sources: &ExploredSources<'_>,
-    question: &Question,
     report: &Report,
 ) -> Result<Vec<u8>, AllocError>
-    ensures { IfOk result (λ line. spec.IsEndRecord sources.now.named.strict sources.now.image.now
-        sources.now.lines.now question.now sources.now.bound report.now line.items) }
+    ensures { IfOk result (λ line. spec.IsEndRecord sources.now.named.strict (claim_tables sources.now.claim)
+        report.now line.items) }
 {
-    let (image, lines) = (sources.image, sources.lines);
-    let claim = claim_line(alloc, image, lines, question, sources.bound, report)?;
+    let question = sources.claim.question;
+    let claim = claim_line(alloc, &sources.claim, report)?;
     let stopped = stop_line(alloc, question, report)?;
-    let parts = strings_of(alloc, &parts_of(alloc, image, lines, question)?)?;
+    let parts = strings_of(alloc, &parts_of(alloc, &sources.claim)?)?;
     let unsaid = counts_unsaid(sources.named.strict, question, report);
     let status = status_of(unsaid, report);
     end_line(

@@ -2,11 +2,11 @@
 ghost use Rattle.std.specs.Prelude.{◌≡◌, ◌++◌, [], OnOk, false, true};
 ghost use Rattle.std.specs.List.{list_any};
 ghost use Rattle.fmp_searching.specs.Claims as spec;
+ghost use Rattle.fmp_searching.specs.Claims.{claim_tables};
 
 use crate::claiming::{append, append_claim, append_number};
-use crate::sites::CallLines;
+use crate::sources::Claim;
 use fmp_explore::{Ending, Finding, FindingKind, Question, Report};
-use fmp_image_bytes::Image;
 use std::alloc::{AllocError, Global};
 
 /// What is said of a search that found nothing and claims nothing, though it was not stopped.
@@ -130,19 +130,20 @@ pub fn append_end(
 #[tactic(auto, unfolding(crate::specs::Claims::ending_text))]
 pub fn append_ending(
     alloc: Global,
-    image: &Image,
-    lines: &CallLines,
-    question: &Question,
-    bound: u64,
+    claim: &Claim<'_>,
     report: &Report,
     out: &mut Vec<u8>,
 ) -> Result<(), AllocError>
-    ensures { OnOk result (out.new.items
-        ≡ out.old.items ++ spec.ending_text image.now lines.now question.now bound report.now) }
+    ensures { OnOk result (out.new.items ≡ out.old.items ++ spec.ending_text (claim_tables claim.now) report.now) }
 {
     if report.holds {
-        append_claim(alloc, image, lines, question, bound, report, out)?;
+        append_claim(alloc, claim, report, out)?;
         return append_stuck_note(report, out);
     }
-    append_end(question, report.ending, !report.findings.is_empty(), out)
+    append_end(
+        claim.question,
+        report.ending,
+        !report.findings.is_empty(),
+        out,
+    )
 }

@@ -2,6 +2,7 @@
 ghost use Rattle.std.specs.Prelude.{◌≡◌, [], All, IfOk, IfSome, map, true};
 ghost use Rattle.fmp_explore.specs.Searching.{NothingIsFound};
 ghost use Rattle.fmp_witness.specs.Findings.{IsFound};
+ghost use Rattle.fmp_searching.specs.Claims.{claim_tables};
 ghost use Rattle.fmp_searching.specs.Claimed.{IsExplored, IsReportIn, IsReportText, Tells, text_of};
 ghost use Rattle.fmp_searching.specs.Records.{IsReportRecords};
 ghost use Rattle.fmp_searching.specs.Tests.{HasTestReport, IsTestReport};
@@ -14,10 +15,10 @@ use crate::finding::say_finding;
 use crate::judging::Searched;
 use crate::records::found_records;
 use crate::seen::{Seen, all_seen};
-use crate::sources::ExploredSources;
+use crate::sources::{Claim, ExploredSources};
 use crate::test_reports::search_report;
 use crate::unsaid::{counts_unsaid, say_all_unsaid};
-use fmp_explore::{Finding, Question, Report, SearchWatcher, explore, explore_beside};
+use fmp_explore::{Finding, Report, SearchWatcher, explore, explore_beside};
 use fmp_trace::print_steps;
 use fmp_warnings::Form;
 use std::alloc::{AllocError, Global};
@@ -50,7 +51,7 @@ fn findings_text(
     Ok(text)
 }
 
-/// What is printed behind the end of a search: the sentences that say nothing, how far it went, and what falls out of
+/// What is printed after the end of a search: the sentences that say nothing, how far it went, and what falls out of
 /// it.
 fn extent_text(
     alloc: Global,
@@ -69,22 +70,12 @@ fn extent_text(
 fn report_text(
     alloc: Global,
     sources: &ExploredSources<'_>,
-    question: &Question,
     report: &Report,
 ) -> Result<Vec<u8>, AllocError>
-    ensures { IfOk result (λ text. IsReportText sources.now.image.now sources.now.lines.now question.now
-        sources.now.bound report.now text.items) }
+    ensures { IfOk result (λ text. IsReportText (claim_tables sources.now.claim) report.now text.items) }
 {
     let mut text = findings_text(alloc, sources, &report.findings)?;
-    append_ending(
-        alloc,
-        sources.image,
-        sources.lines,
-        question,
-        sources.bound,
-        report,
-        &mut text,
-    )?;
+    append_ending(alloc, &sources.claim, report, &mut text)?;
     let extent = extent_text(alloc, sources, report)?;
     text.extend_from_slice(&extent)?;
     Ok(text)
@@ -94,16 +85,15 @@ fn report_text(
 fn report_records(
     alloc: Global,
     sources: &ExploredSources<'_>,
-    question: &Question,
     report: &Report,
 ) -> Result<Vec<u8>, AllocError>
-    ensures { IfOk result (λ text. IsReportRecords sources.now.named.strict sources.now.image.now sources.now.lines.now
-        question.now sources.now.bound report.now text.items) }
+    ensures { IfOk result (λ text. IsReportRecords sources.now.named.strict (claim_tables sources.now.claim)
+        report.now text.items) }
 {
     let mut text = found_records(alloc, sources, &report.findings)?;
     let between = coverage_records(alloc, sources, report)?;
     text.extend_from_slice(&between)?;
-    let end = end_record(alloc, sources, question, report)?;
+    let end = end_record(alloc, sources, report)?;
     text.extend_from_slice(&end)?;
     Ok(text)
 }
@@ -112,15 +102,14 @@ fn report_records(
 fn report_in(
     alloc: Global,
     sources: &ExploredSources<'_>,
-    question: &Question,
     report: &Report,
 ) -> Result<Vec<u8>, AllocError>
-    ensures { IfOk result (λ text. IsReportIn sources.now.named.form sources.now.named.strict sources.now.image.now
-        sources.now.lines.now question.now sources.now.bound report.now text.items) }
+    ensures { IfOk result (λ text. IsReportIn sources.now.named.form sources.now.named.strict
+        (claim_tables sources.now.claim) report.now text.items) }
 {
     match sources.named.form {
-        Form::Text => report_text(alloc, sources, question, report),
-        Form::Json => report_records(alloc, sources, question, report),
+        Form::Text => report_text(alloc, sources, report),
+        Form::Json => report_records(alloc, sources, report),
     }
 }
 
@@ -148,15 +137,15 @@ fn steps_texts(alloc: Global, findings: &[Finding]) -> Result<Vec<Vec<u8>>, Allo
 fn tests_by(
     alloc: Global,
     sources: &ExploredSources<'_>,
-    question: &Question,
     report: &Report,
     seen: Vec<Seen>,
 ) -> Result<Vec<u8>, AllocError>
     ensures { IfOk result (λ out.
-        IsTestReport sources.now.named.strict question.now report.now seen.items out.items) }
+        IsTestReport sources.now.named.strict sources.now.claim.question.now report.now seen.items
+        out.items) }
 {
     let searched = Searched {
-        question,
+        question: sources.claim.question,
         report,
         seen: &seen,
     };
@@ -167,29 +156,28 @@ fn tests_by(
 fn tests_of(
     alloc: Global,
     sources: &ExploredSources<'_>,
-    question: &Question,
     report: &Report,
 ) -> Result<Vec<u8>, AllocError>
-    ensures { IfOk result (λ out. HasTestReport sources.now.named.strict question.now report.now out.items) }
+    ensures { IfOk result (λ out.
+        HasTestReport sources.now.named.strict sources.now.claim.question.now report.now out.items) }
 {
     let seen = all_seen(alloc, sources, &report.findings)?;
-    tests_by(alloc, sources, question, report, seen)
+    tests_by(alloc, sources, report, seen)
 }
 
 /// A report of tests, if one is asked for.
 fn tests_asked(
     alloc: Global,
     sources: &ExploredSources<'_>,
-    question: &Question,
     report: &Report,
 ) -> Result<Option<Vec<u8>>, AllocError>
     ensures { IfOk result (λ asked. IfSome asked
-        (λ out. HasTestReport sources.now.named.strict question.now report.now out.items)) }
+        (λ out. HasTestReport sources.now.named.strict sources.now.claim.question.now report.now out.items)) }
 {
     if !sources.named.report {
         return Ok(None);
     }
-    match tests_of(alloc, sources, question, report) {
+    match tests_of(alloc, sources, report) {
         Ok(out) => Ok(Some(out)),
         Err(error) => Err(error),
     }
@@ -199,39 +187,37 @@ fn tests_asked(
 fn explored_report(
     alloc: Global,
     sources: &ExploredSources<'_>,
-    question: &Question,
     report: &Report,
 ) -> Result<Explored, AllocError>
-    ensures { IfOk result (Tells sources.now.named.form sources.now.named.strict sources.now.image.now
-        sources.now.lines.now question.now sources.now.bound report.now) }
+    ensures { IfOk result (Tells sources.now.named.form sources.now.named.strict (claim_tables sources.now.claim)
+        report.now) }
 {
-    let unsaid = counts_unsaid(sources.named.strict, question, report);
+    let unsaid = counts_unsaid(sources.named.strict, sources.claim.question, report);
     Ok(Explored {
-        text: report_in(alloc, sources, question, report)?,
+        text: report_in(alloc, sources, report)?,
         steps: steps_texts(alloc, &report.findings)?,
-        report: tests_asked(alloc, sources, question, report)?,
+        report: tests_asked(alloc, sources, report)?,
         status: status_of(unsaid, report),
     })
 }
 
-/// What a search of the schedules of an image comes to, by this many threads.
+/// What a search comes to, by this many threads.
 fn searched<W: SearchWatcher, R: Threads + Sync>(
     alloc: Global,
     rt: &R,
     jobs: u32,
-    sources: &ExploredSources<'_>,
-    question: &Question,
+    claim: &Claim<'_>,
     watcher: &mut W,
 ) -> Result<Report, AllocError>
-    ensures findings { IfOk result (λ r. All (IsFound sources.now.image.now sources.now.bound question.now)
+    ensures findings { IfOk result (λ r. All (IsFound claim.now.image.now claim.now.bound claim.now.question.now)
         r.findings.items) }
-    ensures holds { IfOk result (λ r. r.holds ≡ true → NothingIsFound sources.now.image.now sources.now.bound
-        question.now) }
+    ensures holds { IfOk result (λ r. r.holds ≡ true → NothingIsFound claim.now.image.now claim.now.bound
+        claim.now.question.now) }
 {
+    let (image, bound, question) = (claim.image, claim.bound, claim.question);
     if jobs <= 1 {
-        return explore(alloc, sources.image, sources.bound, question, watcher);
+        return explore(alloc, image, bound, question, watcher);
     }
-    let (image, bound) = (sources.image, sources.bound);
     explore_beside(alloc, rt, jobs as usize, image, bound, question, watcher)
 }
 
@@ -242,14 +228,13 @@ pub fn explored_image<W: SearchWatcher, R: Threads + Sync>(
     rt: &R,
     jobs: u32,
     sources: &ExploredSources<'_>,
-    question: &Question,
     watcher: &mut W,
 ) -> Result<Explored, AllocError>
-    ensures { IfOk result (IsExplored sources.now.named.form sources.now.named.strict sources.now.image.now
-        sources.now.lines.now question.now sources.now.bound) }
+    ensures { IfOk result (IsExplored sources.now.named.form sources.now.named.strict
+        (claim_tables sources.now.claim)) }
 {
-    let report = searched(alloc, rt, jobs, sources, question, watcher)?;
-    let explored = explored_report(alloc, sources, question, &report);
+    let report = searched(alloc, rt, jobs, &sources.claim, watcher)?;
+    let explored = explored_report(alloc, sources, &report);
     drop(report);
     explored
 }

@@ -7,12 +7,12 @@ use std::alloc::{AllocError, Global};
 /// The line of a finding: of its call, or of the head of the body that goes on for ever.
 fn line_of(sources: &ExploredSources<'_>, finding: &Finding, site: CallSite) -> Option<u32> {
     match finding.kind {
-        FindingKind::Endless(_) => sources.lines.head(site.body),
+        FindingKind::Endless(_) => sources.claim.lines.head(site.body),
         FindingKind::Line(_)
         | FindingKind::Deadlock
         | FindingKind::Breach(_)
         | FindingKind::State(_)
-        | FindingKind::Stuck(_) => sources.lines.line(sources.image.code(), site),
+        | FindingKind::Stuck(_) => sources.claim.lines.line(sources.claim.image.code(), site),
     }
 }
 

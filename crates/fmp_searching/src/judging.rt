@@ -29,6 +29,14 @@ pub enum TestOutcome {
     Unknown,
 }
 
+/// What is asked: what would break it, its name, and the line in which it stands, if it has one.
+#[derive(Drop)]
+pub struct AskedTest {
+    pub kind: SeenKind,
+    pub name: String,
+    pub line: Option<usize>,
+}
+
 /// What is asked, as a test, with its texts.
 #[derive(Drop)]
 pub struct JudgedTest {
@@ -227,25 +235,24 @@ fn broken_line(
     1
 }
 
-/// What is asked, by this name and in this line, as a test. `AllocError` if memory runs out.
+/// What came of what is asked, as a test. `AllocError` if memory runs out.
 pub fn judged(
     alloc: Global,
     sources: &ExploredSources<'_>,
     searched: Searched<'_>,
-    asked: SeenKind,
-    name: String,
-    line: Option<usize>,
+    asked: &AskedTest,
 ) -> Result<JudgedTest, AllocError>
     ensures { IfOk result (λ t. t.outcome ≡ spec.outcome_of sources.now.named.strict searched.entry.question.now
         searched.entry.report.now searched.entry.seen.now t.kind) }
 {
-    let outcome = outcome_of(sources.named.strict, searched, asked);
+    let outcome = outcome_of(sources.named.strict, searched, asked.kind);
+    let line = broken_line(sources, searched, outcome);
     Ok(JudgedTest {
-        kind: asked,
+        kind: asked.kind,
         outcome,
-        name,
-        line: line.unwrap_or(broken_line(sources, searched, outcome)),
-        message: message_of(alloc, sources, searched, asked, outcome)?,
+        name: asked.name.clone()?,
+        line: asked.line.unwrap_or(line),
+        message: message_of(alloc, sources, searched, asked.kind, outcome)?,
         steps: steps_of(alloc, searched, outcome)?,
     })
 }

@@ -1,14 +1,12 @@
 //! What a claim is made of, part by part.
 use crate::claiming::{append_deadlock, append_faults, append_never, append_never_at};
 use crate::sentences::append_subject;
-use crate::sites::CallLines;
+use crate::sources::Claim;
 use fmp_base::System;
-use fmp_code::Code;
 use fmp_explore::{Monitor, Question};
-use fmp_image_bytes::Image;
 use std::alloc::{AllocError, Global};
 
-/// Adds a part, without the comma and the blank behind it, if it says something.
+/// Adds a part, without the comma and the blank after it, if it says something.
 fn add_part(parts: &mut Vec<Vec<u8>>, part: Vec<u8>) -> Result<(), AllocError> {
     let mut part = part;
     if part.len() > 2 {
@@ -21,20 +19,17 @@ fn add_part(parts: &mut Vec<Vec<u8>>, part: Vec<u8>) -> Result<(), AllocError> {
 /// Adds what must never happen, but for faults.
 pub fn add_nevers(
     alloc: Global,
-    sys: &System,
-    code: &Code,
-    lines: &CallLines,
-    question: &Question,
+    claim: &Claim<'_>,
     parts: &mut Vec<Vec<u8>>,
 ) -> Result<(), AllocError> {
-    for never in &question.nevers {
+    for never in &claim.question.nevers {
         let mut part = Vec::new(alloc);
-        append_never(sys, *never, &mut part)?;
+        append_never(claim.image.system(), *never, &mut part)?;
         add_part(parts, part)?;
     }
-    for never in &question.nevers_at {
+    for never in &claim.question.nevers_at {
         let mut part = Vec::new(alloc);
-        append_never_at(code, lines, *never, &mut part)?;
+        append_never_at(claim.image.code(), claim.lines, *never, &mut part)?;
         add_part(parts, part)?;
     }
     Ok(())
@@ -66,7 +61,7 @@ pub fn deadlock_part(
     Ok(part)
 }
 
-/// Adds which faults no body may stop with, without the comma and the blank in front.
+/// Adds which faults no body may stop with, without the comma and the blank before.
 fn add_faults(
     alloc: Global,
     question: &Question,
@@ -83,16 +78,11 @@ fn add_faults(
     Ok(())
 }
 
-/// What the claim of a question about an image is made of. `AllocError` if memory runs out.
-pub fn parts_of(
-    alloc: Global,
-    image: &Image,
-    lines: &CallLines,
-    question: &Question,
-) -> Result<Vec<Vec<u8>>, AllocError> {
-    let sys = image.system();
+/// What a claim is made of. `AllocError` if memory runs out.
+pub fn parts_of(alloc: Global, claim: &Claim<'_>) -> Result<Vec<Vec<u8>>, AllocError> {
+    let (sys, question) = (claim.image.system(), claim.question);
     let mut parts = Vec::new(alloc);
-    add_nevers(alloc, sys, image.code(), lines, question, &mut parts)?;
+    add_nevers(alloc, claim, &mut parts)?;
     add_monitors(alloc, sys, &question.monitors, &mut parts)?;
     parts.push(deadlock_part(alloc, sys, question)?)?;
     add_faults(alloc, question, &mut parts)?;

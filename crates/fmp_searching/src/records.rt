@@ -38,7 +38,7 @@ pub struct FoundRecord {
 
 /// The line of the head of a body.
 fn head_of(sources: &ExploredSources<'_>, site: CallSite) -> Option<u64> {
-    match sources.lines.head(site.body) {
+    match sources.claim.lines.head(site.body) {
         Some(line) => Some(u64::from(line)),
         None => None,
     }
@@ -46,7 +46,7 @@ fn head_of(sources: &ExploredSources<'_>, site: CallSite) -> Option<u64> {
 
 /// Where a call stands.
 pub fn call_place(sources: &ExploredSources<'_>, site: CallSite) -> RecordPlace {
-    let code = sources.image.code();
+    let code = sources.claim.image.code();
     match sources.places.place(code, site.body, site.pc) {
         Some(CallPlace { line, column }) => RecordPlace {
             line: Some(u64::from(line)),

@@ -45,8 +45,8 @@ pub fn say_refused(
     coverage: &Coverage,
 ) -> Result<(), AllocError> {
     let file = sources.named.src.as_bytes();
-    for call in &refused_in(alloc, sources.image, coverage)? {
-        let code = sources.image.code();
+    for call in &refused_in(alloc, sources.claim.image, coverage)? {
+        let code = sources.claim.image.code();
         let place = sources.places.place(code, call.site.body, call.site.pc);
         append_refused(alloc, LineForm::Text, file, place, call, out)?;
     }

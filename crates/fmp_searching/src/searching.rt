@@ -1,24 +1,25 @@
 //! The command `explore`: it explores the schedules of two texts, and writes the steps of what it finds.
-ghost use Rattle.std.specs.Prelude.{◌≡◌, [], IfOk, Ok, if◌then◌else◌, nat_eq, option_map};
+ghost use Rattle.std.specs.Prelude.{◌≡◌, [], IfOk, Ok, if◌then◌else◌, nat_eq};
 ghost use Rattle.fmp_files.specs.Prints.{Prints};
 ghost use Rattle.fmp_searching.specs.Questions.{IsWanted};
-ghost use Rattle.fmp_searching.specs.Claimed.{HasClaimed, HasShown, HoldsOfBoth, HoldsOfFiles, HoldsOfImage};
-ghost use Rattle.fmp_searching.specs.Claimed.{HoldsOfTexts, IsSaid, PrintsNothing, PrintsOnly};
+ghost use Rattle.fmp_searching.specs.Claims.{claim_tables};
+ghost use Rattle.fmp_searching.specs.Claimed.{HasClaimed, HasShown, HoldsOfFiles, HoldsOfImage, HoldsOfTexts};
+ghost use Rattle.fmp_searching.specs.Claimed.{PrintsNothing, PrintsOnly};
 
 use crate::asking::{ExploreChoices, question_by, wanted_by};
 use crate::exploration::{no_question, no_question_of, report_over_input, steps_over_input};
 use crate::exploring::{Explored, explored_image};
 use crate::naming::LocalNames;
-use crate::reading::read_both;
+use crate::reading::read_texts;
 use crate::reporting::print_fault;
 use crate::sites::CallLines;
-use crate::sources::{ExploredSources, Exploring, Named, Sentences};
+use crate::sources::{Claim, ExploredSources, Exploring, Named, Sentences};
 use crate::steps_files::{
     is_over_input, is_read, out_name, remove_earlier, steps_names, write_steps,
 };
 use fmp_expect::{Expected, read_expectations};
-use fmp_explore::{Question, SearchWatcher};
-use fmp_files::{Failure, Outside, end, print, read_file, refuse_mistake, write_file};
+use fmp_explore::SearchWatcher;
+use fmp_files::{Failure, Outside, end, print, refuse_mistake, write_file};
 use fmp_frames::CallPlaces;
 use fmp_image::build;
 use fmp_image_bytes::Image;
@@ -27,6 +28,19 @@ use fmp_warnings::{FileNames, Form};
 use std::alloc::{AllocError, Global};
 use std::thread::Threads;
 use std::time::{Clock, Duration, Instant};
+
+/// An exploration whose words and files are read.
+#[derive(Clone, Copy)]
+struct Opened<'a> {
+    exploring: &'a Exploring<'a>,
+    wanted: &'a ExploreChoices<'a>,
+    /// The text of the configuration.
+    cfg: &'a [u8],
+    /// The text of the bodies.
+    src: &'a [u8],
+    /// The text of the sentences; empty where no file has any.
+    said: &'a [u8],
+}
 
 /// What an exploration tells on standard error while it goes on, and when it has had its time.
 #[derive(Drop)]
@@ -150,29 +164,26 @@ fn expected_in(alloc: Global, image: &Image, said: &[u8]) -> Vec<Expected> {
     }
 }
 
-/// Explores an image, of which this is asked, and whose bodies have this text.
+/// Explores an image, and prints what the search comes to of what it can claim.
 fn explore_question<O: Outside, R: Clock + Threads + Sync>(
     alloc: Global,
     outside: &mut O,
     rt: &R,
-    image: &Image,
-    src: &[u8],
-    said: &[u8],
-    lines: &CallLines,
-    question: &Question,
-    exploring: &Exploring<'_>,
+    claim: &Claim<'_>,
+    opened: &Opened<'_>,
 ) -> Result<u8, AllocError>
     ensures shown { IfOk result (λ _.
-        HasShown exploring.now.form exploring.now.strict image.now lines.now question.now exploring.now.bound
+        HasShown opened.now.exploring.now.form opened.now.exploring.now.strict (claim_tables claim.now)
         (O.done outside.new)) }
     ensures claimed { IfOk result (λ status. status ≡ 0 →
-        HasClaimed exploring.now.form exploring.now.strict image.now lines.now question.now exploring.now.bound
+        HasClaimed opened.now.exploring.now.form opened.now.exploring.now.strict (claim_tables claim.now)
         (O.done outside.new)) }
 {
-    let names = LocalNames::new(alloc, src)?;
-    let places = CallPlaces::new(alloc, src)?;
+    let exploring = opened.exploring;
+    let names = LocalNames::new(alloc, opened.src)?;
+    let places = CallPlaces::new(alloc, opened.src)?;
     let out = out_name(alloc, exploring)?;
-    let expected = expected_in(alloc, image, said);
+    let expected = expected_in(alloc, claim.image, opened.said);
     let named = Named {
         src: exploring.src,
         out: out.as_str(),
@@ -182,34 +193,30 @@ fn explore_question<O: Outside, R: Clock + Threads + Sync>(
         report: exploring.junit.is_some(),
     };
     let sources = ExploredSources {
-        image,
-        bound: exploring.bound,
-        lines,
+        claim: *claim,
         places: &places,
         names: &names,
         sentences: Sentences {
-            monitors: &question.monitors,
             sections: exploring.asked.alone.len(),
             file: exploring.expect.unwrap_or(""),
-            text: said,
+            text: opened.said,
             expected: &expected,
         },
         named,
     };
-    let end = end_after(rt, question.seconds);
+    let end = end_after(rt, claim.question.seconds);
     let explored = explored_image(
         alloc,
         rt,
         exploring.jobs,
         &sources,
-        question,
         &mut Telling {
             outside,
             clock: rt,
             end,
         },
     )?;
-    let processors = image.system().processors;
+    let processors = claim.image.system().processors;
     let count = explored.steps.len();
     remove_earlier(alloc, outside, out.as_str(), count, exploring, processors)?;
     let written = write_report(alloc, outside, exploring.junit, explored.report.as_ref());
@@ -217,30 +224,32 @@ fn explore_question<O: Outside, R: Clock + Threads + Sync>(
     Ok(status_after(written, status))
 }
 
-/// Explores an image whose bodies have this text, with what is wanted of it, in words and in a text of sentences.
+/// Explores an image that the texts of an exploration build.
 fn explore_image<O: Outside, R: Clock + Threads + Sync>(
     alloc: Global,
     outside: &mut O,
     rt: &R,
     image: &Image,
-    src: &[u8],
-    said: &[u8],
-    exploring: &Exploring<'_>,
-    wanted: &ExploreChoices,
+    opened: &Opened<'_>,
 ) -> Result<u8, AllocError>
-    requires { IsWanted exploring.now.asked (Ok wanted.now) }
+    requires { IsWanted opened.now.exploring.now.asked (Ok opened.now.wanted.now) }
     ensures { IfOk result (λ status. status ≡ 0 →
-        HoldsOfImage image.now src.now said.now exploring.now (O.done outside.new)) }
+        HoldsOfImage image.now opened.now.src.now opened.now.said.now opened.now.exploring.now (O.done outside.new)) }
 {
-    let lines = CallLines::new(alloc, src)?;
-    match question_by(alloc, &exploring.asked, wanted, said, image, &lines)? {
+    let lines = CallLines::new(alloc, opened.src)?;
+    match question_by(alloc, opened.wanted, opened.said, image, &lines)? {
         Ok(question) => {
-            explore_question(
-                alloc, outside, rt, image, src, said, &lines, &question, exploring,
-            )
+            let claim = Claim {
+                image,
+                lines: &lines,
+                question: &question,
+                bound: opened.exploring.bound,
+            };
+            explore_question(alloc, outside, rt, &claim, opened)
         }
         Err(mistake) => {
-            let error = no_question_of(alloc, &exploring.asked, (image, &lines), mistake);
+            let asked = &opened.exploring.asked;
+            let error = no_question_of(alloc, asked, (image, &lines), mistake);
             Ok(refuse_mistake(outside, error))
         }
     }
@@ -252,42 +261,37 @@ fn explore_status<O: Outside, R: Clock + Threads + Sync>(
     outside: &mut O,
     rt: &R,
     image: &Image,
-    src: &[u8],
-    said: &[u8],
-    exploring: &Exploring<'_>,
-    wanted: &ExploreChoices,
+    opened: &Opened<'_>,
 ) -> u8
-    requires { IsWanted exploring.now.asked (Ok wanted.now) }
-    ensures { result ≡ 0 → HoldsOfImage image.now src.now said.now exploring.now (O.done outside.new) }
+    requires { IsWanted opened.now.exploring.now.asked (Ok opened.now.wanted.now) }
+    ensures { result ≡ 0 →
+        HoldsOfImage image.now opened.now.src.now opened.now.said.now opened.now.exploring.now (O.done outside.new) }
 {
-    match explore_image(alloc, outside, rt, image, src, said, exploring, wanted) {
+    match explore_image(alloc, outside, rt, image, opened) {
         Ok(status) => status,
         Err(error) => end(outside, &Failure::Memory(error)),
     }
 }
 
-/// Explores the schedules of two texts, or prints their first fault, with status 1.
+/// Explores the schedules of the texts of an exploration, or prints their first fault, with status 1.
 fn explore_texts<O: Outside, R: Clock + Threads + Sync>(
     alloc: Global,
     outside: &mut O,
     rt: &R,
-    cfg: &[u8],
-    src: &[u8],
-    said: &[u8],
-    exploring: &Exploring<'_>,
-    wanted: &ExploreChoices,
+    opened: &Opened<'_>,
 ) -> u8
-    requires { IsWanted exploring.now.asked (Ok wanted.now) }
-    ensures { result ≡ 0 → HoldsOfTexts cfg.now src.now said.now exploring.now (O.done outside.new) }
+    requires { IsWanted opened.now.exploring.now.asked (Ok opened.now.wanted.now) }
+    ensures { result ≡ 0 → HoldsOfTexts opened.now.cfg.now opened.now.src.now opened.now.said.now
+        opened.now.exploring.now (O.done outside.new) }
 {
     let names = FileNames {
-        cfg: exploring.cfg,
-        src: exploring.src,
+        cfg: opened.exploring.cfg,
+        src: opened.exploring.src,
         steps: "",
     };
-    match build(alloc, cfg, src) {
+    match build(alloc, opened.cfg, opened.src) {
         Ok(image) => {
-            let status = explore_status(alloc, outside, rt, &image, src, said, exploring, wanted);
+            let status = explore_status(alloc, outside, rt, &image, opened);
             drop(image);
             status
         }
@@ -296,48 +300,28 @@ fn explore_texts<O: Outside, R: Clock + Threads + Sync>(
     }
 }
 
-/// The text of a file of sentences; none where there is no file.
-fn read_said<O: Outside>(alloc: Global, outside: &O, name: Option<&str>) -> Result<Vec<u8>, Failure>
-    ensures { IfOk result (λ said. IsSaid (O.files outside.now) (option_map (λ n. n.now) name.entry) said.items) }
-{
-    match name {
-        Some(name) => read_file(alloc, outside, name, None),
-        None => Ok(Vec::new(alloc)),
-    }
-}
-
-/// Explores the schedules of two texts, with what is wanted of them in words and in the sentences of a file.
-fn explore_both<O: Outside, R: Clock + Threads + Sync>(
-    alloc: Global,
-    outside: &mut O,
-    rt: &R,
-    cfg: &[u8],
-    src: &[u8],
-    exploring: &Exploring<'_>,
-    wanted: &ExploreChoices,
-) -> u8
-    requires { IsWanted exploring.now.asked (Ok wanted.now) }
-    ensures { result ≡ 0 → HoldsOfBoth (O.files outside.old) cfg.now src.now exploring.now (O.done outside.new) }
-{
-    match read_said(alloc, outside, exploring.expect) {
-        Ok(said) => explore_texts(alloc, outside, rt, cfg, src, &said, exploring, wanted),
-        Err(failure) => end(outside, &failure),
-    }
-}
-
-/// Explores the schedules of the texts of two files, with what is wanted of them.
+/// Explores the schedules of the texts of files, with what is wanted of them in words and in sentences.
 fn explore_files<O: Outside, R: Clock + Threads + Sync>(
     alloc: Global,
     outside: &mut O,
     rt: &R,
     exploring: &Exploring<'_>,
-    wanted: &ExploreChoices,
+    wanted: &ExploreChoices<'_>,
 ) -> u8
     requires { IsWanted exploring.now.asked (Ok wanted.now) }
     ensures { result ≡ 0 → HoldsOfFiles (O.files outside.old) exploring.now (O.done outside.new) }
 {
-    match read_both(alloc, outside, exploring.cfg, exploring.src) {
-        Ok((cfg, src)) => explore_both(alloc, outside, rt, &cfg, &src, exploring, wanted),
+    match read_texts(alloc, outside, exploring) {
+        Ok((cfg, src, said)) => {
+            let opened = Opened {
+                exploring,
+                wanted,
+                cfg: &cfg,
+                src: &src,
+                said: &said,
+            };
+            explore_texts(alloc, outside, rt, &opened)
+        }
         Err(failure) => end(outside, &failure),
     }
 }

@@ -68,7 +68,8 @@ fn say_started(
     sources: &ExploredSources<'_>,
     started: Started,
 ) -> Result<(), AllocError> {
-    if let Some(config) = sources.image.system().tasks.get(usize::from(started.task)) {
+    let claim = &sources.claim;
+    if let Some(config) = claim.image.system().tasks.get(usize::from(started.task)) {
         out.extend_from_slice(config.name.as_bytes())?;
     }
     if let Some(site) = started.waits {
@@ -77,7 +78,7 @@ fn say_started(
             alloc,
             out,
             sources,
-            sources.lines.line(sources.image.code(), site),
+            claim.lines.line(claim.image.code(), site),
         )?;
         say(out, ")")?;
     }
@@ -100,7 +101,7 @@ fn say_deadlock(
 
 /// Appends the name of a task.
 fn say_task(out: &mut Vec<u8>, sources: &ExploredSources<'_>, task: u8) -> Result<(), AllocError> {
-    match sources.image.system().tasks.get(usize::from(task)) {
+    match sources.claim.image.system().tasks.get(usize::from(task)) {
         Some(config) => out.extend_from_slice(config.name.as_bytes()),
         None => Ok(()),
     }
@@ -150,7 +151,7 @@ pub fn say_sentence(
     };
     let (file, line) = (sources.sentences.file, said.line);
     say_made(out, format!(in alloc; "{file}:{line}: {of}"))?;
-    append_sentence(alloc, sources.image.system(), &said.sentence, out)?;
+    append_sentence(alloc, sources.claim.image.system(), &said.sentence, out)?;
     let _blank = out.pop();
     let _comma = out.pop();
     Ok(())
@@ -186,7 +187,7 @@ fn say_breach(
     if place >= sections {
         return say_broken(alloc, out, sources, place - sections, standing);
     }
-    match sources.sentences.monitors.get(place) {
+    match sources.claim.question.monitors.get(place) {
         Some(monitor) => say_holder(alloc, out, sources, &monitor.subject, standing),
         None => Ok(()),
     }
@@ -200,7 +201,7 @@ fn say_left(
     kind: FindingKind,
     left: &Left,
 ) -> Result<(), AllocError> {
-    let sys = sources.image.system();
+    let sys = sources.claim.image.system();
     match kind {
         FindingKind::Line(place) => say_line(out, sys, left.number, &left.lines, place),
         FindingKind::Deadlock => say_deadlock(alloc, out, sources, &left.started),
@@ -274,8 +275,8 @@ fn say_left_kind(
 ) -> Result<SeenKind, AllocError>
     ensures { IfOk result (λ kind. spec.breaks sources.now.sentences.sections finding.now.kind kind ≡ true) }
 {
-    let sections = sources.sentences.sections;
-    match left_by(alloc, sources.image, sources.bound, &finding.steps)? {
+    let (claim, sections) = (&sources.claim, sources.sentences.sections);
+    match left_by(alloc, claim.image, claim.bound, &finding.steps)? {
         Some(left) => {
             say_left(alloc, out, sources, finding.kind, &left)?;
             Ok(kind_of(sections, finding.kind, &left.lines))
@@ -322,7 +323,7 @@ fn stuck_text(
         None => None,
     };
     let mut text = Vec::new(alloc);
-    let sys = sources.image.system();
+    let sys = sources.claim.image.system();
     append_stuck(sys, usize::from(task), &held.block, lock, &mut text)?;
     Ok(text)
 }
@@ -334,7 +335,8 @@ fn stuck_call(
     finding: &Finding,
     task: u8,
 ) -> Result<(Option<CallSite>, Vec<u8>), AllocError> {
-    match held_up(alloc, sources.image, sources.bound, &finding.steps, task)? {
+    let claim = &sources.claim;
+    match held_up(alloc, claim.image, claim.bound, &finding.steps, task)? {
         Some(held) => Ok((
             held_site(finding, &held),
             stuck_text(alloc, sources, &held, task)?,

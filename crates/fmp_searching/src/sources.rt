@@ -4,7 +4,7 @@ use crate::asking::ExploreWords;
 use crate::naming::LocalNames;
 use crate::sites::CallLines;
 use fmp_expect::Expected;
-use fmp_explore::{CallSite, Monitor};
+use fmp_explore::{CallSite, Question};
 use fmp_frames::{CallPlace, CallPlaces};
 use fmp_image_bytes::Image;
 use fmp_warnings::Form;
@@ -49,10 +49,10 @@ pub struct Named<'a> {
     pub report: bool,
 }
 
-/// The sentences that must hold: those of the sections of the command line, and then those of a file.
+/// Where the sentences of a question stand: those of the sections of the command line come first, and then those of a
+/// file.
 #[derive(Clone, Copy)]
 pub struct Sentences<'a> {
-    pub monitors: &'a [Monitor],
     /// How many sections there are.
     pub sections: usize,
     /// The name of the file; empty if there is none.
@@ -71,12 +71,20 @@ impl Sentences<'_> {
     }
 }
 
+/// What a search can claim: that nothing is found in an image that a question asks about, at a bound.
+#[derive(Clone, Copy)]
+pub struct Claim<'a> {
+    pub image: &'a Image,
+    /// Where the calls of its bodies stand.
+    pub lines: &'a CallLines,
+    pub question: &'a Question,
+    pub bound: u64,
+}
+
 /// What is explored, and where its calls stand in the text.
 #[derive(Clone, Copy)]
 pub struct ExploredSources<'a> {
-    pub image: &'a Image,
-    pub bound: u64,
-    pub lines: &'a CallLines,
+    pub claim: Claim<'a>,
     pub places: &'a CallPlaces,
     pub names: &'a LocalNames,
     pub sentences: Sentences<'a>,
@@ -101,7 +109,7 @@ pub fn say_call(
     site: CallSite,
 ) -> Result<(), AllocError> {
     say(out, sources.named.src)?;
-    let code = sources.image.code();
+    let code = sources.claim.image.code();
     if let Some(CallPlace { line, column }) = sources.places.place(code, site.body, site.pc) {
         say_made(out, format!(in alloc; ":{line}:{column}"))?;
     }

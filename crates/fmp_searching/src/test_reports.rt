@@ -4,21 +4,13 @@ ghost use Rattle.std.specs.Prelude.{◌≡◌, ◌++◌, IfOk, map};
 ghost use Rattle.fmp_json.specs.Junit.{report_text};
 ghost use Rattle.fmp_searching.specs.Tests as spec;
 
-use crate::judging::{JudgedTest, Searched, cases_of, judged};
+use crate::judging::{AskedTest, JudgedTest, Searched, cases_of, judged};
 use crate::parts::{add_monitors, add_nevers, deadlock_part};
 use crate::seen::SeenKind;
 use crate::sources::ExploredSources;
-use fmp_explore::{Monitor, Question};
+use fmp_explore::Monitor;
 use fmp_json::{TestCase, TestSuite, append_report};
 use std::alloc::{AllocError, Global};
-
-/// What is asked: what would break it, its name, and the line in which it stands, if it has one.
-#[derive(Drop)]
-struct AskedTest {
-    kind: SeenKind,
-    name: String,
-    line: Option<usize>,
-}
 
 /// The line of this number of a text, from 1, without its line feed.
 fn line_at(text: &[u8], number: usize) -> &[u8] {
@@ -80,11 +72,9 @@ fn add_asked_nevers(
     alloc: Global,
     asked: &mut Vec<AskedTest>,
     sources: &ExploredSources<'_>,
-    question: &Question,
 ) -> Result<(), AllocError> {
-    let (sys, code) = (sources.image.system(), sources.image.code());
     let mut parts = Vec::new(alloc);
-    add_nevers(alloc, sys, code, sources.lines, question, &mut parts)?;
+    add_nevers(alloc, &sources.claim, &mut parts)?;
     if parts.is_empty() {
         return Ok(());
     }
@@ -100,7 +90,7 @@ fn add_asked_section(
     monitor: Monitor,
 ) -> Result<(), AllocError> {
     let mut parts = Vec::new(alloc);
-    add_monitors(alloc, sources.image.system(), &[monitor], &mut parts)?;
+    add_monitors(alloc, sources.claim.image.system(), &[monitor], &mut parts)?;
     add_asked(
         alloc,
         asked,
@@ -116,7 +106,7 @@ fn add_asked_sections(
     sources: &ExploredSources<'_>,
 ) -> Result<(), AllocError> {
     let mut place: usize = 0;
-    for monitor in sources.sentences.monitors {
+    for monitor in &sources.claim.question.monitors {
         if place < sources.sentences.sections {
             add_asked_section(alloc, asked, sources, place, *monitor)?;
         }
@@ -129,12 +119,12 @@ fn add_asked_sections(
 fn asked_others(
     alloc: Global,
     sources: &ExploredSources<'_>,
-    question: &Question,
 ) -> Result<Vec<AskedTest>, AllocError> {
     let mut asked = Vec::new(alloc);
-    add_asked_nevers(alloc, &mut asked, sources, question)?;
+    add_asked_nevers(alloc, &mut asked, sources)?;
     add_asked_sections(alloc, &mut asked, sources)?;
-    let deadlock = deadlock_part(alloc, sources.image.system(), question)?;
+    let claim = &sources.claim;
+    let deadlock = deadlock_part(alloc, claim.image.system(), claim.question)?;
     add_asked(alloc, &mut asked, SeenKind::Deadlock, &deadlock)?;
     add_asked(alloc, &mut asked, SeenKind::Fault, b"no fault")?;
     let endless = b"no body that goes on for ever without a call";
@@ -155,8 +145,7 @@ fn judge_all(
 {
     let mut tests = Vec::new(alloc);
     for one in asked {
-        let name = one.name.clone()?;
-        tests.push(judged(alloc, sources, searched, one.kind, name, one.line)?)?;
+        tests.push(judged(alloc, sources, searched, one)?)?;
     }
     Ok(tests)
 }
@@ -208,7 +197,7 @@ fn plain_report(
     ensures { IfOk result (λ out. spec.IsTestReport sources.now.named.strict searched.entry.question.now
         searched.entry.report.now searched.entry.seen.now out.items) }
 {
-    let asked = asked_others(alloc, sources, searched.question)?;
+    let asked = asked_others(alloc, sources)?;
     let tests = judge_all(alloc, sources, searched, &asked)?;
     let cases = cases_of(alloc, &tests)?;
     report_of_one(alloc, sources.named.src, &cases)
@@ -241,7 +230,7 @@ fn report_with_file(
 {
     let asked = asked_sentences(alloc, sources)?;
     let sentences = judge_all(alloc, sources, searched, &asked)?;
-    let others = asked_others(alloc, sources, searched.question)?;
+    let others = asked_others(alloc, sources)?;
     let tests = judge_all(alloc, sources, searched, &others)?;
     judged_report(alloc, sources, sentences, tests)
 }

@@ -117,7 +117,7 @@ pub fn say_all_unsaid(
     if !is_whole(report.ending) {
         return Ok(());
     }
-    for (place, monitor) in sources.sentences.monitors.iter().enumerate() {
+    for (place, monitor) in sources.claim.question.monitors.iter().enumerate() {
         if let MonitorSubject::Sentence(sentence) = &monitor.subject
             && report.premises.get(place) == Some(&false)
         {

@@ -4,6 +4,6 @@ use Rattle.fmp_searching.proofs.ImageSites.{image_sites}
 use Rattle.fmp_searching.proofs.asking.question_by.Goals as goal
 use Rattle.fmp_searching.specs.Sites.{HasSites}
 
-pub asked_of-requires-clause-sites : goal.asked_of-requires-clause-sites
-asked_of-requires-clause-sites c =
+pub are_called-requires : goal.are_called-requires
+are_called-requires c =
     subst (λ (code : List BodyTables). HasSites code) (sym c.code.ensures) (image_sites _ c.keeps_rules.ensures)

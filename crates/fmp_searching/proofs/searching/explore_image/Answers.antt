@@ -1,14 +1,22 @@
+use Rattle.std.proofs.Common.{Ok, subst, sym}
 use Rattle.std.proofs.lemmas.Result.{IfOk-weaker}
+use Rattle.fmp_searching.specs.declared.asking.ExploreWords.{ExploreWords}
+use Rattle.fmp_searching.specs.Questions.{IsWanted}
 use Rattle.fmp_searching.proofs.searching.explore_image.Goals as goal
+
+pub question_by-requires : goal.question_by-requires
+question_by-requires g c =
+    subst (λ (a : ExploreWords). IsWanted a (Ok c.args.opened.now.wanted.now)) (sym c.requires.0) c.requires
 
 pub returns-in-Ok : goal.returns-in-Ok
 returns-in-Ok g c =
     let asked = rw c.in-Ok.is at c.in_ok-question.ensures in
+    let asks = rw c.requires.0 at asked.1 in
     IfOk-weaker c.explore_question.result _ _
     (λ status claims zero. record {
       bodies = c.in_ok-lines.lines;
       are = c.in_ok-lines.ensures;
       question = c.in-Ok.question;
-      asks = asked.1;
+      asks = asks;
       claimed = claims zero;
     }) c.explore_question.ensures.claimed
