@@ -14,7 +14,7 @@ use Rattle.std.specs.Str.Parse.{IsNumeral, ParsesSigned, ParsesUnsigned, digits_
 use Rattle.std.specs.Str.Parse.{without_leading_plus, without_leading_sign}
 use Rattle.std.specs.Str.Pattern.{FindsTextPrefix, FindsTextSuffix, StripsPrefix, StripsSuffix}
 use denote.Ref.{Bor}
-use Rattle.fmp_searching.specs.Words.{are_digits, before, behind, is_value, number_named, parts_at, value_named}
+use Rattle.fmp_searching.specs.Words.{after, are_digits, before, is_value, number_named, parts_at, value_named}
 
 from_decides : {A E : Type 0} (b : Bool) (P : Type 0) (v : A) (r : Result A E) → Decides b P → OkIff r P v
     → result_ok r ≡ cond b (Some v) None
@@ -52,13 +52,13 @@ number_parsed text r h =
     (Decides-ltb (digits_value 10 (without_leading_plus text)) (2 ^ 32)))
     h
 
-pub behind_stripped : (front text : List ℕ) (r : Option (Bor (List ℕ)))
+pub after_stripped : (front text : List ℕ) (r : Option (Bor (List ℕ)))
     → MatchOption r (FindsTextPrefix front text None) (λ x. StripsPrefix (FindsTextPrefix front) text x.now)
-    → MatchOption r (behind front text ≡ None) (λ x. behind front text ≡ Some x.now)
-unfolding behind
-behind_stripped front text None h =
+    → MatchOption r (after front text ≡ None) (λ x. after front text ≡ Some x.now)
+unfolding after
+after_stripped front text None h =
     ap (λ b. cond b (Some (drop (length front) text)) None) (sym (starts_text false front text h))
-behind_stripped front text (Some x) h =
+after_stripped front text (Some x) h =
     let whole = starts_text true front text (h.0, h.1, subst (λ k. IsCharBoundary text k) (sym h.1.0) h.1.2) in
     ap (λ b. cond b (Some (drop (length front) text)) None) (sym whole)
     ∙ ap (λ k. Some (drop k text)) (sym h.1.0)

@@ -124,7 +124,7 @@ abbrev pub joint_text : (alternative : Bool) → List ℕ
 joint_text true = codes " or "
 joint_text false = codes " and "
 
--- a test behind others
+-- a test after others
 unfoldable pub test_text : SystemTables → ConditionTest → List ℕ
 test_text sys t =
     joint_text t.alternative
@@ -156,7 +156,7 @@ within_text sys r n t =
 unfoldable pub always_text : SystemTables → Condition → List ℕ
 always_text sys c = codes "always " ++ (without_or (tests_text sys c) ++ codes ", ")
 
--- a sentence, and a comma behind it; of a task that may rest it is said elsewhere, and the end is not asked for
+-- a sentence, and a comma after it; of a task that may rest it is said elsewhere, and the end is not asked for
 abbrev pub sentence_text : SystemTables → Sentence → List ℕ
 sentence_text sys (sentence.Never h) = never_text sys h
 sentence_text sys (sentence.Before a b) = before_text sys a b

@@ -18,15 +18,15 @@ use Rattle.fmp_question.specs.declared.question.Never.{Never}
 use Rattle.fmp_question.specs.declared.question.Never.TheVariants as never
 use Rattle.fmp_question.specs.declared.question.TheConstants.{ANSWERS}
 
--- what stands behind a front of a text, if the text begins with it
-unfoldable pub behind : (front text : List ℕ) → Option (List ℕ)
-behind front text = if starts_with nat_eq text front then Some (drop (length front) text) else None
+-- what stands after a front of a text, if the text begins with it
+unfoldable pub after : (front text : List ℕ) → Option (List ℕ)
+after front text = if starts_with nat_eq text front then Some (drop (length front) text) else None
 
 -- what stands before a back of a text, if the text ends with it
 unfoldable pub before : (back text : List ℕ) → Option (List ℕ)
 before back text = if ends_with nat_eq text back then Some (take (length text - length back) text) else None
 
--- what stands before and behind the first of these bytes in a text, if there is one
+-- what stands before and after the first of these bytes in a text, if there is one
 unfoldable pub parts_at : (byte : ℕ) → (text : List ℕ) → Option (List ℕ × List ℕ)
 parts_at byte text = option_map (λ k. (take k text, drop (k + 1) text)) (position (λ b. nat_eq b byte) text)
 
@@ -39,14 +39,14 @@ abbrev pub is_value : ℤ → Bool
 is_value (pos n) = nat_lt n (2 ^ 31)
 is_value (negsuc n) = nat_lt n (2 ^ 31)
 
--- the value that a text spells in decimal digits, behind a sign or without one
+-- the value that a text spells in decimal digits, after a sign or without one
 unfoldable pub value_named : List ℕ → Option ℤ
 value_named text =
     if are_digits (without_leading_sign text) && is_value (signed_digits_value 10 text)
     then Some (signed_digits_value 10 text)
     else None
 
--- the number, below 2^32, that a text spells in decimal digits, behind a plus or without one
+-- the number, below 2^32, that a text spells in decimal digits, after a plus or without one
 unfoldable pub number_named : List ℕ → Option ℕ
 number_named text =
     if are_digits (without_leading_plus text) && nat_lt (digits_value 10 (without_leading_plus text)) (2 ^ 32)
@@ -55,7 +55,7 @@ number_named text =
 
 -- the value V of a word `put(V)`
 unfoldable pub value_put : List ℕ → Option ℤ
-value_put word = option_and_then value_named (option_and_then (before (codes ")")) (behind (codes "put(") word))
+value_put word = option_and_then value_named (option_and_then (before (codes ")")) (after (codes "put(") word))
 
 -- the fault that a word names
 unfoldable pub fault_named : List ℕ → Option Fault

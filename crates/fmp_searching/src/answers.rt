@@ -43,7 +43,7 @@ fn append(text: &[u8], out: &mut Vec<u8>) -> Result<(), AllocError>
     out.extend_from_slice(text)
 }
 
-/// Appends a code behind a blank.
+/// Appends a code after a blank.
 fn append_name(code: Er, out: &mut Vec<u8>) -> Result<(), AllocError>
     ensures { OnOk result (out.new.items ≡ out.old.items ++ spec.name_text code) }
 {
@@ -51,7 +51,7 @@ fn append_name(code: Er, out: &mut Vec<u8>) -> Result<(), AllocError>
     append(code.name().as_bytes(), out)
 }
 
-/// Appends codes, each behind a blank.
+/// Appends codes, each after a blank.
 fn append_each(answers: &[Er], out: &mut Vec<u8>) -> Result<(), AllocError>
     ensures { OnOk result (out.new.items ≡ out.old.items ++ flat_map (λ c. spec.name_text c) answers.now) }
 {

@@ -31,7 +31,7 @@ pub fn texts_never_tell()
 /// Where something holds along all schedules of the image of two texts within n instructions a stretch, it holds of
 /// every list of events that the texts complete, in whatever number of turns of loops: no forbidden line is told, no
 /// line and no state breaks a sentence, and no deadlock is reached. No answer is told to its call where it must never
-/// be: the code, beside the texts, stands behind no such call. For whatever the texts complete, the image does
+/// be: the code, beside the texts, stands after no such call. For whatever the texts complete, the image does
 /// too, with the same lines, along a schedule of its own in which it keeps the places of long stretches now and then.
 pub fn texts_hold()
     ensures all { (cfg src : List ℕ) (i : ImageTables) (b : Builds cfg src i) (rules : Rules) (n : ℕ)

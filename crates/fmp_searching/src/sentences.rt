@@ -273,7 +273,7 @@ fn joint(alternative: bool) -> &'static [u8]
     if alternative { b" or " } else { b" and " }
 }
 
-/// Appends a test behind others.
+/// Appends a test after others.
 #[tactic(auto, unfolding(crate::specs::Sentences::test_text))]
 fn append_test(sys: &System, test: &ConditionTest, out: &mut Vec<u8>) -> Result<(), AllocError>
     ensures { OnOk result (out.new.items ≡ out.old.items ++ spec.test_text (tables_of sys.now) test.now) }
@@ -291,7 +291,7 @@ fn tests_in(condition: &Condition) -> &[ConditionTest]
     &condition.tests[..count]
 }
 
-/// Appends tests, each behind others.
+/// Appends tests, each after others.
 fn append_tests(sys: &System, tests: &[ConditionTest], out: &mut Vec<u8>) -> Result<(), AllocError>
     ensures { OnOk result (out.new.items
         ≡ out.old.items ++ flat_map (λ t. spec.test_text (tables_of sys.now) t) tests.now) }
@@ -411,7 +411,7 @@ fn append_always(
     append(b", ", out)
 }
 
-/// Appends a sentence, and a comma behind it. Nothing of a task that may rest, or of the end. `AllocError` if memory
+/// Appends a sentence, and a comma after it. Nothing of a task that may rest, or of the end. `AllocError` if memory
 /// runs out.
 pub fn append_sentence(
     alloc: Global,

@@ -86,7 +86,7 @@ fn add_call_at(tokens: &Tokens<'_>, at: usize, calls: &mut Vec<u32>) -> Result<(
 }
 
 /// The lines of the calls from a token on, up to where the next body begins.
-fn calls_behind(alloc: Global, tokens: &Tokens<'_>, start: usize) -> Result<Vec<u32>, AllocError>
+fn calls_from(alloc: Global, tokens: &Tokens<'_>, start: usize) -> Result<Vec<u32>, AllocError>
     ensures { IfOk result (λ calls. calls.items ≡ spec.call_lines (drop start tokens.now)) }
 {
     let mut calls = Vec::new(alloc);
@@ -99,7 +99,7 @@ fn calls_behind(alloc: Global, tokens: &Tokens<'_>, start: usize) -> Result<Vec<
     Ok(calls)
 }
 
-/// Adds the body that the token at a place begins, if it begins one. The next token stands at the place behind it.
+/// Adds the body that the token at a place begins, if it begins one. The next token stands at the place after it.
 fn add_body_at(
     alloc: Global,
     tokens: &Tokens<'_>,
@@ -114,7 +114,7 @@ fn add_body_at(
     if !begins_at(tokens, at) {
         return Ok(());
     }
-    let calls = calls_behind(alloc, tokens, next)?;
+    let calls = calls_from(alloc, tokens, next)?;
     bodies.push(BodyLines {
         head: line_at(tokens, at),
         calls,

@@ -91,7 +91,7 @@ fn remove<O: Outside>(outside: &mut O, name: &str)
     }
 }
 
-/// Removes the files of steps of an earlier search whose numbers go on behind those of this one, up to the first number
+/// Removes the files of steps of an earlier search whose numbers go on after those of this one, up to the first number
 /// for which there is none. `AllocError` if memory runs out.
 pub fn remove_earlier<O: Outside>(
     alloc: Global,

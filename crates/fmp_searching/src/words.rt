@@ -21,10 +21,10 @@ pub struct Section {
     pub leaves: i32,
 }
 
-/// What stands behind a front of a text, if the text begins with it.
-fn behind<'a>(front: &str, text: &'a str) -> Option<&'a str>
-    ensures { MatchOption result (spec.behind front.now text.now ≡ None)
-        (λ rest. spec.behind front.now text.now ≡ Some rest.now) }
+/// What stands after a front of a text, if the text begins with it.
+fn after<'a>(front: &str, text: &'a str) -> Option<&'a str>
+    ensures { MatchOption result (spec.after front.now text.now ≡ None)
+        (λ rest. spec.after front.now text.now ≡ Some rest.now) }
 {
     text.strip_prefix(front)
 }
@@ -37,7 +37,7 @@ fn before<'a>(back: &str, text: &'a str) -> Option<&'a str>
     text.strip_suffix(back)
 }
 
-/// What stands before and behind the first colon of a word.
+/// What stands before and after the first colon of a word.
 pub(crate) fn parts_at_colon(word: &str) -> Option<(&str, &str)>
     ensures { MatchOption result (spec.parts_at 58 word.now ≡ None)
         (λ parts. spec.parts_at 58 word.now ≡ Some (parts.0.now, parts.1.now)) }
@@ -45,7 +45,7 @@ pub(crate) fn parts_at_colon(word: &str) -> Option<(&str, &str)>
     word.split_once(':')
 }
 
-/// What stands before and behind the first comma of a word.
+/// What stands before and after the first comma of a word.
 fn parts_at_comma(word: &str) -> Option<(&str, &str)>
     ensures { MatchOption result (spec.parts_at 44 word.now ≡ None)
         (λ parts. spec.parts_at 44 word.now ≡ Some (parts.0.now, parts.1.now)) }
@@ -72,7 +72,7 @@ pub(crate) fn number_named(text: &str) -> Option<u32>
 fn value_put(word: &str) -> Option<i32>
     ensures { result ≡ spec.value_put word.now }
 {
-    let text = behind("put(", word)?;
+    let text = after("put(", word)?;
     value_named(before(")", text)?)
 }
 

@@ -1,6 +1,6 @@
 use Rattle.std.proofs.Common.{◌≡◌, ◌+◌, [], ◌++◌, append-nil, append_assoc, cond, drop, true, false, sym, ap, ◌∙◌}
 use Rattle.fmp_searching.proofs.Bodies.{call_lines_at}
-use Rattle.fmp_searching.proofs.sites.calls_behind.Goals as goal
+use Rattle.fmp_searching.proofs.sites.calls_from.Goals as goal
 use Rattle.fmp_searching.specs.Sites.{call_line_at, call_lines, head_at}
 
 pub returns-then-begins_at : goal.returns-then-begins_at
