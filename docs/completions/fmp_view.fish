@@ -80,6 +80,7 @@ complete -c fmp_view -n '__fish_seen_subcommand_from test' -l events -x -d 'How 
 complete -c fmp_view -n '__fish_seen_subcommand_from test' -l every-tick -x -d 'The clock advances once in N events on average, and where all are idle; at 0 only there [default: 20]'
 complete -c fmp_view -n '__fish_seen_subcommand_from test' -l int -d 'Interrupt I comes once in N events on average; it may be given for each interrupt. Without it each interrupt that has a handler comes once in 50 events'
 complete -c fmp_view -n '__fish_seen_subcommand_from test' -l bound -x -d 'How many instructions a body may take in a step, 1 to 2^48; where its next service call is farther, its next step goes on from there [default: 100000]'
+complete -c fmp_view -n '__fish_seen_subcommand_from test' -l jobs -x -d 'How many threads make runs, 1 to 64; what is found and printed is the same for each number [default: 1]'
 complete -c fmp_view -n '__fish_seen_subcommand_from test' -l json -d 'Print an object of JSON a line, for other programs'
 complete -c fmp_view -n '__fish_seen_subcommand_from test' -l junit -x -d 'Write a report to FILE too, in the XML of JUnit: each line of the text of expectations is a test'
 complete -c fmp_view -n '__fish_seen_subcommand_from test' -l lcov -x -d 'Write to FILE too how often the calls in each line of SRC were made, and which ways its branches went, in all runs together, as a tracefile of lcov'

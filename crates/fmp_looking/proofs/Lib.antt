@@ -5,4 +5,6 @@ pub mod Fresh
 mod HeardLemmas
 pub mod ImageSites
 mod MarkLemmas
+mod PartLemmas
+mod SeenLemmas
 mod TrialRuns

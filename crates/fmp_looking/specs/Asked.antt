@@ -19,6 +19,7 @@ pub record IsTesting (rows : List Row) (t : Testing) : Type 0 where
   pub tick : HasNumberOr 32 0 rows (codes "every-tick") t.tick
   pub events : HasNumberOr 32 1 rows (codes "events") t.events
   pub seeds : HasNumberOr 32 1 rows (codes "seeds") t.seeds
+  pub jobs : HasNumberOr 32 1 rows (codes "jobs") t.jobs
   pub bound : HasNumberOr 64 1 rows (codes "bound") t.bound
   pub junit : option_map (λ word. word.now) t.junit ≡ first_of (codes "junit") rows
   pub json : HasFlag rows (codes "json") t.json

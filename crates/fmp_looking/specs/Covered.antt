@@ -1,5 +1,6 @@
 -- What runs of an image come to in the text of its bodies: as a table, and as a tracefile of lcov.
-use Rattle.std.specs.Prelude.{ℕ, ◌≡◌, List, [], ◌∷◌, ◌++◌, Option, length, map}
+use Rattle.std.specs.Prelude.{ℕ, ◌≡◌, ◌+◌, ◌-◌, ◌<◌, List, [], ◌∷◌, ◌++◌, Option, Result, Ok, Err, IfOk, length}
+use Rattle.std.specs.Prelude.{map, slice_index_or}
 use Rattle.fmp_base.specs.declared.events.Event.{Event}
 use Rattle.fmp_looking.specs.declared.branches.BranchStep.{BranchStep}
 use Rattle.fmp_looking.specs.declared.marks.Mark.{Mark}
@@ -15,6 +16,9 @@ use Rattle.fmp_image_bytes.specs.Images.{ImageTables}
 use Rattle.fmp_instructions.specs.Machine.{code_meaning}
 use Rattle.fmp_replay.specs.Replays.{kernel_after}
 use Rattle.fmp_looking.specs.declared.covering.RunsSeen.{RunsSeen}
+use Rattle.fmp_looking.specs.declared.covering.Sightings.{Sightings}
+use Rattle.fmp_trials.specs.declared.seeds.Seeds.{Seeds}
+use Rattle.fmp_trials.specs.Parts.{edge}
 use Rattle.fmp_looking.specs.Coverage.{AreLinesOf, count_of, tracefile}
 
 -- what is seen of runs so far: where their calls stand, what those were answered, and which ways their branches went
@@ -24,8 +28,11 @@ pub record Seen : Type 0 where
   pub calls : List CallSeen
   pub steps : List BranchStep
 
+abbrev pub seen_at : List (List CallPlace) → Sightings → Seen
+seen_at places s = record { places = places; made = s.made.items; calls = s.calls.items; steps = s.steps.items }
+
 abbrev pub seen_of : RunsSeen → Seen
-seen_of s = record { places = s.places; made = s.made.items; calls = s.calls.items; steps = s.steps.items }
+seen_of s = seen_at s.places s.sightings
 
 -- nothing yet, where calls of bodies stand at these places
 abbrev pub none_seen : List (List CallPlace) → Seen
@@ -49,6 +56,30 @@ with_run i n s es =
 abbrev pub with_runs : ImageTables → (n : ℕ) → Seen → List (List Event) → Seen
 with_runs i n s [] = s
 with_runs i n s (es ∷ runs) = with_runs i n (with_run i n s es) runs
+
+-- what is seen of some runs, and of others after them
+abbrev pub both : Seen → Seen → Seen
+both s t = record t { made = s.made ++ t.made; calls = s.calls ++ t.calls; steps = s.steps ++ t.steps }
+
+-- this was seen of some runs of an image, this many, whose calls stand at these places
+abbrev pub AreRunsSeen : List (List CallPlace) → ImageTables → (n runs : ℕ) → Seen → Type 0
+AreRunsSeen places i n count s =
+    (runs : List (List Event)) × (length runs ≡ count) × (s ≡ with_runs i n (none_seen places) runs)
+
+-- what is seen of a part of runs was added
+abbrev pub IsWithPart : {E : Type 0} → (before : Sightings) → Result Sightings E → (after : Sightings) → Type 0
+IsWithPart before (Ok part) after =
+    (places : List (List CallPlace)) → seen_at places after ≡ both (seen_at places before) (seen_at places part)
+IsWithPart before (Err e) after = ⊥
+
+-- what is seen of each part of seeds, where they are cut into this many
+abbrev pub ArePartsSeen : {E : Type 0} → List (List CallPlace) → ImageTables → (n : ℕ) → Seeds → (parts : ℕ)
+    → List (Result Sightings E) → Type 0
+ArePartsSeen {E} places i n seeds parts seen =
+    (length seen ≡ parts)
+    × ((k : ℕ) (d : Result Sightings E) → k < parts
+    → IfOk (slice_index_or seen k d)
+    (λ s. AreRunsSeen places i n (edge seeds parts (k + 1) - edge seeds parts k) (seen_at places s)))
 
 -- this was seen of these runs of an image, in this text of its bodies
 pub record IsSeen (src : List ℕ) (i : ImageTables) (n : ℕ) (runs : List (List Event)) (s : Seen) : Type 0 where

@@ -57,6 +57,7 @@ pub fn testing_of<'m>(words: &'m ArgMatches<'_>) -> Testing<'m>
         tick: word32_of(words, "every-tick").unwrap_or(0),
         events: word32_of(words, "events").unwrap_or(1),
         seeds: word32_of(words, "seeds").unwrap_or(1),
+        jobs: word32_of(words, "jobs").unwrap_or(1),
         bound: bound_of(words),
         junit: text_of(words, "junit"),
         json: flag_of(words, "json"),

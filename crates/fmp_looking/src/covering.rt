@@ -23,17 +23,22 @@ use fmp_kernel::Kernel;
 use fmp_replay::kernel_of;
 use std::alloc::{AllocError, Global};
 
-/// What is seen of runs of an image.
+/// What is seen in runs of an image.
 #[derive(Drop)]
-pub struct RunsSeen {
-    /// Where the calls of its bodies stand.
-    places: CallPlaces,
+pub struct Sightings {
     /// Where the calls stand that were made.
     made: Vec<Option<CallPlace>>,
     /// What they were answered.
     calls: Vec<CallSeen>,
     /// Which ways branches went.
     steps: Vec<BranchStep>,
+}
+
+/// What is seen in runs of an image, and where the calls of its bodies stand.
+#[derive(Drop)]
+pub struct RunsSeen {
+    places: CallPlaces,
+    sightings: Sightings,
 }
 
 /// How many tasks the system of an image has.
@@ -120,49 +125,72 @@ fn add_made(
     made.extend_from_slice(&more)
 }
 
-impl RunsSeen {
-    ghost use Rattle.std.specs.Prelude.{◌≡◌, ◌≤◌, ◌^◌, [], IfOk, length};
-    ghost use Rattle.fmp_looking.specs.Covered.{IsNoneSeen, IsTable, IsTracefile, seen_of, with_run as after_run};
+impl Sightings {
+    ghost use Rattle.std.specs.Prelude.{List, ◌≡◌, ◌≤◌, ◌^◌, IfOk, length};
+    ghost use Rattle.fmp_frames.specs.declared.call_places.CallPlace.{CallPlace as Place};
+    ghost use Rattle.fmp_looking.specs.Covered.{both, none_seen, seen_at, with_run as after_run};
 
-    /// Nothing is seen yet of an image with bodies of this text. `AllocError` if memory runs out.
-    pub fn new(alloc: Global, src: &[u8]) -> Result<RunsSeen, AllocError>
-        ensures { IfOk result (λ s. IsNoneSeen src.now (seen_of s)) }
+    /// Nothing is seen yet.
+    pub fn none(alloc: Global) -> Sightings
+        ensures { (places : List (List Place)) → seen_at places result ≡ none_seen places }
     {
-        let places = CallPlaces::new(alloc, src)?;
-        Ok(RunsSeen {
-            places,
+        Sightings {
             made: Vec::new(alloc),
             calls: Vec::new(alloc),
             steps: Vec::new(alloc),
-        })
+        }
     }
 
-    /// What is seen of a run of an image too, beside what was seen before. `AllocError` if memory runs out.
+    /// What is seen in a run of an image too, whose calls stand at these places. `AllocError` if memory runs out.
     pub fn with_run(
         self,
         alloc: Global,
         image: &Image,
         n: u64,
+        places: &CallPlaces,
         events: &[Event],
-    ) -> Result<RunsSeen, AllocError>
+    ) -> Result<Sightings, AllocError>
         requires few { length events.now ≤ 2 ^ 20 }
-        ensures { IfOk result (λ s. seen_of s ≡ after_run image.now n (seen_of self) events.now) }
+        ensures { IfOk result (λ s. seen_at places.now s
+            ≡ after_run image.now n (seen_at places.now self) events.now) }
     {
-        let RunsSeen {
-            places,
+        let Sightings {
             mut made,
             calls,
             mut steps,
         } = self;
-        add_made(alloc, image, n, &places, events, &mut made)?;
-        let calls = calls_over(alloc, image, n, &places, events, calls)?;
+        add_made(alloc, image, n, places, events, &mut made)?;
+        let calls = calls_over(alloc, image, n, places, events, calls)?;
         add_steps(alloc, image, n, events, &mut steps)?;
-        Ok(RunsSeen {
-            places,
-            made,
-            calls,
-            steps,
-        })
+        Ok(Sightings { made, calls, steps })
+    }
+
+    /// What is seen in later runs too. `AllocError` if memory runs out.
+    pub fn and(self, later: &Sightings) -> Result<Sightings, AllocError>
+        ensures { IfOk result (λ s. (places : List (List Place)) →
+            seen_at places s ≡ both (seen_at places self) (seen_at places later.now)) }
+    {
+        let Sightings {
+            mut made,
+            mut calls,
+            mut steps,
+        } = self;
+        made.extend_from_slice(&later.made)?;
+        calls.extend_from_slice(&later.calls)?;
+        steps.extend_from_slice(&later.steps)?;
+        Ok(Sightings { made, calls, steps })
+    }
+}
+
+impl RunsSeen {
+    ghost use Rattle.std.specs.Prelude.{◌≡◌, IfOk};
+    ghost use Rattle.fmp_looking.specs.Covered.{IsTable, IsTracefile, seen_at, seen_of};
+
+    /// What is seen in runs of an image whose calls stand at these places.
+    pub fn new(places: CallPlaces, sightings: Sightings) -> RunsSeen
+        ensures { seen_of result ≡ seen_at places sightings }
+    {
+        RunsSeen { places, sightings }
     }
 
     /// The table of what is seen, in this text of the file of this name. `AllocError` if memory runs out.
@@ -170,7 +198,13 @@ impl RunsSeen {
         ensures { IfOk result (λ out. IsTable file.now src.now (seen_of self.now) out.items) }
     {
         let marks = marks_of(alloc, src)?;
-        coverage_table(alloc, file.as_bytes(), &self.calls, &self.steps, &marks)
+        coverage_table(
+            alloc,
+            file.as_bytes(),
+            &self.sightings.calls,
+            &self.sightings.steps,
+            &marks,
+        )
     }
 
     /// The tracefile of lcov of what is seen, in this text of the file of this name. `AllocError` if memory runs out.
@@ -178,9 +212,9 @@ impl RunsSeen {
         ensures { IfOk result (λ out. IsTracefile file.now src.now (seen_of self.now) out.items) }
     {
         let lines = text_lines(alloc, src)?;
-        let counts = counts_in(alloc, &lines, &self.made)?;
+        let counts = counts_in(alloc, &lines, &self.sightings.made)?;
         let marks = marks_of(alloc, src)?;
-        let branches = branch_counts(alloc, &self.steps, &marks)?;
+        let branches = branch_counts(alloc, &self.sightings.steps, &marks)?;
         tracefile(alloc, file, &counts, &branches)
     }
 }
@@ -196,8 +230,10 @@ fn seen_of_run(
     requires few { length events.now ≤ 2 ^ 20 }
     ensures { IfOk result (λ s. IsSeen src.now image.now n (events.now ∷ []) (seen_of s)) }
 {
-    let seen = RunsSeen::new(alloc, src)?;
-    seen.with_run(alloc, image, n, events)
+    let places = CallPlaces::new(alloc, src)?;
+    let none = Sightings::none(alloc);
+    let seen = none.with_run(alloc, image, n, &places, events)?;
+    Ok(RunsSeen::new(places, seen))
 }
 
 /// The table of what a run of an image comes to in this text of its bodies. `AllocError` if memory runs out.

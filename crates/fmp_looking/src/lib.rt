@@ -44,6 +44,7 @@ mod timeline;
 mod timing;
 mod tracing;
 mod trying;
+mod trying_beside;
 mod viewing;
 mod walking;
 mod wanted;

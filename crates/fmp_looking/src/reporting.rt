@@ -9,7 +9,8 @@ use crate::exit::ViewExit;
 use crate::expecting::{Expectations, expected_of};
 use crate::looking::RunLook;
 use crate::open_image::OpenImage;
-use crate::trying::failed_trial_of;
+use crate::trying::{Trials, failed_trial_of};
+use crate::trying_beside::failed_trial_beside;
 use crate::wanted::Testing;
 use fmp_base::Event;
 use fmp_expect::Expected;
@@ -19,6 +20,7 @@ use fmp_monitors::Sentence;
 use fmp_trace::print_steps;
 use fmp_trials::{FailedTrial, InterruptRate, RunPlan};
 use std::alloc::{AllocError, Global};
+use std::thread::Threads;
 
 /// A random run that fails an expectation, and what is printed of it.
 #[derive(Drop)]
@@ -94,10 +96,28 @@ pub fn plan_of<'a>(rates: &'a [InterruptRate], testing: &Testing<'_>) -> RunPlan
     }
 }
 
+/// The first of the random runs of an image that fails what is expected, made shorter, by this many threads.
+fn found_by<R: Threads + Sync>(
+    alloc: Global,
+    rt: &R,
+    jobs: u32,
+    trials: &Trials<'_>,
+    seeds: u32,
+) -> Result<Option<FailedTrial>, AllocError>
+    ensures { IfOk result (λ found. IfSome found (IsFound code_meaning
+        (subject_of trials.now.opened.image.now trials.now.opened.bound trials.now.expected.now))) }
+{
+    if jobs <= 1 {
+        return failed_trial_of(alloc, trials, seeds);
+    }
+    failed_trial_beside(alloc, rt, jobs, trials, seeds)
+}
+
 /// The first of the random runs that are asked for that fails one of these expectations, in which interrupts come so
 /// often.
-fn first_failed(
+fn first_failed<R: Threads + Sync>(
     alloc: Global,
+    rt: &R,
     opened: &OpenImage<'_>,
     expected: &[Expected],
     rates: &[InterruptRate],
@@ -106,15 +126,20 @@ fn first_failed(
     ensures { IfOk result (λ found. IfSome found
         (IsFound code_meaning (subject_of opened.now.image.now opened.now.bound expected.now))) }
 {
-    let plan = plan_of(rates, testing);
-    failed_trial_of(alloc, opened, expected, plan, testing.seeds).map_err(|error| memory(error))
+    let trials = Trials {
+        opened: *opened,
+        expected,
+        plan: plan_of(rates, testing),
+    };
+    found_by(alloc, rt, testing.jobs, &trials, testing.seeds).map_err(|error| memory(error))
 }
 
 /// Makes the random runs that are asked for, in which interrupts come so often: the first that fails one of the
 /// expectations of a text. Where none does, nothing is said of other runs. The reasons to make none are a fault of the
 /// text, a line of it that begins with `end`, and that memory runs out.
-pub fn tested(
+pub fn tested<R: Threads + Sync>(
     alloc: Global,
+    rt: &R,
     image: &Image,
     expectations: &Expectations<'_>,
     rates: &[InterruptRate],
@@ -126,7 +151,7 @@ pub fn tested(
     let expected = expected_of(alloc, image.system(), expectations.text)?;
     refuse_ends(alloc, &expected)?;
     let opened = OpenImage::new(image, testing.bound);
-    let found = first_failed(alloc, &opened, &expected, rates, testing)?;
+    let found = first_failed(alloc, rt, &opened, &expected, rates, testing)?;
     match found {
         Some(trial) => {
             let test = failed_test(alloc, &opened, expectations, trial)?;

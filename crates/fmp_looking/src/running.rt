@@ -12,6 +12,7 @@ use fmp_files::{Failure, Outside, end, print, read_file, refuse_mistake, write_f
 use fmp_image_bytes::Image;
 use fmp_trials::{FailedTrial, InterruptRate};
 use std::alloc::{AllocError, Global};
+use std::thread::Threads;
 
 /// The status where a run fails an expectation.
 const FAILS: u8 = 4;
@@ -198,9 +199,10 @@ fn tell_found<O: Outside>(
 }
 
 /// Writes what the calls and branches of random runs come to, and their report, and prints what came of them.
-fn tell_all<O: Outside>(
+fn tell_all<O: Outside, R: Threads + Sync>(
     alloc: Global,
     outside: &mut O,
+    rt: &R,
     image: &Image,
     name: &str,
     rates: &[InterruptRate],
@@ -208,16 +210,17 @@ fn tell_all<O: Outside>(
     found: Option<&FailedTest>,
 ) -> u8 {
     let runs = runs_made(testing, found);
-    match write_coverage(alloc, outside, image, name, rates, testing, runs) {
+    match write_coverage(alloc, outside, rt, image, name, rates, testing, runs) {
         0 => tell_found(alloc, outside, image, name, testing, found),
         status => status,
     }
 }
 
 /// Makes random runs of an image, in which interrupts come so often, and judges them by the text of a file.
-fn test_by<O: Outside>(
+fn test_by<O: Outside, R: Threads + Sync>(
     alloc: Global,
     outside: &O,
+    rt: &R,
     image: &Image,
     name: &str,
     rates: &[InterruptRate],
@@ -229,13 +232,14 @@ fn test_by<O: Outside>(
         text: &text,
         strict: false,
     };
-    tested(alloc, image, &expectations, rates, testing)
+    tested(alloc, rt, image, &expectations, rates, testing)
 }
 
 /// Makes random runs of an image, in which interrupts come so often, and gives the status.
-fn test_at<O: Outside>(
+fn test_at<O: Outside, R: Threads + Sync>(
     alloc: Global,
     outside: &mut O,
+    rt: &R,
     image: &Image,
     rates: &[InterruptRate],
     testing: &Testing<'_>,
@@ -246,22 +250,32 @@ fn test_at<O: Outside>(
     if let Some(mistake) = over_input(outside, name, testing) {
         return refuse_mistake(outside, test_mistake(alloc, mistake));
     }
-    match test_by(alloc, outside, image, name, rates, testing) {
-        Ok(found) => tell_all(alloc, outside, image, name, rates, testing, found.as_ref()),
+    match test_by(alloc, outside, rt, image, name, rates, testing) {
+        Ok(found) => tell_all(
+            alloc,
+            outside,
+            rt,
+            image,
+            name,
+            rates,
+            testing,
+            found.as_ref(),
+        ),
         Err(exit) => end(outside, &exit),
     }
 }
 
 /// Makes random runs of an image: it prints the steps of the first that fails an expectation, made shorter, with status
-/// 4. If none fails, it prints nothing, with status 0.
-pub fn test_image<O: Outside>(
+/// 4. If none fails, it prints nothing, with status 0. Its threads are those of this runtime.
+pub fn test_image<O: Outside, R: Threads + Sync>(
     alloc: Global,
     outside: &mut O,
+    rt: &R,
     image: &Image,
     testing: &Testing<'_>,
 ) -> u8 {
     match rates_of(alloc, image.system(), testing.rates) {
-        Ok(Some(rates)) => test_at(alloc, outside, image, &rates, testing),
+        Ok(Some(rates)) => test_at(alloc, outside, rt, image, &rates, testing),
         Ok(None) => refuse_mistake(outside, test_mistake(alloc, TestMistake::Rate)),
         Err(error) => end(outside, &Failure::Memory(error)),
     }

@@ -8,12 +8,14 @@ use crate::expecting::expected_of;
 use crate::open_image::OpenImage;
 use crate::refused::NamedText;
 use crate::reporting::plan_of;
-use crate::trying::seen_of_trials;
+use crate::trying::Trials;
+use crate::trying_beside::seen_of_trials;
 use crate::wanted::{CoverageFiles, Testing};
 use fmp_files::{Outside, end, read_file, write_file};
 use fmp_image_bytes::Image;
 use fmp_trials::InterruptRate;
 use std::alloc::{AllocError, Global};
+use std::thread::Threads;
 
 /// What runs come to.
 #[derive(Drop)]
@@ -23,8 +25,9 @@ struct Covered {
 }
 
 /// What is seen of the first random runs of an image, this many, that are judged by this text of expectations.
-fn seen_by(
+fn seen_by<R: Threads + Sync>(
     alloc: Global,
+    rt: &R,
     image: &Image,
     src: &[u8],
     expectations: &[u8],
@@ -35,9 +38,12 @@ fn seen_by(
     ensures { IfOk result (λ seen. AreTrialsSeen src.now image.now testing.now.bound runs (seen_of seen)) }
 {
     let expected = expected_of(alloc, image.system(), expectations)?;
-    let opened = OpenImage::new(image, testing.bound);
-    let plan = plan_of(rates, testing);
-    seen_of_trials(alloc, &opened, src, &expected, plan, runs).map_err(|error| memory(error))
+    let trials = Trials {
+        opened: OpenImage::new(image, testing.bound),
+        expected: &expected,
+        plan: plan_of(rates, testing),
+    };
+    seen_of_trials(alloc, rt, testing.jobs, &trials, src, runs).map_err(|error| memory(error))
 }
 
 /// What runs come to of which this is seen, in this text.
@@ -54,9 +60,10 @@ fn covered_of(alloc: Global, seen: &RunsSeen, source: NamedText<'_>) -> Result<C
 }
 
 /// What the first random runs of an image come to, this many, by the texts of files.
-fn covered_by<O: Outside>(
+fn covered_by<O: Outside, R: Threads + Sync>(
     alloc: Global,
     outside: &O,
+    rt: &R,
     image: &Image,
     name: &str,
     rates: &[InterruptRate],
@@ -65,7 +72,7 @@ fn covered_by<O: Outside>(
 ) -> Result<Covered, ViewExit> {
     let expectations = read_file(alloc, outside, name, None)?;
     let src = read_file(alloc, outside, testing.src, None)?;
-    let seen = seen_by(alloc, image, &src, &expectations, rates, testing, runs)?;
+    let seen = seen_by(alloc, rt, image, &src, &expectations, rates, testing, runs)?;
     let source = NamedText {
         name: testing.src,
         text: &src,
@@ -100,9 +107,10 @@ fn write_covered<O: Outside>(
 /// Writes what the calls and branches of the first random runs of an image come to, this many, where that is asked for,
 /// and gives the status. The runs are made by the text of expectations in the file of this name, up to the first event
 /// that breaks a line of it.
-pub fn write_coverage<O: Outside>(
+pub fn write_coverage<O: Outside, R: Threads + Sync>(
     alloc: Global,
     outside: &mut O,
+    rt: &R,
     image: &Image,
     name: &str,
     rates: &[InterruptRate],
@@ -113,7 +121,7 @@ pub fn write_coverage<O: Outside>(
     if files.lcov.is_none() && files.coverage.is_none() {
         return 0;
     }
-    match covered_by(alloc, outside, image, name, rates, testing, runs) {
+    match covered_by(alloc, outside, rt, image, name, rates, testing, runs) {
         Ok(covered) => write_covered(alloc, outside, &covered, &files),
         Err(exit) => end(outside, &exit),
     }

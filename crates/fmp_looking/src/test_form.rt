@@ -15,6 +15,10 @@ const SEEDS: &str = "How many runs are made, 1 to 2^32 - 1: each goes by its num
 /// How long a run is.
 const EVENTS: &str = "How many events a run has at most, 1 to 2^20";
 
+/// How many threads make runs.
+const JOBS: &str =
+    "How many threads make runs, 1 to 64; what is found and printed is the same for each number";
+
 /// How often the clock advances.
 const TICKS: &str =
     "The clock advances once in N events on average, and where all are idle; at 0 only there";
@@ -63,6 +67,11 @@ pub static TEST: CommandForm = CommandForm {
         ),
         Argument("int", ArgumentKind::Again("I:N"), INT),
         BOUNDED,
+        Argument(
+            "jobs",
+            ArgumentKind::Option("N", OptionValue::Default(1, 64, "1")),
+            JOBS,
+        ),
         JSON,
         JUNIT,
         Argument(

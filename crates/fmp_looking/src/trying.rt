@@ -1,84 +1,128 @@
 //! Random runs of an image.
-ghost use Rattle.std.specs.Prelude.{◌≡◌, IfOk, IfSome};
+ghost use Rattle.std.specs.Prelude.{◌≡◌, ◌-◌, IfOk, IfSome};
 ghost use Rattle.fmp_instructions.specs.Machine.{code_meaning};
 ghost use Rattle.fmp_trials.specs.Found.{IsFound};
-ghost use Rattle.fmp_looking.specs.Covered.{AreTrialsSeen, seen_of};
+ghost use Rattle.fmp_trials.specs.Shortening.{IsFailing};
+ghost use Rattle.fmp_looking.specs.Covered.{AreRunsSeen, seen_at};
 ghost use Rattle.fmp_looking.specs.Tested.{subject_of};
 
-use crate::covering::RunsSeen;
+use crate::covering::Sightings;
 use crate::open_image::OpenImage;
 use crate::opened::Opened;
 use fmp_code::Vm;
 use fmp_expect::Expected;
-use fmp_trials::{Bench, FailedTrial, RunPlan, first_failed_trial, random_steps};
+use fmp_frames::CallPlaces;
+use fmp_trials::{
+    Bench, FailedTrial, FailingSeed, RunPlan, Seeds, first_failed_trial, first_failing,
+    random_steps, shortened,
+};
 use std::alloc::{AllocError, Global};
 
-/// Two kernels of an image after setup, on which runs are made that are to meet these expectations.
-fn bench_of<'a>(
-    alloc: Global,
-    opened: &OpenImage<'a>,
-    expected: &'a [Expected],
-) -> Result<Bench<'a, Vm<'a>>, AllocError>
-    ensures { IfOk result (λ bench.
-        bench ≡ subject_of opened.now.image.now opened.now.bound expected.now) }
-{
-    let start = opened.kernel(alloc)?;
-    let kernel = opened.kernel(alloc)?;
-    Ok(Bench::new(start, kernel, expected))
+/// Random runs of an image, and what is expected of them.
+#[derive(Clone, Copy)]
+pub struct Trials<'a> {
+    pub opened: OpenImage<'a>,
+    pub expected: &'a [Expected],
+    pub plan: RunPlan<'a>,
 }
 
-/// The first of the random runs of an image that fails one of these expectations, made shorter. Where there is none,
-/// nothing is said of other runs.
+/// Two kernels of an image after setup, on which its runs are made.
+fn bench_of<'a>(alloc: Global, trials: &Trials<'a>) -> Result<Bench<'a, Vm<'a>>, AllocError>
+    ensures { IfOk result (λ bench. bench ≡ subject_of trials.now.opened.image.now trials.now.opened.bound
+        trials.now.expected.now) }
+{
+    let start = trials.opened.kernel(alloc)?;
+    let kernel = trials.opened.kernel(alloc)?;
+    Ok(Bench::new(start, kernel, trials.expected))
+}
+
+/// The first of the random runs of an image that fails what is expected, made shorter. Where there is none, nothing is
+/// said of other runs. `AllocError` if memory runs out.
 pub fn failed_trial_of(
     alloc: Global,
-    opened: &OpenImage<'_>,
-    expected: &[Expected],
-    plan: RunPlan<'_>,
+    trials: &Trials<'_>,
     seeds: u32,
 ) -> Result<Option<FailedTrial>, AllocError>
-    ensures { IfOk result (λ found. IfSome found
-        (IsFound code_meaning (subject_of opened.now.image.now opened.now.bound expected.now))) }
+    ensures { IfOk result (λ found. IfSome found (IsFound code_meaning
+        (subject_of trials.now.opened.image.now trials.now.opened.bound trials.now.expected.now))) }
 {
-    let mut bench = bench_of(alloc, opened, expected)?;
-    let found = first_failed_trial(alloc, &mut bench, plan, u64::from(seeds));
+    let mut bench = bench_of(alloc, trials)?;
+    let found = first_failed_trial(alloc, &mut bench, trials.plan, u64::from(seeds));
     drop(bench);
     found
 }
 
-/// What is seen of the random runs of the first seeds, this many, that are made on the kernels of an image with bodies
-/// of this text.
+/// The first of these seeds whose random run of an image fails what is expected, and that run. Where there is none,
+/// nothing is said of other runs. `AllocError` if memory runs out.
+pub fn failing_seed_of(
+    alloc: Global,
+    trials: &Trials<'_>,
+    seeds: Seeds,
+) -> Result<Option<FailingSeed>, AllocError>
+    ensures { IfOk result (λ found. IfSome found (λ f. IsFailing code_meaning
+        (subject_of trials.now.opened.image.now trials.now.opened.bound trials.now.expected.now) f.run)) }
+{
+    let mut bench = bench_of(alloc, trials)?;
+    let found = first_failing(alloc, &mut bench, trials.plan, seeds);
+    drop(bench);
+    found
+}
+
+/// A random run of an image that fails what is expected, made shorter. `AllocError` if memory runs out.
+pub fn shortened_trial_of(
+    alloc: Global,
+    trials: &Trials<'_>,
+    found: FailingSeed,
+) -> Result<FailedTrial, AllocError>
+    requires { IsFailing code_meaning
+        (subject_of trials.now.opened.image.now trials.now.opened.bound trials.now.expected.now) found.run }
+    ensures { IfOk result (IsFound code_meaning
+        (subject_of trials.now.opened.image.now trials.now.opened.bound trials.now.expected.now)) }
+{
+    let mut bench = bench_of(alloc, trials)?;
+    let trial = shortened(alloc, &mut bench, found);
+    drop(bench);
+    trial
+}
+
+/// What is seen in the random runs of these seeds, on the kernels of an image whose calls stand at these places.
 fn seen_on<'a>(
     alloc: Global,
     bench: &mut Bench<'a, Vm<'a>>,
-    opened: &OpenImage<'_>,
-    src: &[u8],
-    plan: RunPlan<'_>,
-    seeds: u64,
-) -> Result<RunsSeen, AllocError>
-    ensures { IfOk result (λ seen. AreTrialsSeen src.now opened.now.image.now opened.now.bound seeds (seen_of seen)) }
+    trials: &Trials<'_>,
+    places: &CallPlaces,
+    seeds: Seeds,
+) -> Result<Sightings, AllocError>
+    ensures { IfOk result (λ seen. AreRunsSeen places.now trials.now.opened.image.now trials.now.opened.bound
+        (seeds.last - seeds.before) (seen_at places.now seen)) }
 {
-    let mut seen = RunsSeen::new(alloc, src)?;
-    for before in 0..seeds {
-        let steps = random_steps(alloc, bench, plan, before + 1)?;
-        seen = seen.with_run(alloc, opened.image, opened.bound, &steps)?;
+    let mut seen = Sightings::none(alloc);
+    for made in 0..seeds.count() {
+        let steps = random_steps(alloc, bench, trials.plan, seeds.before + made + 1)?;
+        seen = seen.with_run(
+            alloc,
+            trials.opened.image,
+            trials.opened.bound,
+            places,
+            &steps,
+        )?;
     }
     Ok(seen)
 }
 
-/// What is seen of the random runs of the first seeds, this many, of an image with bodies of this text, which are to
-/// meet these expectations. `AllocError` if memory runs out.
-pub fn seen_of_trials(
+/// What is seen in the random runs of these seeds of an image whose calls stand at these places. `AllocError` if memory
+/// runs out.
+pub fn sightings_of(
     alloc: Global,
-    opened: &OpenImage<'_>,
-    src: &[u8],
-    expected: &[Expected],
-    plan: RunPlan<'_>,
-    seeds: u64,
-) -> Result<RunsSeen, AllocError>
-    ensures { IfOk result (λ seen. AreTrialsSeen src.now opened.now.image.now opened.now.bound seeds (seen_of seen)) }
+    trials: &Trials<'_>,
+    places: &CallPlaces,
+    seeds: Seeds,
+) -> Result<Sightings, AllocError>
+    ensures { IfOk result (λ seen. AreRunsSeen places.now trials.now.opened.image.now trials.now.opened.bound
+        (seeds.last - seeds.before) (seen_at places.now seen)) }
 {
-    let mut bench = bench_of(alloc, opened, expected)?;
-    let seen = seen_on(alloc, &mut bench, opened, src, plan, seeds);
+    let mut bench = bench_of(alloc, trials)?;
+    let seen = seen_on(alloc, &mut bench, trials, places, seeds);
     drop(bench);
     seen
 }

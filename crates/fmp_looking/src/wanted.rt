@@ -15,6 +15,8 @@ pub struct Testing<'a> {
     pub events: u32,
     /// How many runs are made.
     pub seeds: u32,
+    /// How many threads make them.
+    pub jobs: u32,
     /// The bound of a stretch.
     pub bound: u64,
     /// The file of a report in the XML of JUnit, if one is written.

@@ -3,7 +3,7 @@ use Rattle.std.specs.Prelude.{ℕ, ◌+◌, ◌-◌, ◌*◌, List, [], ◌∷�
 use Rattle.std.specs.Int.{div_ceil}
 use Rattle.fmp_trials.specs.declared.seeds.Seeds.{Seeds}
 
--- behind which seed the part of a number begins, from 0 on, where seeds are cut into so many parts
+-- after which seed the part of a number begins, from 0 on, where seeds are cut into this many parts
 abbrev pub edge : Seeds → (parts number : ℕ) → ℕ
 edge s parts number = min (s.before + number * div_ceil (s.last - s.before) parts) s.last
 

@@ -306,7 +306,7 @@ fn run_server<O: Outside, R: Input>(alloc: Global, outside: &mut O, rt: &R) -> u
 }
 
 /// Looks at a system or at a run, and gives the status.
-fn look_at<O: Outside, R: Input + Files>(
+fn look_at<O: Outside, R: Input + Files + Threads + Sync>(
     alloc: Global,
     outside: &mut O,
     rt: &R,
@@ -334,7 +334,7 @@ where
         } => run_drive(alloc, outside, image, events, seed, bound),
         Asked::Why(run, at, form) => print_why(alloc, outside, run, at, form),
         Asked::Expect(run, expecting) => run_expect(alloc, outside, run, expecting),
-        Asked::Test(testing) => run_test(alloc, outside, &testing),
+        Asked::Test(testing) => run_test(alloc, outside, rt, &testing),
         Asked::Diff(runs) => print_diff(alloc, outside, runs),
         Asked::Stats(run, src, form) => print_stats(alloc, outside, run, src, form),
         Asked::Waves(run, out, format) => write_waves(alloc, outside, run, out, format),

@@ -6,11 +6,13 @@ use fmp_looking::{Testing, test_image};
 use fmp_searching::{print_fault, read_both};
 use fmp_warnings::{FileNames, Form};
 use std::alloc::{AllocError, Global};
+use std::thread::Threads;
 
 /// Makes random runs of the system of two texts, or prints their first fault, with status 1.
-fn test_texts<O: Outside>(
+fn test_texts<O: Outside, R: Threads + Sync>(
     alloc: Global,
     outside: &mut O,
+    rt: &R,
     (cfg, src): (&[u8], &[u8]),
     testing: &Testing<'_>,
 ) -> u8 {
@@ -21,7 +23,7 @@ fn test_texts<O: Outside>(
     };
     match build(alloc, cfg, src) {
         Ok(image) => {
-            let status = test_image(alloc, outside, &image, testing);
+            let status = test_image(alloc, outside, rt, &image, testing);
             drop(image);
             status
         }
@@ -31,10 +33,16 @@ fn test_texts<O: Outside>(
 }
 
 /// Makes random runs of the system of the texts of two files: it prints the steps of the first that fails an
-/// expectation, made shorter, with status 4. If none fails, it prints nothing, with status 0.
-pub fn run_test<O: Outside>(alloc: Global, outside: &mut O, testing: &Testing<'_>) -> u8 {
+/// expectation, made shorter, with status 4. If none fails, it prints nothing, with status 0. Its threads are those of
+/// this runtime.
+pub fn run_test<O: Outside, R: Threads + Sync>(
+    alloc: Global,
+    outside: &mut O,
+    rt: &R,
+    testing: &Testing<'_>,
+) -> u8 {
     match read_both(alloc, outside, testing.cfg, testing.src) {
-        Ok((cfg, src)) => test_texts(alloc, outside, (&cfg, &src), testing),
+        Ok((cfg, src)) => test_texts(alloc, outside, rt, (&cfg, &src), testing),
         Err(failure) => end(outside, &failure),
     }
 }

@@ -1,9 +1,15 @@
-use Rattle.std.proofs.lemmas.Result.{IfOk-weaker}
-use Rattle.fmp_looking.specs.Covered.{seen_of}
+use Rattle.std.proofs.Common.{◌∙◌, ap, refl}
+use Rattle.fmp_looking.specs.Covered.{Seen, none_seen, with_run}
 use Rattle.fmp_looking.proofs.covering.seen_of_run.Goals as goal
 
 pub returns : goal.returns
 returns c =
-    IfOk-weaker c.with_run.result _ _
-    (λ s h. record { first = seen_of c.in_ok-seen.seen; none = c.in_ok-seen.ensures; seen = h })
-    c.with_run.ensures
+    let places = c.in_ok-places.places in
+    record {
+      first = none_seen places;
+      none = (places, c.in_ok-places.ensures, refl);
+      seen =
+          c.new-2.ensures
+          ∙ c.in_ok-seen.ensures
+          ∙ ap (λ (x : Seen). with_run c.args.image.now c.args.n x c.args.events.now) (c.none-none.ensures places);
+    }

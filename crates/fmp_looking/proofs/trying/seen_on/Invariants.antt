@@ -1,5 +1,6 @@
-use Rattle.fmp_looking.specs.Covered.{AreTrialsSeen, seen_of}
+use Rattle.fmp_looking.specs.Covered.{AreRunsSeen, seen_at}
 use Rattle.fmp_looking.proofs.trying.seen_on.Given as goal
 
-abbrev pub invariant-loop-before : goal.invariant-loop-before
-invariant-loop-before l = AreTrialsSeen l.src l.opened.image.now l.opened.bound l.before (seen_of l.seen)
+abbrev pub invariant-loop-made : goal.invariant-loop-made
+invariant-loop-made l =
+    AreRunsSeen l.places l.trials.opened.image.now l.trials.opened.bound l.made (seen_at l.places l.seen)

@@ -1,0 +1,31 @@
+use Rattle.std.proofs.Common.{◌≡◌, ◌∙◌, ◌-◌, ◌<◌, ◌≤◌, ℕ, ap, arith, sym}
+use Rattle.fmp_trials.specs.Parts.{edge}
+use Rattle.fmp_looking.specs.Covered.{seen_at}
+use Rattle.fmp_looking.proofs.SeenLemmas.{after_parts, before_parts, with_part}
+use Rattle.fmp_looking.proofs.trying_beside.all_seen.Goals as goal
+
+pub loop-k-init : goal.loop-k-init
+loop-k-init c =
+    λ places i n seeds jobs some parts. before_parts i n places seeds jobs (seen_at places c.none-seen.result)
+    (c.none-seen.ensures places)
+
+within : (k m n : ℕ) → k < m → m ≡ n → k < n
+within k m n before is = rw (sym is) before
+
+pub loop-k-preserved : goal.loop-k-preserved
+loop-k-preserved c =
+    λ places i n seeds jobs some parts. with_part i n places seeds jobs c.loop-k.k c.loop-k.seen c.in_ok-seen.seen
+    c.index-parts-k.result (c.loop-k.invariant places i n seeds jobs some parts)
+    (rw c.index-parts-k.is (parts.1 c.loop-k.k c.index-parts-k.result (within _ _ _ c.loop-k-test.true parts.0)))
+    c.in_ok-seen.ensures
+
+all : (k end jobs : ℕ) → end ≤ k → k ≤ end → end ≡ jobs → k ≡ jobs
+all k end jobs after before is = omega (arith, after, before, is)
+
+pub returns : goal.returns
+returns c =
+    λ places i n seeds jobs some parts.
+    let seen = c.loop-k.invariant places i n seeds jobs some parts in
+    let is : c.loop-k.k ≡ jobs = all _ _ _ c.loop-k-test.false c.loop-k.auto.k-end parts.0 in
+    after_parts i n places seeds jobs (seen_at places c.loop-k.seen) some
+    (seen.0, seen.1 ∙ ap (λ (k : ℕ). edge seeds jobs k - seeds.before) is, seen.2)

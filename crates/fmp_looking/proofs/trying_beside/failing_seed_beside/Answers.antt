@@ -1,0 +1,13 @@
+use Rattle.fmp_instructions.specs.Machine.{code_meaning}
+use Rattle.fmp_trials.specs.Shortening.{IsFailing}
+use Rattle.fmp_trials.proofs.Parts.{first_meets}
+use Rattle.fmp_looking.specs.Tested.{subject_of}
+use Rattle.fmp_looking.proofs.trying_beside.failing_seed_beside.Goals as goal
+
+pub returns : goal.returns
+returns g c =
+    let trials = c.args.trials.now in
+    rw c.first_of.ensures
+    (first_meets
+    (λ f. IsFailing code_meaning (subject_of trials.opened.image.now trials.opened.bound trials.expected.now) f.run)
+    c.in_ok-parts.parts.items c.in_ok-parts.ensures)

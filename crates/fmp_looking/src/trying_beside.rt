@@ -1,0 +1,247 @@
+//! Random runs of an image that several threads make. Each makes those of a part of the seeds, and what comes of the
+//! parts is taken in order.
+ghost use Rattle.std.specs.Prelude.{ℕ, ◌+◌, ◌-◌, ◌<◌, All, IfOk, IfSome, List};
+ghost use Rattle.fmp_frames.specs.declared.call_places.CallPlace.{CallPlace};
+ghost use Rattle.fmp_image_bytes.specs.Images.{ImageTables};
+ghost use Rattle.fmp_instructions.specs.Machine.{code_meaning};
+ghost use Rattle.fmp_trials.specs.declared.seeds.Seeds.{Seeds};
+ghost use Rattle.fmp_trials.specs.Found.{IsFound};
+ghost use Rattle.fmp_trials.specs.Parts.{edge};
+ghost use Rattle.fmp_trials.specs.Shortening.{IsFailing};
+ghost use Rattle.fmp_looking.specs.Covered.{ArePartsSeen, AreRunsSeen, AreTrialsSeen, IsWithPart, seen_at, seen_of};
+ghost use Rattle.fmp_looking.specs.Tested.{subject_of};
+
+use crate::covering::{RunsSeen, Sightings};
+use crate::trying::{Trials, failing_seed_of, shortened_trial_of, sightings_of};
+use fmp_frames::CallPlaces;
+use fmp_trials::{FailedTrial, FailingSeed, Seeds, first_of};
+use std::alloc::{AllocError, Global};
+use std::thread;
+use std::thread::Threads;
+
+/// How many runs a thread makes in a round at most.
+const ROUND_MOST: u64 = 64;
+
+/// What comes of each part of these seeds, where each of this many threads looks at one for the first whose random run
+/// of an image fails what is expected.
+fn failing_parts<R: Threads + Sync>(
+    alloc: Global,
+    rt: &R,
+    jobs: u32,
+    trials: &Trials<'_>,
+    seeds: Seeds,
+) -> Result<Vec<Result<Option<FailingSeed>, AllocError>>, AllocError>
+    requires { 0 < jobs }
+    ensures { IfOk result (λ parts. All (λ part. IfOk part (λ found. IfSome found (λ f. IsFailing code_meaning
+        (subject_of trials.now.opened.image.now trials.now.opened.bound trials.now.expected.now) f.run))) parts.items) }
+{
+    let look = |k: usize| -> Result<Option<FailingSeed>, AllocError>
+        requires { k < jobs }
+        ensures { IfOk result (λ found. IfSome found (λ f. IsFailing code_meaning (subject_of
+            trials.entry.now.opened.image.now trials.entry.now.opened.bound trials.entry.now.expected.now) f.run)) }
+    { failing_seed_of(alloc, trials, seeds.part(u64::from(jobs), k as u64)) };
+    thread::map_indices(rt, alloc, jobs as usize, &look)
+}
+
+/// The first of these seeds whose random run of an image fails what is expected, and that run. Each of this many
+/// threads looks at a part of the seeds.
+fn failing_seed_beside<R: Threads + Sync>(
+    alloc: Global,
+    rt: &R,
+    jobs: u32,
+    trials: &Trials<'_>,
+    seeds: Seeds,
+) -> Result<Option<FailingSeed>, AllocError>
+    requires { 0 < jobs }
+    ensures { IfOk result (λ found. IfSome found (λ f. IsFailing code_meaning
+        (subject_of trials.now.opened.image.now trials.now.opened.bound trials.now.expected.now) f.run)) }
+{
+    let parts = failing_parts(alloc, rt, jobs, trials, seeds)?;
+    first_of(parts)
+}
+
+/// Rounds of random runs. A thread makes one run in the first of them, and more and more in later ones: so few are made
+/// beyond a seed that fails.
+#[derive(Clone, Copy)]
+struct Round {
+    jobs: u32,
+    /// How many runs a thread makes.
+    each: u64,
+    /// The seed before those of the round.
+    before: u64,
+}
+
+impl Round {
+    /// The seeds of the round, of which this is the last of all.
+    fn seeds(self, last: u64) -> Seeds {
+        let count = self.each.saturating_mul(u64::from(self.jobs));
+        Seeds {
+            before: self.before,
+            last: self.before.saturating_add(count).min(last),
+        }
+    }
+
+    /// The round after the one that ends with this seed.
+    fn after(self, last: u64) -> Round {
+        Round {
+            each: self.each.saturating_mul(2).min(ROUND_MOST),
+            before: last,
+            ..self
+        }
+    }
+}
+
+/// The first of the seeds up to this one whose random run of an image fails what is expected, and that run, by this
+/// many threads.
+fn first_failing_beside<R: Threads + Sync>(
+    alloc: Global,
+    rt: &R,
+    jobs: u32,
+    trials: &Trials<'_>,
+    last: u64,
+) -> Result<Option<FailingSeed>, AllocError>
+    requires { 0 < jobs }
+    ensures { IfOk result (λ found. IfSome found (λ f. IsFailing code_meaning
+        (subject_of trials.now.opened.image.now trials.now.opened.bound trials.now.expected.now) f.run)) }
+{
+    let mut round = Round {
+        jobs,
+        each: 1,
+        before: 0,
+    };
+    for _round in 0..last {
+        let seeds = round.seeds(last);
+        if seeds.count() == 0 {
+            return Ok(None);
+        }
+        if let Some(found) = failing_seed_beside(alloc, rt, jobs, trials, seeds)? {
+            return Ok(Some(found));
+        }
+        round = round.after(seeds.last);
+    }
+    Ok(None)
+}
+
+/// The first of the random runs of an image that fails what is expected, made shorter, where this many threads make
+/// them. Where there is none, nothing is said of other runs. `AllocError` if memory runs out.
+pub fn failed_trial_beside<R: Threads + Sync>(
+    alloc: Global,
+    rt: &R,
+    jobs: u32,
+    trials: &Trials<'_>,
+    seeds: u32,
+) -> Result<Option<FailedTrial>, AllocError>
+    requires { 0 < jobs }
+    ensures { IfOk result (λ found. IfSome found (IsFound code_meaning
+        (subject_of trials.now.opened.image.now trials.now.opened.bound trials.now.expected.now))) }
+{
+    match first_failing_beside(alloc, rt, jobs, trials, u64::from(seeds))? {
+        Some(found) => Ok(Some(shortened_trial_of(alloc, trials, found)?)),
+        None => Ok(None),
+    }
+}
+
+/// What is seen in the random runs of each part of these seeds of an image, whose calls stand at these places. Each
+/// part is made by a thread.
+fn parts_seen<R: Threads + Sync>(
+    alloc: Global,
+    rt: &R,
+    jobs: u32,
+    trials: &Trials<'_>,
+    places: &CallPlaces,
+    seeds: Seeds,
+) -> Result<Vec<Result<Sightings, AllocError>>, AllocError>
+    requires { 0 < jobs }
+    ensures { IfOk result (λ parts. ArePartsSeen places.now trials.now.opened.image.now trials.now.opened.bound seeds
+        jobs parts.items) }
+{
+    let look = |k: usize| -> Result<Sightings, AllocError>
+        requires { k < jobs }
+        ensures { IfOk result (λ s. AreRunsSeen places.entry.now trials.entry.now.opened.image.now
+            trials.entry.now.opened.bound (edge seeds jobs (k + 1) - edge seeds jobs k)
+            (seen_at places.entry.now s)) }
+    { sightings_of(alloc, trials, places, seeds.part(u64::from(jobs), k as u64)) };
+    let parts = thread::map_indices(rt, alloc, jobs as usize, &look)?;
+    Ok(parts)
+}
+
+/// What was seen, and what is seen in the runs of a part after it.
+fn and_part(seen: Sightings, part: &Result<Sightings, AllocError>) -> Result<Sightings, AllocError>
+    ensures { IfOk result (IsWithPart seen part.now) }
+{
+    match part {
+        Ok(later) => seen.and(later),
+        Err(_) => Err(AllocError),
+    }
+}
+
+/// What is seen in the runs of parts, in order.
+fn all_seen(alloc: Global, parts: &[Result<Sightings, AllocError>]) -> Result<Sightings, AllocError>
+    ensures { IfOk result (λ s. (places : List (List CallPlace)) (i : ImageTables) (n : ℕ) (seeds : Seeds)
+        (jobs : ℕ) → 0 < jobs → ArePartsSeen places i n seeds jobs parts.now →
+        AreRunsSeen places i n (seeds.last - seeds.before) (seen_at places s)) }
+{
+    let mut seen = Sightings::none(alloc);
+    for k in 0..parts.len() {
+        seen = and_part(seen, &parts[k])?;
+    }
+    Ok(seen)
+}
+
+/// What is seen in the random runs of these seeds of an image, whose calls stand at these places, where this many
+/// threads make them.
+fn sightings_beside<R: Threads + Sync>(
+    alloc: Global,
+    rt: &R,
+    jobs: u32,
+    trials: &Trials<'_>,
+    places: &CallPlaces,
+    seeds: Seeds,
+) -> Result<Sightings, AllocError>
+    requires { 0 < jobs }
+    ensures { IfOk result (λ seen. AreRunsSeen places.now trials.now.opened.image.now trials.now.opened.bound
+        (seeds.last - seeds.before) (seen_at places.now seen)) }
+{
+    let parts = parts_seen(alloc, rt, jobs, trials, places, seeds)?;
+    all_seen(alloc, &parts)
+}
+
+/// The same, where one thread makes them if no more are asked for.
+fn sightings_by<R: Threads + Sync>(
+    alloc: Global,
+    rt: &R,
+    jobs: u32,
+    trials: &Trials<'_>,
+    places: &CallPlaces,
+    seeds: Seeds,
+) -> Result<Sightings, AllocError>
+    ensures { IfOk result (λ seen. AreRunsSeen places.now trials.now.opened.image.now trials.now.opened.bound
+        (seeds.last - seeds.before) (seen_at places.now seen)) }
+{
+    if jobs <= 1 {
+        return sightings_of(alloc, trials, places, seeds);
+    }
+    sightings_beside(alloc, rt, jobs, trials, places, seeds)
+}
+
+/// What is seen of the random runs of the first seeds, this many, of an image with bodies of this text, where this many
+/// threads make them. `AllocError` if memory runs out.
+pub fn seen_of_trials<R: Threads + Sync>(
+    alloc: Global,
+    rt: &R,
+    jobs: u32,
+    trials: &Trials<'_>,
+    src: &[u8],
+    seeds: u64,
+) -> Result<RunsSeen, AllocError>
+    ensures { IfOk result (λ seen. AreTrialsSeen src.now trials.now.opened.image.now trials.now.opened.bound seeds
+        (seen_of seen)) }
+{
+    let places = CallPlaces::new(alloc, src)?;
+    let all = Seeds {
+        before: 0,
+        last: seeds,
+    };
+    let seen = sightings_by(alloc, rt, jobs, trials, &places, all)?;
+    Ok(RunsSeen::new(places, seen))
+}
