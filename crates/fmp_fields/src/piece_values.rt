@@ -174,7 +174,7 @@ fn write_zeros(count: usize, values: &mut [u32], at: usize)
     ensures length { length values.new ≡ length values.old }
     ensures values { take (at + count) values.new ≡ take at values.old ++ map (λ _. 0) (range_with_len 0 count) }
 {
-    // So many has the body of a processor without handlers: they are written without a call.
+    // The body of a processor without handlers has two: they are written without a call.
     if count == 2 {
         write_array([0, 0], values, at);
         return;
