@@ -2,6 +2,7 @@
 #include "files.h"
 
 #include <stdlib.h>
+#include <sys/stat.h>
 
 static char *read_all(FILE *file, size_t *length)
 {
@@ -37,12 +38,38 @@ char *files_text(const char *path, size_t *length)
     return text;
 }
 
-bool files_close(FILE *file, const char *path)
+bool files_are_one(const char *path, const char *other)
 {
-    bool is_written = ferror(file) == 0;
-    is_written &= fclose(file) == 0;
+    struct stat one, two;
+    return stat(path, &one) == 0 && S_ISREG(one.st_mode) && stat(other, &two) == 0 && one.st_dev == two.st_dev
+        && one.st_ino == two.st_ino;
+}
+
+FILE *files_create(const char *path)
+{
+    FILE *file = fopen(path, "w");
+    if (file == NULL) {
+        fprintf(stderr, "file: %s\n", path);
+    }
+    return file;
+}
+
+static bool told(bool is_written, const char *path)
+{
     if (!is_written) {
         fprintf(stderr, "file: %s\n", path);
     }
     return is_written;
+}
+
+bool files_close(FILE *file, const char *path)
+{
+    bool is_written = ferror(file) == 0;
+    is_written &= fclose(file) == 0;
+    return told(is_written, path);
+}
+
+bool files_flush_output(void)
+{
+    return told(fflush(stdout) == 0 && ferror(stdout) == 0, "-");
 }

@@ -9,7 +9,16 @@
 /* The text of a file, which is to be freed. NULL if it cannot be read, after a message. */
 char *files_text(const char *path, size_t *length);
 
+/* Whether two paths name one regular file. */
+bool files_are_one(const char *path, const char *other);
+
+/* A new file to write to. NULL if there can be none, after a message. */
+FILE *files_create(const char *path);
+
 /* Closes a file that was written. False if it could not be written, after a message. */
 bool files_close(FILE *, const char *path);
+
+/* Writes what standard output holds back. False if it could not be written, after a message. */
+bool files_flush_output(void);
 
 #endif

@@ -65,35 +65,53 @@ static int perform(const char *text, size_t length, const struct wanted *it, con
     return why == FMP_ALL_DORMANT || why == FMP_TICKS_OVER || why == FMP_HALTED ? 0 : 3;
 }
 
+/* The same, and what it prints and records is written. */
+static int perform_to(const char *text, size_t length, const struct wanted *it, const struct fmp_program *program)
+{
+    FILE *recording = it->recording != NULL ? files_create(it->recording) : NULL;
+    if (it->recording != NULL && recording == NULL) {
+        return 3;
+    }
+    int status = perform(text, length, it, program, recording);
+    if (!files_flush_output()) {
+        status = 3;
+    }
+    if (recording != NULL && !files_close(recording, it->recording)) {
+        status = 3;
+    }
+    return status;
+}
+
 /* The same of files. */
-static int perform_files(const struct wanted *it, struct fmp_program program, FILE *recording)
+static int perform_files(const struct wanted *it, struct fmp_program program)
 {
     size_t length;
     char *image = it->image != NULL ? files_text(it->image, &program.image_length) : NULL;
     char *cfg = it->image == NULL || image != NULL ? files_text(it->cfg, &length) : NULL;
     program.image = image != NULL ? (const uint8_t *)image : program.image;
-    int status = cfg != NULL ? perform(cfg, length, it, &program, recording) : 3;
+    int status = cfg != NULL ? perform_to(cfg, length, it, &program) : 3;
     free(cfg);
     free(image);
     return status;
 }
 
+static bool writes_over_input(const struct wanted *it)
+{
+    return it->recording != NULL && (files_are_one(it->recording, it->cfg)
+                                     || (it->image != NULL && files_are_one(it->recording, it->image)));
+}
+
 int fmp_perform(int argc, char **argv, const struct fmp_program *program)
 {
+    const char *name = argc > 0 ? argv[0] : "perform";
     struct wanted it = { .form = { .has_times = false, .last = 0 } };
     if (!read_words(argc, argv, &it)) {
-        fprintf(stderr, "usage: %s [--image IMAGE] [--times] [--last EVENTS] CFG NANOSECONDS TICKS [RECORDING]\n",
-                argc > 0 ? argv[0] : "perform");
+        fprintf(stderr, "usage: %s [--image IMAGE] [--times] [--last EVENTS] CFG NANOSECONDS TICKS [RECORDING]\n", name);
         return 2;
     }
-    FILE *recording = it.recording != NULL ? fopen(it.recording, "w") : NULL;
-    if (it.recording != NULL && recording == NULL) {
-        fprintf(stderr, "file: %s\n", it.recording);
-        return 3;
+    if (writes_over_input(&it)) {
+        fprintf(stderr, "%s: the file RECORDING is one of those that are read\n", name);
+        return 2;
     }
-    int status = perform_files(&it, *program, recording);
-    if (recording != NULL && !files_close(recording, it.recording)) {
-        status = 3;
-    }
-    return status;
+    return perform_files(&it, *program);
 }

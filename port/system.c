@@ -378,6 +378,24 @@ static bool take_stacks(FILE *messages)
     return true;
 }
 
+static void complain_of_text(const fmp_refusal *why, FILE *messages)
+{
+    fprintf(messages, "cfg:%lu: B%lu", (unsigned long)why->line, (unsigned long)why->kind);
+    switch (why->code) {
+    case 0:
+        fputs("\n", messages);
+        break;
+    case E_RSATR:
+        fputs(" E_RSATR\n", messages);
+        break;
+    case E_PAR:
+        fputs(" E_PAR\n", messages);
+        break;
+    default:
+        fputs(" E_OBJ\n", messages);
+    }
+}
+
 static enum fmp_opened make(const char *text, size_t length, FILE *messages)
 {
     fmp_refusal why = { 0, 0, 0 };
@@ -385,8 +403,7 @@ static enum fmp_opened make(const char *text, size_t length, FILE *messages)
     case FMP_MADE:
         return FMP_OPENED;
     case FMP_REFUSED:
-        fprintf(messages, "cfg:%lu: B%lu", (unsigned long)why.line, (unsigned long)why.kind);
-        fprintf(messages, why.code != 0 ? " %ld\n" : "\n", (long)why.code);
+        complain_of_text(&why, messages);
         return FMP_CONFIGURATION_REFUSED;
     case FMP_HOLDS_ONE:
         fputs("fmp: another system is open\n", messages);
@@ -453,7 +470,7 @@ void fmp_close(void)
         forget(&handlers[at]);
     }
     fmp_free(&system_kernel);
-    system_steppable = 0;
+    system_steppable = system_processors = 0;
 }
 
 void fmp_print_states(FILE *out)

@@ -7,6 +7,8 @@
 #include <stdlib.h>
 #include <string.h>
 
+enum { INTERRUPTS = 32 };
+
 static struct coroutine outside;    /* of bodies */
 
 static void begin(struct flow *me)
@@ -50,50 +52,92 @@ uint32_t fmp_step_int(uint8_t number)
 
 /* Steps texts. */
 
-/* The number behind a word and one blank, 1 to 255, or 0. */
-static uint8_t number_behind(const char *line, size_t length, const char *word)
+struct step {
+    enum { RUN, TICK, INTERRUPT } kind;
+    int number;                     /* of a processor or of an interrupt */
+};
+
+/* What is wrong with a line: it has another form, or its number is out of range. */
+enum flaw { NO_FLAW, FORM, RANGE };
+
+/* The number that these digits spell, or a great one where it has more than three; -1 where they spell none. */
+static int number_in(const char *digits, size_t length)
 {
-    size_t at = strlen(word);
-    if (length <= at || length > at + 3 || memcmp(line, word, at) != 0 || line[at] == '0') {
-        return 0;
+    int number = 0;
+    if (length == 0 || (length > 1 && digits[0] == '0')) {
+        return -1;
     }
-    unsigned number = 0;
-    for (; at < length; at++) {
-        if (line[at] < '0' || line[at] > '9') {
-            return 0;
+    for (size_t at = 0; at < length; at++) {
+        if (digits[at] < '0' || digits[at] > '9') {
+            return -1;
         }
-        number = number * 10 + (unsigned)(line[at] - '0');
+        number = number > 999 ? number : number * 10 + (digits[at] - '0');
     }
-    return number <= UINT8_MAX ? (uint8_t)number : 0;
+    return number;
 }
 
-static bool step(const char *line, size_t length)
+/* Whether a line begins with a word. What stands after it is its number, 1 to `most`. */
+static bool is_numbered(const char *line, size_t length, const char *word, int most, struct step *step,
+                        enum flaw *flaw)
 {
-    uint8_t number;
-    if (length == 4 && memcmp(line, "tick", 4) == 0) {
-        fmp_step_tick();
-    } else if ((number = number_behind(line, length, "run ")) != 0) {
-        return fmp_step_run(number) != FMP_NOT_THE_TEXT;
-    } else if ((number = number_behind(line, length, "int ")) != 0) {
-        fmp_step_int(number);
-    } else {
+    size_t at = strlen(word);
+    if (length < at || memcmp(line, word, at) != 0) {
         return false;
     }
+    step->number = number_in(line + at, length - at);
+    *flaw = step->number < 0 ? FORM : step->number == 0 || step->number > most ? RANGE : NO_FLAW;
     return true;
 }
 
-unsigned long fmp_play(const char *steps, size_t length)
+static enum flaw read_step(const char *line, size_t length, struct step *step)
+{
+    enum flaw flaw = FORM;
+    if (is_numbered(line, length, "run ", (int)system_processors, step, &flaw)) {
+        step->kind = RUN;
+    } else if (is_numbered(line, length, "int ", INTERRUPTS, step, &flaw)) {
+        step->kind = INTERRUPT;
+    } else if (length == 4 && memcmp(line, "tick", 4) == 0) {
+        step->kind = TICK;
+        flaw = NO_FLAW;
+    }
+    return flaw;
+}
+
+/* Takes a step. Whether no body does what its text does not. */
+static bool take(const struct step *step)
+{
+    switch (step->kind) {
+    case RUN:
+        return fmp_step_run((uint8_t)step->number) != FMP_NOT_THE_TEXT;
+    case TICK:
+        fmp_step_tick();
+        return true;
+    default:
+        fmp_step_int((uint8_t)step->number);
+        return true;
+    }
+}
+
+static unsigned long play(const char *steps, size_t length, enum flaw *flaw)
 {
     const char *end = steps + length;
     for (unsigned long number = 1; steps < end; number++) {
         const char *newline = memchr(steps, '\n', (size_t)(end - steps));
         const char *line_end = newline != NULL ? newline : end;
-        if (!step(steps, (size_t)(line_end - steps))) {
+        struct step step;
+        *flaw = read_step(steps, (size_t)(line_end - steps), &step);
+        if (*flaw != NO_FLAW || !take(&step)) {
             return number;
         }
         steps = newline != NULL ? newline + 1 : end;
     }
     return 0;
+}
+
+unsigned long fmp_play(const char *steps, size_t length)
+{
+    enum flaw flaw;
+    return play(steps, length, &flaw);
 }
 
 /* The whole of it. */
@@ -103,55 +147,83 @@ struct files {
     const char *image, *cfg, *steps, *recording;        /* image and recording may be NULL */
 };
 
-/* The steps of a text over the system of another one. The exit status. */
-static int simulate(const char *cfg, size_t cfg_length, const char *steps, size_t length,
-                    const struct fmp_program *program, FILE *recording)
+/* What stands in the files. */
+struct texts {
+    char *image, *cfg, *steps;                          /* image may be NULL */
+    size_t image_length, cfg_length, steps_length;
+};
+
+/* The steps over the system of a configuration. The exit status. */
+static int simulate(const struct texts *texts, struct fmp_program program, FILE *recording)
 {
-    if (fmp_open(cfg, cfg_length, program, stdout, stderr) != FMP_OPENED) {
+    if (texts->image != NULL) {
+        program.image = (const uint8_t *)texts->image;
+        program.image_length = texts->image_length;
+    }
+    if (fmp_open(texts->cfg, texts->cfg_length, &program, stdout, stderr) != FMP_OPENED) {
         return 1;
     }
     fmp_record(recording);
-    unsigned long wrong = fmp_play(steps, length);
+    enum flaw flaw = NO_FLAW;
+    unsigned long wrong = play(texts->steps, texts->steps_length, &flaw);
     if (wrong == 0) {
         fmp_print_states(stdout);
-    } else if (!system_left_the_text) {
-        fprintf(stderr, "steps:%lu: S1\n", wrong);
+    } else if (flaw != NO_FLAW) {
+        fprintf(stderr, "steps:%lu: S%d\n", wrong, flaw == FORM ? 1 : 2);
     }
     fmp_close();
     return wrong != 0;
 }
 
-/* The same of files. */
-static int simulate_files(const struct files *files, struct fmp_program program, FILE *recording)
+/* The same, and what it prints and records is written. */
+static int simulate_to(const struct files *files, const struct texts *texts, const struct fmp_program *program)
 {
-    size_t length, steps_length;
-    char *image = files->image != NULL ? files_text(files->image, &program.image_length) : NULL;
-    char *cfg = files->image == NULL || image != NULL ? files_text(files->cfg, &length) : NULL;
-    char *steps = cfg != NULL ? files_text(files->steps, &steps_length) : NULL;
-    program.image = image != NULL ? (const uint8_t *)image : program.image;
-    int status = steps != NULL ? simulate(cfg, length, steps, steps_length, &program, recording) : 3;
-    free(steps);
-    free(cfg);
-    free(image);
+    FILE *recording = files->recording != NULL ? files_create(files->recording) : NULL;
+    if (files->recording != NULL && recording == NULL) {
+        return 3;
+    }
+    int status = simulate(texts, *program, recording);
+    if (!files_flush_output()) {
+        status = 3;
+    }
+    if (recording != NULL && !files_close(recording, files->recording)) {
+        status = 3;
+    }
     return status;
+}
+
+/* Reads the files. Whether all of them can be read. */
+static bool read_texts(const struct files *files, struct texts *texts)
+{
+    return (files->image == NULL || (texts->image = files_text(files->image, &texts->image_length)) != NULL)
+        && (texts->cfg = files_text(files->cfg, &texts->cfg_length)) != NULL
+        && (texts->steps = files_text(files->steps, &texts->steps_length)) != NULL;
+}
+
+static bool writes_over_input(const struct files *files)
+{
+    return files->recording != NULL
+        && ((files->image != NULL && files_are_one(files->recording, files->image))
+            || files_are_one(files->recording, files->cfg) || files_are_one(files->recording, files->steps));
 }
 
 int fmp_simulate(int argc, char **argv, const struct fmp_program *program)
 {
+    const char *name = argc > 0 ? argv[0] : "simulate";
     int at = argc > 2 && strcmp(argv[1], "--image") == 0 ? 3 : 1;
     if (argc - at != 2 && argc - at != 3) {
-        fprintf(stderr, "usage: %s [--image IMAGE] CFG STEPS [RECORDING]\n", argc > 0 ? argv[0] : "simulate");
+        fprintf(stderr, "usage: %s [--image IMAGE] CFG STEPS [RECORDING]\n", name);
         return 2;
     }
     const struct files files = { at == 3 ? argv[2] : NULL, argv[at], argv[at + 1], argv[at + 2] };
-    FILE *recording = files.recording != NULL ? fopen(files.recording, "w") : NULL;
-    if (files.recording != NULL && recording == NULL) {
-        fprintf(stderr, "file: %s\n", files.recording);
-        return 3;
+    if (writes_over_input(&files)) {
+        fprintf(stderr, "%s: the file RECORDING is one of those that are read\n", name);
+        return 2;
     }
-    int status = simulate_files(&files, *program, recording);
-    if (recording != NULL && !files_close(recording, files.recording)) {
-        status = 3;
-    }
+    struct texts texts = { .image = NULL };
+    int status = read_texts(&files, &texts) ? simulate_to(&files, &texts, program) : 3;
+    free(texts.steps);
+    free(texts.cfg);
+    free(texts.image);
     return status;
 }

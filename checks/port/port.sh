@@ -171,10 +171,58 @@ failures() {
         verdict "a recording that cannot be written" "$problem"
         problem=
     fi
+    refusals
     FMP_PREEMPT=always plain/live-queue "$root/examples/queue.cfg" 200000 20 > output 2> errors && problem="status 0"
     [ "$(cat errors)" = "fmp: FMP_PREEMPT is neither call nor signal: always" ] ||
         problem="$problem, it says: $(head -c 300 errors)"
     verdict "a preemption that there is not" "$problem"
+}
+
+# refused STATUS SAID COMMAND..: a command ends with this status, and says this last.
+refused() {
+    status=0
+    wanted=$1
+    said=$2
+    shift 2
+    "$@" > output 2> errors || status=$?
+    [ $status = "$wanted" ] || problem="$problem, status $status of $*"
+    [ "$(tail -n 1 errors)" = "$said" ] || problem="$problem, $* says: $(head -c 300 errors)"
+}
+
+# A step that is none of the system, a recording in place of a file that is read, and output that cannot be written.
+refusals() {
+    problem=
+    cp "$root/examples/queue.cfg" own.cfg
+    for row in "run 9:S2" "run 0:S2" "run 256:S2" "int 33:S2" "int 0:S2" "run 01:S1" "run :S1" "run 1 :S1" \
+        "tick 1:S1" ":S1"; do
+        printf 'tick\n%s\n' "${row%:*}" > own.steps
+        refused 1 "steps:2: ${row#*:}" plain/queue own.cfg own.steps
+    done
+    verdict "steps that are none" "$problem"
+    problem=
+    for name in own.cfg own.steps; do
+        refused 2 "plain/queue: the file RECORDING is one of those that are read" \
+            plain/queue own.cfg own.steps "$name"
+    done
+    refused 2 "plain/live-queue: the file RECORDING is one of those that are read" \
+        plain/live-queue own.cfg 200000 20 own.cfg
+    cmp -s own.cfg "$root/examples/queue.cfg" || problem="$problem, the configuration is another one now"
+    verdict "a recording over a file that is read" "$problem"
+    problem=
+    sed 's/CRE_DTQ(\([A-Z]*\), {[^,]*,/CRE_DTQ(\1, { 0x80,/' own.cfg > wrong.cfg
+    refused 1 "cfg:$(grep -n CRE_DTQ wrong.cfg | cut -d : -f 1): B4 E_RSATR" plain/queue wrong.cfg own.steps
+    verdict "a configuration that is refused" "$problem"
+    [ -c /dev/full ] || return 0
+    problem=
+    for command in "plain/queue own.cfg $root/examples/queue.steps" "plain/live-queue own.cfg 200000 20"; do
+        status=0
+        # shellcheck disable=SC2086
+        $command > /dev/full 2> errors || status=$?
+        [ $status = 3 ] || problem="$problem, status $status of $command"
+        [ "$(cat errors)" = "file: -" ] || problem="$problem, $command says: $(head -c 300 errors)"
+    done
+    verdict "output that cannot be written" "$problem"
+    problem=
 }
 
 # Each example does what its task text does, in virtual and in real time; a text that sends another word is not
