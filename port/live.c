@@ -578,7 +578,7 @@ static void write_last_words(void)
 
 enum fmp_over fmp_run(long nanoseconds, unsigned long ticks, FILE *messages)
 {
-    if (system_kernel.at == NULL || atomic_load(&takes_requests)) {
+    if (system_kernel.at == NULL || system_inside() != NULL || atomic_load(&takes_requests)) {
         return FMP_NOT_OPEN;
     }
     if (!signals_choose_preemption(&by_signals, messages)) {

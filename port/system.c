@@ -461,6 +461,9 @@ static void forget(struct flow *flow)
 
 void fmp_close(void)
 {
+    if (system_inside() != NULL) {
+        return;
+    }
     fmp_record(NULL);
     overflow_ignore();
     for (size_t at = 0; at < TASKS; at++) {

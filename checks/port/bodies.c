@@ -1,6 +1,7 @@
 /* bodies.c: what the port does where a body or a program makes a mistake, computes for long, or steps itself. */
 #include "fmp.h"
 #include "kernel.h"
+#include "live.h"
 #include "virtual.h"
 
 #include <stdbool.h>
@@ -53,6 +54,8 @@ static void mistakes(intptr_t exinf)
     CHECK(fmp_step_run(1) == FMP_NOTHING);
     CHECK(fmp_step_tick() == FMP_NOTHING);
     CHECK(fmp_step_int(3) == FMP_NOTHING);
+    CHECK(fmp_run(0, 0, stdout) == FMP_NOT_OPEN);
+    fmp_close();
     CHECK(sig_sem(1) == E_ID);
     CHECK(prcv_dtq(1, &word) == E_TMOUT && word == 6 && value == 5);
     CHECK(snd_dtq(1, INT32_MIN) == E_OK && prcv_dtq(1, &word) == E_OK && word == INT32_MIN);

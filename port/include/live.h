@@ -20,7 +20,7 @@ enum fmp_over {
     FMP_TICKS_OVER,         /* the clock has made its ticks */
     FMP_HALTED,             /* by fmp_halt, SIGINT or SIGTERM */
     FMP_NO_THREAD,          /* a thread could not be made; a message names it */
-    FMP_NOT_OPEN,           /* no system is open, or it runs */
+    FMP_NOT_OPEN,           /* no system is open, it runs, or a body calls fmp_run */
     FMP_LEFT_THE_TEXT,      /* a body does not do what its text does next; a message says which, and what */
     FMP_NO_PREEMPTION       /* FMP_PREEMPT asks for what there is not; a message says so */
 };

@@ -76,6 +76,7 @@ bool fmp_record_as(FILE *recording, const struct fmp_recording *);
 /* The states of the tasks, a line for each, as at the end of a simulation. */
 void fmp_print_states(FILE *);
 
+/* Closes the system that is open, and gives its memory back. In a body it does nothing. */
 void fmp_close(void);
 
 #ifdef __cplusplus
