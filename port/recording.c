@@ -107,7 +107,7 @@ void recording_flush(void)
     if (recording_file != NULL && piece_length > 0) {
         fwrite(piece, 1, piece_length, recording_file);
         if (fflush(recording_file) != 0 || ferror(recording_file)) {
-            recording_file = NULL;      /* lines behind those that are missing would be of no use */
+            recording_file = NULL;      /* lines after those that are missing would be of no use */
         }
     }
     piece_length = 0;

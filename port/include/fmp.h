@@ -124,7 +124,7 @@ typedef struct fmp_trace_line {
     bool replied;           /* a call without a reply waits */
     bool has_value;
     int32_t code, value;    /* of the reply */
-    int32_t a, b, c, d;     /* the arguments of a call; 0 behind the last */
+    int32_t a, b, c, d;     /* the arguments of a call; 0 after the last */
 } fmp_trace_line;
 
 enum fmp_word { FMP_NO_TASK, FMP_RUNNING, FMP_READY, FMP_WAITING, FMP_SUSPENDED, FMP_WAITING_SUSPENDED, FMP_DORMANT };
@@ -199,7 +199,7 @@ uint32_t fmp_state(fmp_system *, uint8_t task, fmp_task_state *);
 
 /*
  * Texts: how many bytes they have. They are written if there is room for the whole text, and else nothing is; no null
- * byte is put behind them. 0 where there is none, and of a blank handle.
+ * byte is put after them. 0 where there is none, and of a blank handle.
  */
 
 /* The lines of the last event that was done, or of setup: at most 66,432 bytes. */

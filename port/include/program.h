@@ -54,7 +54,7 @@ enum fmp_opened fmp_open(const char *text, size_t length, const struct fmp_progr
  * From now on each event that is done is written there, a line for each, with the call that was handed in; NULL: no
  * longer. After 2^30 events the counts and the clock of the kernel begin again, and the line `restart` says where. All
  * lines are written at the end of a run, at the next fmp_record, and at fmp_close; until then 4 KB at a time. A program
- * that is killed leaves the lines that were written. What stands behind the last line feed, if anything, is no event:
+ * that is killed leaves the lines that were written. What stands after the last line feed, if anything, is no event:
  * whoever reads the file leaves it out. After a fault of the file, which ferror tells, nothing more is written.
  */
 void fmp_record(FILE *recording);
