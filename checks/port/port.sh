@@ -33,6 +33,7 @@ command -v rt > /dev/null || missing "there is no rt, whose kit has the allocato
 glue=$(dirname "$(dirname "$(readlink -f "$(command -v rt)")")")/c/liblibc_c.a
 [ -f "$library" ] || missing "there is no library $library: \`rt lib\` in crates/fmp_c makes it"
 library=$(cd "$(dirname "$library")" && pwd)/$(basename "$library")
+[ ! -x "$fmp" ] || fmp=$(cd "$(dirname "$fmp")" && pwd)/$(basename "$fmp")
 
 room=$(mktemp -d)
 trap 'rm -rf "$room"' EXIT
