@@ -1,4 +1,9 @@
 //! The constants of a configuration in C.
+ghost use Rattle.std.specs.Prelude.{◌≡◌, [], IfOk, OnErr, bytes_eq, find};
+ghost use Rattle.fmp_base.specs.Names.{name_text};
+ghost use Rattle.fmp_import.specs.Constants as spec;
+ghost use Rattle.fmp_import.specs.Constants.{HasDefined, HasGiven, HasMore};
+
 use crate::lexemes::{Lexeme, LexemeKind, lexemes};
 use crate::reading::SourceReading;
 use crate::text::bytes_of;
@@ -6,10 +11,11 @@ use crate::values::{NoValue, value_of};
 use fmp_base::Name;
 use fmp_base::words::find_constant;
 use std::alloc::{AllocError, Global};
+use std::marker::Model;
 
 /// The value of a name.
 #[derive(Clone, Copy)]
-struct Definition {
+pub struct Definition {
     name: Name,
     value: i64,
 }
@@ -26,33 +32,62 @@ pub enum Defines {
 }
 
 /// Constants by their names. The first definition of a name counts. Names of more than 31 bytes are not kept.
+/// It is seen as the list of its definitions.
 #[derive(Drop)]
 pub struct Constants {
     definitions: Vec<Definition>,
 }
 
+impl Model for Constants {
+    ghost use Rattle.std.specs.Prelude.{List};
+    ghost use Rattle.fmp_import.specs.declared.constants.Definition.{Definition};
+
+    ghost Value = { List Definition };
+
+    ghost view = { λ constants. constants.definitions.items };
+}
+
 /// What `fmp_view export --toppers` writes for the bytes of a stack beside those of the text.
 const STACK_BESIDE: &[u8] = b"FMP_STACK";
 
+/// The value of a name that is known from the first.
+fn own_value(word: &[u8]) -> Option<i64>
+    ensures { result ≡ spec.own_value word.now }
+{
+    if word == b"NULL".as_slice() || word == STACK_BESIDE {
+        return Some(0);
+    }
+    Some(i64::from(find_constant(word)?.value()))
+}
+
 impl Constants {
     /// No constants but those of uITRON, and what `export` writes for a stack.
-    pub fn new(alloc: Global) -> Constants {
+    pub fn new(alloc: Global) -> Constants
+        ensures { result ≡ [] }
+    {
         Constants {
             definitions: Vec::new(alloc),
         }
     }
 
     /// The value of a name.
-    pub(crate) fn value_named(&self, word: &[u8]) -> Option<i64> {
-        for definition in &self.definitions {
-            if definition.name.as_bytes() == word {
-                return Some(definition.value);
-            }
+    pub(crate) fn value_named(&self, word: &[u8]) -> Option<i64>
+        ensures { result ≡ spec.value_named self.now word.now }
+    {
+        match self.defined(word) {
+            Some(definition) => Some(definition.value),
+            None => own_value(word),
         }
-        if word == b"NULL".as_slice() || word == STACK_BESIDE {
-            return Some(0);
-        }
-        Some(i64::from(find_constant(word)?.value()))
+    }
+
+    /// The first definition of a name.
+    fn defined(&self, word: &[u8]) -> Option<Definition>
+        ensures { result ≡ find (λ d. bytes_eq (name_text d.name) word.now) self.now }
+    {
+        self.definitions
+            .iter()
+            .copied()
+            .find(|definition| definition.name.as_bytes() == word)
     }
 
     /// Adds a constant of this name with the value of an expression.
@@ -62,7 +97,10 @@ impl Constants {
         text: &[u8],
         word: &[u8],
         expression: &[Lexeme],
-    ) -> Result<Defines, AllocError> {
+    ) -> Result<Defines, AllocError>
+        ensures defined { IfOk result (λ defines. HasDefined self.old self.new word.now defines) }
+        ensures kept { OnErr result (self.new ≡ self.old) }
+    {
         let reading = SourceReading {
             text,
             lexemes: expression,
@@ -79,7 +117,9 @@ impl Constants {
     }
 
     /// Adds the constant that a line of the preprocessor defines. A macro with parameters is no constant.
-    pub(crate) fn define(&mut self, alloc: Global, line: &[u8]) -> Result<Defines, AllocError> {
+    pub(crate) fn define(&mut self, alloc: Global, line: &[u8]) -> Result<Defines, AllocError>
+        ensures { HasMore self.old self.new }
+    {
         let Some(text) = line.strip_prefix(b"#") else {
             return Ok(Defines::Nothing);
         };
@@ -100,7 +140,9 @@ impl Constants {
     }
 
     /// Adds the constants that a header defines; its other lines are skipped.
-    pub(crate) fn take_header(&mut self, alloc: Global, text: &[u8]) -> Result<(), AllocError> {
+    pub(crate) fn take_header(&mut self, alloc: Global, text: &[u8]) -> Result<(), AllocError>
+        ensures { HasMore self.old self.new }
+    {
         for lexeme in &lexemes(alloc, text)? {
             if lexeme.kind == LexemeKind::Directive {
                 self.define(alloc, bytes_of(text, lexeme.span))?;
@@ -110,7 +152,10 @@ impl Constants {
     }
 
     /// Adds a constant that is given as `NAME=VALUE`, or as `NAME` for the value 1. Says whether it is of this form.
-    pub fn give(&mut self, alloc: Global, text: &[u8]) -> Result<bool, AllocError> {
+    pub fn give(&mut self, alloc: Global, text: &[u8]) -> Result<bool, AllocError>
+        ensures given { IfOk result (λ given. HasGiven self.old self.new given) }
+        ensures kept { OnErr result (self.new ≡ self.old) }
+    {
         let found = lexemes(alloc, text)?;
         let defines = match found.as_slice() {
             [name] if name.kind == LexemeKind::Word => {
