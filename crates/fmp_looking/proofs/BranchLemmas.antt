@@ -25,7 +25,7 @@ stretch_on : (M : Meaning MachineContext) (code : List Instruction) (body n i : 
     ++ from_there (left_by (M.stretch body 1 c)) (λ d. stretch_steps M code body (n - (i + 1)) d)
 stretch_on M code body n i c h = ap (λ (m : ℕ). stretch_steps M code body m c) (one_less n i h)
 
--- behind one more instruction, which left this
+-- after one more instruction, which left this
 pub stretch_step : (M : Meaning MachineContext) (code : List Instruction) (body n i : ℕ) (c : MachineContext)
     (next : Option MachineContext) (before after total : List BranchStep)
     → i < n → next ≡ left_by (M.stretch body 1 c) → after ≡ before ++ step_here code body c
@@ -44,7 +44,7 @@ stretch_step M code body n i c next before after total h leaves more so_far =
 cut : (es : List Event) (i : ℕ) (e d : Event) → i < length es → e ≡ get_or es i d → drop i es ≡ e ∷ drop (i + 1) es
 cut es i e d h is = rw add-one (drop-cons es i d h) ∙ ap (λ y. y ∷ drop (i + 1) es) (sym is)
 
--- behind one more event, which went through these branches
+-- after one more event, which went through these branches
 pub event_step : {B : Type 0} (meaning : B → Meaning MachineContext) (code : List BodyTables)
     (k k' : KernelView B MachineContext) (es : List Event) (i : ℕ) (e d : Event) (does : Effect)
     (through before after total : List BranchStep)

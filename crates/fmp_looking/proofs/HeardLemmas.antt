@@ -19,7 +19,7 @@ use Rattle.fmp_looking.specs.Observed.{Heard, heard_event, heard_in}
 cut : (es : List Event) (i : ℕ) (e d : Event) → i < length es → e ≡ get_or es i d → drop i es ≡ e ∷ drop (i + 1) es
 cut es i e d h is = rw add-one (drop-cons es i d h) ∙ ap (λ y. y ∷ drop (i + 1) es) (sym is)
 
--- what is known at the end, from behind this event on
+-- what is known at the end, from the event after this one on
 pub heard-step : {B : Type 0} (meaning : B → Meaning MachineContext) (code : List BodyTables)
     (bodies : List (List CallPlace)) (k k' : KernelView B MachineContext)
     (es : List Event) (i : ℕ) (e d : Event) (does : Effect) (place : Option CallPlace) (ls : List Line)

@@ -8,3 +8,4 @@ mod MarkLemmas
 mod PartLemmas
 mod SeenLemmas
 mod TrialRuns
+mod WrittenLemmas

@@ -24,7 +24,7 @@ marks_at text w (t ∷ ts) (suc i) h =
     ++ marks_from text (walked w (piece_at ts i) (place_at text ts i)) (drop k (t ∷ ts)))
     (next i)
 
--- behind one more token, which is this piece at this place
+-- after one more token, which is this piece at this place
 pub marks_step : (text : List ℕ) (w w' : Walk) (ts : List Token) (i : ℕ) (piece : Piece) (place : CallPlace)
     (before after total : List Mark)
     → i < length ts → piece ≡ piece_at ts i → place ≡ place_at text ts i

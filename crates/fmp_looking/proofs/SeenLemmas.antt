@@ -100,10 +100,10 @@ module _ {B : Type 0} (meaning : B → Meaning MachineContext) (code : List Body
       ∙ run_behind cs after es (heard_event h place (effect_of reaction) after.lines)
 
   -- the calls of a run stand after those that were known
-  calls_behind : (cs : List CallSeen) (k : KernelView B MachineContext) (es : List Event) (tasks : ℕ)
-      (calls : List CallSeen)
-      → calls_seen meaning code bodies k es tasks (cs ++ calls) ≡ cs ++ calls_seen meaning code bodies k es tasks calls
-  calls_behind cs k es tasks calls = ap (λ (x : Heard). x.calls) (run_behind cs k es (unheard calls tasks))
+  calls_behind : (cs : List CallSeen) (k : KernelView B MachineContext) (es : List Event) (calls : List CallSeen)
+      → calls_seen meaning code bodies k es (cs ++ calls) ≡ cs ++ calls_seen meaning code bodies k es calls
+  calls_behind cs k es calls =
+      ap (λ (x : Heard). x.calls) (run_behind cs k es (unheard calls (length k.system.tasks)))
 
 abbrev seen_by : List (List CallPlace) → List (Option CallPlace) → List CallSeen → List BranchStep → Seen
 seen_by places made calls steps = record { places = places; made = made; calls = calls; steps = steps }
@@ -113,16 +113,15 @@ module _ (i : ImageTables) (n : ℕ) where
   run_after : (s t : Seen) (es : List Event) → with_run i n (both s t) es ≡ both s (with_run i n t es)
   run_after s t es =
       let start = kernel_after i n [] in
-      let calls : List CallSeen = calls_seen code_meaning i.code t.places start es (length i.system.tasks)
-      (s.calls ++ t.calls) in
+      let calls : List CallSeen = calls_seen code_meaning i.code t.places start es (s.calls ++ t.calls) in
       let places : List (Option CallPlace) = places_made code_meaning i.code t.places start es in
       let steps : List BranchStep = branch_steps code_meaning i.code start es in
       ap (λ (x : List (Option CallPlace)). seen_by t.places x calls ((s.steps ++ t.steps) ++ steps))
       (append_assoc s.made t.made places)
       ∙ ap (λ (x : List CallSeen). seen_by t.places (s.made ++ (t.made ++ places)) x ((s.steps ++ t.steps) ++ steps))
-      (calls_behind code_meaning i.code t.places s.calls start es (length i.system.tasks) t.calls)
+      (calls_behind code_meaning i.code t.places s.calls start es t.calls)
       ∙ ap (λ (x : List BranchStep). seen_by t.places (s.made ++ (t.made ++ places))
-      (s.calls ++ calls_seen code_meaning i.code t.places start es (length i.system.tasks) t.calls) x)
+      (s.calls ++ calls_seen code_meaning i.code t.places start es t.calls) x)
       (append_assoc s.steps t.steps steps)
 
   runs_after : (s t : Seen) (runs : List (List Event)) → with_runs i n (both s t) runs ≡ both s (with_runs i n t runs)

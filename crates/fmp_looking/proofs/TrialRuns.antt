@@ -23,7 +23,7 @@ pub none_made : (places : List (List CallPlace)) (i : ImageTables) (n : ℕ) (s 
     → AreRunsSeen places i n 0 s
 none_made places i n s none = ([], refl, none)
 
--- behind one run more
+-- after one run more
 pub one_made : (places : List (List CallPlace)) (i : ImageTables) (n count : ℕ) (s t : Seen) (es : List Event)
     → AreRunsSeen places i n count s → t ≡ with_run i n s es → AreRunsSeen places i n (count + 1) t
 one_made places i n count s t es h more = (

@@ -5,7 +5,7 @@ use Rattle.fmp_arguments.specs.Given.{HasFlag, HasNumberOr, word_for, words_for}
 use Rattle.fmp_looking.specs.declared.wanted.CoverageFiles.{CoverageFiles}
 use Rattle.fmp_looking.specs.declared.wanted.Testing.{Testing}
 
--- the files to which it is written what calls and branches come to
+-- the files to which the coverage of runs is written
 pub record AreCoverageFiles (rows : List Row) (f : CoverageFiles) : Type 0 where
   pub lcov : option_map (λ word. word.now) f.lcov ≡ first_of (codes "lcov") rows
   pub coverage : option_map (λ word. word.now) f.coverage ≡ first_of (codes "coverage") rows

@@ -16,7 +16,7 @@ use Rattle.fmp_looking.specs.declared.lcov.Way.{Way}
 abbrev pub is_line : (line other : ℕ) → Bool
 is_line line other = other == line
 
--- a line behind others, unless it is one of them
+-- a line after others, unless it is one of them
 abbrev pub with_line : List ℕ → ℕ → List ℕ
 with_line lines line = if list_any (is_line line) lines then lines else lines ++ line ∷ []
 
@@ -50,7 +50,7 @@ stands_in line (Some p) = p.line == line
 abbrev pub count_of : List (Option CallPlace) → ℕ → LineCount
 count_of made line = record { line = line; count = count_by (stands_in line) made }
 
--- a line of a tracefile that tells how often a line of a text was come to
+-- a line of a tracefile that tells how often a line of a text was reached
 abbrev pub data_line : LineCount → List ℕ
 data_line c = codes "DA:" ++ (decimal c.line ++ (codes "," ++ (decimal c.count ++ codes "\n")))
 
@@ -61,7 +61,7 @@ data_lines (c ∷ cs) = data_line c ++ data_lines cs
 abbrev pub was_made : LineCount → Bool
 was_made c = not (c.count == 0)
 
--- how many of the lines were come to, and how many there are
+-- how many of the lines were reached, and how many there are
 abbrev pub found_lines : List LineCount → List ℕ
 found_lines cs =
     codes "LH:"
@@ -70,20 +70,20 @@ found_lines cs =
 abbrev pub record_end : List LineCount → List ℕ
 record_end cs = found_lines cs ++ codes "end_of_record\n"
 
--- a branch was come to
-abbrev pub is_come_to : BranchCount → Bool
-is_come_to c = not (c.is_true == 0) || not (c.is_false == 0)
+-- a branch was reached
+abbrev pub is_reached : BranchCount → Bool
+is_reached c = not (c.is_true == 0) || not (c.is_false == 0)
 
--- a way of a branch, which was gone so often
+-- a way of a branch, and how often it was gone
 abbrev pub one_way : BranchCount → (number times : ℕ) → Way
-one_way c number times = record { place = c.place; number = number; times = times; is_come_to = is_come_to c }
+one_way c number times = record { place = c.place; number = number; times = times; is_reached = is_reached c }
 
 -- the two ways of a branch: what it goes by is not 0, or it is
 abbrev pub ways_of : BranchCount → List Way
 ways_of c = one_way c 0 c.is_true ∷ one_way c 1 c.is_false ∷ []
 
--- how often a way was gone; nothing is said where the branch was never come to
-abbrev pub times_gone : (times : ℕ) → (is_come_to : Bool) → List ℕ
+-- how often a way was gone; nothing is said where the branch was never reached
+abbrev pub times_gone : (times : ℕ) → (is_reached : Bool) → List ℕ
 times_gone times true = decimal times
 times_gone times false = codes "-"
 
@@ -92,7 +92,7 @@ branch_place p = codes "BRDA:" ++ (decimal p.line ++ (codes "," ++ (decimal p.co
 
 abbrev pub way_line : Way → List ℕ
 way_line w =
-    branch_place w.place ++ (decimal w.number ++ (codes "," ++ (times_gone w.times w.is_come_to ++ codes "\n")))
+    branch_place w.place ++ (decimal w.number ++ (codes "," ++ (times_gone w.times w.is_reached ++ codes "\n")))
 
 abbrev pub was_gone : Way → Bool
 was_gone w = not (w.times == 0)

@@ -1,4 +1,4 @@
--- What runs of an image come to in the text of its bodies: as a table, and as a tracefile of lcov.
+-- The coverage of the text of its bodies by runs of an image: as a table, and as a tracefile of lcov.
 use Rattle.std.specs.Prelude.{ℕ, ◌≡◌, ◌+◌, ◌-◌, ◌<◌, List, [], ◌∷◌, ◌++◌, Option, Result, Ok, Err, IfOk, length}
 use Rattle.std.specs.Prelude.{map, slice_index_or}
 use Rattle.fmp_base.specs.declared.events.Event.{Event}
@@ -48,7 +48,7 @@ with_run i n s es =
     let start = kernel_after i n [] in
     record s {
       made = s.made ++ places_made code_meaning i.code s.places start es;
-      calls = calls_seen code_meaning i.code s.places start es (length i.system.tasks) s.calls;
+      calls = calls_seen code_meaning i.code s.places start es s.calls;
       steps = s.steps ++ branch_steps code_meaning i.code start es;
     }
 
@@ -87,7 +87,7 @@ pub record IsSeen (src : List ℕ) (i : ImageTables) (n : ℕ) (runs : List (Lis
   pub none : IsNoneSeen src first
   pub seen : s ≡ with_runs i n first runs
 
--- this was seen of some runs of an image, so many
+-- this was seen of some runs of an image, this many
 abbrev pub AreTrialsSeen : (src : List ℕ) → ImageTables → (n runs : ℕ) → Seen → Type 0
 AreTrialsSeen src i n count s = (runs : List (List Event)) × (length runs ≡ count) × IsSeen src i n runs s
 

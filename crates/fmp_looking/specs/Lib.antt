@@ -6,10 +6,12 @@ pub mod Covered
 pub mod Drives
 pub mod Exits
 pub mod Expects
+pub mod FilesWritten
 pub mod Judgements
 pub mod Marks
 pub mod Observed
 pub mod OpenSystems
+pub mod PlacedRuns
 pub mod Refused
 pub mod Tables
 pub mod TestRecords

@@ -40,14 +40,14 @@ piece_of (kind.Symbol s) = symbol_piece s
 piece_of (kind.Service s) = piece.Call s
 piece_of _ = piece.Other
 
--- the column behind bytes, where that before them is known: 1 behind a line feed, else one more for each
-abbrev pub column_behind : (column : ℕ) → List ℕ → ℕ
-column_behind column [] = column
-column_behind column (b ∷ bs) = column_behind (if b == 10 then 1 else column + 1) bs
+-- the column after bytes, where that before them is known: 1 after a line feed, else one more for each
+abbrev pub column_after : (column : ℕ) → List ℕ → ℕ
+column_after column [] = column
+column_after column (b ∷ bs) = column_after (if b == 10 then 1 else column + 1) bs
 
 -- the column of the byte at a place of a text
 abbrev pub column_of : (text : List ℕ) → (start : ℕ) → ℕ
-column_of text start = column_behind 1 (take start text)
+column_of text start = column_after 1 (take start text)
 
 -- where a token stands in a text
 abbrev pub place_of : (text : List ℕ) → Token → CallPlace
@@ -82,7 +82,7 @@ abbrev pub condition_ended : Walk → Option Condition → Walk
 condition_ended w None = w
 condition_ended w (Some c) = record w { branches = one_more w.branches; condition = None }
 
--- the walk behind a token
+-- the walk after a token
 abbrev pub walked : Walk → Piece → CallPlace → Walk
 walked w piece.Head place = record { bodies = one_more w.bodies; branches = 0; condition = None }
 walked w (piece.Begins k) place = record w { condition = Some (record { kind = k; place = place }) }

@@ -1,5 +1,5 @@
 -- What the calls of a run were answered.
-use Rattle.std.specs.Prelude.{ℕ, List, [], ◌∷◌, ◌++◌, Option, Some, None, get_or, replicate, slice_set}
+use Rattle.std.specs.Prelude.{ℕ, List, [], ◌∷◌, ◌++◌, Option, Some, None, get_or, length, replicate, slice_set}
 use Rattle.fmp_base.specs.declared.calls.Reply.{Reply}
 use Rattle.fmp_base.specs.declared.codes.Er.{Er}
 use Rattle.fmp_base.specs.declared.events.Effect.{Effect}
@@ -30,7 +30,7 @@ pub record Heard : Type 0 where
 abbrev pub heard_of : CallsSeen → Heard
 heard_of s = record { calls = s.calls.items; waiting = s.waiting.items }
 
--- behind these calls, where none of this number of tasks waits
+-- after these calls, where none of this number of tasks waits
 abbrev pub unheard : List CallSeen → (tasks : ℕ) → Heard
 unheard calls tasks = record { calls = calls; waiting = replicate tasks None }
 
@@ -81,6 +81,6 @@ module _ {B : Type 0} (meaning : B → Meaning MachineContext) (code : List Body
       heard_in after es
       (heard_event h (event_place meaning code bodies k e) (effect_of (reaction_of meaning k e)) after.lines)
 
-  -- the calls that were known, and those of a run behind them
-  abbrev pub calls_seen : KernelView B MachineContext → List Event → (tasks : ℕ) → List CallSeen → List CallSeen
-  calls_seen k es tasks calls = (heard_in k es (unheard calls tasks)).calls
+  -- the calls that were known, and those of a run after them
+  abbrev pub calls_seen : KernelView B MachineContext → List Event → List CallSeen → List CallSeen
+  calls_seen k es calls = (heard_in k es (unheard calls (length k.system.tasks))).calls

@@ -47,25 +47,28 @@ number_after n (Some p) = n
 -- a tracer of this system, with these places of calls, has the lines of setup, and the states after it
 pub record IsBegun (form : Form) (sys : SystemTables) (places : List (Option CallPlace)) (x : Tracer) (f : FrameTable)
     : Type 0 where
-  pub form_is : x.form ≡ form
-  pub system : tables_of x.sys.now ≡ sys
-  pub places_are : x.places.now ≡ places
+  pub form_is : x.printing.form ≡ form
+  pub system : tables_of x.printing.sys.now ≡ sys
+  pub places_are : x.printing.places.now ≡ places
   pub number : x.number ≡ 0
   pub text : x.out.items ≡ lines_text form sys 0 None f.lines
   pub states : x.states.items ≡ f.states
   pub blocks : x.blocks.items ≡ f.blocks
 
--- it has the lines of one more event behind those that it had, and the states after it
+-- it has the lines of one more event after those that it had, and the states after it
 pub record Traces (x : Tracer) (f : FrameTable) (y : Tracer) : Type 0 where
-  pub form : y.form ≡ x.form
-  pub system : tables_of y.sys.now ≡ tables_of x.sys.now
-  pub places : y.places.now ≡ x.places.now
+  pub printing : y.printing ≡ x.printing
   pub number : y.number ≡ number_after x.number f.kept
   pub text : y.out.items
       ≡ x.out.items
-      ++ lines_text x.form (tables_of x.sys.now) y.number (get_or x.places.now (y.number - 1) None) f.lines
+      ++ lines_text x.printing.form (tables_of x.printing.sys.now) y.number
+      (get_or x.printing.places.now (y.number - 1) None) f.lines
   pub states : y.states.items ≡ f.states
   pub blocks : y.blocks.items ≡ f.blocks
+
+-- the states at its end
+abbrev pub end_text : Tracer → List ℕ
+end_text x = states_text x.printing.form (tables_of x.printing.sys.now) x.states.items x.blocks.items
 
 -- what is printed of a run of a kernel: the lines of setup, those of what comes to it, with the places of its calls, of
 -- which the first is that of event 1, and the states at the end
@@ -74,7 +77,7 @@ pub record IsTrace {B C X : Type 0} (form : Form) (sys : SystemTables) (places :
     (reaction : KernelView B C → X → Reaction C) (k : KernelView B C) (xs : List X) (out : List ℕ) : Type 0 where
   pub last : Tracer
   pub shown : WasShown (IsBegun form sys places) Traces meaning reaction k xs last
-  pub whole : out ≡ last.out.items ++ states_text last.form (tables_of last.sys.now) last.states.items last.blocks.items
+  pub whole : out ≡ last.out.items ++ end_text last
 
 -- for each event of a run of an image that is done where the call stands that it makes in this text of its bodies
 pub record ArePlaced (src : List ℕ) (i : ImageTables) (n : ℕ) (es : List Event) (made : List (Option CallPlace))

@@ -35,7 +35,7 @@ pub enum TestMistake {
     CoverageOverInput,
 }
 
-/// The files to which it is written what calls and branches come to.
+/// The files to which the coverage of runs is written.
 pub fn files_of<'a>(words: &ArgMatches<'a>) -> CoverageFiles<'a>
     ensures { AreCoverageFiles (rows_of (found_of words.now)) result }
 {

@@ -19,6 +19,14 @@ pub struct BranchStep {
     pub is_true: bool,
 }
 
+/// A body with its number.
+#[derive(Clone, Copy)]
+struct NumberedBody<'a> {
+    /// From 0.
+    number: u8,
+    instructions: &'a [Instruction],
+}
+
 /// Whether an instruction is a branch.
 fn is_branch(instruction: &Instruction) -> bool
     ensures { result ≡ spec.is_branch instruction.now }
@@ -65,34 +73,34 @@ fn is_branch_at(instructions: &[Instruction], pc: u16) -> bool
     }
 }
 
-/// Which way the body of this number goes at a branch.
-fn step_of(instructions: &[Instruction], body: u8, context: &MachineContext) -> BranchStep
-    ensures { result ≡ spec.step_of instructions.now body context.now }
+/// Which way a body goes at a branch.
+fn step_of(code: NumberedBody<'_>, context: &MachineContext) -> BranchStep
+    ensures { result ≡ spec.step_of code.entry.instructions.now code.entry.number context.now }
 {
     BranchStep {
-        body,
-        number: branches_before(instructions, context.pc),
+        body: code.number,
+        number: branches_before(code.instructions, context.pc),
         is_true: !is_zero(top_of(context)),
     }
 }
 
-/// Adds which way the body of this number goes, if it stands at a branch of these instructions.
+/// Adds which way a body goes, if it stands at a branch.
 fn add_step(
-    instructions: &[Instruction],
-    body: u8,
+    code: NumberedBody<'_>,
     context: &MachineContext,
     steps: &mut Vec<BranchStep>,
 ) -> Result<(), AllocError>
-    ensures { OnOk result (steps.new.items ≡ steps.old.items ++ spec.step_here instructions.now body context.now) }
+    ensures { OnOk result (steps.new.items
+        ≡ steps.old.items ++ spec.step_here code.entry.instructions.now code.entry.number context.now) }
 {
-    if !is_branch_at(instructions, context.pc) {
+    if !is_branch_at(code.instructions, context.pc) {
         return Ok(());
     }
-    steps.push(step_of(instructions, body, context))?;
+    steps.push(step_of(code, context))?;
     Ok(())
 }
 
-/// Where a body stands behind one instruction; none if that calls, ends or faults.
+/// Where a body stands after one instruction; none if that calls, ends or faults.
 fn next_of<B: Body<Ctx = MachineContext>>(
     body: &B,
     entry: u8,
@@ -112,21 +120,20 @@ fn next_of<B: Body<Ctx = MachineContext>>(
 /// Adds the branches of a stretch of at most n instructions.
 fn add_stretch<B: Body<Ctx = MachineContext>>(
     body: &B,
-    instructions: &[Instruction],
-    entry: u8,
+    code: NumberedBody<'_>,
     n: u64,
     context: MachineContext,
     steps: &mut Vec<BranchStep>,
 ) -> Result<(), AllocError>
-    requires entry { B.has_entry body.now entry }
-    requires context { B.is_context body.now entry context }
-    ensures { OnOk result (steps.new.items
-        ≡ steps.old.items ++ spec.stretch_steps (B.meaning body.now) instructions.now entry n context) }
+    requires entry { B.has_entry body.now code.number }
+    requires context { B.is_context body.now code.number context }
+    ensures { OnOk result (steps.new.items ≡ steps.old.items
+        ++ spec.stretch_steps (B.meaning body.now) code.entry.instructions.now code.entry.number n context) }
 {
     let mut here = context;
     for _turn in 0..n {
-        add_step(instructions, entry, &here, steps)?;
-        match next_of(body, entry, here) {
+        add_step(code, &here, steps)?;
+        match next_of(body, code.number, here) {
             Some(next) => here = next,
             None => return Ok(()),
         }
@@ -157,8 +164,11 @@ fn add_actor<B: Body<Ctx = MachineContext>>(
     ensures { OnOk result (steps.new.items
         ≡ steps.old.items ++ spec.actor_steps (B.meaning body.now) (code_tables code.now) n (Some actor.now)) }
 {
-    let instructions = instructions_of(code, actor.entry);
-    add_stretch(body, instructions, actor.entry, n, actor.context, steps)
+    let code = NumberedBody {
+        number: actor.entry,
+        instructions: instructions_of(code, actor.entry),
+    };
+    add_stretch(body, code, n, actor.context, steps)
 }
 
 /// The branches through which an event goes on a kernel, if it does something.

@@ -60,19 +60,34 @@ pub struct DrivenText {
     pub why: Vec<u8>,
 }
 
+/// How an image is driven.
+#[derive(Clone, Copy)]
+pub struct Driving {
+    /// How many events are done at most, 0 to 2^20.
+    pub events: u32,
+    /// Whether processors go at random, and by which number.
+    pub seed: Option<u64>,
+    /// The bound of a stretch, 1 to 2^48.
+    pub bound: u64,
+}
+
 /// The text of steps that run an image, why they stop, what each processor would do next, and what tasks wait for then.
 #[tactic(none)]
-fn driven_text(
-    alloc: Global,
-    image: &Image,
-    events: u32,
-    seed: Option<u64>,
-    bound: u64,
-) -> Result<DrivenText, AllocError> {
-    let drive = driven(alloc, image, kept_events(events), seed, bound)?;
+fn driven_text(alloc: Global, image: &Image, driving: Driving) -> Result<DrivenText, AllocError> {
+    let drive = driven(
+        alloc,
+        image,
+        kept_events(driving.events),
+        driving.seed,
+        driving.bound,
+    )?;
     let mut steps = Vec::new(alloc);
     print_steps(&drive.driven.steps, &mut steps)?;
-    let why = why_of(alloc, &OpenImage::new(image, bound), &drive.driven.steps)?;
+    let why = why_of(
+        alloc,
+        &OpenImage::new(image, driving.bound),
+        &drive.driven.steps,
+    )?;
     let next = drive.next;
     let ending = DriveEnding {
         stop: drive.driven.stop,
@@ -84,15 +99,9 @@ fn driven_text(
 
 /// Steps that run the image of these bytes, why they stop, and what each processor would do next.
 #[tactic(none)]
-pub fn steps(
-    alloc: Global,
-    image: &[u8],
-    events: u32,
-    seed: Option<u64>,
-    bound: u64,
-) -> Result<DrivenText, SimFault> {
+pub fn steps(alloc: Global, image: &[u8], driving: Driving) -> Result<DrivenText, SimFault> {
     let image = image_of(alloc, image)?;
-    let driven = driven_text(alloc, &image, events, seed, bound);
+    let driven = driven_text(alloc, &image, driving);
     drop(image);
     made(driven)
 }

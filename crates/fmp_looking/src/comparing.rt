@@ -59,54 +59,59 @@ fn told_up_to<'a, O: Opened, T: Coming<O::Bodies>>(
     told_of(alloc, opened, &events[..count])
 }
 
-/// What is printed of runs that tell this and differ first in the event of a number, up to which they tell that.
+/// What is told of two runs of a system.
+#[derive(Drop)]
+struct RunsTold<'a> {
+    a: ToldRun<'a>,
+    b: ToldRun<'a>,
+}
+
+/// What is told of two runs of a system.
+fn both_told<'a, O: Opened, T: Coming<O::Bodies>>(
+    alloc: Global,
+    opened: &'a O,
+    a: &[T],
+    b: &[T],
+) -> Result<RunsTold<'a>, AllocError>
+    requires a { length a.now ≤ 2 ^ 31 }
+    requires b { length b.now ≤ 2 ^ 31 }
+{
+    let a = told_of(alloc, opened, a)?;
+    let b = told_of(alloc, opened, b)?;
+    Ok(RunsTold { a, b })
+}
+
+/// What is told of two runs of a system up to the event of a number.
+fn both_told_up_to<'a, O: Opened, T: Coming<O::Bodies>>(
+    alloc: Global,
+    opened: &'a O,
+    a: &[T],
+    b: &[T],
+    number: usize,
+) -> Result<RunsTold<'a>, AllocError>
+    requires a { length a.now ≤ 2 ^ 31 }
+    requires b { length b.now ≤ 2 ^ 31 }
+{
+    let a = told_up_to(alloc, opened, a, number)?;
+    let b = told_up_to(alloc, opened, b, number)?;
+    Ok(RunsTold { a, b })
+}
+
+/// What is printed of runs that differ first in the event of a number, up to which they tell this.
 fn text_of(
     alloc: Global,
-    runs: (&ToldRun<'_>, &ToldRun<'_>),
+    runs: &RunsTold<'_>,
     number: usize,
-    ends: (&ToldRun<'_>, &ToldRun<'_>),
+    ends: &RunsTold<'_>,
 ) -> Result<Vec<u8>, AllocError> {
     let mut out = Vec::new(alloc);
+    let (runs, ends) = ((&runs.a, &runs.b), (&ends.a, &ends.b));
     append_difference(alloc, runs, number, ends, &mut out)?;
     Ok(out)
 }
 
-/// What is printed of two runs of a system, which tell this and differ first in the event of a number.
-fn text_at<O: Opened, T: Coming<O::Bodies>>(
-    alloc: Global,
-    opened: &O,
-    a: &[T],
-    b: &[T],
-    runs: (&ToldRun<'_>, &ToldRun<'_>),
-    number: usize,
-) -> Result<Vec<u8>, AllocError>
-    requires a { length a.now ≤ 2 ^ 31 }
-    requires b { length b.now ≤ 2 ^ 31 }
-{
-    let one_then = told_up_to(alloc, opened, a, number)?;
-    let other_then = told_up_to(alloc, opened, b, number)?;
-    text_of(alloc, runs, number, (&one_then, &other_then))
-}
-
-/// What is printed of two runs of a system, which tell this; none if they tell the same.
-fn difference_between<O: Opened, T: Coming<O::Bodies>>(
-    alloc: Global,
-    opened: &O,
-    a: &[T],
-    b: &[T],
-    runs: (&ToldRun<'_>, &ToldRun<'_>),
-) -> Result<Option<Vec<u8>>, AllocError>
-    requires a { length a.now ≤ 2 ^ 31 }
-    requires b { length b.now ≤ 2 ^ 31 }
-{
-    match first_difference(runs.0, runs.1) {
-        Some(number) => Ok(Some(text_at(alloc, opened, a, b, runs, number)?)),
-        None => Ok(None),
-    }
-}
-
-/// The first event in which two runs of a system differ, with the events in front of it and the states that differ
-/// then; none if they tell the same. `AllocError` if memory runs out.
+/// The first event in which two runs of a system differ, with the events before it and the states that differ then;
+/// none if they tell the same. `AllocError` if memory runs out.
 fn difference<O: Opened, T: Coming<O::Bodies>>(
     alloc: Global,
     opened: &O,
@@ -116,9 +121,13 @@ fn difference<O: Opened, T: Coming<O::Bodies>>(
     requires a { length a.now ≤ 2 ^ 31 }
     requires b { length b.now ≤ 2 ^ 31 }
 {
-    let one = told_of(alloc, opened, a)?;
-    let other = told_of(alloc, opened, b)?;
-    difference_between(alloc, opened, a, b, (&one, &other))
+    let runs = both_told(alloc, opened, a, b)?;
+    let Some(number) = first_difference(&runs.a, &runs.b) else {
+        return Ok(None);
+    };
+    let ends = both_told_up_to(alloc, opened, a, b, number)?;
+    let text = text_of(alloc, &runs, number, &ends)?;
+    Ok(Some(text))
 }
 
 /// The difference of the runs of an image over two steps texts.

@@ -1,18 +1,14 @@
-//! What runs of an image come to in the text of its bodies: as a table, and as a tracefile of lcov.
-ghost use Rattle.std.specs.Prelude.{◌≡◌, ◌+◌, ◌≤◌, ◌++◌, ◌∷◌, ◌^◌, [], IfOk, OnOk, length};
-ghost use Rattle.fmp_looking.specs.Branches.{branch_steps};
-ghost use Rattle.fmp_looking.specs.Observed.{calls_seen as seen_calls};
-ghost use Rattle.fmp_frames.specs.Made.{places_made as made_by};
-ghost use Rattle.fmp_instructions.specs.Machine.{code_meaning};
-ghost use Rattle.fmp_replay.specs.Replays.{kernel_after};
+//! The coverage of the text of its bodies by runs of an image: as a table, and as a tracefile of lcov.
+ghost use Rattle.std.specs.Prelude.{◌≡◌, ◌≤◌, ◌++◌, ◌∷◌, ◌^◌, [], IfOk, OnOk, length};
 ghost use Rattle.fmp_looking.specs.Covered.{IsCoverage, IsLcov, IsSeen, seen_of};
+ghost use Rattle.fmp_looking.specs.PlacedRuns.{calls_in, places_in, start_of, steps_in};
 
 use crate::branches::{BranchStep, add_branch_steps};
 use crate::coverage::{counts_in, text_lines};
 use crate::lcov::tracefile;
 use crate::marks::marks_of;
 use crate::observing::{CallSeen, calls_seen};
-use crate::placing::places_over;
+use crate::placing::{PlacedRun, places_over};
 use crate::refused::NamedText;
 use crate::tables::{branch_counts, coverage_table};
 use fmp_base::Event;
@@ -41,87 +37,67 @@ pub struct RunsSeen {
     sightings: Sightings,
 }
 
-/// How many tasks the system of an image has.
-fn task_count(image: &Image) -> usize
-    ensures { result ≡ length image.now.system.tasks }
-{
-    image.system().tasks.len()
-}
-
-/// The calls of earlier runs, and those of a run on a kernel of an image.
+/// The calls of earlier runs, and those of a run on this kernel.
 #[tactic(none)]
 fn calls_on<'a>(
     alloc: Global,
     kernel: &mut Kernel<Vm<'a>>,
-    image: &'a Image,
-    places: &CallPlaces,
-    events: &[Event],
+    run: PlacedRun<'a>,
     calls: Vec<CallSeen>,
 ) -> Result<Vec<CallSeen>, AllocError>
-    requires few { kernel.old.taken + length events.now ≤ 2 ^ 31 }
-    ensures { IfOk result (λ seen. seen.items ≡ seen_calls code_meaning image.now.code places.now kernel.old
-        events.now (length image.now.system.tasks) calls.items) }
+    requires kernel { kernel.old ≡ start_of run }
+    requires few { length run.events.now ≤ 2 ^ 20 }
+    ensures { IfOk result (λ seen. seen.items ≡ calls_in run.entry calls.items) }
 {
     let text = CodePlaces {
-        code: image.code(),
-        places,
+        code: run.image.code(),
+        places: run.places,
     };
-    calls_seen(alloc, kernel, text, events, task_count(image), calls)
+    calls_seen(alloc, kernel, text, run.events, calls)
 }
 
-/// The same on a new kernel of the image.
+/// The calls of earlier runs, and those of a run.
 #[tactic(none)]
 fn calls_over(
     alloc: Global,
-    image: &Image,
-    n: u64,
-    places: &CallPlaces,
-    events: &[Event],
+    run: PlacedRun<'_>,
     calls: Vec<CallSeen>,
 ) -> Result<Vec<CallSeen>, AllocError>
-    requires few { length events.now ≤ 2 ^ 20 }
-    ensures { IfOk result (λ seen. seen.items ≡ seen_calls code_meaning image.now.code places.now
-        (kernel_after image.now n []) events.now (length image.now.system.tasks) calls.items) }
+    requires few { length run.events.now ≤ 2 ^ 20 }
+    ensures { IfOk result (λ seen. seen.items ≡ calls_in run.entry calls.items) }
 {
-    let mut kernel = kernel_of(alloc, image, n)?;
-    let seen = calls_on(alloc, &mut kernel, image, places, events, calls);
+    let mut kernel = kernel_of(alloc, run.image, run.bound)?;
+    let seen = calls_on(alloc, &mut kernel, run, calls);
     drop(kernel);
     seen
 }
 
-/// Adds the ways that branches went in a run on a new kernel of an image.
+/// Adds the ways that branches went in a run.
 #[tactic(none)]
 fn add_steps(
     alloc: Global,
-    image: &Image,
-    n: u64,
-    events: &[Event],
+    run: PlacedRun<'_>,
     steps: &mut Vec<BranchStep>,
 ) -> Result<(), AllocError>
-    requires few { length events.now ≤ 2 ^ 20 }
-    ensures { OnOk result (steps.new.items ≡ steps.old.items
-        ++ branch_steps code_meaning image.now.code (kernel_after image.now n []) events.now) }
+    requires few { length run.events.now ≤ 2 ^ 20 }
+    ensures { OnOk result (steps.new.items ≡ steps.old.items ++ steps_in run.entry) }
 {
-    let mut kernel = kernel_of(alloc, image, n)?;
-    let added = add_branch_steps(alloc, &mut kernel, image.code(), events, steps);
+    let mut kernel = kernel_of(alloc, run.image, run.bound)?;
+    let added = add_branch_steps(alloc, &mut kernel, run.image.code(), run.events, steps);
     drop(kernel);
     added
 }
 
-/// Adds where the calls of a run of an image stand.
+/// Adds where the calls of a run stand.
 fn add_made(
     alloc: Global,
-    image: &Image,
-    n: u64,
-    places: &CallPlaces,
-    events: &[Event],
+    run: PlacedRun<'_>,
     made: &mut Vec<Option<CallPlace>>,
 ) -> Result<(), AllocError>
-    requires few { length events.now ≤ 2 ^ 20 }
-    ensures { OnOk result (made.new.items ≡ made.old.items
-        ++ made_by code_meaning image.now.code places.now (kernel_after image.now n []) events.now) }
+    requires few { length run.events.now ≤ 2 ^ 20 }
+    ensures { OnOk result (made.new.items ≡ made.old.items ++ places_in run.entry) }
 {
-    let more = places_over(alloc, image, n, places, events)?;
+    let more = places_over(alloc, run)?;
     made.extend_from_slice(&more)
 }
 
@@ -159,9 +135,15 @@ impl Sightings {
             calls,
             mut steps,
         } = self;
-        add_made(alloc, image, n, places, events, &mut made)?;
-        let calls = calls_over(alloc, image, n, places, events, calls)?;
-        add_steps(alloc, image, n, events, &mut steps)?;
+        let run = PlacedRun {
+            image,
+            bound: n,
+            places,
+            events,
+        };
+        add_made(alloc, run, &mut made)?;
+        let calls = calls_over(alloc, run, calls)?;
+        add_steps(alloc, run, &mut steps)?;
         Ok(Sightings { made, calls, steps })
     }
 
@@ -236,7 +218,7 @@ fn seen_of_run(
     Ok(RunsSeen::new(places, seen))
 }
 
-/// The table of what a run of an image comes to in this text of its bodies. `AllocError` if memory runs out.
+/// The table of the coverage of this text of its bodies by a run of an image. `AllocError` if memory runs out.
 pub fn run_coverage(
     alloc: Global,
     image: &Image,
@@ -252,7 +234,7 @@ pub fn run_coverage(
     seen.table(alloc, source.name, source.text)
 }
 
-/// The tracefile of lcov of what a run of an image comes to in this text of its bodies. `AllocError` if memory runs
+/// The tracefile of lcov of the coverage of this text of its bodies by a run of an image. `AllocError` if memory runs
 /// out.
 pub fn run_tracefile(
     alloc: Global,

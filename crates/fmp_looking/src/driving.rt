@@ -4,6 +4,7 @@ ghost use Rattle.fmp_drive.specs.Driving.{IsDriven};
 ghost use Rattle.fmp_replay.specs.Replays.{kernel_after};
 ghost use Rattle.fmp_looking.specs.Drives.{DrivesImage};
 
+use crate::open_image::OpenImage;
 use fmp_base::System;
 use fmp_code::Vm;
 use fmp_drive::{Driven, NextRun, Plan, drive, next_runs};
@@ -13,7 +14,7 @@ use fmp_replay::kernel_of;
 use std::alloc::{AllocError, Global};
 
 /// How many tasks a kernel has.
-fn tasks_of<B: Body>(kernel: &Kernel<B>) -> u8
+pub fn task_count<B: Body>(kernel: &Kernel<B>) -> u8
     ensures { result ≡ length kernel.now.system.tasks }
 {
     kernel.tables().task_count() as u8
@@ -35,7 +36,7 @@ fn driven_on<B: Body>(
         (λ d. IsDriven B.meaning kernel.old kernel.new sys.now.processors events d.steps.items d.stop) }
 {
     let mut plan = Plan::new(alloc, sys, seed)?;
-    let tasks = tasks_of(kernel);
+    let tasks = task_count(kernel);
     drive(alloc, kernel, &mut plan, sys.processors, tasks, events)
 }
 
@@ -54,16 +55,15 @@ pub struct Drive {
 fn drive_on<'a>(
     alloc: Global,
     kernel: &mut Kernel<Vm<'a>>,
-    image: &'a Image,
+    opened: OpenImage<'a>,
     events: u32,
     seed: Option<u64>,
-    n: u64,
 ) -> Result<Drive, AllocError>
-    requires kernel { kernel.old ≡ kernel_after image.now n [] }
+    requires kernel { kernel.old ≡ kernel_after opened.image.now opened.bound [] }
     requires few { events ≤ 2 ^ 20 }
-    ensures { IfOk result (λ d. DrivesImage image.now n events d) }
+    ensures { IfOk result (λ d. DrivesImage opened.entry.image.now opened.entry.bound events d) }
 {
-    let driven = driven_on(alloc, kernel, image.system(), events, seed)?;
+    let driven = driven_on(alloc, kernel, opened.image.system(), events, seed)?;
     let next = next_runs(kernel);
     Ok(Drive { driven, next })
 }
@@ -81,7 +81,8 @@ pub fn driven(
     ensures { IfOk result (λ d. DrivesImage image.now n events d) }
 {
     let mut kernel = kernel_of(alloc, image, n)?;
-    let drive = drive_on(alloc, &mut kernel, image, events, seed, n);
+    let opened = OpenImage { image, bound: n };
+    let drive = drive_on(alloc, &mut kernel, opened, events, seed);
     drop(kernel);
     drive
 }

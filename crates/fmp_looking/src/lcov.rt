@@ -17,8 +17,8 @@ struct Way {
     number: u64,
     /// How often it was gone.
     times: usize,
-    /// Whether the branch was come to.
-    is_come_to: bool,
+    /// Whether the branch was reached.
+    is_reached: bool,
 }
 
 /// Appends bytes.
@@ -35,7 +35,7 @@ fn append_number(number: u64, out: &mut Vec<u8>) -> Result<(), AllocError>
     append(Buffer::new().format(number).as_bytes(), out)
 }
 
-/// Appends how often a line was come to.
+/// Appends how often a line was reached.
 fn append_data(count: &LineCount, out: &mut Vec<u8>) -> Result<(), AllocError>
     ensures { OnOk result (out.new.items ≡ out.old.items ++ spec.data_line count.now) }
 {
@@ -46,7 +46,7 @@ fn append_data(count: &LineCount, out: &mut Vec<u8>) -> Result<(), AllocError>
     append(b"\n", out)
 }
 
-/// Appends how often each line was come to.
+/// Appends how often each line was reached.
 fn append_all(counts: &[LineCount], out: &mut Vec<u8>) -> Result<(), AllocError>
     ensures { OnOk result (out.new.items ≡ out.old.items ++ spec.data_lines counts.now) }
 {
@@ -56,9 +56,9 @@ fn append_all(counts: &[LineCount], out: &mut Vec<u8>) -> Result<(), AllocError>
     Ok(())
 }
 
-/// Whether a branch was come to.
-fn is_come_to(count: &BranchCount) -> bool
-    ensures { result ≡ spec.is_come_to count.now }
+/// Whether a branch was reached.
+fn is_reached(count: &BranchCount) -> bool
+    ensures { result ≡ spec.is_reached count.now }
 {
     count.is_true != 0 || count.is_false != 0
 }
@@ -67,18 +67,18 @@ fn is_come_to(count: &BranchCount) -> bool
 fn add_ways(count: &BranchCount, ways: &mut Vec<Way>) -> Result<(), AllocError>
     ensures { OnOk result (ways.new.items ≡ ways.old.items ++ spec.ways_of count.now) }
 {
-    let come_to = is_come_to(count);
+    let is_reached = is_reached(count);
     ways.push(Way {
         place: count.place,
         number: 0,
         times: count.is_true,
-        is_come_to: come_to,
+        is_reached,
     })?;
     ways.push(Way {
         place: count.place,
         number: 1,
         times: count.is_false,
-        is_come_to: come_to,
+        is_reached,
     })?;
     Ok(())
 }
@@ -94,11 +94,11 @@ fn all_ways(alloc: Global, counts: &[BranchCount]) -> Result<Vec<Way>, AllocErro
     Ok(ways)
 }
 
-/// Appends how often a branch went a way; nothing is said of one that was never come to.
+/// Appends how often a branch went a way; nothing is said of one that was never reached.
 fn append_times(way: &Way, out: &mut Vec<u8>) -> Result<(), AllocError>
-    ensures { OnOk result (out.new.items ≡ out.old.items ++ spec.times_gone way.now.times way.now.is_come_to) }
+    ensures { OnOk result (out.new.items ≡ out.old.items ++ spec.times_gone way.now.times way.now.is_reached) }
 {
-    if way.is_come_to {
+    if way.is_reached {
         append_number(way.times as u64, out)
     } else {
         append(b"-", out)
@@ -180,14 +180,14 @@ fn was_made(count: &LineCount) -> bool
     count.count != 0
 }
 
-/// How many lines were come to.
+/// How many lines were reached.
 fn made_lines(counts: &[LineCount]) -> usize
     ensures { result ≡ count_by spec.was_made counts.now }
 {
     counts.iter().filter(|count| was_made(*count)).count()
 }
 
-/// Appends how many lines were come to, and how many there are.
+/// Appends how many lines were reached, and how many there are.
 fn append_found(counts: &[LineCount], out: &mut Vec<u8>) -> Result<(), AllocError>
     ensures { OnOk result (out.new.items ≡ out.old.items ++ spec.found_lines counts.now) }
 {

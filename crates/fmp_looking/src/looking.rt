@@ -6,9 +6,8 @@ use crate::kinds::exit_over;
 use crate::open_image::OpenImage;
 use crate::open_system::OpenSystem;
 use crate::opened::Opened;
-use crate::opening::{events_for, image_of};
+use crate::opening::{StepsRun, events_for, image_of};
 use fmp_frames::known_times;
-use fmp_image_bytes::Image;
 use fmp_kernel::Coming;
 use fmp_outside::Given;
 use fmp_recording::{MOST_LINES, RecordingFault, read_recording, read_times};
@@ -35,31 +34,28 @@ pub trait RunLook {
 fn over_steps<L: RunLook>(
     alloc: Global,
     look: &L,
-    image: &Image,
+    opened: &OpenImage<'_>,
     steps: &[u8],
-    bound: u64,
 ) -> Result<L::Made, ViewExit> {
-    match events_for(alloc, image, steps) {
-        Ok(events) => look.of(alloc, &OpenImage::new(image, bound), &events, &[]),
+    match events_for(alloc, opened.image, steps) {
+        Ok(events) => look.of(alloc, opened, &events, &[]),
         Err(exit) => Err(exit),
     }
 }
 
-/// What a look makes of a run of the image of these bytes over a steps text.
+/// What a look makes of a run of an image over a steps text.
 pub fn look_at_image<L: RunLook>(
     alloc: Global,
     look: &L,
-    image: &[u8],
-    steps: &[u8],
-    bound: u64,
+    run: StepsRun<'_>,
 ) -> Result<L::Made, ViewExit> {
-    match image_of(alloc, image) {
+    match image_of(alloc, run.image) {
         Ok(image) => {
-            let made = over_steps(alloc, look, &image, steps, bound);
+            let made = over_steps(alloc, look, &OpenImage::new(&image, run.bound), run.steps);
             drop(image);
             made
         }
-        Err(fault) => Err(exit_over(alloc, fault, image)),
+        Err(fault) => Err(exit_over(alloc, fault, run.image)),
     }
 }
 

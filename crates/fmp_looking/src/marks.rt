@@ -1,4 +1,4 @@
-//! The places of a task text to which a run may come.
+//! The places of a task text that a run may reach.
 ghost use Rattle.std.specs.Prelude.{◌≡◌, ◌≤◌, ◌++◌, ◌^◌, IfOk, OnOk, drop, length, take};
 ghost use Rattle.fmp_looking.specs.Marks as spec;
 ghost use Rattle.fmp_looking.specs.Marks.{AreMarksOf};
@@ -22,14 +22,14 @@ pub enum BranchKind {
     Or,
 }
 
-/// What a run may come to.
+/// What a run may reach.
 #[derive(Clone, Copy)]
 pub enum MarkKind {
     Call(Service),
     Branch(BranchKind),
 }
 
-/// A place of a task text to which a run may come.
+/// A place of a task text that a run may reach.
 #[derive(Clone, Copy)]
 pub struct Mark {
     pub kind: MarkKind,
@@ -47,13 +47,13 @@ fn column_of(text: &[u8], start: usize) -> usize
     ensures { result ≡ spec.column_of text.now start }
 {
     let end = start.min(text.len());
-    column_behind(&text[..end])
+    column_after(&text[..end])
 }
 
-/// The column behind the bytes from the beginning of a text on.
-fn column_behind(front: &[u8]) -> usize
+/// The column after these bytes, with which a text begins.
+fn column_after(front: &[u8]) -> usize
     requires { length front.now ≤ 2 ^ 20 }
-    ensures { result ≡ spec.column_behind 1 front.now }
+    ensures { result ≡ spec.column_after 1 front.now }
 {
     let mut column = 1;
     for byte in front {
@@ -102,7 +102,7 @@ fn marks_in(alloc: Global, text: &[u8], tokens: &Tokens<'_>) -> Result<Vec<Mark>
     Ok(marks)
 }
 
-/// The places of a task text to which a run may come: its calls and its branches, in the order of their code; none of a
+/// The places of a task text that a run may reach: its calls and its branches, in the order of their code; none of a
 /// text that is too long. `AllocError` if memory runs out.
 pub fn marks_of(alloc: Global, text: &[u8]) -> Result<Vec<Mark>, AllocError>
     ensures { IfOk result (λ marks. AreMarksOf text.now marks.items) }

@@ -3,6 +3,7 @@ ghost use Rattle.std.specs.Prelude.{◌≡◌, ◌+◌, ◌≤◌, ◌^◌, IfOk
 ghost use Rattle.fmp_instructions.specs.Instructions.{code_tables};
 ghost use Rattle.fmp_looking.specs.Observed as spec;
 
+use crate::driving::task_count;
 use fmp_base::{Caller, Effect, Er, Event, Line, Reply};
 use fmp_frames::{CallPlace, CodePlaces, event_place};
 use fmp_instructions::MachineContext;
@@ -44,7 +45,7 @@ fn waiting_at(waiting: &[Option<CallPlace>], task: u8) -> Option<CallPlace>
 }
 
 /// This many tasks of which none waits.
-fn no_waits(alloc: Global, tasks: usize) -> Result<Vec<Option<CallPlace>>, AllocError>
+fn no_waits(alloc: Global, tasks: u8) -> Result<Vec<Option<CallPlace>>, AllocError>
     ensures { IfOk result (λ waiting. waiting.items ≡ replicate tasks None) }
 {
     let mut waiting = Vec::new(alloc);
@@ -60,8 +61,8 @@ impl CallsSeen {
     ghost use Rattle.fmp_looking.specs.Observed.{answered, heard_event, heard_line, heard_lines, heard_of, made};
     ghost use Rattle.fmp_looking.specs.Observed.{replied, unheard, waits};
 
-    /// Nothing is seen of a run of a system of this many tasks, behind calls of earlier ones.
-    fn new(alloc: Global, calls: Vec<CallSeen>, tasks: usize) -> Result<CallsSeen, AllocError>
+    /// Nothing is seen of a run of a system of this many tasks, after calls of earlier ones.
+    fn new(alloc: Global, calls: Vec<CallSeen>, tasks: u8) -> Result<CallsSeen, AllocError>
         ensures { IfOk result (λ s. heard_of s ≡ unheard calls.items tasks) }
     {
         let waiting = no_waits(alloc, tasks)?;
@@ -169,21 +170,20 @@ impl CallsSeen {
     }
 }
 
-/// The calls of earlier runs, and those that events make on a kernel of a system of this many tasks: that each was
-/// made, and what it was answered. `AllocError` if memory runs out.
+/// The calls of earlier runs, and those that events make on a kernel: that each was made, and what it was answered.
+/// `AllocError` if memory runs out.
 pub fn calls_seen<B: Body<Ctx = MachineContext>>(
     alloc: Global,
     kernel: &mut Kernel<B>,
     text: CodePlaces<'_>,
     events: &[Event],
-    tasks: usize,
     calls: Vec<CallSeen>,
 ) -> Result<Vec<CallSeen>, AllocError>
     requires few { kernel.old.taken + length events.now ≤ 2 ^ 31 }
     ensures { IfOk result (λ seen. seen.items ≡ spec.calls_seen B.meaning (code_tables text.entry.code.now)
-        text.entry.places.now kernel.old events.now tasks calls.items) }
+        text.entry.places.now kernel.old events.now calls.items) }
 {
-    let mut heard = CallsSeen::new(alloc, calls, tasks)?;
+    let mut heard = CallsSeen::new(alloc, calls, task_count(kernel))?;
     for e in events {
         let place = event_place(kernel, text, *e);
         let effect = e.take(kernel);

@@ -9,6 +9,17 @@ use fmp_image_bytes::{Image, LoadFault, load};
 use fmp_trace::{StepsFault, read_steps};
 use std::alloc::Global;
 
+/// A run of an image over a steps text, as its files have it.
+#[derive(Clone, Copy)]
+pub struct StepsRun<'a> {
+    /// The bytes of the image.
+    pub image: &'a [u8],
+    /// The steps text.
+    pub steps: &'a [u8],
+    /// The bound of a stretch, 1 to 2^48.
+    pub bound: u64,
+}
+
 /// The image that these bytes spell, or the fault that `fmp sim` has of them.
 pub fn image_of(alloc: Global, bytes: &[u8]) -> Result<Image, SimFault> {
     match load(alloc, bytes) {

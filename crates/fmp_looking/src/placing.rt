@@ -1,13 +1,12 @@
 //! Where the calls of a run stand in the text of its bodies.
-ghost use Rattle.std.specs.Prelude.{◌≡◌, ◌≤◌, ◌^◌, [], IfOk, length};
-ghost use Rattle.fmp_frames.specs.Made.{places_made as made_by};
-ghost use Rattle.fmp_replay.specs.Replays.{kernel_after};
-ghost use Rattle.fmp_instructions.specs.Machine.{code_meaning};
+ghost use Rattle.std.specs.Prelude.{◌≡◌, ◌≤◌, ◌^◌, IfOk, length};
+ghost use Rattle.fmp_looking.specs.PlacedRuns.{places_in, start_of};
 ghost use Rattle.fmp_looking.specs.Traces.{ArePlaced};
 
 use crate::exit::{ViewExit, memory};
 use crate::kinds::exit_over;
-use crate::opening::{events_for, image_of};
+use crate::open_image::OpenImage;
+use crate::opening::{StepsRun, events_for, image_of};
 use fmp_base::{Event, Line};
 use fmp_code::Vm;
 use fmp_frames::{CallPlace, CallPlaces, CodePlaces, places_made};
@@ -16,50 +15,48 @@ use fmp_kernel::Kernel;
 use fmp_replay::kernel_of;
 use std::alloc::{AllocError, Global};
 
-/// For each event that is done on the kernel of an image after setup where the call stands that it makes, if it makes
-/// one. The calls of the bodies stand at these places in their text.
+/// A run of an image from setup on, whose calls stand at these places of a text of its bodies.
+#[derive(Clone, Copy)]
+pub struct PlacedRun<'a> {
+    pub image: &'a Image,
+    /// The bound of a stretch.
+    pub bound: u64,
+    pub places: &'a CallPlaces,
+    pub events: &'a [Event],
+}
+
+/// For each event of a run that is done on this kernel where the call stands that it makes, if it makes one.
 #[tactic(none)]
 fn places_on<'a>(
     alloc: Global,
     kernel: &mut Kernel<Vm<'a>>,
-    image: &'a Image,
-    n: u64,
-    places: &CallPlaces,
-    events: &[Event],
+    run: PlacedRun<'a>,
 ) -> Result<Vec<Option<CallPlace>>, AllocError>
-    requires kernel { kernel.old ≡ kernel_after image.now n [] }
-    requires few { length events.now ≤ 2 ^ 20 }
-    ensures { IfOk result (λ made. made.items
-        ≡ made_by code_meaning image.now.code places.now (kernel_after image.now n []) events.now) }
+    requires kernel { kernel.old ≡ start_of run }
+    requires few { length run.events.now ≤ 2 ^ 20 }
+    ensures { IfOk result (λ made. made.items ≡ places_in run.entry) }
 {
     let text = CodePlaces {
-        code: image.code(),
-        places,
+        code: run.image.code(),
+        places: run.places,
     };
-    places_made(alloc, kernel, text, events)
+    places_made(alloc, kernel, text, run.events)
 }
 
-/// The same on a new kernel of the image.
+/// For each event of a run that is done where the call stands that it makes, if it makes one. `AllocError` if memory
+/// runs out.
 #[tactic(none)]
-pub fn places_over(
-    alloc: Global,
-    image: &Image,
-    n: u64,
-    places: &CallPlaces,
-    events: &[Event],
-) -> Result<Vec<Option<CallPlace>>, AllocError>
-    requires few { length events.now ≤ 2 ^ 20 }
-    ensures { IfOk result (λ made. made.items
-        ≡ made_by code_meaning image.now.code places.now (kernel_after image.now n []) events.now) }
+pub fn places_over(alloc: Global, run: PlacedRun<'_>) -> Result<Vec<Option<CallPlace>>, AllocError>
+    requires few { length run.events.now ≤ 2 ^ 20 }
+    ensures { IfOk result (λ made. made.items ≡ places_in run.entry) }
 {
-    let mut kernel = kernel_of(alloc, image, n)?;
-    let made = places_on(alloc, &mut kernel, image, n, places, events);
+    let mut kernel = kernel_of(alloc, run.image, run.bound)?;
+    let made = places_on(alloc, &mut kernel, run);
     drop(kernel);
     made
 }
 
-/// For each event of a run of an image that is done where the call stands that it makes in the text of the bodies, if
-/// it makes one. `AllocError` if memory runs out.
+/// The same, in this text of the bodies of the image.
 #[tactic(none)]
 pub fn placed(
     alloc: Global,
@@ -72,7 +69,13 @@ pub fn placed(
     ensures { IfOk result (λ made. ArePlaced src.now image.now n events.now made.items) }
 {
     let places = CallPlaces::new(alloc, src)?;
-    places_over(alloc, image, n, &places, events)
+    let run = PlacedRun {
+        image,
+        bound: n,
+        places: &places,
+        events,
+    };
+    places_over(alloc, run)
 }
 
 /// Where the call of the event of this number stands, by the places from the first event on.
@@ -81,8 +84,8 @@ pub fn place_at(places: &[Option<CallPlace>], event: u32) -> Option<CallPlace> {
     *places.get(place)?
 }
 
-/// A text with this behind its first line.
-fn behind_first_line(alloc: Global, text: &[u8], more: &[u8]) -> Result<Vec<u8>, AllocError> {
+/// A text with this after its first line.
+fn after_first_line(alloc: Global, text: &[u8], more: &[u8]) -> Result<Vec<u8>, AllocError> {
     let end = text
         .iter()
         .position(|byte| *byte == b'\n')
@@ -93,7 +96,7 @@ fn behind_first_line(alloc: Global, text: &[u8], more: &[u8]) -> Result<Vec<u8>,
     Ok(out)
 }
 
-/// The text of these lines of an event, with where its call stands behind the first of them, if it tells a call and
+/// The text of these lines of an event, with where its call stands after the first of them, if it tells a call and
 /// that is known.
 pub fn with_place(
     alloc: Global,
@@ -104,46 +107,56 @@ pub fn with_place(
     match (lines.first(), place) {
         (Some(Line::Call { .. }), Some(CallPlace { line, column })) => {
             let more = format!(in alloc; " at {line}:{column}")?;
-            behind_first_line(alloc, &text, more.as_bytes())
+            after_first_line(alloc, &text, more.as_bytes())
         }
         _ => Ok(text),
+    }
+}
+
+/// Where the calls of the code of an image stand in a text of its bodies. The text must have as many bodies as the
+/// image, each with as many calls.
+pub fn places_for(alloc: Global, image: &Image, src: &[u8]) -> Result<CallPlaces, ViewExit> {
+    let places = CallPlaces::new(alloc, src).map_err(|error| memory(error))?;
+    match places.fits(alloc, image.code()) {
+        Ok(true) => Ok(places),
+        Ok(false) => Err(ViewExit::OtherText),
+        Err(error) => Err(memory(error)),
     }
 }
 
 /// Where the calls of a run of an image over a steps text stand in this text of its bodies.
 fn placed_over(
     alloc: Global,
-    image: &Image,
+    opened: &OpenImage<'_>,
     steps: &[u8],
     src: &[u8],
-    bound: u64,
 ) -> Result<Vec<Option<CallPlace>>, ViewExit> {
+    let image = opened.image;
     let events = events_for(alloc, image, steps)?;
-    let places = CallPlaces::new(alloc, src).map_err(|error| memory(error))?;
-    if !places
-        .fits(alloc, image.code())
-        .map_err(|error| memory(error))?
-    {
-        return Err(ViewExit::OtherText);
-    }
-    places_over(alloc, image, bound, &places, &events).map_err(|error| memory(error))
+    let places = places_for(alloc, image, src)?;
+    let run = PlacedRun {
+        image,
+        bound: opened.bound,
+        places: &places,
+        events: &events,
+    };
+    places_over(alloc, run).map_err(|error| memory(error))
 }
 
-/// Where the calls of a run of the image of these bytes over a steps text stand in this text of its bodies, for each
-/// event that is done. The text must have as many bodies as the image, each with as many calls.
+/// Where the calls of a run stand in this text of the bodies of its image, for each event that is done. The text must
+/// have as many bodies as the image, each with as many calls.
 pub fn places_of_run(
     alloc: Global,
-    image: &[u8],
-    steps: &[u8],
+    run: StepsRun<'_>,
     src: &[u8],
-    bound: u64,
 ) -> Result<Vec<Option<CallPlace>>, ViewExit> {
-    match image_of(alloc, image) {
+    match image_of(alloc, run.image) {
         Ok(image) => {
-            let placed = placed_over(alloc, &image, steps, src, bound);
+            let opened = OpenImage::new(&image, run.bound);
+            let placed = placed_over(alloc, &opened, run.steps, src);
             drop(image);
             placed
         }
-        Err(fault) => Err(exit_over(alloc, fault, image)),
+        Err(fault) => Err(exit_over(alloc, fault, run.image)),
     }
 }

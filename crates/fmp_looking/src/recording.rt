@@ -16,7 +16,7 @@ pub struct Beside<'a> {
     pub objects: bool,
     /// All turns that do nothing, in order.
     pub turns: &'a [IdleTurn],
-    /// Where the calls of the events stand, from the first event on; none are known behind the last one here.
+    /// Where the calls of the events stand, from the first event on; none are known after the last one here.
     pub places: &'a [Option<CallPlace>],
 }
 

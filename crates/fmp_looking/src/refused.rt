@@ -1,5 +1,5 @@
 //! The calls of a run that are refused.
-ghost use Rattle.std.specs.Prelude.{◌≡◌, ◌+◌, ◌≤◌, ◌^◌, ◌++◌, [], IfOk, OnOk, length, map};
+ghost use Rattle.std.specs.Prelude.{◌≡◌, ◌+◌, ◌≤◌, ◌^◌, [], IfOk, length, map};
 ghost use Rattle.fmp_instructions.specs.Instructions.{code_tables};
 ghost use Rattle.fmp_instructions.specs.Machine.{code_meaning};
 ghost use Rattle.fmp_looking.specs.Refused.{refused_in, refused_lines};
@@ -9,7 +9,9 @@ ghost use Rattle.fmp_replay.specs.Replays.{kernel_after};
 
 use crate::exit::{ViewExit, memory};
 use crate::kinds::exit_over;
-use crate::opening::{events_for, image_of};
+use crate::open_image::OpenImage;
+use crate::opening::{StepsRun, events_for, image_of};
+use crate::placing::{PlacedRun, places_for};
 use crate::tracing::line_form;
 use fmp_base::Event;
 use fmp_code::Vm;
@@ -52,7 +54,7 @@ fn answers_on<'a>(
     answers_in(alloc, kernel, events, task_count(image))
 }
 
-/// The same on a new kernel of the image.
+/// What the calls of a run of an image are answered.
 #[tactic(none)]
 fn answers_over(
     alloc: Global,
@@ -86,21 +88,15 @@ pub fn refused_on(
     refused_calls(alloc, image.code(), &answers)
 }
 
-/// Where the calls of the code of an image stand in a task text; nowhere if none is given. The text must have as many
-/// bodies as the image, each with as many calls.
-fn places_for(
+/// Where the calls of the code of an image stand in a task text; nowhere if none is given.
+fn places_in(
     alloc: Global,
     image: &Image,
     source: Option<NamedText<'_>>,
 ) -> Result<CallPlaces, ViewExit> {
-    let Some(source) = source else {
-        return CallPlaces::new(alloc, b"").map_err(|error| memory(error));
-    };
-    let places = CallPlaces::new(alloc, source.text).map_err(|error| memory(error))?;
-    match places.fits(alloc, image.code()) {
-        Ok(true) => Ok(places),
-        Ok(false) => Err(ViewExit::OtherText),
-        Err(error) => Err(memory(error)),
+    match source {
+        Some(source) => places_for(alloc, image, source.text),
+        None => CallPlaces::new(alloc, b"").map_err(|error| memory(error)),
     }
 }
 
@@ -112,89 +108,79 @@ fn file_of<'a>(source: Option<NamedText<'a>>) -> &'a [u8] {
     }
 }
 
-/// Appends a line of this form for each call that is refused, where the calls of bodies stand at these places of a
-/// file.
-fn append_all(
+/// A line of this form for each call that is refused, where the calls of bodies stand at these places of a file.
+fn lines_of(
     alloc: Global,
     form: LineForm,
     file: &[u8],
     text: CodePlaces<'_>,
     refused: &[RefusedCall],
-    out: &mut Vec<u8>,
-) -> Result<(), AllocError>
-    ensures { OnOk result (out.new.items ≡ out.old.items ++ refused_lines form file.now
-        (code_tables text.entry.code.now) text.entry.places.now (map refused_of refused.now)) }
+) -> Result<Vec<u8>, AllocError>
+    ensures { IfOk result (λ out. out.items ≡ refused_lines form file.now (code_tables text.entry.code.now)
+        text.entry.places.now (map refused_of refused.now)) }
 {
+    let mut out = Vec::new(alloc);
     for call in refused {
         let place = text.places.place(text.code, call.site.body, call.site.pc);
-        append_refused(alloc, form, file, place, call, out)?;
+        append_refused(alloc, form, file, place, call, &mut out)?;
     }
-    Ok(())
+    Ok(out)
 }
 
-/// The lines of the calls that are refused in a run of an image, where calls of bodies stand at these places of a file.
+/// The lines of the calls that are refused in a run, where calls of bodies stand at its places of a file.
 fn lines_on(
     alloc: Global,
     form: LineForm,
     file: &[u8],
-    places: &CallPlaces,
-    image: &Image,
-    n: u64,
-    events: &[Event],
+    run: PlacedRun<'_>,
 ) -> Result<Vec<u8>, AllocError>
-    requires few { length events.now ≤ 2 ^ 20 }
-    ensures { IfOk result (λ out. out.items ≡ refused_lines form file.now image.now.code places.now
-        (refused_in image.now n events.now)) }
+    requires few { length run.events.now ≤ 2 ^ 20 }
+    ensures { IfOk result (λ out. out.items ≡ refused_lines form file.now run.entry.image.now.code
+        run.entry.places.now (refused_in run.entry.image.now run.entry.bound run.entry.events.now)) }
 {
-    let refused = refused_on(alloc, image, n, events)?;
+    let refused = refused_on(alloc, run.image, run.bound, run.events)?;
     let text = CodePlaces {
-        code: image.code(),
-        places,
+        code: run.image.code(),
+        places: run.places,
     };
-    let mut out = Vec::new(alloc);
-    append_all(alloc, form, file, text, &refused, &mut out)?;
-    Ok(out)
+    lines_of(alloc, form, file, text, &refused)
 }
 
 /// The lines of the calls that are refused in a run of an image over a steps text.
 fn lines_over(
     alloc: Global,
     form: Form,
-    image: &Image,
+    opened: &OpenImage<'_>,
     steps: &[u8],
     source: Option<NamedText<'_>>,
-    bound: u64,
 ) -> Result<Vec<u8>, ViewExit> {
+    let image = opened.image;
     let events = events_for(alloc, image, steps)?;
-    let places = places_for(alloc, image, source)?;
-    lines_on(
-        alloc,
-        line_form(form),
-        file_of(source),
-        &places,
+    let places = places_in(alloc, image, source)?;
+    let run = PlacedRun {
         image,
-        bound,
-        &events,
-    )
-    .map_err(|error| memory(error))
+        bound: opened.bound,
+        places: &places,
+        events: &events,
+    };
+    lines_on(alloc, line_form(form), file_of(source), run).map_err(|error| memory(error))
 }
 
-/// A line for each call that is refused in a run of the image of these bytes over a steps text. Calls are told by where
-/// they stand in the task text of the image if it is given, else by body and place.
+/// A line for each call that is refused in a run. Calls are told by where they stand in the task text of the image if
+/// it is given, which must have as many bodies as the image, each with as many calls; else by body and place.
 pub fn refused_in_run(
     alloc: Global,
     form: Form,
-    image: &[u8],
-    steps: &[u8],
+    run: StepsRun<'_>,
     source: Option<NamedText<'_>>,
-    bound: u64,
 ) -> Result<Vec<u8>, ViewExit> {
-    match image_of(alloc, image) {
+    match image_of(alloc, run.image) {
         Ok(image) => {
-            let lines = lines_over(alloc, form, &image, steps, source, bound);
+            let opened = OpenImage::new(&image, run.bound);
+            let lines = lines_over(alloc, form, &opened, run.steps, source);
             drop(image);
             lines
         }
-        Err(fault) => Err(exit_over(alloc, fault, image)),
+        Err(fault) => Err(exit_over(alloc, fault, run.image)),
     }
 }

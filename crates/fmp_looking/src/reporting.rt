@@ -5,20 +5,18 @@ ghost use Rattle.fmp_trace.specs.Steps.{steps_text};
 ghost use Rattle.fmp_trials.specs.Found.{IsFound};
 ghost use Rattle.fmp_looking.specs.Tested.{IsFailedTest, subject_of};
 
-use crate::exit::ViewExit;
+use crate::exit::{ViewExit, memory};
 use crate::expecting::{Expectations, expected_of};
 use crate::looking::RunLook;
 use crate::open_image::OpenImage;
 use crate::trying::{Trials, failed_trial_of};
 use crate::trying_beside::failed_trial_beside;
-use crate::wanted::Testing;
+use crate::wanted::ImageTest;
 use fmp_base::Event;
 use fmp_expect::Expected;
-use fmp_files::Failure;
-use fmp_image_bytes::Image;
 use fmp_monitors::Sentence;
 use fmp_trace::print_steps;
-use fmp_trials::{FailedTrial, InterruptRate, RunPlan};
+use fmp_trials::{FailedTrial, RunPlan};
 use std::alloc::{AllocError, Global};
 use std::thread::Threads;
 
@@ -31,11 +29,6 @@ pub struct FailedTest {
     pub steps: Vec<u8>,
     /// What `expect` prints of them.
     pub report: Vec<u8>,
-}
-
-/// Out of memory, as a reason.
-fn memory(error: AllocError) -> ViewExit {
-    ViewExit::Failed(Failure::Memory(error))
 }
 
 /// What is said of an expectation of the end of a run, in the line of this number.
@@ -87,12 +80,12 @@ fn failed_test(
     })
 }
 
-/// How the random runs go that are asked for, in which interrupts come so often.
-pub fn plan_of<'a>(rates: &'a [InterruptRate], testing: &Testing<'_>) -> RunPlan<'a> {
+/// How the random runs of a test go.
+pub fn plan_of<'a>(test: &ImageTest<'a>) -> RunPlan<'a> {
     RunPlan {
-        events: testing.events,
-        tick: testing.tick,
-        interrupts: rates,
+        events: test.testing.events,
+        tick: test.testing.tick,
+        interrupts: test.rates,
     }
 }
 
@@ -113,49 +106,49 @@ fn found_by<R: Threads + Sync>(
     failed_trial_beside(alloc, rt, jobs, trials, seeds)
 }
 
-/// The first of the random runs that are asked for that fails one of these expectations, in which interrupts come so
-/// often.
+/// The first of the random runs of a test that fails one of these expectations.
 fn first_failed<R: Threads + Sync>(
     alloc: Global,
     rt: &R,
-    opened: &OpenImage<'_>,
+    test: &ImageTest<'_>,
     expected: &[Expected],
-    rates: &[InterruptRate],
-    testing: &Testing<'_>,
 ) -> Result<Option<FailedTrial>, ViewExit>
     ensures { IfOk result (λ found. IfSome found
-        (IsFound code_meaning (subject_of opened.now.image.now opened.now.bound expected.now))) }
+        (IsFound code_meaning (subject_of test.now.image.now test.now.testing.bound expected.now))) }
 {
     let trials = Trials {
-        opened: *opened,
+        opened: OpenImage {
+            image: test.image,
+            bound: test.testing.bound,
+        },
         expected,
-        plan: plan_of(rates, testing),
+        plan: plan_of(test),
     };
-    found_by(alloc, rt, testing.jobs, &trials, testing.seeds).map_err(|error| memory(error))
+    found_by(alloc, rt, test.testing.jobs, &trials, test.testing.seeds).map_err(|error| memory(
+        error,
+    ))
 }
 
-/// Makes the random runs that are asked for, in which interrupts come so often: the first that fails one of the
-/// expectations of a text. Where none does, nothing is said of other runs. The reasons to make none are a fault of the
-/// text, a line of it that begins with `end`, and that memory runs out.
+/// Makes the random runs of a test: the first that fails one of the expectations of a text. Where none does, nothing is
+/// said of other runs. The reasons to make none are a fault of the text, a line of it that begins with `end`, and that
+/// memory runs out.
 pub fn tested<R: Threads + Sync>(
     alloc: Global,
     rt: &R,
-    image: &Image,
+    test: &ImageTest<'_>,
     expectations: &Expectations<'_>,
-    rates: &[InterruptRate],
-    testing: &Testing<'_>,
 ) -> Result<Option<FailedTest>, ViewExit>
     ensures { IfOk result (λ found. IfSome found
-        (IsFailedTest image.now testing.now.bound expectations.now.text.now)) }
+        (IsFailedTest test.now.image.now test.now.testing.bound expectations.now.text.now)) }
 {
-    let expected = expected_of(alloc, image.system(), expectations.text)?;
+    let expected = expected_of(alloc, test.image.system(), expectations.text)?;
     refuse_ends(alloc, &expected)?;
-    let opened = OpenImage::new(image, testing.bound);
-    let found = first_failed(alloc, rt, &opened, &expected, rates, testing)?;
+    let found = first_failed(alloc, rt, test, &expected)?;
     match found {
         Some(trial) => {
-            let test = failed_test(alloc, &opened, expectations, trial)?;
-            Ok(Some(test))
+            let opened = OpenImage::new(test.image, test.testing.bound);
+            let failed = failed_test(alloc, &opened, expectations, trial)?;
+            Ok(Some(failed))
         }
         None => Ok(None),
     }

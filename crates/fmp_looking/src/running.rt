@@ -7,10 +7,10 @@ use crate::reporting::{FailedTest, tested};
 use crate::test_coverage::write_coverage;
 use crate::test_records::test_record;
 use crate::test_reports::test_report;
-use crate::wanted::Testing;
+use crate::wanted::{ImageTest, Testing};
 use fmp_files::{Failure, Outside, end, print, read_file, refuse_mistake, write_file};
 use fmp_image_bytes::Image;
-use fmp_trials::{FailedTrial, InterruptRate};
+use fmp_trials::FailedTrial;
 use std::alloc::{AllocError, Global};
 use std::thread::Threads;
 
@@ -55,36 +55,38 @@ fn say_none<O: Outside>(outside: &mut O, seeds: u32) {
     outside.say(format_args!("none of {seeds} runs fails; nothing is claimed of other runs\n"));
 }
 
-/// The report of random runs of an image that were judged by the text of a file, of which this one fails, if one does.
+/// The expectations of a text in the file of this name.
+fn expectations_of<'a>(name: &'a str, text: &'a [u8]) -> Expectations<'a> {
+    Expectations {
+        name,
+        text,
+        strict: false,
+    }
+}
+
+/// The report of a test, of whose runs this one fails, if one does.
 fn report_by<O: Outside>(
     alloc: Global,
     outside: &O,
-    image: &Image,
-    name: &str,
+    test: &ImageTest<'_>,
     failed: Option<&FailedTest>,
 ) -> Result<Vec<u8>, ViewExit> {
-    let text = read_file(alloc, outside, name, None)?;
-    let expectations = Expectations {
-        name,
-        text: &text,
-        strict: false,
-    };
-    test_report(alloc, image.system(), &expectations, failed)
+    let text = read_file(alloc, outside, test.expect, None)?;
+    let expectations = expectations_of(test.expect, &text);
+    test_report(alloc, test.image.system(), &expectations, failed)
 }
 
-/// Writes the report of random runs of an image to its file, if one is asked for, and gives the status.
+/// Writes the report of a test to its file, if one is asked for, and gives the status.
 fn write_report<O: Outside>(
     alloc: Global,
     outside: &mut O,
-    image: &Image,
-    name: &str,
-    junit: Option<&str>,
+    test: &ImageTest<'_>,
     failed: Option<&FailedTest>,
 ) -> u8 {
-    let Some(out) = junit else {
+    let Some(out) = test.testing.junit else {
         return 0;
     };
-    match report_by(alloc, outside, image, name, failed) {
+    match report_by(alloc, outside, test, failed) {
         Ok(report) => match write_file(alloc, outside, out, &report) {
             Ok(()) => 0,
             Err(failure) => end(outside, &failure),
@@ -93,32 +95,28 @@ fn write_report<O: Outside>(
     }
 }
 
-/// What comes of random runs of an image that were judged by the text of a file, as an object of JSON.
+/// What comes of a test, as an object of JSON.
 fn record_by<O: Outside>(
     alloc: Global,
     outside: &O,
-    name: &str,
-    seeds: u32,
+    test: &ImageTest<'_>,
     found: Option<&FailedTest>,
 ) -> Result<Vec<u8>, Failure> {
-    let text = read_file(alloc, outside, name, None)?;
-    let expectations = Expectations {
-        name,
-        text: &text,
-        strict: false,
-    };
-    test_record(alloc, &expectations, seeds, found).map_err(|error| Failure::Memory(error))
+    let text = read_file(alloc, outside, test.expect, None)?;
+    let expectations = expectations_of(test.expect, &text);
+    test_record(alloc, &expectations, test.testing.seeds, found).map_err(|error| Failure::Memory(
+        error,
+    ))
 }
 
-/// Prints what comes of random runs as an object of JSON.
+/// Prints what comes of a test as an object of JSON.
 fn print_record<O: Outside>(
     alloc: Global,
     outside: &mut O,
-    name: &str,
-    seeds: u32,
+    test: &ImageTest<'_>,
     found: Option<&FailedTest>,
 ) -> u8 {
-    match record_by(alloc, outside, name, seeds, found) {
+    match record_by(alloc, outside, test, found) {
         Ok(record) => match print(alloc, outside, &record) {
             0 if found.is_some() => FAILS,
             status => status,
@@ -127,32 +125,25 @@ fn print_record<O: Outside>(
     }
 }
 
-/// Whether a file, if one is named, is one of those that are read.
-fn is_over_input<O: Outside>(
-    outside: &O,
-    out: Option<&str>,
-    name: &str,
-    testing: &Testing<'_>,
-) -> bool {
+/// Whether a file, if one is named, is one of those that a test reads.
+fn is_over_input<O: Outside>(outside: &O, out: Option<&str>, test: &ImageTest<'_>) -> bool {
     match out {
         Some(out) => {
-            outside.is_one_file(out, name)
-                || outside.is_one_file(out, testing.cfg)
-                || outside.is_one_file(out, testing.src)
+            outside.is_one_file(out, test.expect)
+                || outside.is_one_file(out, test.testing.cfg)
+                || outside.is_one_file(out, test.testing.src)
         }
         None => false,
     }
 }
 
 /// The mistake of writing over a file that is read, if one would be.
-fn over_input<O: Outside>(outside: &O, name: &str, testing: &Testing<'_>) -> Option<TestMistake> {
-    let files = testing.files;
-    if is_over_input(outside, testing.junit, name, testing) {
+fn over_input<O: Outside>(outside: &O, test: &ImageTest<'_>) -> Option<TestMistake> {
+    let files = test.testing.files;
+    if is_over_input(outside, test.testing.junit, test) {
         return Some(TestMistake::ReportOverInput);
     }
-    if is_over_input(outside, files.lcov, name, testing)
-        || is_over_input(outside, files.coverage, name, testing)
-    {
+    if is_over_input(outside, files.lcov, test) || is_over_input(outside, files.coverage, test) {
         return Some(TestMistake::CoverageOverInput);
     }
     None
@@ -182,85 +173,58 @@ fn print_found<O: Outside>(
     }
 }
 
-/// Writes the report of random runs of an image, and prints what came of them.
+/// Writes the report of a test, and prints what came of it.
 fn tell_found<O: Outside>(
     alloc: Global,
     outside: &mut O,
-    image: &Image,
-    name: &str,
-    testing: &Testing<'_>,
+    test: &ImageTest<'_>,
     found: Option<&FailedTest>,
 ) -> u8 {
-    match write_report(alloc, outside, image, name, testing.junit, found) {
-        0 if testing.json => print_record(alloc, outside, name, testing.seeds, found),
-        0 => print_found(alloc, outside, testing.seeds, found),
+    match write_report(alloc, outside, test, found) {
+        0 if test.testing.json => print_record(alloc, outside, test, found),
+        0 => print_found(alloc, outside, test.testing.seeds, found),
         status => status,
     }
 }
 
-/// Writes what the calls and branches of random runs come to, and their report, and prints what came of them.
+/// Writes the coverage and the report of a test, and prints what came of it.
 fn tell_all<O: Outside, R: Threads + Sync>(
     alloc: Global,
     outside: &mut O,
     rt: &R,
-    image: &Image,
-    name: &str,
-    rates: &[InterruptRate],
-    testing: &Testing<'_>,
+    test: &ImageTest<'_>,
     found: Option<&FailedTest>,
 ) -> u8 {
-    let runs = runs_made(testing, found);
-    match write_coverage(alloc, outside, rt, image, name, rates, testing, runs) {
-        0 => tell_found(alloc, outside, image, name, testing, found),
+    let runs = runs_made(&test.testing, found);
+    match write_coverage(alloc, outside, rt, test, runs) {
+        0 => tell_found(alloc, outside, test, found),
         status => status,
     }
 }
 
-/// Makes random runs of an image, in which interrupts come so often, and judges them by the text of a file.
+/// Makes the random runs of a test, and judges them.
 fn test_by<O: Outside, R: Threads + Sync>(
     alloc: Global,
     outside: &O,
     rt: &R,
-    image: &Image,
-    name: &str,
-    rates: &[InterruptRate],
-    testing: &Testing<'_>,
+    test: &ImageTest<'_>,
 ) -> Result<Option<FailedTest>, ViewExit> {
-    let text = read_file(alloc, outside, name, None)?;
-    let expectations = Expectations {
-        name,
-        text: &text,
-        strict: false,
-    };
-    tested(alloc, rt, image, &expectations, rates, testing)
+    let text = read_file(alloc, outside, test.expect, None)?;
+    tested(alloc, rt, test, &expectations_of(test.expect, &text))
 }
 
-/// Makes random runs of an image, in which interrupts come so often, and gives the status.
-fn test_at<O: Outside, R: Threads + Sync>(
+/// Makes a test, and gives the status.
+fn run_test<O: Outside, R: Threads + Sync>(
     alloc: Global,
     outside: &mut O,
     rt: &R,
-    image: &Image,
-    rates: &[InterruptRate],
-    testing: &Testing<'_>,
+    test: &ImageTest<'_>,
 ) -> u8 {
-    let Some(name) = testing.expect else {
-        return refuse_mistake(outside, test_mistake(alloc, TestMistake::NothingExpected));
-    };
-    if let Some(mistake) = over_input(outside, name, testing) {
+    if let Some(mistake) = over_input(outside, test) {
         return refuse_mistake(outside, test_mistake(alloc, mistake));
     }
-    match test_by(alloc, outside, rt, image, name, rates, testing) {
-        Ok(found) => tell_all(
-            alloc,
-            outside,
-            rt,
-            image,
-            name,
-            rates,
-            testing,
-            found.as_ref(),
-        ),
+    match test_by(alloc, outside, rt, test) {
+        Ok(found) => tell_all(alloc, outside, rt, test, found.as_ref()),
         Err(exit) => end(outside, &exit),
     }
 }
@@ -275,7 +239,18 @@ pub fn test_image<O: Outside, R: Threads + Sync>(
     testing: &Testing<'_>,
 ) -> u8 {
     match rates_of(alloc, image.system(), testing.rates) {
-        Ok(Some(rates)) => test_at(alloc, outside, rt, image, &rates, testing),
+        Ok(Some(rates)) => match testing.expect {
+            Some(expect) => {
+                let test = ImageTest {
+                    image,
+                    expect,
+                    rates: &rates,
+                    testing: *testing,
+                };
+                run_test(alloc, outside, rt, &test)
+            }
+            None => refuse_mistake(outside, test_mistake(alloc, TestMistake::NothingExpected)),
+        },
         Ok(None) => refuse_mistake(outside, test_mistake(alloc, TestMistake::Rate)),
         Err(error) => end(outside, &Failure::Memory(error)),
     }

@@ -1,7 +1,8 @@
-//! What the random runs of `test` come to in the text of the bodies.
+//! The coverage of the text of the bodies by the random runs of `test`.
 ghost use Rattle.std.specs.Prelude.{IfOk};
 ghost use Rattle.fmp_looking.specs.Covered.{AreTrialsSeen, IsTable, IsTracefile, seen_of};
 
+use crate::coverage_files::write_coverage_files;
 use crate::covering::RunsSeen;
 use crate::exit::{ViewExit, memory};
 use crate::expecting::expected_of;
@@ -10,43 +11,51 @@ use crate::refused::NamedText;
 use crate::reporting::plan_of;
 use crate::trying::Trials;
 use crate::trying_beside::seen_of_trials;
-use crate::wanted::{CoverageFiles, Testing};
-use fmp_files::{Outside, end, read_file, write_file};
-use fmp_image_bytes::Image;
-use fmp_trials::InterruptRate;
+use crate::wanted::{CoverageFiles, ImageTest};
+use fmp_files::{Outside, end, read_file};
 use std::alloc::{AllocError, Global};
 use std::thread::Threads;
 
-/// What runs come to.
+/// The coverage of a text by runs.
 #[derive(Drop)]
 struct Covered {
     tracefile: Vec<u8>,
     table: Vec<u8>,
 }
 
-/// What is seen of the first random runs of an image, this many, that are judged by this text of expectations.
+/// The texts of a test: of the bodies, and of what is expected.
+#[derive(Clone, Copy)]
+struct TestTexts<'a> {
+    src: &'a [u8],
+    expectations: &'a [u8],
+}
+
+/// What is seen of the first random runs of a test, this many.
 fn seen_by<R: Threads + Sync>(
     alloc: Global,
     rt: &R,
-    image: &Image,
-    src: &[u8],
-    expectations: &[u8],
-    rates: &[InterruptRate],
-    testing: &Testing<'_>,
+    test: &ImageTest<'_>,
+    texts: TestTexts<'_>,
     runs: u64,
 ) -> Result<RunsSeen, ViewExit>
-    ensures { IfOk result (λ seen. AreTrialsSeen src.now image.now testing.now.bound runs (seen_of seen)) }
+    ensures { IfOk result (λ seen. AreTrialsSeen texts.entry.src.now test.now.image.now test.now.testing.bound
+        runs (seen_of seen)) }
 {
-    let expected = expected_of(alloc, image.system(), expectations)?;
+    let expected = expected_of(alloc, test.image.system(), texts.expectations)?;
     let trials = Trials {
-        opened: OpenImage::new(image, testing.bound),
+        opened: OpenImage {
+            image: test.image,
+            bound: test.testing.bound,
+        },
         expected: &expected,
-        plan: plan_of(rates, testing),
+        plan: plan_of(test),
     };
-    seen_of_trials(alloc, rt, testing.jobs, &trials, src, runs).map_err(|error| memory(error))
+    seen_of_trials(alloc, rt, test.testing.jobs, &trials, texts.src, runs).map_err(|error| memory(
+        error,
+    ))
 }
 
-/// What runs come to of which this is seen, in this text.
+/// The coverage of this text by runs of which this is seen.
 fn covered_of(alloc: Global, seen: &RunsSeen, source: NamedText<'_>) -> Result<Covered, AllocError>
     ensures tracefile { IfOk result (λ c. IsTracefile source.entry.name.now source.entry.text.now (seen_of seen.now)
         c.tracefile.items) }
@@ -59,70 +68,54 @@ fn covered_of(alloc: Global, seen: &RunsSeen, source: NamedText<'_>) -> Result<C
     })
 }
 
-/// What the first random runs of an image come to, this many, by the texts of files.
+/// The coverage of the text of its file by the first random runs of a test, this many.
 fn covered_by<O: Outside, R: Threads + Sync>(
     alloc: Global,
     outside: &O,
     rt: &R,
-    image: &Image,
-    name: &str,
-    rates: &[InterruptRate],
-    testing: &Testing<'_>,
+    test: &ImageTest<'_>,
     runs: u64,
 ) -> Result<Covered, ViewExit> {
-    let expectations = read_file(alloc, outside, name, None)?;
-    let src = read_file(alloc, outside, testing.src, None)?;
-    let seen = seen_by(alloc, rt, image, &src, &expectations, rates, testing, runs)?;
-    let source = NamedText {
-        name: testing.src,
-        text: &src,
+    let name = test.testing.src;
+    let expectations = read_file(alloc, outside, test.expect, None)?;
+    let src = read_file(alloc, outside, name, None)?;
+    let texts = TestTexts {
+        src: &src,
+        expectations: &expectations,
     };
+    let seen = seen_by(alloc, rt, test, texts, runs)?;
+    let source = NamedText { name, text: &src };
     covered_of(alloc, &seen, source).map_err(|error| memory(error))
 }
 
-/// Writes a text to its file, if one is named, and gives the status.
-fn write_to<O: Outside>(alloc: Global, outside: &mut O, out: Option<&str>, text: &[u8]) -> u8 {
-    let Some(out) = out else {
-        return 0;
-    };
-    match write_file(alloc, outside, out, text) {
+/// Writes coverage to these files, and gives the status.
+fn write_covered<O: Outside>(
+    alloc: Global,
+    outside: &mut O,
+    files: CoverageFiles<'_>,
+    covered: &Covered,
+) -> u8 {
+    match write_coverage_files(alloc, outside, files, &covered.tracefile, &covered.table) {
         Ok(()) => 0,
         Err(failure) => end(outside, &failure),
     }
 }
 
-/// Writes what runs come to, to these files.
-fn write_covered<O: Outside>(
-    alloc: Global,
-    outside: &mut O,
-    covered: &Covered,
-    files: &CoverageFiles<'_>,
-) -> u8 {
-    match write_to(alloc, outside, files.lcov, &covered.tracefile) {
-        0 => write_to(alloc, outside, files.coverage, &covered.table),
-        status => status,
-    }
-}
-
-/// Writes what the calls and branches of the first random runs of an image come to, this many, where that is asked for,
-/// and gives the status. The runs are made by the text of expectations in the file of this name, up to the first event
-/// that breaks a line of it.
+/// Writes the coverage by the first random runs of a test, this many, where that is asked for, and gives the status. A
+/// run goes up to the first event that breaks an expectation.
 pub fn write_coverage<O: Outside, R: Threads + Sync>(
     alloc: Global,
     outside: &mut O,
     rt: &R,
-    image: &Image,
-    name: &str,
-    rates: &[InterruptRate],
-    testing: &Testing<'_>,
+    test: &ImageTest<'_>,
     runs: u64,
 ) -> u8 {
-    let files = testing.files;
+    let files = test.testing.files;
     if files.lcov.is_none() && files.coverage.is_none() {
         return 0;
     }
-    match covered_by(alloc, outside, rt, image, name, rates, testing, runs) {
-        Ok(covered) => write_covered(alloc, outside, &covered, &files),
+    match covered_by(alloc, outside, rt, test, runs) {
+        Ok(covered) => write_covered(alloc, outside, files, &covered),
         Err(exit) => end(outside, &exit),
     }
 }

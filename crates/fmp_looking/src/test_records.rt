@@ -10,6 +10,14 @@ use fmp_trials::FailedTrial;
 use json::Writer;
 use std::alloc::{AllocError, Global};
 
+/// The texts of a run that fails.
+#[derive(Clone, Copy)]
+struct FailedTexts<'a> {
+    /// The line of the expectation that it fails.
+    expectation: &'a str,
+    steps: &'a str,
+}
+
 /// Writes which file runs are judged by, and how many runs were asked for, and made.
 fn write_asked(writer: &mut Writer, file: &str, seeds: u64, runs: u64) -> Result<(), AllocError>
     ensures before { writer.new.before ≡ writer.old.before }
@@ -35,17 +43,16 @@ fn write_run(writer: &mut Writer, trial: &FailedTrial) -> Result<(), AllocError>
 fn write_failed(
     writer: &mut Writer,
     trial: &FailedTrial,
-    expectation: &str,
-    steps: &str,
+    texts: FailedTexts<'_>,
 ) -> Result<(), AllocError>
     ensures before { writer.new.before ≡ writer.old.before }
-    ensures tokens { OnOk result (writer.new.tokens
-        ≡ writer.old.tokens ++ spec.failed_members trial.now expectation.now steps.now) }
+    ensures tokens { OnOk result (writer.new.tokens ≡ writer.old.tokens
+        ++ spec.failed_members trial.now texts.entry.expectation.now texts.entry.steps.now) }
 {
     number_member(writer, "line", trial.run.broken.line as u64)?;
-    text_member(writer, "expectation", expectation)?;
+    text_member(writer, "expectation", texts.expectation)?;
     number_member(writer, "event", u64::from(trial.run.broken.event))?;
-    text_member(writer, "steps", steps)
+    text_member(writer, "steps", texts.steps)
 }
 
 /// The object of runs of which this one fails.
@@ -54,16 +61,15 @@ fn failed_record(
     file: &str,
     seeds: u32,
     trial: &FailedTrial,
-    expectation: &str,
-    steps: &str,
+    texts: FailedTexts<'_>,
 ) -> Result<Vec<u8>, AllocError>
     ensures { IfOk result (λ line. line.items
-        ≡ spec.failed_record file.now seeds trial.now expectation.now steps.now) }
+        ≡ spec.failed_record file.now seeds trial.now texts.entry.expectation.now texts.entry.steps.now) }
 {
     let mut writer = begin(alloc)?;
     write_asked(&mut writer, file, u64::from(seeds), trial.seed)?;
     write_run(&mut writer, trial)?;
-    write_failed(&mut writer, trial, expectation, steps)?;
+    write_failed(&mut writer, trial, texts)?;
     finish(writer)
 }
 
@@ -89,14 +95,11 @@ fn shown_record(
     let text = line_of(expectations.text, failed.trial.run.broken.line);
     let expectation = String::from_utf8_lossy(alloc, text)?;
     let steps = String::from_utf8_lossy(alloc, &failed.steps)?;
-    failed_record(
-        alloc,
-        expectations.name,
-        seeds,
-        &failed.trial,
-        &expectation,
-        &steps,
-    )
+    let texts = FailedTexts {
+        expectation: &expectation,
+        steps: &steps,
+    };
+    failed_record(alloc, expectations.name, seeds, &failed.trial, texts)
 }
 
 /// What comes of this many random runs that are judged by a text, of which this one fails, if one does, as an object of

@@ -167,52 +167,72 @@ fn times_for<'a>(run: &Run, times: &'a [u64]) -> &'a [u64] {
     }
 }
 
+/// A run to draw: its system, and the title of its picture.
+#[derive(Clone, Copy)]
+struct DrawnRun<'a> {
+    sys: &'a System,
+    run: &'a Run,
+    title: &'a [u8],
+}
+
 /// A picture as it is asked for: alone, or in a page of its run.
 fn framed(
     alloc: Global,
-    sys: &System,
-    run: &Run,
-    name: &[u8],
-    measures: PicturePage,
+    drawn: DrawnRun<'_>,
+    page: PicturePage,
     html: bool,
     picture: Vec<u8>,
 ) -> Result<Vec<u8>, AllocError> {
     if html {
-        page_of(alloc, sys, run, name, measures, &picture)
+        page_of(alloc, drawn.sys, drawn.run, drawn.title, page, &picture)
     } else {
         Ok(picture)
+    }
+}
+
+/// A picture as it is asked for, which has this page of the events.
+fn finished(
+    alloc: Global,
+    drawn: DrawnRun<'_>,
+    drawing: Drawing,
+    page: PicturePage,
+    picture: Vec<u8>,
+) -> Result<Picture, TimelineFault> {
+    let cut = cut_of(&page, drawing, drawn.run.next_event().saturating_sub(1));
+    match framed(alloc, drawn, page, drawing.html, picture) {
+        Ok(bytes) => Ok(Picture { bytes, cut }),
+        Err(_) => Err(TimelineFault::Sim(SimFault::Memory)),
+    }
+}
+
+/// Why a page of events is not drawn.
+fn fault_of(fault: DrawFault, page: &PicturePage) -> TimelineFault {
+    match fault {
+        DrawFault::Memory(_) => TimelineFault::Sim(SimFault::Memory),
+        DrawFault::TooLarge => {
+            let half = page.last.saturating_sub(page.first) / 2;
+            TimelineFault::TooLarge(page.first, page.first.saturating_add(half))
+        }
     }
 }
 
 /// The picture that is asked for of a run, whose events came at these times if these are known.
 fn picture_of(
     alloc: Global,
-    sys: &System,
-    run: &Run,
-    name: &[u8],
+    drawn: DrawnRun<'_>,
     drawing: Drawing,
     times: &[u64],
 ) -> Result<Picture, TimelineFault> {
+    let DrawnRun { sys, run, title } = drawn;
     let last = run.next_event().saturating_sub(1);
     if drawing.choice.first > last {
         return Err(TimelineFault::NoEvent(last));
     }
     let page = PicturePage::new(sys, run, drawing.choice);
     let times = times_for(run, times);
-    match draw_timed(alloc, sys, run, name, page, times) {
-        Ok(picture) => {
-            let cut = cut_of(&page, drawing, last);
-            match framed(alloc, sys, run, name, page, drawing.html, picture) {
-                Ok(bytes) => Ok(Picture { bytes, cut }),
-                Err(_) => Err(TimelineFault::Sim(SimFault::Memory)),
-            }
-        }
-        Err(DrawFault::Memory(_)) => Err(TimelineFault::Sim(SimFault::Memory)),
-        Err(DrawFault::TooLarge) => {
-            let half = page.last.saturating_sub(page.first) / 2;
-            let last = page.first.saturating_add(half);
-            Err(TimelineFault::TooLarge(page.first, last))
-        }
+    match draw_timed(alloc, sys, run, title, page, times) {
+        Ok(picture) => finished(alloc, drawn, drawing, page, picture),
+        Err(fault) => Err(fault_of(fault, &page)),
     }
 }
 
@@ -238,8 +258,12 @@ impl RunLook for Titled<'_> {
         let times = known_of(alloc, times)?;
         match run_of(alloc, opened, events, self.drawing.objects, self.places) {
             Ok(run) => {
-                let sys = opened.system();
-                let picture = picture_of(alloc, sys, &run, self.title, self.drawing, &times);
+                let drawn = DrawnRun {
+                    sys: opened.system(),
+                    run: &run,
+                    title: self.title,
+                };
+                let picture = picture_of(alloc, drawn, self.drawing, &times);
                 drop(run);
                 picture.map_err(|fault| exit_of(fault))
             }

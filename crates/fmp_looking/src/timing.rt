@@ -33,7 +33,7 @@ fn timed<'a, B: Body, T: Coming<B>>(
     Ok(timing)
 }
 
-/// Appends the table of responses behind an empty line, or an object for each handler.
+/// Appends the table of responses after an empty line, or an object for each handler.
 fn append_timing(
     alloc: Global,
     form: Form,
@@ -50,6 +50,22 @@ fn append_timing(
     }
 }
 
+/// What is told of the responses of a run of a system over what comes to it at these times.
+#[tactic(none)]
+fn timing_of<'a, O: Opened, T: Coming<O::Bodies>>(
+    alloc: Global,
+    opened: &O,
+    events: &[T],
+    times: &'a [u64],
+) -> Result<Timing<'a>, AllocError>
+    requires { length events.now ≤ 2 ^ 31 }
+{
+    let mut kernel = opened.kernel(alloc)?;
+    let timing = timed(alloc, &mut kernel, events, times);
+    drop(kernel);
+    timing
+}
+
 /// What is told of responses; nothing where some times are not those of events.
 fn responses_text(
     alloc: Global,
@@ -64,24 +80,7 @@ fn responses_text(
     Ok(out)
 }
 
-/// The table of the responses of a run of a kernel of this system over what comes to it at these times.
-#[tactic(none)]
-fn responses_on<B: Body, T: Coming<B>>(
-    alloc: Global,
-    form: Form,
-    sys: &System,
-    kernel: &mut Kernel<B>,
-    events: &[T],
-    times: &[u64],
-) -> Result<Vec<u8>, AllocError>
-    requires few { kernel.old.taken + length events.now ≤ 2 ^ 31 }
-{
-    let timing = timed(alloc, kernel, events, times)?;
-    responses_text(alloc, form, sys, &timing)
-}
-
 /// The table of the responses of a run of a system at these times.
-#[tactic(none)]
 fn responses_of<O: Opened, T: Coming<O::Bodies>>(
     alloc: Global,
     form: Form,
@@ -91,13 +90,11 @@ fn responses_of<O: Opened, T: Coming<O::Bodies>>(
 ) -> Result<Vec<u8>, AllocError>
     requires { length events.now ≤ 2 ^ 31 }
 {
-    let mut kernel = opened.kernel(alloc)?;
-    let made = responses_on(alloc, form, opened.system(), &mut kernel, events, times);
-    drop(kernel);
-    made
+    let timing = timing_of(alloc, opened, events, times)?;
+    responses_text(alloc, form, opened.system(), &timing)
 }
 
-/// The table of what each task of a run did, and behind it that of the responses where the times are known.
+/// The table of what each task of a run did, and after it that of the responses where the times are known.
 fn stats_of<O: Opened, T: Coming<O::Bodies>>(
     alloc: Global,
     form: Form,

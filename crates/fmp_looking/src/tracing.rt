@@ -1,29 +1,36 @@
 //! The trace of a run in the names of its objects, and the states at its end.
-ghost use Rattle.std.specs.Prelude.{◌≡◌, ◌+◌, ◌-◌, ◌≤◌, ◌^◌, ◌++◌, IfOk, None, OnOk, get_or, length};
+ghost use Rattle.std.specs.Prelude.{◌≡◌, ◌+◌, ◌-◌, ◌≤◌, ◌^◌, ◌++◌, IfOk, None, get_or, length};
 ghost use Rattle.fmp_base.specs.Systems.{tables_of};
 ghost use Rattle.fmp_frames.specs.Frames.{table_of};
 ghost use Rattle.fmp_frames.specs.Shown.{WasShown};
 ghost use Rattle.fmp_looking.specs.Traces as spec;
-ghost use Rattle.fmp_looking.specs.Traces.{IsBegun, IsTrace, Traces, states_text};
+ghost use Rattle.fmp_looking.specs.Traces.{IsBegun, IsTrace, Traces, end_text};
 
 use crate::exit::{ViewExit, memory};
 use crate::looking::RunLook;
 use crate::opened::Opened;
+use crate::states::states_in;
 use crate::why::why_of;
 use fmp_base::{System, TaskBlock, TaskState};
 use fmp_frames::{CallPlace, Frame, LineForm, Viewer, append_placed, last_frame, show_all};
 use fmp_kernel::{Body, Coming, Kernel};
-use fmp_named::{append_state_records, append_states};
 use fmp_warnings::Form;
 use std::alloc::{AllocError, Global};
+
+/// How the events of a run are printed.
+#[derive(Clone, Copy)]
+struct Printing<'a> {
+    form: Form,
+    /// The system, whose objects have names.
+    sys: &'a System,
+    /// Where the calls of the events stand, from the first event on; none are shown after the last one here.
+    places: &'a [Option<CallPlace>],
+}
 
 /// A trace so far, and the states of the tasks after its last event.
 #[derive(Drop)]
 pub struct Tracer<'a> {
-    form: Form,
-    sys: &'a System,
-    /// Where the calls of the events stand, from the first event on; none are shown behind the last one here.
-    places: &'a [Option<CallPlace>],
+    printing: Printing<'a>,
     /// The number of the last event.
     number: u32,
     out: Vec<u8>,
@@ -38,24 +45,6 @@ pub fn line_form(form: Form) -> LineForm
     match form {
         Form::Text => LineForm::Text,
         Form::Json => LineForm::Record,
-    }
-}
-
-/// Appends the states of the tasks.
-fn append_end(
-    alloc: Global,
-    form: Form,
-    sys: &System,
-    states: &[TaskState],
-    blocks: &[TaskBlock],
-    out: &mut Vec<u8>,
-) -> Result<(), AllocError>
-    ensures { OnOk result (out.new.items
-        ≡ out.old.items ++ states_text form (tables_of sys.now) states.now blocks.now) }
-{
-    match form {
-        Form::Text => append_states(sys, states, blocks, out),
-        Form::Json => append_state_records(alloc, sys, states, blocks, out),
     }
 }
 
@@ -80,24 +69,16 @@ fn place_of(places: &[Option<CallPlace>], number: u32) -> Option<CallPlace>
 }
 
 impl<'a> Tracer<'a> {
-    /// The trace of a system after setup. The calls of its events stand at these places. `AllocError` if memory runs
-    /// out.
-    fn new(
-        alloc: Global,
-        form: Form,
-        sys: &'a System,
-        places: &'a [Option<CallPlace>],
-        setup: &Frame,
-    ) -> Result<Tracer<'a>, AllocError>
-        ensures { IfOk result
-            (λ made. IsBegun form (tables_of sys.now) places.now made (table_of setup.now)) }
+    /// The trace of a system after setup. `AllocError` if memory runs out.
+    fn new(alloc: Global, printing: Printing<'a>, setup: &Frame) -> Result<Tracer<'a>, AllocError>
+        ensures { IfOk result (λ made. IsBegun printing.entry.form (tables_of printing.entry.sys.now)
+            printing.entry.places.now made (table_of setup.now)) }
     {
         let mut out = Vec::new(alloc);
-        append_placed(alloc, line_form(form), sys, 0, None, &setup.lines, &mut out)?;
+        let form = line_form(printing.form);
+        append_placed(alloc, form, printing.sys, 0, None, &setup.lines, &mut out)?;
         Ok(Tracer {
-            form,
-            sys,
-            places,
+            printing,
             number: 0,
             out,
             states: Vec::from_slice(alloc, &setup.states)?,
@@ -107,19 +88,17 @@ impl<'a> Tracer<'a> {
 
     /// The whole trace: its lines, and the states at the end.
     fn finish(self, alloc: Global) -> Result<Vec<u8>, AllocError>
-        ensures { IfOk result (λ out. out.items ≡ self.entry.out.items
-            ++ states_text self.entry.form (tables_of self.entry.sys.now) self.entry.states.items
-            self.entry.blocks.items) }
+        ensures { IfOk result (λ out. out.items ≡ self.entry.out.items ++ end_text self.entry) }
     {
         let Tracer {
-            form,
-            sys,
+            printing,
             mut out,
             states,
             blocks,
             ..
         } = self;
-        append_end(alloc, form, sys, &states, &blocks, &mut out)?;
+        let end = states_in(alloc, printing.form, printing.sys, &states, &blocks)?;
+        out.extend_from_slice(&end)?;
         Ok(out)
     }
 }
@@ -132,10 +111,10 @@ impl Viewer for Tracer<'_> {
         self.number = number_after(self.number, frame.kept);
         append_placed(
             alloc,
-            line_form(self.form),
-            self.sys,
+            line_form(self.printing.form),
+            self.printing.sys,
             self.number,
-            place_of(self.places, self.number),
+            place_of(self.printing.places, self.number),
             &frame.lines,
             &mut self.out,
         )?;
@@ -145,47 +124,44 @@ impl Viewer for Tracer<'_> {
     }
 }
 
-/// What is traced of a run of a kernel of this system over what comes to it, whose calls stand at these places.
+/// What is traced of a run of a kernel over what comes to it.
 #[tactic(none)]
 fn traced<'a, B: Body, T: Coming<B>>(
     alloc: Global,
-    form: Form,
-    sys: &'a System,
-    places: &'a [Option<CallPlace>],
+    printing: Printing<'a>,
     kernel: &mut Kernel<B>,
     events: &[T],
 ) -> Result<Tracer<'a>, AllocError>
     requires few { kernel.old.taken + length events.now ≤ 2 ^ 31 }
-    ensures { IfOk result (λ tracer. WasShown (IsBegun form (tables_of sys.now) places.now)
+    ensures { IfOk result (λ tracer. WasShown
+        (IsBegun printing.entry.form (tables_of printing.entry.sys.now) printing.entry.places.now)
         ⟦<Tracer<'a> as Viewer>⟧.shown B.meaning T.reaction kernel.old events.now tracer) }
 {
     let setup = last_frame(alloc, kernel)?;
-    let mut tracer = Tracer::new(alloc, form, sys, places, &setup)?;
+    let mut tracer = Tracer::new(alloc, printing, &setup)?;
     drop(setup);
     show_all(alloc, kernel, events, &mut tracer)?;
     Ok(tracer)
 }
 
-/// The trace of a run of a kernel of this system over what comes to it. `AllocError` if memory runs out.
+/// The trace of a run of a kernel over what comes to it. `AllocError` if memory runs out.
 #[tactic(none)]
 fn trace_on<B: Body, T: Coming<B>>(
     alloc: Global,
-    form: Form,
-    sys: &System,
-    places: &[Option<CallPlace>],
+    printing: Printing<'_>,
     kernel: &mut Kernel<B>,
     events: &[T],
 ) -> Result<Vec<u8>, AllocError>
     requires few { kernel.old.taken + length events.now ≤ 2 ^ 31 }
-    ensures { IfOk result (λ out. IsTrace form (tables_of sys.now) places.now B.meaning T.reaction kernel.old
-        events.now out.items) }
+    ensures { IfOk result (λ out. IsTrace printing.entry.form (tables_of printing.entry.sys.now)
+        printing.entry.places.now B.meaning T.reaction kernel.old events.now out.items) }
 {
-    let tracer = traced(alloc, form, sys, places, kernel, events)?;
+    let tracer = traced(alloc, printing, kernel, events)?;
     tracer.finish(alloc)
 }
 
 /// The trace of a run of a system. The calls of its events stand at these places, from the first event on; it shows no
-/// place behind the last one. `AllocError` if memory runs out.
+/// place after the last one. `AllocError` if memory runs out.
 #[tactic(none)]
 pub fn trace_of<O: Opened, T: Coming<O::Bodies>>(
     alloc: Global,
@@ -199,7 +175,12 @@ pub fn trace_of<O: Opened, T: Coming<O::Bodies>>(
         (O.start opened.now) events.now out.items) }
 {
     let mut kernel = opened.kernel(alloc)?;
-    let trace = trace_on(alloc, form, opened.system(), places, &mut kernel, events);
+    let printing = Printing {
+        form,
+        sys: opened.system(),
+        places,
+    };
+    let trace = trace_on(alloc, printing, &mut kernel, events);
     drop(kernel);
     trace
 }

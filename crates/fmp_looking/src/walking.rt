@@ -128,7 +128,7 @@ pub fn marks_by(
 }
 
 /// One more branch has come, and no condition is open.
-fn behind_branch(walk: Walk, condition: Option<Condition>) -> Walk
+fn after_branch(walk: Walk, condition: Option<Condition>) -> Walk
     ensures { result ≡ record walk { branches = spec.one_more walk.branches; condition = condition } }
 {
     Walk {
@@ -138,17 +138,17 @@ fn behind_branch(walk: Walk, condition: Option<Condition>) -> Walk
     }
 }
 
-/// The walk behind a block's beginning.
-fn behind_block(walk: Walk) -> Walk
+/// The walk after the beginning of a block.
+fn after_block(walk: Walk) -> Walk
     ensures { result ≡ spec.condition_ended walk walk.condition }
 {
     match walk.condition {
-        Some(_) => behind_branch(walk, None),
+        Some(_) => after_branch(walk, None),
         None => walk,
     }
 }
 
-/// The walk behind a token.
+/// The walk after a token.
 pub fn walked(walk: Walk, piece: Piece, place: CallPlace) -> Walk
     ensures { result ≡ spec.walked walk piece place }
 {
@@ -162,8 +162,8 @@ pub fn walked(walk: Walk, piece: Piece, place: CallPlace) -> Walk
             condition: Some(Condition { kind, place }),
             ..walk
         },
-        Piece::Branches(_) => behind_branch(walk, walk.condition),
-        Piece::Block => behind_block(walk),
+        Piece::Branches(_) => after_branch(walk, walk.condition),
+        Piece::Block => after_block(walk),
         _ => walk,
     }
 }

@@ -1,4 +1,6 @@
-//! What is tested, and how, and where it is written what runs come to.
+//! What is tested, and how, and where the coverage of runs is written.
+use fmp_image_bytes::Image;
+use fmp_trials::InterruptRate;
 
 /// What is tested, and how.
 #[derive(Clone, Copy)]
@@ -23,11 +25,23 @@ pub struct Testing<'a> {
     pub junit: Option<&'a str>,
     /// Whether what comes of the runs is printed as an object of JSON.
     pub json: bool,
-    /// Where it is written what the calls and branches of the runs come to.
+    /// Where the coverage of the runs is written.
     pub files: CoverageFiles<'a>,
 }
 
-/// The files to which it is written what the calls and branches of runs come to, where that is asked for.
+/// A test of an image: random runs of it, judged by the text of expectations in a file.
+#[derive(Clone, Copy)]
+pub struct ImageTest<'a> {
+    pub image: &'a Image,
+    /// The file of what is expected.
+    pub expect: &'a str,
+    /// How often interrupts come.
+    pub rates: &'a [InterruptRate],
+    /// What was asked for.
+    pub testing: Testing<'a>,
+}
+
+/// The files to which the coverage of runs is written, where that is asked for.
 #[derive(Clone, Copy)]
 pub struct CoverageFiles<'a> {
     /// That of a tracefile of lcov.

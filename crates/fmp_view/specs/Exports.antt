@@ -9,6 +9,7 @@ use Rattle.fmp_export.specs.declared.files.ExportedText.{ExportedText}
 use Rattle.fmp_export.specs.declared.project.TheConstants.{MAKEFILE}
 use Rattle.fmp_export.specs.Files.{IsExportedWith}
 use Rattle.fmp_view.specs.declared.exporting.Exporting.{Exporting}
+use Rattle.fmp_view.specs.declared.exporting.Project.{Project}
 use Rattle.fmp_searching.specs.Claimed.{IsFile}
 
 -- the C of the bodies of a text, for the system that it builds with a configuration, with the text's lines or without
@@ -35,6 +36,9 @@ project folder t e keeps_main =
     ∷ (wrote (in_folder folder (codes "system.src")) t.src.now
     ∷ (wrote (in_folder folder (codes "Makefile")) MAKEFILE.now
     ∷ main_file folder e.main.items keeps_main))))
+
+abbrev pub files_of : Project → (keeps_main : Bool) → List Deed
+files_of p keeps_main = project p.folder.now p.texts p.exported.now keeps_main
 
 -- the files of a folder are those of two texts
 pub record HasExportedTexts

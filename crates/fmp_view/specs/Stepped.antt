@@ -1,19 +1,15 @@
 -- What a session tells of its kernel, and what it leaves.
 use Rattle.std.specs.Prelude.{ℕ, ◌≡◌, List, Option, length}
-use Rattle.fmp_base.specs.declared.events.TaskState.{TaskState}
-use Rattle.fmp_base.specs.declared.states.TaskBlock.{TaskBlock}
 use Rattle.fmp_base.specs.Runs.{task_state}
 use Rattle.fmp_base.specs.States.{task_at}
-use Rattle.fmp_base.specs.Systems.{SystemTables}
 use Rattle.fmp_frames.specs.Frames.{each}
 use Rattle.fmp_instructions.specs.declared.instructions.MachineContext.{MachineContext}
 use Rattle.fmp_instructions.specs.Instructions.{BodyTables}
 use Rattle.fmp_kernel.specs.KernelViews.{KernelView}
-use Rattle.fmp_named.specs.Records.{state_records}
-use Rattle.fmp_named.specs.States.{named_states}
 use Rattle.fmp_frames.specs.declared.call_places.CallPlace.{CallPlace}
 use Rattle.fmp_session.specs.declared.session.Session.{Session}
 use Rattle.fmp_session.specs.Sessions.{lines_now, records_now}
+use Rattle.fmp_looking.specs.Traces.{states_text}
 use Rattle.fmp_view.specs.declared.answering.Answer.{Answer}
 use Rattle.fmp_view.specs.declared.answering.Answer.TheVariants as answer
 use Rattle.fmp_warnings.specs.declared.verdicts.Form.{Form}
@@ -24,15 +20,10 @@ abbrev pub last_lines : Form → Option CallPlace → KernelView (List BodyTable
 last_lines form.Text place k = lines_now k
 last_lines form.Json place k = records_now place k
 
--- states of tasks, with names, as lines or as objects of JSON
-abbrev pub states_in : Form → SystemTables → List TaskState → List TaskBlock → List ℕ
-states_in form.Text sys xs bs = named_states sys 0 xs bs
-states_in form.Json sys xs bs = state_records sys 0 xs bs
-
 -- the states of the tasks of a kernel
 abbrev pub states_text_of : Form → KernelView (List BodyTables) MachineContext → List ℕ
 states_text_of f k =
-    states_in f k.system (each (task_state k.world.state) (length k.system.tasks))
+    states_text f k.system (each (task_state k.world.state) (length k.system.tasks))
     (each (task_at k.world.state.tasks) (length k.system.tasks))
 
 -- a line that fails leaves the events of the session as they were

@@ -1,19 +1,17 @@
 //! What the commands of a session answer.
 ghost use Rattle.std.specs.Prelude.{◌≡◌, ◌++◌, IfOk, OnOk};
-ghost use Rattle.fmp_base.specs.Systems.{tables_of};
 ghost use Rattle.fmp_session.specs.Sessions.{IsSession};
-ghost use Rattle.fmp_view.specs.Stepped.{Leaves, last_lines, states_in, states_text_of};
+ghost use Rattle.fmp_view.specs.Stepped.{Leaves, last_lines, states_text_of};
 
 use crate::session_files::{load, save};
 use crate::session_objects::state_of;
 use crate::session_until::until;
-use fmp_base::{Event, System, TaskBlock, TaskState};
+use fmp_base::Event;
 use fmp_files::{Failure, Outside};
 use fmp_frames::{CallPlace, CallPlaces, last_frame};
-use fmp_looking::{OpenImage, why_of};
-use fmp_named::{append_state_records, append_states};
+use fmp_looking::{OpenImage, states_in, why_of};
 use fmp_session::{
-    Command, NamedInterrupt, Session, TakenEvent, append_kept, append_nothing, argument_of, note,
+    Command, NamedInterrupt, Session, TakenEvent, append_kept, append_nothing, note,
 };
 use fmp_trace::print_steps;
 use fmp_warnings::{FileNames, Form};
@@ -55,6 +53,24 @@ pub struct Stepping<'a> {
     pub terminal: bool,
 }
 
+/// A command of a line.
+#[derive(Clone, Copy)]
+pub struct GivenCommand<'a> {
+    pub command: Command,
+    /// What stands after its word.
+    pub argument: &'a [u8],
+}
+
+/// An event that a session took.
+#[derive(Clone, Copy)]
+struct ToldEvent {
+    event: Event,
+    /// What it came to.
+    taken: TakenEvent,
+    /// Where its call stands, if it makes one and answers tell it.
+    place: Option<CallPlace>,
+}
+
 /// What a line answers.
 #[derive(Drop)]
 pub enum Answer {
@@ -66,7 +82,7 @@ pub enum Answer {
     NoFile(Failure),
 }
 
-/// The kind of a line, and what it says: of `nothing: ..` what stands before the colon, and what stands behind it.
+/// The kind of a line, and what it says: of `nothing: ..` what stands before the colon, and what stands after it.
 fn parts_of(line: &[u8]) -> (&str, &[u8]) {
     let parts = match str::from_utf8(line) {
         Ok(text) => text.split_once(':'),
@@ -129,16 +145,12 @@ pub fn append_last(
 }
 
 /// The line of an event that left none.
-fn line_of(
-    alloc: Global,
-    session: &Session<'_>,
-    e: Event,
-    taken: TakenEvent,
-) -> Result<Vec<u8>, AllocError>
+fn line_of(alloc: Global, session: &Session<'_>, told: ToldEvent) -> Result<Vec<u8>, AllocError>
     requires { IsSession session.now }
 {
+    let e = told.event;
     let mut line = Vec::new(alloc);
-    match taken {
+    match told.taken {
         TakenEvent::Done | TakenEvent::Full => line.extend_from_slice(FULL)?,
         TakenEvent::Kept => append_kept(e, &mut line)?,
         TakenEvent::Nothing => {
@@ -148,22 +160,20 @@ fn line_of(
     Ok(line)
 }
 
-/// Appends what is told of an event that came to this, whose call stands there.
+/// Appends what is told of an event.
 fn append_taken(
     alloc: Global,
     session: &Session<'_>,
     form: Form,
-    e: Event,
-    told: (TakenEvent, Option<CallPlace>),
+    told: ToldEvent,
     out: &mut Vec<u8>,
 ) -> Result<(), AllocError>
     requires { IsSession session.now }
 {
-    let (taken, place) = told;
-    if let TakenEvent::Done = taken {
-        return append_last(alloc, session, form, place, out);
+    if let TakenEvent::Done = told.taken {
+        return append_last(alloc, session, form, told.place, out);
     }
-    let line = line_of(alloc, session, e, taken)?;
+    let line = line_of(alloc, session, told)?;
     append_told(alloc, form, &line, out)
 }
 
@@ -192,7 +202,12 @@ pub fn take_event(
     let place = told_place(session, stepping, e);
     let taken = session.take(e)?;
     if tells_nothing || !matches!(taken, TakenEvent::Nothing) {
-        append_taken(alloc, session, stepping.form, e, (taken, place), out)?;
+        let told = ToldEvent {
+            event: e,
+            taken,
+            place,
+        };
+        append_taken(alloc, session, stepping.form, told, out)?;
     }
     Ok(taken)
 }
@@ -268,24 +283,6 @@ fn back_text(
     Ok(out)
 }
 
-/// Appends the states of the tasks, from what is shown and what is kept of them.
-fn append_states_in(
-    alloc: Global,
-    form: Form,
-    sys: &System,
-    states: &[TaskState],
-    blocks: &[TaskBlock],
-    out: &mut Vec<u8>,
-) -> Result<(), AllocError>
-    ensures { OnOk result (out.new.items
-        ≡ out.old.items ++ states_in form (tables_of sys.now) states.now blocks.now) }
-{
-    match form {
-        Form::Text => append_states(sys, states, blocks, out),
-        Form::Json => append_state_records(alloc, sys, states, blocks, out),
-    }
-}
-
 /// The states of the tasks.
 pub fn states_text(alloc: Global, session: &Session<'_>, form: Form) -> Result<Vec<u8>, AllocError>
     requires { IsSession session.now }
@@ -293,18 +290,9 @@ pub fn states_text(alloc: Global, session: &Session<'_>, form: Form) -> Result<V
 {
     let image = session.image();
     let frame = last_frame(alloc, session.kernel())?;
-    let mut out = Vec::new(alloc);
-    let told = append_states_in(
-        alloc,
-        form,
-        image.system(),
-        &frame.states,
-        &frame.blocks,
-        &mut out,
-    );
+    let text = states_in(alloc, form, image.system(), &frame.states, &frame.blocks);
     drop(frame);
-    told?;
-    Ok(out)
+    text
 }
 
 /// What each task waits or spins for.
@@ -355,19 +343,17 @@ pub fn answer_of<O: Outside>(
     outside: &mut O,
     session: &mut Session<'_>,
     stepping: Stepping<'_>,
-    command: Command,
-    line: &[u8],
+    given: GivenCommand<'_>,
 ) -> Result<Answer, AllocError>
     requires { IsSession session.old }
     ensures session { IsSession session.new }
     ensures leaves { IfOk result (Leaves session.old session.new) }
 {
-    let form = stepping.form;
-    match command {
-        Command::StateOf => state_of(alloc, session, form, argument_of(line)),
-        Command::Load => load(alloc, outside, session, stepping, argument_of(line)),
-        Command::Save => save(alloc, outside, session, stepping, argument_of(line)),
-        Command::Until => until(alloc, session, stepping, argument_of(line)),
+    match given.command {
+        Command::StateOf => state_of(alloc, session, stepping.form, given.argument),
+        Command::Load => load(alloc, outside, session, stepping, given.argument),
+        Command::Save => save(alloc, outside, session, stepping, given.argument),
+        Command::Until => until(alloc, session, stepping, given.argument),
         command => Ok(Answer::Told(told(alloc, session, stepping, command)?)),
     }
 }

@@ -4,53 +4,21 @@ ghost use Rattle.clap.specs.Words.{Row, found_of, rows_of, subcommand_rows_of};
 ghost use Rattle.fmp_view.specs.Commands.{AsksToExplore};
 
 use crate::exporting::Exporting;
-use crate::form::{
-    expect_command, export_command, import_command, program, run_command, timeline_command,
-    waves_command,
-};
+use crate::form::program;
 use crate::importing::Importing;
 use crate::targeting::Targeting;
 use clap::{ArgMatches, Error};
 use fmp_arguments::{
     EVENTS_MAX, bound_of, entered, flag_of, text_of, word_of, word32_of, word64_of, words_of,
 };
-use fmp_files::{mistake, mistake_of};
 use fmp_looking::{
-    CoverageFiles, Drawing, Format, Running, Testing, TraceFormat, files_of, testing_of,
+    CoverageFiles, Drawing, Driving, Format, Running, Testing, TraceFormat, files_of, testing_of,
 };
-use fmp_searching::{Exploring, exploring_of, said_of_code};
+use fmp_searching::{Exploring, exploring_of};
 use fmp_timeline::Choice;
 use fmp_toppers::Target;
 use fmp_warnings::{FileNames, Form};
-use std::alloc::{AllocError, Global};
-
-/// The message for a word that is no code.
-const NO_CODE: &str = "there is no such code";
-
-/// The message for a file that would replace one that is read.
-const OUT_OVER_INPUT: &str = "the file OUT is one of those that are read";
-
-/// The message for a report that would replace a file that is read.
-const REPORT_OVER_INPUT: &str = "the file of --junit is one of those that are read";
-
-/// The message for a tracefile that would replace a file that is read.
-const LCOV_OVER_INPUT: &str = "the file of --lcov is one of those that are read";
-
-/// The message for a table of coverage that would replace a file that is read.
-const COVERAGE_OVER_INPUT: &str = "the file of --coverage is one of those that are read";
-
-/// The message for files of a folder that would replace one that is read.
-const FILES_OVER_INPUT: &str = "a file of the folder DIR is one of the two that are read";
-
-/// The message for a constant that has no value.
-const NO_CONSTANT: &str =
-    "--define wants NAME=VALUE, where VALUE is a number or made of known constants";
-
-/// The message for a configuration that would replace the one that is read.
-const OUT_OVER_CONFIGURATION: &str = "the file OUT is the one that is read";
-
-/// The message for a picture that ends before it begins.
-const FROM_AFTER_TO: &str = "--from is later than --to";
+use std::alloc::Global;
 
 /// What a run is of: the names of its files.
 #[derive(Clone, Copy)]
@@ -102,6 +70,28 @@ pub struct Expecting<'a> {
     pub junit: Option<&'a str>,
 }
 
+/// A picture of a run.
+#[derive(Clone, Copy)]
+pub struct Picturing<'a> {
+    pub run: RunFiles<'a>,
+    /// The file to which it is written.
+    pub out: &'a str,
+    pub drawing: Drawing,
+    /// The task text in which the places of calls are shown, if there is one.
+    pub src: Option<&'a str>,
+}
+
+/// A session over the system of two texts.
+#[derive(Clone, Copy)]
+pub struct StepWords<'a> {
+    /// The names of the files of the texts.
+    pub names: FileNames<'a>,
+    /// Whether answers are for readers, or objects of JSON.
+    pub form: Form,
+    /// The bound of a stretch, 1 to 2^48.
+    pub bound: u64,
+}
+
 /// What the program is asked to do.
 #[derive(Clone, Copy)]
 pub enum Cmd<'a> {
@@ -124,24 +114,19 @@ pub enum Asked<'a> {
     Import(Importing<'a>),
     /// Show the fault of the texts of these files, and of steps if there are steps, or their warnings.
     Fault(FileNames<'a>, Form),
-    /// Print the trace of a run of the texts of these files, over the steps if there are steps. What its calls and
-    /// branches come to is written to these files.
+    /// Print the trace of a run of the texts of these files, over the steps if there are steps, and write its coverage
+    /// where that is asked for.
     Run(FileNames<'a>, Running, CoverageFiles<'a>),
     /// Print the trace of a recorded run of a system.
     Recorded(RunFiles<'a>, Form),
     /// Print the table of the calls of a recorded run of a system.
     Calls(RunFiles<'a>),
-    /// Take commands of standard input on the system of the texts of these files, with this bound, 1 to 2^48.
-    Step(FileNames<'a>, Form, u64),
+    /// Take commands of standard input on the system of two texts.
+    Step(StepWords<'a>),
     /// Serve an editor over standard input and output.
     Serve,
-    /// Print steps of an image: at most `events`, 0 to 2^20, in turn or at random.
-    Drive {
-        image: &'a str,
-        events: u32,
-        seed: Option<u64>,
-        bound: u64,
-    },
+    /// Print steps of the image of this file.
+    Drive(&'a str, Driving),
     /// Say what each task waits or spins for after an event of a run, by its number, or after the last one.
     Why(RunFiles<'a>, Option<u32>, Form),
     /// Say whether a run meets expectations.
@@ -155,8 +140,8 @@ pub enum Asked<'a> {
     Stats(RunFiles<'a>, Option<&'a str>, Form),
     /// Write a run to a file, for viewers of waveforms or of traces.
     Waves(RunFiles<'a>, &'a str, Format),
-    /// Write the picture of a run to a file, with where its calls stand in the text of this file, if there is one.
-    Timeline(RunFiles<'a>, &'a str, Drawing, Option<&'a str>),
+    /// Write the picture of a run to a file.
+    Timeline(Picturing<'a>),
 }
 
 /// What a run is of.
@@ -174,9 +159,9 @@ fn run_of<'a>(words: &ArgMatches<'a>) -> RunFiles<'a> {
     }
 }
 
-/// The word behind those that name a run, for the argument of this name: of a recording there are no steps, so the word
+/// The word after those that name a run, for the argument of this name: of a recording there are no steps, so the word
 /// stands in their place.
-fn behind_run<'a>(words: &ArgMatches<'a>, id: &str) -> &'a str {
+fn after_run<'a>(words: &ArgMatches<'a>, id: &str) -> &'a str {
     match run_of(words) {
         RunFiles::Steps { .. } => word_of(words, id),
         RunFiles::Recording { .. } => word_of(words, "STEPS"),
@@ -277,6 +262,7 @@ fn importing_of<'m>(words: &'m ArgMatches<'_>) -> Importing<'m> {
     }
 }
 
+/// How the system of two texts is run.
 fn running_of(words: &ArgMatches<'_>) -> Running {
     Running {
         form: form_of(words),
@@ -319,7 +305,7 @@ fn serve_asked<'a>(_words: &ArgMatches<'a>) -> Asked<'a> {
 fn expect_asked<'a>(words: &ArgMatches<'a>) -> Asked<'a> {
     let run = run_of(words);
     let expecting = Expecting {
-        name: behind_run(words, "EXPECT"),
+        name: after_run(words, "EXPECT"),
         strict: flag_of(words, "strict"),
         form: form_of(words),
         junit: text_of(words, "junit"),
@@ -329,10 +315,30 @@ fn expect_asked<'a>(words: &ArgMatches<'a>) -> Asked<'a> {
 
 /// What `timeline` asks for.
 fn timeline_asked<'a>(words: &ArgMatches<'a>) -> Asked<'a> {
-    let run = run_of(words);
-    let out = behind_run(words, "OUT");
-    let src = text_of(words, "src");
-    Asked::Timeline(run, out, drawing_of(words), src)
+    Asked::Timeline(Picturing {
+        run: run_of(words),
+        out: after_run(words, "OUT"),
+        drawing: drawing_of(words),
+        src: text_of(words, "src"),
+    })
+}
+
+/// What `step` asks for.
+fn step_words<'a>(words: &ArgMatches<'a>) -> StepWords<'a> {
+    StepWords {
+        names: names_of(words),
+        form: form_of(words),
+        bound: bound_of(words),
+    }
+}
+
+/// How `drive` drives an image.
+fn driving_of(words: &ArgMatches<'_>) -> Driving {
+    Driving {
+        events: word32_of(words, "events").unwrap_or(0),
+        seed: word64_of(words, "seed"),
+        bound: bound_of(words),
+    }
 }
 
 /// What a subcommand of this name other than `explore` asks for with its words.
@@ -343,82 +349,17 @@ fn look_of<'m>(name: &str, words: &'m ArgMatches<'_>) -> Asked<'m> {
         "import" => Asked::Import(importing_of(words)),
         "fault" => Asked::Fault(names_of(words), form_of(words)),
         "run" => run_asked(words),
-        "step" => Asked::Step(names_of(words), form_of(words), bound_of(words)),
+        "step" => Asked::Step(step_words(words)),
         "lsp" => serve_asked(words),
-        "drive" => Asked::Drive {
-            image: word_of(words, "IMAGE"),
-            events: word32_of(words, "events").unwrap_or(0),
-            seed: word64_of(words, "seed"),
-            bound: bound_of(words),
-        },
+        "drive" => Asked::Drive(word_of(words, "IMAGE"), driving_of(words)),
         "why" => Asked::Why(run_of(words), word32_of(words, "at"), form_of(words)),
         "expect" => expect_asked(words),
         "test" => Asked::Test(testing_of(words)),
         "diff" => Asked::Diff(runs_of(words)),
         "stats" => Asked::Stats(run_of(words), text_of(words, "src"), form_of(words)),
         "timeline" => timeline_asked(words),
-        _ => Asked::Waves(run_of(words), behind_run(words, "OUT"), format_of(words)),
+        _ => Asked::Waves(run_of(words), after_run(words, "OUT"), format_of(words)),
     }
-}
-
-/// The error for a word that is no code, which has the status 2.
-pub fn no_code(alloc: Global, word: &str) -> Result<Error, AllocError> {
-    let why = said_of_code(alloc, NO_CODE, word)?;
-    mistake(program(alloc), &why)
-}
-
-/// The error for a dump that would replace a file that is read, which has the status 2.
-pub fn dump_over_input(alloc: Global) -> Result<Error, AllocError> {
-    mistake_of(waves_command(alloc), "fmp_view waves", OUT_OVER_INPUT)
-}
-
-/// The error for a report that would replace a file that is read, which has the status 2.
-pub fn report_over_input(alloc: Global) -> Result<Error, AllocError> {
-    mistake_of(expect_command(alloc), "fmp_view expect", REPORT_OVER_INPUT)
-}
-
-/// The error for a tracefile that would replace a file that is read, which has the status 2.
-pub fn lcov_over_input(alloc: Global) -> Result<Error, AllocError> {
-    mistake_of(run_command(alloc), "fmp_view run", LCOV_OVER_INPUT)
-}
-
-/// The error for a table of coverage that would replace a file that is read, which has the status 2.
-pub fn coverage_over_input(alloc: Global) -> Result<Error, AllocError> {
-    mistake_of(run_command(alloc), "fmp_view run", COVERAGE_OVER_INPUT)
-}
-
-/// The error for C that would replace a file that is read, which has the status 2.
-pub fn files_over_input(alloc: Global) -> Result<Error, AllocError> {
-    mistake_of(export_command(alloc), "fmp_view export", FILES_OVER_INPUT)
-}
-
-/// The error for a constant that has no value, which has the status 2.
-pub fn no_constant(alloc: Global) -> Result<Error, AllocError> {
-    mistake_of(import_command(alloc), "fmp_view import", NO_CONSTANT)
-}
-
-/// The error for a configuration that would replace the one that is read, which has the status 2.
-pub fn out_over_configuration(alloc: Global) -> Result<Error, AllocError> {
-    mistake_of(
-        import_command(alloc),
-        "fmp_view import",
-        OUT_OVER_CONFIGURATION,
-    )
-}
-
-/// The error for words of `timeline` that have the right form.
-fn no_picture(alloc: Global, why: &str) -> Result<Error, AllocError> {
-    mistake_of(timeline_command(alloc), "fmp_view timeline", why)
-}
-
-/// The error for a picture that would replace a file that is read, which has the status 2.
-pub fn picture_over_input(alloc: Global) -> Result<Error, AllocError> {
-    no_picture(alloc, OUT_OVER_INPUT)
-}
-
-/// The error for a picture that ends before it begins, which has the status 2.
-pub fn picture_of_nothing(alloc: Global) -> Result<Error, AllocError> {
-    no_picture(alloc, FROM_AFTER_TO)
 }
 
 /// What a subcommand of this name asks for with its words.

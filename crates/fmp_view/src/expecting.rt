@@ -1,7 +1,8 @@
 //! The command `expect`: whether a run meets what is expected of it.
-use crate::asking::{Expecting, RunFiles, report_over_input};
+use crate::asking::{Expecting, RunFiles};
 use crate::differing::{DIFFER, print_difference};
 use crate::runs::{is_read, made_of_run, write};
+use crate::word_mistakes::report_over_input;
 use fmp_files::{Outside, end, print, read_file, refuse_mistake};
 use fmp_looking::{Expectations, Judged, JudgementForm, ViewExit};
 use fmp_warnings::Form;

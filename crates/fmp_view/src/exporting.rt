@@ -2,9 +2,9 @@
 ghost use Rattle.std.specs.Prelude.{◌≡◌, ◌∷◌, [], Bool, IfOk, OnOk};
 ghost use Rattle.std.specs.String.{string_bytes};
 ghost use Rattle.fmp_files.specs.Deeds.{Does, wrote};
-ghost use Rattle.fmp_view.specs.Exports.{HasExported, HasExportedTexts, IsExportOf, in_folder, main_file, project};
+ghost use Rattle.fmp_view.specs.Exports.{HasExported, HasExportedTexts, IsExportOf, files_of, in_folder, main_file};
 
-use crate::asking::files_over_input;
+use crate::word_mistakes::files_over_input;
 use fmp_diagnosis::Texts;
 use fmp_export::project::MAKEFILE;
 use fmp_export::{ExportedText, export_c_with_lines};
@@ -25,6 +25,14 @@ pub struct Exporting<'a> {
     pub names: FileNames<'a>,
     pub folder: &'a str,
     pub lines: bool,
+}
+
+/// What a folder gets: two texts, and the C of the bodies of one.
+#[derive(Clone, Copy)]
+pub struct Project<'a> {
+    pub folder: &'a str,
+    pub texts: Texts<'a>,
+    pub exported: &'a ExportedText,
 }
 
 /// The files of the folder.
@@ -128,14 +136,16 @@ fn write_main<O: Outside>(
 fn write_project<O: Outside>(
     alloc: Global,
     outside: &mut O,
-    folder: &str,
-    texts: Texts<'_>,
-    exported: &ExportedText,
+    project: Project<'_>,
     keeps_main: bool,
 ) -> Result<(), Failure>
-    ensures { OnOk result (Does (O.done outside.old)
-        (project folder.now texts.entry exported.now keeps_main) (O.done outside.new)) }
+    ensures { OnOk result (Does (O.done outside.old) (files_of project.entry keeps_main) (O.done outside.new)) }
 {
+    let Project {
+        folder,
+        texts,
+        exported,
+    } = project;
     write_in(alloc, outside, folder, "bodies.h", &exported.header)?;
     write_in(alloc, outside, folder, "bodies.c", &exported.bodies)?;
     write_in(alloc, outside, folder, "system.cfg", texts.cfg)?;
@@ -149,31 +159,22 @@ fn make_project<O: Outside, R: Files>(
     alloc: Global,
     outside: &mut O,
     rt: &R,
-    folder: &str,
-    texts: Texts<'_>,
-    exported: &ExportedText,
+    project: Project<'_>,
 ) -> Result<(), Failure>
-    ensures { OnOk result ((keeps_main : Bool) × Does (O.done outside.old)
-        (project folder.now texts.entry exported.now keeps_main) (O.done outside.new)) }
+    ensures { OnOk result ((keeps_main : Bool) ×
+        Does (O.done outside.old) (files_of project.entry keeps_main) (O.done outside.new)) }
 {
-    make_folder(alloc, rt, folder)?;
-    let keeps_main = has_main(alloc, rt, folder)?;
-    write_project(alloc, outside, folder, texts, exported, keeps_main)
+    make_folder(alloc, rt, project.folder)?;
+    let keeps_main = has_main(alloc, rt, project.folder)?;
+    write_project(alloc, outside, project, keeps_main)
 }
 
-/// Writes the C of a text of a configuration, and gives the status.
-fn give<O: Outside, R: Files>(
-    alloc: Global,
-    outside: &mut O,
-    rt: &R,
-    folder: &str,
-    texts: Texts<'_>,
-    exported: &ExportedText,
-) -> u8
-    ensures { result ≡ 0 → (keeps_main : Bool) × Does (O.done outside.old)
-        (project folder.now texts.entry exported.now keeps_main) (O.done outside.new) }
+/// Makes a folder with its files, and gives the status.
+fn give<O: Outside, R: Files>(alloc: Global, outside: &mut O, rt: &R, project: Project<'_>) -> u8
+    ensures { result ≡ 0 → (keeps_main : Bool) ×
+        Does (O.done outside.old) (files_of project.entry keeps_main) (O.done outside.new) }
 {
-    match make_project(alloc, outside, rt, folder, texts, exported) {
+    match make_project(alloc, outside, rt, project) {
         Ok(()) => 0,
         Err(failure) => end(outside, &failure),
     }
@@ -191,7 +192,14 @@ fn export_texts<O: Outside, R: Files>(
         (O.done outside.old) (O.done outside.new) }
 {
     match exported(alloc, exporting.lines, texts.cfg, texts.src) {
-        Ok(exported) => give(alloc, outside, rt, exporting.folder, texts, &exported),
+        Ok(exported) => {
+            let project = Project {
+                folder: exporting.folder,
+                texts,
+                exported: &exported,
+            };
+            give(alloc, outside, rt, project)
+        }
         Err(BuildFault::Memory) => end(outside, &Failure::Memory(AllocError)),
         Err(BuildFault::At(..)) => print_fault(alloc, outside, exporting.names, Form::Text).max(1),
     }

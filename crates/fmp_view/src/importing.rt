@@ -1,7 +1,7 @@
 //! The command `import`: a configuration of TOPPERS or uITRON becomes one of this project.
 ghost use Rattle.fmp_import.specs.Imports.{IsImported};
 
-use crate::asking::{no_constant, out_over_configuration};
+use crate::word_mistakes::{no_constant, out_over_configuration};
 use fmp_files::{Failure, Outside, end, print, read_file, refuse_mistake, write_file};
 use fmp_import::{Constants, Header, ImportFault, Imported, import, included};
 use std::alloc::{AllocError, Global};

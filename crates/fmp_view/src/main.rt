@@ -29,6 +29,7 @@ mod targeting;
 mod telling;
 mod testing;
 mod texts;
+mod word_mistakes;
 
 use fmp_files::{Host, refuse_words, words_of};
 use form::program;

@@ -67,7 +67,7 @@ fn range_for(forms: &[&CommandForm], front: &str) -> Option<NumberRange> {
     range_among(forms, option_of(front)?)
 }
 
-/// The line of a message, before the reason that it gives, and the lines behind it.
+/// The line of a message, before the reason that it gives, and the lines after it.
 fn parts_of(message: &str) -> Option<(&str, &str)> {
     let (line, rest) = message.split_once('\n')?;
     let (front, _) = line.rsplit_once("': ")?;

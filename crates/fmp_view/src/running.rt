@@ -4,10 +4,7 @@ ghost use Rattle.clap.specs.Words.{Row, subcommand_rows_of};
 ghost use Rattle.fmp_searching.specs.Claimed.{HoldsOfWords};
 ghost use Rattle.fmp_view.specs.Commands.{AsksToExplore};
 
-use crate::asking::{
-    Asked, Cmd, RunFiles, command, dump_over_input, no_code, parsed, picture_of_nothing,
-    picture_over_input,
-};
+use crate::asking::{Asked, Cmd, Picturing, RunFiles, command, parsed};
 use crate::differing::print_diff;
 use crate::expecting::run_expect;
 use crate::exporting::run_export;
@@ -19,13 +16,14 @@ use crate::targeting::run_target;
 use crate::telling::{print_made, print_run};
 use crate::testing::run_test;
 use crate::texts::{run_step, run_texts};
+use crate::word_mistakes::{dump_over_input, no_code, picture_of_nothing, picture_over_input};
 use clap::ArgMatches;
 use fmp_arguments::join;
 use fmp_files::{Device, Failure, Outside, end, print, read_file, refuse_mistake};
 use fmp_frames::CallPlace;
 use fmp_looking::{
-    Drawing, DrivenText, Format, NamedText, Picture, PictureCut, RunOutput, Stats, Titled,
-    ViewExit, Why, code, exit_over, places_of_run, refused_in_run, steps,
+    DrivenText, Driving, Format, NamedText, Picture, PictureCut, RunOutput, Stats, StepsRun,
+    Titled, ViewExit, Why, code, exit_over, places_of_run, refused_in_run, steps,
 };
 use fmp_searching::{print_fault, read_both, run_explore};
 use fmp_server::serve;
@@ -36,32 +34,23 @@ use std::rt::Files;
 use std::thread::Threads;
 use std::time::Clock;
 
-/// What a drive prints, and how it ended.
+/// What a drive of the image of a file prints, and how it ended.
 fn driven_steps<O: Outside>(
     alloc: Global,
     outside: &O,
     image: &str,
-    events: u32,
-    seed: Option<u64>,
-    bound: u64,
+    driving: Driving,
 ) -> Result<DrivenText, ViewExit> {
     let image = read_file(alloc, outside, image, None)?;
-    match steps(alloc, &image, events, seed, bound) {
+    match steps(alloc, &image, driving) {
         Ok(driven) => Ok(driven),
         Err(fault) => Err(exit_over(alloc, fault, &image)),
     }
 }
 
-/// Prints steps that run an image, and says how their drive ended.
-fn run_drive<O: Outside>(
-    alloc: Global,
-    outside: &mut O,
-    image: &str,
-    events: u32,
-    seed: Option<u64>,
-    bound: u64,
-) -> u8 {
-    match driven_steps(alloc, outside, image, events, seed, bound) {
+/// Prints steps that run the image of a file, and says how their drive ended.
+fn run_drive<O: Outside>(alloc: Global, outside: &mut O, image: &str, driving: Driving) -> u8 {
+    match driven_steps(alloc, outside, image, driving) {
         Ok(driven) => {
             let ending = Some(driven.ending);
             print_run(alloc, outside, &driven.steps, ending, &driven.why)
@@ -124,18 +113,17 @@ fn print_why<O: Outside>(
     print_made(alloc, outside, made)
 }
 
-/// The lines of the calls that are refused in a run of an image, by where they stand in the text of a file.
+/// The lines of the calls that are refused in a run, by where they stand in the text of a file.
 fn refused_by_text<O: Outside>(
     alloc: Global,
     outside: &O,
-    (image, steps): (&[u8], &[u8]),
+    run: StepsRun<'_>,
     name: &str,
-    bound: u64,
     form: Form,
 ) -> Result<Vec<u8>, ViewExit> {
     let text = read_file(alloc, outside, name, None)?;
     let source = NamedText { name, text: &text };
-    refused_in_run(alloc, form, image, steps, Some(source), bound)
+    refused_in_run(alloc, form, run, Some(source))
 }
 
 /// The lines of the calls that are refused in a run; none of a recording, whose bodies are not known.
@@ -155,13 +143,18 @@ fn refused_lines<O: Outside>(
         return Ok(Vec::new(alloc));
     };
     let (image, steps) = read_both(alloc, outside, image, steps)?;
+    let run = StepsRun {
+        image: &image,
+        steps: &steps,
+        bound,
+    };
     match src {
-        Some(name) => refused_by_text(alloc, outside, (&image, &steps), name, bound, form),
-        None => refused_in_run(alloc, form, &image, &steps, None, bound),
+        Some(name) => refused_by_text(alloc, outside, run, name, form),
+        None => refused_in_run(alloc, form, run, None),
     }
 }
 
-/// The table of a run, and the calls that are refused: behind an empty line, or as further objects.
+/// The table of a run, and the calls that are refused: after an empty line, or as further objects.
 fn stats_of<O: Outside>(
     alloc: Global,
     outside: &O,
@@ -229,7 +222,12 @@ fn places_in<O: Outside>(
         ) => {
             let src = read_file(alloc, outside, src, None)?;
             let (image, steps) = read_both(alloc, outside, image, steps)?;
-            places_of_run(alloc, &image, &steps, &src, bound)
+            let run = StepsRun {
+                image: &image,
+                steps: &steps,
+                bound,
+            };
+            places_of_run(alloc, run, &src)
         }
         _ => Ok(Vec::new(alloc)),
     }
@@ -239,18 +237,16 @@ fn places_in<O: Outside>(
 fn run_timeline<O: Outside>(
     alloc: Global,
     outside: &O,
-    run: RunFiles<'_>,
-    drawing: Drawing,
-    src: Option<&str>,
+    picturing: Picturing<'_>,
 ) -> Result<Picture, ViewExit> {
-    let (system, _) = run.files();
-    let places = places_in(alloc, outside, run, src)?;
+    let (system, _) = picturing.run.files();
+    let places = places_in(alloc, outside, picturing.run, picturing.src)?;
     let titled = Titled {
         title: title_of(system).as_bytes(),
-        drawing,
+        drawing: picturing.drawing,
         places: &places,
     };
-    made_of_run(alloc, outside, run, &titled)
+    made_of_run(alloc, outside, picturing.run, &titled)
 }
 
 /// Says which events a picture has, where it has not all that were asked for.
@@ -268,21 +264,15 @@ fn say_cut<O: Outside>(outside: &mut O, cut: Option<PictureCut>) {
 }
 
 /// Writes a picture to its file.
-fn write_timeline<O: Outside>(
-    alloc: Global,
-    outside: &mut O,
-    run: RunFiles<'_>,
-    out: &str,
-    drawing: Drawing,
-    src: Option<&str>,
-) -> u8 {
-    if is_read(outside, out, run) || is_this_file(outside, out, src) {
+fn write_timeline<O: Outside>(alloc: Global, outside: &mut O, picturing: Picturing<'_>) -> u8 {
+    let out = picturing.out;
+    if is_read(outside, out, picturing.run) || is_this_file(outside, out, picturing.src) {
         return refuse_mistake(outside, picture_over_input(alloc));
     }
-    if drawing.choice.first > drawing.choice.last {
+    if picturing.drawing.choice.first > picturing.drawing.choice.last {
         return refuse_mistake(outside, picture_of_nothing(alloc));
     }
-    match run_timeline(alloc, outside, run, drawing, src) {
+    match run_timeline(alloc, outside, picturing) {
         Ok(picture) => {
             say_cut(outside, picture.cut);
             write(alloc, outside, out, &picture.bytes)
@@ -291,6 +281,7 @@ fn write_timeline<O: Outside>(
     }
 }
 
+/// Prints what the code that a word asks for means, and gives the status.
 fn say_code<O: Outside>(alloc: Global, outside: &mut O, word: &str) -> u8 {
     match code(alloc, word) {
         Ok(Some(text)) => print(alloc, outside, &text),
@@ -319,28 +310,21 @@ where
         Asked::Export(exporting) => run_export(alloc, outside, rt, exporting),
         Asked::Target(targeting) => run_target(alloc, outside, rt, targeting),
         Asked::Import(importing) => run_import(alloc, outside, importing),
-        Asked::Step(names, form, bound) => run_step(alloc, outside, rt, names, form, bound),
+        Asked::Step(words) => run_step(alloc, outside, rt, words),
         Asked::Serve => run_server(alloc, outside, rt),
         Asked::Code(word) => say_code(alloc, outside, word),
         Asked::Fault(names, form) => print_fault(alloc, outside, names, form),
         Asked::Run(names, run, files) => run_texts(alloc, outside, names, run, files),
         Asked::Recorded(run, form) => print_recorded(alloc, outside, run, form),
         Asked::Calls(run) => print_calls(alloc, outside, run),
-        Asked::Drive {
-            image,
-            events,
-            seed,
-            bound,
-        } => run_drive(alloc, outside, image, events, seed, bound),
+        Asked::Drive(image, driving) => run_drive(alloc, outside, image, driving),
         Asked::Why(run, at, form) => print_why(alloc, outside, run, at, form),
         Asked::Expect(run, expecting) => run_expect(alloc, outside, run, expecting),
         Asked::Test(testing) => run_test(alloc, outside, rt, &testing),
         Asked::Diff(runs) => print_diff(alloc, outside, runs),
         Asked::Stats(run, src, form) => print_stats(alloc, outside, run, src, form),
         Asked::Waves(run, out, format) => write_waves(alloc, outside, run, out, format),
-        Asked::Timeline(run, out, drawing, src) => {
-            write_timeline(alloc, outside, run, out, drawing, src)
-        }
+        Asked::Timeline(picturing) => write_timeline(alloc, outside, picturing),
     }
 }
 

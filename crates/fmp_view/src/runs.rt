@@ -1,7 +1,7 @@
 //! The files of runs: what a look makes of a run, and where it is written.
 use crate::asking::RunFiles;
 use fmp_files::{Outside, end, write_file};
-use fmp_looking::{RunLook, ViewExit, look_at_image, look_at_recording};
+use fmp_looking::{RunLook, StepsRun, ViewExit, look_at_image, look_at_recording};
 use fmp_searching::read_both;
 use std::alloc::Global;
 
@@ -12,11 +12,18 @@ pub fn made_of_run<O: Outside, L: RunLook>(
     run: RunFiles<'_>,
     look: &L,
 ) -> Result<L::Made, ViewExit> {
-    let (one, other) = run.files();
-    let (one, other) = read_both(alloc, outside, one, other)?;
+    let (system, came) = run.files();
+    let (system, came) = read_both(alloc, outside, system, came)?;
     match run {
-        RunFiles::Steps { bound, .. } => look_at_image(alloc, look, &one, &other, bound),
-        RunFiles::Recording { .. } => look_at_recording(alloc, look, &one, &other),
+        RunFiles::Steps { bound, .. } => {
+            let run = StepsRun {
+                image: &system,
+                steps: &came,
+                bound,
+            };
+            look_at_image(alloc, look, run)
+        }
+        RunFiles::Recording { .. } => look_at_recording(alloc, look, &system, &came),
     }
 }
 
@@ -30,8 +37,8 @@ pub fn write<O: Outside>(alloc: Global, outside: &mut O, out: &str, bytes: &[u8]
 
 /// Whether a file is one of those of a run.
 pub fn is_read<O: Outside>(outside: &O, out: &str, run: RunFiles<'_>) -> bool {
-    let (one, other) = run.files();
-    outside.is_one_file(out, one) || outside.is_one_file(out, other)
+    let (system, came) = run.files();
+    outside.is_one_file(out, system) || outside.is_one_file(out, came)
 }
 
 /// Whether a file is this one, if one is given.

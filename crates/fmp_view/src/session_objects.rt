@@ -96,10 +96,25 @@ fn holder_of(processors: &[Processor], lock: u8) -> i32 {
     }
 }
 
-/// What is shown of an object, and its value.
-fn value_of(sys: &System, frame: &Frame, named: Named) -> Option<(&'static str, i32)> {
+/// What is shown of an object.
+#[derive(Clone, Copy)]
+struct ObjectValue {
+    /// What the value is, in a word.
+    word: &'static str,
+    value: i32,
+}
+
+/// The lines of the states of all tasks, in a form.
+#[derive(Clone, Copy)]
+struct StateLines<'a> {
+    form: Form,
+    text: &'a [u8],
+}
+
+/// What is shown of an object; nothing of a task.
+fn value_of(sys: &System, frame: &Frame, named: Named) -> Option<ObjectValue> {
     let place = usize::from(named.place);
-    Some(match named.kind {
+    let (word, value) = match named.kind {
         ObjectKind::Task => return None,
         ObjectKind::Semaphore => ("count", i32::from(*frame.semaphores.get(place)?)),
         ObjectKind::Flag => ("pattern", i32::from(*frame.flags.get(place)?)),
@@ -109,7 +124,8 @@ fn value_of(sys: &System, frame: &Frame, named: Named) -> Option<(&'static str, 
         ObjectKind::SharedWord => ("value", *frame.shared_words.get(place)?),
         ObjectKind::SpinLock => ("processor", holder_of(&frame.processors, named.place)),
         ObjectKind::Cyclic => ("pending", i32::from(*frame.pending_cyclics.get(place)?)),
-    })
+    };
+    Some(ObjectValue { word, value })
 }
 
 /// Whether a task of this block waits for an object.
@@ -166,9 +182,10 @@ fn append_value(
     alloc: Global,
     form: Form,
     named: Named,
-    (word, value): (&str, i32),
+    shown: ObjectValue,
     out: &mut Vec<u8>,
 ) -> Result<(), AllocError> {
+    let ObjectValue { word, value } = shown;
     let kind = kind_word(named.kind);
     let line = match form {
         Form::Text => {
@@ -187,14 +204,14 @@ fn shown_in(
     alloc: Global,
     sys: &System,
     frame: &Frame,
-    (form, states): (Form, &[u8]),
+    states: StateLines<'_>,
     named: Named,
 ) -> Result<Vec<u8>, AllocError> {
     let mut out = Vec::new(alloc);
     if let Some(value) = value_of(sys, frame, named) {
-        append_value(alloc, form, named, value, &mut out)?;
+        append_value(alloc, states.form, named, value, &mut out)?;
     }
-    append_states_of(states, &frame.blocks, named, &mut out)?;
+    append_states_of(states.text, &frame.blocks, named, &mut out)?;
     Ok(out)
 }
 
@@ -207,10 +224,11 @@ fn shown_of(
 ) -> Result<Vec<u8>, AllocError>
     requires { IsSession session.now }
 {
-    let states = states_text(alloc, session, form)?;
+    let text = states_text(alloc, session, form)?;
+    let states = StateLines { form, text: &text };
     let image = session.image();
     let frame = last_frame(alloc, session.kernel())?;
-    let shown = shown_in(alloc, image.system(), &frame, (form, &states), named);
+    let shown = shown_in(alloc, image.system(), &frame, states, named);
     drop(frame);
     shown
 }

@@ -140,7 +140,7 @@ fn given(
     Ok(names)
 }
 
-/// The folder of a file as it stands in front of names of files: what stands through its last `/`, or nothing.
+/// The folder of a file as it stands before names of files: what stands through its last `/`, or nothing.
 fn folder_of(file: &str) -> &str {
     match file.rsplit_once('/') {
         Some((_, name)) => file.strip_suffix(name).unwrap_or(""),

@@ -3,11 +3,11 @@ ghost use Rattle.std.specs.Prelude.{◌≡◌, IfOk, None};
 ghost use Rattle.fmp_session.specs.Sessions.{IsSession};
 ghost use Rattle.fmp_view.specs.Stepped.{last_lines};
 
-use crate::answering::{Answer, Stepping, answer_of, append_last};
+use crate::answering::{Answer, GivenCommand, Stepping, answer_of, append_last};
 use crate::mistakes::mistake_text;
 use fmp_files::{Failure, Outside, end, failed, print};
-use fmp_image_bytes::Image;
-use fmp_session::{Command, Session, answer_line, command_of, failure_line};
+use fmp_looking::OpenImage;
+use fmp_session::{Command, Session, answer_line, argument_of, command_of, failure_line};
 use fmp_warnings::Form;
 use std::alloc::{AllocError, Global};
 use std::io::{BufRead, BufReader, ErrorKind, Input};
@@ -27,6 +27,23 @@ enum Next {
     Failed(u8),
     /// The end, with this status.
     End(u8),
+}
+
+/// Where a session is.
+#[derive(Clone, Copy)]
+struct SessionPosition {
+    /// The number of its line.
+    line: u32,
+    /// How many events it has.
+    events: usize,
+}
+
+/// A line of a session.
+#[derive(Clone, Copy)]
+struct SessionLine<'a> {
+    /// From 1.
+    number: u32,
+    text: &'a [u8],
 }
 
 /// What comes after a line that ended with this status, where it would be this.
@@ -63,20 +80,20 @@ fn print_told<O: Outside>(
     }
 }
 
-/// Says why the line of this number failed, in a session of this many events.
+/// Says why the line of a session failed.
 fn say_failed<O: Outside>(
     alloc: Global,
     outside: &mut O,
     form: Form,
-    (number, events): (u32, usize),
+    at: SessionPosition,
     reason: &str,
 ) -> u8 {
     match form {
         Form::Text => {
-            outside.say(format_args!("line {number}: {reason}\n"));
+            outside.say(format_args!("line {}: {reason}\n", at.line));
             0
         }
-        Form::Json => print_answer(alloc, outside, failure_line(alloc, events, reason)),
+        Form::Json => print_answer(alloc, outside, failure_line(alloc, at.events, reason)),
     }
 }
 
@@ -100,26 +117,26 @@ fn say_file<O: Outside>(
     }
 }
 
-/// Answers the line of this number, in a session of this many events, and gives what comes after it.
+/// Answers the line of a session, and gives what comes after it.
 fn give_answer<O: Outside>(
     alloc: Global,
     outside: &mut O,
     form: Form,
-    (number, events): (u32, usize),
+    at: SessionPosition,
     answer: Result<Option<Answer>, AllocError>,
 ) -> Next {
     match answer {
         Ok(None) => Next::End(0),
         Ok(Some(Answer::Told(told))) => next_after(
-            print_told(alloc, outside, form, events, told),
+            print_told(alloc, outside, form, at.events, told),
             Next::Line,
         ),
         Ok(Some(Answer::Refused(reason))) => next_after(
-            say_failed(alloc, outside, form, (number, events), &reason),
+            say_failed(alloc, outside, form, at, &reason),
             Next::Failed(LINE_FAILED),
         ),
         Ok(Some(Answer::NoFile(failure))) => next_after(
-            say_file(alloc, outside, form, events, &failure),
+            say_file(alloc, outside, form, at.events, &failure),
             Next::Failed(FILE_FAILED),
         ),
         Err(error) => Next::End(end(outside, &Failure::Memory(error))),
@@ -140,7 +157,13 @@ fn answered<O: Outside>(
     let processors = session.image().system().processors;
     match command_of(line, processors, stepping.interrupts) {
         Ok(Command::Quit) => Ok(None),
-        Ok(command) => Ok(Some(answer_of(alloc, outside, session, stepping, command, line)?)),
+        Ok(command) => {
+            let given = GivenCommand {
+                command,
+                argument: argument_of(line),
+            };
+            Ok(Some(answer_of(alloc, outside, session, stepping, given)?))
+        }
         Err(mistake) => {
             let interrupts = stepping.interrupts;
             let reason = mistake_text(alloc, mistake, line, processors, interrupts)?;
@@ -149,21 +172,23 @@ fn answered<O: Outside>(
     }
 }
 
-/// Carries out the line of this number.
+/// Carries out a line.
 fn carry_out_line<O: Outside>(
     alloc: Global,
     outside: &mut O,
     session: &mut Session<'_>,
     stepping: Stepping<'_>,
-    line: &[u8],
-    number: u32,
+    line: SessionLine<'_>,
 ) -> Next
     requires { IsSession session.old }
     ensures { IsSession session.new }
 {
-    let answer = answered(alloc, outside, session, stepping, line);
-    let events = session.events().len();
-    give_answer(alloc, outside, stepping.form, (number, events), answer)
+    let answer = answered(alloc, outside, session, stepping, line.text);
+    let at = SessionPosition {
+        line: line.number,
+        events: session.events().len(),
+    };
+    give_answer(alloc, outside, stepping.form, at, answer)
 }
 
 /// The next line of the input with its line feed, which the last may lack; nothing at its end.
@@ -206,7 +231,11 @@ fn carry_out_lines<O: Outside, I: BufRead>(
             ask(outside, stepping, "\n");
             return status_of(stepping.terminal, worst);
         }
-        match carry_out_line(alloc, outside, session, stepping, line.trim_ascii(), number) {
+        let line = SessionLine {
+            number,
+            text: line.trim_ascii(),
+        };
+        match carry_out_line(alloc, outside, session, stepping, line) {
             Next::Line => {}
             Next::Failed(status) => worst = worst.max(status),
             Next::End(last) => return last.max(status_of(stepping.terminal, worst)),
@@ -258,11 +287,10 @@ fn session_over<O: Outside, I: BufRead>(
     alloc: Global,
     outside: &mut O,
     input: &mut I,
-    image: &Image,
+    opened: &OpenImage<'_>,
     stepping: Stepping<'_>,
-    bound: u64,
 ) -> Result<u8, AllocError> {
-    let mut session = Session::new(alloc, image, bound)?;
+    let mut session = Session::new(alloc, opened.image, opened.bound)?;
     let status = begin(alloc, outside, input, &mut session, stepping);
     drop(session);
     Ok(status)
@@ -273,12 +301,11 @@ pub fn step_image<O: Outside, R: Input>(
     alloc: Global,
     outside: &mut O,
     rt: &R,
-    image: &Image,
+    opened: &OpenImage<'_>,
     stepping: Stepping<'_>,
-    bound: u64,
 ) -> Result<u8, AllocError> {
     match BufReader::new(alloc, rt.reader()) {
-        Ok(mut input) => session_over(alloc, outside, &mut input, image, stepping, bound),
+        Ok(mut input) => session_over(alloc, outside, &mut input, opened, stepping),
         Err(_) => Err(AllocError),
     }
 }

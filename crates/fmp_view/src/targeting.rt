@@ -3,8 +3,8 @@ ghost use Rattle.std.specs.Prelude.{◌≡◌, ◌∷◌, [], IfOk, OnOk};
 ghost use Rattle.fmp_files.specs.Deeds.{Does};
 ghost use Rattle.fmp_view.specs.Targets.{HasTargeted, HasTargetedTexts, IsTargetOf, target_files};
 
-use crate::asking::files_over_input;
 use crate::exporting::{is_over_input, make_folder, write_in};
+use crate::word_mistakes::files_over_input;
 use fmp_base::Name;
 use fmp_diagnosis::Texts;
 use fmp_files::{Failure, Outside, end, refuse_mistake};

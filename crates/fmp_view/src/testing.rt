@@ -1,4 +1,5 @@
 //! The command `test`: random runs of two texts.
+use fmp_diagnosis::Texts;
 use fmp_files::{Failure, Outside, end};
 use fmp_image::build;
 use fmp_lex::BuildFault;
@@ -13,7 +14,7 @@ fn test_texts<O: Outside, R: Threads + Sync>(
     alloc: Global,
     outside: &mut O,
     rt: &R,
-    (cfg, src): (&[u8], &[u8]),
+    texts: Texts<'_>,
     testing: &Testing<'_>,
 ) -> u8 {
     let names = FileNames {
@@ -21,7 +22,7 @@ fn test_texts<O: Outside, R: Threads + Sync>(
         src: testing.src,
         steps: "",
     };
-    match build(alloc, cfg, src) {
+    match build(alloc, texts.cfg, texts.src) {
         Ok(image) => {
             let status = test_image(alloc, outside, rt, &image, testing);
             drop(image);
@@ -42,7 +43,13 @@ pub fn run_test<O: Outside, R: Threads + Sync>(
     testing: &Testing<'_>,
 ) -> u8 {
     match read_both(alloc, outside, testing.cfg, testing.src) {
-        Ok((cfg, src)) => test_texts(alloc, outside, rt, (&cfg, &src), testing),
+        Ok((cfg, src)) => {
+            let texts = Texts {
+                cfg: &cfg,
+                src: &src,
+            };
+            test_texts(alloc, outside, rt, texts, testing)
+        }
         Err(failure) => end(outside, &failure),
     }
 }

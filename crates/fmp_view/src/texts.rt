@@ -1,21 +1,23 @@
 //! The commands over the two texts of a system: a run of it, and a session.
 use crate::answering::Stepping;
-use crate::asking::{coverage_over_input, lcov_over_input};
-use crate::runs::write;
+use crate::asking::StepWords;
 use crate::stepping::step_image;
 use crate::telling::print_run;
+use crate::word_mistakes::{coverage_over_input, lcov_over_input};
 use fmp_base::{Entry, System};
 use fmp_cfgparse::read_cfg;
 use fmp_diagnosis::Texts;
 use fmp_files::{Failure, Outside, end, read_file, refuse_mistake};
 use fmp_frames::CallPlaces;
 use fmp_image::build;
-use fmp_image_bytes::Image;
 use fmp_lex::BuildFault;
-use fmp_looking::{CoverageFiles, NamedText, NoTrace, Running, Traced, traced_texts};
+use fmp_looking::{
+    CoverageFiles, NamedText, NoTrace, OpenImage, Running, Traced, traced_texts,
+    write_coverage_files,
+};
 use fmp_searching::{print_fault, read_both};
 use fmp_session::NamedInterrupt;
-use fmp_warnings::{FileNames, Form};
+use fmp_warnings::FileNames;
 use std::alloc::{AllocError, Global};
 use std::io::{Input, IsTerminal};
 
@@ -63,37 +65,16 @@ fn is_read<O: Outside>(outside: &O, out: Option<&str>, names: FileNames<'_>) -> 
         || (!names.steps.is_empty() && outside.is_one_file(out, names.steps))
 }
 
-/// Writes a text to its file, if one is named, and gives the status.
-fn write_to<O: Outside>(alloc: Global, outside: &mut O, out: Option<&str>, text: &[u8]) -> u8 {
-    match out {
-        Some(out) => write(alloc, outside, out, text),
-        None => 0,
-    }
-}
-
-/// Writes what calls and branches of a run come to, where that is asked for, and gives the status.
-fn write_coverage<O: Outside>(
-    alloc: Global,
-    outside: &mut O,
-    traced: &Traced,
-    files: CoverageFiles<'_>,
-) -> u8 {
-    match write_to(alloc, outside, files.lcov, &traced.tracefile) {
-        0 => write_to(alloc, outside, files.coverage, &traced.coverage),
-        status => status,
-    }
-}
-
-/// Prints a run, after what its calls and branches come to is written where that is asked for.
+/// Prints a run, after its coverage is written where that is asked for.
 fn tell_run<O: Outside>(
     alloc: Global,
     outside: &mut O,
     traced: &Traced,
     files: CoverageFiles<'_>,
 ) -> u8 {
-    match write_coverage(alloc, outside, traced, files) {
-        0 => print_run(alloc, outside, &traced.text, traced.ending, &traced.why),
-        status => status,
+    match write_coverage_files(alloc, outside, files, &traced.tracefile, &traced.coverage) {
+        Ok(()) => print_run(alloc, outside, &traced.text, traced.ending, &traced.why),
+        Err(failure) => end(outside, &failure),
     }
 }
 
@@ -113,8 +94,8 @@ fn trace_texts<O: Outside>(
     }
 }
 
-/// Prints the trace of a run of the texts of these files, or their fault, with status 1. What its calls and branches
-/// come to is written to these files.
+/// Prints the trace of a run of the texts of these files, or their fault, with status 1. Its coverage is written to
+/// these files.
 pub fn run_texts<O: Outside>(
     alloc: Global,
     outside: &mut O,
@@ -157,29 +138,21 @@ fn interrupts_in(alloc: Global, cfg: &[u8]) -> Result<Vec<NamedInterrupt>, Alloc
     }
 }
 
-/// Takes commands of standard input on the image of these two texts, and gives the status.
-fn step_status<O: Outside, R: Input>(
-    alloc: Global,
-    outside: &mut O,
-    rt: &R,
-    image: &Image,
-    (cfg, src): (&[u8], &[u8]),
-    (names, form): (FileNames<'_>, Form),
-    bound: u64,
-) -> Result<u8, AllocError>
-where
-    R::Reader: IsTerminal,
-{
-    let interrupts = interrupts_in(alloc, cfg)?;
-    let places = CallPlaces::new(alloc, src)?;
-    let stepping = Stepping {
-        names,
-        form,
-        interrupts: &interrupts,
-        places: &places,
-        terminal: rt.reader().is_terminal(),
-    };
-    step_image(alloc, outside, rt, image, stepping, bound)
+/// What a session knows of two texts beside the system that they build.
+#[derive(Drop)]
+struct TextsKnown {
+    /// The interrupts that have handlers.
+    interrupts: Vec<NamedInterrupt>,
+    /// Where the calls of the bodies stand.
+    places: CallPlaces,
+}
+
+/// What a session knows of two texts. `AllocError` if memory runs out.
+fn known_of(alloc: Global, texts: Texts<'_>) -> Result<TextsKnown, AllocError> {
+    Ok(TextsKnown {
+        interrupts: interrupts_in(alloc, texts.cfg)?,
+        places: CallPlaces::new(alloc, texts.src)?,
+    })
 }
 
 /// Takes commands of standard input on the system of two texts, or prints their first fault, with status 1.
@@ -187,23 +160,33 @@ fn step_texts<O: Outside, R: Input>(
     alloc: Global,
     outside: &mut O,
     rt: &R,
-    (cfg, src): (&[u8], &[u8]),
-    (names, form): (FileNames<'_>, Form),
-    bound: u64,
+    texts: Texts<'_>,
+    words: StepWords<'_>,
 ) -> u8
 where
     R::Reader: IsTerminal,
 {
-    match build(alloc, cfg, src) {
+    let Ok(known) = known_of(alloc, texts) else {
+        return end(outside, &Failure::Memory(AllocError));
+    };
+    let stepping = Stepping {
+        names: words.names,
+        form: words.form,
+        interrupts: &known.interrupts,
+        places: &known.places,
+        terminal: rt.reader().is_terminal(),
+    };
+    match build(alloc, texts.cfg, texts.src) {
         Ok(image) => {
-            let status = step_status(alloc, outside, rt, &image, (cfg, src), (names, form), bound);
+            let opened = OpenImage::new(&image, words.bound);
+            let status = step_image(alloc, outside, rt, &opened, stepping);
             drop(image);
             match status {
                 Ok(status) => status,
                 Err(error) => end(outside, &Failure::Memory(error)),
             }
         }
-        Err(_) => print_fault(alloc, outside, names, form),
+        Err(_) => print_fault(alloc, outside, words.names, words.form),
     }
 }
 
@@ -213,15 +196,19 @@ pub fn run_step<O: Outside, R: Input>(
     alloc: Global,
     outside: &mut O,
     rt: &R,
-    names: FileNames<'_>,
-    form: Form,
-    bound: u64,
+    words: StepWords<'_>,
 ) -> u8
 where
     R::Reader: IsTerminal,
 {
-    match read_both(alloc, outside, names.cfg, names.src) {
-        Ok((cfg, src)) => step_texts(alloc, outside, rt, (&cfg, &src), (names, form), bound),
+    match read_both(alloc, outside, words.names.cfg, words.names.src) {
+        Ok((cfg, src)) => {
+            let texts = Texts {
+                cfg: &cfg,
+                src: &src,
+            };
+            step_texts(alloc, outside, rt, texts, words)
+        }
         Err(failure) => end(outside, &failure),
     }
 }

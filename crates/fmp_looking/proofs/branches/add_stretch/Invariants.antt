@@ -6,8 +6,8 @@ abbrev pub invariant-loop-turn : goal.invariant-loop-turn
 invariant-loop-turn g l =
     record {
       steps : l.steps.items
-          ++ stretch_steps (g.B.Body.meaning l.body) l.instructions l.entry (l.n - l._turn) l.here
+          ++ stretch_steps (g.B.Body.meaning l.body) l.code.instructions.now l.code.number (l.n - l._turn) l.here
           ≡ l.initial.steps.items
-          ++ stretch_steps (g.B.Body.meaning l.body) l.instructions l.entry l.n l.fn.context;
-      context : g.B.Body.is_context l.body l.entry l.here;
+          ++ stretch_steps (g.B.Body.meaning l.body) l.code.instructions.now l.code.number l.n l.fn.context;
+      context : g.B.Body.is_context l.body l.code.number l.here;
     }

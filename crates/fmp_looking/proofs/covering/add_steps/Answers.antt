@@ -20,10 +20,10 @@ returns c =
     (λ h. h
     ∙ ap
     (λ (t : List BodyTables).
-    c.args.steps.now.items ++ branch_steps code_meaning t c.in_ok-kernel.kernel c.args.events.now)
+    c.args.steps.now.items ++ branch_steps code_meaning t c.in_ok-kernel.kernel c.args.run.events.now)
     c.code.ensures
     ∙ ap
     (λ (k : KernelView (List BodyTables) MachineContext).
-    c.args.steps.now.items ++ branch_steps code_meaning c.args.image.now.code k c.args.events.now)
+    c.args.steps.now.items ++ branch_steps code_meaning c.args.run.image.now.code k c.args.run.events.now)
     c.in_ok-kernel.ensures)
     c.add_branch_steps-added.ensures

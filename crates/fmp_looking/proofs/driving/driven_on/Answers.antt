@@ -15,7 +15,7 @@ pub drive-requires-clause-eight : goal.drive-requires-clause-eight
 drive-requires-clause-eight g c = c.requires.eight
 
 pub drive-requires-clause-tasks : goal.drive-requires-clause-tasks
-drive-requires-clause-tasks g c = omega (arith, c.tasks_of-tasks.ensures)
+drive-requires-clause-tasks g c = omega (arith, c.task_count-tasks.ensures)
 
 pub returns : goal.returns
 returns g c = c.drive.ensures

@@ -10,6 +10,6 @@ invariant-loop-e g l =
       heard : heard_in g.B.Body.meaning (code_tables l.text.code.now) l.text.places.now l.kernel
           (drop l.e-index l.events) (heard_of l.heard)
           ≡ heard_in g.B.Body.meaning (code_tables l.text.code.now) l.text.places.now l.fn.kernel l.events
-          (unheard l.fn.calls.items l.tasks);
+          (unheard l.fn.calls.items (length l.fn.kernel.system.tasks));
       few : l.kernel.taken + length l.events ≤ 2 ^ 31 + l.e-index;
     }

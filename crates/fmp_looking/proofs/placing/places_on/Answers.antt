@@ -16,9 +16,9 @@ returns c =
     IfOk-weaker c.places_made.result _ _
     (λ made h. h
     ∙ ap
-    (λ (t : List BodyTables). places_made code_meaning t c.args.places.now c.args.kernel.now c.args.events.now)
+    (λ (t : List BodyTables). places_made code_meaning t c.args.run.places.now c.args.kernel.now c.args.run.events.now)
     c.code.ensures
     ∙ ap
     (λ (k : KernelView (List BodyTables) MachineContext).
-    places_made code_meaning c.args.image.now.code c.args.places.now k c.args.events.now)
+    places_made code_meaning c.args.run.image.now.code c.args.run.places.now k c.args.run.events.now)
     c.requires.kernel) c.places_made.ensures

@@ -1,3 +1,4 @@
+use Rattle.std.proofs.Common.{refl}
 use Rattle.fmp_looking.proofs.Failed.{is_failed}
 use Rattle.fmp_looking.proofs.reporting.tested.Goals as goal
 
@@ -8,9 +9,9 @@ failed_test-requires g c =
 
 pub returns-in-Some : goal.returns-in-Some
 returns-in-Some g c =
-    is_failed c.args.image.now c.new-opened.result.image.now c.args.testing.now.bound c.new-opened.result.bound
-    c.args.expectations.now.text.now _ c.in_ok-expected.expected.items c.deref-2.result.now c.in-Some.trial
-    c.in_ok-test-in-Some.test
-    c.in_ok-expected.ensures c.deref-2.ensures.value c.system.ensures.tables c.new-opened.ensures.image
-    c.new-opened.ensures.bound
-    (rw c.in-Some.is at c.in_ok-found.ensures) c.in_ok-test-in-Some.ensures.trial c.in_ok-test-in-Some.ensures.steps
+    is_failed c.args.test.now.image.now c.args.test.now.image.now c.args.test.now.testing.bound
+    c.args.test.now.testing.bound c.args.expectations.now.text.now _ c.in_ok-expected.expected.items
+    c.deref-2.result.now c.in-Some.trial c.in_ok-failed-in-Some.failed
+    c.in_ok-expected.ensures c.deref-2.ensures.value c.system.ensures.tables refl refl
+    (rw c.in-Some.is at c.in_ok-found.ensures) c.in_ok-failed-in-Some.ensures.trial
+    c.in_ok-failed-in-Some.ensures.steps

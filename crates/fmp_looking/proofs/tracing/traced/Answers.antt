@@ -25,7 +25,8 @@ returns g c =
     record {
       first = c.in_ok-tracer.tracer;
       begins = subst
-          (λ (f : FrameTable). IsBegun c.args.form (tables_of c.args.sys.now) c.args.places.now c.in_ok-tracer.tracer f)
+          (λ (f : FrameTable). IsBegun c.args.printing.form (tables_of c.args.printing.sys.now)
+          c.args.printing.places.now c.in_ok-tracer.tracer f)
           c.in_ok-setup.ensures c.in_ok-tracer.ensures;
       frames = c.in_ok-show_all.ensures.shown;
     }
