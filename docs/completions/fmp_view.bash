@@ -23,7 +23,7 @@ _fmp_view() {
         waves) words="--recording --bound --format -h --help" ;;
         timeline) words="--recording --bound --from --to --src --objects --html -h --help" ;;
         export) words="--c --toppers --fmp3 --line-directives -h --help" ;;
-        import) words="--define --out -h --help" ;;
+        import) words="-D --define --out -h --help" ;;
         help) COMPREPLY=($(compgen -W "code fault run step lsp drive why explore diff expect test stats waves timeline export import" -- "$word")); return ;;
     esac
     case $word in

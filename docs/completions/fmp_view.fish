@@ -109,7 +109,7 @@ complete -c fmp_view -n '__fish_seen_subcommand_from export' -l toppers -x -d 'F
 complete -c fmp_view -n '__fish_seen_subcommand_from export' -l fmp3 -d 'Write them for TOPPERS/FMP3'
 complete -c fmp_view -n '__fish_seen_subcommand_from export' -l line-directives -d 'Let a debugger show the lines of system.src'
 complete -c fmp_view -n '__fish_seen_subcommand_from export' -s h -l help -d 'Print help'
-complete -c fmp_view -n '__fish_seen_subcommand_from import' -l define -d 'Value of a constant of CFG, before those of the files that it includes; it may be given again'
+complete -c fmp_view -n '__fish_seen_subcommand_from import' -s D -l define -d 'Value of a constant of CFG, before those of the files that it includes; it may be given again'
 complete -c fmp_view -n '__fish_seen_subcommand_from import' -l out -x -d 'File that gets the configuration; without it standard output does'
 complete -c fmp_view -n '__fish_seen_subcommand_from import' -s h -l help -d 'Print help'
 complete -c fmp_view -f -n '__fish_seen_subcommand_from code' -a 'E_OK E_SYS E_NOSPT E_RSATR E_PAR E_ID E_CTX E_ILUSE E_OBJ E_QOVR E_RLWAI E_TMOUT F_OVF F_DIV F_IDX B1 B2 B3 B4 B5 B6 B7 B9 L1 L2 L3 L4 L5 L6 S1 S2 S3 H4 H5'

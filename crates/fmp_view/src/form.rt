@@ -1,4 +1,5 @@
 //! The form of the command line.
+use crate::import_form::import_command;
 use clap::Command;
 use fmp_arguments::{
     Argument, ArgumentKind, BOUNDED, CFG, CommandForm, EVENTS_MAX, JSON, JUNIT, Made, NO_SETTINGS,
@@ -159,16 +160,6 @@ const LINE_DIRECTIVES: &str = "Let a debugger show the lines of system.src";
 /// Another target.
 const FMP3: &str = "Write them for TOPPERS/FMP3";
 
-/// A constant of a configuration.
-const DEFINE: &str =
-    "Value of a constant of CFG, before those of the files that it includes; it may be given again";
-
-/// What is imported.
-const FOREIGN: &str = "Configuration of TOPPERS or uITRON; files that it includes stand beside it";
-
-/// Where the configuration goes.
-const IMPORTED: &str = "File that gets the configuration; without it standard output does";
-
 const IMAGE: Argument = Argument(
     "IMAGE",
     ArgumentKind::Word,
@@ -311,21 +302,6 @@ static EXPORT: CommandForm = CommandForm {
     example: "Example: fmp_view export examples/queue.cfg examples/queue.src --c queue",
 };
 
-static IMPORT: CommandForm = CommandForm {
-    name: "import",
-    about: "Makes a configuration of TOPPERS/FMP, FMP3 or uITRON 4.0 one of this project, and says what is left out",
-    arguments: &[
-        Argument("CFG", ArgumentKind::Word, FOREIGN),
-        Argument("define", ArgumentKind::Again("NAME=VALUE"), DEFINE),
-        Argument(
-            "out",
-            ArgumentKind::Option("OUT", OptionValue::Text),
-            IMPORTED,
-        ),
-    ],
-    example: "Example: fmp_view import sample1.cfg --define LOGTASK_PRIORITY=3 --out sample1.fmp.cfg",
-};
-
 static DIFF: CommandForm = CommandForm {
     name: "diff",
     about: "Shows the first event in which two runs of a system differ, and the states then",
@@ -464,11 +440,6 @@ pub fn export_command<'a>(alloc: Global) -> Made<'a> {
     command_of(alloc, &EXPORT)
 }
 
-/// The command `import`.
-pub fn import_command<'a>(alloc: Global) -> Made<'a> {
-    command_of(alloc, &IMPORT)
-}
-
 /// The command line with none of its commands yet.
 fn bare<'a>(alloc: Global) -> Command<'a> {
     Command::new(alloc, "fmp_view")
@@ -479,11 +450,11 @@ fn bare<'a>(alloc: Global) -> Command<'a> {
         .arg_required_else_help(true)
 }
 
-/// The commands.
-pub fn forms() -> [&'static CommandForm; 16] {
+/// The commands, but for `import`.
+pub fn forms() -> [&'static CommandForm; 15] {
     [
         &CODE, &FAULT, &RUN, &STEP, &LSP, &DRIVE, &WHY, &EXPLORE, &DIFF, &EXPECTED, &TEST, &STATS,
-        &WAVES, &TIMELINE, &EXPORT, &IMPORT,
+        &WAVES, &TIMELINE, &EXPORT,
     ]
 }
 
@@ -493,5 +464,5 @@ pub fn program<'a>(alloc: Global) -> Made<'a> {
     for form in forms() {
         program = program.subcommand(command_of(alloc, form)?)?;
     }
-    Ok(program)
+    program.subcommand(import_command(alloc)?)
 }

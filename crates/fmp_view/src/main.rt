@@ -14,6 +14,7 @@ mod differing;
 mod expecting;
 mod exporting;
 mod form;
+mod import_form;
 mod importing;
 mod mistakes;
 mod numbers;

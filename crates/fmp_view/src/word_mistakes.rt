@@ -1,8 +1,8 @@
 //! What is wrong with words that have the form of a command.
 use crate::form::{
-    expect_command, export_command, import_command, program, run_command, timeline_command,
-    waves_command,
+    expect_command, export_command, program, run_command, timeline_command, waves_command,
 };
+use crate::import_form::import_command;
 use clap::Error;
 use fmp_files::{mistake, mistake_of};
 use fmp_searching::said_of_code;
