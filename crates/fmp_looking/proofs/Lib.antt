@@ -7,5 +7,6 @@ pub mod ImageSites
 mod MarkLemmas
 mod PartLemmas
 mod SeenLemmas
+mod TestAnswers
 mod TrialRuns
 mod WrittenLemmas

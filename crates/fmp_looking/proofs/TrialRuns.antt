@@ -14,7 +14,7 @@ runs_and i n s (run ∷ runs) es = runs_and i n (with_run i n s run) runs es
 next : (i : ℕ) → suc (i + 1) ≡ suc i + 1
 next i = omega arith
 
-one_longer : (runs : List (List Event)) (es : List Event) → length (runs ++ es ∷ []) ≡ length runs + 1
+pub one_longer : (runs : List (List Event)) (es : List Event) → length (runs ++ es ∷ []) ≡ length runs + 1
 one_longer [] es = refl
 one_longer (run ∷ runs) es = ap (λ (k : ℕ). suc k) (one_longer runs es) ∙ next (length runs)
 

@@ -15,5 +15,6 @@ pub mod PlacedRuns
 pub mod Refused
 pub mod Tables
 pub mod TestRecords
+pub mod TestRefusals
 pub mod Tested
 pub mod Traces

@@ -41,6 +41,7 @@ mod tables;
 mod test_coverage;
 mod test_form;
 mod test_records;
+mod test_refusals;
 mod test_reports;
 mod timeline;
 mod timing;

@@ -4,7 +4,7 @@ ghost use Rattle.fmp_instructions.specs.Instructions.{code_tables};
 ghost use Rattle.fmp_instructions.specs.Machine.{code_meaning};
 ghost use Rattle.fmp_looking.specs.Refused.{refused_in, refused_lines};
 ghost use Rattle.fmp_frames.specs.Answers.{answers_in as answers_by};
-ghost use Rattle.fmp_frames.specs.Refusals.{refused_of};
+ghost use Rattle.fmp_frames.specs.Refusals.{refused_calls as refused_by, refused_of};
 ghost use Rattle.fmp_replay.specs.Replays.{kernel_after};
 
 use crate::exit::{ViewExit, memory};
@@ -56,7 +56,7 @@ fn answers_on<'a>(
 
 /// What the calls of a run of an image are answered.
 #[tactic(none)]
-fn answers_over(
+pub fn answers_over(
     alloc: Global,
     image: &Image,
     n: u64,
@@ -72,9 +72,22 @@ fn answers_over(
     answers
 }
 
+/// The calls of the code of an image that are refused, where calls got these answers. `AllocError` if memory runs out.
+#[tactic(none)]
+pub fn refused_among(
+    alloc: Global,
+    image: &Image,
+    answers: &[SiteAnswer],
+) -> Result<Vec<RefusedCall>, AllocError>
+    ensures { IfOk result (λ refused. map refused_of refused.items ≡ refused_by image.now.code answers.now) }
+{
+    image.keeps_rules();
+    refused_calls(alloc, image.code(), answers)
+}
+
 /// The calls of a run of an image that are refused. `AllocError` if memory runs out.
 #[tactic(none)]
-pub fn refused_on(
+fn refused_on(
     alloc: Global,
     image: &Image,
     n: u64,
@@ -83,9 +96,8 @@ pub fn refused_on(
     requires few { length events.now ≤ 2 ^ 20 }
     ensures { IfOk result (λ refused. map refused_of refused.items ≡ refused_in image.now n events.now) }
 {
-    image.keeps_rules();
     let answers = answers_over(alloc, image, n, events)?;
-    refused_calls(alloc, image.code(), &answers)
+    refused_among(alloc, image, &answers)
 }
 
 /// Where the calls of the code of an image stand in a task text; nowhere if none is given.
@@ -109,7 +121,7 @@ fn file_of<'a>(source: Option<NamedText<'a>>) -> &'a [u8] {
 }
 
 /// A line of this form for each call that is refused, where the calls of bodies stand at these places of a file.
-fn lines_of(
+pub fn lines_of(
     alloc: Global,
     form: LineForm,
     file: &[u8],

@@ -4,8 +4,9 @@ use crate::exit::ViewExit;
 use crate::expecting::Expectations;
 use crate::rates::rates_of;
 use crate::reporting::{FailedTest, tested};
-use crate::test_coverage::write_coverage;
+use crate::test_coverage::{TestTexts, write_coverage};
 use crate::test_records::test_record;
+use crate::test_refusals::test_refusals;
 use crate::test_reports::test_report;
 use crate::wanted::{ImageTest, Testing};
 use fmp_files::{Failure, Outside, end, print, read_file, refuse_mistake, write_file};
@@ -187,6 +188,54 @@ fn tell_found<O: Outside>(
     }
 }
 
+/// The lines of the calls that are refused in the first random runs of a test, this many, by the texts of its files.
+fn refused_by<O: Outside>(
+    alloc: Global,
+    outside: &O,
+    test: &ImageTest<'_>,
+    runs: u64,
+) -> Result<Vec<u8>, ViewExit> {
+    let expectations = read_file(alloc, outside, test.expect, None)?;
+    let src = read_file(alloc, outside, test.testing.src, None)?;
+    let texts = TestTexts {
+        src: &src,
+        expectations: &expectations,
+    };
+    test_refusals(alloc, test, texts, runs)
+}
+
+/// Says lines, or prints objects of JSON, if there are some.
+fn tell_lines<O: Outside>(alloc: Global, outside: &mut O, json: bool, lines: &[u8]) -> u8 {
+    if lines.is_empty() {
+        return 0;
+    }
+    if json {
+        return print(alloc, outside, lines);
+    }
+    match say_report(alloc, outside, lines) {
+        Ok(()) => 0,
+        Err(error) => end(outside, &Failure::Memory(error)),
+    }
+}
+
+/// Tells which calls are refused in the first random runs of a test, this many. The status is this one, or that of what
+/// went wrong.
+fn tell_refused<O: Outside>(
+    alloc: Global,
+    outside: &mut O,
+    test: &ImageTest<'_>,
+    runs: u64,
+    status: u8,
+) -> u8 {
+    match refused_by(alloc, outside, test, runs) {
+        Ok(lines) => match tell_lines(alloc, outside, test.testing.json, &lines) {
+            0 => status,
+            worse => worse,
+        },
+        Err(exit) => end(outside, &exit),
+    }
+}
+
 /// Writes the coverage and the report of a test, and prints what came of it.
 fn tell_all<O: Outside, R: Threads + Sync>(
     alloc: Global,
@@ -197,7 +246,12 @@ fn tell_all<O: Outside, R: Threads + Sync>(
 ) -> u8 {
     let runs = runs_made(&test.testing, found);
     match write_coverage(alloc, outside, rt, test, runs) {
-        0 => tell_found(alloc, outside, test, found),
+        0 => match tell_found(alloc, outside, test, found) {
+            status if status == 0 || status == FAILS => {
+                tell_refused(alloc, outside, test, runs, status)
+            }
+            status => status,
+        },
         status => status,
     }
 }

@@ -25,9 +25,9 @@ struct Covered {
 
 /// The texts of a test: of the bodies, and of what is expected.
 #[derive(Clone, Copy)]
-struct TestTexts<'a> {
-    src: &'a [u8],
-    expectations: &'a [u8],
+pub struct TestTexts<'a> {
+    pub src: &'a [u8],
+    pub expectations: &'a [u8],
 }
 
 /// What is seen of the first random runs of a test, this many.

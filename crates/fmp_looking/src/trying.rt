@@ -27,7 +27,7 @@ pub struct Trials<'a> {
 }
 
 /// Two kernels of an image after setup, on which its runs are made.
-fn bench_of<'a>(alloc: Global, trials: &Trials<'a>) -> Result<Bench<'a, Vm<'a>>, AllocError>
+pub fn bench_of<'a>(alloc: Global, trials: &Trials<'a>) -> Result<Bench<'a, Vm<'a>>, AllocError>
     ensures { IfOk result (λ bench. bench ≡ subject_of trials.now.opened.image.now trials.now.opened.bound
         trials.now.expected.now) }
 {

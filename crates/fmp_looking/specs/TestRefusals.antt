@@ -1,0 +1,46 @@
+-- The calls that are refused in random runs of an image.
+use Rattle.std.specs.Prelude.{ℕ, ◌≡◌, Bool, true, false, List, [], ◌∷◌, length}
+use Rattle.fmp_base.specs.declared.events.Event.{Event}
+use Rattle.fmp_image_bytes.specs.Images.{ImageTables}
+use Rattle.fmp_instructions.specs.Machine.{code_meaning}
+use Rattle.fmp_frames.specs.declared.answers.SiteAnswer.{SiteAnswer}
+use Rattle.fmp_frames.specs.declared.call_places.CallPlace.{CallPlace}
+use Rattle.fmp_frames.specs.declared.placed_lines.LineForm.{LineForm}
+use Rattle.fmp_frames.specs.declared.placed_lines.LineForm.TheVariants as form
+use Rattle.fmp_frames.specs.Answers.{answers_in, with_answer}
+use Rattle.fmp_frames.specs.CallPlaces.{AreCallsOf}
+use Rattle.fmp_frames.specs.Refusals.{refused_calls}
+use Rattle.fmp_looking.specs.Refused.{refused_lines}
+use Rattle.fmp_replay.specs.Replays.{kernel_after}
+
+-- lines are for readers, or objects of JSON
+abbrev pub form_of : (is_json : Bool) → LineForm
+form_of false = form.Text
+form_of true = form.Record
+
+-- each call with each code that it got, once: more answers
+abbrev pub with_answers : List SiteAnswer → List SiteAnswer → List SiteAnswer
+with_answers known [] = known
+with_answers known (a ∷ more) = with_answers (with_answer known a.site a.code) more
+
+-- what the calls of these runs of an image were answered, beside what was known
+abbrev pub answers_after : ImageTables → (n : ℕ) → List SiteAnswer → List (List Event) → List SiteAnswer
+answers_after i n known [] = known
+answers_after i n known (es ∷ runs) =
+    answers_after i n
+    (with_answers known (answers_in code_meaning (kernel_after i n []) es (length i.system.tasks))) runs
+
+-- the calls of some runs of an image, this many, were answered this
+abbrev pub AreAnswersOf : ImageTables → (n runs : ℕ) → List SiteAnswer → Type 0
+AreAnswersOf i n count known =
+    (runs : List (List Event)) × (length runs ≡ count) × (known ≡ answers_after i n [] runs)
+
+-- a line of this form for each call that is refused in some runs of an image, this many, by where it stands in this
+-- text of its bodies in a file
+pub record AreRefusedLines (written : LineForm) (file src : List ℕ) (i : ImageTables) (n runs : ℕ) (out : List ℕ) : Type 0
+  where
+    pub bodies : List (List CallPlace)
+    pub calls : AreCallsOf src bodies
+    pub answers : List SiteAnswer
+    pub are : AreAnswersOf i n runs answers
+    pub text : out ≡ refused_lines written file i.code bodies (refused_calls i.code answers)
