@@ -4,6 +4,7 @@
 #![tactic(auto)]
 
 mod arguments;
+mod flaws;
 mod given;
 mod joining;
 mod keys;
@@ -18,6 +19,7 @@ pub use arguments::{
     Argument, ArgumentKind, BOUND_MAX, BOUNDED, CFG, CommandForm, EVENTS_MAX, JSON, JUNIT, Made,
     NO_SETTINGS, OptionValue, SRC, command_of,
 };
+pub use flaws::{flaw_text, flaw_words};
 pub use given::{
     bound_of, byte_of, entered, flag_of, text_of, word_of, word32_of, word64_of, words_of,
 };

@@ -10,10 +10,11 @@
 --     happening = deed [ "by" actor ]
 --     deed      = code | fault | "put(" value ")"
 --     response  = actor "runs" | happening
---     trigger   = "int" number | happening
+--     trigger   = "int" interrupt | happening
+--     interrupt = number | body
 --
--- An actor is the name of a task or of a cyclic handler. A line without words says nothing. What a condition is stands
--- in Conditions.
+-- An actor is the name of a task or of a cyclic handler, and a body one that only the handler of the interrupt has. A
+-- line without words says nothing. What a condition is stands in Conditions.
 use Rattle.std.specs.Prelude.{ℕ, ◌≡◌, ◌+◌, ◌-◌, List, [], ◌∷◌, Option, Some, None, ◌++◌, Result, Ok, Err, Bool, codes}
 use Rattle.std.specs.Prelude.{bytes_eq, if◌then◌else◌}
 use Rattle.fmp_base.specs.Systems.{SystemTables}
@@ -33,7 +34,7 @@ use Rattle.fmp_expect.specs.declared.fault.Expects.TheVariants as expects
 use Rattle.fmp_expect.specs.declared.fault.ExpectationFlaw.{ExpectationFlaw}
 use Rattle.fmp_expect.specs.Conditions.{condition_of}
 use Rattle.fmp_expect.specs.Parts.{Read, actor_of, and_then, begins, begins_actor, begins_deed, behind_first, behind_word}
-use Rattle.fmp_expect.specs.Parts.{flaw_at, happening_of, number_in, read, state_of, task_of, whole}
+use Rattle.fmp_expect.specs.Parts.{flaw_at, happening_of, interrupt_number, number_in, read, state_of, task_of, whole}
 use Rattle.fmp_expect.specs.Words.{before_comment, lines_of, words_of}
 
 -- the line ends behind a deed, or `by` says whose it is if nothing does yet
@@ -95,17 +96,17 @@ abbrev pub never_of : SystemTables → List (List ℕ) → Result Sentence Expec
 never_of sys ws = and_then (happening_of sys ws) (λ h. never_behind sys h.value h.rest)
 
 -- `int` was read
-abbrev pub interrupt_of : List (List ℕ) → Result (Read ExpectedTrigger) ExpectationFlaw
-interrupt_of ws =
-    and_then (number_in expects.Interrupt 1 32 ws) (λ i. read (trigger.Interrupt (i.value - 1)) i.rest)
+abbrev pub interrupt_of : SystemTables → List (List ℕ) → Result (Read ExpectedTrigger) ExpectationFlaw
+interrupt_of sys ws =
+    and_then (interrupt_number sys ws) (λ i. read (trigger.Interrupt (i.value - 1)) i.rest)
 
 abbrev pub happens_of : SystemTables → List (List ℕ) → Result (Read ExpectedTrigger) ExpectationFlaw
 happens_of sys ws = and_then (happening_of sys ws) (λ h. read (trigger.Happens h.value) h.rest)
 
--- what starts the time: `int` and a number, or a happening
+-- what starts the time: `int` and an interrupt, or a happening
 abbrev pub trigger_of : SystemTables → List (List ℕ) → Result (Read ExpectedTrigger) ExpectationFlaw
 trigger_of sys ws =
-    if begins (codes "int") ws then interrupt_of (behind_first ws)
+    if begins (codes "int") ws then interrupt_of sys (behind_first ws)
     else if begins_deed ws then happens_of sys ws
     else Err (flaw_at expects.Int ws)
 

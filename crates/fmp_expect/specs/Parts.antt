@@ -1,9 +1,13 @@
 -- The parts of sentences: what the first words of a line say.
 use Rattle.std.specs.Prelude.{ℕ, ◌-◌, List, [], ◌∷◌, length, Option, Some, None, Result, Ok, Err, Bool, true, false}
-use Rattle.std.specs.Prelude.{if◌then◌else◌, codes, find, position, bytes_eq, option_map, slice_get}
+use Rattle.std.specs.Prelude.{if◌then◌else◌, codes, count_by, find, nat_eq, position, bytes_eq, option_map, slice_get}
+use Rattle.std.specs.List.{list_any}
 use Rattle.fmp_base.specs.declared.bodies.Fault.{Fault}
 use Rattle.fmp_base.specs.declared.codes.Er.{Er}
 use Rattle.fmp_base.specs.declared.events.StateWord.{StateWord}
+use Rattle.fmp_base.specs.declared.systems.Entry.{Entry}
+use Rattle.fmp_base.specs.declared.systems.Entry.TheVariants as entry
+use Rattle.fmp_base.specs.declared.systems.InterruptConfig.{InterruptConfig}
 use Rattle.fmp_base.specs.Codes.{code_name}
 use Rattle.fmp_base.specs.Names.{name_text}
 use Rattle.fmp_base.specs.Systems.{SystemTables}
@@ -91,6 +95,30 @@ abbrev pub actor_named : SystemTables → List ℕ → Option ExpectedActor
 actor_named sys w =
     or_else (option_map (λ t. actor.Task t) (task_named sys w)) (option_map (λ c. actor.Cyclic c) (cyclic_named sys w))
 
+-- whether an entry is a name, and whether it is this one: a configuration names bodies, and an image numbers them
+abbrev pub is_name : Entry → Bool
+is_name (entry.Named name) = true
+is_name (entry.Body k) = false
+
+abbrev pub is_named : (name : List ℕ) → Entry → Bool
+is_named w (entry.Named name) = bytes_eq (name_text name) w
+is_named w (entry.Body k) = false
+
+-- the number of the interrupt whose handler has the body of this name, if only one has it
+abbrev pub number_of_handler : (name : List ℕ) → List InterruptConfig → Option ℕ
+number_of_handler w is =
+    if nat_eq (count_by (λ i. is_named w i.entry) is) 1
+    then option_map (λ i. i.number) (find (λ i. is_named w i.entry) is) else None
+
+-- the interrupt of a word: its number from 1 to 32, or the name of a body that only its handler has
+abbrev pub interrupt_named : SystemTables → List ℕ → Option ℕ
+interrupt_named sys w = or_else (number_of 1 32 w) (number_of_handler w sys.interrupts)
+
+-- what may stand behind `int`: names too, where bodies of handlers have names
+abbrev pub interrupt_expected : SystemTables → Expects
+interrupt_expected sys =
+    if list_any (λ i. is_name i.entry) sys.interrupts then expects.InterruptOrHandler else expects.Interrupt
+
 abbrev pub deed_of : List (List ℕ) → Result (Read ExpectedDeed) ExpectationFlaw
 deed_of [] = Err (flaw_at expects.Deed [])
 deed_of (w ∷ ws) = found_or expects.Deed (w ∷ ws) ws (deed_named w)
@@ -102,6 +130,10 @@ actor_of sys (w ∷ ws) = found_or expects.Actor (w ∷ ws) ws (actor_named sys 
 abbrev pub task_of : SystemTables → List (List ℕ) → Result (Read ℕ) ExpectationFlaw
 task_of sys [] = Err (flaw_at expects.Task [])
 task_of sys (w ∷ ws) = found_or expects.Task (w ∷ ws) ws (task_named sys w)
+
+abbrev pub interrupt_number : SystemTables → List (List ℕ) → Result (Read ℕ) ExpectationFlaw
+interrupt_number sys [] = Err (flaw_at (interrupt_expected sys) [])
+interrupt_number sys (w ∷ ws) = found_or (interrupt_expected sys) (w ∷ ws) ws (interrupt_named sys w)
 
 abbrev pub state_of : List (List ℕ) → Result (Read StateWord) ExpectationFlaw
 state_of [] = Err (flaw_at expects.State [])

@@ -25,6 +25,9 @@ pub enum Expects {
     /// The number of an interrupt.
     #[error("the number of an interrupt, 1 to 32")]
     Interrupt,
+    /// The number of an interrupt, or the name of a body that only its handler has.
+    #[error("the number of an interrupt, 1 to 32, or a body that only its handler has")]
+    InterruptOrHandler,
     /// The word `runs`.
     #[error("`runs`")]
     Runs,

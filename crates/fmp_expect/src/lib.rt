@@ -18,7 +18,7 @@ pub use checker::{BrokenExpectation, Checker, Watch};
 pub use expectation::Expected;
 pub use fault::{ExpectFault, ExpectationFlaw, Expects};
 pub use laws::events_tell_as_their_run;
-pub use named::{CODES, FAULTS, STATES};
+pub use named::{CODES, FAULTS, STATES, interrupt_named};
 pub use parts::faulty_word;
 pub use reading::read_expectations;
 pub use running::tell_run;

@@ -1,5 +1,6 @@
 //! What the words of a text name.
-ghost use Rattle.std.specs.Prelude.{◌≡◌, find, position, bytes_eq, MatchOption, Some, None};
+ghost use Rattle.std.specs.Prelude.{◌≡◌, count_by, find, position, bytes_eq, MatchOption, Some, None};
+ghost use Rattle.std.specs.List.{list_any};
 ghost use Rattle.fmp_base.specs.Codes.{code_name};
 ghost use Rattle.fmp_base.specs.Names.{name_text};
 ghost use Rattle.fmp_base.specs.Systems.{tables_of};
@@ -7,8 +8,9 @@ ghost use Rattle.fmp_base.specs.Texts.{fault_text, word_text};
 ghost use Rattle.fmp_expect.specs.Parts as spec;
 ghost use Rattle.fmp_expect.specs.Words as words;
 
-use crate::numbers::signed_in;
-use fmp_base::{CyclicConfig, Er, Fault, StateWord, System, TaskConfig};
+use crate::fault::Expects;
+use crate::numbers::{number_in, signed_in};
+use fmp_base::{CyclicConfig, Entry, Er, Fault, InterruptConfig, StateWord, System, TaskConfig};
 use fmp_monitors::{ExpectedActor, ExpectedDeed};
 
 /// All codes.
@@ -143,5 +145,79 @@ pub fn actor_named(sys: &System, word: &[u8]) -> Option<ExpectedActor>
     match cyclic_among(&sys.cyclics, word) {
         Some(cyclic) => Some(ExpectedActor::Cyclic(cyclic)),
         None => None,
+    }
+}
+
+/// Whether the configuration names the body of a handler.
+fn has_name(interrupt: &InterruptConfig) -> bool
+    ensures { result ≡ spec.is_name interrupt.now.entry }
+{
+    match interrupt.entry {
+        Entry::Named(_) => true,
+        Entry::Body(_) => false,
+    }
+}
+
+/// Whether the body of a handler has this name.
+fn is_named(interrupt: &InterruptConfig, word: &[u8]) -> bool
+    ensures { result ≡ spec.is_named word.now interrupt.now.entry }
+{
+    match interrupt.entry {
+        Entry::Named(name) => name.as_bytes() == word,
+        Entry::Body(_) => false,
+    }
+}
+
+/// How many of these interrupts have a handler with the body of this name.
+fn count_named(interrupts: &[InterruptConfig], word: &[u8]) -> usize
+    ensures { result ≡ count_by (λ i. spec.is_named word.now i.entry) interrupts.now }
+{
+    interrupts.iter().filter(|i| is_named(*i, word)).count()
+}
+
+/// The first of these interrupts that has a handler with the body of this name.
+fn first_named(interrupts: &[InterruptConfig], word: &[u8]) -> Option<InterruptConfig>
+    ensures { result ≡ find (λ i. spec.is_named word.now i.entry) interrupts.now }
+{
+    interrupts.iter().copied().find(|i| is_named(i, word))
+}
+
+/// The number of the interrupt whose handler has the body of this name, if only one has it.
+fn number_of_handler(interrupts: &[InterruptConfig], word: &[u8]) -> Option<u8>
+    ensures { result ≡ spec.number_of_handler word.now interrupts.now }
+{
+    if count_named(interrupts, word) != 1 {
+        return None;
+    }
+    match first_named(interrupts, word) {
+        Some(interrupt) => Some(interrupt.number),
+        None => None,
+    }
+}
+
+/// The interrupt of a word: its number from 1 to 32, or the name of a body that only its handler has.
+pub fn interrupt_named(sys: &System, word: &[u8]) -> Option<u8>
+    ensures { result ≡ spec.interrupt_named (tables_of sys.now) word.now }
+{
+    match number_in(1, 32, word) {
+        Some(number) => Some(number as u8),
+        None => number_of_handler(&sys.interrupts, word),
+    }
+}
+
+fn have_names(interrupts: &[InterruptConfig]) -> bool
+    ensures { result ≡ list_any (λ i. spec.is_name i.entry) interrupts.now }
+{
+    interrupts.iter().any(|i| has_name(i))
+}
+
+/// What may stand after `int`: names too, where the bodies of handlers have names.
+pub fn interrupt_expected(sys: &System) -> Expects
+    ensures { result ≡ spec.interrupt_expected (tables_of sys.now) }
+{
+    if have_names(&sys.interrupts) {
+        Expects::InterruptOrHandler
+    } else {
+        Expects::Interrupt
     }
 }

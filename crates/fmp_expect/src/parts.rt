@@ -5,7 +5,9 @@ ghost use Rattle.fmp_expect.specs.Parts as spec;
 ghost use Rattle.fmp_expect.specs.Words.{words_of};
 
 use crate::fault::{ExpectationFlaw, Expects};
-use crate::named::{STATES, actor_named, deed_named, state_among, task_named};
+use crate::named::{
+    STATES, actor_named, deed_named, interrupt_expected, interrupt_named, state_among, task_named,
+};
 use crate::numbers::number_in;
 use crate::words::{before_comment, next_word, word_at, word_count};
 use fmp_base::{StateWord, System};
@@ -79,6 +81,22 @@ pub fn task_in<'a>(sys: &System, line: &'a [u8]) -> Result<(usize, &'a [u8]), Ex
     match next_word(line) {
         Some((word, rest)) => found_or(Expects::Task, line, rest, task_named(sys, word)),
         None => Err(flaw_at(Expects::Task, line)),
+    }
+}
+
+/// The number of an interrupt, or the name of a body that only its handler has.
+pub fn interrupt_number_in<'a>(
+    sys: &System,
+    line: &'a [u8],
+) -> Result<(u8, &'a [u8]), ExpectationFlaw>
+    ensures read { IfOk result (λ r. spec.interrupt_number (tables_of sys.now) (words_of line.now)
+        ≡ Ok (record { value = r.0; rest = words_of r.1.now })) }
+    ensures fault { IfErr result (λ e. spec.interrupt_number (tables_of sys.now) (words_of line.now) ≡ Err e) }
+{
+    let expects = interrupt_expected(sys);
+    match next_word(line) {
+        Some((word, rest)) => found_or(expects, line, rest, interrupt_named(sys, word)),
+        None => Err(flaw_at(expects, line)),
     }
 }
 

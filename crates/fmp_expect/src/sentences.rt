@@ -8,7 +8,7 @@ use crate::conditions::condition_in;
 use crate::fault::{ExpectationFlaw, Expects};
 use crate::parts::{
     actor_in, begins, begins_actor, begins_deed, behind_first, behind_word, flaw_at, happening_in,
-    is_this, ranged_in, state_in, task_in, whole,
+    interrupt_number_in, is_this, ranged_in, state_in, task_in, whole,
 };
 use crate::words::next_word;
 use fmp_base::System;
@@ -166,14 +166,17 @@ fn never_in(sys: &System, line: &[u8]) -> Result<Sentence, ExpectationFlaw>
     never_behind(sys, happening, rest)
 }
 
-/// The interrupt of a number.
-fn interrupt_in(line: &[u8]) -> Result<(ExpectedTrigger, &[u8]), ExpectationFlaw>
-    ensures read { IfOk result (λ r. spec.interrupt_of (words_of line.now)
+/// The interrupt of a number, or of the name of its handler's body.
+fn interrupt_in<'a>(
+    sys: &System,
+    line: &'a [u8],
+) -> Result<(ExpectedTrigger, &'a [u8]), ExpectationFlaw>
+    ensures read { IfOk result (λ r. spec.interrupt_of (tables_of sys.now) (words_of line.now)
         ≡ Ok (record { value = r.0; rest = words_of r.1.now })) }
-    ensures fault { IfErr result (λ e. spec.interrupt_of (words_of line.now) ≡ Err e) }
+    ensures fault { IfErr result (λ e. spec.interrupt_of (tables_of sys.now) (words_of line.now) ≡ Err e) }
 {
-    let (number, rest) = ranged_in(Expects::Interrupt, 1, 32, line)?;
-    Ok((ExpectedTrigger::Interrupt((number - 1) as u8), rest))
+    let (number, rest) = interrupt_number_in(sys, line)?;
+    Ok((ExpectedTrigger::Interrupt(number.saturating_sub(1)), rest))
 }
 
 fn happens_in<'a>(
@@ -198,7 +201,7 @@ fn trigger_in<'a>(
     ensures fault { IfErr result (λ e. spec.trigger_of (tables_of sys.now) (words_of line.now) ≡ Err e) }
 {
     if begins(b"int", line) {
-        interrupt_in(behind_first(line))
+        interrupt_in(sys, behind_first(line))
     } else if begins_deed(line) {
         happens_in(sys, line)
     } else {

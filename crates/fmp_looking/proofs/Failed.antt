@@ -13,13 +13,13 @@ use Rattle.fmp_looking.specs.Tested.{IsFailedTest, subject_of}
 
 pub is_failed : (i j : ImageTables) (bound n : ℕ) (text : List ℕ) (sys : SystemTables)
     (expected others : List Expected) (trial : FailedTrial) (t : FailedTest) → expectations_of sys text ≡ Ok expected
-    → others ≡ expected → sys ≡ i.system → j ≡ i → n ≡ bound
+    → others ≡ expected → j ≡ i → n ≡ bound
     → IsFound code_meaning (subject_of j n others) trial → t.trial ≡ trial
-    → t.steps.items ≡ steps_text trial.run.steps.items → IsFailedTest i bound text t
-is_failed i j bound n text sys expected others trial t read alike tables image same found is printed =
+    → t.steps.items ≡ steps_text trial.run.steps.items → IsFailedTest i sys bound text t
+is_failed i j bound n text sys expected others trial t read alike image same found is printed =
     record {
       expected = expected;
-      read = subst (λ (s : SystemTables). expectations_of s text ≡ Ok expected) tables read;
+      read = read;
       found =
           subst (λ (x : FailedTrial). IsFound code_meaning (subject_of i bound expected) x) (sym is)
           (subst (λ (k : ImageTables). IsFound code_meaning (subject_of k bound expected) trial) image

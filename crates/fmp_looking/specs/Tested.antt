@@ -1,5 +1,6 @@
 -- What a test of an image comes to.
 use Rattle.std.specs.Prelude.{◌≡◌, ℕ, List, [], Ok}
+use Rattle.fmp_base.specs.Systems.{SystemTables}
 use Rattle.fmp_expect.specs.declared.expectation.Expected.{Expected}
 use Rattle.fmp_expect.specs.Grammar.{expectations_of}
 use Rattle.fmp_image_bytes.specs.Images.{ImageTables}
@@ -17,8 +18,9 @@ abbrev pub subject_of : ImageTables → (bound : ℕ) → List Expected → Subj
 subject_of i n expected = record { start = kernel_after i n []; expected = expected }
 
 -- a run of an image fails an expectation of a text, and its steps are printed
-pub record IsFailedTest (i : ImageTables) (bound : ℕ) (text : List ℕ) (t : FailedTest) : Type 0 where
+pub record IsFailedTest (i : ImageTables) (configured : SystemTables) (bound : ℕ) (text : List ℕ)
+    (t : FailedTest) : Type 0 where
   pub expected : List Expected
-  pub read : expectations_of i.system text ≡ Ok expected
+  pub read : expectations_of configured text ≡ Ok expected
   pub found : IsFound code_meaning (subject_of i bound expected) t.trial
   pub printed : t.steps.items ≡ steps_text t.trial.run.steps.items

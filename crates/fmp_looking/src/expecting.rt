@@ -6,9 +6,9 @@ ghost use Rattle.fmp_trials.specs.Verdicts.{verdict};
 ghost use Rattle.fmp_looking.specs.Expects.{empty_claims};
 
 use crate::exit::{ViewExit, memory};
-use crate::flaws::flaw_text;
 use crate::looking::RunLook;
 use crate::opened::Opened;
+use fmp_arguments::flaw_text;
 use fmp_base::{Line, System};
 use fmp_expect::{
     BrokenExpectation, Checker, ExpectFault, ExpectationFlaw, Expected, read_expectations, tell_run,
@@ -176,8 +176,8 @@ fn empty_text(
     Ok(Some(out))
 }
 
-/// What is printed of a run of a system, if it does not meet these expectations.
-fn checked<O: Opened, T: Coming<O::Bodies>>(
+/// What is printed of a run of a system, if it does not meet these expectations. `AllocError` if memory runs out.
+pub fn checked<O: Opened, T: Coming<O::Bodies>>(
     alloc: Global,
     opened: &O,
     events: &[T],
@@ -212,8 +212,8 @@ fn flawed(
     }
 }
 
-/// The expectations of a text for a system. The reason to give none is the first faulty line of the text, or that
-/// memory runs out.
+/// The expectations of a text for a system, in which the interrupts of one that is configured are named by the bodies of
+/// their handlers too. The reason to give none is the first faulty line of the text, or that memory runs out.
 pub fn expected_of(alloc: Global, sys: &System, text: &[u8]) -> Result<Vec<Expected>, ViewExit>
     ensures { IfOk result (λ xs. expectations_of (tables_of sys.now) text.now ≡ Ok xs.items) }
 {

@@ -1,13 +1,13 @@
 //! Random runs of an image that are judged by a text of expectations, and what is printed of the first that fails.
 ghost use Rattle.std.specs.Prelude.{◌≡◌, ◌≤◌, ◌^◌, IfOk, IfSome, length};
+ghost use Rattle.fmp_base.specs.Systems.{tables_of};
 ghost use Rattle.fmp_instructions.specs.Machine.{code_meaning};
 ghost use Rattle.fmp_trace.specs.Steps.{steps_text};
 ghost use Rattle.fmp_trials.specs.Found.{IsFound};
 ghost use Rattle.fmp_looking.specs.Tested.{IsFailedTest, subject_of};
 
 use crate::exit::{ViewExit, memory};
-use crate::expecting::{Expectations, expected_of};
-use crate::looking::RunLook;
+use crate::expecting::{Expectations, checked, expected_of};
 use crate::open_image::OpenImage;
 use crate::trying::{Trials, failed_trial_of};
 use crate::trying_beside::failed_trial_beside;
@@ -60,11 +60,12 @@ fn text_of(alloc: Global, steps: &[Event]) -> Result<Vec<u8>, AllocError>
     Ok(text)
 }
 
-/// What is printed of a run of an image that fails an expectation of a text.
+/// What is printed of a run of an image that fails one of the expectations of a text, which are these.
 fn failed_test(
     alloc: Global,
     opened: &OpenImage<'_>,
     expectations: &Expectations<'_>,
+    expected: &[Expected],
     trial: FailedTrial,
 ) -> Result<FailedTest, ViewExit>
     requires { length trial.run.steps.items ≤ 2 ^ 20 }
@@ -72,7 +73,9 @@ fn failed_test(
     ensures steps { IfOk result (λ test. test.steps.items ≡ steps_text trial.run.steps.items) }
 {
     let steps = text_of(alloc, &trial.run.steps).map_err(|error| memory(error))?;
-    let report = expectations.of(alloc, opened, &trial.run.steps, &[])?;
+    let report = checked(alloc, opened, &trial.run.steps, expectations, expected).map_err(
+        |error| memory(error),
+    )?;
     Ok(FailedTest {
         trial,
         steps,
@@ -139,15 +142,16 @@ pub fn tested<R: Threads + Sync>(
     expectations: &Expectations<'_>,
 ) -> Result<Option<FailedTest>, ViewExit>
     ensures { IfOk result (λ found. IfSome found
-        (IsFailedTest test.now.image.now test.now.testing.bound expectations.now.text.now)) }
+        (IsFailedTest test.now.image.now (tables_of test.now.configured.now) test.now.testing.bound
+        expectations.now.text.now)) }
 {
-    let expected = expected_of(alloc, test.image.system(), expectations.text)?;
+    let expected = expected_of(alloc, test.configured, expectations.text)?;
     refuse_ends(alloc, &expected)?;
     let found = first_failed(alloc, rt, test, &expected)?;
     match found {
         Some(trial) => {
             let opened = OpenImage::new(test.image, test.testing.bound);
-            let failed = failed_test(alloc, &opened, expectations, trial)?;
+            let failed = failed_test(alloc, &opened, expectations, &expected, trial)?;
             Ok(Some(failed))
         }
         None => Ok(None),

@@ -1,5 +1,6 @@
-//! The command `test` of an image: random runs, and the steps of the first that fails an expectation.
+//! The command `test` of a system: random runs, and the steps of the first that fails an expectation.
 use crate::asking::{TestMistake, test_mistake};
+use crate::built_system::BuiltSystem;
 use crate::exit::ViewExit;
 use crate::expecting::Expectations;
 use crate::rates::rates_of;
@@ -10,7 +11,6 @@ use crate::test_refusals::test_refusals;
 use crate::test_reports::test_report;
 use crate::wanted::{ImageTest, Testing};
 use fmp_files::{Failure, Outside, end, print, read_file, refuse_mistake, write_file};
-use fmp_image_bytes::Image;
 use fmp_trials::FailedTrial;
 use std::alloc::{AllocError, Global};
 use std::thread::Threads;
@@ -74,7 +74,7 @@ fn report_by<O: Outside>(
 ) -> Result<Vec<u8>, ViewExit> {
     let text = read_file(alloc, outside, test.expect, None)?;
     let expectations = expectations_of(test.expect, &text);
-    test_report(alloc, test.image.system(), &expectations, failed)
+    test_report(alloc, test.configured, &expectations, failed)
 }
 
 /// Writes the report of a test to its file, if one is asked for, and gives the status.
@@ -283,20 +283,21 @@ fn run_test<O: Outside, R: Threads + Sync>(
     }
 }
 
-/// Makes random runs of an image: it prints the steps of the first that fails an expectation, made shorter, with status
+/// Makes random runs of a system: it prints the steps of the first that fails an expectation, made shorter, with status
 /// 4. If none fails, it prints nothing, with status 0. Its threads are those of this runtime.
 pub fn test_image<O: Outside, R: Threads + Sync>(
     alloc: Global,
     outside: &mut O,
     rt: &R,
-    image: &Image,
+    built: &BuiltSystem<'_>,
     testing: &Testing<'_>,
 ) -> u8 {
-    match rates_of(alloc, image.system(), testing.rates) {
+    match rates_of(alloc, built.configured, testing.rates) {
         Ok(Some(rates)) => match testing.expect {
             Some(expect) => {
                 let test = ImageTest {
-                    image,
+                    image: built.image,
+                    configured: built.configured,
                     expect,
                     rates: &rates,
                     testing: *testing,

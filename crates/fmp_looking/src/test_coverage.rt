@@ -41,7 +41,7 @@ fn seen_by<R: Threads + Sync>(
     ensures { IfOk result (λ seen. AreTrialsSeen texts.entry.src.now test.now.image.now test.now.testing.bound
         runs (seen_of seen)) }
 {
-    let expected = expected_of(alloc, test.image.system(), texts.expectations)?;
+    let expected = expected_of(alloc, test.configured, texts.expectations)?;
     let trials = Trials {
         opened: OpenImage {
             image: test.image,

@@ -136,7 +136,7 @@ pub fn test_refusals(
     ensures { IfOk result (λ out. AreRefusedLines (spec.form_of test.now.testing.json) test.now.testing.src.now
         texts.entry.src.now test.now.image.now test.now.testing.bound runs out.items) }
 {
-    let expected = expected_of(alloc, test.image.system(), texts.expectations)?;
+    let expected = expected_of(alloc, test.configured, texts.expectations)?;
     let trials = Trials {
         opened: OpenImage {
             image: test.image,

@@ -1,4 +1,5 @@
 //! What is tested, and how, and where the coverage of runs is written.
+use fmp_base::System;
 use fmp_image_bytes::Image;
 use fmp_trials::InterruptRate;
 
@@ -33,6 +34,8 @@ pub struct Testing<'a> {
 #[derive(Clone, Copy)]
 pub struct ImageTest<'a> {
     pub image: &'a Image,
+    /// What the configuration describes: the same system, with the names of bodies in place of their numbers.
+    pub configured: &'a System,
     /// The file of what is expected.
     pub expect: &'a str,
     /// How often interrupts come.

@@ -3,6 +3,9 @@ use Rattle.std.specs.Prelude.{◌≡◌, ℕ, List, [], ◌++◌, ◌&&◌, All,
 use Rattle.std.specs.Prelude.{Some, false, map, option_map, true}
 use Rattle.std.specs.List.{list_any}
 use Rattle.clap.specs.Words.{Row}
+use Rattle.fmp_base.specs.declared.systems.System.{System}
+use Rattle.fmp_base.specs.Systems.{SystemTables, tables_of}
+use Rattle.fmp_cfgparse.specs.Configurations.{Describes}
 use Rattle.fmp_files.specs.Deeds.{Deed, Does, printed}
 use Rattle.fmp_files.specs.Endings.{EndsPrinting}
 use Rattle.fmp_files.specs.Outside.{Files}
@@ -108,19 +111,23 @@ pub record HasClaimed (f : Form) (strict : Bool) (c : ClaimTables) (done : Optio
 abbrev pub claim_of : ImageTables → List TextBody → Question → Exploring → ClaimTables
 claim_of i bodies q e = record { image = i; bodies = bodies; question = q; bound = e.bound }
 
--- the same of an image whose bodies have this text, and of what the words and a text of sentences ask
-pub record HoldsOfImage (i : ImageTables) (src said : List ℕ) (e : Exploring) (done : Option (List Deed)) : Type 0 where
+-- the same of an image whose bodies have this text, and of what the words and a text of sentences ask, which is read for
+-- the system as its configuration describes it
+pub record HoldsOfImage (i : ImageTables) (configured : SystemTables) (src said : List ℕ) (e : Exploring)
+    (done : Option (List Deed)) : Type 0 where
   pub bodies : List TextBody
   pub are : AreBodiesOf src bodies
   pub question : Question
-  pub asks : IsQuestionOf e.asked said i.system i.code bodies question
+  pub asks : IsQuestionOf e.asked said configured i.system i.code bodies question
   pub claimed : HasClaimed e.form e.strict (claim_of i bodies question e) done
 
 -- the same of the image that two texts build
 pub record HoldsOfTexts (cfg src said : List ℕ) (e : Exploring) (done : Option (List Deed)) : Type 0 where
   pub image : ImageTables
   pub builds : Builds cfg src image
-  pub holds : HoldsOfImage image src said e done
+  pub configured : System
+  pub described : Describes cfg configured
+  pub holds : HoldsOfImage image (tables_of configured) src said e done
 
 -- a file has these bytes, where they are known
 abbrev pub IsFile : Files → (name bytes : List ℕ) → Type 0

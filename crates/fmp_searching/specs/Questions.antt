@@ -169,10 +169,10 @@ pub record IsQuestionWith (a : ExploreWords) (expected : List Expected) (system 
   pub after : q.after.items ≡ []
 
 -- the question of the words of a command and of the sentences of a text
-pub record IsQuestionOf (a : ExploreWords) (text : List ℕ) (system : SystemTables) (code : List BodyTables)
+pub record IsQuestionOf (a : ExploreWords) (text : List ℕ) (configured system : SystemTables) (code : List BodyTables)
     (bodies : List TextBody) (q : Question) : Type 0 where
   pub expected : List Expected
-  pub says : expectations_of system text ≡ Ok expected
+  pub says : expectations_of configured text ≡ Ok expected
   pub lasting : has_end expected ≡ false
   pub asks : IsQuestionWith a expected system code bodies q
 
@@ -181,23 +181,24 @@ abbrev pub AreKnown : ExploreWords → SystemTables → List BodyTables → List
 AreKnown a system code bodies =
     (are_tasks system.tasks a.rest.now ≡ true) × (are_called code bodies (codes_in a.nevers.now) ≡ true)
 
-abbrev pub EndIsAsked : SystemTables → (text : List ℕ) → List Expected → Type 0
-EndIsAsked system text expected = (expectations_of system text ≡ Ok expected) × (has_end expected ≡ true)
+abbrev pub EndIsAsked : (configured : SystemTables) → (text : List ℕ) → List Expected → Type 0
+EndIsAsked configured text expected = (expectations_of configured text ≡ Ok expected) × (has_end expected ≡ true)
 
 -- what the words of a command and a text of sentences ask, or what is mistaken: a word names no task, or a line without
--- a call; a line of the text is no sentence; or a sentence is about the end of a run
-abbrev pub IsAsked : ExploreWords → (text : List ℕ) → SystemTables → List BodyTables → List TextBody
-    → Result Question CommandMistake → Type 0
-IsAsked a text system code bodies (Ok q) =
-    AreKnown a system code bodies × IsQuestionOf a text system code bodies q
-IsAsked a text system code bodies (Err mistake.Rest) = are_tasks system.tasks a.rest.now ≡ false
-IsAsked a text system code bodies (Err mistake.Call) =
+-- a call; a line of the text is no sentence; or a sentence is about the end of a run. The text is read for the system as
+-- its configuration describes it, in which bodies have names
+abbrev pub IsAsked : ExploreWords → (text : List ℕ) → (configured system : SystemTables) → List BodyTables
+    → List TextBody → Result Question CommandMistake → Type 0
+IsAsked a text configured system code bodies (Ok q) =
+    AreKnown a system code bodies × IsQuestionOf a text configured system code bodies q
+IsAsked a text configured system code bodies (Err mistake.Rest) = are_tasks system.tasks a.rest.now ≡ false
+IsAsked a text configured system code bodies (Err mistake.Call) =
     (are_tasks system.tasks a.rest.now ≡ true) × (are_called code bodies (codes_in a.nevers.now) ≡ false)
-IsAsked a text system code bodies (Err (mistake.Sentence line flaw)) =
-    AreKnown a system code bodies × (expectations_of system text ≡ Err (fault.Line line flaw))
-IsAsked a text system code bodies (Err mistake.End) =
-    AreKnown a system code bodies × ((expected : List Expected) × EndIsAsked system text expected)
-IsAsked a text system code bodies (Err mistake.Never) = ⊥
-IsAsked a text system code bodies (Err mistake.Alone) = ⊥
-IsAsked a text system code bodies (Err mistake.Count) = ⊥
-IsAsked a text system code bodies (Err mistake.Gap) = ⊥
+IsAsked a text configured system code bodies (Err (mistake.Sentence line flaw)) =
+    AreKnown a system code bodies × (expectations_of configured text ≡ Err (fault.Line line flaw))
+IsAsked a text configured system code bodies (Err mistake.End) =
+    AreKnown a system code bodies × ((expected : List Expected) × EndIsAsked configured text expected)
+IsAsked a text configured system code bodies (Err mistake.Never) = ⊥
+IsAsked a text configured system code bodies (Err mistake.Alone) = ⊥
+IsAsked a text configured system code bodies (Err mistake.Count) = ⊥
+IsAsked a text configured system code bodies (Err mistake.Gap) = ⊥

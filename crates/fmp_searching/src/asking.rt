@@ -2,6 +2,7 @@
 ghost use Rattle.std.specs.Prelude.{◌≡◌, ◌++◌, IfOk, Ok, OnOk, map};
 ghost use Rattle.std.specs.List.{list_all};
 ghost use Rattle.fmp_base.specs.Names.{name_text};
+ghost use Rattle.fmp_base.specs.Systems.{tables_of};
 ghost use Rattle.fmp_instructions.specs.Instructions.{code_tables};
 ghost use Rattle.fmp_searching.specs.Questions as spec;
 ghost use Rattle.fmp_expect.specs.Grammar.{expectations_of};
@@ -11,7 +12,7 @@ ghost use Rattle.fmp_searching.specs.Sites.{HasSites};
 use crate::limits::{add_limits, are_counts, are_gaps, limits_in};
 use crate::sites::CallLines;
 use crate::words::{CodeAt, Section, never_at_named, never_named, section_named};
-use fmp_base::{Er, Fault, TaskConfig};
+use fmp_base::{Er, Fault, System, TaskConfig};
 use fmp_code::Code;
 use fmp_expect::{ExpectFault, ExpectationFlaw, Expected, read_expectations};
 use fmp_explore::{CallSite, Monitor, Never, NeverAt, Question, Ticks};
@@ -449,20 +450,22 @@ fn has_end(expected: &[Expected]) -> bool
     false
 }
 
-/// The question of words that are not mistaken, and of the sentences that a text says, unless one of these is about the
-/// end of a run.
+/// The question of words that are not mistaken, and of the sentences that a text says of what is configured, unless one
+/// of these is about the end of a run.
 fn lasting_question(
     alloc: Global,
     wanted: &ExploreChoices<'_>,
     text: &[u8],
+    configured: &System,
     expected: &[Expected],
     image: &Image,
     lines: &CallLines,
 ) -> Result<Result<Question, CommandMistake>, AllocError>
     requires wanted { IsWanted wanted.now.asked (Ok wanted.now) }
     requires known { AreKnown wanted.now.asked image.now.system image.now.code lines.now }
-    requires says { expectations_of image.now.system text.now ≡ Ok expected.now }
-    ensures { IfOk result (λ q. IsAsked wanted.now.asked text.now image.now.system image.now.code lines.now q) }
+    requires says { expectations_of (tables_of configured.now) text.now ≡ Ok expected.now }
+    ensures { IfOk result (λ q. IsAsked wanted.now.asked text.now (tables_of configured.now) image.now.system
+        image.now.code lines.now q) }
 {
     if has_end(expected) {
         return Ok(Err(CommandMistake::End));
@@ -471,37 +474,43 @@ fn lasting_question(
     Ok(Ok(question))
 }
 
-/// The question of words that are not mistaken, and of the sentences of a text.
+/// The question of words that are not mistaken, and of the sentences of a text about what is configured.
 fn said_question(
     alloc: Global,
     wanted: &ExploreChoices<'_>,
     text: &[u8],
+    configured: &System,
     image: &Image,
     lines: &CallLines,
 ) -> Result<Result<Question, CommandMistake>, AllocError>
     requires wanted { IsWanted wanted.now.asked (Ok wanted.now) }
     requires known { AreKnown wanted.now.asked image.now.system image.now.code lines.now }
-    ensures { IfOk result (λ q. IsAsked wanted.now.asked text.now image.now.system image.now.code lines.now q) }
+    ensures { IfOk result (λ q. IsAsked wanted.now.asked text.now (tables_of configured.now) image.now.system
+        image.now.code lines.now q) }
 {
-    match read_expectations(alloc, image.system(), text) {
-        Ok(expected) => lasting_question(alloc, wanted, text, &expected, image, lines),
+    match read_expectations(alloc, configured, text) {
+        Ok(expected) => {
+            lasting_question(alloc, wanted, text, configured, &expected, image, lines)
+        }
         Err(ExpectFault::Memory) => Err(AllocError),
         Err(ExpectFault::Line { line, flaw }) => Ok(Err(CommandMistake::Sentence { line, flaw })),
     }
 }
 
-/// The question of the words of a command, and of the sentences of a text, on an image whose bodies' calls stand in
-/// these lines; or what is mistaken: words that name tasks are read first, and the text last. `AllocError` if memory
-/// runs out.
+/// The question of the words of a command, and of the sentences of a text about what is configured, on an image whose
+/// bodies' calls stand in these lines; or what is mistaken: words that name tasks are read first, and the text last. The
+/// image is built of the configuration, which names the bodies. `AllocError` if memory runs out.
 pub fn question_by(
     alloc: Global,
     wanted: &ExploreChoices<'_>,
     text: &[u8],
+    configured: &System,
     image: &Image,
     lines: &CallLines,
 ) -> Result<Result<Question, CommandMistake>, AllocError>
     requires { IsWanted wanted.now.asked (Ok wanted.now) }
-    ensures { IfOk result (λ q. IsAsked wanted.now.asked text.now image.now.system image.now.code lines.now q) }
+    ensures { IfOk result (λ q. IsAsked wanted.now.asked text.now (tables_of configured.now) image.now.system
+        image.now.code lines.now q) }
 {
     image.keeps_rules();
     if !are_tasks(&image.system().tasks, wanted.asked.rest) {
@@ -510,5 +519,5 @@ pub fn question_by(
     if !are_called(alloc, image.code(), lines, &wanted.nevers_at)? {
         return Ok(Err(CommandMistake::Call));
     }
-    said_question(alloc, wanted, text, image, lines)
+    said_question(alloc, wanted, text, configured, image, lines)
 }

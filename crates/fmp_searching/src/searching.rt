@@ -1,12 +1,14 @@
 //! The command `explore`: it explores the schedules of two texts, and writes the steps of what it finds.
-ghost use Rattle.std.specs.Prelude.{◌≡◌, [], IfOk, Ok, if◌then◌else◌, nat_eq};
+ghost use Rattle.std.specs.Prelude.{◌≡◌, ◌≢◌, [], IfOk, Ok, if◌then◌else◌, nat_eq};
+ghost use Rattle.fmp_base.specs.Systems.{tables_of};
+ghost use Rattle.fmp_cfgparse.specs.Configurations.{Describes};
 ghost use Rattle.fmp_files.specs.Prints.{Prints};
 ghost use Rattle.fmp_searching.specs.Questions.{IsWanted};
 ghost use Rattle.fmp_searching.specs.Claims.{claim_tables};
 ghost use Rattle.fmp_searching.specs.Claimed.{HasClaimed, HasShown, HoldsOfFiles, HoldsOfImage, HoldsOfTexts};
 ghost use Rattle.fmp_searching.specs.Claimed.{PrintsNothing, PrintsOnly};
 
-use crate::asking::{ExploreChoices, question_by, wanted_by};
+use crate::asking::{CommandMistake, ExploreChoices, question_by, wanted_by};
 use crate::exploration::{no_question, no_question_of, report_over_input, steps_over_input};
 use crate::exploring::{Explored, explored_image};
 use crate::naming::LocalNames;
@@ -17,6 +19,10 @@ use crate::sources::{Claim, ExploredSources, Exploring, Named, Sentences};
 use crate::steps_files::{
     is_over_input, is_read, out_name, remove_earlier, steps_names, write_steps,
 };
+use crate::test_reports::line_at;
+use fmp_arguments::flaw_text;
+use fmp_base::System;
+use fmp_cfgparse::read_cfg;
 use fmp_expect::{Expected, read_expectations};
 use fmp_explore::SearchWatcher;
 use fmp_files::{Failure, Outside, end, print, refuse_mistake, write_file};
@@ -157,8 +163,8 @@ fn give<O: Outside>(
 }
 
 /// The sentences of a text, with their lines; none if memory runs out.
-fn expected_in(alloc: Global, image: &Image, said: &[u8]) -> Vec<Expected> {
-    match read_expectations(alloc, image.system(), said) {
+fn expected_in(alloc: Global, configured: &System, said: &[u8]) -> Vec<Expected> {
+    match read_expectations(alloc, configured, said) {
         Ok(expected) => expected,
         Err(_) => Vec::new(alloc),
     }
@@ -170,6 +176,7 @@ fn explore_question<O: Outside, R: Clock + Threads + Sync>(
     outside: &mut O,
     rt: &R,
     claim: &Claim<'_>,
+    configured: &System,
     opened: &Opened<'_>,
 ) -> Result<u8, AllocError>
     ensures shown { IfOk result (λ _.
@@ -183,7 +190,7 @@ fn explore_question<O: Outside, R: Clock + Threads + Sync>(
     let names = LocalNames::new(alloc, opened.src)?;
     let places = CallPlaces::new(alloc, opened.src)?;
     let out = out_name(alloc, exploring)?;
-    let expected = expected_in(alloc, claim.image, opened.said);
+    let expected = expected_in(alloc, configured, opened.said);
     let named = Named {
         src: exploring.src,
         out: out.as_str(),
@@ -224,20 +231,29 @@ fn explore_question<O: Outside, R: Clock + Threads + Sync>(
     Ok(status_after(written, status))
 }
 
-/// Explores an image that the texts of an exploration build.
+/// Says which line of a text of sentences has a flaw, and gives the status.
+fn refuse_sentence<O: Outside>(outside: &mut O, text: &str) -> u8
+    ensures { result ≡ 1 }
+{
+    outside.say(format_args!("{text}\n"));
+    1
+}
+
+/// Explores an image that the texts of an exploration build, whose configuration describes this system.
 fn explore_image<O: Outside, R: Clock + Threads + Sync>(
     alloc: Global,
     outside: &mut O,
     rt: &R,
     image: &Image,
+    configured: &System,
     opened: &Opened<'_>,
 ) -> Result<u8, AllocError>
     requires { IsWanted opened.now.exploring.now.asked (Ok opened.now.wanted.now) }
-    ensures { IfOk result (λ status. status ≡ 0 →
-        HoldsOfImage image.now opened.now.src.now opened.now.said.now opened.now.exploring.now (O.done outside.new)) }
+    ensures { IfOk result (λ status. status ≡ 0 → HoldsOfImage image.now (tables_of configured.now)
+        opened.now.src.now opened.now.said.now opened.now.exploring.now (O.done outside.new)) }
 {
     let lines = CallLines::new(alloc, opened.src)?;
-    match question_by(alloc, opened.wanted, opened.said, image, &lines)? {
+    match question_by(alloc, opened.wanted, opened.said, configured, image, &lines)? {
         Ok(question) => {
             let claim = Claim {
                 image,
@@ -245,7 +261,11 @@ fn explore_image<O: Outside, R: Clock + Threads + Sync>(
                 question: &question,
                 bound: opened.exploring.bound,
             };
-            explore_question(alloc, outside, rt, &claim, opened)
+            explore_question(alloc, outside, rt, &claim, configured, opened)
+        }
+        Err(CommandMistake::Sentence { line, flaw }) => {
+            let text = flaw_text(alloc, configured, line, line_at(opened.said, line), flaw)?;
+            Ok(refuse_sentence(outside, &text))
         }
         Err(mistake) => {
             let asked = &opened.exploring.asked;
@@ -261,15 +281,60 @@ fn explore_status<O: Outside, R: Clock + Threads + Sync>(
     outside: &mut O,
     rt: &R,
     image: &Image,
+    configured: &System,
     opened: &Opened<'_>,
 ) -> u8
     requires { IsWanted opened.now.exploring.now.asked (Ok opened.now.wanted.now) }
-    ensures { result ≡ 0 →
-        HoldsOfImage image.now opened.now.src.now opened.now.said.now opened.now.exploring.now (O.done outside.new) }
+    ensures { result ≡ 0 → HoldsOfImage image.now (tables_of configured.now) opened.now.src.now
+        opened.now.said.now opened.now.exploring.now (O.done outside.new) }
 {
-    match explore_image(alloc, outside, rt, image, opened) {
+    match explore_image(alloc, outside, rt, image, configured, opened) {
         Ok(status) => status,
         Err(error) => end(outside, &Failure::Memory(error)),
+    }
+}
+
+/// Prints the first fault of the texts of an exploration, which build no image, and gives the status.
+fn refuse_texts<O: Outside>(
+    alloc: Global,
+    outside: &mut O,
+    exploring: &Exploring<'_>,
+    fault: &BuildFault,
+) -> u8
+    ensures { result ≢ 0 }
+{
+    let names = FileNames {
+        cfg: exploring.cfg,
+        src: exploring.src,
+        steps: "",
+    };
+    match fault {
+        BuildFault::Memory => end(outside, &Failure::Memory(AllocError)),
+        BuildFault::At(..) => print_fault(alloc, outside, names, Form::Text).max(1),
+    }
+}
+
+/// Explores the schedules of the texts of an exploration, whose configuration describes this system, or prints their
+/// first fault, with status 1.
+fn explore_system<O: Outside, R: Clock + Threads + Sync>(
+    alloc: Global,
+    outside: &mut O,
+    rt: &R,
+    configured: &System,
+    opened: &Opened<'_>,
+) -> u8
+    requires wanted { IsWanted opened.now.exploring.now.asked (Ok opened.now.wanted.now) }
+    requires described { Describes opened.now.cfg.now configured.now }
+    ensures { result ≡ 0 → HoldsOfTexts opened.now.cfg.now opened.now.src.now opened.now.said.now
+        opened.now.exploring.now (O.done outside.new) }
+{
+    match build(alloc, opened.cfg, opened.src) {
+        Ok(image) => {
+            let status = explore_status(alloc, outside, rt, &image, configured, opened);
+            drop(image);
+            status
+        }
+        Err(fault) => refuse_texts(alloc, outside, opened.exploring, &fault),
     }
 }
 
@@ -284,19 +349,13 @@ fn explore_texts<O: Outside, R: Clock + Threads + Sync>(
     ensures { result ≡ 0 → HoldsOfTexts opened.now.cfg.now opened.now.src.now opened.now.said.now
         opened.now.exploring.now (O.done outside.new) }
 {
-    let names = FileNames {
-        cfg: opened.exploring.cfg,
-        src: opened.exploring.src,
-        steps: "",
-    };
-    match build(alloc, opened.cfg, opened.src) {
-        Ok(image) => {
-            let status = explore_status(alloc, outside, rt, &image, opened);
-            drop(image);
+    match read_cfg(alloc, opened.cfg) {
+        Ok(configured) => {
+            let status = explore_system(alloc, outside, rt, &configured, opened);
+            drop(configured);
             status
         }
-        Err(BuildFault::Memory) => end(outside, &Failure::Memory(AllocError)),
-        Err(BuildFault::At(..)) => print_fault(alloc, outside, names, Form::Text).max(1),
+        Err(fault) => refuse_texts(alloc, outside, opened.exploring, &fault),
     }
 }
 

@@ -13,7 +13,7 @@ use fmp_json::{TestCase, TestSuite, append_report};
 use std::alloc::{AllocError, Global};
 
 /// The line of this number of a text, from 1, without its line feed.
-fn line_at(text: &[u8], number: usize) -> &[u8] {
+pub fn line_at(text: &[u8], number: usize) -> &[u8] {
     let mut lines = text.split(|byte| *byte == b'\n');
     match lines.nth(number.saturating_sub(1)) {
         Some(line) => line,

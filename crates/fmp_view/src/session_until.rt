@@ -5,11 +5,10 @@ ghost use Rattle.fmp_view.specs.Stepped.{Leaves};
 
 use crate::answering::{Answer, Stepping, append_told, take_event};
 use crate::session_files::refused;
-use fmp_arguments::EVENTS_MAX;
+use fmp_arguments::{EVENTS_MAX, flaw_words};
 use fmp_base::Event;
 use fmp_expect::{Checker, ExpectFault, Expected, read_expectations};
 use fmp_kernel::{Body, Kernel};
-use fmp_looking::flaw_words;
 use fmp_monitors::Sentence;
 use fmp_session::{Session, TakenEvent};
 use std::alloc::{AllocError, Global};

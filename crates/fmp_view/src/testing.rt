@@ -1,13 +1,57 @@
 //! The command `test`: random runs of two texts.
+use fmp_base::System;
+use fmp_cfgparse::read_cfg;
 use fmp_diagnosis::Texts;
 use fmp_files::{Failure, Outside, end};
 use fmp_image::build;
 use fmp_lex::BuildFault;
-use fmp_looking::{Testing, test_image};
+use fmp_looking::{BuiltSystem, Testing, test_image};
 use fmp_searching::{print_fault, read_both};
 use fmp_warnings::{FileNames, Form};
 use std::alloc::{AllocError, Global};
 use std::thread::Threads;
+
+/// Prints the first fault of two texts, which build no image, and gives the status.
+fn refuse_texts<O: Outside>(
+    alloc: Global,
+    outside: &mut O,
+    testing: &Testing<'_>,
+    fault: &BuildFault,
+) -> u8 {
+    let names = FileNames {
+        cfg: testing.cfg,
+        src: testing.src,
+        steps: "",
+    };
+    match fault {
+        BuildFault::Memory => end(outside, &Failure::Memory(AllocError)),
+        BuildFault::At(..) => print_fault(alloc, outside, names, Form::Text).max(1),
+    }
+}
+
+/// Makes random runs of the system of two texts, of which the configuration describes this, or prints their first
+/// fault, with status 1.
+fn test_system<O: Outside, R: Threads + Sync>(
+    alloc: Global,
+    outside: &mut O,
+    rt: &R,
+    configured: &System,
+    texts: Texts<'_>,
+    testing: &Testing<'_>,
+) -> u8 {
+    match build(alloc, texts.cfg, texts.src) {
+        Ok(image) => {
+            let built = BuiltSystem {
+                image: &image,
+                configured,
+            };
+            let status = test_image(alloc, outside, rt, &built, testing);
+            drop(image);
+            status
+        }
+        Err(fault) => refuse_texts(alloc, outside, testing, &fault),
+    }
+}
 
 /// Makes random runs of the system of two texts, or prints their first fault, with status 1.
 fn test_texts<O: Outside, R: Threads + Sync>(
@@ -17,19 +61,13 @@ fn test_texts<O: Outside, R: Threads + Sync>(
     texts: Texts<'_>,
     testing: &Testing<'_>,
 ) -> u8 {
-    let names = FileNames {
-        cfg: testing.cfg,
-        src: testing.src,
-        steps: "",
-    };
-    match build(alloc, texts.cfg, texts.src) {
-        Ok(image) => {
-            let status = test_image(alloc, outside, rt, &image, testing);
-            drop(image);
+    match read_cfg(alloc, texts.cfg) {
+        Ok(configured) => {
+            let status = test_system(alloc, outside, rt, &configured, texts, testing);
+            drop(configured);
             status
         }
-        Err(BuildFault::Memory) => end(outside, &Failure::Memory(AllocError)),
-        Err(BuildFault::At(..)) => print_fault(alloc, outside, names, Form::Text).max(1),
+        Err(fault) => refuse_texts(alloc, outside, testing, &fault),
     }
 }
 

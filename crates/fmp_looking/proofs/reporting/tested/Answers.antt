@@ -12,6 +12,6 @@ returns-in-Some g c =
     is_failed c.args.test.now.image.now c.args.test.now.image.now c.args.test.now.testing.bound
     c.args.test.now.testing.bound c.args.expectations.now.text.now _ c.in_ok-expected.expected.items
     c.deref-2.result.now c.in-Some.trial c.in_ok-failed-in-Some.failed
-    c.in_ok-expected.ensures c.deref-2.ensures.value c.system.ensures.tables refl refl
+    c.in_ok-expected.ensures c.deref-2.ensures.value refl refl
     (rw c.in-Some.is at c.in_ok-found.ensures) c.in_ok-failed-in-Some.ensures.trial
     c.in_ok-failed-in-Some.ensures.steps

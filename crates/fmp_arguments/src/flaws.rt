@@ -1,8 +1,9 @@
-//! What is said of a flaw of a text of expectations: what is expected, what stands there, and the nearest known word.
-use fmp_arguments::{add_deeds, add_name, add_tasks, question_text};
-use fmp_base::{Name, System};
-use fmp_diagnosis::nearest;
-use fmp_expect::{ExpectationFlaw, Expects, STATES, faulty_word};
+//! What is said of a flaw of a text of expectations: what is expected, what stands there, and the known word that was
+//! meant.
+use crate::known_words::{add_deeds, add_name, add_tasks, question_text};
+use fmp_base::{Entry, Name, System};
+use fmp_diagnosis::name_meant;
+use fmp_expect::{ExpectationFlaw, Expects, STATES, faulty_word, interrupt_named};
 use std::alloc::{AllocError, Global};
 
 fn add_states(known: &mut Vec<Name>) -> Result<(), AllocError> {
@@ -17,6 +18,18 @@ fn add_actors(known: &mut Vec<Name>, sys: &System) -> Result<(), AllocError> {
     add_tasks(known, &sys.tasks)?;
     for cyclic in &sys.cyclics {
         known.push(cyclic.name)?;
+    }
+    Ok(())
+}
+
+/// Adds the bodies that only the handler of one interrupt has.
+fn add_handlers(known: &mut Vec<Name>, sys: &System) -> Result<(), AllocError> {
+    for interrupt in &sys.interrupts {
+        if let Entry::Named(body) = interrupt.entry {
+            if interrupt_named(sys, body.as_bytes()).is_some() {
+                known.push(body)?;
+            }
+        }
     }
     Ok(())
 }
@@ -108,11 +121,12 @@ fn add_known(known: &mut Vec<Name>, sys: &System, expects: Expects) -> Result<()
         Expects::Task => add_tasks(known, &sys.tasks),
         Expects::State => add_states(known),
         Expects::Test => add_tests(known, sys),
+        Expects::InterruptOrHandler => add_handlers(known, sys),
         _ => add_fixed(known, expects),
     }
 }
 
-/// The known word that is nearest to a word where this is expected, if one is near.
+/// The known word that was meant by a word where this is expected, if another one resembles it.
 fn meant(
     alloc: Global,
     sys: &System,
@@ -124,9 +138,9 @@ fn meant(
     };
     let mut known = Vec::new(alloc);
     add_known(&mut known, sys, expects)?;
-    match nearest(alloc, &name, &known)? {
-        Some(place) => Ok(known.get(place).copied()),
-        None => Ok(None),
+    match name_meant(alloc, &name, &known)? {
+        Some(other) if other.as_bytes() != word => Ok(Some(other)),
+        _ => Ok(None),
     }
 }
 
