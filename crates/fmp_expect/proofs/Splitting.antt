@@ -42,7 +42,7 @@ split_whole p [] h = refl
 split_whole p (x ∷ xs) h = split_step (p x) p x xs h (split_whole p xs)
 
 -- a text that is cut nowhere
-split_none : (p : ℕ → Bool) (xs : List ℕ) → position p xs ≡ None → slice_split p xs ≡ xs ∷ []
+pub split_none : (p : ℕ → Bool) (xs : List ℕ) → position p xs ≡ None → slice_split p xs ≡ xs ∷ []
 split_none p xs e = split_whole p xs (some_or_none p xs e)
 
 -- a line that ends

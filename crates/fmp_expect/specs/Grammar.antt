@@ -14,11 +14,13 @@
 --     interrupt = number | body
 --
 -- An actor is the name of a task or of a cyclic handler, and a body one that only the handler of the interrupt has. A
--- line without words says nothing. What a condition is stands in Conditions.
+-- line without words says nothing. What a condition is stands in Conditions, and a sentence about calls in Places.
 use Rattle.std.specs.Prelude.{ℕ, ◌≡◌, ◌+◌, ◌-◌, List, [], ◌∷◌, Option, Some, None, ◌++◌, Result, Ok, Err, Bool, codes}
 use Rattle.std.specs.Prelude.{bytes_eq, if◌then◌else◌}
 use Rattle.fmp_base.specs.Systems.{SystemTables}
 use Rattle.fmp_monitors.specs.declared.happening.ExpectedActor.{ExpectedActor}
+use Rattle.fmp_monitors.specs.declared.happening.ExpectedDeed.{ExpectedDeed}
+use Rattle.fmp_monitors.specs.declared.happening.ExpectedDeed.TheVariants as deed
 use Rattle.fmp_monitors.specs.declared.happening.ExpectedResponse.{ExpectedResponse}
 use Rattle.fmp_monitors.specs.declared.happening.ExpectedResponse.TheVariants as response
 use Rattle.fmp_monitors.specs.declared.happening.ExpectedTrigger.{ExpectedTrigger}
@@ -47,10 +49,31 @@ abbrev pub one_behind : Option ExpectedActor → Expects
 one_behind None = expects.OneOrBy
 one_behind (Some who) = expects.One
 
--- what may stand behind the happening of `never`
-abbrev pub never_end : Option ExpectedActor → Expects
-never_end None = expects.NeverEndOrBy
-never_end (Some who) = expects.NeverEnd
+-- what may stand behind the happening of `never`: behind an answer, of which nobody is named, `at` too
+abbrev pub never_end_by : Option ExpectedActor → ExpectedDeed → Expects
+never_end_by (Some who) d = expects.NeverEnd
+never_end_by None (deed.Answer code) = expects.NeverEndOrAt
+never_end_by None (deed.Stop fault) = expects.NeverEndOrBy
+never_end_by None (deed.Put value) = expects.NeverEndOrBy
+
+abbrev pub never_end : Happening → Expects
+never_end h = never_end_by h.by h.deed
+
+-- `at` and the number of a line were read: the line ends, and no run tells where its calls stand
+abbrev pub place_ended : (at rest : List (List ℕ)) → ExpectationFlaw
+place_ended ws [] = flaw_at expects.NoPlace ws
+place_ended ws (w ∷ rest) = flaw_at expects.End (w ∷ rest)
+
+abbrev pub place_read : (at : List (List ℕ)) → Result (Read ℕ) ExpectationFlaw → ExpectationFlaw
+place_read ws (Ok n) = place_ended ws n.rest
+place_read ws (Err e) = e
+
+-- the flaw of words that begin with `at`, behind a happening of this actor and deed
+abbrev pub place_flaw : Option ExpectedActor → ExpectedDeed → List (List ℕ) → ExpectationFlaw
+place_flaw (Some who) d ws = flaw_at expects.NoPlaceOfActor ws
+place_flaw None (deed.Answer code) ws = place_read ws (number_in expects.Line 1 2147483647 (behind_first ws))
+place_flaw None (deed.Stop fault) ws = flaw_at expects.NeverEndOrBy ws
+place_flaw None (deed.Put value) ws = flaw_at expects.NeverEndOrBy ws
 
 -- what may stand behind the happening of `after`
 abbrev pub until_end : Option ExpectedActor → Expects
@@ -89,7 +112,8 @@ never_behind sys h [] = Ok (sentence.Never h)
 never_behind sys h (w ∷ ws) =
     if bytes_eq w (codes "after") then after_of sys h ws
     else if bytes_eq w (codes "until") then until_of sys h ws
-    else Err (flaw_at (never_end h.by) (w ∷ ws))
+    else if bytes_eq w (codes "at") then Err (place_flaw h.by h.deed (w ∷ ws))
+    else Err (flaw_at (never_end h) (w ∷ ws))
 
 -- `never` was read
 abbrev pub never_of : SystemTables → List (List ℕ) → Result Sentence ExpectationFlaw

@@ -55,6 +55,18 @@ pub enum Expects {
     /// Nothing, `after` or `until`, or `by` with an actor.
     #[error("the end of the line, `after`, `until` or `by`")]
     NeverEndOrBy,
+    /// Nothing, `after` or `until`, or `by` with an actor, or `at` with the line of a call.
+    #[error("the end of the line, `after`, `until`, `by` or `at`")]
+    NeverEndOrAt,
+    /// Nothing, `after` or `until`. The line of a call, which `at` names, says whose call it is.
+    #[error("the end of the line, `after` or `until`: `at` says whose call it is")]
+    NoPlaceOfActor,
+    /// Nothing, `after` or `until`, or `by` with an actor. A run does not tell in which line a call stands.
+    #[error("the end of the line, `after`, `until` or `by`: only `explore` takes `at`")]
+    NoPlace,
+    /// The number of a line of the tasks' text.
+    #[error("the number of a line, 1 to 2147483647")]
+    Line,
     /// Nothing, or `until`.
     #[error("the end of the line or `until`")]
     UntilEnd,

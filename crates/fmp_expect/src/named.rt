@@ -119,11 +119,18 @@ fn put_value(word: &[u8]) -> Option<i32>
     signed_in(inner)
 }
 
+/// The code of this name.
+pub fn code_named(word: &[u8]) -> Option<Er>
+    ensures { result ≡ spec.code_named word.now }
+{
+    code_among(&CODES, word)
+}
+
 /// The deed that a word tells.
 pub fn deed_named(word: &[u8]) -> Option<ExpectedDeed>
     ensures { result ≡ spec.deed_named word.now }
 {
-    if let Some(code) = code_among(&CODES, word) {
+    if let Some(code) = code_named(word) {
         return Some(ExpectedDeed::Answer(code));
     }
     if let Some(fault) = fault_among(&FAULTS, word) {

@@ -58,7 +58,7 @@ fn add(all: &mut Vec<Expected>, said: Option<Expected>) -> Result<(), ExpectFaul
 }
 
 /// Adds the expectation of the line of this number, if it has words.
-fn read_line(
+pub fn read_line(
     sys: &System,
     number: usize,
     line: &[u8],

@@ -1,7 +1,9 @@
 //! The sentences of lines.
 ghost use Rattle.std.specs.Prelude.{◌≡◌, ◌-◌, IfOk, IfErr, Ok, Err};
 ghost use Rattle.fmp_base.specs.Systems.{tables_of};
+ghost use Rattle.fmp_expect.specs.declared.fault.Expects.TheVariants.{Line};
 ghost use Rattle.fmp_expect.specs.Grammar as spec;
+ghost use Rattle.fmp_expect.specs.Parts.{number_in, behind_first as after_first};
 ghost use Rattle.fmp_expect.specs.Words.{words_of};
 
 use crate::conditions::condition_in;
@@ -12,7 +14,9 @@ use crate::parts::{
 };
 use crate::words::next_word;
 use fmp_base::System;
-use fmp_monitors::{ExpectedActor, ExpectedResponse, ExpectedTrigger, Happening, Sentence};
+use fmp_monitors::{
+    ExpectedActor, ExpectedDeed, ExpectedResponse, ExpectedTrigger, Happening, Sentence,
+};
 
 /// What may stand after the happening that ends a sentence, which is of this actor if it is some.
 fn end_behind(by: Option<ExpectedActor>) -> Expects
@@ -35,12 +39,47 @@ fn one_behind(by: Option<ExpectedActor>) -> Expects
 }
 
 /// What may stand after the happening of `never`.
-fn never_end(by: Option<ExpectedActor>) -> Expects
-    ensures { result ≡ spec.never_end by }
+fn never_end(happening: Happening) -> Expects
+    ensures { result ≡ spec.never_end happening }
 {
-    match by {
-        Some(_) => Expects::NeverEnd,
-        None => Expects::NeverEndOrBy,
+    match (happening.by, happening.deed) {
+        (Some(_), _) => Expects::NeverEnd,
+        (None, ExpectedDeed::Answer(_)) => Expects::NeverEndOrAt,
+        (None, ExpectedDeed::Stop(_) | ExpectedDeed::Put(_)) => Expects::NeverEndOrBy,
+    }
+}
+
+/// The flaw of what begins with `at`, after which the number of a line and the rest stand.
+fn place_ended(line: &[u8], rest: &[u8]) -> ExpectationFlaw
+    ensures { result ≡ spec.place_ended (words_of line.now) (words_of rest.now) }
+{
+    match next_word(rest) {
+        Some(_) => flaw_at(Expects::End, rest),
+        None => flaw_at(Expects::NoPlace, line),
+    }
+}
+
+/// The flaw of what begins with `at` after an answer of nobody.
+fn place_read(line: &[u8]) -> ExpectationFlaw
+    ensures { result ≡ spec.place_read (words_of line.now)
+        (number_in Line 1 2147483647 (after_first (words_of line.now))) }
+{
+    match ranged_in(Expects::Line, 1, 2147483647, behind_first(line)) {
+        Ok((_, rest)) => place_ended(line, rest),
+        Err(flaw) => flaw,
+    }
+}
+
+/// The flaw of what begins with `at` after this happening.
+fn place_flaw(happening: Happening, line: &[u8]) -> ExpectationFlaw
+    ensures { result ≡ spec.place_flaw happening.by happening.deed (words_of line.now) }
+{
+    match (happening.by, happening.deed) {
+        (Some(_), _) => flaw_at(Expects::NoPlaceOfActor, line),
+        (None, ExpectedDeed::Answer(_)) => place_read(line),
+        (None, ExpectedDeed::Stop(_) | ExpectedDeed::Put(_)) => {
+            flaw_at(Expects::NeverEndOrBy, line)
+        }
     }
 }
 
@@ -151,8 +190,10 @@ fn never_behind(
                 after_in(sys, happening, rest)
             } else if is_this(word, b"until") {
                 until_in(sys, happening, rest)
+            } else if is_this(word, b"at") {
+                Err(place_flaw(happening, line))
             } else {
-                Err(flaw_at(never_end(happening.by), line))
+                Err(flaw_at(never_end(happening), line))
             }
         }
         None => Ok(Sentence::Never(happening)),

@@ -3,6 +3,7 @@ ghost use Rattle.std.specs.Prelude.{◌≡◌, ◌≢◌, ◌∷◌, [], ◌<◌
 ghost use Rattle.std.specs.Prelude.{IfSome, MatchOption, if◌then◌else◌};
 ghost use Rattle.fmp_base.specs.Systems.{SystemTables};
 ghost use Rattle.fmp_expect.specs.Grammar.{expectations_from, in_front, line_meaning};
+ghost use Rattle.fmp_expect.specs.Places.{IsCut};
 ghost use Rattle.fmp_expect.specs.Words as spec;
 ghost use Rattle.fmp_expect.specs.Words.{lines_of, words_of};
 
@@ -35,6 +36,7 @@ pub fn first_line(text: &[u8]) -> (&[u8], &[u8])
     requires { text.now ≢ [] }
     ensures lines { (sys : SystemTables) → (n : ℕ) → expectations_from sys n (lines_of text.now)
         ≡ in_front n (line_meaning sys result.0.now) (expectations_from sys (n + 1) (lines_of result.1.now)) }
+    ensures cut { IsCut text.now result.0.now result.1.now }
     ensures shorter { length result.1.now < length text.now }
 {
     match line_feed_in(text) {

@@ -1,0 +1,14 @@
+use Rattle.std.proofs.Common.{◌≡◌, ◌+◌, ◌≤◌, ◌++◌, length}
+use Rattle.fmp_expect.specs.Places.{placed_from, placed_of}
+use Rattle.fmp_expect.specs.Words.{lines_of}
+use Rattle.fmp_expect.proofs.placed.read_placed.Given as goal
+
+-- the sentences so far, and those of the lines that are left, are those of the text
+abbrev pub invariant-loop-rest : goal.invariant-loop-rest
+invariant-loop-rest l = record {
+  counted : l.number + length l.rest ≤ length l.text + 1;
+  said : l.all.items ++ placed_from l.number (lines_of l.rest) ≡ placed_of l.text;
+}
+
+abbrev pub decreases-loop-rest : goal.decreases-loop-rest
+decreases-loop-rest l = length l.rest
