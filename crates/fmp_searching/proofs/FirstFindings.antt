@@ -4,7 +4,7 @@ use Rattle.std.proofs.Common.{Bool, refl, sym, ap, ◌∙◌, arith}
 use Rattle.std.proofs.lemmas.List.{map-append}
 use Rattle.fmp_explore.specs.declared.exploring.Report.{Report}
 use Rattle.fmp_question.specs.declared.question.Question.{Question}
-use Rattle.fmp_searching.specs.Seen.{is_same}
+use Rattle.fmp_searching.specs.Seen.{is_broken}
 use Rattle.fmp_searching.specs.Tests.{AreJudged, IsReportOf, IsTestReport, first_of, outcome_of, wanted_test}
 use Rattle.fmp_searching.specs.declared.judging.JudgedTest.{JudgedTest}
 use Rattle.fmp_searching.specs.declared.judging.TestOutcome.{TestOutcome}
@@ -16,13 +16,13 @@ next i = omega arith
 
 pub first_of_at : (asked : SeenKind) (n : ℕ) (seen : List Seen) (i : ℕ) (x : Seen) → i < length seen
     → first_of asked n (drop i seen)
-    ≡ cond (is_same asked (get_or seen i x).kind) (Some n) (first_of asked (n + 1) (drop (i + 1) seen))
+    ≡ cond (is_broken asked (get_or seen i x)) (Some n) (first_of asked (n + 1) (drop (i + 1) seen))
 first_of_at asked n [] i x h = absurd (omega arith)
 first_of_at asked n (s ∷ seen) zero x h = refl
 first_of_at asked n (s ∷ seen) (suc i) x h =
     first_of_at asked n seen i x (omega arith)
     ∙ ap
-    (λ k. cond (is_same asked (get_or seen i x).kind) (Some n) (first_of asked (n + 1) (drop k (s ∷ seen))))
+    (λ k. cond (is_broken asked (get_or seen i x)) (Some n) (first_of asked (n + 1) (drop k (s ∷ seen))))
     (next i)
 
 pub two_suites : (strict : Bool) (q : Question) (r : Report) (seen : List Seen) (xs ys : List JudgedTest)

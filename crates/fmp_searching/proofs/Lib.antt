@@ -1,3 +1,4 @@
+pub mod Asked
 pub mod Bodies
 pub mod FirstFindings
 pub mod Grammar

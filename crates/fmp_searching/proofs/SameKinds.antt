@@ -13,6 +13,7 @@ same_self kind.Never = refl
 same_self kind.Fault = refl
 same_self (kind.Alone place) = equal_self place
 same_self (kind.Sentence place) = equal_self place
+same_self (kind.Placed place) = equal_self place
 same_self kind.Deadlock = refl
 same_self kind.Endless = refl
 same_self kind.Stuck = refl

@@ -16,7 +16,8 @@ use Rattle.fmp_question.specs.declared.question.Question.{Question}
 use Rattle.fmp_question.specs.declared.site.CallSite.{CallSite}
 use Rattle.fmp_expect.specs.declared.expectation.Expected.{Expected}
 use Rattle.fmp_expect.specs.declared.fault.ExpectFault.TheVariants as fault
-use Rattle.fmp_expect.specs.Grammar.{expectations_of}
+use Rattle.fmp_expect.specs.declared.placed.PlacedNever.{PlacedNever}
+use Rattle.fmp_expect.specs.Places.{placed_of, unplaced_of}
 use Rattle.fmp_monitors.specs.declared.happening.ExpectedDeed.TheVariants as deed
 use Rattle.fmp_monitors.specs.declared.happening.Happening.{Happening}
 use Rattle.fmp_monitors.specs.declared.sentence.Sentence.{Sentence}
@@ -42,6 +43,17 @@ nevers_in words = filter_map (λ word. never_named word.now) words
 -- the codes that words say must never be answered to the calls of a line
 abbrev pub codes_in : Words → List CodeAt
 codes_in words = filter_map (λ word. never_at_named word.now) words
+
+-- the codes of sentences about calls, and the lines of these
+abbrev pub placed_code : PlacedNever → CodeAt
+placed_code p = record { code = p.code; line = p.at }
+
+abbrev pub placed_codes : List PlacedNever → List CodeAt
+placed_codes placed = map (λ p. placed_code p) placed
+
+-- the codes that a text of sentences says must never be answered to the calls of a line
+abbrev pub codes_of : (text : List ℕ) → List CodeAt
+codes_of text = placed_codes (placed_of text)
 
 -- whether a word says what must never happen
 abbrev pub is_never : List ℕ → Bool
@@ -80,6 +92,7 @@ IsWanted a (Err mistake.Gap) =
 IsWanted a (Err mistake.Rest) = ⊥
 IsWanted a (Err mistake.Call) = ⊥
 IsWanted a (Err (mistake.Sentence line flaw)) = ⊥
+IsWanted a (Err mistake.Place) = ⊥
 IsWanted a (Err mistake.End) = ⊥
 
 -- a word is the name of a task
@@ -151,12 +164,12 @@ has_end expected = list_any (λ x. is_end x.sentence) expected
 abbrev pub faults : List Never
 faults = never.Fault Overflow ∷ never.Fault Division ∷ never.Fault Index ∷ []
 
--- the question of the words of a command and of these sentences, on this system, whose bodies have this code and stand
--- so in their text
-pub record IsQuestionWith (a : ExploreWords) (expected : List Expected) (system : SystemTables)
+-- the question of the words of a command, of these sentences, and of these codes at calls, on this system, whose bodies
+-- have this code and stand so in their text
+pub record IsQuestionWith (a : ExploreWords) (expected : List Expected) (codes : List CodeAt) (system : SystemTables)
     (code : List BodyTables) (bodies : List TextBody) (q : Question) : Type 0 where
   pub nevers : q.nevers.items ≡ faults ++ nevers_in a.nevers.now
-  pub nevers_at : q.nevers_at.items ≡ nevers_at_in code bodies (codes_in a.nevers.now)
+  pub nevers_at : q.nevers_at.items ≡ nevers_at_in code bodies (codes_in a.nevers.now ++ codes)
   pub monitors :
       q.monitors.items ≡ monitors_of (sections_in a.alone.now) expected (limits_in a.counts.now a.gaps.now)
   pub rest : q.rest.items ≡ marks system.tasks system.tasks a.rest.now expected
@@ -172,9 +185,10 @@ pub record IsQuestionWith (a : ExploreWords) (expected : List Expected) (system 
 pub record IsQuestionOf (a : ExploreWords) (text : List ℕ) (configured system : SystemTables) (code : List BodyTables)
     (bodies : List TextBody) (q : Question) : Type 0 where
   pub expected : List Expected
-  pub says : expectations_of configured text ≡ Ok expected
+  pub says : unplaced_of configured text ≡ Ok expected
   pub lasting : has_end expected ≡ false
-  pub asks : IsQuestionWith a expected system code bodies q
+  pub called : are_called code bodies (codes_of text) ≡ true
+  pub asks : IsQuestionWith a expected (codes_of text) system code bodies q
 
 -- the words of a command name tasks, and lines with calls
 abbrev pub AreKnown : ExploreWords → SystemTables → List BodyTables → List TextBody → Type 0
@@ -182,11 +196,11 @@ AreKnown a system code bodies =
     (are_tasks system.tasks a.rest.now ≡ true) × (are_called code bodies (codes_in a.nevers.now) ≡ true)
 
 abbrev pub EndIsAsked : (configured : SystemTables) → (text : List ℕ) → List Expected → Type 0
-EndIsAsked configured text expected = (expectations_of configured text ≡ Ok expected) × (has_end expected ≡ true)
+EndIsAsked configured text expected = (unplaced_of configured text ≡ Ok expected) × (has_end expected ≡ true)
 
 -- what the words of a command and a text of sentences ask, or what is mistaken: a word names no task, or a line without
--- a call; a line of the text is no sentence; or a sentence is about the end of a run. The text is read for the system as
--- its configuration describes it, in which bodies have names
+-- a call; a line of the text is no sentence; a sentence is about the end of a run, or about the calls of a line without
+-- any. The text is read for the system as its configuration describes it, in which bodies have names
 abbrev pub IsAsked : ExploreWords → (text : List ℕ) → (configured system : SystemTables) → List BodyTables
     → List TextBody → Result Question CommandMistake → Type 0
 IsAsked a text configured system code bodies (Ok q) =
@@ -195,9 +209,11 @@ IsAsked a text configured system code bodies (Err mistake.Rest) = are_tasks syst
 IsAsked a text configured system code bodies (Err mistake.Call) =
     (are_tasks system.tasks a.rest.now ≡ true) × (are_called code bodies (codes_in a.nevers.now) ≡ false)
 IsAsked a text configured system code bodies (Err (mistake.Sentence line flaw)) =
-    AreKnown a system code bodies × (expectations_of configured text ≡ Err (fault.Line line flaw))
+    AreKnown a system code bodies × (unplaced_of configured text ≡ Err (fault.Line line flaw))
 IsAsked a text configured system code bodies (Err mistake.End) =
     AreKnown a system code bodies × ((expected : List Expected) × EndIsAsked configured text expected)
+IsAsked a text configured system code bodies (Err mistake.Place) =
+    AreKnown a system code bodies × (are_called code bodies (codes_of text) ≡ false)
 IsAsked a text configured system code bodies (Err mistake.Never) = ⊥
 IsAsked a text configured system code bodies (Err mistake.Alone) = ⊥
 IsAsked a text configured system code bodies (Err mistake.Count) = ⊥

@@ -1,5 +1,6 @@
 -- What findings break.
-use Rattle.std.specs.Prelude.{ℕ, ◌≡◌, ◌==◌, Bool, true, false, List, map, nat_lt, if◌then◌else◌}
+use Rattle.std.specs.Prelude.{ℕ, ◌≡◌, ◌==◌, Bool, true, false, ◌||◌, List, map, nat_lt, Option, Some, None}
+use Rattle.std.specs.Prelude.{if◌then◌else◌}
 use Rattle.std.specs.List.{list_all}
 use Rattle.fmp_witness.specs.declared.finding.Finding.{Finding}
 use Rattle.fmp_witness.specs.declared.finding.FindingKind.{FindingKind}
@@ -13,10 +14,20 @@ is_same kind.Never kind.Never = true
 is_same kind.Fault kind.Fault = true
 is_same (kind.Alone p) (kind.Alone other) = p == other
 is_same (kind.Sentence p) (kind.Sentence other) = p == other
+is_same (kind.Placed p) (kind.Placed other) = p == other
 is_same kind.Deadlock kind.Deadlock = true
 is_same kind.Endless kind.Endless = true
 is_same kind.Stuck kind.Stuck = true
 is_same a b = false
+
+-- the sentence about calls at a place, if there is one, is this
+abbrev pub is_placed : SeenKind → Option ℕ → Bool
+is_placed (kind.Placed p) (Some other) = p == other
+is_placed k other = false
+
+-- what is asked is broken, as what a finding breaks, or as the sentence about calls that it breaks too
+abbrev pub is_broken : (asked : SeenKind) → Seen → Bool
+is_broken asked s = is_same asked s.kind || is_placed asked s.placed
 
 -- what is broken where the sentence at a place is, of which the first are those of sections
 abbrev pub kind_at : (sections place : ℕ) → SeenKind
@@ -25,6 +36,7 @@ kind_at sections place = if nat_lt place sections then kind.Alone place else kin
 -- a line tells what must never come, as a fault
 abbrev pub is_line : SeenKind → Bool
 is_line kind.Never = true
+is_line (kind.Placed place) = true
 is_line kind.Fault = true
 is_line other = false
 

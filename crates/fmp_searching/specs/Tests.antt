@@ -8,7 +8,7 @@ use Rattle.fmp_json.specs.declared.junit.TestSuite.{TestSuite}
 use Rattle.fmp_json.specs.Junit.{is_error, is_failure, report_text}
 use Rattle.fmp_question.specs.declared.question.Question.{Question}
 use Rattle.fmp_schedules.specs.declared.monitor.Monitor.{Monitor}
-use Rattle.fmp_searching.specs.Seen.{AreSeen, is_same}
+use Rattle.fmp_searching.specs.Seen.{AreSeen, is_broken}
 use Rattle.fmp_searching.specs.Unsaid.{is_unsaid, is_whole}
 use Rattle.fmp_searching.specs.declared.seen.Seen.{Seen}
 use Rattle.fmp_searching.specs.declared.seen.SeenKind.{SeenKind}
@@ -20,7 +20,7 @@ use Rattle.fmp_searching.specs.declared.judging.TestOutcome.TheVariants as outco
 -- the first of these findings that breaks what is asked, of which the first has this place
 abbrev pub first_of : SeenKind → (place : ℕ) → List Seen → Option ℕ
 first_of asked place [] = None
-first_of asked place (s ∷ seen) = if is_same asked s.kind then Some place else first_of asked (place + 1) seen
+first_of asked place (s ∷ seen) = if is_broken asked s then Some place else first_of asked (place + 1) seen
 
 -- the search is over with what is asked: stuck tasks were looked for, or every state was examined
 abbrev pub is_over : SeenKind → Report → Bool
@@ -41,6 +41,7 @@ abbrev pub is_unsaid_kind : SeenKind → Question → Report → Bool
 is_unsaid_kind (kind.Alone place) q r = is_unsaid_at q r place
 is_unsaid_kind (kind.Sentence place) q r = is_unsaid_at q r place
 is_unsaid_kind kind.Never q r = false
+is_unsaid_kind (kind.Placed place) q r = false
 is_unsaid_kind kind.Fault q r = false
 is_unsaid_kind kind.Deadlock q r = false
 is_unsaid_kind kind.Endless q r = false

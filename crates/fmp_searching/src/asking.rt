@@ -1,21 +1,19 @@
 //! The question that the words of a command ask.
-ghost use Rattle.std.specs.Prelude.{◌≡◌, ◌++◌, IfOk, Ok, OnOk, map};
+ghost use Rattle.std.specs.Prelude.{◌≡◌, ◌++◌, IfOk, Ok, OnOk, false, map, true};
 ghost use Rattle.std.specs.List.{list_all};
 ghost use Rattle.fmp_base.specs.Names.{name_text};
 ghost use Rattle.fmp_base.specs.Systems.{tables_of};
-ghost use Rattle.fmp_instructions.specs.Instructions.{code_tables};
 ghost use Rattle.fmp_searching.specs.Questions as spec;
-ghost use Rattle.fmp_expect.specs.Grammar.{expectations_of};
-ghost use Rattle.fmp_searching.specs.Questions.{AreKnown, IsAsked, IsQuestionWith, IsWanted};
-ghost use Rattle.fmp_searching.specs.Sites.{HasSites};
+ghost use Rattle.fmp_expect.specs.Places.{unplaced_of};
+ghost use Rattle.fmp_searching.specs.Questions.{AreKnown, IsAsked, IsQuestionOf, IsQuestionWith, IsWanted};
 
+use crate::at_calls::{all_codes, are_called_in, codes_of, nevers_at_of};
 use crate::limits::{add_limits, are_counts, are_gaps, limits_in};
 use crate::sites::CallLines;
 use crate::words::{CodeAt, Section, never_at_named, never_named, section_named};
-use fmp_base::{Er, Fault, System, TaskConfig};
-use fmp_code::Code;
-use fmp_expect::{ExpectFault, ExpectationFlaw, Expected, read_expectations};
-use fmp_explore::{CallSite, Monitor, Never, NeverAt, Question, Ticks};
+use fmp_base::{Fault, System, TaskConfig};
+use fmp_expect::{ExpectFault, ExpectationFlaw, Expected, read_unplaced};
+use fmp_explore::{Monitor, Never, Question, Ticks};
 use fmp_image_bytes::Image;
 use fmp_monitors::{ExpectedDeed, Happening, Sentence};
 use fmp_schedules::InterruptLimit;
@@ -65,6 +63,8 @@ pub enum CommandMistake {
     Call,
     /// The line of this number of the text of sentences, from 1, has a flaw.
     Sentence { line: usize, flaw: ExpectationFlaw },
+    /// A sentence is about the calls of a line in which none stands.
+    Place,
     /// A sentence is about the end of a run, of which a search knows nothing.
     End,
 }
@@ -328,68 +328,6 @@ fn monitors_of(
     Ok(monitors)
 }
 
-/// Whether a call stands in the line of each code.
-fn are_called(
-    alloc: Global,
-    code: &Code,
-    lines: &CallLines,
-    codes: &[CodeAt],
-) -> Result<bool, AllocError>
-    requires { HasSites (code_tables code.now) }
-    ensures { IfOk result (λ called. called ≡ spec.are_called (code_tables code.now) lines.now codes.now) }
-{
-    for at in codes {
-        if lines.calls(alloc, code, at.line)?.is_empty() {
-            return Ok(false);
-        }
-    }
-    Ok(true)
-}
-
-/// Adds that a code must never be answered at these calls.
-fn add_nevers_at(code: Er, sites: &[CallSite], nevers: &mut Vec<NeverAt>) -> Result<(), AllocError>
-    ensures { OnOk result (nevers.new.items ≡ nevers.old.items ++ map (λ s. spec.never_at code s) sites.now) }
-{
-    for site in sites {
-        nevers.push(NeverAt { code, site: *site })?;
-    }
-    Ok(())
-}
-
-/// Adds that a code must never be answered at the calls of its line.
-fn add_code(
-    alloc: Global,
-    code: &Code,
-    lines: &CallLines,
-    at: CodeAt,
-    nevers: &mut Vec<NeverAt>,
-) -> Result<(), AllocError>
-    requires { HasSites (code_tables code.now) }
-    ensures { OnOk result (nevers.new.items
-        ≡ nevers.old.items ++ spec.nevers_at_of (code_tables code.now) lines.now at) }
-{
-    let sites = lines.calls(alloc, code, at.line)?;
-    add_nevers_at(at.code, &sites, nevers)
-}
-
-/// Each of these codes, at each call of its line.
-fn nevers_at_in(
-    alloc: Global,
-    code: &Code,
-    lines: &CallLines,
-    codes: &[CodeAt],
-) -> Result<Vec<NeverAt>, AllocError>
-    requires { HasSites (code_tables code.now) }
-    ensures { IfOk result (λ nevers. nevers.items
-        ≡ spec.nevers_at_in (code_tables code.now) lines.now codes.now) }
-{
-    let mut nevers = Vec::new(alloc);
-    for at in codes {
-        add_code(alloc, code, lines, *at, &mut nevers)?;
-    }
-    Ok(nevers)
-}
-
 /// What must never happen: faults, and these.
 fn with_faults(alloc: Global, nevers: &[Never]) -> Result<Vec<Never>, AllocError>
     ensures { IfOk result (λ all. all.items ≡ spec.faults ++ nevers.now) }
@@ -399,23 +337,24 @@ fn with_faults(alloc: Global, nevers: &[Never]) -> Result<Vec<Never>, AllocError
     Ok(all)
 }
 
-/// The question of words that are not mistaken, and of these sentences.
+/// The question of words that are not mistaken, of these sentences, and of these codes at calls.
 fn question_of(
     alloc: Global,
     wanted: &ExploreChoices<'_>,
     expected: &[Expected],
+    codes: &[CodeAt],
     image: &Image,
     lines: &CallLines,
 ) -> Result<Question, AllocError>
     requires { IsWanted wanted.now.asked (Ok wanted.now) }
-    ensures { IfOk result (λ q. IsQuestionWith wanted.now.asked expected.now image.now.system image.now.code
-        lines.now q) }
+    ensures { IfOk result (λ q. IsQuestionWith wanted.now.asked expected.now codes.now image.now.system
+        image.now.code lines.now q) }
 {
-    image.keeps_rules();
     let asked = &wanted.asked;
+    let codes = all_codes(alloc, &wanted.nevers_at, codes)?;
     Ok(Question {
         nevers: with_faults(alloc, &wanted.nevers)?,
-        nevers_at: nevers_at_in(alloc, image.code(), lines, &wanted.nevers_at)?,
+        nevers_at: nevers_at_of(alloc, image, lines, &codes)?,
         monitors: monitors_of(alloc, &wanted.sections, expected, &wanted.limits)?,
         rest: marks(alloc, &image.system().tasks, asked.rest, expected)?,
         ticks: asked.ticks,
@@ -450,6 +389,58 @@ fn has_end(expected: &[Expected]) -> bool
     false
 }
 
+/// The question of words that are not mistaken, of a text that says this of what is configured, and of its codes at
+/// calls, of each of which there is one.
+fn called_question(
+    alloc: Global,
+    wanted: &ExploreChoices<'_>,
+    text: &[u8],
+    configured: &System,
+    expected: &[Expected],
+    codes: &[CodeAt],
+    image: &Image,
+    lines: &CallLines,
+) -> Result<Question, AllocError>
+    requires wanted { IsWanted wanted.now.asked (Ok wanted.now) }
+    requires says { unplaced_of (tables_of configured.now) text.now ≡ Ok expected.now }
+    requires lasting { spec.has_end expected.now ≡ false }
+    requires codes { codes.now ≡ spec.codes_of text.now }
+    requires called { spec.are_called image.now.code lines.now codes.now ≡ true }
+    ensures { IfOk result (λ q. IsQuestionOf wanted.now.asked text.now (tables_of configured.now) image.now.system
+        image.now.code lines.now q) }
+{
+    let question = question_of(alloc, wanted, expected, codes, image, lines)?;
+    Ok(question)
+}
+
+/// The question of words that are not mistaken, of these sentences of a text, and of its sentences about calls, unless
+/// one of these is about a line without any.
+fn placed_question(
+    alloc: Global,
+    wanted: &ExploreChoices<'_>,
+    text: &[u8],
+    configured: &System,
+    expected: &[Expected],
+    image: &Image,
+    lines: &CallLines,
+) -> Result<Result<Question, CommandMistake>, AllocError>
+    requires wanted { IsWanted wanted.now.asked (Ok wanted.now) }
+    requires known { AreKnown wanted.now.asked image.now.system image.now.code lines.now }
+    requires says { unplaced_of (tables_of configured.now) text.now ≡ Ok expected.now }
+    requires lasting { spec.has_end expected.now ≡ false }
+    ensures { IfOk result (λ q. IsAsked wanted.now.asked text.now (tables_of configured.now) image.now.system
+        image.now.code lines.now q) }
+{
+    let codes = codes_of(alloc, text)?;
+    if !are_called_in(alloc, image, lines, &codes)? {
+        return Ok(Err(CommandMistake::Place));
+    }
+    let question = called_question(
+        alloc, wanted, text, configured, expected, &codes, image, lines,
+    )?;
+    Ok(Ok(question))
+}
+
 /// The question of words that are not mistaken, and of the sentences that a text says of what is configured, unless one
 /// of these is about the end of a run.
 fn lasting_question(
@@ -463,15 +454,14 @@ fn lasting_question(
 ) -> Result<Result<Question, CommandMistake>, AllocError>
     requires wanted { IsWanted wanted.now.asked (Ok wanted.now) }
     requires known { AreKnown wanted.now.asked image.now.system image.now.code lines.now }
-    requires says { expectations_of (tables_of configured.now) text.now ≡ Ok expected.now }
+    requires says { unplaced_of (tables_of configured.now) text.now ≡ Ok expected.now }
     ensures { IfOk result (λ q. IsAsked wanted.now.asked text.now (tables_of configured.now) image.now.system
         image.now.code lines.now q) }
 {
     if has_end(expected) {
         return Ok(Err(CommandMistake::End));
     }
-    let question = question_of(alloc, wanted, expected, image, lines)?;
-    Ok(Ok(question))
+    placed_question(alloc, wanted, text, configured, expected, image, lines)
 }
 
 /// The question of words that are not mistaken, and of the sentences of a text about what is configured.
@@ -488,7 +478,7 @@ fn said_question(
     ensures { IfOk result (λ q. IsAsked wanted.now.asked text.now (tables_of configured.now) image.now.system
         image.now.code lines.now q) }
 {
-    match read_expectations(alloc, configured, text) {
+    match read_unplaced(alloc, configured, text) {
         Ok(expected) => {
             lasting_question(alloc, wanted, text, configured, &expected, image, lines)
         }
@@ -512,11 +502,10 @@ pub fn question_by(
     ensures { IfOk result (λ q. IsAsked wanted.now.asked text.now (tables_of configured.now) image.now.system
         image.now.code lines.now q) }
 {
-    image.keeps_rules();
     if !are_tasks(&image.system().tasks, wanted.asked.rest) {
         return Ok(Err(CommandMistake::Rest));
     }
-    if !are_called(alloc, image.code(), lines, &wanted.nevers_at)? {
+    if !are_called_in(alloc, image, lines, &wanted.nevers_at)? {
         return Ok(Err(CommandMistake::Call));
     }
     said_question(alloc, wanted, text, configured, image, lines)

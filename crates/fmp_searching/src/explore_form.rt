@@ -19,7 +19,8 @@ A task is there from its 'put(A)' to its 'put(B)' or its end. It may be given ag
 /// What must hold.
 const EXPECT: &str =
     "A file of sentences that must hold, a line each, as 'expect' reads them: 'A before B',
-'always X < 5' and others, but for 'end'. 'TASK rests' is as --rest TASK";
+'always X < 5' and others, but for 'end'. 'TASK rests' is as --rest TASK, and
+'never E_TMOUT at 12' as --never E_TMOUT:12";
 
 /// Which task may wait forever.
 const REST: &str =

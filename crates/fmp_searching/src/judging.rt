@@ -1,7 +1,7 @@
 //! What came of each thing that a search was asked, as a test.
 ghost use Rattle.std.specs.Prelude.{◌≡◌, IfOk, map, slice_get};
 ghost use Rattle.fmp_json.specs.Junit.{is_error, is_failure};
-ghost use Rattle.fmp_searching.specs.Seen.{is_same};
+ghost use Rattle.fmp_searching.specs.Seen.{is_broken, is_placed, is_same};
 ghost use Rattle.fmp_searching.specs.Tests as spec;
 
 use crate::end_records::without_feed;
@@ -68,11 +68,29 @@ fn is_same(one: SeenKind, other: SeenKind) -> bool
         (SeenKind::Fault, SeenKind::Fault) => true,
         (SeenKind::Alone(place), SeenKind::Alone(other)) => place == other,
         (SeenKind::Sentence(place), SeenKind::Sentence(other)) => place == other,
+        (SeenKind::Placed(place), SeenKind::Placed(other)) => place == other,
         (SeenKind::Deadlock, SeenKind::Deadlock) => true,
         (SeenKind::Endless, SeenKind::Endless) => true,
         (SeenKind::Stuck, SeenKind::Stuck) => true,
         _ => false,
     }
+}
+
+/// Whether the sentence about calls at a place, if there is one, is this.
+fn is_placed(asked: SeenKind, placed: Option<usize>) -> bool
+    ensures { result ≡ is_placed asked placed }
+{
+    match (asked, placed) {
+        (SeenKind::Placed(place), Some(other)) => place == other,
+        _ => false,
+    }
+}
+
+/// Whether a finding breaks what is asked.
+fn is_broken(asked: SeenKind, seen: &Seen) -> bool
+    ensures { result ≡ is_broken asked seen.now }
+{
+    is_same(asked, seen.kind) || is_placed(asked, seen.placed)
 }
 
 /// The first finding that breaks what is asked.
@@ -81,7 +99,7 @@ fn first_of(asked: SeenKind, seen: &[Seen]) -> Option<usize>
     ensures { result ≡ spec.first_of asked 0 seen.now }
 {
     for i in 0..seen.len() {
-        if is_same(asked, seen[i].kind) {
+        if is_broken(asked, &seen[i]) {
             return Some(i);
         }
     }
@@ -125,6 +143,7 @@ fn is_unsaid_kind(asked: SeenKind, question: &Question, report: &Report) -> bool
     match asked {
         SeenKind::Alone(place) | SeenKind::Sentence(place) => is_unsaid_at(question, report, place),
         SeenKind::Never
+        | SeenKind::Placed(_)
         | SeenKind::Fault
         | SeenKind::Deadlock
         | SeenKind::Endless

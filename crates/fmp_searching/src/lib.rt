@@ -5,6 +5,7 @@
 
 mod answers;
 mod asking;
+mod at_calls;
 mod claiming;
 mod coverage_records;
 mod covering;
@@ -21,6 +22,7 @@ mod limits;
 mod lists;
 mod naming;
 mod parts;
+mod placed;
 mod reading;
 mod records;
 mod refused;

@@ -16,10 +16,11 @@ fn add_part(parts: &mut Vec<Vec<u8>>, part: Vec<u8>) -> Result<(), AllocError> {
     Ok(())
 }
 
-/// Adds what must never happen, but for faults.
+/// Adds what must never happen, but for faults: anywhere, and the first of what must never happen at calls.
 pub fn add_nevers(
     alloc: Global,
     claim: &Claim<'_>,
+    at_calls: usize,
     parts: &mut Vec<Vec<u8>>,
 ) -> Result<(), AllocError> {
     for never in &claim.question.nevers {
@@ -27,7 +28,7 @@ pub fn add_nevers(
         append_never(claim.image.system(), *never, &mut part)?;
         add_part(parts, part)?;
     }
-    for never in &claim.question.nevers_at {
+    for never in claim.question.nevers_at.iter().take(at_calls) {
         let mut part = Vec::new(alloc);
         append_never_at(claim.image.code(), claim.lines, *never, &mut part)?;
         add_part(parts, part)?;
@@ -82,7 +83,7 @@ fn add_faults(
 pub fn parts_of(alloc: Global, claim: &Claim<'_>) -> Result<Vec<Vec<u8>>, AllocError> {
     let (sys, question) = (claim.image.system(), claim.question);
     let mut parts = Vec::new(alloc);
-    add_nevers(alloc, claim, &mut parts)?;
+    add_nevers(alloc, claim, question.nevers_at.len(), &mut parts)?;
     add_monitors(alloc, sys, &question.monitors, &mut parts)?;
     parts.push(deadlock_part(alloc, sys, question)?)?;
     add_faults(alloc, question, &mut parts)?;

@@ -71,10 +71,10 @@ pub fn place_of(sources: &ExploredSources<'_>, kind: SeenKind, site: CallSite) -
 }
 
 /// The line of the sentence that is broken, if one is.
-fn sentence_of(sources: &ExploredSources<'_>, kind: SeenKind) -> Option<u64> {
-    match kind {
+fn sentence_of(sources: &ExploredSources<'_>, seen: &Seen) -> Option<u64> {
+    match seen.kind {
         SeenKind::Sentence(place) => sources.sentences.line(place),
-        _ => None,
+        _ => sources.sentences.placed_line(seen.placed?),
     }
 }
 
@@ -100,7 +100,7 @@ fn found_of(
     Ok(FoundRecord {
         number,
         kind: seen.kind,
-        sentence: sentence_of(sources, seen.kind),
+        sentence: sentence_of(sources, &seen),
         place: seen_place(sources, &seen),
         text: String::from_utf8_lossy(alloc, &seen.text)?,
         steps: finding.steps.len(),
@@ -134,7 +134,7 @@ fn kind_word(kind: SeenKind) -> &'static str
         SeenKind::Never => "never",
         SeenKind::Fault => "fault",
         SeenKind::Alone(_) => "alone",
-        SeenKind::Sentence(_) => "sentence",
+        SeenKind::Sentence(_) | SeenKind::Placed(_) => "sentence",
         SeenKind::Deadlock => "deadlock",
         SeenKind::Endless => "endless",
         SeenKind::Stuck => "stuck",

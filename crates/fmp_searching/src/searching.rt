@@ -9,6 +9,7 @@ ghost use Rattle.fmp_searching.specs.Claimed.{HasClaimed, HasShown, HoldsOfFiles
 ghost use Rattle.fmp_searching.specs.Claimed.{PrintsNothing, PrintsOnly};
 
 use crate::asking::{CommandMistake, ExploreChoices, question_by, wanted_by};
+use crate::at_calls::nevers_at_of;
 use crate::exploration::{no_question, no_question_of, report_over_input, steps_over_input};
 use crate::exploring::{Explored, explored_image};
 use crate::naming::LocalNames;
@@ -23,7 +24,7 @@ use crate::test_reports::line_at;
 use fmp_arguments::flaw_text;
 use fmp_base::System;
 use fmp_cfgparse::read_cfg;
-use fmp_expect::{Expected, read_expectations};
+use fmp_expect::{Expected, read_placed, read_unplaced};
 use fmp_explore::SearchWatcher;
 use fmp_files::{Failure, Outside, end, print, refuse_mistake, write_file};
 use fmp_frames::CallPlaces;
@@ -162,9 +163,9 @@ fn give<O: Outside>(
     }
 }
 
-/// The sentences of a text, with their lines; none if memory runs out.
+/// The sentences of a text that are not about calls, with their lines; none if memory runs out.
 fn expected_in(alloc: Global, configured: &System, said: &[u8]) -> Vec<Expected> {
-    match read_expectations(alloc, configured, said) {
+    match read_unplaced(alloc, configured, said) {
         Ok(expected) => expected,
         Err(_) => Vec::new(alloc),
     }
@@ -191,6 +192,8 @@ fn explore_question<O: Outside, R: Clock + Threads + Sync>(
     let places = CallPlaces::new(alloc, opened.src)?;
     let out = out_name(alloc, exploring)?;
     let expected = expected_in(alloc, configured, opened.said);
+    let placed = read_placed(alloc, opened.said)?;
+    let of_words = nevers_at_of(alloc, claim.image, claim.lines, &opened.wanted.nevers_at)?;
     let named = Named {
         src: exploring.src,
         out: out.as_str(),
@@ -208,6 +211,8 @@ fn explore_question<O: Outside, R: Clock + Threads + Sync>(
             file: exploring.expect.unwrap_or(""),
             text: opened.said,
             expected: &expected,
+            placed: &placed,
+            nevers_at: of_words.len(),
         },
         named,
     };
@@ -268,7 +273,7 @@ fn explore_image<O: Outside, R: Clock + Threads + Sync>(
             Ok(refuse_sentence(outside, &text))
         }
         Err(mistake) => {
-            let asked = &opened.exploring.asked;
+            let asked = (&opened.exploring.asked, opened.said);
             let error = no_question_of(alloc, asked, (image, &lines), mistake);
             Ok(refuse_mistake(outside, error))
         }

@@ -3,6 +3,7 @@ ghost use Rattle.std.specs.Prelude.{◌≡◌, IfOk, map, true};
 ghost use Rattle.std.specs.List.{list_all};
 ghost use Rattle.fmp_searching.specs.Seen as spec;
 
+use crate::placed::{broken_by, is_forbidden, say_placed};
 use crate::sentences::append_sentence;
 use crate::sources::{ExploredSources, say, say_made, say_place};
 use crate::stuck::{HeldUp, held_up};
@@ -26,6 +27,8 @@ pub enum SeenKind {
     Alone(usize),
     /// The sentence of the file is broken that stands at this place among those of the question.
     Sentence(usize),
+    /// A call is answered what the sentence forbids that stands at this place among those of the file about calls.
+    Placed(usize),
     /// No processor can do anything.
     Deadlock,
     /// A body goes on for ever without a call.
@@ -40,6 +43,9 @@ pub struct Seen {
     /// The kind of the finding.
     pub found: FindingKind,
     pub kind: SeenKind,
+    /// The place of the sentence of the file about calls that is broken, if one is, beside what the command line
+    /// forbids too.
+    pub placed: Option<usize>,
     /// The call to which it belongs, if it belongs to one.
     pub site: Option<CallSite>,
     /// What is said of it, without that call.
@@ -240,24 +246,26 @@ fn kind_at(sections: usize, place: usize) -> SeenKind
     }
 }
 
-/// What a line at a place tells that must never come.
-fn line_kind(lines: &[Line], place: usize) -> SeenKind
+/// What a line at a place tells that must never come; what only a sentence about calls forbids has its place here.
+fn line_kind(lines: &[Line], place: usize, placed: Option<usize>) -> SeenKind
     ensures { spec.is_line result ≡ true }
 {
     if is_fault(lines, place) {
-        SeenKind::Fault
-    } else {
-        SeenKind::Never
+        return SeenKind::Fault;
+    }
+    match placed {
+        Some(placed) => SeenKind::Placed(placed),
+        None => SeenKind::Never,
     }
 }
 
-/// What a finding breaks that left these lines.
+/// What a finding breaks that left these lines; what only a sentence about calls forbids has its place here.
 #[tactic(auto, using(crate::proofs::SameKinds::same_self))]
-fn kind_of(sections: usize, kind: FindingKind, lines: &[Line]) -> SeenKind
+fn kind_of(sections: usize, kind: FindingKind, lines: &[Line], placed: Option<usize>) -> SeenKind
     ensures { spec.breaks sections kind result ≡ true }
 {
     match kind {
-        FindingKind::Line(place) => line_kind(lines, place),
+        FindingKind::Line(place) => line_kind(lines, place, placed),
         FindingKind::Deadlock => SeenKind::Deadlock,
         FindingKind::Endless(_) => SeenKind::Endless,
         FindingKind::Breach(breached) => kind_at(sections, breached.monitor),
@@ -266,22 +274,43 @@ fn kind_of(sections: usize, kind: FindingKind, lines: &[Line]) -> SeenKind
     }
 }
 
-/// Appends what the steps of a finding leave, and says what it breaks.
+/// Appends what the steps of a finding leave, and says which sentence about calls it breaks, if one, and what it breaks.
 fn say_left_kind(
     alloc: Global,
     out: &mut Vec<u8>,
     sources: &ExploredSources<'_>,
     finding: &Finding,
-) -> Result<SeenKind, AllocError>
-    ensures { IfOk result (λ kind. spec.breaks sources.now.sentences.sections finding.now.kind kind ≡ true) }
+    left: &Left,
+) -> Result<(Option<usize>, SeenKind), AllocError>
+    ensures { IfOk result (λ r. spec.breaks sources.now.sentences.sections finding.now.kind r.1 ≡ true) }
+{
+    say_left(alloc, out, sources, finding.kind, left)?;
+    let placed = broken_by(sources, finding, &left.lines);
+    if let Some(place) = placed {
+        say_placed(alloc, out, sources, place)?;
+    }
+    let alone = if is_forbidden(sources, finding, &left.lines) {
+        None
+    } else {
+        placed
+    };
+    let sections = sources.sentences.sections;
+    Ok((placed, kind_of(sections, finding.kind, &left.lines, alone)))
+}
+
+/// The same, if the steps of a finding leave something.
+fn say_what_is_left(
+    alloc: Global,
+    out: &mut Vec<u8>,
+    sources: &ExploredSources<'_>,
+    finding: &Finding,
+) -> Result<(Option<usize>, SeenKind), AllocError>
+    ensures { IfOk result (λ r. spec.breaks sources.now.sentences.sections finding.now.kind r.1 ≡ true) }
 {
     let (claim, sections) = (&sources.claim, sources.sentences.sections);
     match left_by(alloc, claim.image, claim.bound, &finding.steps)? {
-        Some(left) => {
-            say_left(alloc, out, sources, finding.kind, &left)?;
-            Ok(kind_of(sections, finding.kind, &left.lines))
-        }
-        None => Ok(kind_of(sections, finding.kind, &[])),
+        Some(left) => say_left_kind(alloc, out, sources, finding, &left),
+        None => Ok((None, kind_of(sections, finding.kind, &[], None))),
     }
 }
 
@@ -294,10 +323,11 @@ fn seen_left(
     ensures { IfOk result (spec.IsSeen sources.now.sentences.sections finding.now) }
 {
     let mut text = Vec::new(alloc);
-    let kind = say_left_kind(alloc, &mut text, sources, finding)?;
+    let (placed, kind) = say_what_is_left(alloc, &mut text, sources, finding)?;
     Ok(Seen {
         found: finding.kind,
         kind,
+        placed,
         site: finding.site,
         text,
     })
@@ -360,6 +390,7 @@ pub fn seen_of(
     Ok(Seen {
         found: FindingKind::Stuck(task),
         kind: SeenKind::Stuck,
+        placed: None,
         site,
         text,
     })

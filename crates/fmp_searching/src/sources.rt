@@ -3,7 +3,7 @@
 use crate::asking::ExploreWords;
 use crate::naming::LocalNames;
 use crate::sites::CallLines;
-use fmp_expect::Expected;
+use fmp_expect::{Expected, PlacedNever};
 use fmp_explore::{CallSite, Question};
 use fmp_frames::{CallPlace, CallPlaces};
 use fmp_image_bytes::Image;
@@ -59,8 +59,12 @@ pub struct Sentences<'a> {
     pub file: &'a str,
     /// The text of the file.
     pub text: &'a [u8],
-    /// The sentences of the file, with their lines.
+    /// The sentences of the file, with their lines, but for those about calls.
     pub expected: &'a [Expected],
+    /// The sentences of the file about calls.
+    pub placed: &'a [PlacedNever],
+    /// How many of the answers that the question forbids at calls are of the command line. The others are of the file.
+    pub nevers_at: usize,
 }
 
 impl Sentences<'_> {
@@ -68,6 +72,11 @@ impl Sentences<'_> {
     pub fn line(&self, place: usize) -> Option<u64> {
         let place = place.checked_sub(self.sections)?;
         Some(self.expected.get(place)?.line as u64)
+    }
+
+    /// The line of the sentence at a place among those about calls.
+    pub fn placed_line(&self, place: usize) -> Option<u64> {
+        Some(self.placed.get(place)?.line as u64)
     }
 }
 

@@ -6,6 +6,7 @@ ghost use Rattle.fmp_searching.specs.Tests as spec;
 
 use crate::judging::{AskedTest, JudgedTest, Searched, cases_of, judged};
 use crate::parts::{add_monitors, add_nevers, deadlock_part};
+use crate::placed::first_like;
 use crate::seen::SeenKind;
 use crate::sources::ExploredSources;
 use fmp_explore::Monitor;
@@ -21,6 +22,39 @@ pub fn line_at(text: &[u8], number: usize) -> &[u8] {
     }
 }
 
+/// Adds the sentence of the file that stands in the line of this number.
+fn add_sentence(
+    alloc: Global,
+    asked: &mut Vec<AskedTest>,
+    sources: &ExploredSources<'_>,
+    kind: SeenKind,
+    line: usize,
+) -> Result<(), AllocError> {
+    asked.push(AskedTest {
+        kind,
+        name: String::from_utf8_lossy(alloc, line_at(sources.sentences.text, line))?,
+        line: Some(line),
+    })?;
+    Ok(())
+}
+
+/// Adds the sentences of the file about calls that stand after a line and before another one.
+fn add_placed(
+    alloc: Global,
+    asked: &mut Vec<AskedTest>,
+    sources: &ExploredSources<'_>,
+    (after, before): (usize, usize),
+) -> Result<(), AllocError> {
+    let placed = sources.sentences.placed;
+    for never in placed {
+        if never.line > after && never.line < before {
+            let kind = SeenKind::Placed(first_like(placed, *never));
+            add_sentence(alloc, asked, sources, kind, never.line)?;
+        }
+    }
+    Ok(())
+}
+
 /// The sentences of the file.
 fn asked_sentences(
     alloc: Global,
@@ -28,14 +62,15 @@ fn asked_sentences(
 ) -> Result<Vec<AskedTest>, AllocError> {
     let mut asked = Vec::new(alloc);
     let mut place = sources.sentences.sections;
+    let mut last: usize = 0;
     for said in sources.sentences.expected {
-        asked.push(AskedTest {
-            kind: SeenKind::Sentence(place),
-            name: String::from_utf8_lossy(alloc, line_at(sources.sentences.text, said.line))?,
-            line: Some(said.line),
-        })?;
+        add_placed(alloc, &mut asked, sources, (last, said.line))?;
+        let kind = SeenKind::Sentence(place);
+        add_sentence(alloc, &mut asked, sources, kind, said.line)?;
         place = place.saturating_add(1);
+        last = said.line;
     }
+    add_placed(alloc, &mut asked, sources, (last, usize::MAX))?;
     Ok(asked)
 }
 
@@ -67,14 +102,15 @@ fn joined(alloc: Global, parts: &[Vec<u8>]) -> Result<Vec<u8>, AllocError> {
     Ok(text)
 }
 
-/// Adds what must never happen, if anything but faults must.
+/// Adds what must never happen by the command line, if anything but faults must.
 fn add_asked_nevers(
     alloc: Global,
     asked: &mut Vec<AskedTest>,
     sources: &ExploredSources<'_>,
 ) -> Result<(), AllocError> {
     let mut parts = Vec::new(alloc);
-    add_nevers(alloc, &sources.claim, &mut parts)?;
+    let at_calls = sources.sentences.nevers_at;
+    add_nevers(alloc, &sources.claim, at_calls, &mut parts)?;
     if parts.is_empty() {
         return Ok(());
     }

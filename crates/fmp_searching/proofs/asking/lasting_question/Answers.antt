@@ -4,14 +4,3 @@ use Rattle.fmp_searching.proofs.asking.lasting_question.Goals as goal
 pub returns-then-has_end : goal.returns-then-has_end
 returns-then-has_end c =
     (c.requires.known, (c.args.expected.now, (c.requires.says, sym c.has_end.ensures ∙ c.if-has_end.true)))
-
-pub returns : goal.returns
-returns c = (
-  c.requires.known,
-  record {
-    expected = c.args.expected.now;
-    says = c.requires.says;
-    lasting = sym c.has_end.ensures ∙ c.if-has_end.false;
-    asks = c.in_ok-question.ensures;
-  },
-)

@@ -1,7 +1,7 @@
 use Rattle.std.proofs.Common.{subst, sym, List}
 use Rattle.fmp_instructions.specs.Instructions.{BodyTables}
 use Rattle.fmp_searching.proofs.ImageSites.{image_sites}
-use Rattle.fmp_searching.proofs.asking.question_by.Goals as goal
+use Rattle.fmp_searching.proofs.at_calls.are_called_in.Goals as goal
 use Rattle.fmp_searching.specs.Sites.{HasSites}
 
 pub are_called-requires : goal.are_called-requires

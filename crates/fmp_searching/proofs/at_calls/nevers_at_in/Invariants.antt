@@ -1,7 +1,7 @@
 use Rattle.std.proofs.Common.{◌≡◌, ◌++◌, drop}
 use Rattle.fmp_instructions.specs.Instructions.{code_tables}
 use Rattle.fmp_searching.specs.Questions.{nevers_at_in}
-use Rattle.fmp_searching.proofs.asking.nevers_at_in.Given as goal
+use Rattle.fmp_searching.proofs.at_calls.nevers_at_in.Given as goal
 
 abbrev pub invariant-loop-at : goal.invariant-loop-at
 invariant-loop-at l =

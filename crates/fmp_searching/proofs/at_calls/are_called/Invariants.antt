@@ -1,7 +1,7 @@
 use Rattle.std.proofs.Common.{◌≡◌, drop}
 use Rattle.fmp_instructions.specs.Instructions.{code_tables}
 use Rattle.fmp_searching.specs.Questions.{are_called}
-use Rattle.fmp_searching.proofs.asking.are_called.Given as goal
+use Rattle.fmp_searching.proofs.at_calls.are_called.Given as goal
 
 abbrev pub invariant-loop-at : goal.invariant-loop-at
 invariant-loop-at l =

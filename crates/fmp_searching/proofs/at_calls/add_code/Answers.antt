@@ -1,4 +1,4 @@
-use Rattle.fmp_searching.proofs.asking.add_code.Goals as goal
+use Rattle.fmp_searching.proofs.at_calls.add_code.Goals as goal
 use Rattle.fmp_searching.specs.Questions.{nevers_at_of}
 
 pub returns : goal.returns

@@ -1,6 +1,6 @@
 use Rattle.std.proofs.Common.{◌≡◌, ◌++◌, drop, map}
 use Rattle.fmp_searching.specs.Questions.{never_at}
-use Rattle.fmp_searching.proofs.asking.add_nevers_at.Given as goal
+use Rattle.fmp_searching.proofs.at_calls.add_nevers_at.Given as goal
 
 abbrev pub invariant-loop-site : goal.invariant-loop-site
 invariant-loop-site l =
