@@ -150,6 +150,17 @@ fn is_shown(word: &[u8]) -> bool {
     word.iter().all(|byte| *byte >= b' ' && *byte != 127)
 }
 
+/// What is expected where a flaw is, in words; of a processor how many there are too.
+fn expected_text(alloc: Global, sys: &System, flaw: ExpectationFlaw) -> Result<String, AllocError> {
+    match flaw.expects {
+        Expects::Processor => {
+            let count = sys.processors;
+            format!(in alloc; "{flaw}, 1 to {count}")
+        }
+        _ => format!(in alloc; "{flaw}"),
+    }
+}
+
 /// What stands where a flaw is, in words.
 fn found_text(alloc: Global, word: Option<&[u8]>) -> Result<String, AllocError> {
     match word {
@@ -176,7 +187,8 @@ pub fn flaw_words(
     };
     let found = found_text(alloc, word)?;
     let question = question_text(alloc, near)?;
-    format!(in alloc; "{flaw}; {found}{question}")
+    let expected = expected_text(alloc, sys, flaw)?;
+    format!(in alloc; "{expected}; {found}{question}")
 }
 
 /// What is said of a flaw of the line of this number of a text, for a run of this system. `AllocError` if memory runs

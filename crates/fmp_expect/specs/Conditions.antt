@@ -111,7 +111,7 @@ abbrev pub on_of : SystemTables → List (List ℕ) → Result (Read TestedFact)
 on_of sys ws =
     and_then (who_of sys ws) (λ who.
     and_then (behind_word expects.On (codes "on") (behind_first who.rest)) (λ rest.
-    and_then (number_in expects.Processor 1 8 rest) (λ p.
+    and_then (number_in expects.Processor 1 sys.processors rest) (λ p.
     read (fact.Runs (p.value - 1) who.value) p.rest)))
 
 abbrev pub fact_of : SystemTables → List (List ℕ) → Result (Read TestedFact) ExpectationFlaw

@@ -205,7 +205,8 @@ fn on_in<'a>(sys: &System, line: &'a [u8]) -> Result<(TestedFact, &'a [u8]), Exp
 {
     let (task, rest) = who_in(sys, line)?;
     let rest = behind_word(Expects::On, b"on", behind_first(rest))?;
-    let (number, rest) = ranged_in(Expects::Processor, 1, 8, rest)?;
+    let count = u32::from(sys.processors);
+    let (number, rest) = ranged_in(Expects::Processor, 1, count, rest)?;
     let fact = TestedFact::Runs {
         processor: (number - 1) as u8,
         task,

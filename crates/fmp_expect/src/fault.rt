@@ -109,8 +109,8 @@ pub enum Expects {
     /// The word `on`.
     #[error("`on`")]
     On,
-    /// The number of a processor.
-    #[error("the number of a processor, 1 to 8")]
+    /// The number of a processor of the system.
+    #[error("the number of a processor of the system")]
     Processor,
     /// Nothing, or one more test.
     #[error("the end of the line, `and` or `or`")]
