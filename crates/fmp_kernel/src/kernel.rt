@@ -201,6 +201,7 @@ impl<B: Body> Kernel<B> {
     /// processor or left it another actor than they found: along one run equal stamps mean the same actor in the same
     /// context.
     #[tactic(auto, using(crate::proofs::ActorNone::no_actor))]
+    #[inline(always)]
     pub fn actor(&self, p: u8) -> Option<Actor<B::Ctx>>
         ensures value { result ≡ actor_in self.now p }
         ensures exact { IfNone result (HasNoActor self.now p) }

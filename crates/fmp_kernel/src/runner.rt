@@ -162,6 +162,7 @@ impl<B: Body> Runner<B> {
     /// The actor of processor p, with this stamp: None if it has no actor, or one that awaits a reply or of which
     /// nothing is kept.
     #[tactic(auto, using(fmp_contexts::proofs::ContextLemmas::entry_of, fmp_contexts::proofs::ContextLemmas::goes_in))]
+    #[inline(always)]
     pub fn actor(&self, p: u8, stamp: u32) -> Option<Actor<B::Ctx>>
         ensures value { result ≡ with_stamp stamp (actor_at self.now.system self.now.world p) }
         ensures entry { IfSome result (λ a. B.has_entry self.now.body a.entry) }
