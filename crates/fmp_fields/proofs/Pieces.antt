@@ -1,18 +1,24 @@
 -- Fields and values that pieces add.
 use Rattle.std.proofs.Common.{◌≡◌, ℕ, ◌+◌, ◌<◌, ◌≤◌, List, [], ◌∷◌, ◌++◌, length, map, sym, ap, ◌∙◌, take, drop, arith}
 use Rattle.std.proofs.Common.{add-zero, append_assoc, append-nil}
+use Rattle.std.proofs.Common.{Option, Some, subst}
 use lib.ListN.{set}
-use Rattle.std.specs.Prelude.{get_or}
+use Rattle.std.specs.Prelude.{IfSome, get_or}
 use Rattle.std.specs.List.{flat_map, range_with_len}
 use Rattle.std.proofs.lemmas.Grind.{flat_map-append}
-use Rattle.std.proofs.lemmas.List.{length-append, map-append, take-append-drop, take_all, take_more, take_more_set}
+use Rattle.std.proofs.Math.Seq.{take-append-add}
+use Rattle.std.proofs.lemmas.List.{length-append, length-take-le, map-append, take-append-drop, take-take, take_all}
+use Rattle.std.proofs.lemmas.List.{take_more, take_more_set}
 use Rattle.std.proofs.lemmas.List.FromFn.{length-map-range_with_len, map-range_with_len_more}
+use Rattle.std.proofs.lemmas.List.FromFn.{take-map-range_with_len}
 use Rattle.fmp_fields.specs.declared.field.What.{What}
 use Rattle.fmp_fields.specs.declared.piece.Piece.{Piece}
 use Rattle.fmp_fields.specs.declared.piece.Piece.TheVariants as piece
 use Rattle.fmp_fields.specs.declared.owner.Owner.{Owner}
+use Rattle.fmp_fields.specs.declared.owner.Owner.TheVariants as owner
 use Rattle.fmp_fields.specs.declared.room.Room.{Room}
-use Rattle.fmp_fields.specs.Pieces.{body_fields, count_of, fields_of_piece, fields_of_pieces, local_of, operand_of}
+use Rattle.fmp_fields.specs.Pieces.{block_fields, body_fields, count_of, fields_of_piece, fields_of_pieces}
+use Rattle.fmp_fields.specs.Pieces.{fields_of_processor, fields_of_task, local_of, operand_of, processor_fields}
 
 -- one more of what a function gives for each number from 0 on
 pub each-more : {X : Type 0} (f : ℕ → X) (n : ℕ) (first before after : List X) (x : X) → x ≡ f n
@@ -84,6 +90,30 @@ body_length o room =
     let more = length-map-range_with_len (operand_of o) 0 room.operands in
     omega (arith, all, some, more)
 
+-- how many a task has, and a processor
+pub task_length : (t : ℕ) (room : Room)
+    → length (fields_of_task t room) ≡ 11 + length (body_fields (owner.Task t) room)
+task_length t room = length-append (block_fields t) (body_fields (owner.Task t) room)
+
+pub processor_length : (p : ℕ) (room : Room)
+    → length (fields_of_processor p room) ≡ 5 + length (body_fields (owner.Handler p) room)
+processor_length p room = length-append (processor_fields p) (body_fields (owner.Handler p) room)
+
+pub task_size : (t : ℕ) (room : Room) → length (fields_of_task t room) ≡ 11 + (room.locals + room.operands + 2)
+task_size t room = task_length t room ∙ ap (λ (n : ℕ). 11 + n) (body_length (owner.Task t) room)
+
+pub processor_size : (p : ℕ) (room : Room)
+    → length (fields_of_processor p room) ≡ 5 + (room.locals + room.operands + 2)
+processor_size p room = processor_length p room ∙ ap (λ (n : ℕ). 5 + n) (body_length (owner.Handler p) room)
+
+-- what is added of two lists of fields
+pub both-written : (f : What → ℕ) (a b : List What) (first middle last : List ℕ) → middle ≡ first ++ map f a
+    → last ≡ middle ++ map f b → last ≡ first ++ map f (a ++ b)
+both-written f a b first middle last one two =
+    two
+    ∙ (ap (λ (l : List ℕ). l ++ map f b) one
+    ∙ (append_assoc first (map f a) (map f b) ∙ ap (λ (l : List ℕ). first ++ l) (sym (map-append f a b))))
+
 -- one more field of two lists that begin with the same ones
 pub take-same : (a b : List What) (k : ℕ) (d e : What) → k < length a → k < length b → take k a ≡ take k b
     → get_or a k d ≡ get_or b k e → take (k + 1) a ≡ take (k + 1) b
@@ -110,6 +140,32 @@ written-more f at n first now x is lt was =
     let next : at + (n + 1) ≡ at + n + 1 = omega arith in
     each-more f n first (take (at + n) now) after x is was
     (ap (λ (k : ℕ). take k (set now (at + n) x)) next ∙ take_more_set now (at + n) x lt)
+
+-- the first ones of them
+pub written-first : (f : ℕ → ℕ) (at count all : ℕ) (old new : List ℕ) → count ≤ all → at ≤ length old
+    → take (at + all) new ≡ take at old ++ map f (range_with_len 0 all)
+    → take (at + count) new ≡ take at old ++ map f (range_with_len 0 count)
+written-first f at count all old new few inside is =
+    let first : List ℕ = take at old in
+    let more : List ℕ = map f (range_with_len 0 all) in
+    let size : length first ≡ at = length-take-le at old inside in
+    sym (take-take (at + count) (at + all) new (omega arith))
+    ∙ (ap (λ (l : List ℕ). take (at + count) l) is
+    ∙ (ap (λ (n : ℕ). take (n + count) (first ++ more)) (sym size)
+    ∙ (take-append-add first more count
+    ∙ ap (λ (l : List ℕ). first ++ l) (take-map-range_with_len f 0 all count few))))
+
+-- what a function gives for the first four numbers
+pub four-told : (f : ℕ → ℕ) (a b c d : ℕ) → a ≡ f 0 → b ≡ f 1 → c ≡ f 2 → d ≡ f 3
+    → a ∷ b ∷ c ∷ d ∷ [] ≡ map f (range_with_len 0 4)
+four-told f a b c d one two three four =
+    ap (λ (x : ℕ). x ∷ b ∷ c ∷ d ∷ []) one
+    ∙ (ap (λ (x : ℕ). f 0 ∷ x ∷ c ∷ d ∷ []) two
+    ∙ (ap (λ (x : ℕ). f 0 ∷ f 1 ∷ x ∷ d ∷ []) three ∙ ap (λ (x : ℕ). f 0 ∷ f 1 ∷ f 2 ∷ x ∷ []) four))
+
+-- what holds of a value, if there is one
+pub some-told : {X : Type 0} (P : X → Type 0) (o : Option X) (x : X) → o ≡ Some x → IfSome o P → P x
+some-told P o x is h = subst (λ y. IfSome y P) is h
 
 -- how many fields come before a piece, and it has
 pieces-length : (pieces : List Piece) (i : ℕ) (d : Piece) → i < length pieces

@@ -43,11 +43,18 @@ body_fields o room =
     pc_of o ∷ (map (local_of o) (range_with_len 0 room.locals)
     ++ count_of o ∷ map (operand_of o) (range_with_len 0 room.operands))
 
+-- the fields of a task whose body needs this room
+abbrev pub fields_of_task : ℕ → Room → List What
+fields_of_task t room = block_fields t ++ body_fields (owner.Task t) room
+
+-- the fields of a processor whose handlers' bodies need this room
+abbrev pub fields_of_processor : ℕ → Room → List What
+fields_of_processor p room = processor_fields p ++ body_fields (owner.Handler p) room
+
 -- the fields of a piece
 abbrev pub fields_of_piece : Piece → List What
-fields_of_piece (piece.Block t) = block_fields t
-fields_of_piece (piece.Body o room) = body_fields o room
-fields_of_piece (piece.Processor p) = processor_fields p
+fields_of_piece (piece.Task t room) = fields_of_task t room
+fields_of_piece (piece.Processor p room) = fields_of_processor p room
 fields_of_piece (piece.Single f) = f ∷ []
 
 -- the fields of pieces, one after the other

@@ -5,8 +5,7 @@ use crate::blocks::{
 };
 use crate::field::{What, low_byte};
 use crate::field_plan::FieldPlan;
-use crate::owner::Owner;
-use crate::piece::Piece;
+use crate::piece::{BLOCK, PROCESSOR, Piece};
 use crate::room::Room;
 use fmp_instructions::MachineContext;
 use fmp_kernel::{Saved, SavedContexts};
@@ -76,6 +75,11 @@ fn numbers_from(numbers: &[u32], start: usize, count: usize) -> &[u32] {
     let start = start.min(numbers.len());
     let count = count.min(numbers.len() - start);
     &numbers[start..start + count]
+}
+
+/// The numbers from a place on.
+fn numbers_after(numbers: &[u32], start: usize) -> &[u32] {
+    &numbers[start.min(numbers.len())..]
 }
 
 /// Puts numbers with a sign into the first places, as many as there are.
@@ -177,38 +181,25 @@ impl SavedRow {
         clear_state(&mut self.saved.state)
     }
 
-    /// Whether the body of an owner whose block or processor was taken last goes on, or awaits a reply.
-    fn is_started(&self, owner: Owner) -> bool {
-        let state = &self.saved.state;
-        match owner {
-            Owner::Task(_) => match state.blocks.last() {
-                Some(block) => !is_dormant(block),
-                None => false,
-            },
-            Owner::Handler(_) => match state.processors.last() {
-                Some(cpu) => cpu.handler.is_some(),
-                None => false,
-            },
-        }
+    /// Takes the numbers of a task whose body needs this room.
+    fn take_task(&mut self, t: u8, room: Room, numbers: &[u32]) -> Result<(), AllocError> {
+        let Some(block) = block_of(numbers) else {
+            return Ok(());
+        };
+        self.saved.state.blocks.push(block)?;
+        self.behind.push(byte_of(number_at(numbers, BLOCK - 1)))?;
+        let goes = !is_dormant(&block);
+        let body = numbers_after(numbers, BLOCK);
+        fill_at(&mut self.saved.contexts.tasks, t, goes, room, body)
     }
 
-    /// Takes the block of a task, and the task behind it in its queue.
-    fn take_block(&mut self, numbers: &[u32]) -> Result<(), AllocError> {
-        if let Some(block) = block_of(numbers) {
-            self.saved.state.blocks.push(block)?;
-            self.behind.push(byte_of(number_at(numbers, 10)))?;
-        }
-        Ok(())
-    }
-
-    /// Takes the context of an owner's body, whose block or processor was taken last.
-    fn take_body(&mut self, owner: Owner, room: Room, numbers: &[u32]) -> Result<(), AllocError> {
-        let goes = self.is_started(owner);
-        let contexts = &mut self.saved.contexts;
-        match owner {
-            Owner::Task(t) => fill_at(&mut contexts.tasks, t, goes, room, numbers),
-            Owner::Handler(p) => fill_at(&mut contexts.handlers, p, goes, room, numbers),
-        }
+    /// Takes the numbers of a processor whose handlers' bodies need this room.
+    fn take_processor(&mut self, p: u8, room: Room, numbers: &[u32]) -> Result<(), AllocError> {
+        let cpu = processor_of(numbers);
+        self.saved.state.processors.push(cpu)?;
+        let goes = cpu.handler.is_some();
+        let body = numbers_after(numbers, PROCESSOR);
+        fill_at(&mut self.saved.contexts.handlers, p, goes, room, body)
     }
 
     /// Takes the words of a data queue, whose number stands in front of them.
@@ -236,12 +227,11 @@ impl SavedRow {
         }
     }
 
-    /// Takes the field that these numbers begin with, if it is of an object or tells what is behind.
+    /// Takes the field that these numbers begin with, if it is of an object.
     fn take_object(&mut self, what: What, numbers: &[u32]) -> Result<(), AllocError> {
         let number = number_at(numbers, 0);
         let state = &mut self.saved.state;
         match what {
-            What::Behind(_) => self.behind.push(byte_of(number))?,
             What::Count(_) => state.semaphores.push(half_of(number))?,
             What::Pattern(_) => state.flags.push(half_of(number))?,
             What::Words(d) => self.take_words(d, numbers)?,
@@ -259,9 +249,8 @@ impl SavedRow {
     /// Takes the piece that these numbers begin with.
     fn take(&mut self, piece: Piece, numbers: &[u32]) -> Result<(), AllocError> {
         match piece {
-            Piece::Block(_) => self.take_block(numbers)?,
-            Piece::Body(owner, room) => self.take_body(owner, room, numbers)?,
-            Piece::Processor(_) => self.saved.state.processors.push(processor_of(numbers))?,
+            Piece::Task(t, room) => self.take_task(t, room, numbers)?,
+            Piece::Processor(p, room) => self.take_processor(p, room, numbers)?,
             Piece::Single(what) => self.take_object(what, numbers)?,
         }
         Ok(())
@@ -272,7 +261,7 @@ impl SavedRow {
         let mut at: usize = 0;
         for place in 0..pieces.len() {
             let piece = pieces[place];
-            self.take(piece, &numbers[at.min(numbers.len())..])?;
+            self.take(piece, numbers_after(numbers, at))?;
             at = at.saturating_add(piece.len());
         }
         Ok(())

@@ -1,5 +1,5 @@
 //! Fields that stand in order and are read together.
-ghost use Rattle.std.specs.Prelude.{◌≡◌, ◌<◌, ◌++◌, OnOk, length, map};
+ghost use Rattle.std.specs.Prelude.{◌≡◌, ◌+◌, ◌<◌, ◌++◌, OnOk, length, map};
 ghost use Rattle.std.specs.List.{range_with_len};
 ghost use Rattle.fmp_fields.specs.Pieces as pieces;
 
@@ -17,12 +17,10 @@ pub const PROCESSOR: usize = 5;
 /// Fields that stand in order and are read together.
 #[derive(Clone, Copy)]
 pub enum Piece {
-    /// The fields of a task's block, and the task behind it in its queue.
-    Block(u8),
-    /// The fields of a body that has this many locals and operands.
-    Body(Owner, Room),
-    /// The fields of a processor, without those of its handler's body.
-    Processor(u8),
+    /// The fields of a task: its block, the task behind it in its queue, and its body, which needs this room.
+    Task(u8, Room),
+    /// The fields of a processor, with those of its handler's body, which needs this room.
+    Processor(u8, Room),
     /// A field alone.
     Single(What),
 }
@@ -133,28 +131,53 @@ fn push_processor(fields: &mut Vec<What>, p: u8) -> Result<(), AllocError>
     ])
 }
 
+/// Appends the fields of a task.
+fn push_task(fields: &mut Vec<What>, t: u8, room: Room) -> Result<(), AllocError>
+    ensures { OnOk result (fields.new.items ≡ fields.old.items ++ pieces.fields_of_task t room) }
+{
+    push_block(fields, t)?;
+    push_body(fields, Owner::Task(t), room)?;
+    Ok(())
+}
+
+/// Appends the fields of a processor, with those of its handler's body.
+fn push_whole_processor(fields: &mut Vec<What>, p: u8, room: Room) -> Result<(), AllocError>
+    ensures { OnOk result (fields.new.items ≡ fields.old.items ++ pieces.fields_of_processor p room) }
+{
+    push_processor(fields, p)?;
+    push_body(fields, Owner::Handler(p), room)?;
+    Ok(())
+}
+
+impl Room {
+    /// How many fields a body has that needs this room.
+    pub fn field_count(self) -> usize
+        ensures { result ≡ self.locals + self.operands + 2 }
+    {
+        usize::from(self.locals) + usize::from(self.operands) + 2
+    }
+}
+
 impl Piece {
     /// Appends the fields of a piece. `AllocError` if memory runs out.
     pub fn push_fields(self, fields: &mut Vec<What>) -> Result<(), AllocError>
         ensures { OnOk result (fields.new.items ≡ fields.old.items ++ pieces.fields_of_piece self) }
     {
         match self {
-            Piece::Block(t) => push_block(fields, t),
-            Piece::Body(owner, room) => push_body(fields, owner, room),
-            Piece::Processor(p) => push_processor(fields, p),
+            Piece::Task(t, room) => push_task(fields, t, room),
+            Piece::Processor(p, room) => push_whole_processor(fields, p, room),
             Piece::Single(what) => Ok(fields.push(what)?),
         }
     }
 
     /// How many fields a piece has.
-    #[tactic(auto, using(crate::proofs::Pieces::body_length))]
+    #[tactic(auto, using(crate::proofs::Pieces::task_size, crate::proofs::Pieces::processor_size))]
     pub fn len(self) -> usize
         ensures { result ≡ length (pieces.fields_of_piece self) }
     {
         match self {
-            Piece::Block(_) => BLOCK,
-            Piece::Body(_, room) => usize::from(room.locals) + usize::from(room.operands) + 2,
-            Piece::Processor(_) => PROCESSOR,
+            Piece::Task(_, room) => BLOCK + room.field_count(),
+            Piece::Processor(_, room) => PROCESSOR + room.field_count(),
             Piece::Single(_) => 1,
         }
     }
@@ -199,10 +222,8 @@ fn piece_at(fields: &[What], at: usize) -> Piece
     requires { at < length fields.now }
 {
     match fields[at] {
-        What::Phase(t) => Piece::Block(t),
-        What::Runs(p) => Piece::Processor(p),
-        What::Pc(t) => Piece::Body(Owner::Task(t), room_from(fields, at)),
-        What::HandlerPc(p) => Piece::Body(Owner::Handler(p), room_from(fields, at)),
+        What::Phase(t) => Piece::Task(t, room_from(fields, at.saturating_add(BLOCK))),
+        What::Runs(p) => Piece::Processor(p, room_from(fields, at.saturating_add(PROCESSOR))),
         what => Piece::Single(what),
     }
 }

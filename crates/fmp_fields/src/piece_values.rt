@@ -4,7 +4,8 @@ ghost use Rattle.std.specs.Prelude.{take, true};
 ghost use Rattle.std.specs.List.{range_with_len};
 ghost use Rattle.fmp_base.specs.Meanings.{World};
 ghost use Rattle.fmp_fields.specs.FieldNumbers.{body_number, number_of, owned_by, task_of as task_by};
-ghost use Rattle.fmp_fields.specs.Pieces.{block_fields, body_fields, fields_of_piece, processor_fields};
+ghost use Rattle.fmp_fields.specs.Pieces.{block_fields, body_fields, fields_of_piece, fields_of_processor};
+ghost use Rattle.fmp_fields.specs.Pieces.{fields_of_task, processor_fields};
 ghost use Rattle.fmp_fields.specs.Reading.{context_numbers};
 ghost use Rattle.fmp_instructions.specs.declared.instructions.MachineContext.{MachineContext};
 ghost use Rattle.fmp_live.specs.LiveLocals.{live_tables};
@@ -115,7 +116,36 @@ fn write_processor(tables: &KernelState, p: u8, values: &mut [u32], at: usize)
     write_array(processor_values(tables, p), values, at);
 }
 
-/// Writes the values of locals, this many, over those from a place on, with 0 for each that a row calls dead.
+/// The values of the first four locals, with 0 for each that a row calls dead.
+#[inline(always)]
+fn first_locals(row: &[bool], locals: &[i32; 64]) -> [u32; 4]
+    ensures { result
+        ≡ map (λ l. numbers.unsigned (get_or (zeroed_by row.now locals.now) l (pos 0))) (range_with_len 0 4) }
+{
+    [
+        local_at(row, locals, 0),
+        local_at(row, locals, 1),
+        local_at(row, locals, 2),
+        local_at(row, locals, 3),
+    ]
+}
+
+/// Writes the values of locals, at most four, over those from a place on, with 0 for each that a row calls dead. The
+/// values after them may be any then.
+#[inline(always)]
+fn write_few_locals(row: &[bool], locals: &[i32; 64], count: u8, values: &mut [u32], at: usize)
+    requires few { count ≤ 4 }
+    requires room { at + 4 ≤ length values.old }
+    ensures length { length values.new ≡ length values.old }
+    ensures values { take (at + count) values.new ≡ take at values.old
+        ++ map (λ l. numbers.unsigned (get_or (zeroed_by row.now locals.now) l (pos 0))) (range_with_len 0 count) }
+{
+    // Four are written together, with no test of each.
+    write_array(first_locals(row, locals), values, at);
+}
+
+/// Writes the values of locals, this many, over those from a place on, with 0 for each that a row calls dead. The
+/// values after them may be any then.
 #[inline(always)]
 fn write_locals(row: &[bool], locals: &[i32; 64], count: u8, values: &mut [u32], at: usize)
     requires { at + count ≤ length values.old }
@@ -123,12 +153,42 @@ fn write_locals(row: &[bool], locals: &[i32; 64], count: u8, values: &mut [u32],
     ensures values { take (at + count) values.new ≡ take at values.old
         ++ map (λ l. numbers.unsigned (get_or (zeroed_by row.now locals.now) l (pos 0))) (range_with_len 0 count) }
 {
+    if count <= 4 && row.len() >= 4 && at + 4 <= values.len() {
+        write_few_locals(row, locals, count, values, at);
+        return;
+    }
     for l in 0..count {
         values[at + l as usize] = local_at(row, locals, l);
     }
 }
 
-/// Writes the values of operands, this many, over those from a place on.
+/// The values of the first four operands.
+#[inline(always)]
+fn first_operands(operands: &[i32; 64]) -> [u32; 4]
+    ensures { result ≡ map (λ i. numbers.unsigned (get_or operands.now i (pos 0))) (range_with_len 0 4) }
+{
+    [
+        number_at(operands, 0),
+        number_at(operands, 1),
+        number_at(operands, 2),
+        number_at(operands, 3),
+    ]
+}
+
+/// Writes the values of operands, at most four, over those from a place on. The values after them may be any then.
+#[inline(always)]
+fn write_few_operands(operands: &[i32; 64], count: u8, values: &mut [u32], at: usize)
+    requires few { count ≤ 4 }
+    requires room { at + 4 ≤ length values.old }
+    ensures length { length values.new ≡ length values.old }
+    ensures values { take (at + count) values.new ≡ take at values.old
+        ++ map (λ i. numbers.unsigned (get_or operands.now i (pos 0))) (range_with_len 0 count) }
+{
+    // Four are written together, with no test of each.
+    write_array(first_operands(operands), values, at);
+}
+
+/// Writes the values of operands, this many, over those from a place on. The values after them may be any then.
 #[inline(always)]
 fn write_operands(operands: &[i32; 64], count: u8, values: &mut [u32], at: usize)
     requires { at + count ≤ length values.old }
@@ -136,6 +196,10 @@ fn write_operands(operands: &[i32; 64], count: u8, values: &mut [u32], at: usize
     ensures values { take (at + count) values.new ≡ take at values.old
         ++ map (λ i. numbers.unsigned (get_or operands.now i (pos 0))) (range_with_len 0 count) }
 {
+    if count <= 4 && at + 4 <= values.len() {
+        write_few_operands(operands, count, values, at);
+        return;
+    }
     for i in 0..count {
         values[at + i as usize] = number_at(operands, i);
     }
@@ -205,8 +269,58 @@ fn write_body<B: Body<Ctx = MachineContext>>(
     let row = row_of(kernel, live, owner, found);
     match found {
         Some(context) => write_context(context, row, room, values, at),
-        None => write_zeros(Piece::Body(owner, room).len(), values, at),
+        None => write_zeros(room.field_count(), values, at),
     }
+}
+
+/// Writes the values of the fields of a task over those from a place on, with 0 for each dead local. Gives the place
+/// after them. `None` if a time is too far ahead.
+#[inline(always)]
+fn write_task<B: Body<Ctx = MachineContext>>(
+    kernel: &Kernel<B>,
+    live: &LiveLocals,
+    t: u8,
+    room: Room,
+    values: &mut [u32],
+    at: usize,
+) -> Option<usize>
+    requires { at + length (fields_of_task t room) ≤ length values.old }
+    ensures length { length values.new ≡ length values.old }
+    ensures end { IfSome result (λ end. end ≡ at + length (fields_of_task t room)) }
+    ensures values { (came : ℕ) → IfSome result (λ end. take end values.new
+        ≡ take at values.old ++ map (number_of kernel.now.system
+        (zeroed kernel.now.system (live_tables live.now) kernel.now.world) came) (fields_of_task t room)) }
+{
+    if !write_block(kernel.tables(), t, values, at) {
+        return None;
+    }
+    let body = at + BLOCK;
+    write_body(kernel, live, Owner::Task(t), room, values, body);
+    Some(body + room.field_count())
+}
+
+/// Writes the values of the fields of a processor, with those of its handler's body, over those from a place on, with 0
+/// for each dead local. Gives the place after them.
+#[inline(always)]
+fn write_whole_processor<B: Body<Ctx = MachineContext>>(
+    kernel: &Kernel<B>,
+    live: &LiveLocals,
+    p: u8,
+    room: Room,
+    values: &mut [u32],
+    at: usize,
+) -> usize
+    requires { at + length (fields_of_processor p room) ≤ length values.old }
+    ensures length { length values.new ≡ length values.old }
+    ensures end { result ≡ at + length (fields_of_processor p room) }
+    ensures values { (came : ℕ) → take result values.new
+        ≡ take at values.old ++ map (number_of kernel.now.system
+        (zeroed kernel.now.system (live_tables live.now) kernel.now.world) came) (fields_of_processor p room) }
+{
+    write_processor(kernel.tables(), p, values, at);
+    let body = at + PROCESSOR;
+    write_body(kernel, live, Owner::Handler(p), room, values, body);
+    body + room.field_count()
 }
 
 /// The value of a field of an owner's body, with 0 for each dead local.
@@ -252,8 +366,8 @@ fn field_value<B: Body<Ctx = MachineContext>>(
     }
 }
 
-/// Writes the value of a field at a place, where this many interrupts came, with 0 for each dead local: whether no time
-/// is too far ahead.
+/// Writes the value of a field at a place, where this many interrupts came, with 0 for each dead local. Gives the place
+/// after it. `None` if a time is too far ahead.
 fn write_field<B: Body<Ctx = MachineContext>>(
     kernel: &Kernel<B>,
     live: &LiveLocals,
@@ -261,23 +375,20 @@ fn write_field<B: Body<Ctx = MachineContext>>(
     what: What,
     values: &mut [u32],
     at: usize,
-) -> bool
+) -> Option<usize>
     requires { at + 1 ≤ length values.old }
     ensures length { length values.new ≡ length values.old }
-    ensures values { result ≡ true → take (at + 1) values.new ≡ take at values.old ++ number_of kernel.now.system
-        (zeroed kernel.now.system (live_tables live.now) kernel.now.world) came what ∷ [] }
+    ensures end { IfSome result (λ end. end ≡ at + 1) }
+    ensures values { IfSome result (λ end. take end values.new ≡ take at values.old ++ number_of kernel.now.system
+        (zeroed kernel.now.system (live_tables live.now) kernel.now.world) came what ∷ []) }
 {
-    match field_value(kernel, live, came, what) {
-        Some(value) => {
-            write_value(value, values, at);
-            true
-        }
-        None => false,
-    }
+    let value = field_value(kernel, live, came, what)?;
+    write_value(value, values, at);
+    Some(at + 1)
 }
 
 /// Writes the values of the fields of a piece over those from a place on, where this many interrupts came, with 0 for
-/// each dead local: whether no time is too far ahead.
+/// each dead local. Gives the place after them. `None` if a time is too far ahead.
 pub fn write_piece<B: Body<Ctx = MachineContext>>(
     kernel: &Kernel<B>,
     live: &LiveLocals,
@@ -285,22 +396,17 @@ pub fn write_piece<B: Body<Ctx = MachineContext>>(
     piece: Piece,
     values: &mut [u32],
     at: usize,
-) -> bool
+) -> Option<usize>
     requires { at + length (fields_of_piece piece) ≤ length values.old }
     ensures length { length values.new ≡ length values.old }
-    ensures values { result ≡ true → take (at + length (fields_of_piece piece)) values.new ≡ take at values.old
-        ++ map (number_of kernel.now.system
-        (zeroed kernel.now.system (live_tables live.now) kernel.now.world) came) (fields_of_piece piece) }
+    ensures end { IfSome result (λ end. end ≡ at + length (fields_of_piece piece)) }
+    ensures values { IfSome result (λ end. take end values.new ≡ take at values.old ++ map (number_of kernel.now.system
+        (zeroed kernel.now.system (live_tables live.now) kernel.now.world) came) (fields_of_piece piece)) }
 {
     match piece {
-        Piece::Block(t) => write_block(kernel.tables(), t, values, at),
-        Piece::Body(owner, room) => {
-            write_body(kernel, live, owner, room, values, at);
-            true
-        }
-        Piece::Processor(p) => {
-            write_processor(kernel.tables(), p, values, at);
-            true
+        Piece::Task(t, room) => write_task(kernel, live, t, room, values, at),
+        Piece::Processor(p, room) => {
+            Some(write_whole_processor(kernel, live, p, room, values, at))
         }
         Piece::Single(what) => write_field(kernel, live, came, what, values, at),
     }

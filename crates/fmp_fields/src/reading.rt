@@ -30,11 +30,10 @@ fn write_pieces<B: Body<Ctx = MachineContext>>(
 {
     let mut at: usize = 0;
     for next in 0..pieces.len() {
-        let piece = pieces[next];
-        if !write_piece(kernel, live, came, piece, values, at) {
-            return false;
+        match write_piece(kernel, live, came, pieces[next], values, at) {
+            Some(end) => at = end,
+            None => return false,
         }
-        at += piece.len();
     }
     true
 }

@@ -1,4 +1,4 @@
-use Rattle.std.proofs.Common.{◌≡◌, ◌+◌, ◌≤◌, ℕ, List, ◌++◌, Bor, Option, ap, length, map, sym, ◌∙◌, subst, take}
+use Rattle.std.proofs.Common.{◌≡◌, ◌+◌, ◌≤◌, ℕ, List, ◌++◌, Bor, Option, ap, length, map, sym, ◌∙◌, subst, take, arith}
 use Rattle.std.specs.Option.{option_copied}
 use Rattle.std.specs.List.{range_with_len}
 use Rattle.fmp_fields.specs.Pieces.{body_fields}
@@ -16,7 +16,7 @@ write_context-requires g c =
 
 pub write_zeros-requires : goal.write_zeros-requires
 write_zeros-requires g c =
-    subst (λ (n : ℕ). c.args.at + n ≤ length c.args.values.now) (sym c.len.ensures) c.requires
+    omega (arith, c.requires, c.field_count.ensures, body_length c.args.owner c.args.room)
 
 pub returns-in-Some-clause-values : goal.returns-in-Some-clause-values
 returns-in-Some-clause-values g c = λ came.
@@ -40,7 +40,8 @@ returns-in-None-clause-values g c = λ came.
     let fields = body_fields c.args.owner c.args.room in
     let found = ap (λ (x : Option (Bor MachineContext)). with_zeros row (option_copied x)) c.in-None.is in
     let told = nothing-told kernel.system world came c.args.owner c.args.room (sym found ∙ c.row_of-row.ensures) in
-    let size : c.len.result ≡ length fields = c.len.ensures in
+    let size : c.field_count.result ≡ length fields =
+    c.field_count.ensures ∙ sym (body_length c.args.owner c.args.room) in
     ap (λ (n : ℕ). take (at + n) new) (sym size)
     ∙ (c.write_zeros.ensures.values
     ∙ ap (λ (ns : List ℕ). take at c.args.values.now ++ ns)

@@ -1,9 +1,9 @@
-use Rattle.std.proofs.Common.{◌≡◌, ◌<◌, ◌+◌, ◌∙◌, ℕ, List, ap, length, map, refl, sym, take, arith}
+use Rattle.std.proofs.Common.{◌≡◌, ◌<◌, ◌∙◌, List, ap, length, map, refl, sym, take, arith}
 use Rattle.std.proofs.lemmas.List.{take_all}
 use Rattle.fmp_fields.specs.declared.piece.Piece.{Piece}
 use Rattle.fmp_fields.specs.FieldNumbers.{number_of}
 use Rattle.fmp_fields.specs.Pieces.{fields_of_pieces}
-use Rattle.fmp_fields.proofs.Pieces.{numbers-more, pieces-place, pieces-room}
+use Rattle.fmp_fields.proofs.Pieces.{numbers-more, pieces-place, pieces-room, some-told}
 use Rattle.fmp_live.specs.LiveLocals.{live_tables}
 use Rattle.fmp_live.specs.Zeroed.{zeroed}
 use Rattle.fmp_fields.proofs.reading.write_pieces.Goals as goal
@@ -27,12 +27,12 @@ loop-next-preserved g c =
     let lt : l.next < length pieces = omega arith in
     record {
       long = c.write_piece.ensures.length ∙ l.invariant.long;
-      place = pieces-place pieces l.next _ l.at c.len-at.result lt l.invariant.place c.len-at.ensures;
+      place =
+          some-told _ _ _ c.in-Some.is c.write_piece.ensures.end
+          ∙ pieces-place pieces l.next _ l.at _ lt l.invariant.place refl;
       told =
           numbers-more (number_of kernel.system world c.args.came) pieces l.next _ (take l.at l.values) _ lt
-          l.invariant.told
-          (ap (λ (n : ℕ). take (l.at + n) c.write_piece.new.values) c.len-at.ensures
-          ∙ c.write_piece.ensures.values c.if-not-write_piece.false);
+          l.invariant.told (some-told _ _ _ c.in-Some.is c.write_piece.ensures.values);
     }
 
 pub returns-clause-values : goal.returns-clause-values
