@@ -1,10 +1,14 @@
 -- What an import gives.
-use Rattle.std.specs.Prelude.{◌≡◌, ℕ, List, Result, Ok, Err}
+use Rattle.std.specs.Prelude.{◌≡◌, ℕ, List, Bool, Result, Ok, Err, bytes_eq, codes}
 use Rattle.fmp_base.specs.declared.systems.System.{System}
 use Rattle.fmp_cfgparse.specs.Configurations.{Describes}
 use Rattle.fmp_import.specs.declared.importing.Imported.{Imported}
 use Rattle.fmp_import.specs.declared.importing.ImportFault.{ImportFault}
-use Rattle.fmp_import.specs.Written.{ClassPlan, plan_text}
+use Rattle.fmp_import.specs.Written.{ClassPlan, plan_text, span_text}
+
+-- a text begins as an image does
+abbrev pub is_image : List ℕ → Bool
+is_image text = bytes_eq (span_text text (record { start = 0; end = 4 })) (codes "FMPI")
 
 -- the text is a configuration of this project
 abbrev pub IsConfiguration : List ℕ → Type 0

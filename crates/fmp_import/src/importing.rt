@@ -1,11 +1,12 @@
 //! From a configuration of C to one of this project.
-ghost use Rattle.std.specs.Prelude.{◌≡◌, map, IfOk, OnOk};
+ghost use Rattle.std.specs.Prelude.{◌≡◌, ◌≢◌, map, true, false, IfErr, IfOk, OnOk};
 ghost use Rattle.fmp_import.specs.Imports.{IsConfiguration, IsImported};
+ghost use Rattle.fmp_import.specs.Imports as spec;
 ghost use Rattle.fmp_import.specs.Written.{block_view, plan_text};
 
 use crate::constants::Constants;
 use crate::lexemes::{LexemeKind, lexemes};
-use crate::plan::Block;
+use crate::plan::{Block, TextSpan};
 use crate::text::bytes_of;
 use crate::walking::{ConfigurationWalk, included_name};
 use crate::writing::append_plan;
@@ -39,15 +40,33 @@ pub enum ImportFault {
     /// written.
     #[error("what would be written has a fault: {0}")]
     Refused(BuildFault),
+    /// The text is an image.
+    #[error("this is an image")]
+    Image,
     /// Memory ran out.
     #[error("memory")]
     Memory,
 }
 
 impl From<AllocError> for ImportFault {
+    ghost use Rattle.std.specs.Prelude.{◌≡◌};
+    ghost use Rattle.fmp_import.specs.declared.importing.ImportFault.TheVariants.{Memory};
+
+    ghost from_gives = { λ _ e. e ≡ Memory };
+
     fn from(_error: AllocError) -> Self {
         ImportFault::Memory
     }
+}
+
+/// The bytes with which an image begins.
+const MAGIC: TextSpan = TextSpan { start: 0, end: 4 };
+
+/// Whether a text is an image.
+fn is_image(text: &[u8]) -> bool
+    ensures { result ≡ spec.is_image text.now }
+{
+    bytes_of(text, MAGIC) == b"FMPI".as_slice()
 }
 
 /// The names of the files that a configuration includes, in quotes, in order.
@@ -89,7 +108,8 @@ fn planned(
 
 /// Tests that a text is a configuration of this project.
 fn is_read(alloc: Global, text: &[u8]) -> Result<(), ImportFault>
-    ensures { OnOk result (IsConfiguration text.now) }
+    ensures read { OnOk result (IsConfiguration text.now) }
+    ensures fault { IfErr result (λ fault. fault ≢ ImportFault.Image) }
 {
     match read_cfg(alloc, text) {
         Ok(_) => Ok(()),
@@ -127,15 +147,20 @@ fn drafted(
 ///
 /// What is written is a configuration of this project, with the names of the source. Static APIs that this project has
 /// not are left out, and so are objects with a value out of its range, a constant that is unknown, a class that is
-/// unknown, or a name that is used before.
+/// unknown, or a name that is used before. An image is not read.
 pub fn import(
     alloc: Global,
     text: &[u8],
     headers: &[Header],
     constants: Constants,
 ) -> Result<Imported, ImportFault>
-    ensures { IsImported text.now result }
+    ensures imported { IsImported text.now result }
+    ensures text { IfOk result (λ _. spec.is_image text.now ≡ false) }
+    ensures image { IfErr result (λ fault. fault ≡ ImportFault.Image → spec.is_image text.now ≡ true) }
 {
+    if is_image(text) {
+        return Err(ImportFault::Image);
+    }
     let Draft { blocks, notes } = drafted(alloc, text, headers, constants)?;
     let processors = usize::from(processors_of(&blocks));
     let configuration = planned(alloc, text, processors, &blocks)?;

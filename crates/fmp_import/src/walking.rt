@@ -77,7 +77,7 @@ fn why_left_out(word: &[u8]) -> &'static str {
         b"ATT_ISR" | b"CRE_ISR" => "an interrupt has one handler, which `DEF_INH` defines",
         b"ATT_INI" | b"ATT_TER" => "nothing but handlers and tasks runs",
         b"DEF_ICS" => "handlers need no stack of their own",
-        b"NUM_PRC" => "configurations of this project are not imported",
+        b"NUM_PRC" => "the classes say how many processors there are",
         _ => "it is no static API of this project",
     }
 }

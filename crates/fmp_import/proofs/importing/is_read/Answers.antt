@@ -4,7 +4,7 @@ use Rattle.fmp_import.proofs.importing.is_read.Goals.{in-Ok, in-Err-Memory, in-E
 pub returns : goal.returns
 returns c =
     elim c.match-read_cfg.branch [
-      | in-Ok w ↦ rw w.result-is (w.in-Ok.field-0, w.in-Ok.ensures.read)
-      | in-Err-Memory w ↦ rw w.result-is tt
-      | in-Err w ↦ rw w.result-is tt
+      | in-Ok w ↦ rw w.result-is (record { read = (w.in-Ok.field-0, w.in-Ok.ensures.read); fault = tt })
+      | in-Err-Memory w ↦ rw w.result-is (record { read = tt; fault = λ e. absurd (cc) })
+      | in-Err w ↦ rw w.result-is (record { read = tt; fault = λ e. absurd (cc) })
     ]
