@@ -39,7 +39,7 @@ Status, and the line on standard error with it:
            which print it on standard output, a fault of the texts or steps, and not for warnings;
            with 'step', a line that failed, unless standard input is a terminal
   2        a mistake in the command line; a word that is no code; OUT is a file that is read, or steps
-           or a file of DIR are; a picture that begins behind the last event, or has more than 40,000,000 bytes
+           or a file of DIR are; a picture that begins after the last event, or has more than 40,000,000 bytes
   3        'file: NAME', a file could not be read or written ('-' is standard output, 'stdin' standard input);
            'memory'
   4        with 'diff', the runs differ; with 'expect', the run fails an expectation, with 'test' a random run;

@@ -253,7 +253,7 @@ fn run_timeline<O: Outside>(
 fn say_cut<O: Outside>(outside: &mut O, cut: Option<PictureCut>) {
     if let Some(cut) = cut {
         outside.say(format_args!(
-            "events {} to {} of {} to {} are drawn; --from {} draws those behind them\n",
+            "events {} to {} of {} to {} are drawn; --from {} draws those after them\n",
             cut.first,
             cut.last,
             cut.first,
