@@ -3,3 +3,4 @@ pub mod DecodedBodies
 pub mod Placed
 pub mod PreparedCalls
 pub mod Stops
+mod Zeros
