@@ -29,3 +29,4 @@ pub mod ToldLaws
 pub mod ValueLaws
 pub mod WorldLaws
 pub mod WorldRooms
+mod Zeros

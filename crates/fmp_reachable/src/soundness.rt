@@ -62,14 +62,19 @@ fn is_clear_from(locals: &[i32; 64], first: u8) -> bool
     ensures long { length locals.now ≡ 64 }
     ensures clear { result ≡ true → (k : ℕ) → first ≤ k → k < 64 → get_or locals.now k (pos 0) ≡ pos 0 }
 {
-    // Counted, and not left at the first one: so several are looked at at once.
-    let mut others: u32 = 0;
-    for k in usize::from(first)..64 {
-        if locals[k] != 0 {
-            others += 1;
+    // Counted in a loop of known length, and not left at the first one: so several are looked at at once.
+    let mut zeros: u32 = 0;
+    for k in 0..64 {
+        if locals[k] == 0 {
+            zeros += 1;
         }
     }
-    others == 0
+    for k in 0..usize::from(first).min(64) {
+        if locals[k] != 0 {
+            zeros += 1;
+        }
+    }
+    zeros == 64
 }
 
 /// Whether this is a context with 0 in its locals after those of a body.
