@@ -7,6 +7,7 @@ ghost use Rattle.fmp_explore.specs.Slices.{AreEntered, HasEntered, IsAmong};
 use crate::searches::Search;
 use crate::searching::SearchWatcher;
 use crate::slices::Slice;
+use crate::targets::EnteredStates;
 use fmp_visited::StateLink;
 use fmp_witness::SearchSubject;
 use std::alloc::{AllocError, Global};
@@ -117,8 +118,8 @@ impl Search {
         Ok((next, told))
     }
 
-    /// Adds what a slice noted, whose states stand at these places here. All of them are kept, or not.
-    fn join(&mut self, alloc: Global, theirs: &Search, places: &[u32], all: bool)
+    /// Adds what a slice noted, whose states were entered so. All of them are kept, or not.
+    fn join(&mut self, alloc: Global, theirs: &Search, states: EnteredStates<'_>, all: bool)
         ensures stays { Stays self.old self.new }
         ensures sure { self.new.sure ≡ true → theirs.now.sure ≡ true }
         ensures all { self.new.sure ≡ true → all ≡ true }
@@ -126,7 +127,7 @@ impl Search {
         self.sure &= theirs.sure;
         self.sure &= all;
         self.notes.join(&theirs.notes);
-        self.edges.join(alloc, &theirs.edges, places);
+        self.edges.join(alloc, &theirs.edges, states);
     }
 
     /// Enters what a slice found, and tells how far the search has come. Gives how many states there were when it was
@@ -140,10 +141,16 @@ impl Search {
     ) -> Result<usize, AllocError>
         ensures { OnOk result (HasEntered slice.now.search self.old self.new) }
     {
+        let kept = self.seen.len();
         let mut places = Vec::new(alloc);
         let (next, told) = self.enter_rows(alloc, slice, watcher, told, &mut places)?;
         let all = has_all(&slice.search, next);
-        self.join(alloc, &slice.search, &places, all);
+        let states = EnteredStates {
+            seen: &slice.search.seen,
+            places: &places,
+            kept,
+        };
+        self.join(alloc, &slice.search, states, all);
         Ok(told)
     }
 }

@@ -2,6 +2,7 @@
 //! list of events that shows each finding.
 #![tactic(auto)]
 
+mod actors;
 mod beginning;
 mod crew;
 mod edges;
@@ -15,10 +16,12 @@ mod rows;
 mod searches;
 mod searching;
 mod slices;
+mod spreading;
 mod standing;
 mod standings;
 mod stretching;
 mod stuck;
+mod targets;
 mod trying;
 mod values;
 

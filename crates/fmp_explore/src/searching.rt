@@ -288,7 +288,7 @@ impl Search {
             interrupted: false,
         };
         task_sites(from, subject.image.system(), &mut self.notes.sites)?;
-        self.edges.begin_state(alloc);
+        self.edges.begin_state(alloc, self.seen.len());
         let end = self.tries.len();
         let mut next = 0;
         for _try in 0..end {

@@ -11,7 +11,6 @@ ghost use Rattle.fmp_explore.specs.Searching.{IsBegun};
 ghost use Rattle.fmp_witness.specs.Asked.{asked_of};
 
 use crate::crew::Alone;
-use crate::edges::{Predecessors, goes_on_from};
 use crate::exploring::{run_search, start_search};
 use crate::searches::Search;
 use crate::searching::{Ending, SearchWatcher};
@@ -81,24 +80,22 @@ fn body_at(sys: &System, t: u8) -> u8 {
     }
 }
 
-/// The first state in which a task is started that cannot go on from there, as these marks tell. `AllocError` if memory
-/// runs out.
+/// The first state in which a task is started that cannot go on from there, if no end can be reached. `AllocError` if
+/// memory runs out.
 fn suspect_of(
     alloc: Global,
     survey: &Search,
     sys: &System,
-    marked: &[bool],
     t: u8,
 ) -> Result<Option<Suspect>, AllocError> {
     let fields = survey.rows.fields.list();
     let phase = place_of(fields, What::Phase(t));
     let pc = place_of(fields, What::Pc(t));
     let mut values = Vec::new(alloc);
-    for (state, goes_on) in marked.iter().enumerate() {
-        if *goes_on {
+    for state in 0..survey.edges.len() {
+        if survey.edges.ends_from(state) || survey.edges.acts_from(state, t) {
             continue;
         }
-        let state = (state % 4_294_967_295) as u32;
         unpack(survey.seen.row(state), &survey.rows.first, &mut values)?;
         if value_at(&values, phase) != 0 {
             let pc = (value_at(&values, pc).saturating_sub(1) % 65_536) as u16;
@@ -137,17 +134,14 @@ fn suspects_of(
     survey: &Search,
     sys: &System,
     question: &Question,
-    sources: &Predecessors,
 ) -> Result<Vec<Suspect>, AllocError> {
     let mut suspects = Vec::new(alloc);
-    let edges = &survey.edges;
     for t in 0..sys.tasks.len() {
         let t = low_byte(t);
         if may_rest(question, t) {
             continue;
         }
-        let marked = goes_on_from(alloc, edges, sources, t, edges.ends())?;
-        if let Some(suspect) = suspect_of(alloc, survey, sys, &marked, t)? {
+        if let Some(suspect) = suspect_of(alloc, survey, sys, t)? {
             suspects.push(suspect)?;
         }
     }
@@ -161,10 +155,9 @@ fn stuck_in(
     survey: &Search,
     sys: &System,
     question: &Question,
-    sources: &Predecessors,
 ) -> Result<Vec<Finding>, AllocError> {
     let mut findings = Vec::new(alloc);
-    for suspect in suspects_of(alloc, survey, sys, question, sources)? {
+    for suspect in suspects_of(alloc, survey, sys, question)? {
         if question.all || findings.is_empty() {
             findings.push(Finding {
                 steps: survey.steps_to(alloc, question, suspect.state)?,
@@ -176,13 +169,13 @@ fn stuck_in(
     Ok(findings)
 }
 
-/// Whether a task is started in a state that can go on only by an interrupt, and can go on from there, as these marks
-/// tell. `AllocError` if memory runs out.
-fn is_helped(alloc: Global, survey: &Search, marked: &[bool], t: u8) -> Result<bool, AllocError> {
+/// Whether a task is started in a state that can go on only by an interrupt, and can go on from there. `AllocError` if
+/// memory runs out.
+fn is_helped(alloc: Global, survey: &Search, t: u8) -> Result<bool, AllocError> {
     let phase = place_of(survey.rows.fields.list(), What::Phase(t));
     let mut values = Vec::new(alloc);
     for state in survey.edges.waiting() {
-        if let Some(true) = marked.get(*state as usize) {
+        if survey.edges.acts_from(*state, t) {
             unpack(survey.seen.row(*state), &survey.rows.first, &mut values)?;
             if value_at(&values, phase) != 0 {
                 return Ok(true);
@@ -199,19 +192,13 @@ fn waits_for_interrupt(
     survey: &Search,
     sys: &System,
     question: &Question,
-    sources: &Predecessors,
 ) -> Result<bool, AllocError> {
-    let edges = &survey.edges;
-    if edges.waiting().is_empty() {
-        return Ok(false);
-    }
     for t in 0..sys.tasks.len() {
         let t = low_byte(t);
         if may_rest(question, t) {
             continue;
         }
-        let marked = goes_on_from(alloc, edges, sources, t, &[])?;
-        if is_helped(alloc, survey, &marked, t)? {
+        if is_helped(alloc, survey, t)? {
             return Ok(true);
         }
     }
@@ -221,14 +208,14 @@ fn waits_for_interrupt(
 /// What seems to be so after a search in which every state was examined. `AllocError` if there was no memory to look.
 pub fn suspected(
     alloc: Global,
-    survey: &Search,
+    survey: &mut Search,
     sys: &System,
     question: &Question,
 ) -> Result<Suspicions, AllocError> {
-    let sources = Predecessors::new(alloc, survey.edges.all()?)?;
+    survey.edges.spread(alloc, &survey.seen)?;
     Ok(Suspicions {
-        findings: stuck_in(alloc, survey, sys, question, &sources)?,
-        waits: waits_for_interrupt(alloc, survey, sys, question, &sources)?,
+        findings: stuck_in(alloc, survey, sys, question)?,
+        waits: waits_for_interrupt(alloc, survey, sys, question)?,
     })
 }
 
