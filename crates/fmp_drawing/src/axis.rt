@@ -1,6 +1,6 @@
 //! The axis of a panel: clock and events.
 use crate::scene::Scene;
-use crate::shapes::{put_box, put_text};
+use crate::shapes::{Rect, put_plain_box, put_text};
 use crate::times::axis_area;
 use crate::titles::put_area;
 use fmp_timeline::CanvasPiece::{At, Label, Number, Numbered, Raw};
@@ -21,8 +21,8 @@ fn step_of(column: u32) -> u32 {
 
 /// The words at the left of the axis.
 fn put_words(scene: &Scene<'_>, span: &PanelSpan, top: Tenths, out: &mut Canvas) {
-    let x = At(scene.page.left() - px(8));
-    let (upper, lower) = (At(top + px(10)), At(top + px(26)));
+    let x = At(scene.page.left() - Tenths(80));
+    let (upper, lower) = (At(top + Tenths(100)), At(top + Tenths(260)));
     out.put(
         "<text class=\"m e\" x=\"{}\" y=\"{}\">clock</text>",
         &[x, upper],
@@ -40,14 +40,14 @@ fn put_words(scene: &Scene<'_>, span: &PanelSpan, top: Tenths, out: &mut Canvas)
     if scene.page.panels > 1 {
         out.put(
             "<text class=\"pn\" x=\"12\" y=\"{}\">Events {}–{}</text>\n",
-            &[At(top + px(11)), Number(span.first), Number(span.last)],
+            &[At(top + Tenths(110)), Number(span.first), Number(span.last)],
         );
     }
 }
 
 /// A line of a path through all lanes.
 fn put_upright(x: Tenths, (top, bottom): (Tenths, Tenths), out: &mut Canvas) {
-    out.put("M{} {}V{}", &[At(x), At(top + px(30)), At(bottom)]);
+    out.put("M{} {}V{}", &[At(x), At(top + Tenths(300)), At(bottom)]);
 }
 
 /// Whether an event has a grid line.
@@ -59,7 +59,7 @@ fn is_on_grid(span: &PanelSpan, event: u32) -> bool {
 fn put_grid(span: &PanelSpan, (top, bottom): (Tenths, Tenths), out: &mut Canvas) {
     for event in span.first..=span.last {
         if is_on_grid(span, event) {
-            let place = (span.x(event), top + px(26));
+            let place = (span.x(event), top + Tenths(260));
             put_text(Raw("c m"), place, Number(event), out);
         }
     }
@@ -114,16 +114,20 @@ fn badge_of(note: &Note) -> Option<(&'static str, u32)> {
 
 /// A badge over an event.
 fn put_badge(x: Tenths, top: Tenths, text: &Canvas, ticks: bool, out: &mut Canvas) {
-    let wide = text.width(SMALL) + px(7);
+    let wide = text.width(SMALL) + Tenths(70);
     let (frame, words) = if ticks {
         ("tkb", "tkt c")
     } else {
         ("ikb", "ikt c")
     };
-    let corner = (x - wide.half(), top + px(2));
-    put_box(Raw(frame), corner, (wide, px(12)), out);
-    out.raw("/>");
-    put_text(Raw(words), (x, top + px(11)), Label(text), out);
+    let badge = Rect {
+        x: x - wide.half(),
+        y: top + Tenths(20),
+        wide,
+        high: Tenths(120),
+    };
+    put_plain_box(Raw(frame), badge, out);
+    put_text(Raw(words), (x, top + Tenths(110)), Label(text), out);
 }
 
 /// What the axis shows of the event before this one, if there is one.
@@ -134,19 +138,18 @@ fn note_before<'a>(run: &'a Run, event: u32) -> Option<&'a Note> {
 /// The clock that a later panel begins with, in the lead: where it ends.
 fn put_first_clock(scene: &Scene<'_>, span: &PanelSpan, top: Tenths, out: &mut Canvas) -> Tenths {
     let Some(note) = note_before(scene.run, span.first) else {
-        return px(0);
+        return Tenths(0);
     };
-    let x = scene.page.left() + px(6);
-    put_text(Raw("m c"), (x, top + px(11)), Number(note.clock), out);
-    x + number_width(note.clock, SMALL).half() + px(2)
+    let x = scene.page.left() + Tenths(60);
+    put_text(Raw("m c"), (x, top + Tenths(110)), Number(note.clock), out);
+    x + number_width(note.clock, SMALL).half() + Tenths(20)
 }
 
 /// The badge of an event, if it has one that begins after this place: where it ends.
 fn put_badge_after(
     scene: &Scene<'_>,
     note: &Note,
-    x: Tenths,
-    top: Tenths,
+    (x, top): (Tenths, Tenths),
     end: Tenths,
     out: &mut Canvas,
 ) -> Tenths {
@@ -155,12 +158,12 @@ fn put_badge_after(
     };
     let mut text = Canvas::new(scene.alloc);
     text.numbered(words, number, "");
-    let half = (text.width(SMALL) + px(7)).half();
+    let half = (text.width(SMALL) + Tenths(70)).half();
     if !end.is_below(x - half) {
         return end;
     }
     put_badge(x, top, &text, note.ticks, out);
-    x + half + px(1)
+    x + half + Tenths(10)
 }
 
 /// The clock at each tick and the number of each interrupt, but those that would touch the one before.
@@ -168,7 +171,7 @@ fn put_badges(scene: &Scene<'_>, span: &PanelSpan, top: Tenths, out: &mut Canvas
     let mut end = put_first_clock(scene, span, top, out);
     for event in span.first..=span.last {
         if let Some(note) = scene.run.notes.get(event as usize) {
-            end = put_badge_after(scene, note, span.x(event), top, end, out);
+            end = put_badge_after(scene, note, (span.x(event), top), end, out);
         }
     }
 }
@@ -178,8 +181,13 @@ fn put_areas(scene: &Scene<'_>, span: &PanelSpan, top: Tenths, out: &mut Canvas)
     let wide = px(span.page.column);
     let (top, high) = axis_area(scene, top);
     for event in span.first..=span.last {
-        let corner = (span.x(event) - wide.half(), top);
-        put_area(scene, corner, (wide, high), event, out);
+        let area = Rect {
+            x: span.x(event) - wide.half(),
+            y: top,
+            wide,
+            high,
+        };
+        put_area(scene, area, event, out);
     }
 }
 
@@ -187,8 +195,7 @@ fn put_areas(scene: &Scene<'_>, span: &PanelSpan, top: Tenths, out: &mut Canvas)
 pub fn put_axis(
     scene: &Scene<'_>,
     span: &PanelSpan,
-    top: Tenths,
-    bottom: Tenths,
+    (top, bottom): (Tenths, Tenths),
     out: &mut Canvas,
 ) {
     put_words(scene, span, top, out);

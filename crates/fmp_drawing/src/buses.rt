@@ -1,13 +1,12 @@
 //! Lanes of objects.
+use crate::rows::{GutterName, NAME, Row, put_name, put_side};
 use crate::scene::Scene;
 use crate::shapes::put_text;
 use crate::strips::Strip;
-use crate::tasks::{NAME, put_name, put_side};
 use crate::titles::put_title;
 use fmp_timeline::CanvasPiece::{At, Label, Raw, Text};
 use fmp_timeline::{
-    ArgumentTopic, Canvas, ObjectHistory, ObjectShown, PanelSpan, Stay, Tenths, bytes_of, px,
-    task_bytes, width,
+    ArgumentTopic, Canvas, ObjectHistory, ObjectShown, Stay, Tenths, bytes_of, task_bytes, width,
 };
 
 /// The size of values.
@@ -29,7 +28,7 @@ fn kind_of(topic: ArgumentTopic) -> &'static str {
 
 /// The head of the group of objects.
 pub fn put_objects_head(strip: &Strip, out: &mut Canvas) {
-    put_text(Raw("pn"), (px(12), strip.y(120)), Raw("Objects"), out);
+    put_text(Raw("pn"), (Tenths(120), strip.y(120)), Raw("Objects"), out);
 }
 
 /// Appends a value: of an eventflag's pattern above 9 in hexadecimal digits.
@@ -71,27 +70,26 @@ fn put_value_title(
 fn put_value_text(strip: &Strip, left: Tenths, text: &Canvas, out: &mut Canvas) {
     out.put(
         "<text class=\"wt q\" x=\"{}\" y=\"{}\" xml:space=\"preserve\">{}</text>\n",
-        &[At(left + px(5)), At(strip.middle(22)), Label(text)],
+        &[At(left + Tenths(50)), At(strip.middle(22)), Label(text)],
     );
 }
 
-/// The value followed by the waiting tasks, or the value alone, if it fits.
+/// The value followed by the waiting tasks, or the value alone, between two places, if it fits.
 fn put_value(
-    scene: &Scene<'_>,
-    strip: &Strip,
+    row: Row<'_>,
     (left, right): (Tenths, Tenths),
     topic: ArgumentTopic,
     shown: &ObjectShown,
     out: &mut Canvas,
 ) {
-    let mut text = Canvas::new(scene.alloc);
+    let mut text = Canvas::new(row.scene.alloc);
     append_shown(topic, shown.value, &mut text);
     let alone = text.len();
-    append_waiting(scene, shown, "  ", &mut text);
+    append_waiting(row.scene, shown, "  ", &mut text);
     for count in [text.len(), alone] {
         text.shorten(count);
-        if (text.width(SMALL) + px(6)).is_below(right - left) {
-            return put_value_text(strip, left, &text, out);
+        if (text.width(SMALL) + Tenths(60)).is_below(right - left) {
+            return put_value_text(row.strip, left, &text, out);
         }
     }
 }
@@ -122,45 +120,42 @@ fn put_queue_bar(strip: &Strip, (left, right): (Tenths, Tenths), out: &mut Canva
 }
 
 /// A value as long as it lasts, with a bar at its foot while tasks wait.
-fn put_stay(
-    scene: &Scene<'_>,
-    span: &PanelSpan,
-    strip: &Strip,
-    topic: ArgumentTopic,
-    stay: &Stay<ObjectShown>,
-    out: &mut Canvas,
-) {
-    let (left, right) = (span.box_left(stay), span.box_right(stay));
+fn put_stay(row: Row<'_>, topic: ArgumentTopic, stay: &Stay<ObjectShown>, out: &mut Canvas) {
+    let (left, right) = (row.span.box_left(stay), row.span.box_right(stay));
     let slant = (right - left).half().or_less(Tenths(25));
-    put_hexagon(strip, (left, right), slant, out);
-    put_value_title(scene, topic, stay, out);
+    put_hexagon(row.strip, (left, right), slant, out);
+    put_value_title(row.scene, topic, stay, out);
     if stay.state.start < stay.state.end {
-        put_queue_bar(strip, (left + slant, right - slant), out);
+        put_queue_bar(row.strip, (left + slant, right - slant), out);
     }
-    let begin = left.or_more(span.page.start() - px(3));
-    put_value(scene, strip, (begin, right), topic, &stay.state, out);
+    let begin = left.or_more(row.span.page.start() - Tenths(30));
+    put_value(row, (begin, right), topic, &stay.state, out);
 }
 
-/// The lane of an object.
-pub fn put_object(
-    scene: &Scene<'_>,
-    span: &PanelSpan,
-    strip: &Strip,
-    object: &ObjectHistory,
-    out: &mut Canvas,
-) {
-    let kind = kind_of(object.topic);
-    let name = bytes_of(scene.sys, object.topic);
+/// The name and the kind of an object at the left of its lane.
+fn put_gutter(row: Row<'_>, topic: ArgumentTopic, out: &mut Canvas) {
+    let kind = kind_of(topic);
+    let name = bytes_of(row.scene.sys, topic);
     out.put(
         "<g role=\"group\" aria-label=\"{} {}\">",
         &[Raw(kind), Text(name)],
     );
-    let room = scene.page.left() - px(44) - width(kind.as_bytes(), SMALL);
-    put_name(strip, Text(name), width(name, NAME), room, false, out);
-    put_side(scene, strip, Raw(kind), out);
-    for place in object.track.places(span.first, span.last) {
+    let gutter = GutterName {
+        text: Text(name),
+        wide: width(name, NAME),
+        room: row.scene.page.left() - Tenths(440) - width(kind.as_bytes(), SMALL),
+        faint: false,
+    };
+    put_name(row.strip, gutter, out);
+    put_side(row.scene, row.strip, Raw(kind), out);
+}
+
+/// The lane of an object.
+pub fn put_object(row: Row<'_>, object: &ObjectHistory, out: &mut Canvas) {
+    put_gutter(row, object.topic, out);
+    for place in object.track.places(row.span.first, row.span.last) {
         if let Some(stay) = object.track.stay(place) {
-            put_stay(scene, span, strip, object.topic, &stay, out);
+            put_stay(row, object.topic, &stay, out);
         }
     }
     out.raw("</g>\n");

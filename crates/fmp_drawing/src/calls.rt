@@ -1,7 +1,8 @@
 //! The names of service calls, each at the end of the stretch that made it.
+use crate::rows::Row;
 use crate::scene::{Scene, TakenPixels, fit_right};
-use crate::shapes::{put_label_in, put_plate};
-use crate::strips::{Lane, Strip};
+use crate::shapes::{Rect, put_label_in, put_plate};
+use crate::strips::Lane;
 use crate::titles::put_area;
 use fmp_timeline::CanvasPiece::{At, Label, Raw};
 use fmp_timeline::{CallMade, Canvas, PanelSpan, Tenths, append_call, append_value, px};
@@ -27,23 +28,22 @@ fn stretch_start(scene: &Scene<'_>, lane: Lane, event: u32) -> Option<u32> {
     }
 }
 
-/// Where the longest form of a call that fits between two places ends, with its text.
+/// Where the longest form of a call that fits between two places of a lane ends, with its text.
 fn fit_call(
-    scene: &Scene<'_>,
-    span: &PanelSpan,
+    row: Row<'_>,
     taken: &[TakenPixels],
     ends: (Tenths, Tenths),
     made: &CallMade,
     text: &mut Canvas,
 ) -> Option<Tenths> {
     text.shorten(0);
-    append_call(scene.sys, made.call, text);
+    append_call(row.scene.sys, made.call, text);
     let middle = text.len();
     append_value(made.reply, text);
     let short = made.call.service().name().len();
     for count in [text.len(), middle, short] {
         text.shorten(count);
-        let x = fit_right(span, taken, ends, text.width(CALL));
+        let x = fit_right(row.span, taken, ends, text.width(CALL));
         if x.is_some() {
             return x;
         }
@@ -52,18 +52,23 @@ fn fit_call(
 }
 
 /// The text of a call: in a task's box in its colour, in a handler's on a plate.
-fn put_call_text(scene: &Scene<'_>, strip: &Strip, x: Tenths, text: &Canvas, out: &mut Canvas) {
+fn put_call_text(row: Row<'_>, x: Tenths, text: &Canvas, out: &mut Canvas) {
+    let strip = row.strip;
     if let Lane::Task(task, _) = strip.lane {
         let place = (x, strip.y(140));
-        return put_label_in(scene, task, "e s8", place, Label(text), out);
+        return put_label_in(row.scene.look(task), "e s8", place, Label(text), out);
     }
-    let wide = text.width(CALL) + px(2);
-    let corner = (x - wide + px(1), strip.middle(-45));
-    let place = (x, strip.middle(30));
+    let wide = text.width(CALL) + Tenths(20);
+    let plate = Rect {
+        x: x - wide + Tenths(10),
+        y: strip.middle(-45),
+        wide,
+        high: Tenths(90),
+    };
     put_plate(
-        (corner, (wide, px(9))),
+        plate,
         Raw("e s8 q"),
-        place,
+        (x, strip.middle(30)),
         Label(text),
         out,
     );
@@ -80,18 +85,16 @@ struct CallPlace {
 
 /// The name of a call where it fits: in its own room, or from there on to the left, if it is named first.
 fn put_name(
-    scene: &Scene<'_>,
-    span: &PanelSpan,
-    strip: &Strip,
-    taken: &mut Vec<TakenPixels>,
+    row: Row<'_>,
     place: &CallPlace,
+    taken: &mut Vec<TakenPixels>,
     out: &mut Canvas,
 ) -> Result<(), AllocError> {
-    let mut text = Canvas::new(scene.alloc);
-    let end = span.x(place.made.event);
+    let mut text = Canvas::new(row.scene.alloc);
+    let end = row.span.x(place.made.event);
     for left in [place.own, place.least] {
-        if let Some(x) = fit_call(scene, span, taken, (left, end), &place.made, &mut text) {
-            put_call_text(scene, strip, x, &text, out);
+        if let Some(x) = fit_call(row, taken, (left, end), &place.made, &mut text) {
+            put_call_text(row, x, &text, out);
             let from = x - text.width(CALL);
             taken.push(TakenPixels { from, to: x })?;
             break;
@@ -102,16 +105,15 @@ fn put_name(
 
 /// The names of the calls that are named first, or of the others.
 fn put_names(
-    scene: &Scene<'_>,
-    span: &PanelSpan,
-    strip: &Strip,
-    (places, first): (&[CallPlace], bool),
+    row: Row<'_>,
+    places: &[CallPlace],
+    first: bool,
     taken: &mut Vec<TakenPixels>,
     out: &mut Canvas,
 ) -> Result<(), AllocError> {
     for place in places {
         if place.made.is_named_first() == first {
-            put_name(scene, span, strip, taken, place, out)?;
+            put_name(row, place, taken, out)?;
         }
     }
     Ok(())
@@ -127,16 +129,12 @@ fn stretch_left(span: &PanelSpan, start: u32) -> Tenths {
 }
 
 /// The calls of a lane in a panel, each with its place.
-fn places_of(
-    scene: &Scene<'_>,
-    span: &PanelSpan,
-    lane: Lane,
-) -> Result<Vec<CallPlace>, AllocError> {
-    let mut places = Vec::new(scene.alloc);
-    let mut previous = px(0);
-    for made in calls_of(scene, span, lane) {
-        if let Some(start) = stretch_start(scene, lane, made.event) {
-            let left = stretch_left(span, start);
+fn places_of(row: Row<'_>) -> Result<Vec<CallPlace>, AllocError> {
+    let mut places = Vec::new(row.scene.alloc);
+    let mut previous = Tenths(0);
+    for made in calls_of(row) {
+        if let Some(start) = stretch_start(row.scene, row.strip.lane, made.event) {
+            let left = stretch_left(row.span, start);
             let own = previous.or_more(left);
             let least = if made.is_named_first() { left } else { own };
             places.push(CallPlace {
@@ -144,30 +142,30 @@ fn places_of(
                 own,
                 least,
             })?;
-            previous = span.x(made.event);
+            previous = row.span.x(made.event);
         }
     }
     Ok(places)
 }
 
 /// What is pointed at for each of these calls.
-fn put_areas(
-    scene: &Scene<'_>,
-    span: &PanelSpan,
-    strip: &Strip,
-    places: &[CallPlace],
-    out: &mut Canvas,
-) {
+fn put_areas(row: Row<'_>, places: &[CallPlace], out: &mut Canvas) {
     for place in places {
         let event = place.made.event;
-        let size = (span.x(event) - place.own, px(strip.height) - px(4));
-        put_area(scene, (place.own, strip.y(20)), size, event, out);
+        let area = Rect {
+            x: place.own,
+            y: row.strip.y(20),
+            wide: row.span.x(event) - place.own,
+            high: px(row.strip.height) - Tenths(40),
+        };
+        put_area(row.scene, area, event, out);
     }
 }
 
 /// The calls of a lane in a panel.
-fn calls_of<'a>(scene: &Scene<'a>, span: &PanelSpan, lane: Lane) -> &'a [CallMade] {
-    let Some(deeds) = scene.deeds_in(lane) else {
+fn calls_of<'a>(row: Row<'a>) -> &'a [CallMade] {
+    let span = row.span;
+    let Some(deeds) = row.scene.deeds_in(row.strip.lane) else {
         return &[];
     };
     let from = deeds.calls.partition_point(|made| made.event < span.first);
@@ -175,23 +173,17 @@ fn calls_of<'a>(scene: &Scene<'a>, span: &PanelSpan, lane: Lane) -> &'a [CallMad
     deeds.calls.get(from..to).unwrap_or(&[])
 }
 
-/// A notch at the foot of a task's box for each of these calls.
-fn put_notches(
-    scene: &Scene<'_>,
-    span: &PanelSpan,
-    strip: &Strip,
-    calls: &[CallMade],
-    out: &mut Canvas,
-) {
-    let foot = strip.y(-70) + px(strip.height);
+/// A notch at the foot of a task's box for each of its calls.
+fn put_notches(row: Row<'_>, out: &mut Canvas) {
+    let foot = row.strip.y(-70) + px(row.strip.height);
     let mut open = false;
-    for made in calls {
-        if stretch_start(scene, strip.lane, made.event).is_some() {
+    for made in calls_of(row) {
+        if stretch_start(row.scene, row.strip.lane, made.event).is_some() {
             if !open {
                 out.raw("<path class=\"cut q\" d=\"");
                 open = true;
             }
-            let x = span.x(made.event) - Tenths(5);
+            let x = row.span.x(made.event) - Tenths(5);
             out.put("M{} {}v4", &[At(x), At(foot)]);
         }
     }
@@ -204,21 +196,19 @@ fn put_notches(
 /// Those that wait, are refused or end a wait are named first, and the others where there is room left. `AllocError` if
 /// memory runs out.
 pub fn put_calls(
-    scene: &Scene<'_>,
-    span: &PanelSpan,
-    strip: &Strip,
+    row: Row<'_>,
     mut taken: Vec<TakenPixels>,
     out: &mut Canvas,
 ) -> Result<(), AllocError> {
-    if span.is_narrow() {
+    if row.span.is_narrow() {
         return Ok(());
     }
-    let places = places_of(scene, span, strip.lane)?;
-    put_areas(scene, span, strip, &places, out);
-    put_names(scene, span, strip, (&places, true), &mut taken, out)?;
-    put_names(scene, span, strip, (&places, false), &mut taken, out)?;
-    if matches!(strip.lane, Lane::Task(..)) {
-        put_notches(scene, span, strip, calls_of(scene, span, strip.lane), out);
+    let places = places_of(row)?;
+    put_areas(row, &places, out);
+    put_names(row, &places, true, &mut taken, out)?;
+    put_names(row, &places, false, &mut taken, out)?;
+    if matches!(row.strip.lane, Lane::Task(..)) {
+        put_notches(row, out);
     }
     Ok(())
 }

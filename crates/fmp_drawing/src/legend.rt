@@ -151,14 +151,14 @@ struct LegendPen {
 impl LegendPen {
     /// The beginning of a line of items with this head.
     fn new(head: &str, y: u32, out: &mut Canvas) -> LegendPen {
-        let place = (px(12), px(y.saturating_add(3)));
+        let place = (Tenths(120), px(y.saturating_add(3)));
         put_text(Raw("m k"), place, Raw(head), out);
         LegendPen { x: px(ITEMS), y }
     }
 
     /// Begins a new line where this one has no room for something so wide.
     fn make_room(&mut self, scene: &Scene<'_>, wide: Tenths) {
-        if (px(scene.page.wide) - px(20)).is_below(self.x + wide) {
+        if (px(scene.page.wide) - Tenths(200)).is_below(self.x + wide) {
             self.x = px(ITEMS);
             self.y = self.below();
         }
@@ -169,7 +169,7 @@ impl LegendPen {
         let wide = px(item.2) + width(item.1.as_bytes(), Tenths(90));
         self.make_room(scene, wide);
         put_item(item, self.x, self.y, out);
-        self.x = self.x + wide + px(20);
+        self.x = self.x + wide + Tenths(200);
     }
 
     /// These items.
@@ -182,13 +182,13 @@ impl LegendPen {
     /// A task: its number in its colour, and its name.
     fn put_task(&mut self, scene: &Scene<'_>, task: u8, out: &mut Canvas) {
         let name = task_bytes(scene.sys, task);
-        let wide = width(name, Tenths(90)) + px(23);
+        let wide = width(name, Tenths(90)) + Tenths(230);
         self.make_room(scene, wide);
         let corner = (self.x, px(self.y) - Tenths(55));
         put_number(scene, corner, task, out);
-        let place = (self.x + px(23), px(self.y.saturating_add(3)));
+        let place = (self.x + Tenths(230), px(self.y.saturating_add(3)));
         put_text(Raw("l"), place, Text(name), out);
-        self.x = self.x + wide + px(16);
+        self.x = self.x + wide + Tenths(160);
     }
 
     /// The height below the line.

@@ -4,12 +4,14 @@
 mod axis;
 mod buses;
 mod calls;
+mod handlers;
 mod legend;
 mod links;
 mod overview;
 mod panel;
 mod picture;
 mod processors;
+mod rows;
 mod scene;
 mod shapes;
 mod signs;
@@ -18,5 +20,6 @@ mod style;
 mod tasks;
 mod times;
 mod titles;
+mod waits;
 
 pub use picture::{DrawFault, MOST_BYTES, draw, draw_timed};

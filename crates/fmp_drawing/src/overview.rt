@@ -1,6 +1,6 @@
 //! The overview over a long run: what ran most in each part of it, and a link for each panel.
 use crate::scene::Scene;
-use crate::shapes::{put_label_in, put_line, put_text};
+use crate::shapes::{hatch_of, put_label_in, put_line, put_text};
 use fmp_timeline::CanvasPiece::{At, Number, Raw};
 use fmp_timeline::{Canvas, Occupant, Tenths, number_width, px};
 use std::alloc::AllocError;
@@ -140,75 +140,69 @@ fn stretches_of(
     Ok(all)
 }
 
+/// The strip of a processor, which begins at this height.
+#[derive(Clone, Copy)]
+struct OverviewStrip<'a> {
+    scene: &'a Scene<'a>,
+    bins: &'a Bins,
+    y: u32,
+}
+
 /// Stretches as the boxes of a path, after its class.
-fn put_boxes(bins: &Bins, stretches: &[PartRange], y: u32, out: &mut Canvas) {
+fn put_boxes(strip: OverviewStrip<'_>, stretches: &[PartRange], out: &mut Canvas) {
     out.raw("\" d=\"");
+    let y = Number(strip.y);
     for stretch in stretches {
-        let x = bins.x(stretch.from);
-        let wide = bins.x(stretch.to) - x;
-        out.put(
-            "M{} {}h{}v10h{}z",
-            &[At(x), Number(y), At(wide), At(wide.back())],
-        );
+        let x = strip.bins.x(stretch.from);
+        let wide = strip.bins.x(stretch.to) - x;
+        out.put("M{} {}h{}v10h{}z", &[At(x), y, At(wide), At(wide.back())]);
     }
     out.raw("\"/>\n");
 }
 
 /// The number of a task in those of its stretches that have room for it.
-fn put_numbers(
-    scene: &Scene<'_>,
-    bins: &Bins,
-    stretches: &[PartRange],
-    task: u8,
-    y: u32,
-    out: &mut Canvas,
-) {
+fn put_numbers(strip: OverviewStrip<'_>, stretches: &[PartRange], task: u8, out: &mut Canvas) {
     let number = u32::from(task).saturating_add(1);
-    let need = number_width(number, Tenths(80)) + px(2);
+    let need = number_width(number, Tenths(80)) + Tenths(20);
+    let y = px(strip.y.saturating_add(8));
+    let look = strip.scene.look(task);
     for stretch in stretches {
-        let (left, right) = (bins.x(stretch.from), bins.x(stretch.to));
-        if need.is_below(right - left) {
-            let place = (left + (right - left).half(), px(y.saturating_add(8)));
-            put_label_in(scene, task, "s7 c", place, Number(number), out);
+        let left = strip.bins.x(stretch.from);
+        let wide = strip.bins.x(stretch.to) - left;
+        if need.is_below(wide) {
+            let place = (left + wide.half(), y);
+            put_label_in(look, "s7 c", place, Number(number), out);
         }
     }
 }
 
 /// The stretches of a task: in its colour, with its hatch, and with its number where there are more tasks than colours.
-fn put_task(
-    scene: &Scene<'_>,
-    bins: &Bins,
-    stretches: &[PartRange],
-    task: u8,
-    y: u32,
-    out: &mut Canvas,
-) {
-    out.numbered("<path class=\"c", scene.colour(task), " f");
-    put_boxes(bins, stretches, y, out);
-    if let Some((number, letter)) = scene.hatch(task) {
+fn put_task(strip: OverviewStrip<'_>, stretches: &[PartRange], task: u8, out: &mut Canvas) {
+    let look = strip.scene.look(task);
+    out.numbered("<path class=\"c", u32::from(look.colour), " f");
+    put_boxes(strip, stretches, out);
+    if let Some((number, letter)) = hatch_of(look) {
         out.put("<path class=\"x{}{}", &[Number(number), Raw(letter)]);
-        put_boxes(bins, stretches, y, out);
+        put_boxes(strip, stretches, out);
     }
-    if scene.is_numbered() {
-        put_numbers(scene, bins, stretches, task, y, out);
+    if strip.scene.is_numbered() {
+        put_numbers(strip, stretches, task, out);
     }
 }
 
 /// The stretches of a kind.
 fn put_kind(
-    scene: &Scene<'_>,
-    bins: &Bins,
+    strip: OverviewStrip<'_>,
     kinds: &[usize],
     kind: usize,
-    y: u32,
     out: &mut Canvas,
 ) -> Result<(), AllocError> {
-    let stretches = stretches_of(scene, bins, kinds, kind)?;
+    let stretches = stretches_of(strip.scene, strip.bins, kinds, kind)?;
     match u8::try_from(kind) {
-        Ok(task) if kind < HANDLER => put_task(scene, bins, &stretches, task, y, out),
+        Ok(task) if kind < HANDLER => put_task(strip, &stretches, task, out),
         _ => {
             out.raw("<path class=\"hov");
-            put_boxes(bins, &stretches, y, out);
+            put_boxes(strip, &stretches, out);
         }
     }
     Ok(())
@@ -217,7 +211,7 @@ fn put_kind(
 /// The number of a processor at its strip, and the line of the strip.
 fn put_strip_head(bins: &Bins, processor: u8, y: u32, out: &mut Canvas) {
     let number = Number(u32::from(processor).saturating_add(1));
-    let (x, foot) = (At(bins.left - px(8)), Number(y.saturating_add(8)));
+    let (x, foot) = (At(bins.left - Tenths(80)), Number(y.saturating_add(8)));
     out.put(
         "<text class=\"m e\" x=\"{}\" y=\"{}\">p{}</text>",
         &[x, foot, number],
@@ -237,9 +231,10 @@ fn put_strip(
 ) -> Result<(), AllocError> {
     put_strip_head(bins, processor, y, out);
     let kinds = kinds_of(scene, bins, processor)?;
+    let strip = OverviewStrip { scene, bins, y };
     for kind in 0..IDLE {
         if kinds.contains(&kind) {
-            put_kind(scene, bins, &kinds, kind, y, out)?;
+            put_kind(strip, &kinds, kind, out)?;
         }
     }
     out.settle();
@@ -278,8 +273,8 @@ fn put_wrong(scene: &Scene<'_>, bins: &Bins, y: u32, out: &mut Canvas) {
 
 /// The number of the first event of a panel in its frame, where it fits.
 fn put_frame_number(first: u32, (left, right): (Tenths, Tenths), bottom: u32, out: &mut Canvas) {
-    if !(right - left).is_below(px(36)) {
-        let (x, y) = (At(left + px(3)), Number(bottom.saturating_sub(3)));
+    if !(right - left).is_below(Tenths(360)) {
+        let (x, y) = (At(left + Tenths(30)), Number(bottom.saturating_sub(3)));
         out.put(
             "<text class=\"m\" x=\"{}\" y=\"{}\">{}</text>",
             &[x, y, Number(first)],
@@ -290,7 +285,9 @@ fn put_frame_number(first: u32, (left, right): (Tenths, Tenths), bottom: u32, ou
 /// The frame of a panel, which is a link.
 fn put_frame(bins: &Bins, (first, last): (u32, u32), (top, bottom): (u32, u32), out: &mut Canvas) {
     let left = bins.event_x(first);
-    let right = bins.event_x(last.saturating_add(1)).or_more(left + px(2));
+    let right = bins
+        .event_x(last.saturating_add(1))
+        .or_more(left + Tenths(20));
     let events = [Number(first), Number(first), Number(last)];
     out.put("<a href=\"#e{}\" aria-label=\"Events {} to {}\">", &events);
     let (x, upper, lower) = (At(left), Number(top), Number(bottom));
@@ -318,7 +315,7 @@ pub fn put_overview(scene: &Scene<'_>, top: u32, out: &mut Canvas) -> Result<u32
     let y = top.saturating_add(6);
     let bins = Bins::new(scene);
     out.raw("<g role=\"group\" aria-label=\"Overview, with a link for each panel\">\n");
-    let place = (px(12), px(y.saturating_add(9)));
+    let place = (Tenths(120), px(y.saturating_add(9)));
     put_text(Raw("pn"), place, Raw("Overview"), out);
     let mut strip = y.saturating_add(8);
     for processor in 0..scene.sys.processors {

@@ -1,30 +1,32 @@
 //! A panel: some events of a run, with their axis and all lanes.
 use crate::axis::put_axis;
 use crate::buses::{put_object, put_objects_head};
+use crate::handlers::put_handler;
 use crate::links::put_links;
 use crate::picture::MOST_BYTES;
-use crate::processors::{put_dispatch, put_handler, put_lock, put_processor};
+use crate::processors::{put_dispatch, put_lock, put_processor};
+use crate::rows::{Panel, Row};
 use crate::scene::Scene;
 use crate::signs::{put_marks, taken_in};
-use crate::strips::{Lane, Strip, Strips};
+use crate::strips::{Lane, Strips};
 use crate::tasks::put_task;
 use crate::times::{axis_top, put_times};
 use fmp_base::StateWord;
 use fmp_timeline::CanvasPiece::{At, Number, Raw, Text};
-use fmp_timeline::{Canvas, PanelSpan, bytes_of, px, task_bytes};
+use fmp_timeline::{Canvas, PanelSpan, Tenths, bytes_of, px, task_bytes};
 use std::alloc::AllocError;
 
 /// The height of an axis.
 const AXIS: u32 = 34;
 
 /// The bands behind the heads of the processors' groups.
-fn put_bands(span: &PanelSpan, strips: &Strips, out: &mut Canvas) {
+fn put_bands(panel: Panel<'_>, out: &mut Canvas) {
     out.raw("<path class=\"pband\" d=\"");
-    for strip in strips.strips.as_slice() {
+    for strip in &panel.strips.strips {
         if strip.lane.is_head() {
             out.put(
                 "M0 {}H{}v{}H0z",
-                &[At(strip.y(0)), At(span.end()), Number(strip.height)],
+                &[At(strip.y(0)), At(panel.span.end()), Number(strip.height)],
             );
         }
     }
@@ -32,15 +34,15 @@ fn put_bands(span: &PanelSpan, strips: &Strips, out: &mut Canvas) {
 }
 
 /// A lane of a processor's head or of objects.
-fn put_lane_alone(scene: &Scene<'_>, span: &PanelSpan, strip: &Strip, out: &mut Canvas) {
-    match strip.lane {
-        Lane::Processor(processor) => put_processor(scene, span, strip, processor, out),
-        Lane::Lock(processor) => put_lock(scene, span, strip, processor, out),
-        Lane::Dispatch(processor) => put_dispatch(scene, span, strip, processor, out),
-        Lane::ObjectsHead => put_objects_head(strip, out),
+fn put_lane_alone(row: Row<'_>, out: &mut Canvas) {
+    match row.strip.lane {
+        Lane::Processor(processor) => put_processor(row, processor, out),
+        Lane::Lock(processor) => put_lock(row, processor, out),
+        Lane::Dispatch(processor) => put_dispatch(row, processor, out),
+        Lane::ObjectsHead => put_objects_head(row.strip, out),
         Lane::Object(place) => {
-            if let Some(object) = scene.run.objects.all.get(place) {
-                put_object(scene, span, strip, object, out);
+            if let Some(object) = row.scene.run.objects.all.get(place) {
+                put_object(row, object, out);
             }
         }
         Lane::Handler(_) | Lane::Task(..) | Lane::Gap => {}
@@ -48,18 +50,13 @@ fn put_lane_alone(scene: &Scene<'_>, span: &PanelSpan, strip: &Strip, out: &mut 
 }
 
 /// A lane with its boxes and texts. `AllocError` if memory runs out.
-fn put_lane(
-    scene: &Scene<'_>,
-    span: &PanelSpan,
-    strip: &Strip,
-    out: &mut Canvas,
-) -> Result<(), AllocError> {
-    let taken = taken_in(scene, span, strip.lane)?;
-    match strip.lane {
-        Lane::Handler(handler) => put_handler(scene, span, strip, taken, handler, out),
-        Lane::Task(task, processor) => put_task(scene, span, strip, taken, (task, processor), out),
+fn put_lane(row: Row<'_>, out: &mut Canvas) -> Result<(), AllocError> {
+    let taken = taken_in(row.scene, row.span, row.strip.lane)?;
+    match row.strip.lane {
+        Lane::Handler(handler) => put_handler(row, handler, taken, out),
+        Lane::Task(task, processor) => put_task(row, (task, processor), taken, out),
         _ => {
-            put_lane_alone(scene, span, strip, out);
+            put_lane_alone(row, out);
             Ok(())
         }
     }
@@ -90,9 +87,9 @@ fn small_word(word: StateWord) -> &'static str {
 }
 
 /// Whether a task is in a state where a panel begins.
-fn is_in(scene: &Scene<'_>, span: &PanelSpan, task: u8, word: StateWord) -> bool {
-    if let Some(track) = scene.run.tasks.get(usize::from(task))
-        && let Some(shown) = track.at(span.first)
+fn is_in(panel: Panel<'_>, task: u8, word: StateWord) -> bool {
+    if let Some(track) = panel.scene.run.tasks.get(usize::from(task))
+        && let Some(shown) = track.at(panel.span.first)
     {
         return shown.word == word;
     }
@@ -100,10 +97,10 @@ fn is_in(scene: &Scene<'_>, span: &PanelSpan, task: u8, word: StateWord) -> bool
 }
 
 /// How many tasks without a lane are in a state.
-fn asleep_in(scene: &Scene<'_>, span: &PanelSpan, strips: &Strips, word: StateWord) -> u32 {
+fn asleep_in(panel: Panel<'_>, word: StateWord) -> u32 {
     let mut count: u32 = 0;
-    for task in strips.asleep.as_slice() {
-        if is_in(scene, span, *task, word) {
+    for task in &panel.strips.asleep {
+        if is_in(panel, *task, word) {
             count = count.saturating_add(1);
         }
     }
@@ -111,18 +108,12 @@ fn asleep_in(scene: &Scene<'_>, span: &PanelSpan, strips: &Strips, word: StateWo
 }
 
 /// The names of the first four tasks without a lane that are in a state.
-fn put_asleep_names(
-    scene: &Scene<'_>,
-    span: &PanelSpan,
-    strips: &Strips,
-    word: StateWord,
-    out: &mut Canvas,
-) {
+fn put_asleep_names(panel: Panel<'_>, word: StateWord, out: &mut Canvas) {
     let mut count: u32 = 0;
-    for task in strips.asleep.as_slice() {
-        if count < 4 && is_in(scene, span, *task, word) {
+    for task in &panel.strips.asleep {
+        if count < 4 && is_in(panel, *task, word) {
             out.raw(if count > 0 { ", " } else { "" });
-            out.text(task_bytes(scene.sys, *task));
+            out.text(task_bytes(panel.scene.sys, *task));
             count = count.saturating_add(1);
         }
     }
@@ -130,55 +121,48 @@ fn put_asleep_names(
 
 /// Says how many tasks without a lane are in a state, with the names of the first four. The answer is whether there are
 /// any.
-fn put_asleep_in(
-    scene: &Scene<'_>,
-    span: &PanelSpan,
-    strips: &Strips,
-    word: StateWord,
-    before: &str,
-    out: &mut Canvas,
-) -> bool {
-    let count = asleep_in(scene, span, strips, word);
+fn put_asleep_in(panel: Panel<'_>, word: StateWord, before: &str, out: &mut Canvas) -> bool {
+    let count = asleep_in(panel, word);
     if count > 0 {
         let head = [Raw(before), Number(count), Raw(small_word(word))];
         out.put("{}{} {} (", &head);
-        put_asleep_names(scene, span, strips, word, out);
+        put_asleep_names(panel, word, out);
         out.raw(if count > 4 { ", …)" } else { ")" });
     }
     count > 0
 }
 
 /// The names of the first four objects without a lane.
-fn put_still_names(scene: &Scene<'_>, strips: &Strips, out: &mut Canvas) {
+fn put_still_names(panel: Panel<'_>, out: &mut Canvas) {
     let mut count: u32 = 0;
-    for place in strips.still.as_slice() {
+    for place in &panel.strips.still {
         if count < 4
-            && let Some(object) = scene.run.objects.all.get(*place)
+            && let Some(object) = panel.scene.run.objects.all.get(*place)
         {
             out.raw(if count > 0 { ", " } else { "" });
-            out.text(bytes_of(scene.sys, object.topic));
+            out.text(bytes_of(panel.scene.sys, object.topic));
             count = count.saturating_add(1);
         }
     }
 }
 
 /// Says how many objects have no lane, with the names of the first four.
-fn put_still(scene: &Scene<'_>, strips: &Strips, before: &str, out: &mut Canvas) {
-    let count = u32::try_from(strips.still.len()).unwrap_or(u32::MAX);
+fn put_still(panel: Panel<'_>, before: &str, out: &mut Canvas) {
+    let count = u32::try_from(panel.strips.still.len()).unwrap_or(u32::MAX);
     if count > 0 {
         out.put("{}{} object", &[Raw(before), Number(count)]);
         out.raw(if count > 1 { "s (" } else { " (" });
-        put_still_names(scene, strips, out);
+        put_still_names(panel, out);
         out.raw(if count > 4 { ", …)" } else { ")" });
     }
 }
 
 /// The line that says which tasks and objects have no lane.
-fn put_asleep(scene: &Scene<'_>, span: &PanelSpan, strips: &Strips, out: &mut Canvas) {
-    let y = px(strips.bottom) + px(11);
+fn put_asleep(panel: Panel<'_>, out: &mut Canvas) {
+    let y = At(px(panel.strips.bottom) + Tenths(110));
     out.put(
         "<text class=\"m\" x=\"12\" y=\"{}\">No change and no lane here:",
-        &[At(y)],
+        &[y],
     );
     let mut before = " ";
     for word in [
@@ -188,73 +172,68 @@ fn put_asleep(scene: &Scene<'_>, span: &PanelSpan, strips: &Strips, out: &mut Ca
         StateWord::Waiting,
         StateWord::WaitingSuspended,
     ] {
-        if put_asleep_in(scene, span, strips, word, before, out) {
+        if put_asleep_in(panel, word, before, out) {
             before = "; ";
         }
     }
-    put_still(scene, strips, before, out);
+    put_still(panel, before, out);
     out.raw("</text>\n");
 }
 
 /// The lanes of a panel, until they are too large. `AllocError` if memory runs out.
-fn put_lanes(
-    scene: &Scene<'_>,
-    span: &PanelSpan,
-    strips: &Strips,
-    out: &mut Canvas,
-) -> Result<(), AllocError> {
-    for strip in strips.strips.as_slice() {
+fn put_lanes(panel: Panel<'_>, out: &mut Canvas) -> Result<(), AllocError> {
+    for strip in &panel.strips.strips {
         if out.len() <= MOST_BYTES {
-            put_lane(scene, span, strip, out)?;
+            put_lane(panel.row(strip), out)?;
         }
     }
     Ok(())
 }
 
 /// The marks of all lanes. `AllocError` if memory runs out.
-fn put_all_marks(
-    scene: &Scene<'_>,
-    span: &PanelSpan,
-    strips: &Strips,
-    out: &mut Canvas,
-) -> Result<(), AllocError> {
-    for strip in strips.strips.as_slice() {
-        put_marks(scene, span, strip, out)?;
+fn put_all_marks(panel: Panel<'_>, out: &mut Canvas) -> Result<(), AllocError> {
+    for strip in &panel.strips.strips {
+        put_marks(panel.row(strip), out)?;
     }
     Ok(())
 }
 
-/// A panel with these lanes that begins at this height, or a beginning of it that is too large. `AllocError` if memory
-/// runs out.
-fn put_rows(
-    scene: &Scene<'_>,
-    span: &PanelSpan,
-    top: u32,
-    strips: &Strips,
-    out: &mut Canvas,
-) -> Result<(), AllocError> {
-    let (first, last) = (Number(span.first), Number(span.last));
+/// The bands, the axis and the lanes of a panel that begins at this height, until they are too large. `AllocError` if
+/// memory runs out.
+fn put_ground(panel: Panel<'_>, top: u32, out: &mut Canvas) -> Result<(), AllocError> {
+    let (first, last) = (Number(panel.span.first), Number(panel.span.last));
     out.put(
         "<g id=\"e{}\" role=\"group\" aria-label=\"Events {} to {}\">\n",
         &[first, first, last],
     );
-    put_bands(span, strips, out);
-    put_times(scene, span, px(top), out);
-    let axis = axis_top(scene, top);
-    put_axis(scene, span, px(axis), px(strips.bottom), out);
-    put_lanes(scene, span, strips, out)?;
-    if out.len() > MOST_BYTES {
-        return Ok(());
-    }
-    put_lead(span, axis.saturating_add(AXIS), strips.bottom, out);
-    put_links(scene, span, strips, out);
+    put_bands(panel, out);
+    put_times(panel.scene, panel.span, px(top), out);
+    let ends = (px(axis_top(panel.scene, top)), px(panel.strips.bottom));
+    put_axis(panel.scene, panel.span, ends, out);
+    put_lanes(panel, out)
+}
+
+/// What stands above the lanes of a panel that begins at this height. `AllocError` if memory runs out.
+fn put_cover(panel: Panel<'_>, top: u32, out: &mut Canvas) -> Result<(), AllocError> {
+    let lanes = axis_top(panel.scene, top).saturating_add(AXIS);
+    put_lead(panel.span, lanes, panel.strips.bottom, out);
+    put_links(panel, out);
     out.settle();
-    put_all_marks(scene, span, strips, out)?;
-    if strips.leaves_out() {
-        put_asleep(scene, span, strips, out);
+    put_all_marks(panel, out)?;
+    if panel.strips.leaves_out() {
+        put_asleep(panel, out);
     }
     out.raw("</g>\n");
     Ok(())
+}
+
+/// A panel that begins at this height, or a beginning of it that is too large. `AllocError` if memory runs out.
+fn put_rows(panel: Panel<'_>, top: u32, out: &mut Canvas) -> Result<(), AllocError> {
+    put_ground(panel, top, out)?;
+    if out.len() > MOST_BYTES {
+        return Ok(());
+    }
+    put_cover(panel, top, out)
 }
 
 /// The lanes of a panel that begins at this height.
@@ -276,6 +255,11 @@ pub fn put_panel(
     out: &mut Canvas,
 ) -> Result<u32, AllocError> {
     let strips = rows_of(scene, span, top)?;
-    put_rows(scene, span, top, &strips, out)?;
+    let panel = Panel {
+        scene,
+        span,
+        strips: &strips,
+    };
+    put_rows(panel, top, out)?;
     Ok(strips.end())
 }

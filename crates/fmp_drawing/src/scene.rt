@@ -1,7 +1,7 @@
 //! The source of all parts of a picture, and where a text can stand.
 use crate::strips::Lane;
 use fmp_base::System;
-use fmp_timeline::{BarLook, Deeds, PanelSpan, PicturePage, Run, Tenths, all_looks, px, width};
+use fmp_timeline::{BarLook, Deeds, PanelSpan, PicturePage, Run, Tenths, all_looks, width};
 use std::alloc::{AllocError, Global};
 
 /// The source of a picture.
@@ -57,24 +57,12 @@ impl<'a> Scene<'a> {
     }
 
     /// The look of a task.
-    fn look(&self, task: u8) -> BarLook {
+    pub fn look(&self, task: u8) -> BarLook {
         let first = BarLook {
             colour: 0,
             hatch: 0,
         };
         self.looks.get(usize::from(task)).copied().unwrap_or(first)
-    }
-
-    /// The number of a task's colour.
-    pub fn colour(&self, task: u8) -> u32 {
-        u32::from(self.look(task).colour)
-    }
-
-    /// The number of a task's hatch, and its letter: `w` for white on a dark colour, `b` for black on a light one.
-    pub fn hatch(&self, task: u8) -> Option<(u32, &'static str)> {
-        let look = self.look(task);
-        let letter = if look.colour % 2 == 0 { "w" } else { "b" };
-        (look.hatch > 0).then_some((u32::from(look.hatch), letter))
     }
 
     /// Whether colours and hatches alone do not tell tasks apart at a glance, so that their numbers stand beside them.
@@ -102,13 +90,13 @@ pub fn fit_left(
     (left, right): (Tenths, Tenths),
     need: Tenths,
 ) -> Option<Tenths> {
-    let mut x = left.or_more(span.page.start()) + px(4);
+    let mut x = left.or_more(span.page.start()) + Tenths(40);
     for t in taken {
-        if !x.is_below(t.from) && x.is_below(t.to + px(1)) {
-            x = t.to + px(1);
+        if !x.is_below(t.from) && x.is_below(t.to + Tenths(10)) {
+            x = t.to + Tenths(10);
         }
     }
-    let mut most = right - px(2);
+    let mut most = right - Tenths(20);
     for t in taken {
         if x.is_below(t.to) && t.from.is_below(x + need) {
             most = most.or_less(t.from);
@@ -126,11 +114,11 @@ pub fn fit_right(
 ) -> Option<Tenths> {
     let mut x = right - Tenths(25);
     for t in taken.iter().rev() {
-        if t.from.is_below(x) && !(t.to + px(1)).is_below(x) {
-            x = t.from - px(1);
+        if t.from.is_below(x) && !(t.to + Tenths(10)).is_below(x) {
+            x = t.from - Tenths(10);
         }
     }
-    let mut least = left.or_more(span.page.start()) + px(4);
+    let mut least = left.or_more(span.page.start()) + Tenths(40);
     for t in taken {
         if t.from.is_below(x) && (x - need).is_below(t.to) {
             least = least.or_more(t.to);

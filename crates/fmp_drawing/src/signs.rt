@@ -1,6 +1,7 @@
 //! Marks and their tags, which take room in a lane before its texts do.
+use crate::rows::Row;
 use crate::scene::{Scene, TakenPixels};
-use crate::shapes::{put_box, put_text};
+use crate::shapes::{Rect, put_plain_box, put_text};
 use crate::strips::{Lane, Strip};
 use crate::titles::put_event_title;
 use fmp_timeline::CanvasPiece::{At, Raw, Text};
@@ -133,9 +134,9 @@ fn stops_at(event: u32, all: &[EventMark]) -> bool {
 /// How far a mark stands beside its event's line: a start beside an end of the same event.
 fn shift_of(mark: &EventMark, all: &[EventMark]) -> Tenths {
     if matches!(mark.sign, Sign::Start) && stops_at(mark.event, all) {
-        return px(4);
+        return Tenths(40);
     }
-    px(0)
+    Tenths(0)
 }
 
 /// Where the marks after this one begin.
@@ -145,27 +146,27 @@ fn next_left(span: &PanelSpan, event: u32, later: &[EventMark]) -> Tenths {
             return span.x(mark.event) - left_of(mark.sign);
         }
     }
-    span.end() + px(20)
+    span.end() + Tenths(200)
 }
 
 /// Where the tag of a mark begins.
 fn tag_start(span: &PanelSpan, mark: &EventMark, all: &[EventMark]) -> Tenths {
     let x = span.x(mark.event);
     if !matches!(mark.sign, Sign::Priority(_)) {
-        return x + right_of(mark.sign) + px(1);
+        return x + right_of(mark.sign) + Tenths(10);
     }
-    let mut most = px(0);
+    let mut most = Tenths(0);
     for other in all {
         if other.event == mark.event {
             most = most.or_more(right_of(other.sign));
         }
     }
-    x + most + px(2)
+    x + most + Tenths(20)
 }
 
 /// The room that a tag takes.
 fn tag_width(text: &[u8]) -> Tenths {
-    width(text, TAG) + px(5)
+    width(text, TAG) + Tenths(50)
 }
 
 /// The text of a mark's tag as it fits between two places, without its first letters where it says what went wrong.
@@ -246,9 +247,13 @@ fn put_tag(text: &[u8], sign: Sign, from: Tenths, strip: &Strip, out: &mut Canva
     } else {
         ("pb q", "pt q")
     };
-    let corner = (from, strip.middle(-50));
-    put_box(Raw(frame), corner, (tag_width(text), px(10)), out);
-    out.raw("/>");
+    let plate = Rect {
+        x: from,
+        y: strip.middle(-50),
+        wide: tag_width(text),
+        high: Tenths(100),
+    };
+    put_plain_box(Raw(frame), plate, out);
     let place = (from + Tenths(25), strip.middle(30));
     put_text(Raw(words), place, Text(text), out);
 }
@@ -315,18 +320,15 @@ fn put_all_ticks(span: &PanelSpan, strip: &Strip, marks: &[EventMark], out: &mut
 }
 
 /// The marks of a lane. `AllocError` if memory runs out.
-pub fn put_marks(
-    scene: &Scene<'_>,
-    span: &PanelSpan,
-    strip: &Strip,
-    out: &mut Canvas,
-) -> Result<(), AllocError> {
-    if span.is_narrow() {
-        put_all_ticks(span, strip, &marks_of(scene, span, strip.lane)?, out);
+pub fn put_marks(row: Row<'_>, out: &mut Canvas) -> Result<(), AllocError> {
+    let lane = row.strip.lane;
+    if row.span.is_narrow() {
+        let marks = marks_of(row.scene, row.span, lane)?;
+        put_all_ticks(row.span, row.strip, &marks, out);
         return Ok(());
     }
-    for placed in &placed_marks(scene, span, strip.lane)? {
-        put_mark(scene, strip, placed, out);
+    for placed in &placed_marks(row.scene, row.span, lane)? {
+        put_mark(row.scene, row.strip, placed, out);
     }
     Ok(())
 }

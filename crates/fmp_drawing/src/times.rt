@@ -26,9 +26,9 @@ pub fn axis_top(scene: &Scene<'_>, top: u32) -> u32 {
 /// What an event covers at the axis, above this height and in all: with its time, if it is known.
 pub fn axis_area(scene: &Scene<'_>, top: Tenths) -> (Tenths, Tenths) {
     if scene.has_times() {
-        (top - px(ROW), px(30) + px(ROW))
+        (top - px(ROW), Tenths(300) + px(ROW))
     } else {
-        (top, px(30))
+        (top, Tenths(300))
     }
 }
 
@@ -125,21 +125,21 @@ fn put_label(
     let mut text = Canvas::new(scene.alloc);
     put_millis(time, &mut text);
     let half = text.width(SMALL).half();
-    let x = x.or_more(scene.page.left() + half - px(3));
+    let x = x.or_more(scene.page.left() + half - Tenths(30));
     if !end.is_below(x - half) {
         return end;
     }
-    put_text(Raw("m c"), (x, top + px(10)), Label(&text), out);
-    x + half + px(4)
+    put_text(Raw("m c"), (x, top + Tenths(100)), Label(&text), out);
+    x + half + Tenths(40)
 }
 
 /// The row of times of a panel that begins at this height: few of them, those after round times, but those that would
 /// touch the one before.
 fn put_row(scene: &Scene<'_>, span: &PanelSpan, top: Tenths, out: &mut Canvas) {
-    let (x, y) = (At(scene.page.left() - px(8)), At(top + px(10)));
+    let (x, y) = (At(scene.page.left() - Tenths(80)), At(top + Tenths(100)));
     out.put("<text class=\"m e\" x=\"{}\" y=\"{}\">ms</text>\n", &[x, y]);
     let step = step_of(scene, span);
-    let mut end = scene.page.left() - px(5);
+    let mut end = scene.page.left() - Tenths(50);
     for event in span.first..=span.last {
         if let Some(time) = labelled(scene, span, event, step) {
             end = put_label(scene, (span.x(event), time), top, end, out);

@@ -1,9 +1,9 @@
 //! What a box says when it is pointed at: its state, and the lines of the event that made it.
 use crate::scene::Scene;
-use crate::shapes::put_box;
+use crate::shapes::{Rect, put_box};
 use crate::times::{put_period_line, put_time_line};
 use fmp_timeline::CanvasPiece::{Number, Raw};
-use fmp_timeline::{Canvas, CanvasPiece, Run, Stay, Tenths};
+use fmp_timeline::{Canvas, CanvasPiece, Run, Stay};
 
 /// No more lines than this stand in a title.
 const MOST_LINES: u32 = 12;
@@ -56,14 +56,8 @@ pub fn put_event_title(scene: &Scene<'_>, event: u32, out: &mut Canvas) {
 }
 
 /// What is pointed at for the lines of an event: a box.
-pub fn put_area(
-    scene: &Scene<'_>,
-    corner: (Tenths, Tenths),
-    size: (Tenths, Tenths),
-    event: u32,
-    out: &mut Canvas,
-) {
-    put_box(Raw("z"), corner, size, out);
+pub fn put_area(scene: &Scene<'_>, area: Rect, event: u32, out: &mut Canvas) {
+    put_box(Raw("z"), area, out);
     out.raw(">");
     put_event_title(scene, event, out);
     out.raw("</path>\n");
