@@ -470,6 +470,8 @@ WITH_LOCKS = TASK + " CRE_SPN(L, { 0 }); CRE_SPN(M, { 0 }); }"
 ON_TWO = "NUM_PRC(2); CLASS(TCL_1) { CRE_TSK(T, { TA_ACT, 0, m, 1, 64, NULL });\nCRE_SEM(S, { 0, 1, 1 });\n" \
     "CRE_FLG(F, { 0, 0 }); }"
 WITH_LOCK_AND_SEM = TASK + " CRE_SPN(L, { 0 }); CRE_SEM(S, { 0, 1, 1 }); }"
+WITH_LOCK_AND_BODIES = ONE + "".join(f"CRE_TSK(TASK_{body}, {{ TA_ACT, 0, {body}, 1, 64, NULL }});\n"
+                                     for body in "mnopqrstuvwx") + "CRE_SPN(L, { 0 }); }"
 DIVISION = "the divisor is 0: this is F_DIV"
 CHAIN = "this compares the outcome of a comparison, 0 or 1; `&&` joins two comparisons"
 MIXED = "a comparison binds tighter than `&`, `|` and `^`: parentheses tell what is meant"
@@ -601,6 +603,23 @@ WARNINGS = [
      ("t.src", 9, 5, 7, "`wai_sem` answers E_CTX here: dispatching is disabled by line 7"),
      ("t.src", 13, 5, 7, "`dly_tsk` answers E_CTX here: the CPU is locked by line 11"),
      ("t.src", 17, 1, 1, "the task ends here while the CPU is locked by line 16")),
+    # Each way of an `if` gives back what is held before it, or one of them leaves that out.
+    (WITH_LOCK_AND_BODIES,
+     "task m {\n    loc_spn(L);\n    if (exinf) {\n        unl_spn(L);\n    }\n}\n"
+     "task n { loc_cpu(); if (exinf) { unl_cpu(); } else if (exinf == 1) { put(1); } else { unl_cpu(); } }\n"
+     "task o { loc_spn(L); if (exinf) { if (exinf == 1) { unl_spn(L); } else { unl_spn(L); } } }\n"
+     "task p { loc_spn(L); if (exinf) { unl_spn(L); } else { unl_spn(L); } }\n"
+     "task q { loc_spn(L); if (exinf) { unl_spn(L); return; } unl_spn(L); }\n"
+     "task r { loc_spn(L); if (exinf) { unl_spn(L); } if (!exinf) { unl_spn(L); } }\n"
+     "task s { while (1) { loc_cpu(); if (exinf) { unl_cpu(); } else { unl_cpu(); } } }\n"
+     "task t { loc_cpu(); while (exinf) { if (exinf == 1) { unl_cpu(); break; } } }\n"
+     "task u { loc_spn(L); if (exinf) { unl_spn(L); } while (1) { put(1); } }\n"
+     "task v { loc_spn(L); if (exinf) { while (1) { put(1); } } else { unl_spn(L); } }\n"
+     "task w { if (exinf) { loc_spn(L); } if (exinf) { unl_spn(L); } }\n"
+     "task x { dis_dsp(); if (exinf) { ena_dsp(); } put(1); }\n",
+     ("t.src", 6, 1, 1, "the task may end here while the spin lock that line 2 takes is held"),
+     ("t.src", 7, 100, 1, "the task may end here while the CPU is locked by line 7"),
+     ("t.src", 8, 90, 1, "the task may end here while the spin lock that line 8 takes is held")),
     (WITH_LOCK_AND_SEM,
      "task m {\n    var x;\n    x = loc_spn(L);\n    if (x != E_OK) { return; }\n    unl_spn(L);\n    dis_dsp();\n"
      "    if (exinf) { ena_dsp(); }\n    wai_sem(S);\n    sig_sem(S);\n    dis_dsp();\n    pol_sem(S);\n}\n"),

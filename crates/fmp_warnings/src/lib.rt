@@ -26,6 +26,7 @@ mod verdicts;
 mod walk;
 mod wanted;
 mod warnings;
+mod ways;
 
 pub use found::Warning;
 pub use further::{ROUNDS, ToldFault, further_faults};

@@ -7,6 +7,7 @@ use crate::contexts::BodyKind;
 use crate::found::FoundWarnings;
 use crate::landmarks::Landmarks;
 use crate::objects::NamedObjects;
+use crate::ways::{Ways, gives_back, jumps};
 use fmp_base::{Permission, Service};
 use fmp_diagnosis::apis::is_symbol;
 use fmp_diagnosis::around::{line_of, name_at};
@@ -52,6 +53,8 @@ enum Flaw {
     Barred(Service),
     /// The task ends, and has not given it back.
     Kept,
+    /// The task ends, and an `if` before gives it back on some of its ways alone.
+    MayBeKept,
 }
 
 /// What is held at a token: since the call at a place, in as many blocks as are open there.
@@ -64,6 +67,22 @@ struct Held {
     is_looped: bool,
 }
 
+impl Held {
+    /// Whether a task that comes to its end with it has forgotten it: of a lock, if no loop may keep the task from its
+    /// end.
+    fn is_lost(self) -> bool {
+        !self.is_looped && self.hold != Hold::Dispatching
+    }
+}
+
+/// An `if` that is open in the block in which something was taken.
+#[derive(Clone, Copy)]
+struct OpenIf {
+    /// What is held before it.
+    held: Held,
+    ways: Ways,
+}
+
 /// A walk over the tokens of bodies, with what is certainly held.
 #[derive(Clone, Copy)]
 struct HeldWalk {
@@ -72,9 +91,23 @@ struct HeldWalk {
     /// How many blocks are open.
     depth: usize,
     held: Option<Held>,
+    open_if: Option<OpenIf>,
+    /// What may be held, since an `if` gives it back on some of its ways alone.
+    kept: Option<Held>,
 }
 
 impl HeldWalk {
+    /// The walk before the first token.
+    fn new() -> HeldWalk {
+        HeldWalk {
+            in_task: false,
+            depth: 0,
+            held: None,
+            open_if: None,
+            kept: None,
+        }
+    }
+
     /// The walk after the end of a block. What was taken in the block is known no more.
     fn behind_block(self) -> HeldWalk {
         let depth = self.depth.saturating_sub(1);
@@ -102,21 +135,99 @@ impl HeldWalk {
         match kind {
             TokenKind::Keyword(Keyword::Task | Keyword::Handler) => HeldWalk {
                 in_task: matches!(BodyKind::begun_by(kind), Some(BodyKind::Task)),
-                depth: 0,
-                held: None,
+                ..HeldWalk::new()
             },
             TokenKind::Symbol(Symbol::LeftBrace) => HeldWalk {
                 depth: self.depth.saturating_add(1),
                 ..self
             },
             TokenKind::Symbol(Symbol::RightBrace) => self.behind_block(),
-            TokenKind::Service(Service::UnlSpn | Service::UnlCpu | Service::EnaDsp) => {
-                HeldWalk { held: None, ..self }
+            _ if gives_back(kind) => HeldWalk { held: None, ..self },
+            _ if jumps(kind) => self.behind_jump(),
+            _ => self,
+        }
+    }
+
+    /// The walk at an `if`, which is open from here on if what is held was taken in its block.
+    fn at_if(self) -> HeldWalk {
+        match self.held {
+            Some(held) if self.open_if.is_none() && held.depth == self.depth => {
+                let ways = Ways::new();
+                HeldWalk {
+                    open_if: Some(OpenIf { held, ways }),
+                    ..self
+                }
             }
-            TokenKind::Service(Service::ExtTsk)
-            | TokenKind::Keyword(Keyword::Break | Keyword::Continue | Keyword::Return) => {
-                self.behind_jump()
+            _ => self,
+        }
+    }
+
+    /// The walk at an `else`; `is_last` if no `if` follows it.
+    fn at_else(self, is_last: bool) -> HeldWalk {
+        match self.open_if {
+            Some(open) if is_last && open.held.depth == self.depth => {
+                let ways = open.ways.after_last_else();
+                HeldWalk {
+                    open_if: Some(OpenIf { ways, ..open }),
+                    ..self
+                }
             }
+            _ => self,
+        }
+    }
+
+    /// The walk at the end of a block; `goes_on` if an `else` follows it.
+    fn at_block_end(self, goes_on: bool) -> HeldWalk {
+        let depth = self.depth.saturating_sub(1);
+        let kept = self.kept.filter(|kept| kept.depth <= depth);
+        match self.open_if {
+            Some(open) if open.held.depth == depth => self.after_way(open, goes_on),
+            _ => HeldWalk { kept, ..self },
+        }
+    }
+
+    /// The walk at the end of a way of this `if`, which is over unless it goes on.
+    fn after_way(self, open: OpenIf, goes_on: bool) -> HeldWalk {
+        let ways = open.ways.after_block();
+        if goes_on {
+            return HeldWalk {
+                open_if: Some(OpenIf { ways, ..open }),
+                ..self
+            };
+        }
+        HeldWalk {
+            open_if: None,
+            kept: ways.is_left_out().then_some(open.held),
+            ..self
+        }
+    }
+
+    /// The walk at a token that gives something back, jumps, or begins a loop. Nothing more is said of what may be
+    /// held.
+    fn at_leaving(self, kind: TokenKind) -> HeldWalk {
+        let open_if = self.open_if.map(|open| OpenIf {
+            ways: open.ways.after(kind),
+            ..open
+        });
+        HeldWalk {
+            open_if,
+            kept: None,
+            ..self
+        }
+    }
+
+    /// The walk at a token, with what the ways of an `if` say.
+    fn through_ways(self, kind: TokenKind, next: Option<TokenKind>) -> HeldWalk {
+        match kind {
+            TokenKind::Keyword(Keyword::If) => self.at_if(),
+            TokenKind::Keyword(Keyword::Else) => {
+                self.at_else(!matches!(next, Some(TokenKind::Keyword(Keyword::If))))
+            }
+            TokenKind::Symbol(Symbol::RightBrace) => {
+                self.at_block_end(matches!(next, Some(TokenKind::Keyword(Keyword::Else))))
+            }
+            TokenKind::Keyword(Keyword::While) => self.at_leaving(kind),
+            _ if gives_back(kind) || jumps(kind) => self.at_leaving(kind),
             _ => self,
         }
     }
@@ -138,6 +249,7 @@ impl HeldWalk {
                 depth,
                 is_looped: false,
             }),
+            kept: None,
             ..self
         }
     }
@@ -156,19 +268,34 @@ impl HeldWalk {
         }
     }
 
-    /// What is wrong with a token after the walk, if anything is.
-    fn flaw(self, kind: TokenKind) -> Option<(Flaw, Held)> {
-        let held = self.held?;
+    /// What is wrong with a token after the walk where this is held, if anything is.
+    fn flaw_with(self, held: Held, kind: TokenKind) -> Option<(Flaw, Held)> {
         let flaw = match kind {
             TokenKind::Service(service) if held.hold.bars(service) => Flaw::Barred(service),
             TokenKind::Keyword(Keyword::Return) | TokenKind::Service(Service::ExtTsk) => Flaw::Kept,
-            TokenKind::Symbol(Symbol::RightBrace) if self.depth == 1 => Flaw::Kept,
+            _ if self.ends_body(kind) => Flaw::Kept,
             _ => return None,
         };
-        if flaw == Flaw::Kept && (held.is_looped || held.hold == Hold::Dispatching) {
+        if flaw == Flaw::Kept && !held.is_lost() {
             return None;
         }
         Some((flaw, held))
+    }
+
+    /// What is wrong with a token after the walk, if anything is.
+    fn flaw(self, kind: TokenKind) -> Option<(Flaw, Held)> {
+        match (self.held, self.kept) {
+            (Some(held), _) => self.flaw_with(held, kind),
+            (None, Some(kept)) if self.ends_body(kind) && kept.is_lost() => {
+                Some((Flaw::MayBeKept, kept))
+            }
+            _ => None,
+        }
+    }
+
+    /// Whether a token after the walk ends the body.
+    fn ends_body(self, kind: TokenKind) -> bool {
+        self.depth == 1 && matches!(kind, TokenKind::Symbol(Symbol::RightBrace))
     }
 }
 
@@ -227,24 +354,25 @@ fn say_held(flaw: Flaw, hold: Hold, line: u32, out: &mut Vec<u8>) -> Result<(), 
             let ends = Word::Text("the task ends here while ");
             say(&[ends, before, line, behind], out)
         }
+        Flaw::MayBeKept => {
+            let ends = Word::Text("the task may end here while ");
+            say(&[ends, before, line, behind], out)
+        }
     }
 }
 
 /// Warns of the calls of a task text that are E_CTX since the same body has taken a spin lock, locked the CPU or
 /// disabled dispatching, and of the places where a task ends with one of the first two. That is certain: the call that
-/// does so stands before, in the same block or one around it, and none that ends it stands between. Of an end that a
-/// loop may keep the task from nothing is said.
+/// does so stands before, in the same block or one around it, and none that ends it stands between. And of the end of a
+/// body to which a task may come with a lock, since an `if` gives it back on some of its ways alone, and nothing after
+/// that gives back, jumps or loops. Of an end that a loop may keep the task from nothing is said.
 pub fn warn_of_locks(
     alloc: Global,
     (src, landmarks): (&Tokens<'_>, &Landmarks),
     objects: &NamedObjects,
     found: &mut FoundWarnings<'_>,
 ) -> Result<(), AllocError> {
-    let mut walk = HeldWalk {
-        in_task: false,
-        depth: 0,
-        held: None,
-    };
+    let mut walk = HeldWalk::new();
     for place in &landmarks.structure {
         let at = *place;
         if let Some(kind) = src.kind(at) {
@@ -254,7 +382,9 @@ pub fn warn_of_locks(
                 say_held(flaw, held.hold, line, &mut sentence)?;
                 found.warn(alloc, TextFile::Source, src, at, sentence)?;
             }
-            walk = walk.behind(kind);
+            walk = walk
+                .through_ways(kind, src.kind(at.saturating_add(1)))
+                .behind(kind);
             if let Some(hold) = taken_at(objects, src, at) {
                 walk = walk.taking(at, hold);
             }
