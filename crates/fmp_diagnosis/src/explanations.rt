@@ -102,7 +102,7 @@ impl Topic {
             Topic::TooManySteps =>
                 "A run has at most 1048576 steps; this line is the first one too many.",
             Topic::HostWork =>
-                "The turns of all processors and the ticks are together not 1 to 1048576.",
+                "The turns of all processors, the ticks, and 65536 with --int are together not 1 to 1048576.",
             Topic::HostThread => "The system refused a thread for a processor.",
         }
     }
