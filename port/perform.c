@@ -106,7 +106,8 @@ int fmp_perform(int argc, char **argv, const struct fmp_program *program)
     const char *name = argc > 0 ? argv[0] : "perform";
     struct wanted it = { .form = { .has_times = false, .last = 0 } };
     if (!read_words(argc, argv, &it)) {
-        fprintf(stderr, "usage: %s [--image IMAGE] [--times] [--last EVENTS] CFG NANOSECONDS TICKS [RECORDING]\n", name);
+        fprintf(stderr, "usage: %s [--image IMAGE] [--times] [--last EVENTS] CFG NANOSECONDS TICKS [RECORDING]\n",
+                name);
         return 2;
     }
     if (writes_over_input(&it)) {

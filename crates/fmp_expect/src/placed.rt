@@ -1,5 +1,5 @@
-//! The sentences about calls in a text, and the reader of the others. A run tells no lines of calls, so only a search can
-//! be asked such sentences.
+//! The sentences about calls in a text, and the reader of the others. A run tells no lines of calls, so only a search
+//! can be asked such sentences.
 ghost use Rattle.std.specs.Prelude.{◌≡◌, ◌++◌, IfOk, IfErr, OnOk, Ok};
 ghost use Rattle.fmp_base.specs.Systems.{tables_of};
 ghost use Rattle.fmp_expect.specs.Grammar.{IsFaultOf};

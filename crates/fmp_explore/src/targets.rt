@@ -176,8 +176,8 @@ impl TargetList {
         Ok(())
     }
 
-    /// Adds those that were reached first from a state of a slice. Gives how many states are kept after them, where this
-    /// many are kept.
+    /// Adds those that were reached first from a state of a slice, where this many states are kept before them. Gives
+    /// how many are kept after them.
     fn push_first(
         &mut self,
         source: u32,

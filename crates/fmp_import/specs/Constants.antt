@@ -7,7 +7,8 @@ use Rattle.fmp_import.specs.declared.constants.Defines.{Defines}
 use Rattle.fmp_import.specs.declared.constants.Defines.TheVariants as defines
 use Rattle.fmp_import.specs.declared.constants.Definition.{Definition}
 
--- the value of a name that is known from the first: no memory, what `export` writes for a stack, and constants of uITRON
+-- the value of a name that is known from the first: no memory, what `export` writes for a stack, and constants of
+-- uITRON
 abbrev pub own_value : (word : List ℕ) → Option ℤ
 own_value word =
     if bytes_eq word (codes "NULL") || bytes_eq word (codes "FMP_STACK") then Some (pos 0)

@@ -37,10 +37,10 @@ AreAnswersOf i n count known =
 
 -- a line of this form for each call that is refused in some runs of an image, this many, by where it stands in this
 -- text of its bodies in a file
-pub record AreRefusedLines (written : LineForm) (file src : List ℕ) (i : ImageTables) (n runs : ℕ) (out : List ℕ) : Type 0
-  where
-    pub bodies : List (List CallPlace)
-    pub calls : AreCallsOf src bodies
-    pub answers : List SiteAnswer
-    pub are : AreAnswersOf i n runs answers
-    pub text : out ≡ refused_lines written file i.code bodies (refused_calls i.code answers)
+pub record AreRefusedLines (written : LineForm) (file src : List ℕ) (i : ImageTables) (n runs : ℕ)
+    (out : List ℕ) : Type 0 where
+  pub bodies : List (List CallPlace)
+  pub calls : AreCallsOf src bodies
+  pub answers : List SiteAnswer
+  pub are : AreAnswersOf i n runs answers
+  pub text : out ≡ refused_lines written file i.code bodies (refused_calls i.code answers)

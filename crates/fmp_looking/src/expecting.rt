@@ -212,8 +212,8 @@ fn flawed(
     }
 }
 
-/// The expectations of a text for a system, in which the interrupts of one that is configured are named by the bodies of
-/// their handlers too. The reason to give none is the first faulty line of the text, or that memory runs out.
+/// The expectations of a text for a system; that of a configuration has names for the bodies of its handlers. The reason
+/// to give none is the first faulty line of the text, or that memory runs out.
 pub fn expected_of(alloc: Global, sys: &System, text: &[u8]) -> Result<Vec<Expected>, ViewExit>
     ensures { IfOk result (λ xs. expectations_of (tables_of sys.now) text.now ≡ Ok xs.items) }
 {

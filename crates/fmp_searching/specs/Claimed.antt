@@ -111,8 +111,8 @@ pub record HasClaimed (f : Form) (strict : Bool) (c : ClaimTables) (done : Optio
 abbrev pub claim_of : ImageTables → List TextBody → Question → Exploring → ClaimTables
 claim_of i bodies q e = record { image = i; bodies = bodies; question = q; bound = e.bound }
 
--- the same of an image whose bodies have this text, and of what the words and a text of sentences ask, which is read for
--- the system as its configuration describes it
+-- the same of an image whose bodies have this text, and of what the words and a text of sentences ask, which is read
+-- for the system as its configuration describes it
 pub record HoldsOfImage (i : ImageTables) (configured : SystemTables) (src said : List ℕ) (e : Exploring)
     (done : Option (List Deed)) : Type 0 where
   pub bodies : List TextBody

@@ -488,8 +488,8 @@ fn said_question(
 }
 
 /// The question of the words of a command, and of the sentences of a text about what is configured, on an image whose
-/// bodies' calls stand in these lines; or what is mistaken: words that name tasks are read first, and the text last. The
-/// image is built of the configuration, which names the bodies. `AllocError` if memory runs out.
+/// bodies' calls stand in these lines; or what is mistaken: words that name tasks are read first, and the text last.
+/// The image is built of the configuration, which names the bodies. `AllocError` if memory runs out.
 pub fn question_by(
     alloc: Global,
     wanted: &ExploreChoices<'_>,

@@ -246,8 +246,8 @@ fn said_of_places(
     String::from_str(alloc, NO_PLACE)
 }
 
-/// What is said of words, and of a text of sentences, that ask for no question about an image, whose bodies' calls stand
-/// in these lines.
+/// What is said of words, and of a text of sentences, that ask for no question about an image, whose bodies' calls
+/// stand in these lines.
 fn said_of_image(
     alloc: Global,
     (asked, text): (&ExploreWords<'_>, &[u8]),

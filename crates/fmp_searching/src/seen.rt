@@ -274,7 +274,7 @@ fn kind_of(sections: usize, kind: FindingKind, lines: &[Line], placed: Option<us
     }
 }
 
-/// Appends what the steps of a finding leave, and says which sentence about calls it breaks, if one, and what it breaks.
+/// Appends what the steps of a finding leave, and says what it breaks: of a sentence about calls, which one.
 fn say_left_kind(
     alloc: Global,
     out: &mut Vec<u8>,

@@ -25,7 +25,7 @@ returns c =
           ∙ ap (λ (rs : List RefusedCall). refused_lines c.args.form file image.code places (map refused_of rs))
           c.deref-2.ensures.value
           ∙ ap (λ (rs : List Refused). refused_lines c.args.form file image.code places rs) c.in_ok-refused.ensures
-          ∙ ap (λ (got : List SiteAnswer). refused_lines c.args.form file image.code places (refused_calls image.code got))
+          ∙ ap (λ (g : List SiteAnswer). refused_lines c.args.form file image.code places (refused_calls image.code g))
           c.deref.ensures.value
           ∙ ap (λ (f : List ℕ). refused_lines c.args.form f image.code places (refused_calls image.code answers))
           c.as_bytes.ensures.value;
