@@ -1,9 +1,6 @@
 -- Contexts that come again: their bodies go on for ever.
 use Rattle.std.proofs.Common.{◌≡◌, refl, ℕ, zero, suc, ◌+◌, ◌≤◌, ◌⊎◌, inl, inr, List, ℤ, Bool, true, false, Option}
-use Rattle.std.proofs.Common.{Some, None, ap, sym, subst, ◌∙◌, arith}
-use Rattle.std.proofs.lemmas.Bool.Decides.{Decides-int_eq}
-use Rattle.std.specs.Cmp.Lexicographic.{pointwise, pointwise_decides}
-use Rattle.std.specs.Ordering.{int_eq}
+use Rattle.std.proofs.Common.{IsTrue, Some, None, ap, sym, subst, ◌∙◌, ◌↔◌, arith}
 use Rattle.fmp_base.specs.Meanings.{Meaning}
 use Rattle.fmp_base.specs.Stretches.{Ending, is_over}
 use Rattle.fmp_base.specs.Stretches as ends
@@ -18,9 +15,6 @@ use Rattle.fmp_kernel.specs.KernelViews.{KernelView, actor_in, with_stamp}
 use Rattle.fmp_worlds.specs.Stamps.{Going, actor_at_number}
 use Rattle.fmp_question.specs.Endless.{GoesOnForEver, IsEndless, IsEndlessOn, LeadsTo}
 
-pub same_numbers : (xs ys : List ℤ) → pointwise int_eq xs ys ≡ true → xs ≡ ys
-same_numbers xs ys = (pointwise_decides (λ x y. Decides-int_eq x y) xs ys).0
-
 abbrev context_of : ℕ → ℕ → List ℤ → List ℤ → MachineContext
 context_of pc count locals operands =
     record { pc = pc; count = count; locals = locals; operands = operands }
@@ -32,6 +26,13 @@ same_context a b p c l o =
     ∙ ap (λ (x : ℕ). context_of b.pc x a.locals a.operands) c
     ∙ ap (λ (xs : List ℤ). context_of b.pc b.count xs a.operands) l
     ∙ ap (λ (xs : List ℤ). context_of b.pc b.count b.locals xs) o
+
+pub together : (a b : MachineContext) → a ≡ b → (a.pc ≡ b.pc) × (a.count ≡ b.count)
+together a b e = (ap (λ (x : MachineContext). x.pc) e, ap (λ (x : MachineContext). x.count) e)
+
+-- the answer where a part of two contexts is not the same
+pub not_same : {P Q : Type 0} (same : Bool) → same ≡ false → (IsTrue same ↔ P) → (Q → P) → IsTrue false ↔ Q
+not_same same differs is part = (λ yes. absurd (cc (yes)), λ q. absurd (cc (sym differs ∙ is.1 (part q))))
 
 -- this many rounds of this many instructions
 laps : (made rounds : ℕ) → ℕ
@@ -110,6 +111,27 @@ module _ (bodies : List BodyTables) (body : ℕ) where
   before : (c d : MachineContext) → Leads c d → ForEver d → ForEver c
   before c d l h = λ n.
       below c n (l.made + n) (omega arith) (ap (λ (x : Ending MachineContext). is_over x) (l.goes_on n) ∙ h n)
+
+  -- so many instructions lead from one context to another
+  abbrev pub Made : ℕ → MachineContext → MachineContext → Type 0
+  Made made c d = (n : ℕ) → stretch (made + n) c ≡ stretch n d
+
+  pub cut_once_more : (c d e : MachineContext) (made n more : ℕ) → Made made c d → stretch n d ≡ ends.Over (Some e)
+      → more ≡ made + n → Made more c e
+  cut_once_more c d e made n more m h is = λ k.
+      ap (λ (x : ℕ). stretch x c) (omega (arith, is)) ∙ m (n + k)
+      ∙ exec-resumes (instructions_at bodies body) n k d.pc (stack_of d) d.locals e h
+
+  pub ended_within : (c d : MachineContext) (made n most : ℕ) → Made made c d → is_over (stretch n d) ≡ false
+      → made + n ≤ most → is_over (stretch most c) ≡ false
+  ended_within c d made n most m h le =
+      let ended : is_over (stretch (made + n) c) ≡ false = ap (λ (x : Ending MachineContext). is_over x) (m n) ∙ h in
+      ap (λ (x : Ending MachineContext). is_over x) (code_meaning-stays bodies body (made + n) most c le ended) ∙ ended
+
+  pub not_ended : (c d : MachineContext) (made most : ℕ) → Made made c d → most ≡ made → is_over (stretch most c) ≡ true
+  not_ended c d made most m is =
+      ap (λ (x : ℕ). is_over (stretch x c)) (omega (arith, is))
+      ∙ ap (λ (x : Ending MachineContext). is_over x) (m 0) ∙ at_once d
 
   -- the context that is looked for comes again
   pub found_again : (c mark at next : MachineContext) (n : ℕ) → 1 ≤ n → Leads c mark → Leads mark at

@@ -1,5 +1,6 @@
 //! Bodies that go on forever without a service call.
-ghost use Rattle.std.specs.Prelude.{◌≡◌, ◌<◌, ◌≤◌, ◌⊎◌, IfSome, IsTrue, Some, length};
+ghost use Rattle.std.specs.Prelude.{◌≡◌, ◌<◌, ◌≤◌, ◌^◌, ◌⊎◌, ◌↔◌, IfNone, IfSome, IsTrue, Some, false, length, true};
+ghost use Rattle.fmp_base.specs.Stretches.{is_over};
 ghost use Rattle.fmp_base.specs.Stretches as ends;
 ghost use Rattle.fmp_instructions.specs.Machine.{code_meaning};
 ghost use Rattle.fmp_code.specs.Vms.{IsContext};
@@ -20,9 +21,9 @@ const TRIED_MOST: u32 = 1 << 18;
 pub enum Outlook {
     /// It goes on forever without a call.
     Endless,
-    /// It comes to a call, its end or a fault.
+    /// It comes to a call, its end or a fault, within 2^26 instructions.
     Ends,
-    /// Within 2^26 instructions neither is seen.
+    /// It makes 2^26 instructions without a call, and is not seen to go on forever.
     Unknown,
 }
 
@@ -37,21 +38,21 @@ struct LoopMark {
 
 /// Whether the places of two contexts hold the same numbers.
 fn are_same(a: &[i32; 64], b: &[i32; 64]) -> bool
-    ensures { IsTrue result → a.now ≡ b.now }
+    ensures { IsTrue result ↔ a.now ≡ b.now }
 {
     a == b
 }
 
 /// Whether two contexts stand at one place, with as many operands.
 fn stand_together(a: &MachineContext, b: &MachineContext) -> bool
-    ensures { IsTrue result → (a.now.pc ≡ b.now.pc) × (a.now.count ≡ b.now.count) }
+    ensures { IsTrue result ↔ ((a.now.pc ≡ b.now.pc) × (a.now.count ≡ b.now.count)) }
 {
     a.pc == b.pc && a.count == b.count
 }
 
 /// Whether two contexts are one.
 pub fn is_same(a: &MachineContext, b: &MachineContext) -> bool
-    ensures { IsTrue result → a.now ≡ b.now }
+    ensures { IsTrue result ↔ a.now ≡ b.now }
 {
     if !stand_together(a, b) {
         return false;
@@ -84,6 +85,7 @@ fn cut(body: &Vm<'_>, entry: u8, context: MachineContext) -> Option<MachineConte
     ensures value { IfSome result
         (λ next. (code_meaning body.now).stretch entry CUT context ≡ ends.Over (Some next)) }
     ensures context { IfSome result (λ next. IsContext body.now entry next) }
+    ensures ends { IfNone result (is_over ((code_meaning body.now).stretch entry CUT context) ≡ false) }
 {
     match body.stretch(entry, CUT, context) {
         Stretch::Over(next) => Some(next),
@@ -96,7 +98,11 @@ fn cut(body: &Vm<'_>, entry: u8, context: MachineContext) -> Option<MachineConte
 pub fn outlook_of(body: &Vm<'_>, entry: u8, context: MachineContext) -> Outlook
     requires entry { entry < length body.now }
     requires context { IsContext body.now entry context }
-    ensures { result ≡ Outlook.Endless → GoesOnForEver (code_meaning body.now) entry context }
+    ensures endless { result ≡ Outlook.Endless → GoesOnForEver (code_meaning body.now) entry context }
+    ensures ends { result ≡ Outlook.Ends
+        → is_over ((code_meaning body.now).stretch entry (2 ^ 26) context) ≡ false }
+    ensures unknown { result ≡ Outlook.Unknown
+        → is_over ((code_meaning body.now).stretch entry (2 ^ 26) context) ≡ true }
 {
     let mut mark = LoopMark {
         context,

@@ -1,6 +1,6 @@
 //! What is asked about all schedules: what must never happen, which events may happen, and where to stop.
 
-ghost use Rattle.std.specs.Prelude.{◌<◌, ◌≡◌, ◌^◌, [], IsTrue, None, count_by, false, is_some, true};
+ghost use Rattle.std.specs.Prelude.{◌<◌, ◌≡◌, ◌^◌, ◌↔◌, [], IsTrue, None, count_by, false, is_some, true};
 ghost use Rattle.std.specs.List.{position};
 ghost use Rattle.fmp_schedules.specs.Deadlocks.{is_interrupt as is_request, may_interrupt as may};
 ghost use Rattle.fmp_question.specs.Forbidden.{forbids, is_answered as answers, is_fault as stops_with};
@@ -133,7 +133,7 @@ impl Question {
     /// Whether a search can begin after the events: nothing is watched where there are such events, and there are no
     /// more interrupts among them than a row tells.
     pub fn can_begin(&self) -> bool
-        ensures { IsTrue result → CanBegin self.now }
+        ensures { IsTrue result ↔ CanBegin self.now }
     {
         if interrupt_count(&self.after) >= 256 {
             return false;

@@ -61,8 +61,9 @@ abbrev pub is_broken : Monitor → List Line → Bool
 is_broken m [] = false
 is_broken m (l ∷ ls) = breaks m l || is_broken (monitor_on m l) ls
 
--- the line at a place of these breaks the sentence, of which this was kept before it
+-- the line at a place of these is the first that breaks the sentence, of which this was kept before it
 pub record IsBreach (m : Monitor) (ls : List Line) (b : Breach) : Type 0 where
+  pub first : is_broken m (take b.place ls) ≡ false
   pub line : Line
   pub there : slice_get ls b.place ≡ Some line
   pub standing : (monitor_after m (take b.place ls)).standing ≡ b.standing

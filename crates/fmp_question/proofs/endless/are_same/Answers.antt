@@ -1,6 +1,6 @@
-use Rattle.std.proofs.Common.{sym, ◌∙◌}
-use Rattle.fmp_question.proofs.EndlessLemmas.{same_numbers}
+use Rattle.std.proofs.Common.{rules}
+use Rattle.std.specs.Cmp.Rules.{signed_items}
 use Rattle.fmp_question.proofs.endless.are_same.Goals as goal
 
 pub returns : goal.returns
-returns c = λ yes. same_numbers c.args.a.now c.args.b.now (sym c.eq.ensures ∙ yes)
+returns c = let d = signed_items c.args.a.now c.args.b.now in let e = c.eq.ensures in search rules

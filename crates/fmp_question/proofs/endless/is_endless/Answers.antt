@@ -10,4 +10,4 @@ returns-in-Endless c = λ _.
     actor_endless (λ bodies. code_meaning bodies) c.args.kernel.now c.args.p c.in-Some.actor
     (sym c.in-Some.is ∙ c.actor.ensures.value)
     (subst (λ (bodies : List BodyTables). GoesOnForEver (code_meaning bodies) c.in-Some.actor.entry
-    c.in-Some.actor.context) c.requires (c.outlook_of.ensures c.in-Endless.is))
+    c.in-Some.actor.context) c.requires (c.outlook_of.ensures.endless c.in-Endless.is))

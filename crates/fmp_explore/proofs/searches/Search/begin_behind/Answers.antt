@@ -17,7 +17,7 @@ keep_first-requires-clause-live c = c.requires.survey.survey.live
 pub keep_first-requires-clause-few : goal.keep_first-requires-clause-few
 keep_first-requires-clause-few c = λ _.
     let yes : IsTrue c.can_begin.result = search rules in
-    (c.can_begin.ensures yes).few
+    (c.can_begin.ensures.0 yes).few
 
 pub keep_first-requires-clause-held : goal.keep_first-requires-clause-held
 keep_first-requires-clause-held c =
