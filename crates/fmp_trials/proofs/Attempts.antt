@@ -22,6 +22,17 @@ few_left es first end low high =
     rw (length-append (take first es) (drop end es))
     (omega (arith, length-take-le first es (omega (arith, low, high)), length-drop end es, low, high))
 
+one_fewer : (es : List Event) (place : ℕ) → place < length es → length (without es place (place + 1)) < length es
+one_fewer es place below =
+    rw (length-append (take place es) (drop (place + 1) es))
+    (omega (arith, length-take-le place es (omega (arith, below)), length-drop (place + 1) es, below))
+
+-- one place more, where events were left out before or are now
+pub fewer_more : (before after : Bool) (first was now : ℕ) → (before ≡ true → was < first) → was ≤ first
+    → (after ≡ true → before ≡ false → now < was) → now ≤ was → after ≡ true → now < first
+fewer_more true after first was now left low fewer no_longer some = omega (arith, left refl, no_longer)
+fewer_more false after first was now left low fewer no_longer some = omega (arith, low, fewer some refl)
+
 abbrev with_room : FailingRun → ℕ → FailingRun
 with_room run r = record run { room = r }
 
@@ -73,6 +84,22 @@ module _ {B C : Type 0} (meaning : B → Meaning C) (s : Subject B C) where
       subst (λ (xs : List Event). first ≤ length xs) (sym h) (front_left old.steps.items first end low high)
   left_after old new first end false low high h =
       subst (λ (xs : List Event). first ≤ length xs) (sym h.0) (omega (arith, low, high))
+
+  pub fewer_after : (old new : FailingRun) (place : ℕ) (gone : Bool) → place < length old.steps.items
+      → IsTried meaning s old new (without old.steps.items place (place + 1)) gone → gone ≡ true
+      → length new.steps.items < length old.steps.items
+  fewer_after old new place true below h went =
+      subst (λ (xs : List Event). length xs < length old.steps.items) (sym h) (one_fewer old.steps.items place below)
+  fewer_after old new place false below h went = absurd (cc (went))
+
+  pub no_longer_after : (old new : FailingRun) (place : ℕ) (gone : Bool) → place < length old.steps.items
+      → IsTried meaning s old new (without old.steps.items place (place + 1)) gone
+      → length new.steps.items ≤ length old.steps.items
+  no_longer_after old new place true below h =
+      let fewer = fewer_after old new place true below h refl in
+      omega (arith, fewer)
+  no_longer_after old new place false below h =
+      subst (λ (xs : List Event). length xs ≤ length old.steps.items) (sym h.0) (omega arith)
 
   -- nothing can go behind the last event
   pub none_behind : (run : FailingRun) → NoneCanGo meaning s run (length run.steps.items) false

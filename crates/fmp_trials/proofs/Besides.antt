@@ -1,11 +1,9 @@
--- Kernels of the same bodies, bound and system, and what an event that is offered to one leaves.
-use Rattle.std.proofs.Common.{◌≡◌, ◌∙◌, ℕ, ◌+◌, ◌≤◌, ◌^◌, Bool, true, false, List, [], ◌∷◌, ap, arith, refl, subst, sym}
-use Rattle.fmp_base.specs.declared.events.Effect.TheVariants as effect
-use Rattle.fmp_base.specs.Steps.{Reaction, Nothing, Did, Kept, effect_of}
+-- Kernels of the same bodies, bound and system.
+use Rattle.std.proofs.Common.{◌≡◌, ◌∙◌, ℕ, ◌+◌, ◌≤◌, ◌^◌, List, [], ◌∷◌, ap, arith, refl, subst, sym}
+use Rattle.fmp_base.specs.Steps.{Reaction}
 use Rattle.fmp_kernel.specs.Comings.{view_after_each}
 use Rattle.fmp_kernel.proofs.Comings.{body-step, bound-step, system-step, taken-step}
 use Rattle.fmp_kernel.specs.KernelViews.{KernelView, view_after}
-use Rattle.fmp_trials.specs.Taking.{HasMoved, HasStepped}
 use Rattle.fmp_trials.specs.Verdicts.{IsBeside}
 
 module _ {B C : Type 0} where
@@ -30,25 +28,8 @@ module _ {B C : Type 0} where
   pub beside_same : (a b c : KernelView B C) → IsBeside a b → c ≡ b → IsBeside a c
   beside_same a b c h e = subst (λ (v : KernelView B C). IsBeside a v) (sym e) h
 
-  pub stepped : (k k' : KernelView B C) (o : Reaction C) → k' ≡ view_after k o → HasStepped k k'
-  stepped k k' o h = record { beside = beside_after k k' o h; taken = taken-step k k' o h }
-
-  pub stands : (k k' : KernelView B C) (o : Reaction C) → effect.Nothing ≡ effect_of o → k' ≡ view_after k o → k' ≡ k
-  stands k k' Nothing none h = h
-  stands k k' (Did d) none h = absurd (cc)
-  stands k k' (Kept p w) none h = absurd (cc)
-
-  -- from a kernel that stands as another one
-  pub moved_from : (k k' after : KernelView B C) (done : Bool) → k' ≡ k → HasMoved k' after done → HasMoved k after done
-  moved_from k k' after done same h = subst (λ (v : KernelView B C). HasMoved v after done) same h
-
-  pub moved_so : (k k' after : KernelView B C) (done : Bool) → k' ≡ k → done ≡ true → HasMoved k' after done
-      → HasMoved k after true
-  moved_so k k' after done same is h = subst (λ (b : Bool). HasMoved k after b) is (moved_from k k' after done same h)
-
-  pub moved_not : (k k' after : KernelView B C) (done : Bool) → k' ≡ k → done ≡ false → HasMoved k' after done
-      → after ≡ k
-  moved_not k k' after done same is h = subst (λ (b : Bool). HasMoved k after b) is (moved_from k k' after done same h)
+  pub taken_after : (k k' : KernelView B C) (o : Reaction C) → k' ≡ view_after k o → k'.taken ≤ k.taken + 1
+  taken_after k k' o h = taken-step k k' o h
 
 pub beside_each : {B C X : Type 0} (reaction : KernelView B C → X → Reaction C) (k : KernelView B C) (xs : List X)
     → IsBeside k (view_after_each reaction k xs)

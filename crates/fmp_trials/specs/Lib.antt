@@ -1,6 +1,7 @@
 pub mod Verdicts
 pub mod Taking
 pub mod Trials
+pub mod Drawn
 pub mod Shortening
 pub mod Found
 pub mod Lines

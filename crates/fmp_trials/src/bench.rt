@@ -1,5 +1,6 @@
 //! Runs that are tried one after the other, each from the same kernel.
 ghost use Rattle.std.specs.Prelude.{◌≡◌, ◌≤◌, ◌^◌, IfOk, length};
+ghost use Rattle.fmp_trials.specs.Drawn.{IsDrawn};
 ghost use Rattle.fmp_trials.specs.Verdicts.{IsBeside};
 
 use crate::choices::Choices;
@@ -70,6 +71,7 @@ impl<'a, B: Body> Bench<'a, B> {
         choices: &mut Choices<'_>,
     ) -> Result<RandomRun, AllocError>
         ensures few { IfOk result (λ run. length run.steps.items ≤ 2 ^ 20) }
+        ensures drawn { IfOk result (IsDrawn B.meaning self.old choices.old.plan.events) }
         ensures same { self.new ≡ self.old }
     {
         let mut checker = Checker::new(alloc, self.expected)?;

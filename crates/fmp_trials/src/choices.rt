@@ -1,5 +1,5 @@
 //! What comes in a random run, by chance.
-ghost use Rattle.std.specs.Prelude.{◌<◌};
+ghost use Rattle.std.specs.Prelude.{◌≡◌, ◌<◌};
 
 use rand_core::SeedableRng;
 use rand_core::utils::NextWord;
@@ -39,7 +39,9 @@ pub struct Choices<'a> {
 impl<'a> Choices<'a> {
     /// The choices of the run of this seed. Most mistakes need few changes of processor at the right places, so these
     /// come once in 1, 4, 16 or 64 events, which is a choice too.
-    pub fn new(plan: RunPlan<'a>, seed: u64) -> Choices<'a> {
+    pub fn new(plan: RunPlan<'a>, seed: u64) -> Choices<'a>
+        ensures { result.plan.events ≡ plan.entry.events }
+    {
         let mut random = Pcg32::seed_from_u64(seed);
         let change = match random.next_word() % 4 {
             0 => 1,

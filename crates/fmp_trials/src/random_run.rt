@@ -1,6 +1,14 @@
 //! Random runs, which are judged as they go.
-ghost use Rattle.std.specs.Prelude.{◌≡◌, ◌<◌, ◌≤◌, ◌^◌, IfOk, is_some, length, true};
-ghost use Rattle.fmp_trials.specs.Taking.{HasMoved};
+ghost use Rattle.std.specs.Prelude.{◌≡◌, ◌<◌, ◌≤◌, ◌^◌, [], List, None, IfNone, IfOk, IfSome, is_some, length};
+ghost use Rattle.std.specs.Prelude.{true, false};
+ghost use Rattle.fmp_base.specs.declared.events.Event.TheVariants as event;
+ghost use Rattle.fmp_expect.specs.declared.expectation.Expected.{Expected};
+ghost use Rattle.fmp_expect.specs.Meaning.{Told, first_broken};
+ghost use Rattle.fmp_expect.specs.Runs.{last_told, told_after};
+ghost use Rattle.fmp_expect.specs.Watches.{AreTold};
+ghost use Rattle.fmp_kernel.specs.Comings.{reaction_of};
+ghost use Rattle.fmp_trials.specs.Drawn.{IsDrawn, subject_of};
+ghost use Rattle.fmp_trials.specs.Taking.{HasCome};
 ghost use Rattle.fmp_trials.specs.Verdicts.{IsBeside};
 
 use crate::choices::Choices;
@@ -24,7 +32,8 @@ const EVENTS_MOST: u32 = 1 << 20;
 /// A kernel takes an event: whether that does something.
 fn takes<B: Body>(kernel: &mut Kernel<B>, e: Event) -> bool
     requires { kernel.old.taken < 2 ^ 31 }
-    ensures { HasMoved kernel.old kernel.new result }
+    ensures come { result ≡ true → HasCome B.meaning kernel.old kernel.new e }
+    ensures stands { result ≡ false → kernel.new ≡ kernel.old }
 {
     match kernel.step_long(e) {
         Effect::Done => true,
@@ -36,7 +45,7 @@ fn takes<B: Body>(kernel: &mut Kernel<B>, e: Event) -> bool
 /// The clock advances.
 fn tick<B: Body>(kernel: &mut Kernel<B>) -> Event
     requires { kernel.old.taken < 2 ^ 31 }
-    ensures { HasMoved kernel.old kernel.new true }
+    ensures { HasCome B.meaning kernel.old kernel.new result }
 {
     kernel.step_long(Event::Tick);
     Event::Tick
@@ -45,7 +54,8 @@ fn tick<B: Body>(kernel: &mut Kernel<B>) -> Event
 /// The first interrupt whose turn it is by chance, and that does something.
 fn interrupt<B: Body>(kernel: &mut Kernel<B>, choices: &mut Choices<'_>) -> Option<Event>
     requires { kernel.old.taken < 2 ^ 31 }
-    ensures { HasMoved kernel.old kernel.new (is_some result) }
+    ensures come { IfSome result (HasCome B.meaning kernel.old kernel.new) }
+    ensures stands { IfNone result (kernel.new ≡ kernel.old) }
 {
     let rates = choices.plan.interrupts;
     for rate in rates {
@@ -63,7 +73,8 @@ fn interrupt<B: Body>(kernel: &mut Kernel<B>, choices: &mut Choices<'_>) -> Opti
 /// The first processor that can do something, from the first up to the end, which is left out, does it.
 fn run_from<B: Body>(kernel: &mut Kernel<B>, first: u8, end: u8) -> Option<u8>
     requires { kernel.old.taken < 2 ^ 31 }
-    ensures { HasMoved kernel.old kernel.new (is_some result) }
+    ensures come { IfSome result (λ p. HasCome B.meaning kernel.old kernel.new (event.Run p)) }
+    ensures stands { IfNone result (kernel.new ≡ kernel.old) }
 {
     for processor in first..end {
         if takes(kernel, Event::Run(processor)) {
@@ -77,7 +88,8 @@ fn run_from<B: Body>(kernel: &mut Kernel<B>, first: u8, end: u8) -> Option<u8>
 fn run_one<B: Body>(kernel: &mut Kernel<B>, first: u8, last: u8) -> Option<u8>
     requires taken { kernel.old.taken < 2 ^ 31 }
     requires last { last ≤ 8 }
-    ensures { HasMoved kernel.old kernel.new (is_some result) }
+    ensures come { IfSome result (λ p. HasCome B.meaning kernel.old kernel.new (event.Run p)) }
+    ensures stands { IfNone result (kernel.new ≡ kernel.old) }
 {
     match run_from(kernel, first, last + 1) {
         Some(processor) => Some(processor),
@@ -88,7 +100,7 @@ fn run_one<B: Body>(kernel: &mut Kernel<B>, first: u8, last: u8) -> Option<u8>
 /// A processor goes on, or the clock if none can do anything.
 fn run_or_tick<B: Body>(kernel: &mut Kernel<B>, choices: &mut Choices<'_>) -> Event
     requires { kernel.old.taken < 2 ^ 31 }
-    ensures { HasMoved kernel.old kernel.new true }
+    ensures { HasCome B.meaning kernel.old kernel.new result }
 {
     let processors = kernel.tables().processor_count() as u8;
     match run_one(kernel, choices.processor(processors), processors) {
@@ -103,7 +115,7 @@ fn run_or_tick<B: Body>(kernel: &mut Kernel<B>, choices: &mut Choices<'_>) -> Ev
 /// The next event, which is taken.
 fn next<B: Body>(kernel: &mut Kernel<B>, choices: &mut Choices<'_>) -> Event
     requires { kernel.old.taken < 2 ^ 31 }
-    ensures { HasMoved kernel.old kernel.new true }
+    ensures { HasCome B.meaning kernel.old kernel.new result }
 {
     if let Some(e) = interrupt(kernel, choices) {
         return e;
@@ -116,7 +128,12 @@ fn next<B: Body>(kernel: &mut Kernel<B>, choices: &mut Choices<'_>) -> Event
 
 /// Tells the lines of a kernel's last event that was done, or of setup, and the state after it: whether a sentence is
 /// broken by now.
-fn is_broken<B: Body>(kernel: &Kernel<B>, checker: &mut Checker) -> bool {
+fn is_broken<B: Body>(kernel: &Kernel<B>, checker: &mut Checker) -> bool
+    ensures told { (xs : List Expected) → (told : List Told) → AreTold xs told checker.old
+        → AreTold xs (last_told kernel.now told) checker.new }
+    ensures broken { (xs : List Expected) → (told : List Told) → AreTold xs told checker.old
+        → result ≡ is_some (first_broken xs (last_told kernel.now told) [] kernel.now.done) }
+{
     checker.tell(kernel.done(), kernel.lines());
     checker.tell_state(kernel.done(), kernel.tables());
     checker.verdict(&[], kernel.done()).is_some()
@@ -129,11 +146,20 @@ fn judged_next<B: Body>(
     checker: &mut Checker,
 ) -> (Event, bool)
     requires { kernel.old.taken < 2 ^ 31 }
-    ensures { HasMoved kernel.old kernel.new true }
+    ensures come { HasCome B.meaning kernel.old kernel.new result.0 }
+    ensures told { (xs : List Expected) → (told : List Told) → AreTold xs told checker.old
+        → AreTold xs (told_after kernel.old (reaction_of B.meaning kernel.old result.0) told) checker.new }
+    ensures broken { (xs : List Expected) → (told : List Told) → AreTold xs told checker.old
+        → first_broken xs told [] kernel.old.done ≡ None
+        → result.1 ≡ is_some (first_broken xs
+        (told_after kernel.old (reaction_of B.meaning kernel.old result.0) told) [] kernel.new.done) }
 {
     let done = kernel.done();
     let e = next(kernel, choices);
-    (e, kernel.done() > done && is_broken(kernel, checker))
+    if kernel.done() == done {
+        return (e, false);
+    }
+    (e, is_broken(kernel, checker))
 }
 
 /// A random run of a kernel up to the first event that breaks a sentence, or the last. `AllocError` if memory runs out.
@@ -145,6 +171,8 @@ pub fn random_run<B: Body>(
 ) -> Result<RandomRun, AllocError>
     requires { kernel.old.taken ≡ 0 }
     ensures few { IfOk result (λ run. length run.steps.items ≤ 2 ^ 20) }
+    ensures drawn { (xs : List Expected) → AreTold xs [] checker.old
+        → IfOk result (IsDrawn B.meaning (subject_of kernel.old xs) choices.old.plan.events) }
     ensures beside { IsBeside kernel.old kernel.new }
 {
     let mut steps = Vec::new(alloc);

@@ -145,6 +145,7 @@ fn drop_piece<B: Body>(
     requires end { end ≤ length run.old.steps.items }
     ensures same { bench.new ≡ bench.old }
     ensures failing { IsFailing B.meaning bench.new run.new }
+    ensures line { run.new.broken.line ≡ run.old.broken.line }
 {
     let steps = thinned(alloc, &run.steps, first, end, kept)?;
     if steps.len() < run.steps.len() {
@@ -164,6 +165,7 @@ fn drop_pieces_of<B: Body>(
     requires failing { IsFailing B.meaning bench.old run.old }
     ensures same { bench.new ≡ bench.old }
     ensures failing { IsFailing B.meaning bench.new run.new }
+    ensures line { run.new.broken.line ≡ run.old.broken.line }
 {
     let stride = (size / 8).max(1);
     let mut end = run.steps.len();
@@ -185,6 +187,7 @@ fn drop_pieces<B: Body>(
     requires failing { IsFailing B.meaning bench.old run.old }
     ensures same { bench.new ≡ bench.old }
     ensures failing { IsFailing B.meaning bench.new run.new }
+    ensures line { run.new.broken.line ≡ run.old.broken.line }
 {
     let mut size = run.steps.len();
     while size > 0 {
@@ -203,6 +206,7 @@ fn drop_pieces_of_all<B: Body>(
     requires failing { IsFailing B.meaning bench.old run.old }
     ensures same { bench.new ≡ bench.old }
     ensures failing { IsFailing B.meaning bench.new run.new }
+    ensures line { run.new.broken.line ≡ run.old.broken.line }
 {
     drop_pieces(alloc, bench, run, NO_PROCESSOR)?;
     for kept in 1..PROCESSORS_END {
@@ -245,8 +249,12 @@ fn drop_event<B: Body>(
     requires behind { NoneCanGo B.meaning bench.old run.old (place + 1) dropped }
     ensures same { bench.new ≡ bench.old }
     ensures failing { IsFailing B.meaning bench.new run.new }
+    ensures line { run.new.broken.line ≡ run.old.broken.line }
     ensures left { OnOk result (place ≤ length run.new.steps.items) }
     ensures behind { IfOk result (NoneCanGo B.meaning bench.new run.new place) }
+    ensures no_longer { OnOk result (length run.new.steps.items ≤ length run.old.steps.items) }
+    ensures fewer { IfOk result (λ after. after ≡ true → dropped ≡ false
+        → length run.new.steps.items < length run.old.steps.items) }
 {
     let gone = drop_single(alloc, bench, run, place)?;
     if gone {
@@ -264,7 +272,10 @@ fn drop_events<B: Body>(
     requires failing { IsFailing B.meaning bench.old run.old }
     ensures same { bench.new ≡ bench.old }
     ensures failing { IsFailing B.meaning bench.new run.new }
+    ensures line { run.new.broken.line ≡ run.old.broken.line }
     ensures all { IfOk result (NoneCanGo B.meaning bench.new run.new 0) }
+    ensures fewer { IfOk result (λ dropped. dropped ≡ true
+        → length run.new.steps.items < length run.old.steps.items) }
 {
     let mut dropped = false;
     let mut place = run.steps.len();
@@ -285,8 +296,10 @@ fn drop_until_none<B: Body>(
     requires failing { IsFailing B.meaning bench.old run.old }
     ensures same { bench.new ≡ bench.old }
     ensures failing { IsFailing B.meaning bench.new run.new }
+    ensures line { run.new.broken.line ≡ run.old.broken.line }
     ensures shortest { IfOk result (λ shortest. shortest ≡ true
         → spec.IsShortest B.meaning bench.new run.new.steps.items run.new.broken.line) }
+    ensures ended { IfOk result (λ shortest. shortest ≡ false → run.new.room ≡ 0) }
 {
     for _round in 0..run.steps.len() + 1 {
         let dropped = drop_events(alloc, bench, run)?;
@@ -323,6 +336,7 @@ fn gather_event<B: Body>(
     requires failing { IsFailing B.meaning bench.old run.old }
     ensures same { bench.new ≡ bench.old }
     ensures failing { IsFailing B.meaning bench.new run.new }
+    ensures line { run.new.broken.line ≡ run.old.broken.line }
 {
     if at < run.steps.len() {
         if let Some(to) = place_behind(&run.steps, at) {
@@ -342,6 +356,7 @@ fn gather<B: Body>(
     requires failing { IsFailing B.meaning bench.old run.old }
     ensures same { bench.new ≡ bench.old }
     ensures failing { IsFailing B.meaning bench.new run.new }
+    ensures line { run.new.broken.line ≡ run.old.broken.line }
 {
     for at in 1..run.steps.len() {
         gather_event(alloc, bench, run, at)?;
@@ -358,6 +373,7 @@ fn drop_and_gather<B: Body>(
     requires failing { IsFailing B.meaning bench.old run.old }
     ensures same { bench.new ≡ bench.old }
     ensures failing { IsFailing B.meaning bench.new run.new }
+    ensures line { run.new.broken.line ≡ run.old.broken.line }
 {
     for _round in 0..ROUNDS {
         let before = run.steps.len();
@@ -370,7 +386,7 @@ fn drop_and_gather<B: Body>(
     Ok(())
 }
 
-/// Makes a run shorter: whether no event of it can go any more.
+/// Makes a run shorter: whether no event of it can go any more. Where that is not known, no room to try is left.
 pub fn shorten<B: Body>(
     alloc: Global,
     bench: &mut Bench<'_, B>,
@@ -379,8 +395,10 @@ pub fn shorten<B: Body>(
     requires failing { IsFailing B.meaning bench.old run.old }
     ensures same { bench.new ≡ bench.old }
     ensures failing { IsFailing B.meaning bench.new run.new }
+    ensures line { run.new.broken.line ≡ run.old.broken.line }
     ensures shortest { IfOk result (λ shortest. shortest ≡ true
         → spec.IsShortest B.meaning bench.new run.new.steps.items run.new.broken.line) }
+    ensures ended { IfOk result (λ shortest. shortest ≡ false → run.new.room ≡ 0) }
 {
     drop_and_gather(alloc, bench, run)?;
     drop_until_none(alloc, bench, run)

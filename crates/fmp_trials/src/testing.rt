@@ -1,7 +1,9 @@
 //! Random runs one after the other, until one fails.
-ghost use Rattle.std.specs.Prelude.{◌≡◌, ◌<◌, ◌≤◌, ◌^◌, IfOk, IfSome, length};
+ghost use Rattle.std.specs.Prelude.{◌≡◌, ◌<◌, ◌≤◌, ◌^◌, None, IfNone, IfOk, IfSome, false, length};
+ghost use Rattle.fmp_trials.specs.Drawn.{HasMet, IsWhole, any_of_end};
 ghost use Rattle.fmp_trials.specs.Shortening.{IsFailing};
 ghost use Rattle.fmp_trials.specs.Found.{IsFound};
+ghost use Rattle.fmp_trials.specs.Trials.{broken_by};
 
 use crate::bench::Bench;
 use crate::choices::{Choices, RunPlan};
@@ -24,7 +26,7 @@ pub struct FailedTrial {
     pub drawn: usize,
     /// What is left of it.
     pub run: FailingRun,
-    /// Whether no event of that can be left out.
+    /// Whether no event of that can be left out. Where that is not known, there was no more room to try.
     pub shortest: bool,
 }
 
@@ -44,6 +46,7 @@ fn failing<B: Body>(
     requires { length steps.items ≤ 2 ^ 20 }
     ensures same { bench.new ≡ bench.old }
     ensures failing { IfOk result (λ found. IfSome found (IsFailing B.meaning bench.new)) }
+    ensures met { IfOk result (λ found. IfNone found (broken_by B.meaning bench.old steps.items ≡ None)) }
 {
     match bench.verdict(alloc, &steps)? {
         Some(broken) => Ok(Some(FailingRun {
@@ -56,6 +59,7 @@ fn failing<B: Body>(
 }
 
 /// The random run of this seed, if it fails.
+#[tactic(auto, using(crate::proofs::Drawn::met_if_passed, crate::proofs::Drawn::met_if_quiet))]
 fn failing_run<B: Body>(
     alloc: Global,
     bench: &mut Bench<'_, B>,
@@ -64,6 +68,8 @@ fn failing_run<B: Body>(
 ) -> Result<Option<FailingRun>, AllocError>
     ensures same { bench.new ≡ bench.old }
     ensures failing { IfOk result (λ found. IfSome found (IsFailing B.meaning bench.new)) }
+    ensures met { any_of_end bench.old.expected ≡ false
+        → IfOk result (λ found. IfNone found (HasMet B.meaning bench.old plan.entry.events)) }
 {
     let mut choices = Choices::new(plan, seed);
     let RandomRun { steps, is_broken } = bench.random_run(alloc, &mut choices)?;
@@ -73,8 +79,9 @@ fn failing_run<B: Body>(
     failing(alloc, bench, steps)
 }
 
-/// The first of these seeds whose random run fails an expectation, and that run. Where there is none, nothing is said
-/// of other runs. `AllocError` if memory runs out.
+/// The first of these seeds whose random run fails an expectation, and that run. Where there is none, though there are
+/// seeds and no expectation is of the end of a run, a run of as many events as are planned meets them all; nothing is
+/// said of other runs. `AllocError` if memory runs out.
 pub fn first_failing<B: Body>(
     alloc: Global,
     bench: &mut Bench<'_, B>,
@@ -85,6 +92,8 @@ pub fn first_failing<B: Body>(
     ensures failing { IfOk result (λ found. IfSome found (λ f. IsFailing B.meaning bench.new f.run)) }
     ensures after { IfOk result (λ found. IfSome found (λ f. seeds.before < f.seed)) }
     ensures last { IfOk result (λ found. IfSome found (λ f. f.seed ≤ seeds.last)) }
+    ensures met { any_of_end bench.old.expected ≡ false → seeds.before < seeds.last
+        → IfOk result (λ found. IfNone found (HasMet B.meaning bench.old plan.entry.events)) }
 {
     for before in seeds.before..seeds.last {
         if let Some(run) = failing_run(alloc, bench, plan, before + 1)? {
@@ -97,7 +106,7 @@ pub fn first_failing<B: Body>(
     Ok(None)
 }
 
-/// A random run that fails, made shorter. `AllocError` if memory runs out.
+/// A random run that fails, made shorter, so that it fails the same expectation. `AllocError` if memory runs out.
 pub fn shortened<B: Body>(
     alloc: Global,
     bench: &mut Bench<'_, B>,
@@ -106,6 +115,9 @@ pub fn shortened<B: Body>(
     requires { IsFailing B.meaning bench.old found.run }
     ensures same { bench.new ≡ bench.old }
     ensures seed { IfOk result (λ trial. trial.seed ≡ found.seed) }
+    ensures drawn { IfOk result (λ trial. trial.drawn ≡ length found.run.steps.items) }
+    ensures line { IfOk result (λ trial. trial.run.broken.line ≡ found.run.broken.line) }
+    ensures ended { IfOk result (λ trial. trial.shortest ≡ false → trial.run.room ≡ 0) }
     ensures found { IfOk result (IsFound B.meaning bench.new) }
 {
     let FailingSeed { seed, mut run } = found;
@@ -129,6 +141,7 @@ pub fn random_steps<B: Body>(
 ) -> Result<Vec<Event>, AllocError>
     ensures same { bench.new ≡ bench.old }
     ensures few { IfOk result (λ steps. length steps.items ≤ 2 ^ 20) }
+    ensures whole { IfOk result (λ steps. IsWhole B.meaning bench.old plan.entry.events steps.items) }
 {
     let mut choices = Choices::new(plan, seed);
     let run = bench.random_run(alloc, &mut choices)?;
@@ -145,6 +158,8 @@ pub fn first_failed_trial<B: Body>(
 ) -> Result<Option<FailedTrial>, AllocError>
     ensures same { bench.new ≡ bench.old }
     ensures found { IfOk result (λ found. IfSome found (IsFound B.meaning bench.new)) }
+    ensures met { any_of_end bench.old.expected ≡ false → 0 < seeds
+        → IfOk result (λ found. IfNone found (HasMet B.meaning bench.old plan.entry.events)) }
 {
     let seeds = Seeds {
         before: 0,

@@ -1,11 +1,22 @@
-use Rattle.std.proofs.Common.{◌≤◌, length}
+use Rattle.std.proofs.Common.{◌≡◌, ◌≤◌, List, [], None, length}
+use Rattle.fmp_expect.specs.declared.expectation.Expected.{Expected}
+use Rattle.fmp_expect.specs.Runs.{run_told}
+use Rattle.fmp_expect.specs.Watches.{AreTold}
+use Rattle.fmp_kernel.specs.Comings.{reaction_of, view_after_each}
+use Rattle.fmp_trials.specs.Drawn.{broken_so_far, subject_of}
 use Rattle.fmp_trials.specs.Verdicts.{IsBeside}
 use Rattle.fmp_trials.proofs.random_run.random_run.Given as goal
 
+-- the kernel has come along the steps so far, of which the checker was told, and they break nothing
 abbrev pub invariant-loop-turn : goal.invariant-loop-turn
 invariant-loop-turn g l =
     record {
       taken : l.kernel.taken ≤ l._turn;
-      steps : length l.steps.items ≤ l._turn;
+      count : length l.steps.items ≡ l._turn;
       beside : IsBeside l.fn.kernel l.kernel;
+      along : l.kernel ≡ view_after_each (reaction_of g.B.Body.meaning) l.fn.kernel l.steps.items;
+      told : (xs : List Expected) → AreTold xs [] l.fn.checker
+          → AreTold xs (run_told (reaction_of g.B.Body.meaning) l.fn.kernel l.steps.items) l.checker;
+      quiet : (xs : List Expected) → AreTold xs [] l.fn.checker
+          → broken_so_far g.B.Body.meaning (subject_of l.fn.kernel xs) l.steps.items ≡ None;
     }

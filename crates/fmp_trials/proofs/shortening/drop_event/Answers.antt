@@ -1,5 +1,5 @@
-use Rattle.std.proofs.Common.{arith}
-use Rattle.fmp_trials.proofs.Attempts.{any_can_go, behind_after, left_after}
+use Rattle.std.proofs.Common.{◌∙◌, arith, sym}
+use Rattle.fmp_trials.proofs.Attempts.{any_can_go, behind_after, fewer_after, left_after, no_longer_after}
 use Rattle.fmp_trials.proofs.shortening.drop_event.Goals as goal
 
 pub returns-then-gone-clause-left : goal.returns-then-gone-clause-left
@@ -21,3 +21,21 @@ returns-clause-behind g c =
     behind_after g.B.Body.meaning c.args.bench.now c.drop_single.new.bench c.args.run.now
     c.drop_single.new.run c.args.place c.in_ok-gone.gone c.args.dropped c.drop_single.ensures.same c.if-gone.false
     c.drop_single.ensures.on c.in_ok-gone.ensures.tried c.requires.behind
+
+pub returns-then-gone-clause-no_longer : goal.returns-then-gone-clause-no_longer
+returns-then-gone-clause-no_longer g c =
+    no_longer_after g.B.Body.meaning c.drop_single.new.bench c.args.run.now c.drop_single.new.run c.args.place
+    c.in_ok-gone.gone c.requires.place c.in_ok-gone.ensures.tried
+
+pub returns-then-gone-clause-fewer : goal.returns-then-gone-clause-fewer
+returns-then-gone-clause-fewer g c = λ _ _.
+    fewer_after g.B.Body.meaning c.drop_single.new.bench c.args.run.now c.drop_single.new.run c.args.place
+    c.in_ok-gone.gone c.requires.place c.in_ok-gone.ensures.tried c.if-gone.true
+
+pub returns-clause-no_longer : goal.returns-clause-no_longer
+returns-clause-no_longer g c =
+    no_longer_after g.B.Body.meaning c.drop_single.new.bench c.args.run.now c.drop_single.new.run c.args.place
+    c.in_ok-gone.gone c.requires.place c.in_ok-gone.ensures.tried
+
+pub returns-clause-fewer : goal.returns-clause-fewer
+returns-clause-fewer g c = λ yes no. absurd (cc (sym yes ∙ no))

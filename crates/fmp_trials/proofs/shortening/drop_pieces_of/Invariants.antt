@@ -6,6 +6,7 @@ abbrev pub invariant-loop-end : goal.invariant-loop-end
 invariant-loop-end g l =
     record {
       failing : IsFailing g.B.Body.meaning l.bench l.run;
+      line : l.run.broken.line ≡ l.fn.run.broken.line;
       same : l.bench ≡ l.fn.bench;
       end : l.end ≤ length l.run.steps.items;
     }

@@ -1,4 +1,4 @@
-use Rattle.std.proofs.Common.{◌≡◌}
+use Rattle.std.proofs.Common.{◌≡◌, ◌+◌, ◌≤◌, length}
 use Rattle.fmp_trials.specs.Shortening.{IsFailing}
 use Rattle.fmp_trials.proofs.shortening.drop_until_none.Given as goal
 
@@ -6,5 +6,7 @@ abbrev pub invariant-loop-round : goal.invariant-loop-round
 invariant-loop-round g l =
     record {
       failing : IsFailing g.B.Body.meaning l.bench l.run;
+      line : l.run.broken.line ≡ l.fn.run.broken.line;
+      rounds : length l.run.steps.items + l._round ≤ length l.fn.run.steps.items;
       same : l.bench ≡ l.fn.bench;
     }

@@ -6,5 +6,6 @@ abbrev pub invariant-loop-at : goal.invariant-loop-at
 invariant-loop-at g l =
     record {
       failing : IsFailing g.B.Body.meaning l.bench l.run;
+      line : l.run.broken.line ≡ l.fn.run.broken.line;
       same : l.bench ≡ l.fn.bench;
     }

@@ -1,5 +1,11 @@
-use Rattle.std.proofs.Common.{◌≡◌}
+use Rattle.std.proofs.Common.{◌≡◌, ◌<◌, false}
+use Rattle.fmp_trials.specs.Drawn.{HasMet, any_of_end}
 use Rattle.fmp_trials.proofs.testing.first_failing.Given as goal
 
 abbrev pub invariant-loop-before : goal.invariant-loop-before
-invariant-loop-before g l = l.bench ≡ l.fn.bench
+invariant-loop-before g l =
+    record {
+      same : l.bench ≡ l.fn.bench;
+      met : any_of_end l.fn.bench.expected ≡ false → l.fn.seeds.before < l.before
+          → HasMet g.B.Body.meaning l.fn.bench l.fn.plan.events;
+    }
