@@ -63,6 +63,25 @@ impl ActorBits {
         bits
     }
 
+    /// Sets these bits in a byte of a state.
+    pub fn set_all(&mut self, state: u32, byte: usize, theirs: u8) {
+        let place = self.place(state, byte);
+        if let Some(bits) = self.bytes.get_mut(place) {
+            *bits |= theirs;
+        }
+    }
+
+    /// The bits in a byte that one of this many states lacks, where states with this bit are left out.
+    pub fn lacking(&self, states: u32, byte: usize, but: usize) -> u8 {
+        let mut bits = 0;
+        for state in 0..states {
+            if !self.has(state, but) {
+                bits |= !self.bits(state, byte);
+            }
+        }
+        bits
+    }
+
     /// Sets a bit of a state.
     pub fn set(&mut self, state: u32, bit: usize) {
         let place = self.place(state, bit / 8);

@@ -191,6 +191,16 @@ impl Edges {
         spread(alloc, &self.targets, seen, &mut self.actors)
     }
 
+    /// A bit for each task: whether there is a state from which it acts in no state, and from which no end can be
+    /// reached, as `spread` noted. `AllocError` if memory runs out.
+    pub fn lacking(&self, alloc: Global) -> Result<Vec<u8>, AllocError> {
+        let mut lacking = Vec::new(alloc);
+        for byte in 0..self.actors.width() {
+            lacking.push(self.actors.lacking(self.len(), byte, self.tasks))?;
+        }
+        Ok(lacking)
+    }
+
     /// Whether a task acts in a state, or in one that can be reached from it, as `spread` noted.
     pub fn acts_from(&self, state: u32, t: u8) -> bool {
         self.actors.has(state, usize::from(t))

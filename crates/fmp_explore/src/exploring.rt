@@ -96,7 +96,7 @@ struct SearchFindings {
 }
 
 /// Other findings and, of what seems to be so after a search in which every state was examined, the tasks that are
-/// stuck.
+/// stuck: all of them, or the first alone, as is asked.
 fn with_stuck(
     alloc: Global,
     subject: &SearchSubject<'_>,
@@ -106,7 +106,8 @@ fn with_stuck(
     requires found { AreFound (asked_of subject.now) findings.items }
     ensures { AreFound (asked_of subject.now) result.findings.items }
 {
-    let added = add_confirmed(alloc, subject, &mut findings, more.findings);
+    let all = subject.question.all;
+    let added = add_confirmed(alloc, subject, &mut findings, more.findings, all);
     SearchFindings {
         findings,
         looked: added.is_ok(),

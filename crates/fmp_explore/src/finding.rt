@@ -78,18 +78,23 @@ fn add_if_found(
     Ok(())
 }
 
-/// Adds those of the candidates that are so to other findings. `AllocError` if memory runs out: then those up to there
-/// are added.
+/// Adds those of the candidates that are so to other findings: all of them, or the first alone. `AllocError` if memory
+/// runs out: then those up to there are added.
 pub fn add_confirmed(
     alloc: Global,
     subject: &SearchSubject<'_>,
     findings: &mut Vec<Finding>,
     candidates: Vec<Finding>,
+    all: bool,
 ) -> Result<(), AllocError>
     requires found { AreFound (asked_of subject.now) findings.old.items }
     ensures { AreFound (asked_of subject.now) findings.new.items }
 {
+    let known = findings.len();
     for candidate in candidates {
+        if !all && findings.len() > known {
+            return Ok(());
+        }
         add_if_found(alloc, subject, findings, candidate)?;
     }
     Ok(())
@@ -104,7 +109,7 @@ pub fn confirmed(
     ensures { IfOk result (λ findings. AreFound (asked_of subject.now) findings.items) }
 {
     let mut findings = Vec::new(alloc);
-    add_confirmed(alloc, subject, &mut findings, candidates)?;
+    add_confirmed(alloc, subject, &mut findings, candidates, true)?;
     Ok(findings)
 }
 

@@ -32,4 +32,4 @@ pub use fmp_witness::{
     Coverage, Finding, FindingKind, Left, Peaks, RunCoverage, SentenceBreach, Started, left_by,
 };
 pub use searching::{Ending, SearchWatcher};
-pub use values::Variety;
+pub use values::{Varied, Variety};

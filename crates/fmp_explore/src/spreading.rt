@@ -196,9 +196,11 @@ fn sweep_once(
     sweep.changed
 }
 
-/// Makes sweeps over a byte until one changes nothing: whether that came.
+/// Makes sweeps over a byte until one changes nothing: whether that came. The first state has all bits from the start,
+/// since every state can be reached from it.
 fn has_swept(targets: &TargetList, seen: &Seen, bits: &mut ActorBits, byte: usize) -> bool {
     let all = bits.bits_of_some(targets.len(), byte);
+    bits.set_all(0, byte, all);
     for _sweep in 0..SWEEPS {
         if !sweep_once(targets, seen, bits, byte, all) {
             return true;

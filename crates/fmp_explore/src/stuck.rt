@@ -47,8 +47,7 @@ struct Suspect {
 /// What seems to be so after a search in which every state was examined.
 #[derive(Drop)]
 pub struct Suspicions {
-    /// The tasks that seem to be stuck: the first of the states in which one does, or one for each of these tasks, as
-    /// is asked.
+    /// The tasks that seem to be stuck, each in the first state in which it does, in order of the states.
     pub findings: Vec<Finding>,
     /// Whether in a state that can go on only by an interrupt a task that may not rest waits, and can go on later.
     pub waits: bool,
@@ -77,6 +76,14 @@ fn body_at(sys: &System, t: u8) -> u8 {
     match sys.tasks.get(usize::from(t)) {
         Some(config) => body_of(config.entry),
         None => 0,
+    }
+}
+
+/// Whether the bit of a task is set among these bytes.
+fn has_bit(bytes: &[u8], t: u8) -> bool {
+    match bytes.get(usize::from(t / 8)) {
+        Some(bits) => *bits >> (t % 8) & 1 == 1,
+        None => false,
     }
 }
 
@@ -136,9 +143,10 @@ fn suspects_of(
     question: &Question,
 ) -> Result<Vec<Suspect>, AllocError> {
     let mut suspects = Vec::new(alloc);
+    let lacking = survey.edges.lacking(alloc)?;
     for t in 0..sys.tasks.len() {
         let t = low_byte(t);
-        if may_rest(question, t) {
+        if may_rest(question, t) || !has_bit(&lacking, t) {
             continue;
         }
         if let Some(suspect) = suspect_of(alloc, survey, sys, t)? {
@@ -148,8 +156,8 @@ fn suspects_of(
     in_order(alloc, &suspects)
 }
 
-/// The first of the states in which tasks seem to be stuck, or one for each of these tasks, as is asked. `AllocError`
-/// if memory runs out.
+/// The tasks that seem to be stuck, each in the first state in which it does, in order of the states. `AllocError` if
+/// memory runs out.
 fn stuck_in(
     alloc: Global,
     survey: &Search,
@@ -158,13 +166,11 @@ fn stuck_in(
 ) -> Result<Vec<Finding>, AllocError> {
     let mut findings = Vec::new(alloc);
     for suspect in suspects_of(alloc, survey, sys, question)? {
-        if question.all || findings.is_empty() {
-            findings.push(Finding {
-                steps: survey.steps_to(alloc, question, suspect.state)?,
-                kind: FindingKind::Stuck(suspect.task),
-                site: Some(suspect.site),
-            })?;
-        }
+        findings.push(Finding {
+            steps: survey.steps_to(alloc, question, suspect.state)?,
+            kind: FindingKind::Stuck(suspect.task),
+            site: Some(suspect.site),
+        })?;
     }
     Ok(findings)
 }

@@ -1,19 +1,29 @@
-//! The table of values: how many values each field has in some of the states that were seen.
+//! The table of values: how many values each field has in some of the states that were seen, and how many what is kept
+//! of each sentence and limit.
 use fmp_fields::What;
 use fmp_visited::{Seen, unpack};
 use std::alloc::{AllocError, Global};
 
-/// How many values a field has.
+/// What has values in the states of a search.
+#[derive(Clone, Copy)]
+pub enum Varied {
+    /// This field of the states.
+    Field(What),
+    /// What is kept for the monitor at this place of the question's.
+    Standing(usize),
+}
+
+/// How many values a field has, or what is kept for a monitor.
 #[derive(Clone, Copy)]
 pub struct Variety {
-    pub what: What,
+    pub what: Varied,
     pub values: usize,
 }
 
-/// How many different numbers stand in a list that is in order.
-fn different(values: &[u32]) -> usize {
+/// How many different values stand in a list that is in order.
+fn different(values: &[u64]) -> usize {
     let mut count: usize = 0;
-    let mut last: Option<u32> = None;
+    let mut last: Option<u64> = None;
     for value in values {
         if last != Some(*value) {
             count = count.saturating_add(1);
@@ -26,23 +36,86 @@ fn different(values: &[u32]) -> usize {
 /// How many states are looked at, at most.
 const SAMPLE: usize = 1 << 14;
 
-/// The value of the field at a place in some of the states, which lie equally far apart.
-fn column(alloc: Global, seen: &Seen, first: &[u32], place: usize) -> Result<Vec<u32>, AllocError> {
-    let mut column = Vec::new(alloc);
+/// Where a value stands among the numbers of a state.
+#[derive(Clone, Copy)]
+struct Column {
+    place: usize,
+    /// Whether it is two numbers, of which the second stands after that place.
+    is_pair: bool,
+}
+
+/// The number at a place; 0 where there is none.
+fn number_at(numbers: &[u32], place: usize) -> u64 {
+    match numbers.get(place) {
+        Some(number) => u64::from(*number),
+        None => 0,
+    }
+}
+
+/// The value that stands among these numbers.
+fn value_in(numbers: &[u32], column: Column) -> u64 {
+    let first = number_at(numbers, column.place);
+    if !column.is_pair {
+        return first;
+    }
+    let second = number_at(numbers, column.place.saturating_add(1));
+    first.saturating_mul(1 << 32).saturating_add(second)
+}
+
+/// The values in some of the states, which lie equally far apart.
+fn values_in(
+    alloc: Global,
+    seen: &Seen,
+    first: &[u32],
+    column: Column,
+) -> Result<Vec<u64>, AllocError> {
     let mut values = Vec::new(alloc);
+    let mut numbers = Vec::new(alloc);
     let stride = seen.len() / SAMPLE + 1;
     for i in 0..SAMPLE.min(seen.len()) {
         let state = i.saturating_mul(stride) % 4_294_967_295;
-        unpack(seen.row(state as u32), first, &mut values)?;
-        if let Some(value) = values.get(place) {
-            column.push(*value)?;
-        }
+        unpack(seen.row(state as u32), first, &mut numbers)?;
+        values.push(value_in(&numbers, column))?;
     }
-    Ok(column)
+    Ok(values)
 }
 
-/// How many values each field has in a sample of the states that were seen, in order of the fields, where the first
-/// state has these values. `AllocError` if memory runs out.
+/// How many values there are in a sample of the states.
+fn count_in(
+    alloc: Global,
+    seen: &Seen,
+    first: &[u32],
+    column: Column,
+) -> Result<usize, AllocError> {
+    let mut values = values_in(alloc, seen, first, column)?;
+    values.sort()?;
+    Ok(different(&values))
+}
+
+/// Adds how many values is kept for each monitor: two numbers of each stand after those of this many fields.
+fn add_standings(
+    alloc: Global,
+    seen: &Seen,
+    first: &[u32],
+    fields: usize,
+    table: &mut Vec<Variety>,
+) -> Result<(), AllocError> {
+    let monitors = first.len().saturating_sub(fields) / 2;
+    for monitor in 0..monitors {
+        let column = Column {
+            place: fields.saturating_add(monitor.saturating_mul(2)),
+            is_pair: true,
+        };
+        table.push(Variety {
+            what: Varied::Standing(monitor),
+            values: count_in(alloc, seen, first, column)?,
+        })?;
+    }
+    Ok(())
+}
+
+/// How many values each field has in a sample of the states that were seen, in order of the fields, and then how many
+/// what is kept for each monitor, where the first state has these values. `AllocError` if memory runs out.
 pub fn varieties(
     alloc: Global,
     seen: &Seen,
@@ -51,12 +124,15 @@ pub fn varieties(
 ) -> Result<Vec<Variety>, AllocError> {
     let mut table = Vec::new(alloc);
     for (place, what) in fields.iter().enumerate() {
-        let mut values = column(alloc, seen, first, place)?;
-        values.sort()?;
+        let column = Column {
+            place,
+            is_pair: false,
+        };
         table.push(Variety {
-            what: *what,
-            values: different(&values),
+            what: Varied::Field(*what),
+            values: count_in(alloc, seen, first, column)?,
         })?;
     }
+    add_standings(alloc, seen, first, fields.len(), &mut table)?;
     Ok(table)
 }

@@ -109,6 +109,13 @@ fn say_of(out: &mut Vec<u8>, name: Option<Name>, what: &str) -> Result<(), Alloc
     say(out, what)
 }
 
+/// Appends a text and the number, from 1, of what stands at a place.
+fn say_numbered(alloc: Global, out: &mut Vec<u8>, text: &str, place: u8) -> Result<(), AllocError> {
+    say(out, text)?;
+    let number = u16::from(place) + 1;
+    say(out, format!(in alloc; "{number}")?.as_str())
+}
+
 /// Appends the name of a local of the body of this entry.
 fn say_local(
     alloc: Global,
@@ -132,6 +139,25 @@ fn say_local(
     }
 }
 
+/// What a field of a task is. Most have two words at least, so that none is the name of a local.
+fn task_field(what: What) -> &'static str {
+    match what {
+        What::Phase(_) => "task state",
+        What::Object(_) => "object of its wait",
+        What::Wanted(_) => "bits or word of its wait",
+        What::Suspended(_) => "being suspended",
+        What::Priority(_) => "current priority",
+        What::Processor(_) => "assigned processor",
+        What::NextProcessor(_) => "processor of its next start",
+        What::Activations(_) => "activations",
+        What::Wakeups(_) => "wakeups",
+        What::TicksLeft(_) => "ticks left",
+        What::Behind(_) => "place in its queue",
+        What::Operands(_) => "operand count",
+        _ => "place in its body",
+    }
+}
+
 /// Appends the name of a field of a task.
 fn say_task_field(
     alloc: Global,
@@ -144,62 +170,99 @@ fn say_task_field(
     let Some(config) = sys.tasks.get(usize::from(t)).copied() else {
         return say(out, "task");
     };
-    let text = match what {
+    match what {
         What::Local(_, place) => {
             say_of(out, Some(config.name), "")?;
-            return say_local(alloc, out, names, config.entry, place);
+            say_local(alloc, out, names, config.entry, place)
         }
-        What::Phase(_) | What::Object(_) | What::Wanted(_) => "wait",
-        What::Suspended(_) => "suspension",
-        What::Priority(_) => "priority",
-        What::Processor(_) | What::NextProcessor(_) => "processor",
-        What::Activations(_) => "activations",
-        What::Wakeups(_) => "wakeups",
-        What::TicksLeft(_) => "ticks left",
-        What::Behind(_) => "place in its queue",
-        _ => "place in its body",
-    };
-    say_of(out, Some(config.name), text)
+        What::Operand(_, place) => {
+            say_of(out, Some(config.name), "")?;
+            say_numbered(alloc, out, "operand ", place)
+        }
+        _ => say_of(out, Some(config.name), task_field(what)),
+    }
 }
 
-/// The name and the word of a field of an object.
-fn object_field(sys: &System, what: What) -> (Option<Name>, &'static str) {
+/// What a field of a processor is.
+fn processor_field(what: What) -> &'static str {
     match what {
-        What::Count(s) => match sys.semaphores.get(usize::from(s)) {
-            Some(config) => (Some(config.name), "count"),
-            None => (None, "count"),
-        },
-        What::Pattern(f) => match sys.flags.get(usize::from(f)) {
-            Some(config) => (Some(config.name), "pattern"),
-            None => (None, "pattern"),
-        },
-        What::Words(d) | What::Word(d, _) => match sys.data_queues.get(usize::from(d)) {
-            Some(config) => (Some(config.name), "words"),
-            None => (None, "words"),
-        },
-        What::FirstMessage(x) => match sys.mailboxes.get(usize::from(x)) {
-            Some(config) => (Some(config.name), "messages"),
-            None => (None, "messages"),
-        },
-        What::MessageBehind(g) => match sys.messages.get(usize::from(g)) {
-            Some(config) => (Some(config.name), "place in its mailbox"),
-            None => (None, "place in its mailbox"),
-        },
-        What::SharedWord(w) => match sys.shared_words.get(usize::from(w)) {
-            Some(config) => (Some(config.name), "value"),
-            None => (None, "value"),
-        },
-        What::TicksToDue(c) | What::PendingCyclic(c) => match sys.cyclics.get(usize::from(c)) {
-            Some(config) => (Some(config.name), "next start"),
-            None => (None, "next start"),
-        },
-        What::PendingInterrupt(_) => (None, "pending interrupts"),
-        What::Interrupts => (None, "interrupts"),
-        What::HandlerPc(_)
-        | What::HandlerLocal(..)
-        | What::HandlerOperands(_)
-        | What::HandlerOperand(..) => (None, "handler"),
-        _ => (None, "processor"),
+        What::Runs(_) => "task",
+        What::Lock(_) => "lock",
+        What::DispatchDisabled(_) => "dispatching",
+        What::InterruptHandler(_) => "interrupt handler",
+        What::CyclicHandler(_) => "cyclic handler",
+        What::HandlerOperands(_) => "operand count of its handler",
+        _ => "place in its handler",
+    }
+}
+
+/// Appends the name of a field of a processor.
+fn say_processor_field(
+    alloc: Global,
+    out: &mut Vec<u8>,
+    processor: u8,
+    what: What,
+) -> Result<(), AllocError> {
+    say_numbered(alloc, out, "processor ", processor)?;
+    say(out, " ")?;
+    match what {
+        What::HandlerLocal(_, place) => {
+            say_numbered(alloc, out, "local ", place)?;
+            say(out, " of its handler")
+        }
+        What::HandlerOperand(_, place) => {
+            say_numbered(alloc, out, "operand ", place)?;
+            say(out, " of its handler")
+        }
+        _ => say(out, processor_field(what)),
+    }
+}
+
+/// The name of the object that a field is of, if it is one of an object.
+fn object_name(sys: &System, what: What) -> Option<Name> {
+    match what {
+        What::Count(s) => Some(sys.semaphores.get(usize::from(s))?.name),
+        What::Pattern(f) => Some(sys.flags.get(usize::from(f))?.name),
+        What::Words(d) | What::Word(d, _) => Some(sys.data_queues.get(usize::from(d))?.name),
+        What::FirstMessage(x) => Some(sys.mailboxes.get(usize::from(x))?.name),
+        What::MessageBehind(g) => Some(sys.messages.get(usize::from(g))?.name),
+        What::SharedWord(w) => Some(sys.shared_words.get(usize::from(w))?.name),
+        What::TicksToDue(c) | What::PendingCyclic(c) => {
+            Some(sys.cyclics.get(usize::from(c))?.name)
+        }
+        _ => None,
+    }
+}
+
+/// What a field of an object is, or how many interrupts came.
+fn object_field(what: What) -> &'static str {
+    match what {
+        What::Count(_) => "count",
+        What::Pattern(_) => "pattern",
+        What::Words(_) => "words",
+        What::FirstMessage(_) => "first message",
+        What::MessageBehind(_) => "place in its mailbox",
+        What::SharedWord(_) => "value",
+        What::TicksToDue(_) => "next start",
+        What::PendingCyclic(_) => "pending start",
+        _ => "interrupts (--ints)",
+    }
+}
+
+/// Appends the name of a field that is neither of a task nor of a processor.
+fn say_object_field(
+    alloc: Global,
+    out: &mut Vec<u8>,
+    sys: &System,
+    what: What,
+) -> Result<(), AllocError> {
+    match what {
+        What::PendingInterrupt(place) => say_numbered(alloc, out, "pending interrupt ", place),
+        What::Word(_, place) => {
+            say_of(out, object_name(sys, what), "")?;
+            say_numbered(alloc, out, "word ", place)
+        }
+        _ => say_of(out, object_name(sys, what), object_field(what)),
     }
 }
 
@@ -225,6 +288,22 @@ fn task_of(what: What) -> Option<u8> {
     }
 }
 
+/// The processor that a field is of, if it is one of a processor.
+fn processor_of(what: What) -> Option<u8> {
+    match what {
+        What::Runs(p)
+        | What::Lock(p)
+        | What::DispatchDisabled(p)
+        | What::InterruptHandler(p)
+        | What::CyclicHandler(p)
+        | What::HandlerPc(p)
+        | What::HandlerLocal(p, _)
+        | What::HandlerOperands(p)
+        | What::HandlerOperand(p, _) => Some(p),
+        _ => None,
+    }
+}
+
 /// Whether a field is how many activations or wakeups of a task are queued.
 pub fn is_queue(what: What) -> bool
     ensures { result ≡ counts_queued what }
@@ -243,11 +322,11 @@ pub fn append_name(
     names: &LocalNames,
     what: What,
 ) -> Result<(), AllocError> {
-    match task_of(what) {
-        Some(t) => say_task_field(alloc, out, sys, names, t, what),
-        None => {
-            let (name, text) = object_field(sys, what);
-            say_of(out, name, text)
-        }
+    if let Some(t) = task_of(what) {
+        return say_task_field(alloc, out, sys, names, t, what);
+    }
+    match processor_of(what) {
+        Some(p) => say_processor_field(alloc, out, p, what),
+        None => say_object_field(alloc, out, sys, what),
     }
 }
