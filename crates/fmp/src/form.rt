@@ -86,7 +86,7 @@ Fault of an image:
   L5       the code of a body is not fit to run
   L6       bytes stand after the last table
 Fault of a steps text, after its line:
-  S1       no event: 'run P', 'tick' and 'int I' are events
+  S1       not an event: 'run P', 'tick' and 'int I' are events
   S2       no processor P in the image, or I is not from 1 to 32
   S3       line 2^20 + 1: a run has at most 2^20 events
 Fault of a host:

@@ -43,6 +43,9 @@ found_topic topic.StepRange = record { named = refl; asked = refl; lower = refl 
 found_topic topic.TooManySteps = record { named = refl; asked = refl; lower = refl }
 found_topic topic.HostWork = record { named = refl; asked = refl; lower = refl }
 found_topic topic.HostThread = record { named = refl; asked = refl; lower = refl }
+found_topic topic.RecordingForm = record { named = refl; asked = refl; lower = refl }
+found_topic topic.RecordingRange = record { named = refl; asked = refl; lower = refl }
+found_topic topic.RecordingTooLong = record { named = refl; asked = refl; lower = refl }
 
 pub counted_code : (code : Er) → IsCounted code
 unfolding topic_named topic_asked digits

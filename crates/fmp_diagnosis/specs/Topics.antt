@@ -35,6 +35,9 @@ topic_word topic.StepRange = codes "S2"
 topic_word topic.TooManySteps = codes "S3"
 topic_word topic.HostWork = codes "H4"
 topic_word topic.HostThread = codes "H5"
+topic_word topic.RecordingForm = codes "R1"
+topic_word topic.RecordingRange = codes "R2"
+topic_word topic.RecordingTooLong = codes "R3"
 
 -- the topic of a word: the first one that is printed so
 unfoldable pub topic_named : List ℕ → Option Topic

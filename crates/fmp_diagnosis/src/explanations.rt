@@ -37,16 +37,19 @@ impl Topic {
             Topic::WrongEntryKind => "entry of the other kind",
             Topic::Shape => "array and index do not match",
             Topic::ImageShort => "image too short",
-            Topic::ImageMagic => "no image",
+            Topic::ImageMagic => "not an image",
             Topic::ImageVersion => "other version",
             Topic::ImageTable => "table out of its rules",
             Topic::ImageCode => "code not fit to run",
             Topic::ImageTrailing => "bytes after the image",
-            Topic::StepForm => "no step",
+            Topic::StepForm => "not a step",
             Topic::StepRange => "number out of range",
             Topic::TooManySteps => "too many steps",
             Topic::HostWork => "too much work for a host, or none",
             Topic::HostThread => "no thread",
+            Topic::RecordingForm => "not a line of a recording",
+            Topic::RecordingRange => "number out of range",
+            Topic::RecordingTooLong => "recording too long",
         }
     }
 
@@ -104,6 +107,12 @@ impl Topic {
             Topic::HostWork =>
                 "The turns of all processors, the ticks, and 65536 with --int are together not 1 to 1048576.",
             Topic::HostThread => "The system refused a thread for a processor.",
+            Topic::RecordingForm =>
+                "A line is of no known form, or the recording has the last events of its run alone.",
+            Topic::RecordingRange =>
+                "There is no such processor or interrupt, or a time is later than 2^53 microseconds.",
+            Topic::RecordingTooLong =>
+                "A recording has at most 2147483648 lines; this line is the first one too many.",
         }
     }
 
@@ -147,6 +156,9 @@ impl Topic {
             Topic::TooManySteps => "A steps text of 1048577 lines.",
             Topic::HostWork => "fmp host with --turns 0 --ticks 0.",
             Topic::HostThread => "fmp host where no more threads may be started.",
+            Topic::RecordingForm => "run 1 wai_sem, without the semaphore, or dropped 31.",
+            Topic::RecordingRange => "run 3 end in a system of 2 processors, or int 33.",
+            Topic::RecordingTooLong => "A recording of 2147483649 lines.",
         }
     }
 }

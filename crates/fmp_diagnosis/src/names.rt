@@ -197,9 +197,12 @@ fn say_unknown_constant(
     ensures names { OnOk result (IsSaidFirst (quoted (name_text name)) out.old.items out.new.items) }
 {
     let (none, value) = if field == Field::Attribute {
-        (" is no constant: ", " is a value")
+        (" is not a constant: ", " is a value")
     } else {
-        (" is no constant, and none can be defined: ", " is a number")
+        (
+            " is not a constant, and none can be defined: ",
+            " is a number",
+        )
     };
     let words = [
         Word::Text(none),
@@ -314,7 +317,7 @@ fn say_written(
         return say_object_written(&name, api, out);
     }
     let known = variables(alloc, &around.before.tokens)?;
-    say_of(&name, &[Word::Text(" is no variable of this body")], out)?;
+    say_of(&name, &[Word::Text(" is not a variable of this body")], out)?;
     if name_meant(alloc, &name, &known)?.is_some() {
         return say_nearest(alloc, &name, &known, out);
     }
@@ -434,7 +437,7 @@ fn shape(around: &Around<'_>) -> &'static str
     ensures { 0 < length result.now }
 {
     if is_symbol(&around.rest.tokens, 1, Symbol::LeftBracket) {
-        " is no array; only an array has an index"
+        " is not an array; only an array has an index"
     } else if around.back(1) == Some(TokenKind::Symbol(Symbol::And)) && is_written(around) {
         " is an array; the out place of a call is a plain variable"
     } else if gets_answer(around) {

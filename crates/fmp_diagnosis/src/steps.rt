@@ -125,7 +125,7 @@ fn kind_of_line(line: &[u8]) -> &'static str {
             return said;
         }
     }
-    "this is no event"
+    "this is not an event"
 }
 
 /// From where a line departs from an event as which it begins, and what is said.

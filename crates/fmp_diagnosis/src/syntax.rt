@@ -69,7 +69,7 @@ fn say_no_token(file: TextFile, around: &Around<'_>, out: &mut Vec<u8>) -> Resul
     if first.is_ascii_digit() {
         let number = &bytes[..word_length(bytes).min(bytes.len())];
         let words = [
-            Word::Text(" is no number"),
+            Word::Text(" is not a number"),
             Word::Text(why_no_number(number)),
         ];
         return say_quoted(number, &words, out);
@@ -234,7 +234,13 @@ fn say_misspelt_api(alloc: Global, name: &Name, out: &mut Vec<u8>) -> Result<(),
     ensures names { OnOk result (IsSaidFirst (quoted (name_text name.now)) out.old.items out.new.items) }
 {
     let known = apis(alloc)?;
-    say_unknown_of(alloc, name, &[Word::Text(" is no static API")], &known, out)
+    say_unknown_of(
+        alloc,
+        name,
+        &[Word::Text(" is not a static API")],
+        &known,
+        out,
+    )
 }
 
 fn say_misspelt_call(alloc: Global, name: &Name, out: &mut Vec<u8>) -> Result<(), AllocError>
@@ -247,7 +253,7 @@ fn say_misspelt_call(alloc: Global, name: &Name, out: &mut Vec<u8>) -> Result<()
     say_unknown_of(
         alloc,
         name,
-        &[Word::Text(" is no service call")],
+        &[Word::Text(" is not a service call")],
         &known,
         out,
     )

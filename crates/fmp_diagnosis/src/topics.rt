@@ -58,10 +58,16 @@ pub enum Topic {
     HostWork,
     /// H5.
     HostThread,
+    /// R1.
+    RecordingForm,
+    /// R2.
+    RecordingRange,
+    /// R3.
+    RecordingTooLong,
 }
 
 /// All of them.
-pub const TOPICS: [Topic; 34] = [
+pub const TOPICS: [Topic; 37] = [
     Topic::Reply(Er::Ok),
     Topic::Reply(Er::Sys),
     Topic::Reply(Er::Nospt),
@@ -96,6 +102,9 @@ pub const TOPICS: [Topic; 34] = [
     Topic::TooManySteps,
     Topic::HostWork,
     Topic::HostThread,
+    Topic::RecordingForm,
+    Topic::RecordingRange,
+    Topic::RecordingTooLong,
 ];
 
 impl Topic {
@@ -127,6 +136,9 @@ impl Topic {
             Topic::TooManySteps => "S3",
             Topic::HostWork => "H4",
             Topic::HostThread => "H5",
+            Topic::RecordingForm => "R1",
+            Topic::RecordingRange => "R2",
+            Topic::RecordingTooLong => "R3",
         }
     }
 }

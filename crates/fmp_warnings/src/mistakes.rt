@@ -41,7 +41,7 @@ fn say_wrong(wrong: Wrong, out: &mut Vec<u8>) -> Result<(), AllocError>
             &[
                 Word::Text("the argument "),
                 Word::Number(number),
-                Word::Text(" is no name; "),
+                Word::Text(" is not a name; "),
             ],
             out,
         ),
@@ -49,7 +49,7 @@ fn say_wrong(wrong: Wrong, out: &mut Vec<u8>) -> Result<(), AllocError>
             &[
                 Word::Text("the constant "),
                 Word::Quoted(constant.name()),
-                Word::Text(" is no object; "),
+                Word::Text(" is not an object; "),
             ],
             out,
         ),

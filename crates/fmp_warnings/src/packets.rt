@@ -53,7 +53,7 @@ fn say_stray(
     let constant = Word::Quoted(constant.name());
     let of = Word::Quoted(api.name());
     if field == Field::Attribute {
-        let is = Word::Text(" is no attribute of ");
+        let is = Word::Text(" is not an attribute of ");
         let takes = Word::Text("; its attribute must be ");
         return say(
             &[constant, is, of, takes, Word::Text(attributes_of(api))],
