@@ -39,17 +39,27 @@ pub struct Plan {
     /// The number of the processor that is next.
     turn: u8,
     random: Option<Pcg32>,
-    /// Whether something comes from outside of the tasks: cyclic handlers, or interrupts at random.
+    /// Whether interrupts come at random.
     stirred: bool,
     /// For each task, whether the wait that it began last ends by the clock.
     ending: Vec<bool>,
+}
+
+/// Whether a cyclic handler is started.
+fn has_started<B: Body>(kernel: &Kernel<B>) -> bool {
+    let tables = kernel.tables();
+    for c in 0..tables.cyclic_count() as u8 {
+        if tables.due_time(c).is_some() {
+            return true;
+        }
+    }
+    false
 }
 
 impl Plan {
     /// The processors in turn; with a seed at random, and the clock and the interrupts between. `AllocError` if memory
     /// runs out.
     pub fn new(alloc: Global, sys: &System, seed: Option<u64>) -> Result<Plan, AllocError> {
-        let interrupts = seed.is_some() && !sys.interrupts.is_empty();
         let random = match seed {
             Some(seed) => Some(Pcg32::seed_from_u64(seed)),
             None => None,
@@ -57,7 +67,7 @@ impl Plan {
         Ok(Plan {
             turn: 1,
             random,
-            stirred: interrupts || !sys.cyclics.is_empty(),
+            stirred: seed.is_some() && !sys.interrupts.is_empty(),
             ending: vec![in alloc; false; sys.tasks.len()]?,
         })
     }
@@ -76,11 +86,12 @@ impl Plan {
         }
     }
 
-    /// Whether the clock can change something: a task waits with a time limit, or something comes from outside.
+    /// Whether the clock can change something: a task waits with a time limit, a cyclic handler is started, or
+    /// interrupts come at random, and may start one.
     pub fn is_due<B: Body>(&self, kernel: &Kernel<B>, tasks: u8) -> bool
         requires { tasks ≤ length kernel.now.system.tasks }
     {
-        if self.stirred {
+        if self.stirred || has_started(kernel) {
             return true;
         }
         for t in 0..tasks {
