@@ -38,9 +38,10 @@ abbrev pub or_text : Option Constant → List ℕ
 or_text None = []
 or_text (Some c) = codes " | " ++ constant_name c
 
--- what a static API is given at one place: a name is that of the source
+-- what a static API is given at one place: a name is that of the source, and `_` where it is a word of this project
 abbrev pub item_text : (source : List ℕ) → PlanItem → List ℕ
 item_text source (item.Name s) = span_text source s
+item_text source (item.Escaped s) = span_text source s ++ codes "_"
 item_text source (item.Number k) = signed_decimal k
 item_text source (item.Attribute a b c) = constant_name a ++ (or_text b ++ or_text c)
 item_text source item.Null = codes "NULL"

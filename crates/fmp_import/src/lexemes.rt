@@ -15,6 +15,8 @@ pub enum LexemeKind {
     Directive,
     /// A text or a character in quotes.
     Quoted,
+    /// The `/*` of a comment that does not end.
+    OpenComment,
     /// Any other byte.
     Sign(u8),
 }
@@ -69,20 +71,19 @@ fn line_end(text: &[u8], from: usize) -> usize
     text.len()
 }
 
-/// Where the comment ends that goes on at a place: after its `*/`, or where the text ends.
-fn comment_end(text: &[u8], from: usize) -> usize
+/// Where the comment ends that goes on at a place: after its `*/`. None if it does not end.
+fn comment_end(text: &[u8], from: usize) -> Option<usize>
     requires { from ≤ length text.now }
-    ensures from { from ≤ result }
-    ensures within { result ≤ length text.now }
+    ensures { IfSome result (λ end. (from ≤ end) × (end ≤ length text.now)) }
 {
     let mut star = false;
     for i in from..text.len() {
         if star && text[i] == b'/' {
-            return i + 1;
+            return Some(i + 1);
         }
         star = text[i] == b'*';
     }
-    text.len()
+    None
 }
 
 /// Where what is quoted ends that goes on at a place: after the quote, or where its line ends.
@@ -104,18 +105,41 @@ fn quote_end(text: &[u8], from: usize, quote: u8) -> usize
     text.len()
 }
 
-/// Where the comment ends whose `/` stands before a place; none if no comment begins there.
-fn comment_at(text: &[u8], next: usize) -> Option<usize>
-    requires { next ≤ length text.now }
-    ensures { IfSome result (λ end. (next ≤ end) × (end ≤ length text.now)) }
+/// The comment whose `/*` stands before a place. One that does not end goes on up to the end of the text.
+fn block_comment(text: &[u8], from: usize) -> TextPiece
+    requires { from ≤ length text.now }
+    ensures from { from ≤ result.end }
+    ensures within { result.end ≤ length text.now }
 {
+    match comment_end(text, from) {
+        Some(end) => TextPiece { kind: None, end },
+        None => TextPiece {
+            kind: Some(LexemeKind::OpenComment),
+            end: text.len(),
+        },
+    }
+}
+
+/// The comment whose `/` stands before a place, or that `/` where no comment begins there.
+fn comment_or_sign(text: &[u8], next: usize) -> TextPiece
+    requires { next ≤ length text.now }
+    ensures next { next ≤ result.end }
+    ensures within { result.end ≤ length text.now }
+{
+    let sign = TextPiece {
+        kind: Some(LexemeKind::Sign(b'/')),
+        end: next,
+    };
     if next == text.len() {
-        return None;
+        return sign;
     }
     match text[next] {
-        b'/' => Some(line_end(text, next)),
-        b'*' => Some(comment_end(text, next + 1)),
-        _ => None,
+        b'/' => TextPiece {
+            kind: None,
+            end: line_end(text, next),
+        },
+        b'*' => block_comment(text, next + 1),
+        _ => sign,
     }
 }
 
@@ -139,13 +163,7 @@ fn piece_at(text: &[u8], at: usize) -> TextPiece
             kind: Some(LexemeKind::Quoted),
             end: quote_end(text, next, quote),
         },
-        b'/' => match comment_at(text, next) {
-            Some(end) => TextPiece { kind: None, end },
-            None => TextPiece {
-                kind: Some(LexemeKind::Sign(b'/')),
-                end: next,
-            },
-        },
+        b'/' => comment_or_sign(text, next),
         byte if is_word(byte) => TextPiece {
             kind: Some(word_kind(byte)),
             end: word_end(text, next),
@@ -166,6 +184,17 @@ fn word_kind(first: u8) -> LexemeKind {
     }
 }
 
+/// The part of a text that a lexeme is: of a comment that does not end its first two bytes.
+fn span_of(kind: LexemeKind, start: usize, end: usize) -> TextSpan {
+    match kind {
+        LexemeKind::OpenComment => TextSpan {
+            start,
+            end: start.saturating_add(2),
+        },
+        _ => TextSpan { start, end },
+    }
+}
+
 /// How many lines end in these bytes.
 fn line_feeds(bytes: &[u8]) -> usize {
     bytes.iter().filter(|byte| **byte == b'\n').count()
@@ -179,7 +208,7 @@ pub fn lexemes(alloc: Global, text: &[u8]) -> Result<Vec<Lexeme>, AllocError> {
     'pieces: while at < text.len() {
         let TextPiece { kind, end } = piece_at(text, at);
         if let Some(kind) = kind {
-            let span = TextSpan { start: at, end };
+            let span = span_of(kind, at, end);
             found.push(Lexeme { kind, span, line })?;
         }
         line = line.saturating_add(line_feeds(&text[at..end]));

@@ -29,6 +29,8 @@ pub struct Changes {
     pub attribute: bool,
     /// The extended information was no number, and is 0.
     pub information: bool,
+    /// The entry is a word of this project, and has `_` at its end.
+    pub entry: bool,
     /// Memory that the source gives is left out.
     pub area: bool,
     /// The stack is smaller.
@@ -41,6 +43,7 @@ pub struct Changes {
 const UNCHANGED: Changes = Changes {
     attribute: false,
     information: false,
+    entry: false,
     area: false,
     stack: false,
     times: false,
@@ -60,6 +63,8 @@ const WRONG_COUNT: Omission = Omission::Left("the number of its parameters is an
 pub struct Parameters<'a> {
     pub alloc: Global,
     pub reading: SourceReading<'a>,
+    /// Whether a body whose name is a word of this project gets `_` at its end.
+    pub escapes: bool,
 }
 
 /// The attribute that has those of three constants that are set, or the other one.
@@ -87,14 +92,25 @@ fn set_in(bits: i64, constant: Constant) -> Option<Constant> {
     }
 }
 
+/// Whether this is a word of this project, which names nothing.
+fn is_reserved(word: &[u8]) -> bool {
+    find_constant(word).is_some()
+        || find_api(word).is_some()
+        || find_service(word).is_some()
+        || find_keyword(word).is_some()
+}
+
+/// Whether this is a word of this project with `_` after it.
+pub fn is_escaped(word: &[u8]) -> bool {
+    match word.strip_suffix(b"_") {
+        Some(front) => is_reserved(front),
+        None => false,
+    }
+}
+
 /// Whether the texts may give this name to an object or to a body.
 fn is_name(word: &[u8]) -> bool {
-    !word.is_empty()
-        && word.len() <= Name::MAX
-        && find_constant(word).is_none()
-        && find_api(word).is_none()
-        && find_service(word).is_none()
-        && find_keyword(word).is_none()
+    !word.is_empty() && word.len() <= Name::MAX && !is_reserved(word)
 }
 
 impl Parameters<'_> {
@@ -145,12 +161,19 @@ impl Parameters<'_> {
         )
     }
 
-    /// The name of a body.
-    fn entry(&self, field: SourceField) -> Result<PlanItem, Omission> {
-        self.name(
+    /// The name of a body, and whether `_` was added to it.
+    fn entry(&self, field: SourceField) -> Result<(PlanItem, bool), Omission> {
+        if let Some(word) = self.reading.word_of(field)
+            && self.escapes
+            && is_reserved(self.reading.bytes(word))
+        {
+            return Ok((PlanItem::Escaped(word.span), true));
+        }
+        let entry = self.name(
             field,
             "its entry is no word, is a word of this project, or has more than 31 bytes",
-        )
+        )?;
+        Ok((entry, false))
     }
 
     /// The bits of an attribute that are known, and whether there are others.
@@ -223,7 +246,7 @@ impl Parameters<'_> {
         let subject = self.subject(*name)?;
         let (attribute, others) = self.attribute(*attribute, Constant::TaAct, null, null, null)?;
         let (information, is_zero) = self.information(*information)?;
-        let entry = self.entry(*entry)?;
+        let (entry, is_escaped) = self.entry(*entry)?;
         let priority = self.ranged(*priority, 1, 16, "its priority is not 1 to 16")?;
         let size = self.ranged(*stack, 1, i32::MAX, "its stack size is no number above 0")?;
         let record = Record {
@@ -241,6 +264,7 @@ impl Parameters<'_> {
         let changes = Changes {
             attribute: others,
             information: is_zero,
+            entry: is_escaped,
             area: self.has_area(*area),
             stack: size > 65536,
             times: false,
@@ -376,7 +400,7 @@ impl Parameters<'_> {
         let subject = self.subject(name)?;
         let (attribute, others) = self.attribute(attribute, Constant::TaSta, null, null, null)?;
         let (information, is_zero) = self.information(information)?;
-        let entry = self.entry(entry)?;
+        let (entry, is_escaped) = self.entry(entry)?;
         let period = self.ranged(period, 1, 1 << 30, "its period is not 1 to 2^30")?;
         let phase = self.ranged(phase, 0, 1 << 30, "its phase is not 0 to 2^30")?;
         let record = Record {
@@ -393,6 +417,7 @@ impl Parameters<'_> {
         let changes = Changes {
             attribute: others,
             information: is_zero,
+            entry: is_escaped,
             times,
             ..UNCHANGED
         };
@@ -442,7 +467,7 @@ impl Parameters<'_> {
         let null = Constant::TaNull;
         let number = self.ranged(*number, 1, 32, "its interrupt number is not 1 to 32")?;
         let (attribute, others) = self.attribute(*attribute, null, null, null, null)?;
-        let entry = self.entry(*entry)?;
+        let (entry, is_escaped) = self.entry(*entry)?;
         let record = Record {
             api: Api::DefInh,
             subject: PlanItem::Number(number),
@@ -451,6 +476,7 @@ impl Parameters<'_> {
         };
         let changes = Changes {
             attribute: others,
+            entry: is_escaped,
             ..UNCHANGED
         };
         Ok(SourceObject { record, changes })

@@ -13,6 +13,8 @@ pub struct TextSpan {
 pub enum PlanItem {
     /// A name that stands here in the source.
     Name(TextSpan),
+    /// The name of a body that is a word of this project in the source: that word, and `_` after it.
+    Escaped(TextSpan),
     Number(i32),
     /// The constants of an attribute.
     Attribute(Constant, Option<Constant>, Option<Constant>),

@@ -3,7 +3,7 @@ use crate::constants::{Constants, Defines};
 use crate::importing::Header;
 use crate::lexemes::{Lexeme, LexemeKind};
 use crate::notes::append_note;
-use crate::objects::{Changes, Omission, Parameters, SourceObject};
+use crate::objects::{Changes, Omission, Parameters, SourceObject, is_escaped};
 use crate::plan::{Block, PlanItem, Record, SourceClass};
 use crate::reading::{SourceField, SourceReading};
 use crate::text::bytes_of;
@@ -33,6 +33,13 @@ enum Scope {
     Other,
 }
 
+/// A block that is open: what it is, and what names it in a note.
+#[derive(Clone, Copy)]
+struct OpenBlock {
+    scope: Scope,
+    at: Lexeme,
+}
+
 /// A configuration that is gone over.
 #[derive(Drop)]
 pub struct ConfigurationWalk<'a> {
@@ -46,11 +53,17 @@ pub struct ConfigurationWalk<'a> {
     /// What was left out or changed so far.
     pub notes: Vec<u8>,
     /// The open blocks.
-    scopes: Vec<Scope>,
+    open: Vec<OpenBlock>,
+    /// Whether a body whose name is a word of this project gets `_` at its end: no word of the source is such a name.
+    escapes: bool,
     /// The word of the open statement.
     word: Option<Lexeme>,
     /// Its open parentheses.
     depth: usize,
+    /// Its open braces.
+    braces: usize,
+    /// Whether one of its braces closes nothing.
+    is_uneven: bool,
     /// Where its open field begins.
     from: usize,
     /// Its fields.
@@ -113,6 +126,16 @@ fn class_named(name: &[u8]) -> Option<SourceClass> {
     }
 }
 
+/// Whether a word of a text is one of this project with `_` after it.
+fn has_escaped(text: &[u8], lexemes: &[Lexeme]) -> bool {
+    for lexeme in lexemes {
+        if lexeme.kind == LexemeKind::Word && is_escaped(bytes_of(text, lexeme.span)) {
+            return true;
+        }
+    }
+    false
+}
+
 /// Whether two static APIs define the same: objects of one name, or handlers of one interrupt.
 fn is_same(text: &[u8], one: PlanItem, other: PlanItem) -> bool {
     match (one, other) {
@@ -140,9 +163,12 @@ impl<'a> ConfigurationWalk<'a> {
             constants,
             blocks: Vec::new(alloc),
             notes: Vec::new(alloc),
-            scopes: Vec::new(alloc),
+            open: Vec::new(alloc),
+            escapes: !has_escaped(text, lexemes),
             word: None,
             depth: 0,
+            braces: 0,
+            is_uneven: false,
             from: 0,
             fields: Vec::new(alloc),
             told_outside: false,
@@ -169,8 +195,8 @@ impl<'a> ConfigurationWalk<'a> {
 
     /// The innermost open class; none where there is none, or where this project has none of its name.
     fn class(&self) -> Option<Scope> {
-        for scope in self.scopes.iter().rev() {
-            match *scope {
+        for block in self.open.iter().rev() {
+            match block.scope {
                 Scope::Other => {}
                 class => return Some(class),
             }
@@ -217,6 +243,13 @@ impl<'a> ConfigurationWalk<'a> {
                 at,
                 CHANGED,
                 "its extended information is no known number, and becomes 0",
+            )?;
+        }
+        if changes.entry {
+            self.note(
+                at,
+                CHANGED,
+                "its entry is a word of this project, and gets `_` at its end",
             )?;
         }
         if changes.area {
@@ -290,9 +323,13 @@ impl<'a> ConfigurationWalk<'a> {
     /// Ends a statement that makes an object.
     fn end_object(&mut self, word: Lexeme, api: Api) -> Result<(), AllocError> {
         let at = self.named(word);
+        if self.depth != 0 || self.braces != 0 || self.is_uneven {
+            self.note(at, CHANGED, "its parentheses or braces do not match")?;
+        }
         let parameters = Parameters {
             alloc: self.alloc,
             reading: self.reading(),
+            escapes: self.escapes,
         };
         match parameters.object(api, &self.fields) {
             Ok(object) => match self.class_for(at)? {
@@ -323,8 +360,10 @@ impl<'a> ConfigurationWalk<'a> {
     /// Opens the block of the open statement.
     fn open_block(&mut self, word: Lexeme) -> Result<(), AllocError> {
         self.word = None;
+        let mut at = word;
         let scope = if bytes_of(self.text, word.span) == b"CLASS".as_slice() {
             let name = self.named(word);
+            at = name;
             match class_named(bytes_of(self.text, name.span)) {
                 Some(class) => Scope::Class(class),
                 None => {
@@ -340,12 +379,12 @@ impl<'a> ConfigurationWalk<'a> {
             self.note(word, LEFT_OUT, "what stands in its braces is taken")?;
             Scope::Other
         };
-        self.scopes.push(scope)?;
+        self.open.push(OpenBlock { scope, at })?;
         Ok(())
     }
 
     fn close_block(&mut self, at: Lexeme) -> Result<(), AllocError> {
-        match self.scopes.pop() {
+        match self.open.pop() {
             Some(_) => Ok(()),
             None => self.note(at, LEFT_OUT, "it closes nothing"),
         }
@@ -396,6 +435,8 @@ impl<'a> ConfigurationWalk<'a> {
             LexemeKind::Word => {
                 self.word = Some(lexeme);
                 self.depth = 0;
+                self.braces = 0;
+                self.is_uneven = false;
                 self.fields.clear();
                 Ok(())
             }
@@ -434,8 +475,19 @@ impl<'a> ConfigurationWalk<'a> {
         }
     }
 
+    /// Counts a brace of a statement.
+    fn count_brace(&mut self, kind: LexemeKind) {
+        match kind {
+            LexemeKind::Sign(b'{') => self.braces = self.braces.saturating_add(1),
+            LexemeKind::Sign(b'}') if self.braces == 0 => self.is_uneven = true,
+            LexemeKind::Sign(b'}') => self.braces = self.braces.saturating_sub(1),
+            _ => {}
+        }
+    }
+
     /// Takes the lexeme at a place in the parentheses of a statement.
     fn go_on(&mut self, word: Lexeme, place: usize, kind: LexemeKind) -> Result<(), AllocError> {
+        self.count_brace(kind);
         match (kind, self.depth) {
             (LexemeKind::Sign(b';'), _) => self.end_statement(word),
             (LexemeKind::Sign(b'('), depth) => {
@@ -459,6 +511,7 @@ impl<'a> ConfigurationWalk<'a> {
     fn take(&mut self, place: usize, lexeme: Lexeme) -> Result<(), AllocError> {
         match (lexeme.kind, self.word) {
             (LexemeKind::Directive, _) => self.directive(lexeme),
+            (LexemeKind::OpenComment, _) => self.note(lexeme, CHANGED, "no `*/` ends this comment"),
             (_, None) => self.begin(lexeme),
             (_, Some(word)) if self.depth == 0 => self.go_outside(word, place, lexeme),
             (kind, Some(word)) => self.go_on(word, place, kind),
@@ -471,10 +524,21 @@ impl<'a> ConfigurationWalk<'a> {
         for place in 0..lexemes.len() {
             self.take(place, lexemes[place])?;
         }
-        match self.word {
-            None => Ok(()),
-            Some(word) => self.leave(word),
+        if let Some(word) = self.word {
+            self.leave(word)?;
         }
+        self.note_open()
+    }
+
+    /// Says which blocks are open at the end of the text.
+    fn note_open(&mut self) -> Result<(), AllocError> {
+        for i in 0..self.open.len() {
+            if let Some(block) = self.open.get(i) {
+                let at = block.at;
+                self.note(at, CHANGED, "no `}` ends its block")?;
+            }
+        }
+        Ok(())
     }
 }
 

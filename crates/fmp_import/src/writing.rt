@@ -28,6 +28,10 @@ fn append_item(source: &[u8], item: PlanItem, out: &mut Vec<u8>) -> Result<(), A
 {
     match item {
         PlanItem::Name(span) => append(bytes_of(source, span), out),
+        PlanItem::Escaped(span) => {
+            append(bytes_of(source, span), out)?;
+            append(b"_", out)
+        }
         PlanItem::Number(number) => append_signed(number, out),
         PlanItem::Attribute(first, second, third) => {
             append(first.name().as_bytes(), out)?;
