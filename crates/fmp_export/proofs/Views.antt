@@ -1,5 +1,5 @@
 -- The C of what boxes and vectors hold.
-use Rattle.std.proofs.Common.{◌≡◌, ◌∙◌, refl, ap, ℕ, ◌+◌, ◌<◌, List, [], ◌∷◌, ◌++◌, length, drop, get_or, map, Box}
+use Rattle.std.proofs.Common.{◌≡◌, ◌∙◌, refl, ap, ℕ, ◌+◌, ◌<◌, List, [], ◌∷◌, ◌++◌, codes, length, drop, get_or, map, Box}
 use Rattle.std.specs.declared.alloc.Global.{Global}
 use Rattle.std.specs.declared.vec.Vec.{Vec}
 use Rattle.fmp_base.specs.declared.operators.UnaryOperator.{UnaryOperator}
@@ -66,17 +66,17 @@ pub block_step :
     (s : SourceText) (margin : List ℕ) (at : ℕ) (ss : List Statement) (i : ℕ) (t : Statement) → i < length ss →
     t ≡ get_or ss i t →
     c_block s margin at (block_view (drop i ss)) ≡
-    (c_directive s at ++ c_statement s margin margin at (statement_view t))
+    (c_directive s at ++ (margin ++ c_statement s margin at (statement_view t)))
     ++ c_block s margin (statement_end s at (statement_view t)) (block_view (drop (i + 1) ss))
 block_step s margin at ss i t h e = ap (c_block s margin at) (block-step ss i t h e)
 
 pub chained_step :
-    (s : SourceText) (front margin : List ℕ) (at : ℕ) (ss : List Statement) (i : ℕ) (t : Statement) → i < length ss →
+    (s : SourceText) (margin : List ℕ) (at : ℕ) (ss : List Statement) (i : ℕ) (t : Statement) → i < length ss →
     t ≡ get_or ss i t →
-    c_chained s front margin at (block_view (drop i ss)) ≡
-    c_statement s front margin at (statement_view t)
-    ++ c_chained s front margin (statement_end s at (statement_view t)) (block_view (drop (i + 1) ss))
-chained_step s front margin at ss i t h e = ap (c_chained s front margin at) (block-step ss i t h e)
+    c_chained s margin at (block_view (drop i ss)) ≡
+    (margin ++ (codes "} else " ++ c_statement s margin at (statement_view t)))
+    ++ c_chained s margin (statement_end s at (statement_view t)) (block_view (drop (i + 1) ss))
+chained_step s margin at ss i t h e = ap (c_chained s margin at) (block-step ss i t h e)
 
 pub end_step :
     (s : SourceText) (at : ℕ) (ss : List Statement) (i : ℕ) (t : Statement) → i < length ss → t ≡ get_or ss i t →

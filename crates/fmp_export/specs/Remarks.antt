@@ -53,9 +53,32 @@ stopped false line = line
 abbrev pub closed : List ℕ → List ℕ
 closed line = stopped (is_open line) line
 
--- the comment of a line that stands between two tokens; nothing if there is only space
+-- a block comment ends with this piece of a line
+abbrev pub closes : (piece : List ℕ) → Bool
+closes piece = ends_with nat_eq piece (codes "*/") && not (starts_with nat_eq (trimmed piece) (codes "//"))
+
+-- the comment of a further piece of a line, behind those before it
+abbrev pub spaced : (comments : List ℕ) → List ℕ
+spaced [] = []
+spaced (b ∷ bs) = (b ∷ bs) ++ codes " "
+
+abbrev pub further : (comments comment : List ℕ) → List ℕ
+further comments [] = comments
+further comments (c ∷ cs) = spaced comments ++ (c ∷ cs)
+
+abbrev pub with_piece : (comments piece : List ℕ) → List ℕ
+with_piece comments piece = further comments (line_comment (trimmed piece))
+
+-- the comments of a line, behind those before it and a piece that is begun: each block comment ends a piece
+abbrev pub line_comments : (comments piece : List ℕ) → List ℕ → List ℕ
+line_comments comments piece [] = with_piece comments piece
+line_comments comments piece (b ∷ bs) =
+    if closes (piece ++ b ∷ []) then line_comments (with_piece comments (piece ++ b ∷ [])) [] bs
+    else line_comments comments (piece ++ b ∷ []) bs
+
+-- the comments of a line that stands between two tokens; nothing if there is only space
 abbrev pub comment : List ℕ → List ℕ
-comment line = closed (line_comment (trimmed line))
+comment line = closed (line_comments [] [] line)
 
 -- behind the code of its line, or in a line of its own
 abbrev pub behind_code : (remark : List ℕ) → List ℕ

@@ -1,5 +1,6 @@
--- Statements of a text in C. Each line begins with its margin, and ends with the comments of its tokens. The place of a
--- statement is where its line begins in the list of tokens.
+-- Statements of a text in C, each without what its first line begins with. Each other line begins with its margin, and
+-- each line ends with the comments of its tokens. The place of a statement is where its line begins in the list of
+-- tokens.
 use Rattle.std.specs.Prelude.{ℕ, zero, suc, ◌+◌, List, [], ◌∷◌, ◌++◌, codes, decimal, take, drop, Bool, true, false}
 use Rattle.std.specs.Prelude.{◌||◌, ◌&&◌, not, Option, Some, None}
 use Rattle.fmp_base.specs.Services.{service_name, out_place}
@@ -22,11 +23,10 @@ set_front true = codes "fmp_set_ordered("
 set_front false = codes "fmp_set("
 
 -- an element of the array of this name in C gets a value
-unfoldable pub c_store : (margin name : List ℕ) → (index value : PieceText) → List ℕ
-c_store margin name index value =
-    margin
-    ++ (set_front (matters index.risk value.risk)
-    ++ (name ++ (codes ", " ++ (index.text ++ (codes ", " ++ (value.text ++ codes ");"))))))
+unfoldable pub c_store : (name : List ℕ) → (index value : PieceText) → List ℕ
+c_store name index value =
+    set_front (matters index.risk value.risk)
+    ++ (name ++ (codes ", " ++ (index.text ++ (codes ", " ++ (value.text ++ codes ");")))))
 
 -- the order of these evaluations can be seen, after others
 abbrev pub any_matters : Risk → List PieceText → Bool
@@ -80,50 +80,47 @@ c_result (Some w) = c_name w.name ++ codes " = "
 c_result None = []
 
 -- the call of a service with these arguments
-unfoldable pub c_invocation : (ordered : Bool) → (margin : List ℕ) → CallTree → List PieceText → List ℕ
-c_invocation ordered margin c ps =
-    margin
-    ++ (c_result c.result
+unfoldable pub c_invocation : (ordered : Bool) → CallTree → List PieceText → List ℕ
+c_invocation ordered c ps =
+    c_result c.result
     ++ (service_name c.service
-    ++ (codes "(" ++ (c_arguments ordered (found 0 (out_place c.service)) c.out ps ++ codes ");"))))
+    ++ (codes "(" ++ (c_arguments ordered (found 0 (out_place c.service)) c.out ps ++ codes ");")))
 
-abbrev pub c_call_by : (ordered : Bool) → (front margin : List ℕ) → CallTree → List PieceText → List ℕ
-c_call_by false front margin c ps = c_invocation false front c ps
-c_call_by true front margin c ps =
-    front
-    ++ (codes "{\n"
+abbrev pub c_call_by : (ordered : Bool) → (margin : List ℕ) → CallTree → List PieceText → List ℕ
+c_call_by false margin c ps = c_invocation false c ps
+c_call_by true margin c ps =
+    codes "{\n"
     ++ (c_values (margin ++ tab) 0 ps
-    ++ (c_invocation true (margin ++ tab) c ps ++ (codes "\n" ++ (margin ++ codes "}")))))
+    ++ ((margin ++ tab) ++ (c_invocation true c ps ++ (codes "\n" ++ (margin ++ codes "}")))))
 
 -- C leaves open which argument is evaluated first: where that can be seen, each is evaluated before the call
-abbrev pub c_call_of : (front margin : List ℕ) → CallTree → List PieceText → List ℕ
-c_call_of front margin c ps = c_call_by (any_matters risk.Safe ps) front margin c ps
+abbrev pub c_call_of : (margin : List ℕ) → CallTree → List PieceText → List ℕ
+c_call_of margin c ps = c_call_by (any_matters risk.Safe ps) margin c ps
 
-unfoldable pub c_call : SourceText → (front margin : List ℕ) → (at : ℕ) → CallTree → List ℕ
-c_call s front margin at c = c_call_of front margin c (c_expressions s at c.arguments)
+unfoldable pub c_call : SourceText → (margin : List ℕ) → (at : ℕ) → CallTree → List ℕ
+c_call s margin at c = c_call_of margin c (c_expressions s at c.arguments)
 
--- `if` or the like, a condition and `{`
-unfoldable pub c_head : SourceText → (front margin word : List ℕ) → (at : ℕ) → ExpressionTree → List ℕ
-c_head s front margin word at e =
-    front
-    ++ (word ++ ((c_expression s at e).text ++ (codes ") {" ++ c_finish (margin ++ tab) landmark.LeftBrace s at)))
+-- `if (` or the like, a condition and `) {`
+unfoldable pub c_head : SourceText → (margin word : List ℕ) → (at : ℕ) → ExpressionTree → List ℕ
+c_head s margin word at e =
+    word ++ ((c_expression s at e).text ++ (codes ") {" ++ c_finish (margin ++ tab) landmark.LeftBrace s at))
 
 -- the `}` at a place
 unfoldable pub c_close : SourceText → (margin : List ℕ) → (at : ℕ) → List ℕ
 c_close s margin at = margin ++ (codes "}" ++ c_finish margin landmark.RightBrace s at)
 
 -- a word alone
-unfoldable pub c_jump : SourceText → (front margin word : List ℕ) → (at : ℕ) → List ℕ
-c_jump s front margin word at = front ++ (word ++ c_finish margin landmark.Semicolon s at)
+unfoldable pub c_jump : SourceText → (margin word : List ℕ) → (at : ℕ) → List ℕ
+c_jump s margin word at = word ++ c_finish margin landmark.Semicolon s at
 
 -- an assignment to a variable
-unfoldable pub c_assign : SourceText → (front : List ℕ) → (at : ℕ) → Word → ExpressionTree → List ℕ
-c_assign s front at w e = front ++ (c_name w.name ++ (codes " = " ++ ((c_expression s at e).text ++ codes ";")))
+unfoldable pub c_assign : SourceText → (at : ℕ) → Word → ExpressionTree → List ℕ
+c_assign s at w e = c_name w.name ++ (codes " = " ++ ((c_expression s at e).text ++ codes ";"))
 
 -- an assignment to an element, whose index stands before its value
-unfoldable pub c_assign_element : SourceText → (front : List ℕ) → (at : ℕ) → Word → (i e : ExpressionTree) → List ℕ
-c_assign_element s front at w i e =
-    c_store front (c_name w.name) (c_expression s at i) (c_expression s ((c_expression s at i).next) e)
+unfoldable pub c_assign_element : SourceText → (at : ℕ) → Word → (i e : ExpressionTree) → List ℕ
+c_assign_element s at w i e =
+    c_store (c_name w.name) (c_expression s at i) (c_expression s ((c_expression s at i).next) e)
 
 abbrev pub is_if : StatementTree → Bool
 is_if (if_then e b) = true
@@ -188,43 +185,42 @@ c_choice_by chained block s margin at o =
     c_else (goes_on s at o) (chained at) (c_else_head s margin at)
     (c_closed s margin (block (behind landmark.LeftBrace s at)) (block_end s (behind landmark.LeftBrace s at) o))
 
--- a statement, of which the first line begins with `front` and each other line with the margin
+-- a statement; the statements of a block, each behind its margin; and the same, each behind `else` in its line
 abbrev mutual
-  pub c_statement : SourceText → (front margin : List ℕ) → (at : ℕ) → StatementTree → List ℕ
-  c_statement s front margin at (assign w e) = c_assign s front at w e ++ c_finish margin landmark.Semicolon s at
-  c_statement s front margin at (assign_element w i e) =
-      c_assign_element s front at w i e ++ c_finish margin landmark.Semicolon s at
-  c_statement s front margin at (service_call c) =
-      c_call s front margin at c ++ c_finish margin landmark.Semicolon s at
-  c_statement s front margin at (if_then e b) =
-      c_head s front margin (codes "if (") at e
+  pub c_statement : SourceText → (margin : List ℕ) → (at : ℕ) → StatementTree → List ℕ
+  c_statement s margin at (assign w e) = c_assign s at w e ++ c_finish margin landmark.Semicolon s at
+  c_statement s margin at (assign_element w i e) =
+      c_assign_element s at w i e ++ c_finish margin landmark.Semicolon s at
+  c_statement s margin at (service_call c) =
+      c_call s margin at c ++ c_finish margin landmark.Semicolon s at
+  c_statement s margin at (if_then e b) =
+      c_head s margin (codes "if (") at e
       ++ c_closed s margin (c_block s (margin ++ tab) (behind landmark.LeftBrace s at) b)
       (block_end s (behind landmark.LeftBrace s at) b)
-  c_statement s front margin at (if_else e b o) =
-      c_head s front margin (codes "if (") at e
+  c_statement s margin at (if_else e b o) =
+      c_head s margin (codes "if (") at e
       ++ (c_block s (margin ++ tab) (behind landmark.LeftBrace s at) b
-      ++ c_choice_by (λ i. c_chained s (margin ++ codes "} else ") margin i o) (λ i. c_block s (margin ++ tab) i o) s
-      margin (block_end s (behind landmark.LeftBrace s at) b) o)
-  c_statement s front margin at (while e b) =
-      c_head s front margin (codes "fmp_while (") at e
+      ++ c_choice_by (λ i. c_chained s margin i o) (λ i. c_block s (margin ++ tab) i o) s margin
+      (block_end s (behind landmark.LeftBrace s at) b) o)
+  c_statement s margin at (while e b) =
+      c_head s margin (codes "fmp_while (") at e
       ++ c_closed s margin (c_block s (margin ++ tab) (behind landmark.LeftBrace s at) b)
       (block_end s (behind landmark.LeftBrace s at) b)
-  c_statement s front margin at break = c_jump s front margin (codes "break;") at
-  c_statement s front margin at continue = c_jump s front margin (codes "continue;") at
-  c_statement s front margin at return = c_jump s front margin (codes "return;") at
+  c_statement s margin at break = c_jump s margin (codes "break;") at
+  c_statement s margin at continue = c_jump s margin (codes "continue;") at
+  c_statement s margin at return = c_jump s margin (codes "return;") at
 
-  pub c_chained : SourceText → (front margin : List ℕ) → (at : ℕ) → Block → List ℕ
-  c_chained s front margin at empty = []
-  c_chained s front margin at (next t b) =
-      c_statement s front margin at t ++ c_chained s front margin (statement_end s at t) b
+  pub c_chained : SourceText → (margin : List ℕ) → (at : ℕ) → Block → List ℕ
+  c_chained s margin at empty = []
+  c_chained s margin at (next t b) =
+      (margin ++ (codes "} else " ++ c_statement s margin at t)) ++ c_chained s margin (statement_end s at t) b
 
   pub c_block : SourceText → (margin : List ℕ) → (at : ℕ) → Block → List ℕ
   c_block s margin at empty = []
   c_block s margin at (next t b) =
-      (c_directive s at ++ c_statement s margin margin at t) ++ c_block s margin (statement_end s at t) b
+      (c_directive s at ++ (margin ++ c_statement s margin at t)) ++ c_block s margin (statement_end s at t) b
 
 -- what stands behind the `if` of a choice, whose `}` stands at a place
 abbrev pub c_choice : SourceText → (margin : List ℕ) → (at : ℕ) → Block → List ℕ
 c_choice s margin at o =
-    c_choice_by (λ i. c_chained s (margin ++ codes "} else ") margin i o) (λ i. c_block s (margin ++ tab) i o) s margin
-    at o
+    c_choice_by (λ i. c_chained s margin i o) (λ i. c_block s (margin ++ tab) i o) s margin at o

@@ -53,7 +53,6 @@ fn append_variable(
 /// Appends a declaration below the comments of a gap, with the comment of another after it.
 #[tactic(auto, unfolding(crate::specs::Bodies::c_declared))]
 fn append_declared(
-    alloc: Global,
     source: &LexedText<'_>,
     before: &[u8],
     gap: &[u8],
@@ -63,16 +62,15 @@ fn append_declared(
     ensures { OnOk result (out.new.items
         ≡ out.old.items ++ c_declared (source_view source.now) before.now gap.now variable.now) }
 {
-    append_above(alloc, b"    ", before, out)?;
+    append_above(source.alloc, b"    ", before, out)?;
     append_variable(source, variable, out)?;
-    append_behind(alloc, gap, out)?;
+    append_behind(source.alloc, gap, out)?;
     append(b"\n", out)
 }
 
 /// Appends the declarations of variables from a place on, and an empty line. The first line of the gap before them is
 /// written already. Gives the place after them.
 fn append_variables(
-    alloc: Global,
     source: &LexedText<'_>,
     before: &[u8],
     at: usize,
@@ -84,17 +82,17 @@ fn append_variables(
     ensures next { IfOk result (λ next. next ≡ variables_end (source_view source.now) at variables.now) }
 {
     let mut place = at;
-    let mut written = Vec::new(alloc);
+    let mut written = Vec::new(source.alloc);
     append(before, &mut written)?;
     for variable in variables {
         let next = behind(Landmark::Semicolon, source, place);
-        let gap = gaps_between(alloc, source, place, next)?;
-        append_declared(alloc, source, &written, &gap, variable, out)?;
+        let gap = gaps_between(source, place, next)?;
+        append_declared(source, &written, &gap, variable, out)?;
         place = next;
         written = gap;
     }
     append(b"\n", out)?;
-    append_above(alloc, b"    ", &written, out)?;
+    append_above(source.alloc, b"    ", &written, out)?;
     Ok(place)
 }
 
@@ -118,7 +116,6 @@ fn append_heading(
 /// Appends what a body has from a place on, and gives the place of its `}`.
 #[tactic(auto, unfolding(crate::specs::Bodies::c_inside))]
 fn append_inside(
-    alloc: Global,
     source: &LexedText<'_>,
     before: &[u8],
     at: usize,
@@ -129,35 +126,29 @@ fn append_inside(
         ≡ out.old.items ++ c_inside (source_view source.now) before.now at (body_view body.now)) }
     ensures end { IfOk result (λ end. end ≡ inside_end (source_view source.now) at (body_view body.now)) }
 {
-    append_heading(alloc, &body.name.name, before, out)?;
-    let next = append_variables(alloc, source, before, at, &body.variables, out)?;
-    let end = append_block(alloc, source, b"    ", next, &body.statements, out)?;
+    append_heading(source.alloc, &body.name.name, before, out)?;
+    let next = append_variables(source, before, at, &body.variables, out)?;
+    let end = append_block(source, b"    ", next, &body.statements, out)?;
     append(b"}", out)?;
     Ok(end)
 }
 
 /// Appends the function of a body up to its `}`, and gives the place of that.
-fn append_body(
-    alloc: Global,
-    source: &LexedText<'_>,
-    body: &Body,
-    out: &mut Vec<u8>,
-) -> Result<usize, AllocError>
+fn append_body(source: &LexedText<'_>, body: &Body, out: &mut Vec<u8>) -> Result<usize, AllocError>
     ensures text { OnOk result (out.new.items
         ≡ out.old.items ++ c_body (source_view source.now) (body_view body.now)) }
     ensures end { IfOk result (λ end. end ≡ body_end (source_view source.now) (body_view body.now)) }
 {
     let start = body.at as usize;
     let at = behind(Landmark::LeftBrace, source, start);
-    let before = gaps_between(alloc, source, start, at)?;
+    let before = gaps_between(source, start, at)?;
     append_directive(source, start, out)?;
-    append_inside(alloc, source, &before, at, body, out)
+    append_inside(source, &before, at, body, out)
 }
 
 /// Appends the function of a body below the comments of these lines, and gives what stands after the body in the text.
 #[tactic(auto, unfolding(crate::specs::Bodies::c_commented))]
 fn append_commented(
-    alloc: Global,
     source: &LexedText<'_>,
     above: &[u8],
     body: &Body,
@@ -168,15 +159,10 @@ fn append_commented(
     ensures gap { IfOk result (λ gap. gap.items ≡ gap_behind (source_view source.now) (body_view body.now)) }
 {
     append(b"\n", out)?;
-    append_own_lines(alloc, b"", above, out)?;
-    let end = append_body(alloc, source, body, out)?;
-    let gap = gaps_between(
-        alloc,
-        source,
-        end,
-        behind(Landmark::RightBrace, source, end),
-    )?;
-    append_behind(alloc, &gap, out)?;
+    append_own_lines(source.alloc, b"", above, out)?;
+    let end = append_body(source, body, out)?;
+    let gap = gaps_between(source, end, behind(Landmark::RightBrace, source, end))?;
+    append_behind(source.alloc, &gap, out)?;
     append(b"\n", out)?;
     Ok(gap)
 }
@@ -184,7 +170,6 @@ fn append_commented(
 /// Appends the functions of bodies, and the comments that stand above, between and below them. Those of the lines
 /// `above` come first.
 pub fn append_commented_bodies(
-    alloc: Global,
     source: &LexedText<'_>,
     above: &[u8],
     bodies: &[Body],
@@ -193,21 +178,21 @@ pub fn append_commented_bodies(
     ensures { OnOk result (out.new.items ≡ out.old.items
         ++ c_commented_bodies (source_view source.now) above.now (map body_view bodies.now)) }
 {
-    let mut lines = Vec::new(alloc);
+    let mut lines = Vec::new(source.alloc);
     append(above, &mut lines)?;
     for body in bodies {
-        let gap = append_commented(alloc, source, &lines, body, out)?;
+        let gap = append_commented(source, &lines, body, out)?;
         lines.clear();
         append(other_lines(&gap), &mut lines)?;
     }
-    append_own_lines(alloc, b"", &lines, out)
+    append_own_lines(source.alloc, b"", &lines, out)
 }
 
 /// Appends the functions of bodies without their text: numbers are written by their values, and there are no comments.
 pub fn append_bodies(alloc: Global, bodies: &[Body], out: &mut Vec<u8>) -> Result<(), AllocError>
     ensures { OnOk result (out.new.items ≡ out.old.items ++ c_bodies (map body_view bodies.now)) }
 {
-    append_commented_bodies(alloc, &LexedText::none(alloc), b"", bodies, out)
+    append_commented_bodies(&LexedText::none(alloc), b"", bodies, out)
 }
 
 /// Appends the prototype of the function of a body.

@@ -202,15 +202,13 @@ fn before_out(service: Service) -> usize
 #[tactic(auto, unfolding(crate::specs::Statements::c_invocation))]
 fn append_invocation(
     ordered: bool,
-    margin: &[u8],
     call: &ServiceCall,
     pieces: &[Piece],
     out: &mut Vec<u8>,
 ) -> Result<(), AllocError>
     ensures { OnOk result (out.new.items ≡ out.old.items
-        ++ spec.c_invocation ordered margin.now (call_view call.now) (map piece_view pieces.now)) }
+        ++ spec.c_invocation ordered (call_view call.now) (map piece_view pieces.now)) }
 {
-    append(margin, out)?;
     append_result(call.receivers.result(), out)?;
     append(call.service.name().as_bytes(), out)?;
     append(b"(", out)?;
@@ -222,20 +220,19 @@ fn append_invocation(
 /// Appends a call whose arguments are evaluated before it, one after another.
 fn append_ordered(
     alloc: Global,
-    front: &[u8],
     margin: &[u8],
     call: &ServiceCall,
     pieces: &[Piece],
     out: &mut Vec<u8>,
 ) -> Result<(), AllocError>
     ensures { OnOk result (out.new.items ≡ out.old.items
-        ++ spec.c_call_by true front.now margin.now (call_view call.now) (map piece_view pieces.now)) }
+        ++ spec.c_call_by true margin.now (call_view call.now) (map piece_view pieces.now)) }
 {
-    append(front, out)?;
     append(b"{\n", out)?;
     let inner = inner_margin(alloc, margin)?;
     append_values(&inner, pieces, out)?;
-    append_invocation(true, &inner, call, pieces, out)?;
+    append(&inner, out)?;
+    append_invocation(true, call, pieces, out)?;
     append(b"\n", out)?;
     append(margin, out)?;
     append(b"}", out)
@@ -244,36 +241,33 @@ fn append_ordered(
 /// Appends a call with these arguments.
 fn append_call_of(
     alloc: Global,
-    front: &[u8],
     margin: &[u8],
     call: &ServiceCall,
     pieces: &[Piece],
     out: &mut Vec<u8>,
 ) -> Result<(), AllocError>
     ensures { OnOk result (out.new.items ≡ out.old.items
-        ++ spec.c_call_of front.now margin.now (call_view call.now) (map piece_view pieces.now)) }
+        ++ spec.c_call_of margin.now (call_view call.now) (map piece_view pieces.now)) }
 {
     if any_matters(pieces) {
-        append_ordered(alloc, front, margin, call, pieces, out)
+        append_ordered(alloc, margin, call, pieces, out)
     } else {
-        append_invocation(false, front, call, pieces, out)
+        append_invocation(false, call, pieces, out)
     }
 }
 
 /// Appends a service call at a place, without what ends its line.
 #[tactic(auto, unfolding(crate::specs::Statements::c_call))]
 pub fn append_call(
-    alloc: Global,
     source: &LexedText<'_>,
-    front: &[u8],
     margin: &[u8],
     at: usize,
     call: &ServiceCall,
     out: &mut Vec<u8>,
 ) -> Result<(), AllocError>
     ensures { OnOk result (out.new.items ≡ out.old.items
-        ++ c_call (source_view source.now) front.now margin.now at (call_view call.now)) }
+        ++ c_call (source_view source.now) margin.now at (call_view call.now)) }
 {
-    let pieces = expressions(alloc, source, at, call.arguments.as_slice())?;
-    append_call_of(alloc, front, margin, call, &pieces, out)
+    let pieces = expressions(source, at, call.arguments.as_slice())?;
+    append_call_of(source.alloc, margin, call, &pieces, out)
 }

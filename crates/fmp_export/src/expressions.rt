@@ -24,54 +24,43 @@ fn joined(alloc: Global, operator: Operator, a: &Piece, b: &Piece) -> Result<Pie
 
 /// An expression in C, whose numbers are those of the text from a place on.
 #[cycle(expressions_in_c)]
-pub fn expression(
-    alloc: Global,
-    source: &LexedText<'_>,
-    at: usize,
-    e: &Expression,
-) -> Result<Piece, AllocError>
+pub fn expression(source: &LexedText<'_>, at: usize, e: &Expression) -> Result<Piece, AllocError>
     ensures { IfOk result (λ p. piece_view p ≡ c_expression (source_view source.now) at (expression_view e.now)) }
 {
     match e {
-        Expression::Number(k) => number(alloc, source, at, *k),
-        Expression::Name(word) => name(alloc, at, &word.name),
+        Expression::Number(k) => number(source, at, *k),
+        Expression::Name(word) => name(source.alloc, at, &word.name),
         Expression::Element { array, index } => {
-            let inner = expression(alloc, source, at, index)?;
-            element(alloc, &array.name, &inner)
+            let inner = expression(source, at, index)?;
+            element(source.alloc, &array.name, &inner)
         }
         Expression::Unary { operator, operand } => {
-            let inner = expression(alloc, source, at, operand)?;
-            unary(alloc, *operator, &inner)
+            let inner = expression(source, at, operand)?;
+            unary(source.alloc, *operator, &inner)
         }
         Expression::Chain { first, rest } => {
-            let inner = expression(alloc, source, at, first)?;
-            chain(alloc, source, inner, rest)
+            let inner = expression(source, at, first)?;
+            chain(source, inner, rest)
         }
     }
 }
 
 /// An expression with the further operands of its chain.
 #[cycle(expressions_in_c)]
-fn chain(
-    alloc: Global,
-    source: &LexedText<'_>,
-    first: Piece,
-    links: &[Link],
-) -> Result<Piece, AllocError>
+fn chain(source: &LexedText<'_>, first: Piece, links: &[Link]) -> Result<Piece, AllocError>
     ensures { IfOk result (λ p. piece_view p
         ≡ c_chain (source_view source.now) (piece_view first) (map link_view links.now)) }
 {
     let mut piece = first;
     for link in links {
-        let operand = expression(alloc, source, piece.next, &link.operand)?;
-        piece = joined(alloc, link.operator, &piece, &operand)?;
+        let operand = expression(source, piece.next, &link.operand)?;
+        piece = joined(source.alloc, link.operator, &piece, &operand)?;
     }
     Ok(piece)
 }
 
 /// Expressions, one after another.
 pub fn expressions(
-    alloc: Global,
     source: &LexedText<'_>,
     at: usize,
     list: &[Expression],
@@ -79,10 +68,10 @@ pub fn expressions(
     ensures { IfOk result (λ ps. map piece_view ps.items
         ≡ c_expressions (source_view source.now) at (map expression_view list.now)) }
 {
-    let mut pieces = Vec::new(alloc);
+    let mut pieces = Vec::new(source.alloc);
     let mut next = at;
     for e in list {
-        let piece = expression(alloc, source, next, e)?;
+        let piece = expression(source, next, e)?;
         next = piece.next;
         pieces.push(piece)?;
     }

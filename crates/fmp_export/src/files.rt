@@ -10,7 +10,7 @@ use crate::objects::append_enumeration;
 use crate::source::{LexedText, head};
 use crate::text::append;
 use fmp_base::System;
-use fmp_lex::{BuildFault, Tokens, tokens};
+use fmp_lex::{BuildFault, tokens};
 use fmp_tasklang::{Program, read_tasks};
 use std::alloc::{AllocError, Global};
 
@@ -92,7 +92,6 @@ pub fn append_header(
 /// memory.
 #[tactic(auto, unfolding(crate::specs::Files::c_file))]
 fn append_file(
-    alloc: Global,
     source: &LexedText<'_>,
     program: &Program,
     out: &mut Vec<u8>,
@@ -101,23 +100,7 @@ fn append_file(
         ≡ out.old.items ++ c_file (source_view source.now) (program_view program.now)) }
 {
     append(b"#include \"bodies.h\"\n#include \"task.h\"\n", out)?;
-    append_commented_bodies(alloc, source, head(source), &program.bodies, out)
-}
-
-/// Appends the same, given the tokens of the text; with its lines for a debugger if `lines` says so.
-pub fn append_c(
-    alloc: Global,
-    text: &[u8],
-    tokens: &Tokens<'_>,
-    lines: bool,
-    program: &Program,
-    out: &mut Vec<u8>,
-) -> Result<(), AllocError>
-    ensures { OnOk result (out.new.items ≡ out.old.items
-        ++ c_file (record { text = text.now; tokens = tokens.now; lines = lines }) (program_view program.now)) }
-{
-    let source = LexedText::new(alloc, text, tokens, lines)?;
-    append_file(alloc, &source, program, out)
+    append_commented_bodies(source, head(source), &program.bodies, out)
 }
 
 /// Appends the C program that runs these bodies in virtual or in real time. The error is out of memory.
@@ -130,22 +113,19 @@ pub fn append_main(program: &Program, out: &mut Vec<u8>) -> Result<(), AllocErro
     append(MAIN_END, out)
 }
 
-/// All files.
+/// All files of a program that a text spells.
 fn files(
-    alloc: Global,
-    text: &[u8],
-    tokens: &Tokens<'_>,
-    lines: bool,
+    source: &LexedText<'_>,
     system: &System,
     program: &Program,
 ) -> Result<ExportedText, AllocError>
-    ensures { IfOk result (AreFiles (tables_of system.now)
-        (record { text = text.now; tokens = tokens.now; lines = lines }) (program_view program.now)) }
+    ensures { IfOk result (AreFiles (tables_of system.now) (source_view source.now) (program_view program.now)) }
 {
+    let alloc = source.alloc;
     let mut header = Vec::new(alloc);
     append_header(alloc, system, program, &mut header)?;
     let mut bodies = Vec::new(alloc);
-    append_c(alloc, text, tokens, lines, program, &mut bodies)?;
+    append_file(source, program, &mut bodies)?;
     let mut main = Vec::new(alloc);
     append_main(program, &mut main)?;
     Ok(ExportedText {
@@ -168,13 +148,11 @@ pub fn export_c_with_lines(
     ensures { IsExportedWith lines (tables_of system.now) text.now result }
 {
     let program = read_tasks(alloc, text)?;
-    match tokens(alloc, text) {
-        Ok(list) => match files(alloc, text, &list.tokens, lines, system, &program) {
-            Ok(exported) => Ok(exported),
-            Err(AllocError) => Err(BuildFault::Memory),
-        },
-        Err(_) => Err(BuildFault::Memory),
-    }
+    let Ok(list) = tokens(alloc, text) else {
+        return Err(BuildFault::Memory);
+    };
+    let source = LexedText::new(alloc, text, &list.tokens, lines)?;
+    Ok(files(&source, system, &program)?)
 }
 
 /// The same without the lines of the text.

@@ -16,9 +16,7 @@ mod text;
 mod words;
 
 pub use bodies::{append_bodies, append_prototypes};
-pub use files::{
-    ExportedText, append_c, append_header, append_main, export_c, export_c_with_lines,
-};
+pub use files::{ExportedText, append_header, append_main, export_c, export_c_with_lines};
 pub use objects::append_kind;
 pub use pieces::{ExpressionShape, Piece, Risk};
 pub use text::{append, append_count, append_signed};

@@ -127,15 +127,10 @@ fn number_shape(number: i32) -> ExpressionShape
 }
 
 /// A number, or a constant, which is the next one from a place on.
-pub fn number(
-    alloc: Global,
-    source: &LexedText<'_>,
-    at: usize,
-    number: i32,
-) -> Result<Piece, AllocError>
+pub fn number(source: &LexedText<'_>, at: usize, number: i32) -> Result<Piece, AllocError>
     ensures { IfOk result (λ p. piece_view p ≡ number_piece (source_view source.now) at number) }
 {
-    let mut text = Vec::new(alloc);
+    let mut text = Vec::new(source.alloc);
     append_number(source, at, number, &mut text)?;
     Ok(Piece {
         text,

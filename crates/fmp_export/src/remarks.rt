@@ -64,7 +64,7 @@ fn append_saying(text: &[u8], out: &mut Vec<u8>) -> Result<(), AllocError>
     append(text, out)
 }
 
-/// Appends the comment of a line that has no space at its ends.
+/// Appends the comment of a piece of a line that has no space at its ends.
 fn append_line_comment(line: &[u8], out: &mut Vec<u8>) -> Result<(), AllocError>
     ensures { OnOk result (out.new.items ≡ out.old.items ++ spec.line_comment line.now) }
 {
@@ -82,16 +82,69 @@ fn is_open(line: &[u8]) -> bool
     line.ends_with(b"\\") || line.ends_with(b"??/")
 }
 
-/// The comment of a line that stands between two tokens; nothing if there is only space.
+/// Whether a block comment ends with a piece of a line.
+fn closes(piece: &[u8]) -> bool
+    ensures { result ≡ spec.closes piece.now }
+{
+    piece.ends_with(b"*/") && !trimmed(piece).starts_with(b"//")
+}
+
+/// Appends the space after the comments of a line, if there are any.
+fn append_space(comments: &mut Vec<u8>) -> Result<(), AllocError>
+    ensures { OnOk result (comments.new.items ≡ spec.spaced comments.old.items) }
+{
+    if comments.is_empty() {
+        return Ok(());
+    }
+    append(b" ", comments)
+}
+
+/// Appends a comment to those before it in its line, if it says anything.
+fn append_further(comment: &[u8], comments: &mut Vec<u8>) -> Result<(), AllocError>
+    ensures { OnOk result (comments.new.items ≡ spec.further comments.old.items comment.now) }
+{
+    if comment.is_empty() {
+        return Ok(());
+    }
+    append_space(comments)?;
+    append(comment, comments)
+}
+
+/// Appends the comment of a piece of a line to those before it.
+fn append_piece(alloc: Global, piece: &[u8], comments: &mut Vec<u8>) -> Result<(), AllocError>
+    ensures { OnOk result (comments.new.items ≡ spec.with_piece comments.old.items piece.now) }
+{
+    let mut comment = Vec::new(alloc);
+    append_line_comment(trimmed(piece), &mut comment)?;
+    append_further(&comment, comments)
+}
+
+/// The comments of a line: each block comment in it ends a piece.
+fn line_comments(alloc: Global, line: &[u8]) -> Result<Vec<u8>, AllocError>
+    ensures { IfOk result (λ c. c.items ≡ spec.line_comments [] [] line.now) }
+{
+    let mut comments = Vec::new(alloc);
+    let mut piece = Vec::new(alloc);
+    for byte in line {
+        piece.push(*byte)?;
+        if closes(&piece) {
+            append_piece(alloc, &piece, &mut comments)?;
+            piece.clear();
+        }
+    }
+    append_piece(alloc, &piece, &mut comments)?;
+    Ok(comments)
+}
+
+/// The comments of a line that stands between two tokens; nothing if there is only space.
 fn comment(alloc: Global, line: &[u8]) -> Result<Vec<u8>, AllocError>
     ensures { IfOk result (λ c. c.items ≡ spec.comment line.now) }
 {
-    let mut comment = Vec::new(alloc);
-    append_line_comment(trimmed(line), &mut comment)?;
-    if is_open(&comment) {
-        append(b" .", &mut comment)?;
+    let mut comments = line_comments(alloc, line)?;
+    if is_open(&comments) {
+        append(b" .", &mut comments)?;
     }
-    Ok(comment)
+    Ok(comments)
 }
 
 /// Appends a comment in a line of its own, if there is one.
@@ -217,7 +270,6 @@ fn append_line_end(
 
 /// Appends the end of a line of C for the tokens from a place up to a landmark, and gives the place after it.
 pub fn finish(
-    alloc: Global,
     margin: &[u8],
     landmark: Landmark,
     source: &LexedText<'_>,
@@ -229,8 +281,8 @@ pub fn finish(
     ensures next { IfOk result (λ next. next ≡ behind landmark (source_view source.now) at) }
 {
     let next = behind(landmark, source, at);
-    let gap = gaps_between(alloc, source, at, next)?;
-    append_line_end(alloc, margin, &gap, out)?;
+    let gap = gaps_between(source, at, next)?;
+    append_line_end(source.alloc, margin, &gap, out)?;
     Ok(next)
 }
 

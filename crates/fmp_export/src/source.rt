@@ -11,6 +11,8 @@ use std::alloc::{AllocError, Global};
 /// A text and its tokens. With none of both, bodies are written without comments, and numbers by their values.
 #[derive(Drop)]
 pub struct LexedText<'a> {
+    /// The allocator of what is written of it.
+    pub alloc: Global,
     /// The bytes of the text.
     pub text: &'a [u8],
     /// Its tokens, in order.
@@ -103,6 +105,7 @@ impl<'a> LexedText<'a> {
     {
         let tokens = all_tokens(alloc, tokens)?;
         Ok(LexedText {
+            alloc,
             text,
             tokens,
             lines,
@@ -114,6 +117,7 @@ impl<'a> LexedText<'a> {
         ensures { source_view result ≡ no_source }
     {
         LexedText {
+            alloc,
             text: b"",
             tokens: Vec::new(alloc),
             lines: false,
@@ -203,15 +207,10 @@ fn between<'a>(text: &'a [u8], token: &Token, tokens: &[Token]) -> &'a [u8]
 
 /// What stands after each of the tokens from a place up to another.
 #[tactic(auto, unfolding(crate::specs::Sources::gaps))]
-pub fn gaps_between(
-    alloc: Global,
-    source: &LexedText<'_>,
-    from: usize,
-    to: usize,
-) -> Result<Vec<u8>, AllocError>
+pub fn gaps_between(source: &LexedText<'_>, from: usize, to: usize) -> Result<Vec<u8>, AllocError>
     ensures { IfOk result (λ g. g.items ≡ gaps (source_view source.now) from to) }
 {
-    let mut all = Vec::new(alloc);
+    let mut all = Vec::new(source.alloc);
     let mut at = from;
     let mut rest = tokens_from(&source.tokens, from);
     while let Some((token, more)) = rest.split_first() {

@@ -1,5 +1,6 @@
-//! Statements of a text in C. Each line begins with its margin, and ends with the comments of its tokens.
-ghost use Rattle.std.specs.Prelude.{◌≡◌, ◌++◌, codes, IfOk, OnOk};
+//! Statements of a text in C, each without what its first line begins with. Each other line begins with its margin, and
+//! each line ends with the comments of its tokens.
+ghost use Rattle.std.specs.Prelude.{◌≡◌, ◌++◌, IfOk, OnOk};
 ghost use Rattle.fmp_tasklang.specs.Views.{expression_view, statement_view, block_view};
 ghost use Rattle.fmp_export.specs.declared.source.Landmark.TheVariants as landmark;
 ghost use Rattle.fmp_export.specs.Pieces.{piece_view};
@@ -18,7 +19,7 @@ use crate::text::{append, inner_margin};
 use crate::words::append_name;
 use fmp_base::Name;
 use fmp_tasklang::{Expression, Statement, Word};
-use std::alloc::{AllocError, Global};
+use std::alloc::AllocError;
 
 /// Appends what stands before the name of the array that gets a value.
 fn append_set_front(ordered: bool, out: &mut Vec<u8>) -> Result<(), AllocError>
@@ -34,16 +35,14 @@ fn append_set_front(ordered: bool, out: &mut Vec<u8>) -> Result<(), AllocError>
 /// Appends an assignment to an element.
 #[tactic(auto, unfolding(crate::specs::Statements::c_store))]
 fn append_store(
-    margin: &[u8],
     array: &Name,
     index: &Piece,
     value: &Piece,
     out: &mut Vec<u8>,
 ) -> Result<(), AllocError>
     ensures { OnOk result (out.new.items ≡ out.old.items
-        ++ c_store margin.now (c_name array.now) (piece_view index.now) (piece_view value.now)) }
+        ++ c_store (c_name array.now) (piece_view index.now) (piece_view value.now)) }
 {
-    append(margin, out)?;
     append_set_front(matters(index.risk, value.risk), out)?;
     append_name(array, out)?;
     append(b", ", out)?;
@@ -56,19 +55,16 @@ fn append_store(
 /// Appends an assignment to a variable, without what ends its line.
 #[tactic(auto, unfolding(crate::specs::Statements::c_assign))]
 fn append_assign(
-    alloc: Global,
     source: &LexedText<'_>,
-    front: &[u8],
     at: usize,
     target: &Word,
     value: &Expression,
     out: &mut Vec<u8>,
 ) -> Result<(), AllocError>
     ensures { OnOk result (out.new.items ≡ out.old.items
-        ++ spec.c_assign (source_view source.now) front.now at target.now (expression_view value.now)) }
+        ++ spec.c_assign (source_view source.now) at target.now (expression_view value.now)) }
 {
-    let piece = expression(alloc, source, at, value)?;
-    append(front, out)?;
+    let piece = expression(source, at, value)?;
     append_name(&target.name, out)?;
     append(b" = ", out)?;
     append(&piece.text, out)?;
@@ -78,29 +74,25 @@ fn append_assign(
 /// Appends an assignment to an element, without what ends its line.
 #[tactic(auto, unfolding(crate::specs::Statements::c_assign_element))]
 fn append_assign_element(
-    alloc: Global,
     source: &LexedText<'_>,
-    front: &[u8],
     at: usize,
     array: &Word,
     index: &Expression,
     value: &Expression,
     out: &mut Vec<u8>,
 ) -> Result<(), AllocError>
-    ensures { OnOk result (out.new.items ≡ out.old.items ++ spec.c_assign_element (source_view source.now) front.now
-        at array.now (expression_view index.now) (expression_view value.now)) }
+    ensures { OnOk result (out.new.items ≡ out.old.items ++ spec.c_assign_element (source_view source.now) at array.now
+        (expression_view index.now) (expression_view value.now)) }
 {
-    let index = expression(alloc, source, at, index)?;
-    let value = expression(alloc, source, index.next, value)?;
-    append_store(front, &array.name, &index, &value, out)
+    let index = expression(source, at, index)?;
+    let value = expression(source, index.next, value)?;
+    append_store(&array.name, &index, &value, out)
 }
 
-/// Appends a condition, what stands before it in its line, and `{`. Gives the place after the `{`.
+/// Appends a word, which ends with `(`, a condition and `) {`. Gives the place after the `{`.
 #[tactic(auto, unfolding(crate::specs::Statements::c_head))]
 fn append_head(
-    alloc: Global,
     source: &LexedText<'_>,
-    front: &[u8],
     margin: &[u8],
     word: &[u8],
     at: usize,
@@ -108,22 +100,20 @@ fn append_head(
     out: &mut Vec<u8>,
 ) -> Result<usize, AllocError>
     ensures text { OnOk result (out.new.items ≡ out.old.items
-        ++ spec.c_head (source_view source.now) front.now margin.now word.now at (expression_view condition.now)) }
+        ++ spec.c_head (source_view source.now) margin.now word.now at (expression_view condition.now)) }
     ensures next { IfOk result (λ next. next ≡ behind landmark.LeftBrace (source_view source.now) at) }
 {
-    let inner = inner_margin(alloc, margin)?;
-    let piece = expression(alloc, source, at, condition)?;
-    append(front, out)?;
+    let inner = inner_margin(source.alloc, margin)?;
+    let piece = expression(source, at, condition)?;
     append(word, out)?;
     append(&piece.text, out)?;
     append(b") {", out)?;
-    finish(alloc, &inner, Landmark::LeftBrace, source, at, out)
+    finish(&inner, Landmark::LeftBrace, source, at, out)
 }
 
 /// Appends the `}` at a place, and gives the place after it.
 #[tactic(auto, unfolding(crate::specs::Statements::c_close))]
 fn append_close(
-    alloc: Global,
     source: &LexedText<'_>,
     margin: &[u8],
     at: usize,
@@ -134,33 +124,29 @@ fn append_close(
 {
     append(margin, out)?;
     append(b"}", out)?;
-    finish(alloc, margin, Landmark::RightBrace, source, at, out)
+    finish(margin, Landmark::RightBrace, source, at, out)
 }
 
 /// Appends a word alone, and gives the place after its `;`.
 #[tactic(auto, unfolding(crate::specs::Statements::c_jump))]
 fn append_jump(
-    alloc: Global,
     source: &LexedText<'_>,
-    front: &[u8],
     margin: &[u8],
     word: &[u8],
     at: usize,
     out: &mut Vec<u8>,
 ) -> Result<usize, AllocError>
     ensures text { OnOk result (out.new.items ≡ out.old.items
-        ++ spec.c_jump (source_view source.now) front.now margin.now word.now at) }
+        ++ spec.c_jump (source_view source.now) margin.now word.now at) }
     ensures next { IfOk result (λ next. next ≡ behind landmark.Semicolon (source_view source.now) at) }
 {
-    append(front, out)?;
     append(word, out)?;
-    finish(alloc, margin, Landmark::Semicolon, source, at, out)
+    finish(margin, Landmark::Semicolon, source, at, out)
 }
 
 /// Appends the `{` after the `else` that stands after the `}` at a place, and gives the place after it.
 #[tactic(auto, unfolding(crate::specs::Statements::c_else_head))]
 fn append_else_head(
-    alloc: Global,
     source: &LexedText<'_>,
     margin: &[u8],
     at: usize,
@@ -170,10 +156,10 @@ fn append_else_head(
         ++ spec.c_else_head (source_view source.now) margin.now at) }
     ensures next { IfOk result (λ next. next ≡ behind landmark.LeftBrace (source_view source.now) at) }
 {
-    let inner = inner_margin(alloc, margin)?;
+    let inner = inner_margin(source.alloc, margin)?;
     append(margin, out)?;
     append(b"} else {", out)?;
-    finish(alloc, &inner, Landmark::LeftBrace, source, at, out)
+    finish(&inner, Landmark::LeftBrace, source, at, out)
 }
 
 /// Whether this is an `if`, with or without `else`.
@@ -205,67 +191,64 @@ fn goes_on(source: &LexedText<'_>, at: usize, otherwise: &[Statement]) -> bool
         )
 }
 
-/// Appends a statement at a place, of which the first line begins with `front` and each other line with the margin.
+/// Appends a statement at a place, without what its first line begins with; each other line begins with the margin.
 /// Gives the place after it.
 #[cycle(statements_in_c)]
 fn append_statement(
-    alloc: Global,
     source: &LexedText<'_>,
-    front: &[u8],
     margin: &[u8],
     at: usize,
     s: &Statement,
     out: &mut Vec<u8>,
 ) -> Result<usize, AllocError>
     ensures text { OnOk result (out.new.items ≡ out.old.items
-        ++ c_statement (source_view source.now) front.now margin.now at (statement_view s.now)) }
+        ++ c_statement (source_view source.now) margin.now at (statement_view s.now)) }
     ensures next { IfOk result (λ next. next ≡ statement_end (source_view source.now) at (statement_view s.now)) }
 {
     match s {
         Statement::Assign { target, value } => {
-            append_assign(alloc, source, front, at, target, value, out)?;
-            finish(alloc, margin, Landmark::Semicolon, source, at, out)
+            append_assign(source, at, target, value, out)?;
+            finish(margin, Landmark::Semicolon, source, at, out)
         }
         Statement::AssignElement {
             array,
             index,
             value,
         } => {
-            append_assign_element(alloc, source, front, at, array, index, value, out)?;
-            finish(alloc, margin, Landmark::Semicolon, source, at, out)
+            append_assign_element(source, at, array, index, value, out)?;
+            finish(margin, Landmark::Semicolon, source, at, out)
         }
         Statement::Call(call) => {
-            append_call(alloc, source, front, margin, at, call, out)?;
-            finish(alloc, margin, Landmark::Semicolon, source, at, out)
+            append_call(source, margin, at, call, out)?;
+            finish(margin, Landmark::Semicolon, source, at, out)
         }
         Statement::If { condition, then } => {
-            let next = append_head(alloc, source, front, margin, b"if (", at, condition, out)?;
-            append_closed(alloc, source, margin, next, then, out)
+            let next = append_head(source, margin, b"if (", at, condition, out)?;
+            append_closed(source, margin, next, then, out)
         }
         Statement::IfElse {
             condition,
             then,
             otherwise,
         } => {
-            let next = append_head(alloc, source, front, margin, b"if (", at, condition, out)?;
-            let next = append_inner(alloc, source, margin, next, then, out)?;
-            append_choice(alloc, source, margin, next, otherwise, out)
+            let next = append_head(source, margin, b"if (", at, condition, out)?;
+            let next = append_inner(source, margin, next, then, out)?;
+            append_choice(source, margin, next, otherwise, out)
         }
         Statement::While { condition, body } => {
             let word = b"fmp_while (";
-            let next = append_head(alloc, source, front, margin, word, at, condition, out)?;
-            append_closed(alloc, source, margin, next, body, out)
+            let next = append_head(source, margin, word, at, condition, out)?;
+            append_closed(source, margin, next, body, out)
         }
-        Statement::Break => append_jump(alloc, source, front, margin, b"break;", at, out),
-        Statement::Continue => append_jump(alloc, source, front, margin, b"continue;", at, out),
-        Statement::Return => append_jump(alloc, source, front, margin, b"return;", at, out),
+        Statement::Break => append_jump(source, margin, b"break;", at, out),
+        Statement::Continue => append_jump(source, margin, b"continue;", at, out),
+        Statement::Return => append_jump(source, margin, b"return;", at, out),
     }
 }
 
 /// Appends what stands after the `if` of a choice, whose `}` stands at a place.
 #[cycle(statements_in_c)]
 fn append_choice(
-    alloc: Global,
     source: &LexedText<'_>,
     margin: &[u8],
     at: usize,
@@ -277,32 +260,30 @@ fn append_choice(
     ensures next { IfOk result (λ next. next ≡ choice_end (source_view source.now) at (block_view otherwise.now)) }
 {
     if goes_on(source, at, otherwise) {
-        return append_chained(alloc, source, margin, at, otherwise, out);
+        return append_chained(source, margin, at, otherwise, out);
     }
-    let next = append_else_head(alloc, source, margin, at, out)?;
-    append_closed(alloc, source, margin, next, otherwise, out)
+    let next = append_else_head(source, margin, at, out)?;
+    append_closed(source, margin, next, otherwise, out)
 }
 
 /// Appends an `if` after the `else` before it.
 #[cycle(statements_in_c)]
 fn append_chained(
-    alloc: Global,
     source: &LexedText<'_>,
     margin: &[u8],
     at: usize,
     statements: &[Statement],
     out: &mut Vec<u8>,
 ) -> Result<usize, AllocError>
-    ensures text { OnOk result (out.new.items ≡ out.old.items ++ c_chained (source_view source.now)
-        (margin.now ++ codes "} else ") margin.now at (block_view statements.now)) }
+    ensures text { OnOk result (out.new.items ≡ out.old.items
+        ++ c_chained (source_view source.now) margin.now at (block_view statements.now)) }
     ensures next { IfOk result (λ next. next ≡ block_end (source_view source.now) at (block_view statements.now)) }
 {
-    let mut front = Vec::new(alloc);
-    append(margin, &mut front)?;
-    append(b"} else ", &mut front)?;
     let mut next = at;
     for s in statements {
-        next = append_statement(alloc, source, &front, margin, next, s, out)?;
+        append(margin, out)?;
+        append(b"} else ", out)?;
+        next = append_statement(source, margin, next, s, out)?;
     }
     Ok(next)
 }
@@ -310,7 +291,6 @@ fn append_chained(
 /// Appends the statements of a block within a statement of this margin, and the `}` after them.
 #[cycle(statements_in_c)]
 fn append_closed(
-    alloc: Global,
     source: &LexedText<'_>,
     margin: &[u8],
     at: usize,
@@ -323,14 +303,13 @@ fn append_closed(
     ensures next { IfOk result (λ next. next ≡ behind landmark.RightBrace (source_view source.now)
         (block_end (source_view source.now) at (block_view statements.now))) }
 {
-    let end = append_inner(alloc, source, margin, at, statements, out)?;
-    append_close(alloc, source, margin, end, out)
+    let end = append_inner(source, margin, at, statements, out)?;
+    append_close(source, margin, end, out)
 }
 
 /// Appends the statements of a block within a statement of this margin.
 #[cycle(statements_in_c)]
 fn append_inner(
-    alloc: Global,
     source: &LexedText<'_>,
     margin: &[u8],
     at: usize,
@@ -341,14 +320,13 @@ fn append_inner(
         ++ c_block (source_view source.now) (margin.now ++ tab) at (block_view statements.now)) }
     ensures next { IfOk result (λ next. next ≡ block_end (source_view source.now) at (block_view statements.now)) }
 {
-    let inner = inner_margin(alloc, margin)?;
-    append_block(alloc, source, &inner, at, statements, out)
+    let inner = inner_margin(source.alloc, margin)?;
+    append_block(source, &inner, at, statements, out)
 }
 
 /// Appends statements, of which the first begins at a place. Gives the place after them.
 #[cycle(statements_in_c)]
 pub fn append_block(
-    alloc: Global,
     source: &LexedText<'_>,
     margin: &[u8],
     at: usize,
@@ -362,7 +340,8 @@ pub fn append_block(
     let mut next = at;
     for s in statements {
         append_directive(source, next, out)?;
-        next = append_statement(alloc, source, margin, margin, next, s, out)?;
+        append(margin, out)?;
+        next = append_statement(source, margin, next, s, out)?;
     }
     Ok(next)
 }

@@ -13,21 +13,20 @@ use Rattle.fmp_export.proofs.statements.+statements_in_c.Goals as goal
 pub append_statement-returns-in_ok-next-in-If-clause-text : goal.append_statement-returns-in_ok-next-in-If-clause-text
 append_statement-returns-in_ok-next-in-If-clause-text t c =
     let s = source_view c.args.source.now in
-    let front = c.args.front.now in
     let margin = c.args.margin.now in
     let at = c.args.at in
     let view =
     view-If c.args.s.now c.in-If.condition c.in-If.then c.deref-in-If.result.now c.in-If.is
     c.deref-in-If.ensures.value in
     let b = block_view c.deref-in-If.result.now in
-    let p = c_head s front margin (codes "if (") at (expression_view c.in-If.condition) in
+    let p = c_head s margin (codes "if (") at (expression_view c.in-If.condition) in
     let q = c_closed s margin (c_block s (margin ++ tab) (behind landmark.LeftBrace s at) b)
     (block_end s (behind landmark.LeftBrace s at) b) in
     on_ok_weaker c.append_closed.result
     (λ e. two c.args.out.now.items p q _ _ c.in_ok-next-in-If.ensures.text
     (e ∙ ap (λ i. c.append_head.new.out.items ++ c_closed s margin (c_block s (margin ++ tab) i b) (block_end s i b))
     c.in_ok-next-in-If.ensures.next)
-    ∙ ap (λ x. c.args.out.now.items ++ c_statement s front margin at x) (sym view)) c.append_closed.ensures.text
+    ∙ ap (λ x. c.args.out.now.items ++ c_statement s margin at x) (sym view)) c.append_closed.ensures.text
 
 pub append_statement-returns-in_ok-next-in-If-clause-next : goal.append_statement-returns-in_ok-next-in-If-clause-next
 append_statement-returns-in_ok-next-in-If-clause-next t c =
@@ -45,7 +44,6 @@ pub append_statement-returns-in_ok-next-in-IfElse-2-clause-text :
     goal.append_statement-returns-in_ok-next-in-IfElse-2-clause-text
 append_statement-returns-in_ok-next-in-IfElse-2-clause-text t c =
     let s = source_view c.args.source.now in
-    let front = c.args.front.now in
     let margin = c.args.margin.now in
     let at = c.args.at in
     let view =
@@ -56,7 +54,7 @@ append_statement-returns-in_ok-next-in-IfElse-2-clause-text t c =
     let o = block_view c.deref-in-IfElse-3.result.now in
     let start = c.in_ok-next-in-IfElse.ensures.next in
     let end = c.in_ok-next-in-IfElse-2.ensures.next ∙ ap (λ i. block_end s i b) start in
-    let p = c_head s front margin (codes "if (") at (expression_view c.deref-in-IfElse.result.now) in
+    let p = c_head s margin (codes "if (") at (expression_view c.deref-in-IfElse.result.now) in
     let q = c_block s (margin ++ tab) (behind landmark.LeftBrace s at) b in
     let r = c_choice s margin (block_end s (behind landmark.LeftBrace s at) b) o in
     on_ok_weaker c.append_choice.result
@@ -65,7 +63,7 @@ append_statement-returns-in_ok-next-in-IfElse-2-clause-text t c =
     (c.in_ok-next-in-IfElse-2.ensures.text
     ∙ ap (λ i. c.append_head-in-IfElse.new.out.items ++ c_block s (margin ++ tab) i b) start)
     (e ∙ ap (λ i. c.append_inner.new.out.items ++ c_choice s margin i o) end))
-    ∙ ap (λ x. c.args.out.now.items ++ c_statement s front margin at x) (sym view)) c.append_choice.ensures.text
+    ∙ ap (λ x. c.args.out.now.items ++ c_statement s margin at x) (sym view)) c.append_choice.ensures.text
 
 pub append_statement-returns-in_ok-next-in-IfElse-2-clause-next :
     goal.append_statement-returns-in_ok-next-in-IfElse-2-clause-next
@@ -87,14 +85,13 @@ pub append_statement-returns-in_ok-next-in-While-clause-text :
     goal.append_statement-returns-in_ok-next-in-While-clause-text
 append_statement-returns-in_ok-next-in-While-clause-text t c =
     let s = source_view c.args.source.now in
-    let front = c.args.front.now in
     let margin = c.args.margin.now in
     let at = c.args.at in
     let view =
     view-While c.args.s.now c.in-While.condition c.in-While.body c.deref-in-While.result.now c.in-While.is
     c.deref-in-While.ensures.value in
     let b = block_view c.deref-in-While.result.now in
-    let p = c_head s front margin (codes "fmp_while (") at (expression_view c.in-While.condition) in
+    let p = c_head s margin (codes "fmp_while (") at (expression_view c.in-While.condition) in
     let q = c_closed s margin (c_block s (margin ++ tab) (behind landmark.LeftBrace s at) b)
     (block_end s (behind landmark.LeftBrace s at) b) in
     on_ok_weaker c.append_closed-in-While.result
@@ -103,7 +100,7 @@ append_statement-returns-in_ok-next-in-While-clause-text t c =
     ∙ ap
     (λ i. c.append_head-in-While.new.out.items ++ c_closed s margin (c_block s (margin ++ tab) i b) (block_end s i b))
     c.in_ok-next-in-While.ensures.next)
-    ∙ ap (λ x. c.args.out.now.items ++ c_statement s front margin at x) (sym view))
+    ∙ ap (λ x. c.args.out.now.items ++ c_statement s margin at x) (sym view))
     c.append_closed-in-While.ensures.text
 
 pub append_statement-returns-in_ok-next-in-While-clause-next :

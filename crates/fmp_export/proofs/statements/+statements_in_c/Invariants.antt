@@ -13,8 +13,7 @@ invariant-append_block-loop-s l =
 
 abbrev pub invariant-append_chained-loop-s : goal.invariant-append_chained-loop-s
 invariant-append_chained-loop-s l =
-    (l.out.items
-    ++ c_chained (source_view l.source) l.front.items l.margin l.next (block_view (drop l.s-index l.statements))
-    ≡ l.fn.out.items ++ c_chained (source_view l.source) l.front.items l.margin l.at (block_view l.statements))
+    (l.out.items ++ c_chained (source_view l.source) l.margin l.next (block_view (drop l.s-index l.statements))
+    ≡ l.fn.out.items ++ c_chained (source_view l.source) l.margin l.at (block_view l.statements))
     × (block_end (source_view l.source) l.next (block_view (drop l.s-index l.statements))
     ≡ block_end (source_view l.source) l.at (block_view l.statements))
