@@ -18,15 +18,15 @@ pub fn name_at(sys: &System, kind: ObjectKind, place: usize) -> Option<Name>
     ensures { result ≡ spec.name_at (tables_of sys.now) kind place }
 {
     match kind {
-        ObjectKind::Task => Some(sys.tasks.get(place)?.name),
-        ObjectKind::Semaphore => Some(sys.semaphores.get(place)?.name),
-        ObjectKind::Flag => Some(sys.flags.get(place)?.name),
-        ObjectKind::DataQueue => Some(sys.data_queues.get(place)?.name),
-        ObjectKind::Mailbox => Some(sys.mailboxes.get(place)?.name),
-        ObjectKind::Message => Some(sys.messages.get(place)?.name),
-        ObjectKind::SharedWord => Some(sys.shared_words.get(place)?.name),
-        ObjectKind::SpinLock => Some(sys.spin_locks.get(place)?.name),
-        ObjectKind::Cyclic => Some(sys.cyclics.get(place)?.name),
+        ObjectKind::Task => sys.tasks.get(place).map(|config| config.name),
+        ObjectKind::Semaphore => sys.semaphores.get(place).map(|config| config.name),
+        ObjectKind::Flag => sys.flags.get(place).map(|config| config.name),
+        ObjectKind::DataQueue => sys.data_queues.get(place).map(|config| config.name),
+        ObjectKind::Mailbox => sys.mailboxes.get(place).map(|config| config.name),
+        ObjectKind::Message => sys.messages.get(place).map(|config| config.name),
+        ObjectKind::SharedWord => sys.shared_words.get(place).map(|config| config.name),
+        ObjectKind::SpinLock => sys.spin_locks.get(place).map(|config| config.name),
+        ObjectKind::Cyclic => sys.cyclics.get(place).map(|config| config.name),
     }
 }
 

@@ -3,8 +3,8 @@ ghost use Rattle.std.specs.Prelude.{◌≡◌, ◌<◌, ◌≤◌, ◌+◌, ◌*
 ghost use Rattle.std.specs.Prelude.{IfOk, OnOk, OnErr};
 ghost use Rattle.fmp_base.specs.Names.{name_text};
 ghost use Rattle.fmp_base.specs.Systems.{tables_of, cyclic_config};
-ghost use Rattle.fmp_base.specs.Texts.{processor_text, caller_name, task_name, handler_name, run_text, call_text};
-ghost use Rattle.fmp_base.specs.Texts.{answer_text, fault_text, reply_text, line_body, line_text, lines_text};
+ghost use Rattle.fmp_base.specs.Texts.{caller_name, task_name, handler_name, run_text, call_text, answer_text};
+ghost use Rattle.fmp_base.specs.Texts.{fault_text, reply_text, line_body, line_text, lines_text};
 ghost use Rattle.fmp_trace.specs.Fronts.{Begins};
 ghost use Rattle.fmp_trace.specs.Rooms.{lines_room};
 
@@ -24,252 +24,112 @@ const LONGEST: usize = 127;
 /// its end.
 const REACH: usize = 179;
 
-/// The name of the task or handler that acts, after its processor.
 #[inline(always)]
-fn append_actor(
-    sys: &System,
-    number: &mut Numeral,
-    processor: u8,
-    caller: &Caller,
-    line: &mut [u8],
-    end: usize,
-) -> usize
-    requires { end + 60 ≤ length line.old }
+fn append_tick(number: &Numeral, clock: u32, line: &mut [u8], end: usize) -> usize
+    requires { end + 32 ≤ length line.old }
     ensures text { take result line.new ≡
-        take end line.old ++ (decimal number.old ++ (processor_text processor
-        ++ caller_name (tables_of sys.now) caller.now)) }
-    ensures short { result ≤ end + 47 }
-    ensures kept { number.new ≡ number.old }
+        take end line.old ++ (decimal number.now ++ (codes " tick " ++ decimal clock)) }
+    ensures short { result ≤ end + 32 }
 {
-    let end = number.append_with(processor, line, end);
-    append_caller(sys, caller, line, end)
-}
-
-/// The name of a task, after its processor.
-#[inline(always)]
-fn append_task(
-    sys: &System,
-    number: &mut Numeral,
-    processor: u8,
-    task: u8,
-    line: &mut [u8],
-    end: usize,
-) -> usize
-    requires { end + 60 ≤ length line.old }
-    ensures text { take result line.new ≡
-        take end line.old ++ (decimal number.old ++ (processor_text processor ++ task_name (tables_of sys.now) task)) }
-    ensures short { result ≤ end + 60 }
-    ensures kept { number.new ≡ number.old }
-{
-    let end = number.append_with(processor, line, end);
-    append_task_name(sys, task, line, end)
-}
-
-#[inline(always)]
-fn append_tick(clock: u32, line: &mut [u8], end: usize) -> usize
-    requires { end + 22 ≤ length line.old }
-    ensures text { take result line.new ≡ take end line.old ++ (codes " tick " ++ decimal clock) }
-    ensures short { result ≤ end + 22 }
-{
+    let end = number.append(line, end);
     let end = append_array(*b" tick ", line, end);
     append_number(clock, line, end)
 }
 
-fn append_interrupt(place: u8, line: &mut [u8], end: usize) -> usize
-    requires { end + 21 ≤ length line.old }
-    ensures text { take result line.new ≡ take end line.old ++ (codes " int " ++ decimal (place + 1)) }
-    ensures short { result ≤ end + 21 }
+fn append_interrupt(number: &Numeral, place: u8, line: &mut [u8], end: usize) -> usize
+    requires { end + 31 ≤ length line.old }
+    ensures text { take result line.new ≡
+        take end line.old ++ (decimal number.now ++ (codes " int " ++ decimal (place + 1))) }
+    ensures short { result ≤ end + 31 }
 {
+    let end = number.append(line, end);
     let end = append_array(*b" int ", line, end);
     append_number(u32::from(place) + 1, line, end)
 }
 
-/// A service call, after its caller.
+/// A service call and its answer, after its caller.
 #[inline(always)]
-fn append_request(
-    sys: &System,
-    number: &mut Numeral,
-    processor: u8,
-    caller: &Caller,
-    call: &Call,
-    line: &mut [u8],
-    end: usize,
-) -> usize
-    requires { end + 145 ≤ length line.old }
+fn append_called(call: &Call, reply: &Option<Reply>, line: &mut [u8], end: usize) -> usize
+    requires { end + 125 ≤ length line.old }
     ensures text { take result line.new ≡
-        take end line.old ++ (decimal number.old ++ (processor_text processor
-        ++ (caller_name (tables_of sys.now) caller.now ++ (codes " " ++ call_text call.now)))) }
-    ensures short { result ≤ end + 106 }
-    ensures kept { number.new ≡ number.old }
+        take end line.old ++ (codes " " ++ (call_text call.now ++ (codes " " ++ answer_text reply.now))) }
+    ensures short { result ≤ end + 79 }
 {
-    let end = append_actor(sys, number, processor, caller, line, end);
-    append_call(call, line, end)
-}
-
-/// A service call with its answer.
-#[inline(always)]
-fn append_called(
-    sys: &System,
-    number: &mut Numeral,
-    processor: u8,
-    caller: &Caller,
-    call: &Call,
-    reply: &Option<Reply>,
-    line: &mut [u8],
-    end: usize,
-) -> usize
-    requires { end + 172 ≤ length line.old }
-    ensures text { take result line.new ≡
-        take end line.old ++ (decimal number.old ++ (processor_text processor
-        ++ (caller_name (tables_of sys.now) caller.now
-        ++ (codes " " ++ (call_text call.now ++ (codes " " ++ answer_text reply.now)))))) }
-    ensures short { result ≤ end + 126 }
-    ensures kept { number.new ≡ number.old }
-{
-    let end = append_request(sys, number, processor, caller, call, line, end);
+    let end = append_call(call, line, end);
     let end = append_array(*b" ", line, end);
     append_answer(reply, line, end)
 }
 
-fn append_end(
-    sys: &System,
-    number: &mut Numeral,
-    processor: u8,
-    caller: &Caller,
-    line: &mut [u8],
-    end: usize,
-) -> usize
-    requires { end + 64 ≤ length line.old }
+fn append_end(sys: &System, caller: &Caller, line: &mut [u8], end: usize) -> usize
+    requires { end + 35 ≤ length line.old }
     ensures text { take result line.new ≡
-        take end line.old ++ (decimal number.old ++ (processor_text processor
-        ++ (caller_name (tables_of sys.now) caller.now ++ codes " end"))) }
-    ensures short { result ≤ end + 64 }
-    ensures kept { number.new ≡ number.old }
+        take end line.old ++ (caller_name (tables_of sys.now) caller.now ++ codes " end") }
+    ensures short { result ≤ end + 35 }
 {
-    let end = append_actor(sys, number, processor, caller, line, end);
+    let end = append_caller(sys, caller, line, end);
     append_array(*b" end", line, end)
 }
 
-fn append_fault(
-    sys: &System,
-    number: &mut Numeral,
-    processor: u8,
-    caller: &Caller,
-    fault: Fault,
-    line: &mut [u8],
-    end: usize,
-) -> usize
-    requires { end + 66 ≤ length line.old }
+fn append_fault(sys: &System, caller: &Caller, fault: Fault, line: &mut [u8], end: usize) -> usize
+    requires { end + 50 ≤ length line.old }
     ensures text { take result line.new ≡
-        take end line.old ++ (decimal number.old ++ (processor_text processor
-        ++ (caller_name (tables_of sys.now) caller.now ++ (codes " " ++ fault_text fault)))) }
-    ensures short { result ≤ end + 66 }
-    ensures kept { number.new ≡ number.old }
+        take end line.old ++ (caller_name (tables_of sys.now) caller.now ++ (codes " " ++ fault_text fault)) }
+    ensures short { result ≤ end + 50 }
 {
-    let end = append_actor(sys, number, processor, caller, line, end);
+    let end = append_caller(sys, caller, line, end);
     let end = append_array(*b" ", line, end);
     append(fault.name().as_bytes(), line, end)
 }
 
 #[inline(always)]
-fn append_release(
-    sys: &System,
-    number: &mut Numeral,
-    processor: u8,
-    task: u8,
-    reply: &Reply,
-    line: &mut [u8],
-    end: usize,
-) -> usize
-    requires { end + 92 ≤ length line.old }
+fn append_release(sys: &System, task: u8, reply: &Reply, line: &mut [u8], end: usize) -> usize
+    requires { end + 63 ≤ length line.old }
     ensures text { take result line.new ≡
-        take end line.old ++ (decimal number.old ++ (processor_text processor
-        ++ (task_name (tables_of sys.now) task ++ (codes " gets " ++ reply_text reply.now)))) }
-    ensures short { result ≤ end + 92 }
-    ensures kept { number.new ≡ number.old }
+        take end line.old ++ (task_name (tables_of sys.now) task ++ (codes " gets " ++ reply_text reply.now)) }
+    ensures short { result ≤ end + 63 }
 {
-    let end = append_task(sys, number, processor, task, line, end);
+    let end = append_task_name(sys, task, line, end);
     let end = append_array(*b" gets ", line, end);
     append_reply(reply, line, end)
 }
 
 #[inline(always)]
-fn append_start(
-    sys: &System,
-    number: &mut Numeral,
-    processor: u8,
-    task: u8,
-    line: &mut [u8],
-    end: usize,
-) -> usize
-    requires { end + 67 ≤ length line.old }
+fn append_start(sys: &System, task: u8, line: &mut [u8], end: usize) -> usize
+    requires { end + 38 ≤ length line.old }
     ensures text { take result line.new ≡
-        take end line.old ++ (decimal number.old ++ (processor_text processor
-        ++ (task_name (tables_of sys.now) task ++ codes " starts"))) }
-    ensures short { result ≤ end + 67 }
-    ensures kept { number.new ≡ number.old }
+        take end line.old ++ (task_name (tables_of sys.now) task ++ codes " starts") }
+    ensures short { result ≤ end + 38 }
 {
-    let end = append_task(sys, number, processor, task, line, end);
+    let end = append_task_name(sys, task, line, end);
     append_array(*b" starts", line, end)
 }
 
-fn append_pending(
-    sys: &System,
-    number: &mut Numeral,
-    processor: u8,
-    cyclic: u8,
-    line: &mut [u8],
-    end: usize,
-) -> usize
-    requires { end + 64 ≤ length line.old }
+fn append_pending(sys: &System, cyclic: u8, line: &mut [u8], end: usize) -> usize
+    requires { end + 35 ≤ length line.old }
     ensures text { take result line.new ≡
-        take end line.old ++ (decimal number.old ++ (processor_text processor
-        ++ (codes "cyc " ++ name_text (cyclic_config (tables_of sys.now) cyclic).name))) }
-    ensures short { result ≤ end + 64 }
-    ensures kept { number.new ≡ number.old }
+        take end line.old ++ (codes "cyc " ++ name_text (cyclic_config (tables_of sys.now) cyclic).name) }
+    ensures short { result ≤ end + 35 }
 {
-    let end = number.append_with(processor, line, end);
     let end = append_array(*b"cyc ", line, end);
     append_cyclic_name(sys, cyclic, line, end)
 }
 
-fn append_begin(
-    sys: &System,
-    number: &mut Numeral,
-    processor: u8,
-    handler: Handler,
-    line: &mut [u8],
-    end: usize,
-) -> usize
-    requires { end + 66 ≤ length line.old }
+fn append_begin(sys: &System, handler: Handler, line: &mut [u8], end: usize) -> usize
+    requires { end + 37 ≤ length line.old }
     ensures text { take result line.new ≡
-        take end line.old ++ (decimal number.old ++ (processor_text processor
-        ++ (codes "begin " ++ handler_name (tables_of sys.now) handler))) }
-    ensures short { result ≤ end + 66 }
-    ensures kept { number.new ≡ number.old }
+        take end line.old ++ (codes "begin " ++ handler_name (tables_of sys.now) handler) }
+    ensures short { result ≤ end + 37 }
 {
-    let end = number.append_with(processor, line, end);
     let end = append_array(*b"begin ", line, end);
     append_handler(sys, handler, line, end)
 }
 
 #[inline(always)]
-fn append_dispatch(
-    sys: &System,
-    number: &mut Numeral,
-    processor: u8,
-    task: Option<u8>,
-    line: &mut [u8],
-    end: usize,
-) -> usize
-    requires { end + 62 ≤ length line.old }
-    ensures text { take result line.new ≡
-        take end line.old ++ (decimal number.old ++ (processor_text processor
-        ++ (codes "> " ++ run_text (tables_of sys.now) task))) }
-    ensures short { result ≤ end + 62 }
-    ensures kept { number.new ≡ number.old }
+fn append_dispatch(sys: &System, task: Option<u8>, line: &mut [u8], end: usize) -> usize
+    requires { end + 33 ≤ length line.old }
+    ensures text { take result line.new ≡ take end line.old ++ (codes "> " ++ run_text (tables_of sys.now) task) }
+    ensures short { result ≤ end + 33 }
 {
-    let end = number.append_with(processor, line, end);
     let end = append_array(*b"> ", line, end);
     append_run(sys, task, line, end)
 }
@@ -290,41 +150,54 @@ fn append_body(
     ensures kept { number.new ≡ number.old }
 {
     match printed {
-        Line::Tick(clock) => {
-            let end = number.append(line, end);
-            append_tick(*clock, line, end)
-        }
-        Line::Int(place) => {
-            let end = number.append(line, end);
-            append_interrupt(*place, line, end)
-        }
+        Line::Tick(clock) => append_tick(number, *clock, line, end),
+        Line::Int(place) => append_interrupt(number, *place, line, end),
         Line::Call {
             processor,
             caller,
             call,
             reply,
-        } => append_called(sys, number, *processor, caller, call, reply, line, end),
-        Line::End { processor, caller } => append_end(sys, number, *processor, caller, line, end),
+        } => {
+            let end = number.append_with(*processor, line, end);
+            let end = append_caller(sys, caller, line, end);
+            append_called(call, reply, line, end)
+        }
+        Line::End { processor, caller } => {
+            let end = number.append_with(*processor, line, end);
+            append_end(sys, caller, line, end)
+        }
         Line::Fault {
             processor,
             caller,
             fault,
-        } => append_fault(sys, number, *processor, caller, *fault, line, end),
+        } => {
+            let end = number.append_with(*processor, line, end);
+            append_fault(sys, caller, *fault, line, end)
+        }
         Line::Gets {
             processor,
             task,
             reply,
-        } => append_release(sys, number, *processor, *task, reply, line, end),
-        Line::Starts { processor, task } => append_start(sys, number, *processor, *task, line, end),
-        Line::Pends { processor, cyclic } => append_pending(
-            sys, number, *processor, *cyclic, line, end,
-        ),
-        Line::Begins { processor, handler } => append_begin(
-            sys, number, *processor, *handler, line, end,
-        ),
-        Line::Runs { processor, task } => append_dispatch(
-            sys, number, *processor, *task, line, end,
-        ),
+        } => {
+            let end = number.append_with(*processor, line, end);
+            append_release(sys, *task, reply, line, end)
+        }
+        Line::Starts { processor, task } => {
+            let end = number.append_with(*processor, line, end);
+            append_start(sys, *task, line, end)
+        }
+        Line::Pends { processor, cyclic } => {
+            let end = number.append_with(*processor, line, end);
+            append_pending(sys, *cyclic, line, end)
+        }
+        Line::Begins { processor, handler } => {
+            let end = number.append_with(*processor, line, end);
+            append_begin(sys, *handler, line, end)
+        }
+        Line::Runs { processor, task } => {
+            let end = number.append_with(*processor, line, end);
+            append_dispatch(sys, *task, line, end)
+        }
     }
 }
 
