@@ -1,8 +1,8 @@
 /*
- * baseline.c: the least kernel in C for the calls that calls.c counts: two tasks, ready queues by priorities, and
- * semaphores. It has no handlers, time limits, other processors or suspension, and half of the tests of a call.
+ * baseline.c: the least kernel in C for the calls that calls.c counts: two tasks that sleep, ready queues by
+ * priorities, and semaphores. It has no handlers, time limits, other processors or suspension, and half of the tests of a call.
  *
- *   baseline pair|same N     the calls of calls.c
+ *   baseline pair|sleep|same N     the calls of calls.c
  */
 #include "coroutine.h"
 
@@ -12,12 +12,15 @@
 
 enum { PRIORITIES = 16, STACK = 64 << 10 };
 enum { OK = 0, ID = -18, CTX = -25, QOVR = -43, TMOUT = -50 };
+enum { MOST_WAKEUPS = 1 };
+enum { A = 1, B };
 enum { P = 1, Q };
 
 struct task {
     struct coroutine coroutine;
     struct task *next;
-    unsigned priority;
+    unsigned priority, wakeups;
+    int sleeps;
 };
 
 struct queue {
@@ -64,6 +67,17 @@ static void make_ready(struct task *task)
 {
     push(&ready[task->priority], task);
     ready_bits |= 1u << task->priority;
+}
+
+/* Takes the invoking task out of its ready queue. */
+static inline struct task *leave_ready(void)
+{
+    struct queue *own = &ready[running->priority];
+    struct task *task = pop(own);
+    if (own->head == NULL) {
+        ready_bits &= ~(1u << task->priority);
+    }
+    return task;
 }
 
 /* Returns when the invoking task runs again. */
@@ -129,12 +143,44 @@ __attribute__((noinline)) static int wai_sem(int id)
         it->count--;
         return OK;
     }
-    struct queue *own = &ready[running->priority];
-    struct task *task = pop(own);
-    if (own->head == NULL) {
-        ready_bits &= ~(1u << task->priority);
+    push(&it->waiting, leave_ready());
+    dispatch();
+    return OK;
+}
+
+__attribute__((noinline)) static int wup_tsk(int id)
+{
+    made++;
+    if (is_locked) {
+        return CTX;
     }
-    push(&it->waiting, task);
+    if (id < 1 || id > 2) {
+        return ID;
+    }
+    struct task *task = &tasks[id - 1];
+    if (task->sleeps) {
+        task->sleeps = 0;
+        make_ready(task);
+        dispatch();
+    } else if (task->wakeups == MOST_WAKEUPS) {
+        return QOVR;
+    } else {
+        task->wakeups++;
+    }
+    return OK;
+}
+
+__attribute__((noinline)) static int slp_tsk(void)
+{
+    made++;
+    if (is_locked || holds_dispatch) {
+        return CTX;
+    }
+    if (running->wakeups != 0) {
+        running->wakeups--;
+        return OK;
+    }
+    leave_ready()->sleeps = 1;
     dispatch();
     return OK;
 }
@@ -157,6 +203,24 @@ static void b(void)
     }
 }
 
+static void sleeping_a(void)
+{
+    while (made < count) {
+        wup_tsk(B);
+        slp_tsk();
+    }
+    running = NULL;
+    coroutine_leave(&tasks[0].coroutine);
+}
+
+static void sleeping_b(void)
+{
+    for (;;) {
+        slp_tsk();
+        wup_tsk(A);
+    }
+}
+
 static void alone(void)
 {
     while (made < count) {
@@ -172,7 +236,9 @@ int main(int argc, char **argv)
     if (argc != 3) {
         return 2;
     }
-    void (*bodies[2])(void) = { strcmp(argv[1], "pair") == 0 ? a : alone, b };
+    int both_sleep = strcmp(argv[1], "sleep") == 0;
+    void (*first)(void) = strcmp(argv[1], "pair") == 0 ? a : both_sleep ? sleeping_a : alone;
+    void (*bodies[2])(void) = { first, both_sleep ? sleeping_b : b };
     int has_begun[2] = { 0, 0 };
     count = atol(argv[2]);
     for (int at = 0; at < 2; at++) {

@@ -3,9 +3,10 @@
 #
 #   bench/calls.sh [LIBRARY]     crates/fmp_c/out/libfmp_c.a where it is not given, as `rt lib` leaves it
 #
-# `pair` are calls of two tasks that hand a semaphore back and forth, of which every second switches tasks; `same` are
-# calls of one task that gives and takes a semaphore. The first column counts them without a port, the second one those
-# of C tasks in virtual time, and the third one those of the least kernel in C that has them, bench/baseline.c.
+# `pair` are calls of two tasks that hand a semaphore back and forth, and `sleep` those of two tasks that wake each
+# other and sleep: of both every second switches tasks. `same` are calls of one task that gives and takes a semaphore. The
+# first column counts them without a port, the second one those of C tasks in virtual time, and the third one those of
+# the least kernel in C that has them, bench/baseline.c.
 set -eu
 root=$(cd "$(dirname "$0")/.." && pwd)
 library=${1:-$root/crates/fmp_c/out/libfmp_c.a}
@@ -32,6 +33,6 @@ a_call() {
 compiled calls
 compiled baseline
 echo "instructions a call: without a port, C tasks, baseline"
-for kind in pair same; do
+for kind in pair sleep same; do
     echo "$kind: $(a_call calls $kind) $(a_call calls tasks-$kind) $(a_call baseline $kind)"
 done
