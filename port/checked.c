@@ -2,33 +2,54 @@
 #include "checked.h"
 
 #include <inttypes.h>
-#include <string.h>
-
-enum { KINDS = 10, NUMBERS = KINDS + 1 + 32 };
 
 static const uint64_t USUAL_BOUND = 100000;
 
-/* What a configuration and its image have in common: how many objects, and the numbers of interrupts. */
-static void count_all(size_t numbers[NUMBERS])
+/* FNV-1a. */
+static void add(uint64_t *sum, const void *bytes, size_t length)
 {
+    const uint8_t *at = bytes;
+    for (const uint8_t *end = at + length; at < end; at++) {
+        *sum = (*sum ^ *at) * 1099511628211u;
+    }
+}
+
+static void add_object(uint64_t *sum, uint32_t kind, size_t number)
+{
+    uint8_t name[NAME_ROOM] = { 0 };
+    uint32_t detail = fmp_detail(&system_kernel, kind, number);
+    fmp_task_state state = { 0, 0, 0 };
+    fmp_name(&system_kernel, kind, number, name, sizeof name);
+    if (kind == FMP_TASKS) {
+        fmp_state(&system_kernel, (uint8_t)number, &state);
+    }
+    add(sum, name, sizeof name);
+    add(sum, &detail, sizeof detail);
+    add(sum, &state, sizeof state);
+}
+
+/* A sum over what a configuration and its image have in common, as far as it can be read after setup. */
+static uint64_t sum_of_system(void)
+{
+    uint64_t sum = 14695981039346656037u;
     fmp_event_counts counts = { 0, 0, 0, 0 };
     fmp_counts(&system_kernel, &counts);
-    memset(numbers, 0, NUMBERS * sizeof *numbers);
-    numbers[0] = counts.processors;
-    for (uint32_t kind = 1; kind <= KINDS; kind++) {
-        numbers[kind] = fmp_count(&system_kernel, kind);
+    add(&sum, &counts.processors, sizeof counts.processors);
+    for (uint32_t kind = FMP_TASKS; kind <= FMP_INTERRUPTS; kind++) {
+        size_t count = fmp_count(&system_kernel, kind);
+        add(&sum, &count, sizeof count);
+        for (size_t number = 1; number <= count; number++) {
+            add_object(&sum, kind, number);
+        }
     }
-    for (size_t at = 1; at <= numbers[FMP_INTERRUPTS]; at++) {
-        numbers[KINDS + at] = fmp_detail(&system_kernel, FMP_INTERRUPTS, at);
-    }
+    return sum;
 }
 
 enum fmp_opened checked_make(const struct fmp_program *program, FILE *messages)
 {
     fmp_refusal why = { 0, 0, 0 };
-    size_t wanted[NUMBERS], given[NUMBERS];
     uint64_t bound = program->bound != 0 ? program->bound : USUAL_BOUND;
-    count_all(wanted);
+    uint64_t wanted = sum_of_system();
     fmp_free(&system_kernel);
     uint32_t made = fmp_new_checked(program->image, program->image_length, bound, &system_kernel, &why);
     if (made == FMP_NO_MEMORY) {
@@ -43,8 +64,7 @@ enum fmp_opened checked_make(const struct fmp_program *program, FILE *messages)
         fputs("fmp: the bound is out of range\n", messages);
         return FMP_IMAGE_REFUSED;
     }
-    count_all(given);
-    if (memcmp(wanted, given, sizeof given) != 0) {
+    if (sum_of_system() != wanted) {
         fputs("fmp: the image is not one of the configuration\n", messages);
         return FMP_IMAGE_REFUSED;
     }

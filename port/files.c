@@ -45,15 +45,6 @@ bool files_are_one(const char *path, const char *other)
         && one.st_ino == two.st_ino;
 }
 
-FILE *files_create(const char *path)
-{
-    FILE *file = fopen(path, "w");
-    if (file == NULL) {
-        fprintf(stderr, "file: %s\n", path);
-    }
-    return file;
-}
-
 static bool told(bool is_written, const char *path)
 {
     if (!is_written) {
@@ -62,8 +53,17 @@ static bool told(bool is_written, const char *path)
     return is_written;
 }
 
+bool files_create(const char *path, FILE **file)
+{
+    *file = path != NULL ? fopen(path, "w") : NULL;
+    return told(path == NULL || *file != NULL, path);
+}
+
 bool files_close(FILE *file, const char *path)
 {
+    if (file == NULL) {
+        return true;
+    }
     bool is_written = ferror(file) == 0;
     is_written &= fclose(file) == 0;
     return told(is_written, path);

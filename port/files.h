@@ -12,10 +12,10 @@ char *files_text(const char *path, size_t *length);
 /* Whether two paths name one regular file. */
 bool files_are_one(const char *path, const char *other);
 
-/* A new file to write to. NULL if there can be none, after a message. */
-FILE *files_create(const char *path);
+/* A new file to write to, or NULL where no path is given. False if there can be none, after a message. */
+bool files_create(const char *path, FILE **file);
 
-/* Closes a file that was written. False if it could not be written, after a message. */
+/* Closes a file that was written, if there is one. False if it could not be written, after a message. */
 bool files_close(FILE *, const char *path);
 
 /* Writes what standard output holds back. False if it could not be written, after a message. */

@@ -8,6 +8,7 @@
 #define _GNU_SOURCE
 #include "live.h"
 
+#include "kernel.h"
 #include "overflow.h"
 #include "recording.h"
 #include "signals.h"
@@ -30,7 +31,7 @@
 
 enum { PROCESSORS = 8, INTERRUPTS = 32, FLUSH_ATTEMPTS = 1000000 };
 enum { LOCK_ATTEMPTS = 64, MOST_PAUSES = 128, LEAST_PATIENCE = 32, MOST_PATIENCE = 1024 };
-enum { NANOSECONDS = 1000000000, UNL_SPN = 50 };
+enum { NANOSECONDS = 1000000000, LOC_CPU = 44, UNL_CPU = 45, UNL_SPN = 50 };
 
 struct processor {
     alignas(64) atomic_bool news;   /* others have changed who acts here, or the run is over */
@@ -263,11 +264,25 @@ static void give_way(struct flow *flow)
     } while (by_signals && has_news(here()));
 }
 
-static void begin(struct flow *flow)
+static void go_on(struct flow *flow)
 {
     leave_port();
     if (by_signals && has_news(here())) {
         give_way(flow);
+    }
+}
+
+static void begin(struct flow *flow)
+{
+    flow->is_alone = flow->told->who != FMP_TASK;
+    go_on(flow);
+}
+
+/* What a call has done to the CPU lock. */
+static void follow_cpu_lock(struct flow *flow)
+{
+    if ((flow->service == LOC_CPU || flow->service == UNL_CPU) && flow->told->code == E_OK) {
+        flow->is_alone = flow->service == LOC_CPU;
     }
 }
 
@@ -281,7 +296,8 @@ static void ask(struct flow *flow, enum wish wish)
     } else {
         coroutine_leave(&flow->coroutine);
     }
-    begin(flow);
+    follow_cpu_lock(flow);
+    go_on(flow);
 }
 
 static void poll(struct flow *flow)
@@ -311,14 +327,17 @@ __attribute__((noinline)) static int *place_of_errno(void)
     return &errno;
 }
 
-/* A body that is interrupted polls. Where it goes on, the thread keeps its stack for signals. */
+/*
+ * A body that is interrupted polls. One that nothing but the end of the run can replace does not: it may hold locks of
+ * the C library. Where it goes on, the thread keeps its stack for signals.
+ */
 static void on_preemption(int number, siginfo_t *about, void *context)
 {
     ucontext_t *interrupted = context;
     struct flow *flow = system_inside();
     (void)number;
     (void)about;
-    if (flow != NULL && !in_port && has_news(here())) {
+    if (flow != NULL && !in_port && !flow->is_alone && has_news(here())) {
         int kept = *place_of_errno();
         give_way(flow);
         *place_of_errno() = kept;
@@ -576,14 +595,10 @@ static void write_last_words(void)
     }
 }
 
-enum fmp_over fmp_run(long nanoseconds, unsigned long ticks, FILE *messages)
+static void run(long nanoseconds, unsigned long ticks, FILE *messages)
 {
-    if (system_kernel.at == NULL || system_inside() != NULL || atomic_load(&takes_requests)) {
-        return FMP_NOT_OPEN;
-    }
-    if (!signals_choose_preemption(&by_signals, messages)) {
-        return FMP_NO_PREEMPTION;
-    }
+    uint32_t steppable = by_signals ? 0 : system_steppable;
+    system_steppable = 0;
     prepare(nanoseconds, ticks);
     atomic_store(&takes_requests, true);
     post_request();
@@ -591,7 +606,7 @@ enum fmp_over fmp_run(long nanoseconds, unsigned long ticks, FILE *messages)
     signals_take(by_signals ? on_preemption : NULL);
     run_threads(messages);
     signals_give_back();
-    system_steppable = by_signals ? 0 : system_steppable;
+    system_steppable = steppable;
     by_signals = false;
     overflow_watch(recording_end);
     atomic_store(&takes_requests, false);
@@ -600,5 +615,20 @@ enum fmp_over fmp_run(long nanoseconds, unsigned long ticks, FILE *messages)
         pthread_cond_destroy(&processors[at].wake);
     }
     recording_flush();
-    return over;
+}
+
+enum fmp_over fmp_run(long nanoseconds, unsigned long ticks, FILE *messages)
+{
+    if (system_inside() != NULL || atomic_exchange(&system_runs, true)) {
+        return FMP_NOT_OPEN;
+    }
+    enum fmp_over why = FMP_NOT_OPEN;
+    if (system_kernel.at != NULL && !signals_choose_preemption(&by_signals, messages)) {
+        why = FMP_NO_PREEMPTION;
+    } else if (system_kernel.at != NULL) {
+        run(nanoseconds, ticks, messages);
+        why = over;
+    }
+    atomic_store(&system_runs, false);
+    return why;
 }

@@ -1,4 +1,4 @@
-/* overflow.c: bodies that use more than their stacks. */
+/* overflow.c: bodies that use more than their stacks, and other faults of the program. */
 #define _DEFAULT_SOURCE
 #include "overflow.h"
 
@@ -10,8 +10,11 @@
 
 enum { OVERFLOW_STATUS = 3 };
 
-static struct sigaction kept;
-static void (*at_overflow)(void);   /* NULL while none is watched */
+static const int faults[] = { SIGSEGV, SIGBUS, SIGFPE, SIGILL, SIGABRT };
+enum { KINDS = sizeof faults / sizeof *faults };
+
+static struct sigaction kept[KINDS];
+static void (*say_last_words)(void);    /* NULL while none is watched */
 
 static void say(const char *text)
 {
@@ -19,38 +22,58 @@ static void say(const char *text)
     (void)written;
 }
 
-/* Any other access to no memory comes again, as if this was not here. */
+/* As it was. Whether the fault ends the program then. */
+static bool give_back(int number)
+{
+    size_t at = 0;
+    while (faults[at] != number) {
+        at++;
+    }
+    sigaction(number, &kept[at], NULL);
+    return kept[at].sa_handler == SIG_DFL;
+}
+
+/* An overflow ends the program. Any other fault comes again, as if this was not here. */
 static void on_fault(int number, siginfo_t *about, void *context)
 {
-    const struct flow *flow = system_overflowing(about->si_addr);
+    const struct flow *flow = number == SIGSEGV ? system_overflowing(about->si_addr) : NULL;
     (void)context;
-    if (flow == NULL) {
-        sigaction(number, &kept, NULL);
-        return;
+    if (flow != NULL) {
+        say("fmp: the stack of ");
+        say(flow->name);
+        say(" overflows\n");
+        say_last_words();
+        _exit(OVERFLOW_STATUS);
     }
-    say("fmp: the stack of ");
-    say(flow->name);
-    say(" overflows\n");
-    at_overflow();
-    _exit(OVERFLOW_STATUS);
+    bool ends_program = give_back(number);
+    if (ends_program) {
+        say_last_words();
+    }
+    if (ends_program || about->si_code <= 0) {
+        raise(number);          /* it comes before all other signals, when this returns */
+    }
 }
 
 void overflow_watch(void (*last_words)(void))
 {
-    if (at_overflow == NULL) {
-        struct sigaction fault = { .sa_sigaction = on_fault, .sa_flags = SA_SIGINFO | SA_ONSTACK };
-        sigfillset(&fault.sa_mask);
-        sigaction(SIGSEGV, &fault, &kept);
+    struct sigaction fault = { .sa_sigaction = on_fault, .sa_flags = SA_SIGINFO | SA_ONSTACK };
+    sigfillset(&fault.sa_mask);
+    for (size_t at = 0; say_last_words == NULL && at < KINDS; at++) {
+        sigaction(faults[at], &fault, &kept[at]);
     }
-    at_overflow = last_words;
+    say_last_words = last_words;
 }
 
+/* Handlers that the program has set since then stay. */
 void overflow_ignore(void)
 {
-    if (at_overflow != NULL) {
-        sigaction(SIGSEGV, &kept, NULL);
-        at_overflow = NULL;
+    struct sigaction now;
+    for (size_t at = 0; say_last_words != NULL && at < KINDS; at++) {
+        if (sigaction(faults[at], NULL, &now) == 0 && now.sa_sigaction == on_fault) {
+            sigaction(faults[at], &kept[at], NULL);
+        }
     }
+    say_last_words = NULL;
 }
 
 void overflow_use(unsigned char *stack)

@@ -1,10 +1,13 @@
-/* overflow.h: bodies that use more than their stacks. */
+/* overflow.h: bodies that use more than their stacks, and other faults of the program. */
 #ifndef FMP_OVERFLOW_H
 #define FMP_OVERFLOW_H
 
 enum { OVERFLOW_STACK = 32 << 10 };
 
-/* While a system is open: a stack that overflows ends the program, after a message and these last words. */
+/*
+ * While a system is open: a stack that overflows ends the program, after a message and these last words. They are said
+ * too before any other fault, or abort, ends it.
+ */
 void overflow_watch(void (*last_words)(void));
 void overflow_ignore(void);
 

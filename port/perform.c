@@ -47,13 +47,9 @@ static bool read_words(int argc, char **argv, struct wanted *it)
     return it->nanoseconds >= 0 && it->ticks >= 0;
 }
 
-/* A run of the system of a text. The exit status. */
-static int perform(const char *text, size_t length, const struct wanted *it, const struct fmp_program *program,
-                   FILE *recording)
+/* Runs the open system, and prints the states after it. Whether the run is over as it should be. */
+static bool run(const struct wanted *it, FILE *recording)
 {
-    if (fmp_open(text, length, program, stdout, stderr) != FMP_OPENED) {
-        return 1;
-    }
     enum fmp_over why = FMP_NOT_OPEN;
     if (fmp_record_as(recording, &it->form)) {
         why = fmp_run(it->nanoseconds, (unsigned long)it->ticks, stderr);
@@ -61,25 +57,24 @@ static int perform(const char *text, size_t length, const struct wanted *it, con
         fputs("fmp: out of memory for the recording\n", stderr);
     }
     fmp_print_states(stdout);
-    fmp_close();
-    return why == FMP_ALL_DORMANT || why == FMP_TICKS_OVER || why == FMP_HALTED ? 0 : 3;
+    return why == FMP_ALL_DORMANT || why == FMP_TICKS_OVER || why == FMP_HALTED;
 }
 
-/* The same, and what it prints and records is written. */
-static int perform_to(const char *text, size_t length, const struct wanted *it, const struct fmp_program *program)
+/* A run of the system of a text, which is opened before a file is written. The exit status. */
+static int perform(const char *text, size_t length, const struct wanted *it, const struct fmp_program *program)
 {
-    FILE *recording = it->recording != NULL ? files_create(it->recording) : NULL;
-    if (it->recording != NULL && recording == NULL) {
+    FILE *recording;
+    if (fmp_open(text, length, program, stdout, stderr) != FMP_OPENED) {
+        return 1;
+    }
+    if (!files_create(it->recording, &recording)) {
+        fmp_close();
         return 3;
     }
-    int status = perform(text, length, it, program, recording);
-    if (!files_flush_output()) {
-        status = 3;
-    }
-    if (recording != NULL && !files_close(recording, it->recording)) {
-        status = 3;
-    }
-    return status;
+    bool ran = run(it, recording);
+    fmp_close();
+    bool is_printed = files_flush_output();
+    return files_close(recording, it->recording) && is_printed && ran ? 0 : 3;
 }
 
 /* The same of files. */
@@ -89,7 +84,7 @@ static int perform_files(const struct wanted *it, struct fmp_program program)
     char *image = it->image != NULL ? files_text(it->image, &program.image_length) : NULL;
     char *cfg = it->image == NULL || image != NULL ? files_text(it->cfg, &length) : NULL;
     program.image = image != NULL ? (const uint8_t *)image : program.image;
-    int status = cfg != NULL ? perform_to(cfg, length, it, &program) : 3;
+    int status = cfg != NULL ? perform(cfg, length, it, &program) : 3;
     free(cfg);
     free(image);
     return status;

@@ -137,6 +137,9 @@ void recording_end(void)
 
 bool fmp_record_as(FILE *recording, const struct fmp_recording *how)
 {
+    if (atomic_load(&system_runs)) {
+        return false;
+    }
     struct line *ring = how->last > 0 ? calloc(how->last, sizeof *ring) : NULL;
     if (how->last > 0 && ring == NULL) {
         return false;

@@ -43,10 +43,14 @@ void signals_give_back(void)
 void signals_block(sigset_t *kept)
 {
     static const int own[] = { SIGSEGV, SIGBUS, SIGFPE, SIGILL, SIGTRAP, SIGABRT };
+    struct sigaction pipe;
     sigset_t others;
     sigfillset(&others);
     for (size_t at = 0; at < sizeof own / sizeof *own; at++) {
         sigdelset(&others, own[at]);
+    }
+    if (sigaction(SIGPIPE, NULL, &pipe) == 0 && pipe.sa_handler == SIG_DFL) {
+        sigdelset(&others, SIGPIPE);    /* it ends a program whose output nobody reads any more */
     }
     pthread_sigmask(SIG_SETMASK, &others, kept);
 }

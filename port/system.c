@@ -31,6 +31,7 @@ struct event {
 fmp_system system_kernel = FMP_BLANK;
 uint32_t system_processors;
 uint32_t system_steppable;
+atomic_bool system_runs;
 bool system_left_the_text;
 unsigned long system_polls;
 const struct driver *system_driver;
@@ -256,7 +257,7 @@ uint32_t system_hand_in(uint8_t p, struct flow *flow, uint32_t *changes)
 uint32_t system_step(uint8_t p, const struct driver *driver, struct coroutine *outside)
 {
     if ((uint8_t)(p - 1) >= system_steppable) {
-        return system_kernel.at == NULL ? FMP_NO_SYSTEM : FMP_NOTHING;
+        return atomic_load(&system_runs) || system_kernel.at != NULL ? FMP_NOTHING : FMP_NO_SYSTEM;
     }
     struct event *event = &last[(uint8_t)(p - 1)];
     const fmp_actor *actor = &event->outcome.acting;
@@ -399,7 +400,8 @@ static void complain_of_text(const fmp_refusal *why, FILE *messages)
 static enum fmp_opened make(const char *text, size_t length, FILE *messages)
 {
     fmp_refusal why = { 0, 0, 0 };
-    switch (fmp_new((const uint8_t *)text, length, &system_kernel, &why)) {
+    bool runs = atomic_load(&system_runs);
+    switch (runs ? FMP_HOLDS_ONE : fmp_new((const uint8_t *)text, length, &system_kernel, &why)) {
     case FMP_MADE:
         return FMP_OPENED;
     case FMP_REFUSED:
@@ -461,7 +463,7 @@ static void forget(struct flow *flow)
 
 void fmp_close(void)
 {
-    if (system_inside() != NULL) {
+    if (system_inside() != NULL || atomic_load(&system_runs)) {
         return;
     }
     fmp_record(NULL);

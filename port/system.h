@@ -7,6 +7,7 @@
 #include "program.h"
 
 #include <stdalign.h>
+#include <stdatomic.h>
 #include <stdbool.h>
 #include <stddef.h>
 #include <stdint.h>
@@ -28,6 +29,7 @@ struct flow {
     const fmp_actor *told;      /* what it was told, when it goes on */
     fmp_actor reply;            /* where a driver keeps that */
     unsigned long polls;        /* since it went on */
+    bool is_alone;              /* in real time: a handler, or a task that has locked the CPU */
     const char *name;
 };
 
@@ -41,6 +43,7 @@ struct driver {
 extern fmp_system system_kernel;
 extern uint32_t system_processors;
 extern uint32_t system_steppable;               /* as many, or 0 once bodies were interrupted at any instruction */
+extern atomic_bool system_runs;                 /* in real time */
 extern bool system_left_the_text;               /* a body has not done what its text does next */
 extern unsigned long system_polls;              /* of the program */
 extern const struct driver *system_driver;      /* while bodies go on */

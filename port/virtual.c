@@ -38,16 +38,21 @@ uint32_t fmp_step_run(uint8_t p)
     return system_step(p, &in_virtual_time, &outside);
 }
 
+static bool is_taken(void)
+{
+    return system_inside() != NULL || atomic_load(&system_runs);
+}
+
 uint32_t fmp_step_tick(void)
 {
     uint32_t changes;
-    return system_inside() != NULL ? FMP_NOTHING : system_tick(&changes);
+    return is_taken() ? FMP_NOTHING : system_tick(&changes);
 }
 
 uint32_t fmp_step_int(uint8_t number)
 {
     uint32_t changes;
-    return system_inside() != NULL ? FMP_NOTHING : system_interrupt(number, &changes);
+    return is_taken() ? FMP_NOTHING : system_interrupt(number, &changes);
 }
 
 /* Steps texts. */
@@ -153,17 +158,9 @@ struct texts {
     size_t image_length, cfg_length, steps_length;
 };
 
-/* The steps over the system of a configuration. The exit status. */
-static int simulate(const struct texts *texts, struct fmp_program program, FILE *recording)
+/* Takes the steps, and prints the states after them. The exit status. */
+static int play_all(const struct texts *texts)
 {
-    if (texts->image != NULL) {
-        program.image = (const uint8_t *)texts->image;
-        program.image_length = texts->image_length;
-    }
-    if (fmp_open(texts->cfg, texts->cfg_length, &program, stdout, stderr) != FMP_OPENED) {
-        return 1;
-    }
-    fmp_record(recording);
     enum flaw flaw = NO_FLAW;
     unsigned long wrong = play(texts->steps, texts->steps_length, &flaw);
     if (wrong == 0) {
@@ -171,25 +168,29 @@ static int simulate(const struct texts *texts, struct fmp_program program, FILE 
     } else if (flaw != NO_FLAW) {
         fprintf(stderr, "steps:%lu: S%d\n", wrong, flaw == FORM ? 1 : 2);
     }
-    fmp_close();
     return wrong != 0;
 }
 
-/* The same, and what it prints and records is written. */
-static int simulate_to(const struct files *files, const struct texts *texts, const struct fmp_program *program)
+/* The steps over the system of a configuration, which is opened before a file is written. The exit status. */
+static int simulate(const struct files *files, const struct texts *texts, struct fmp_program program)
 {
-    FILE *recording = files->recording != NULL ? files_create(files->recording) : NULL;
-    if (files->recording != NULL && recording == NULL) {
+    FILE *recording;
+    if (texts->image != NULL) {
+        program.image = (const uint8_t *)texts->image;
+        program.image_length = texts->image_length;
+    }
+    if (fmp_open(texts->cfg, texts->cfg_length, &program, stdout, stderr) != FMP_OPENED) {
+        return 1;
+    }
+    if (!files_create(files->recording, &recording)) {
+        fmp_close();
         return 3;
     }
-    int status = simulate(texts, *program, recording);
-    if (!files_flush_output()) {
-        status = 3;
-    }
-    if (recording != NULL && !files_close(recording, files->recording)) {
-        status = 3;
-    }
-    return status;
+    fmp_record(recording);
+    int status = play_all(texts);
+    fmp_close();
+    bool is_printed = files_flush_output();
+    return files_close(recording, files->recording) && is_printed ? status : 3;
 }
 
 /* Reads the files. Whether all of them can be read. */
@@ -221,7 +222,7 @@ int fmp_simulate(int argc, char **argv, const struct fmp_program *program)
         return 2;
     }
     struct texts texts = { .image = NULL };
-    int status = read_texts(&files, &texts) ? simulate_to(&files, &texts, program) : 3;
+    int status = read_texts(&files, &texts) ? simulate(&files, &texts, *program) : 3;
     free(texts.steps);
     free(texts.cfg);
     free(texts.image);

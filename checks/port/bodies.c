@@ -4,6 +4,7 @@
 #include "live.h"
 #include "virtual.h"
 
+#include <signal.h>
 #include <stdbool.h>
 #include <stdio.h>
 #include <string.h>
@@ -204,10 +205,29 @@ static void refusals(void)
     fclose(said);
 }
 
+static void on_signal(int number)
+{
+    (void)number;
+}
+
+/* Handlers of signals that the program sets before and while a system is open stay. */
+static void own_handlers(void)
+{
+    static const struct fmp_body bodies[] = { { "again", again } };
+    const struct fmp_program program = { .bodies = bodies, .count = 1 };
+    static const char one[] = "NUM_PRC(1); CLASS(TCL_1) { CRE_TSK(A, { 0, 0, again, 10, 256, NULL }); }";
+    signal(SIGFPE, on_signal);
+    CHECK(fmp_open(one, strlen(one), &program, NULL, stdout) == FMP_OPENED);
+    signal(SIGILL, on_signal);
+    fmp_close();
+    CHECK(signal(SIGFPE, SIG_DFL) == on_signal && signal(SIGILL, SIG_DFL) == on_signal);
+}
+
 int main(void)
 {
     FILE *trace = tmpfile();
     refusals();
+    own_handlers();
     run_bodies(NULL);
     run_bodies(trace);
     restarted_spinner();

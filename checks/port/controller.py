@@ -115,6 +115,18 @@ class Runner:
         status, printed = self.run("pushed too hard", program, "-v", "-p", 2 * HARDEST_PUSH)
         self.tally.verdict("pushed too hard", (1, True), (status, "the drive is off" in printed))
 
+    def writes_its_files(self, program):
+        """Not over its configuration; and it says where one cannot be written."""
+        own = self.room / "own.cfg"
+        shutil.copy(CFG, own)
+        for option in ("-r", "-o"):
+            self.tally.verdict(f"{option} CFG", (2, "controller: CFG would be written over\n"),
+                               carried_out([program, "-v", option, own, own], self.room))
+            if Path("/dev/full").is_char_device():
+                status, printed = carried_out([program, "-v", option, "/dev/full", own], self.room)
+                self.tally.verdict(f"{option} /dev/full", (3, True), (status, "input or output error" in printed))
+        self.tally.verdict("the configuration", CFG.read_bytes(), own.read_bytes())
+
     def runs_in_real_time(self, name, *program):
         """What it says of the run, which a slow machine may let fall."""
         status, printed = self.run(name, *program, "-t", 1000)
@@ -180,6 +192,7 @@ def check(library, room, tally):
         program = builder.made(compiler)
         runner.runs_in_virtual_time(compiler, program)
     runner.answers_alarms(program)
+    runner.writes_its_files(program)
     print(next((line for line in runner.runs_in_real_time("real time", program).splitlines() if "tick" in line), ""))
     if platform.machine() == "x86_64":
         runner.runs_in_real_time("preempted at any instruction", "env", "FMP_PREEMPT=signal", program)

@@ -153,6 +153,15 @@ failures() {
         verdict "a stack that overflows, $driver" "$problem"
     done
     problem=
+    for mode in call signal; do
+        status=0
+        (FMP_PREEMPT=$mode plain/real abort last.calls || exit $?) > output 2>&1 || status=$?
+        [ $status = 134 ] || problem="$problem, status $status"
+        [ "$(cat last.calls)" = "run 1 put 1" ] || problem="$problem, it recorded: $(head -c 300 last.calls)"
+    done
+    verdict "a task that aborts" "$problem"
+    unread
+    problem=
     plain/real limits > output 2>&1 || problem="status $?"
     case $(cat output) in
         "fmp: out of memory for the stack of T"*"fmp: out of memory"*"fmp: there is no thread for interrupts") ;;
@@ -177,6 +186,20 @@ failures() {
     [ "$(cat errors)" = "fmp: FMP_PREEMPT is neither call nor signal: always" ] ||
         problem="$problem, it says: $(head -c 300 errors)"
     verdict "a preemption that there is not" "$problem"
+}
+
+# A run without end whose output nobody reads any more is over, unless the signal of that is ignored here.
+unread() {
+    # shellcheck disable=SC2016
+    sh -c 'kill -PIPE $$' && return 0
+    {
+        status=0
+        plain/live-watchdog "$root/examples/watchdog.cfg" 100000 600000 || status=$?
+        echo $status > status
+    } | head -n 1 > output
+    problem=
+    [ "$(cat status)" = 141 ] || problem="status $(cat status)"
+    verdict "output that nobody reads" "$problem"
 }
 
 # refused STATUS SAID COMMAND..: a command ends with this status, and says this last.
@@ -211,7 +234,11 @@ refusals() {
     verdict "a recording over a file that is read" "$problem"
     problem=
     sed 's/CRE_DTQ(\([A-Z]*\), {[^,]*,/CRE_DTQ(\1, { 0x80,/' own.cfg > wrong.cfg
-    refused 1 "cfg:$(grep -n CRE_DTQ wrong.cfg | cut -d : -f 1): B4 E_RSATR" plain/queue wrong.cfg own.steps
+    said="cfg:$(grep -n CRE_DTQ wrong.cfg | cut -d : -f 1): B4 E_RSATR"
+    echo old > old.calls
+    refused 1 "$said" plain/queue wrong.cfg own.steps old.calls
+    refused 1 "$said" plain/live-queue wrong.cfg 200000 20 old.calls
+    [ "$(cat old.calls)" = old ] || problem="$problem, the recording of another run is gone"
     verdict "a configuration that is refused" "$problem"
     [ -c /dev/full ] || return 0
     problem=
@@ -255,6 +282,11 @@ checked() {
     [ "$(cat errors)" = "$said" ] || problem="$problem, it says: $(head -c 300 errors)"
     plain/queue --image sum.img "$root/examples/queue.cfg" "$root/examples/queue.steps" > output 2> errors &&
         problem="$problem, status 0 with the image of another configuration"
+    [ "$(cat errors)" = "fmp: the image is not one of the configuration" ] ||
+        problem="$problem, it says: $(head -c 300 errors)"
+    sed 's/consume, 5/consume, 6/' "$root/examples/queue.cfg" > other.cfg
+    plain/queue --image queue.img other.cfg "$root/examples/queue.steps" > output 2> errors &&
+        problem="$problem, status 0 with a priority that the image has not"
     [ "$(cat errors)" = "fmp: the image is not one of the configuration" ] ||
         problem="$problem, it says: $(head -c 300 errors)"
     verdict "checked: another text" "$problem"

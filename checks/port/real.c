@@ -10,6 +10,7 @@
  *   real limits          systems for which there is too little memory
  *   real overflow live | virtual
  *                        a task that overflows its stack
+ *   real abort FILE      a task that makes a call and aborts, recorded in a file
  */
 #define _DEFAULT_SOURCE
 #include "fmp.h"
@@ -415,6 +416,53 @@ static void keep_last(size_t last, size_t lines, const char *first)
     forget(&recording);
 }
 
+static FILE *printed;
+
+/* The run ends while it prints, most often. */
+static void print_for_ever(void)
+{
+    for (;;) {
+        loc_cpu();
+        for (int line = 0; line < 200; line++) {
+            fprintf(printed, "a line of some length\n");
+        }
+        unl_cpu();
+    }
+}
+
+/* A file that a task prints to with the CPU locked can be printed to after the run. */
+static void print_after_runs(void)
+{
+    printed = tmpfile();
+    for (int run = 0; run < 10; run++) {
+        expect(run_few(print_for_ever, false, 100000, 5) == FMP_TICKS_OVER, "a run is over while a task prints");
+        rewind(printed);
+        end_system();
+    }
+    fclose(printed);
+}
+
+/* Another thread leaves a run as it is. */
+static void *interfere(void *unused)
+{
+    expect(fmp_step_run(1) == FMP_NOTHING && fmp_step_tick() == FMP_NOTHING && fmp_step_int(3) == FMP_NOTHING,
+           "no step is taken while it runs");
+    expect(fmp_run(0, 0, stderr) == FMP_NOT_OPEN, "no other run begins");
+    expect(fmp_open("", 0, &(struct fmp_program){ .count = 0 }, NULL, stdout) == FMP_ALREADY_OPEN, "nor is opened");
+    fmp_record(NULL);
+    fmp_close();
+    return unused;
+}
+
+static void let_interfere(void)
+{
+    pthread_t other;
+    if (pthread_create(&other, NULL, interfere, NULL) != 0) {
+        exit(2);
+    }
+    pthread_join(other, NULL);
+}
+
 static int run_ends(void)
 {
     signal(SIGINT, SIG_DFL);    /* a shell that starts a program in the background lets it ignore SIGINT */
@@ -434,6 +482,9 @@ static int run_ends(void)
     fmp_halt();
     expect(fmp_run(0, 0, stderr) == FMP_HALTED, "a halt before a run ends it at its start");
     end_system();
+    print_after_runs();
+    expect(run_few(let_interfere, false, 0, 0) == FMP_ALL_DORMANT, "a run goes on");
+    expect(end_system() == 1, "it is recorded");
     expect(run_few(halt, true, 1000000, 0) == FMP_HALTED, "a run is halted by a task");
     end_system();
     expect(run_few(terminate, true, 1000000, 0) == FMP_HALTED, "a run is halted by SIGTERM");
@@ -519,6 +570,21 @@ static void overflow(void)
     put(deeper(0));
 }
 
+static void put_and_abort(void)
+{
+    put(1);
+    abort();
+}
+
+static int run_abort(const char *path)
+{
+    const struct rlimit no_core = { 0, 0 };
+    setrlimit(RLIMIT_CORE, &no_core);
+    open_few(put_and_abort, false);
+    fmp_record(fopen(path, "w"));
+    return (int)fmp_run(0, 0, stderr);
+}
+
 int main(int argc, char **argv)
 {
     if (argc == 2 && strcmp(argv[1], "ends") == 0) {
@@ -530,6 +596,9 @@ int main(int argc, char **argv)
     }
     if (argc == 2 && strcmp(argv[1], "limits") == 0) {
         return run_limits();
+    }
+    if (argc == 3 && strcmp(argv[1], "abort") == 0) {
+        return run_abort(argv[2]);
     }
     if (argc == 3 && strcmp(argv[1], "endless") == 0) {
         return run_endless(argv[2]);

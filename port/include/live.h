@@ -34,16 +34,18 @@ enum fmp_over {
  * that once the kernel runs it again. A body that does none of these keeps its processor, and the run from its end.
  *
  * With FMP_PREEMPT=signal in the environment (on x86-64), it is replaced at any instruction, by SIGURG to the thread of
- * its processor. It must then not use what it shares with others of its processor, nor functions of the C library that
- * are not safe in signal handlers, such as malloc and printf, unless dis_dsp keeps other tasks away, and loc_cpu
- * handlers too. Such a system does not go on in virtual time: fmp_step_run is FMP_NOTHING then. A body that has run in
- * virtual time is interrupted after its next call.
+ * its processor. It must then not use what it shares with other tasks of its processor, unless dis_dsp keeps these
+ * away, or loc_cpu handlers too; nor functions of the C library that are not safe in signal handlers, as malloc and
+ * printf, unless loc_cpu does: for a handler the port may print lines meanwhile, and the run may be over, whose end a
+ * task with the CPU locked, and a handler, see at their next call. Such a system does not go on in virtual time:
+ * fmp_step_run is FMP_NOTHING then. A body that has run in virtual time is interrupted after its next call.
  *
  * A task that is terminated leaves its stack as it is: nothing is freed that it took.
  *
  * SIGINT and SIGTERM end the run, unless the program has handlers of its own for them, or ignores them, as one that a
- * shell starts in the background ignores SIGINT. Signal handlers of the program run in the thread that invoked fmp_run,
- * or in threads of its own, never in a task.
+ * shell starts in the background ignores SIGINT. SIGPIPE, where nobody reads what is written, ends the program, unless
+ * it has a handler of its own for it, or ignores it. Signal handlers of the program run in the thread that invoked
+ * fmp_run, or in threads of its own, never in a task.
  */
 enum fmp_over fmp_run(long nanoseconds, unsigned long ticks, FILE *messages);
 

@@ -41,12 +41,14 @@ enum fmp_opened {
  * time.
  *
  * A program with an image, as `fmp build` writes it, is checked: a call, an end or a fault of a body that is not what
- * its text does next is not done, and `messages` is told of it. So the trace is that of a run of the texts.
+ * its text does next is not done, and `messages` is told of it. So the trace is that of a run of the texts. An image
+ * whose objects, or whose tasks' priorities, processors or stacks, are not those of the configuration is refused.
  *
  * All memory is taken here. A task has a stack of the size that the configuration gives it and 64 KB more, for the
  * library and the C library, and the handlers of a processor one of 64 KB. A task or a handler that overflows its stack
- * into the 64 KB below it ends the program with status 3, after a message that names the task and, so far as it is not
- * the kernel that runs then, with a whole recording.
+ * into the 64 KB below it ends the program with status 3, after a message that names the task. So far as it is not the
+ * kernel that runs then, the recording is whole. The same holds where an access to no memory, a division by 0 or abort
+ * ends the program, unless it has handlers of its own for these signals.
  */
 enum fmp_opened fmp_open(const char *text, size_t length, const struct fmp_program *, FILE *trace, FILE *messages);
 
@@ -55,7 +57,8 @@ enum fmp_opened fmp_open(const char *text, size_t length, const struct fmp_progr
  * longer. After 2^30 events the counts and the clock of the kernel begin again, and the line `restart` says where. All
  * lines are written at the end of a run, at the next fmp_record, and at fmp_close; until then 4 KB at a time. A program
  * that is killed leaves the lines that were written. What stands after the last line feed, if anything, is no event:
- * whoever reads the file leaves it out. After a fault of the file, which ferror tells, nothing more is written.
+ * whoever reads the file leaves it out. After a fault of the file, which ferror tells, nothing more is written. While
+ * fmp_run goes on this does nothing.
  */
 void fmp_record(FILE *recording);
 
@@ -66,17 +69,17 @@ struct fmp_recording {
 };
 
 /*
- * The same, in another form. The last events alone are written at the next fmp_record, at fmp_close and where a stack
- * overflows. Before them stands `dropped N`, if N events were left out, or `dropped N restarts M`, if the counts began
- * again M times among these: then the run cannot be replayed. A `restart` takes the place of an event. False if memory
- * for them runs out: nothing has changed then.
+ * The same, in another form. The last events alone are written at the next fmp_record, at fmp_close, and where a stack
+ * overflows or a crash ends the program. Before them stands `dropped N`, if N events were left out, or `dropped N
+ * restarts M`, if the counts began again M times among these: then the run cannot be replayed. A `restart` takes the
+ * place of an event. False if memory for them runs out, or while fmp_run goes on: nothing has changed then.
  */
 bool fmp_record_as(FILE *recording, const struct fmp_recording *);
 
-/* The states of the tasks, a line for each, as at the end of a simulation. */
+/* The states of the tasks, a line for each, as at the end of a simulation. Not while fmp_run goes on. */
 void fmp_print_states(FILE *);
 
-/* Closes the system that is open, and gives its memory back. In a body it does nothing. */
+/* Closes the system that is open, and gives its memory back. In a body, and while fmp_run goes on, it does nothing. */
 void fmp_close(void);
 
 #ifdef __cplusplus

@@ -20,6 +20,7 @@
 #include <stdatomic.h>
 #include <stdbool.h>
 #include <stdlib.h>
+#include <sys/stat.h>
 #include <time.h>
 #include <unistd.h>
 
@@ -99,13 +100,42 @@ static bool run_in_virtual_time(long ticks)
 
 /* Either. */
 
-static bool run(const struct options *options, FILE *cfg, FILE *recording, FILE *trace)
+/* A file, or NULL where none is wanted. The program ends if it cannot be opened, read or written. */
+static FILE *open_file(const char *path, const char *mode)
+{
+    FILE *file = path != NULL ? fopen(path, mode) : NULL;
+    if (path != NULL && file == NULL) {
+        perror(path);
+        exit(3);
+    }
+    return file;
+}
+
+static void close_file(const char *path, FILE *file)
+{
+    bool had_fault = file != NULL && ferror(file);
+    if ((file != NULL && fclose(file) != 0) || had_fault) {
+        fprintf(stderr, "%s: input or output error\n", path);
+        exit(3);
+    }
+}
+
+static size_t read_file(const char *path, char *text, size_t room)
+{
+    FILE *file = open_file(path, "r");
+    size_t length = fread(text, 1, room, file);
+    close_file(path, file);
+    return length;
+}
+
+static bool run(const struct options *options, FILE *trace)
 {
     static char text[MOST_CFG];
-    size_t length = fread(text, 1, sizeof text, cfg);
+    size_t length = read_file(options->cfg, text, sizeof text);
     if (fmp_open(text, length, &controller, trace, stderr) != FMP_OPENED) {
         return false;
     }
+    FILE *recording = open_file(options->recording, "w");
     fmp_record_as(recording, &(struct fmp_recording){ .has_times = !options->is_virtual });
     plant_set_push((int32_t)options->push);
     long ticks = options->milliseconds;
@@ -114,6 +144,7 @@ static bool run(const struct options *options, FILE *cfg, FILE *recording, FILE 
         fmp_print_states(trace);
     }
     fmp_close();
+    close_file(options->recording, recording);
     return ran;
 }
 
@@ -161,23 +192,12 @@ static bool read_options(int argc, char **argv, struct options *options)
     return optind == argc - 1 && options->milliseconds > 0 && options->push >= 0;
 }
 
-/* A file, or NULL where none is wanted. The program ends if it cannot be opened or, later, be written whole. */
-static FILE *open_file(const char *path, const char *mode)
+/* Whether a file that is written, if there is one, is the configuration. */
+static bool is_cfg(const struct options *options, const char *path)
 {
-    FILE *file = path != NULL ? fopen(path, mode) : NULL;
-    if (path != NULL && file == NULL) {
-        perror(path);
-        exit(3);
-    }
-    return file;
-}
-
-static void close_file(const char *path, FILE *file)
-{
-    if (file != NULL && fclose(file) != 0) {
-        perror(path);
-        exit(3);
-    }
+    struct stat written, cfg;
+    return path != NULL && stat(path, &written) == 0 && stat(options->cfg, &cfg) == 0
+        && written.st_dev == cfg.st_dev && written.st_ino == cfg.st_ino;
 }
 
 int main(int argc, char **argv)
@@ -187,13 +207,13 @@ int main(int argc, char **argv)
         fputs("usage: controller [-v] [-t MILLISECONDS] [-p PUSH] [-r RECORDING] [-o TRACE] CFG\n", stderr);
         return 2;
     }
+    if (is_cfg(&options, options.recording) || is_cfg(&options, options.trace)) {
+        fputs("controller: CFG would be written over\n", stderr);
+        return 2;
+    }
     setvbuf(stdout, NULL, _IOLBF, 0);       /* each line of the log is seen when it is written */
-    FILE *cfg = open_file(options.cfg, "r");
-    FILE *recording = open_file(options.recording, "w");
     FILE *trace = open_file(options.trace, "w");
-    bool ran = run(&options, cfg, recording, trace);
-    close_file(options.cfg, cfg);
-    close_file(options.recording, recording);
+    bool ran = run(&options, trace);
     close_file(options.trace, trace);
     return ran && report() ? 0 : 1;
 }
