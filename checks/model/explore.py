@@ -6,9 +6,10 @@
 Both find something or nothing. Where they find something, their shortest lists of events are as long, each event of the
 program's list does something in the model, and after the last one the model shows what was found. Bodies that go on for
 ever end no search: both find as many. Up to what was found, or where they find nothing in all, they have seen as many
-states and as many events that did something, as deep. Of three systems one has sections: tasks put the values by which
-they enter and leave them. In one some tasks may wait forever, so that fewer deadlocks are found first and more tasks
-that can never go on; of these some ask for few interrupts, for ticks where nobody can do anything, or for few
+states and as many events that did something, as deep. Some ask too that the calls in a line never get an answer. Of
+three systems one has sections: tasks put the values by which they enter and leave them. In one some tasks may wait
+forever, so that fewer deadlocks are found first and more tasks that can never go on; of these some ask for few
+interrupts, of all or of one number, for ticks between two of them or where nobody can do anything, or for few
 activations and wakeups that are queued. Every other system runs at a small bound. COUNT is the number of systems that
 were compared: systems with more than MOST states are left out.
 """
@@ -27,7 +28,9 @@ sys.path[0] = str(Path(__file__).resolve().parents[1])  # the folder `checks`, w
 
 from model.bodies import Call, Statement  # noqa: E402
 from model.harness import SECONDS, expect, main, replayed  # noqa: E402
-from model.schedules import Question, goes_on_for_ever, is_deadlock, searched, state_key, tells  # noqa: E402
+from model.schedules import (  # noqa: E402
+    AtMost, Gap, Question, first_lines, goes_on_for_ever, is_deadlock, searched, state_key, tells, tells_at,
+)
 from model.sentences import FAULTS, Between, Happening, after_lines, broken_in, starts  # noqa: E402
 from model.systems import Generator  # noqa: E402
 
@@ -61,6 +64,29 @@ def with_sections(case, sections, chosen):
     return replace(case, source="".join(map(str, bodies)))
 
 
+def calls_of(case):
+    """The calls of the task text, by the line in which each stands."""
+    return {
+        first + place: statement.action
+        for first, body in zip(first_lines(case.system), case.system.bodies)
+        for place, statement in enumerate(body.statements) if isinstance(statement.action, Call)}
+
+
+def nevers_at_of(case, chosen):
+    """Mostly none, else an answer that must never be given to the calls in a line."""
+    numbers = sorted(calls_of(case))
+    if not numbers or chosen.random() < 0.6:
+        return ()
+    return ((chosen.choice(("E_OK", "E_CTX", "E_ID", "E_OBJ", "E_TMOUT")), chosen.choice(numbers)),)
+
+
+def limits_of(case, chosen):
+    """Random limits of single interrupts, mostly none: how often one may come, and how many ticks come between two."""
+    numbers = [handler.number for handler in case.system.interrupt_handlers]
+    limits = [chosen.choice((AtMost, Gap))(number, chosen.randint(0, 3)) for number in numbers for _ in range(2)]
+    return tuple(limit for limit in limits if chosen.random() < 0.4)
+
+
 def asked(case, kind, chosen):
     """The system, and what is asked of it."""
     question = Question((*NEVERS, *FAULTS))
@@ -72,19 +98,27 @@ def asked(case, kind, chosen):
         rest = frozenset(chosen.sample(numbers, chosen.randint(1, len(numbers))))
         interrupts = chosen.choice((None, None, 0, 1, 2))
         question = replace(question, rest=rest, idle_ticks=chosen.random() < 0.3, interrupts=interrupts)
-        question = replace(question, queued=chosen.choice((None, 0, 1, 2)))
-    return case, question
+        question = replace(question, queued=chosen.choice((None, 0, 1, 2)), limits=limits_of(case, chosen))
+    return case, replace(question, nevers_at=nevers_at_of(case, chosen))
+
+
+def words_of(limit):
+    """A limit of a single interrupt, as an option."""
+    option, value = ("--int", limit.start) if isinstance(limit, AtMost) else ("--gap", limit.ticks)
+    return option, f"{limit.number}:{value}"
 
 
 def explored(trial, bound, question, most=MOST):
     """What `fmp_view explore` ends with and prints, at this many states at most."""
     words = [word for never in question.nevers if never not in FAULTS for word in ("--never", never)]
+    words += [word for code, number in question.nevers_at for word in ("--never", f"{code}:{number}")]
     words += [word for enters, leaves in question.sections for word in ("--alone", f"{enters},{leaves}")]
     words += [word for number in sorted(question.rest) for word in ("--rest", f"T{number}")]
     words += ["--expect", EXPECT] if question.sentences else []
     words += ["--ticks", "idle"] if question.idle_ticks else []
     words += ["--ints", str(question.interrupts)] if question.interrupts is not None else []
     words += ["--queued", str(question.queued)] if question.queued is not None else []
+    words += [word for limit in question.limits for word in words_of(limit)]
     words += ["--bound", str(bound), "--states", str(most)]
     done = subprocess.run([trial.programs["fmp_view"], "explore", "system.cfg", "system.src", *words], cwd=trial.folder,
                           capture_output=True, text=True, check=False, timeout=SECONDS)
@@ -180,13 +214,17 @@ def shows(trial, case, bound, second, what, file):
         expect(any(line in what for line in last), f"the last event does not tell '{what}'")
         shows_together(kernel, what)
         return "two tasks in a section"
+    if any(tells_at(kernel, line, second.question.nevers_at) for line in last):
+        return "a line of a call"
     expect(any(tells(line, never) for line in last for never in second.question.nevers), f"no line shows '{what}'")
     return "a line"
 
 
-def is_claimed(trial, question, text):
+def is_claimed(trial, case, question, text):
     """Whether it was printed that nothing is found: what was asked, in order."""
     nevers = [f"never {never}" for never in question.nevers if never not in FAULTS]
+    calls = calls_of(case) if question.nevers_at else {}
+    nevers += [f"never {code} of {calls[number].service} in line {number}" for code, number in question.nevers_at]
     alone = [f"alone {enters},{leaves}" for enters, leaves in question.sections]
     sentences = [claimed(sentence_at(trial, place)) for place in range(len(question.sentences))]
     asked = [*nevers, *alone, *(each for each in sentences if each and " rests" not in each), "no deadlock"]
@@ -216,7 +254,7 @@ def compare(trial, case, bound, question, most=MOST):
     for what, steps in others:
         length = len(result.found[0][1])
         expect(steps == length, f"'{what}' was found after {steps} steps, and the second search: {result.found}")
-    is_right = is_claimed(trial, question, text) == (set(kinds) <= {ENDLESS, STUCK})
+    is_right = is_claimed(trial, case, question, text) == (set(kinds) <= {ENDLESS, STUCK})
     expect(is_right, f"of what was asked it is not claimed that nothing is found, or although it is: {text!r}")
     return ", and ".join(sorted(set(kinds))) if kinds else "nothing"
 

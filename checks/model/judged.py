@@ -34,11 +34,12 @@ LONG = 80  # events at most
 ENDED = "ended.expect"  # the text of expectations with sentences of the end of a run
 
 
-def let(kernel, question, event, came):
-    """Whether the question lets an event come to a kernel to which this many interrupts came, and what it leads to."""
+def let(kernel, question, event, came, limits):
+    """Whether the question lets an event come to a kernel to which this many interrupts came, by what is kept of its
+    limits, and what it leads to."""
     runs = question.idle_ticks and event == "tick" and any(
         after(kernel, f"run {processor.number}") for processor in kernel.world.processors)
-    return question.lets(event, came, {"run"} if runs else set()) and (
+    return question.lets(event, came, {"run"} if runs else set()) and not question.holding(event, limits) and (
         question.queued is None or question.lets_queue((after(kernel, event) or kernel).world))
 
 
@@ -46,13 +47,14 @@ def judged(start, question, sentences, events):
     """The events that the question lets come, up to the first that it does not, and the verdict of the run."""
     bodies = start.system.bodies
     kernel, came, done = deepcopy(start, {id(bodies): bodies}), 0, []
-    judge = Judge(sentences, kernel)
+    judge, limits = Judge(sentences, kernel), Judge(question.limits, kernel)
     for event in events:
-        if not let(kernel, question, event, came):
+        if not let(kernel, question, event, came, limits.kept):
             break
         before = kernel.world.event
         kernel.step(event)
         judge.see()
+        limits.see()
         came += event.startswith("int") and kernel.world.event > before
         done.append(event)
     return done, judge.verdict()
@@ -98,7 +100,7 @@ def check(trial):
         bound = trial.bound(seed, BOUND)
         status, text = explored(trial, bound, question, MOST)
         expect(status in (0, 4, 5), f"it ends with status {status}: {text!r}")
-        holds = is_claimed(trial, question, text)
+        holds = is_claimed(trial, case, question, text)
         failed += judge_lists(trial, case, bound, question, holds, Random(f"judged {seed}"))
         clean += holds
         seed += 1

@@ -4,13 +4,13 @@ import copy
 import pickle
 import re
 from collections import deque
-from dataclasses import dataclass, field
+from dataclasses import dataclass, field, replace
 from math import inf
 
 from model.bodies import stretch
 from model.instructions import Code
 from model.kernel import Kernel
-from model.sentences import Between, Happening, Rests, after_lines, broken_in, starts
+from model.sentences import Between, Happening, Rests, Sentence, after_lines, broken_in, starts
 from model.world import Handler, State
 
 REFUSED = re.compile(r"\d+ p(\d) (\S+) .*\b(?!E_OK)E_[A-Z]+")  # a line with another code: its processor, and who
@@ -32,25 +32,59 @@ class Searched:
 
 
 @dataclass(frozen=True)
+class AtMost(Sentence):
+    """A limit of one interrupt: it keeps how many may still come."""
+
+    number: int
+    start: int
+
+    def after(self, kept, who, text):
+        return kept - (text == f"int {self.number}"), False
+
+
+@dataclass(frozen=True)
+class Gap(Sentence):
+    """A limit of one interrupt: it keeps how many ticks must still come before the next."""
+
+    number: int
+    ticks: int
+    start = 0
+
+    def after(self, kept, who, text):
+        if text == f"int {self.number}":
+            return self.ticks, False
+        return max(kept - text.startswith("tick "), 0), False
+
+
+@dataclass(frozen=True)
 class Question:
-    """What is asked: what must never be told, the sections in which one task at a time may be, each the values by
-    which a task enters and leaves, the lines of a text of expectations, each as one sentence, the numbers of the tasks
-    that may wait forever, whether the clock ticks only where no processor can do anything, and how many interrupts may
-    come and how many activations and wakeups of a task may be queued after an event, if those are limited."""
+    """What is asked: what must never be told, which codes must never be answered to the calls in which lines of the
+    task text, the sections in which one task at a time may be, each the values by which a task enters and leaves, the
+    lines of a text of expectations, each as one sentence, the numbers of the tasks that may wait forever, whether the
+    clock ticks only where no processor can do anything, how many interrupts may come and how many activations and
+    wakeups of a task may be queued after an event, if those are limited, and the limits of single interrupts."""
 
     nevers: tuple = ()
+    nevers_at: tuple = ()
     sections: tuple = ()
     sentences: tuple = ()
     rest: frozenset = frozenset()
     idle_ticks: bool = False
     interrupts: int | None = None
     queued: int | None = None
+    limits: tuple = ()
 
     @property
     def watched(self):
-        """All that is kept of a run and judged: the sentences of the text, and one for each section."""
+        """All that is kept of a run: the sentences of the text, one for each section, and the limits."""
         sections = [Between(*(Happening(f"put({value})") for value in section)) for section in self.sections]
-        return (*self.sentences, *sections)
+        return (*self.sentences, *sections, *self.limits)
+
+    def holding(self, event, kept):
+        """The limits that hold an event back, by what is kept of all that is watched."""
+        pairs = zip(self.limits, kept[len(kept) - len(self.limits) :])
+        return [limit for limit, left in pairs if event == f"int {limit.number}"
+                and (left > 0 if isinstance(limit, Gap) else left == 0)]
 
     @property
     def resting(self):
@@ -140,6 +174,30 @@ def tells(line, never):
     return f" {never} " in f"{line} " if never.startswith("put(") else line.endswith(f" {never}")
 
 
+def first_lines(system):
+    """The line of the first statement of each body, in the task text as it is printed."""
+    numbers, number = [], 2
+    for body in system.bodies:
+        numbers.append(number + body.repeats)
+        number += str(body).count("\n")
+    return numbers
+
+
+def line_of_call(kernel, line):
+    """The line of the call that was answered by a line of the last event: its actor stands behind it."""
+    number, name = re.match(r"\d+ p(\d) (\S+) ", line).groups()
+    tasks = [task for task in kernel.world.tasks if task.name == name]
+    actor = tasks[0] if tasks else kernel.world.processors[int(number) - 1].handler
+    return first_lines(kernel.system)[actor.body] + actor.context.position - 1
+
+
+def tells_at(kernel, line, nevers_at):
+    """Whether a line of the last event tells an answer that must never be given to the calls in a line."""
+    answer = nevers_at and re.search(r" (?:\w+\([^)]*\)|gets) (E_\w+)", line)
+    numbers = [number for code, number in nevers_at if answer and code == answer[1]]
+    return bool(numbers) and line_of_call(kernel, line) in numbers
+
+
 def tries_of(system):
     """The events that are tried in each state, in order."""
     runs = [f"run {number + 1}" for number in range(system.processor_count)]
@@ -222,8 +280,8 @@ class Search:
     """A search under way. The keys of the states that were seen, in the order in which they were, have the key before
     them, the event between, and the depth. The key of a state has what each sentence keeps, and how many interrupts
     came where that is limited. An edge has the key before an event that did something, the one after it, and the tasks
-    that went on by it. Of the states in which an event was left out, since it would queue too much, the keys are
-    kept."""
+    that went on by it. Of the states in which an event was left out, since it would queue too much or a limit of its
+    number was used up, the keys are kept."""
 
     def __init__(self, system, bound, question, most, outs):
         self.start, self.question, self.most = Kernel(system, bound), question, most
@@ -265,7 +323,8 @@ class Search:
         result.events += 1
         self.is_lost |= self.outs and leaves_place(kernel)
         for line in lines:
-            if any(tells(line, never) for never in self.question.nevers):
+            is_told = any(tells(line, never) for never in self.question.nevers)
+            if is_told or tells_at(kernel, line, self.question.nevers_at):
                 result.found.append((line.split(" ", 1)[1], [*self.path(key), event]))
         kept, broken = after_lines(self.watched, key[1], lines)
         result.found += [(self.watched[place], [*self.path(key), event]) for place in broken]
@@ -287,6 +346,11 @@ class Search:
             if not self.question.lets_queue(reached.world):
                 self.result.events += 1
                 self.cut.add(key)
+                continue
+            if holding := self.question.holding(event, key[1]):
+                self.result.events += 1
+                if any(isinstance(limit, AtMost) for limit in holding):
+                    self.cut.add(key)
                 continue
             self.note(reached, key, event, self.note_endless(kernel, key, event))
         if "run" not in done and is_stuck(kernel.world, self.question.resting):
@@ -310,10 +374,31 @@ class Search:
             left += new
         return [key for key in self.seen if key not in taken and key[0][0][number - 1][0] is not State.DORMANT]
 
+    def goes_on_without_limits(self, number, key):
+        """Whether a task goes on by some events from a state, where no limit of a single interrupt holds."""
+        other = Search.__new__(Search)
+        other.__dict__.update(self.__dict__)
+        other.question = replace(self.question, sentences=(), sections=(), limits=(), nevers=())
+        kernel = copied(self.start)
+        for event in self.path(key):
+            kernel = after(kernel, event)
+        other.watched, other.first = (), (state_key(kernel, self.codes), (), key[2])
+        other.seen, other.queue = {other.first: (None, None, 0)}, deque([(kernel, other.first)])
+        other.edges, other.cut, other.result = [], set(), Searched()
+        while other.queue and len(other.seen) <= self.most:
+            other.examine(*other.queue.popleft())
+            if any(number in actors for _, _, actors in other.edges):
+                return True
+            other.edges.clear()
+        return bool(other.queue)
+
     def note_stuck(self):
-        """Where nothing was found: each task that can never go on from some state."""
+        """Where nothing was found: each task that can never go on from some state, limits of single interrupts or
+        not."""
         for task in self.start.system.tasks:
-            if task.number not in self.question.resting and (keys := self.never_going_on(task.number)):
+            if task.number in self.question.resting or not (keys := self.never_going_on(task.number)):
+                continue
+            if not self.question.limits or not self.goes_on_without_limits(task.number, keys[0]):
                 self.result.found.append((f"{task.name} can never go on", self.path(keys[0])))
 
     def run(self):

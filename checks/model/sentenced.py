@@ -7,8 +7,8 @@ As explore.py does: both find something or nothing, the shortest lists of events
 told is broken in the model by the last event; where nothing is found, the claim has each sentence. The text of
 expectations has one to MANY of them, of all kinds but those of the end of a run: mostly such as a random run does not
 break. Bodies put values of which they tell, and most have nothing in them that may stop with a fault; in most systems
-each task may rest. COUNT is the number of systems that were compared: systems with more than MOST states are left out.
-Every other system runs at a small bound.
+each task may rest. Some interrupts have limits of their own. COUNT is the number of systems that were compared: systems
+with more than MOST states are left out. Every other system runs at a small bound.
 """
 
 import random
@@ -22,7 +22,7 @@ from pathlib import Path
 sys.dont_write_bytecode = True  # the folders of the checks stay as they are
 sys.path[0] = str(Path(__file__).resolve().parents[1])  # the folder `checks`, whose folders are packages
 
-from model.explore import BOUND, EXPECT, SECTIONS, compare, with_sections  # noqa: E402
+from model.explore import BOUND, EXPECT, SECTIONS, compare, limits_of, with_sections  # noqa: E402
 from model.harness import BOUND as GREATEST, main  # noqa: E402
 from model.kernel import Kernel  # noqa: E402
 from model.schedules import Question, tries_of  # noqa: E402
@@ -75,7 +75,8 @@ def asked(seed, version):
     case.system.queue_limit = 255
     lines = expectations(case, chosen)
     question = Question(FAULTS, sentences=tuple(map(read, lines)), idle_ticks=chosen.random() < 0.5,
-                        interrupts=chosen.choice((None, None, 0, 1, 2)), queued=chosen.choice((None, None, 0, 1)))
+                        interrupts=chosen.choice((None, None, 0, 1, 2)), queued=chosen.choice((None, None, 0, 1)),
+                        limits=limits_of(case, chosen))
     return case, lines, question
 
 
