@@ -437,7 +437,7 @@ def shows_all(search, text, rows, numbers):
 def shows_nothing(search, text, row):
     """Whether it is said that nothing is found, in as many states and events, and these calls are never made."""
     unmade = re.findall(rf"^call never made: {search.name}\.src:(\d+):\d+$", text, re.MULTILINE)
-    answers = re.findall(rf"^answers at {search.name}\.src:(\d+): (.*)$", text, re.MULTILINE)
+    answers = re.findall(rf"^answers at {search.name}\.src:(\d+):\d+: (.*)$", text, re.MULTILINE)
     return (shows_all(search, text, (), row.numbers) and numbers_of(text) != ()
             and (not row.unmade or tuple(dict.fromkeys(map(int, unmade))) == row.unmade)
             and tuple((int(line), codes) for line, codes in answers) == row.answers)

@@ -1,11 +1,13 @@
--- The statuses that the program ends with.
-use Rattle.std.specs.Prelude.{ℕ}
+-- The statuses that the program ends with, and why a recording is not read.
+use Rattle.std.specs.Prelude.{ℕ, List, Bool, codes, nat_eq, if◌then◌else◌}
+use Rattle.std.specs.List.{starts_with}
 use Rattle.fmp_engine.specs.declared.fault.SimFault.TheVariants as sim
 use Rattle.fmp_lex.specs.declared.fault.BuildFault.TheVariants as build
+use Rattle.fmp_recording.specs.declared.faults.RecordingFault.{RecordingFault}
 use Rattle.fmp_recording.specs.declared.faults.RecordingFault.TheVariants as recording
 use Rattle.fmp_looking.specs.declared.exit.ViewExit.{ViewExit}
 use Rattle.fmp_looking.specs.declared.exit.ViewExit.TheVariants.{Sim, Misplaced, OtherText, Configuration, Recording}
-use Rattle.fmp_looking.specs.declared.exit.ViewExit.TheVariants.{Picture, Expect, Failed}
+use Rattle.fmp_looking.specs.declared.exit.ViewExit.TheVariants.{LastEvents, Picture, Expect, Failed}
 
 -- 1 for a fault of what was read, 2 if the run has no such picture, 3 for a failure or if memory ran out
 abbrev pub status_of : ViewExit → ℕ
@@ -17,6 +19,16 @@ status_of (Configuration build.Memory) = 3
 status_of (Configuration fault) = 1
 status_of (Recording recording.Memory) = 3
 status_of (Recording fault) = 1
+status_of LastEvents = 1
 status_of (Picture _) = 2
 status_of (Expect text) = 1
 status_of (Failed _) = 3
+
+-- a recording has the last events of its run alone: its first line says how many are left out
+abbrev pub has_last_events : (text : List ℕ) → Bool
+has_last_events text = starts_with nat_eq text (codes "dropped ")
+
+-- why a recording of this text is not read, which has this fault
+abbrev pub exit_of_recording : RecordingFault → (text : List ℕ) → ViewExit
+exit_of_recording recording.Memory text = Recording recording.Memory
+exit_of_recording fault text = if has_last_events text then LastEvents else Recording fault

@@ -22,6 +22,9 @@ const REPORT_OVER_INPUT: &str = "the file of --junit is one of those that are re
 /// The message for a tracefile, or a table of coverage, that would replace a file that is read.
 const COVERAGE_OVER_INPUT: &str = "the file of --lcov or --coverage is one of those that are read";
 
+/// The message for a file that would be written twice.
+const WRITTEN_TWICE: &str = "two of --junit, --lcov and --coverage name one file";
+
 /// What is wrong with words that fit the form of `test`.
 #[derive(Clone, Copy)]
 pub enum TestMistake {
@@ -33,6 +36,8 @@ pub enum TestMistake {
     ReportOverInput,
     /// The file of a tracefile or of a table of coverage is.
     CoverageOverInput,
+    /// Two of the files that are written are one.
+    WrittenTwice,
 }
 
 /// The files to which the coverage of runs is written.
@@ -72,6 +77,7 @@ pub fn test_mistake(alloc: Global, mistake: TestMistake) -> Result<Error, AllocE
         TestMistake::Rate => NO_RATE,
         TestMistake::ReportOverInput => REPORT_OVER_INPUT,
         TestMistake::CoverageOverInput => COVERAGE_OVER_INPUT,
+        TestMistake::WrittenTwice => WRITTEN_TWICE,
     };
     mistake_of(test_command(alloc), "fmp_view test", why)
 }

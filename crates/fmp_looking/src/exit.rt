@@ -10,7 +10,8 @@ use fmp_recording::RecordingFault;
 use std::alloc::AllocError;
 use std::fmt;
 
-/// Why the program ends with nothing printed: its message is one line, and a second one of a file in a wrong place.
+/// Why the program ends with nothing printed: its message is one line, and a second one of a file in a wrong place or
+/// of a recording that cannot be replayed.
 #[derive(Drop)]
 pub enum ViewExit {
     /// The image is not run.
@@ -23,6 +24,8 @@ pub enum ViewExit {
     Configuration(BuildFault),
     /// The recording is not read.
     Recording(RecordingFault),
+    /// The recording is not read, since it has the last events of its run alone.
+    LastEvents,
     /// There is no such picture of the run.
     Picture(TimelineFault),
     /// The expectations are not read, and this is said of their first fault.
@@ -48,6 +51,10 @@ impl fmt::Display for ViewExit {
             ),
             ViewExit::Configuration(fault) => write!(f, "{fault}"),
             ViewExit::Recording(fault) => write!(f, "{fault}"),
+            ViewExit::LastEvents => write!(
+                f,
+                "recording:1: R1\nit has the last events alone, which cannot be replayed"
+            ),
             ViewExit::Picture(fault) => write!(f, "{fault}"),
             ViewExit::Expect(text) => write!(f, "{text}"),
             ViewExit::Failed(failure) => write!(f, "{failure}"),
@@ -71,6 +78,7 @@ impl Reason for ViewExit {
             | ViewExit::OtherText
             | ViewExit::Configuration(_)
             | ViewExit::Recording(_)
+            | ViewExit::LastEvents
             | ViewExit::Expect(_) => 1,
             ViewExit::Picture(_) => 2,
         }

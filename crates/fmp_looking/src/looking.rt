@@ -1,5 +1,6 @@
 //! Looks at runs: of an image over a steps text, and of a recording.
-ghost use Rattle.std.specs.Prelude.{◌≤◌, ◌^◌, IfOk, length};
+ghost use Rattle.std.specs.Prelude.{◌≡◌, ◌≤◌, ◌^◌, IfOk, length};
+ghost use Rattle.fmp_looking.specs.Exits.{exit_of_recording, has_last_events};
 
 use crate::exit::{ViewExit, memory};
 use crate::kinds::exit_over;
@@ -70,13 +71,38 @@ fn within_most(recording: Vec<Given>) -> Result<Vec<Given>, ViewExit>
     Ok(recording)
 }
 
+/// Whether a recording has the last events of its run alone: its first line says how many are left out.
+fn has_last_events(text: &[u8]) -> bool
+    ensures { result ≡ has_last_events text.now }
+{
+    text.starts_with(b"dropped ")
+}
+
+/// Why a recording of this text is not read, which has this fault.
+fn exit_over_recording(fault: RecordingFault, text: &[u8]) -> ViewExit
+    ensures { result ≡ exit_of_recording fault text.now }
+{
+    match fault {
+        RecordingFault::Memory => ViewExit::Recording(fault),
+        RecordingFault::Line { .. }
+        | RecordingFault::Range { .. }
+        | RecordingFault::TooMany { .. } => {
+            if has_last_events(text) {
+                ViewExit::LastEvents
+            } else {
+                ViewExit::Recording(fault)
+            }
+        }
+    }
+}
+
 /// What a recording of a system of this many processors says.
 pub fn recording_of(alloc: Global, text: &[u8], processors: u8) -> Result<Vec<Given>, ViewExit>
     ensures { IfOk result (λ recording. length recording.items ≤ 2 ^ 31) }
 {
     match read_recording(alloc, text, processors) {
         Ok(recording) => within_most(recording),
-        Err(fault) => Err(ViewExit::Recording(fault)),
+        Err(fault) => Err(exit_over_recording(fault, text)),
     }
 }
 

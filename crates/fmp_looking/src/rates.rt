@@ -1,5 +1,9 @@
 //! How often interrupts come.
+ghost use Rattle.std.specs.Prelude.{◌≡◌, nat_eq};
+ghost use Rattle.std.specs.List.{list_any};
+
 use fmp_base::System;
+use fmp_files::Outside;
 use fmp_trials::InterruptRate;
 use std::alloc::{AllocError, Global};
 
@@ -47,4 +51,23 @@ pub fn rates_of(
         }
     }
     Ok(Some(rates))
+}
+
+/// Whether the interrupt of this number has a handler.
+fn is_handled(sys: &System, number: u8) -> bool
+    ensures { result ≡ list_any (λ config. nat_eq config.number number) sys.now.interrupts.items }
+{
+    sys.interrupts.iter().any(|config| config.number == number)
+}
+
+/// Says which of these interrupts have no handler: each of them does nothing.
+pub fn say_unhandled<O: Outside>(outside: &mut O, sys: &System, rates: &[InterruptRate]) {
+    for rate in rates {
+        let (interrupt, every) = (rate.interrupt, rate.every);
+        if !is_handled(sys, interrupt) {
+            outside.say(format_args!(
+                "--int {interrupt}:{every}: no handler is defined for interrupt {interrupt}\n"
+            ));
+        }
+    }
 }

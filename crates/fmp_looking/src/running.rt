@@ -3,7 +3,8 @@ use crate::asking::{TestMistake, test_mistake};
 use crate::built_system::BuiltSystem;
 use crate::exit::ViewExit;
 use crate::expecting::Expectations;
-use crate::rates::rates_of;
+use crate::outputs::{is_coverage_one_file, is_report_over_coverage};
+use crate::rates::{rates_of, say_unhandled};
 use crate::reporting::{FailedTest, tested};
 use crate::test_coverage::{TestTexts, write_coverage};
 use crate::test_records::test_record;
@@ -138,10 +139,14 @@ fn is_over_input<O: Outside>(outside: &O, out: Option<&str>, test: &ImageTest<'_
     }
 }
 
-/// The mistake of writing over a file that is read, if one would be.
-fn over_input<O: Outside>(outside: &O, test: &ImageTest<'_>) -> Option<TestMistake> {
+/// The mistake of writing over a file that is read, or of writing one twice, if that would be so.
+fn output_mistake<O: Outside>(outside: &O, test: &ImageTest<'_>) -> Option<TestMistake> {
     let files = test.testing.files;
-    if is_over_input(outside, test.testing.junit, test) {
+    let junit = test.testing.junit;
+    if is_coverage_one_file(outside, files) || is_report_over_coverage(outside, junit, files) {
+        return Some(TestMistake::WrittenTwice);
+    }
+    if is_over_input(outside, junit, test) {
         return Some(TestMistake::ReportOverInput);
     }
     if is_over_input(outside, files.lcov, test) || is_over_input(outside, files.coverage, test) {
@@ -274,7 +279,7 @@ fn run_test<O: Outside, R: Threads + Sync>(
     rt: &R,
     test: &ImageTest<'_>,
 ) -> u8 {
-    if let Some(mistake) = over_input(outside, test) {
+    if let Some(mistake) = output_mistake(outside, test) {
         return refuse_mistake(outside, test_mistake(alloc, mistake));
     }
     match test_by(alloc, outside, rt, test) {
@@ -302,6 +307,7 @@ pub fn test_image<O: Outside, R: Threads + Sync>(
                     rates: &rates,
                     testing: *testing,
                 };
+                say_unhandled(outside, built.configured, &rates);
                 run_test(alloc, outside, rt, &test)
             }
             None => refuse_mistake(outside, test_mistake(alloc, TestMistake::NothingExpected)),

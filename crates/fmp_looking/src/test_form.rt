@@ -7,7 +7,7 @@ use std::alloc::Global;
 
 /// What a text of expectations is.
 const EXPECT: &str =
-    "Text of expectations, one a line, as 'fmp_view expect' reads it; 'end' is none for a random run";
+    "Text of expectations, one a line, as 'fmp_view expect' reads it; but none may begin with 'end'";
 
 /// How many runs there are.
 const SEEDS: &str = "How many runs are made, 1 to 2^32 - 1: each goes by its number, its seed";

@@ -13,11 +13,14 @@ abbrev pub names_text : List Er → List ℕ
 names_text [] = codes " none"
 names_text (code ∷ more) = flat_map (λ c. name_text c) (code ∷ more)
 
+-- where a call stands in this file: its line and its column
+unfoldable pub place_text : (src : List ℕ) → Answered → List ℕ
+place_text src call = src ++ (codes ":" ++ (decimal call.line ++ (codes ":" ++ decimal call.column)))
+
 -- a line of what is printed: where a call stands in this file, and what it got
 unfoldable pub answered_text : (src : List ℕ) → Answered → List ℕ
 answered_text src call =
-    codes "answers at "
-    ++ (src ++ (codes ":" ++ (decimal call.line ++ (codes ":" ++ (names_text call.answers.items ++ codes "\n")))))
+    codes "answers at " ++ (place_text src call ++ (codes ":" ++ (names_text call.answers.items ++ codes "\n")))
 
 abbrev pub answers_text : (src : List ℕ) → List Answered → List ℕ
 answers_text src calls = flat_map (λ call. answered_text src call) calls

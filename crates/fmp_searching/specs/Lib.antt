@@ -14,4 +14,5 @@ pub mod Stuck
 pub mod Tests
 pub mod TextSchedules
 pub mod Unsaid
+pub mod Varied
 pub mod Words

@@ -3,18 +3,20 @@ ghost use Rattle.std.specs.Prelude.{◌≡◌, ◌++◌, OnOk, codes, decimal};
 ghost use Rattle.std.specs.List.{flat_map};
 ghost use Rattle.fmp_searching.specs.Answers as spec;
 
-use crate::sites::CallLines;
 use fmp_base::Er;
 use fmp_code::Code;
 use fmp_explore::Coverage;
+use fmp_frames::{CallPlace, CallPlaces};
 use itoa::Buffer;
 use std::alloc::{AllocError, Global};
 
 /// A call that was made, and what it was answered.
 #[derive(Drop)]
 pub struct Answered {
-    /// The line of the text in which it stands.
+    /// The line of the text in which it stands, from 1.
     pub line: u32,
+    /// The column of its name in that line, from 1.
+    pub column: usize,
     /// The codes, each once; none if the call was never answered.
     pub answers: Vec<Er>,
 }
@@ -24,14 +26,18 @@ pub struct Answered {
 pub fn answered_calls(
     alloc: Global,
     code: &Code,
-    lines: &CallLines,
+    places: &CallPlaces,
     coverage: &Coverage,
 ) -> Result<Vec<Answered>, AllocError> {
     let mut calls = Vec::new(alloc);
     for site in &coverage.made(alloc, code)? {
-        if let Some(line) = lines.line(code, *site) {
+        if let Some(CallPlace { line, column }) = places.place(code, site.body, site.pc) {
             let answers = coverage.answers(alloc, *site)?;
-            calls.push(Answered { line, answers })?;
+            calls.push(Answered {
+                line,
+                column,
+                answers,
+            })?;
         }
     }
     Ok(calls)
@@ -72,13 +78,22 @@ fn append_names(answers: &[Er], out: &mut Vec<u8>) -> Result<(), AllocError>
     }
 }
 
-/// Appends the place of a call in a file.
-fn append_place(src: &[u8], line: u32, out: &mut Vec<u8>) -> Result<(), AllocError>
-    ensures { OnOk result (out.new.items ≡ out.old.items ++ (src.now ++ (codes ":" ++ decimal line))) }
+/// Appends a number after a colon.
+fn append_number(number: u64, out: &mut Vec<u8>) -> Result<(), AllocError>
+    ensures { OnOk result (out.new.items ≡ out.old.items ++ (codes ":" ++ decimal number)) }
+{
+    append(b":", out)?;
+    append(Buffer::new().format(number).as_bytes(), out)
+}
+
+/// Appends where a call stands in a file.
+#[tactic(auto, unfolding(crate::specs::Answers::place_text))]
+fn append_place(src: &[u8], call: &Answered, out: &mut Vec<u8>) -> Result<(), AllocError>
+    ensures { OnOk result (out.new.items ≡ out.old.items ++ spec.place_text src.now call.now) }
 {
     append(src, out)?;
-    append(b":", out)?;
-    append(Buffer::new().format(line).as_bytes(), out)
+    append_number(u64::from(call.line), out)?;
+    append_number(call.column as u64, out)
 }
 
 /// Appends where a call stands in this file, and what it got.
@@ -87,7 +102,7 @@ fn append_answered(src: &[u8], call: &Answered, out: &mut Vec<u8>) -> Result<(),
     ensures { OnOk result (out.new.items ≡ out.old.items ++ spec.answered_text src.now call.now) }
 {
     append(b"answers at ", out)?;
-    append_place(src, call.line, out)?;
+    append_place(src, call, out)?;
     append(b":", out)?;
     append_names(&call.answers, out)?;
     append(b"\n", out)

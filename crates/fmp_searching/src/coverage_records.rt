@@ -3,12 +3,12 @@ ghost use Rattle.std.specs.Prelude.{◌≡◌, []};
 
 use crate::answers::{Answered, answered_calls};
 use crate::covering::{is_varied, most_values};
-use crate::naming::append_name;
 use crate::records::{call_place, write_number, write_place};
 use crate::refused::refused_in;
 use crate::sentences::append_sentence;
 use crate::sources::ExploredSources;
 use crate::unsaid::is_whole;
+use crate::varied::append_varied;
 use fmp_base::System;
 use fmp_explore::{CallSite, Coverage, Report};
 use fmp_frames::{LineForm, append_refused};
@@ -55,6 +55,7 @@ fn append_answered(alloc: Global, out: &mut Vec<u8>, call: &Answered) -> Result<
     let mut writer = begin(alloc)?;
     text_member(&mut writer, "what", "answers")?;
     number_member(&mut writer, "line", u64::from(call.line))?;
+    number_member(&mut writer, "column", call.column as u64)?;
     write_answers(&mut writer, call)?;
     append_finished(writer, out)
 }
@@ -69,12 +70,7 @@ fn append_answers(
     if !sources.named.answers {
         return Ok(());
     }
-    let calls = answered_calls(
-        alloc,
-        sources.claim.image.code(),
-        sources.claim.lines,
-        coverage,
-    )?;
+    let calls = answered_calls(alloc, sources.claim.image.code(), sources.places, coverage)?;
     for call in &calls {
         append_answered(alloc, out, call)?;
     }
@@ -245,13 +241,7 @@ fn append_varieties(
     for variety in &report.varieties {
         if is_varied(most, variety) {
             let mut name = Vec::new(alloc);
-            append_name(
-                alloc,
-                &mut name,
-                sources.claim.image.system(),
-                sources.names,
-                variety.what,
-            )?;
+            append_varied(alloc, sources, variety.what, &mut name)?;
             append_named(alloc, out, "values", &name, Some(variety.values as u64))?;
         }
     }

@@ -1,10 +1,11 @@
 //! What a search saw: how far it went, what was never made or run, the greatest counts and lengths, and the answers.
 use crate::answers::{answered_calls, append_answers};
-use crate::naming::{append_name, is_queue};
+use crate::naming::is_queue;
 use crate::refused::say_refused;
 use crate::sources::{ExploredSources, say, say_call, say_made};
+use crate::varied::append_varied;
 use fmp_base::{Name, System};
-use fmp_explore::{Coverage, Report, Variety};
+use fmp_explore::{Coverage, Report, Varied, Variety};
 use std::alloc::{AllocError, Global};
 
 /// Appends how much a search saw.
@@ -45,12 +46,7 @@ fn say_answers(
     if !sources.named.answers {
         return Ok(());
     }
-    let calls = answered_calls(
-        alloc,
-        sources.claim.image.code(),
-        sources.claim.lines,
-        coverage,
-    )?;
+    let calls = answered_calls(alloc, sources.claim.image.code(), sources.places, coverage)?;
     append_answers(sources.named.src.as_bytes(), &calls, out)
 }
 
@@ -168,12 +164,11 @@ pub fn say_coverage(
     say_lengths(alloc, out, sys, coverage)
 }
 
-/// What is said of how a field has fewer values.
+/// What is said of how a field gets fewer values.
 fn hint_of(variety: &Variety) -> &'static str {
-    if is_queue(variety.what) {
-        " (fewer with --queued)"
-    } else {
-        ""
+    match variety.what {
+        Varied::Field(what) if is_queue(what) => " (fewer with --queued)",
+        Varied::Field(_) | Varied::Standing(_) => "",
     }
 }
 
@@ -203,13 +198,7 @@ pub fn say_varieties(
         if is_varied(most, variety) {
             let values = variety.values;
             say_made(out, format!(in alloc; "{values} values: "))?;
-            append_name(
-                alloc,
-                out,
-                sources.claim.image.system(),
-                sources.names,
-                variety.what,
-            )?;
+            append_varied(alloc, sources, variety.what, out)?;
             say(out, hint_of(variety))?;
             say(out, "\n")?;
         }

@@ -55,6 +55,9 @@ const STEPS_OVER_INPUT: &str =
 /// The message for a report that would replace a file that is read.
 const REPORT_OVER_INPUT: &str = "the file of --junit is one of those that are read";
 
+/// The message for a report that steps would replace.
+const REPORT_OVER_STEPS: &str = "the file of --junit is one that steps are written to";
+
 /// When the clock may advance.
 fn ticks_of(words: &ArgMatches<'_>) -> Ticks
     ensures { result ≡ ticks_by (first_of (codes "ticks") (rows_of (found_of words.now))) }
@@ -293,4 +296,9 @@ pub fn steps_over_input(alloc: Global) -> Result<Error, AllocError> {
 /// The error for a report that would replace a file that is read, which has the status 2.
 pub fn report_over_input(alloc: Global) -> Result<Error, AllocError> {
     wrong_words(alloc, REPORT_OVER_INPUT)
+}
+
+/// The error for a report that steps would replace, which has the status 2.
+pub fn report_over_steps(alloc: Global) -> Result<Error, AllocError> {
+    wrong_words(alloc, REPORT_OVER_STEPS)
 }

@@ -37,7 +37,9 @@ mod stuck;
 mod stuck_words;
 mod suggesting;
 mod test_reports;
+mod unhandled;
 mod unsaid;
+mod varied;
 mod words;
 
 pub use answers::Answered;

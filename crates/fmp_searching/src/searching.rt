@@ -10,7 +10,9 @@ ghost use Rattle.fmp_searching.specs.Claimed.{PrintsNothing, PrintsOnly};
 
 use crate::asking::{CommandMistake, ExploreChoices, question_by, wanted_by};
 use crate::at_calls::nevers_at_of;
-use crate::exploration::{no_question, no_question_of, report_over_input, steps_over_input};
+use crate::exploration::{
+    no_question, no_question_of, report_over_input, report_over_steps, steps_over_input,
+};
 use crate::exploring::{Explored, explored_image};
 use crate::naming::LocalNames;
 use crate::reading::read_texts;
@@ -18,9 +20,11 @@ use crate::reporting::print_fault;
 use crate::sites::CallLines;
 use crate::sources::{Claim, ExploredSources, Exploring, Named, Sentences};
 use crate::steps_files::{
-    is_over_input, is_read, out_name, remove_earlier, steps_names, write_steps,
+    is_over_input, is_read, is_report_of_steps, out_name, remove_earlier, steps_names, write_steps,
 };
 use crate::test_reports::line_at;
+use crate::unhandled::say_unhandled;
+use clap::Error;
 use fmp_arguments::flaw_text;
 use fmp_base::System;
 use fmp_cfgparse::read_cfg;
@@ -293,6 +297,7 @@ fn explore_status<O: Outside, R: Clock + Threads + Sync>(
     ensures { result ≡ 0 → HoldsOfImage image.now (tables_of configured.now) opened.now.src.now
         opened.now.said.now opened.now.exploring.now (O.done outside.new) }
 {
+    say_unhandled(outside, image.system(), &opened.wanted.limits);
     match explore_image(alloc, outside, rt, image, configured, opened) {
         Ok(status) => status,
         Err(error) => end(outside, &Failure::Memory(error)),
@@ -398,6 +403,22 @@ fn is_report_read<O: Outside>(outside: &O, exploring: &Exploring<'_>) -> bool {
     }
 }
 
+/// The error for a report that would replace a file that is read, or be replaced by steps, if one would.
+fn report_mistake<O: Outside>(
+    alloc: Global,
+    outside: &O,
+    exploring: &Exploring<'_>,
+) -> Option<Result<Error, AllocError>> {
+    if is_report_read(outside, exploring) {
+        return Some(report_over_input(alloc));
+    }
+    match is_report_of_steps(alloc, outside, exploring) {
+        Ok(true) => Some(report_over_steps(alloc)),
+        Ok(false) => None,
+        Err(error) => Some(Err(error)),
+    }
+}
+
 /// Explores the schedules of the texts of two files, or prints their first fault, with status 1. This clock tells how
 /// long the search takes.
 pub fn run_explore<O: Outside, R: Clock + Threads + Sync>(
@@ -408,8 +429,8 @@ pub fn run_explore<O: Outside, R: Clock + Threads + Sync>(
 ) -> u8
     ensures { result ≡ 0 → HoldsOfFiles (O.files outside.old) exploring.now (O.done outside.new) }
 {
-    if is_report_read(outside, exploring) {
-        return refuse_mistake(outside, report_over_input(alloc));
+    if let Some(mistake) = report_mistake(alloc, outside, exploring) {
+        return refuse_mistake(outside, mistake);
     }
     match wanted_by(alloc, &exploring.asked) {
         Ok(Ok(wanted)) => explore_files(alloc, outside, rt, exploring, &wanted),

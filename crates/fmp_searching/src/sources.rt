@@ -1,4 +1,6 @@
 //! What is explored, the names of its files, and the text that is put together.
+ghost use Rattle.std.specs.Prelude.{◌≡◌};
+ghost use Rattle.fmp_searching.specs.Varied.{line_at};
 
 use crate::asking::ExploreWords;
 use crate::naming::LocalNames;
@@ -69,7 +71,9 @@ pub struct Sentences<'a> {
 
 impl Sentences<'_> {
     /// The line of the sentence at a place, if it is one of the file.
-    pub fn line(&self, place: usize) -> Option<u64> {
+    pub fn line(&self, place: usize) -> Option<u64>
+        ensures { result ≡ line_at self.now.sections self.now.expected.now place }
+    {
         let place = place.checked_sub(self.sections)?;
         Some(self.expected.get(place)?.line as u64)
     }

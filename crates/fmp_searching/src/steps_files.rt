@@ -27,6 +27,36 @@ pub fn steps_names(alloc: Global, out: &str, count: usize) -> Result<Vec<String>
     Ok(names)
 }
 
+/// Whether a text is a number from 1 on, without zeros in front.
+fn is_count(text: &str) -> bool {
+    !text.is_empty()
+        && !text.starts_with('0')
+        && text.as_bytes().iter().all(|byte| byte.is_ascii_digit())
+}
+
+/// The number after the last dot of a name, if it has one.
+fn number_of(name: &str) -> Option<&str> {
+    let (_, number) = name.rsplit_once('.')?;
+    if is_count(number) { Some(number) } else { None }
+}
+
+/// Whether the file of a report, if one is asked for, may be one of those of steps. `AllocError` if memory runs out.
+pub fn is_report_of_steps<O: Outside>(
+    alloc: Global,
+    outside: &O,
+    exploring: &Exploring<'_>,
+) -> Result<bool, AllocError> {
+    let Some(report) = exploring.junit else {
+        return Ok(false);
+    };
+    let Some(number) = number_of(report) else {
+        return Ok(false);
+    };
+    let out = out_name(alloc, exploring)?;
+    let steps = format!(in alloc; "{out}.{number}")?;
+    Ok(outside.is_one_file(report, steps.as_str()))
+}
+
 /// Whether a file is one of those that are read.
 pub fn is_read<O: Outside>(outside: &O, name: &str, exploring: &Exploring<'_>) -> bool {
     if let Some(expect) = exploring.expect

@@ -4,6 +4,16 @@ use fmp_base::{Name, TaskConfig};
 use fmp_diagnosis::{TOPICS, name_meant};
 use std::alloc::{AllocError, Global};
 
+/// A name, if it is another word than this one.
+fn another(word: &str, name: Option<Name>) -> Option<Name> {
+    let name = name?;
+    if name.as_bytes() == word.as_bytes() {
+        None
+    } else {
+        Some(name)
+    }
+}
+
 /// Says why a word is mistaken and which one it is, and asks whether a known word was meant, if one is like it.
 fn said_of(
     alloc: Global,
@@ -16,7 +26,7 @@ fn said_of(
         Some(name) => name_meant(alloc, &name, known)?,
         None => None,
     };
-    let question = question_text(alloc, meant)?;
+    let question = question_text(alloc, another(part, meant))?;
     format!(in alloc; "{why}: `{word}`{question}")
 }
 

@@ -65,7 +65,7 @@ fn value_of(happening: &Happening) -> i32 {
     }
 }
 
-/// Appends that nobody enters a section.
+/// Appends that no task enters a section.
 fn say_section(
     alloc: Global,
     out: &mut Vec<u8>,
@@ -75,7 +75,9 @@ fn say_section(
     let (enters, leaves) = (value_of(entering), value_of(leaving));
     say_made(
         out,
-        format!(in alloc; "--alone {enters},{leaves}: never happens at all: put({enters})\n"),
+        format!(in alloc;
+            "--alone {enters},{leaves}: never happens at all: put({enters}) by a task\n"
+        ),
     )
 }
 

@@ -22,7 +22,8 @@ const COMMANDS: &str =
     "run P [xK]   processor P goes on, to its next service call; K times, or until it does nothing
 tick [K]     the clock advances, K times
 int N [xK]   interrupt N is raised; N may be the body of its handler
-until DEED   all goes on until put(7), E_TMOUT or F_OVF happens; 'by TASK' may stand after it
+until DEED   all goes on until put(7), E_TMOUT or F_OVF happens, for at most 1000 events;
+             'by TASK' may stand after it, and last 'within K' for K events
 back [K]     the last event is taken back, or the last K
 why          what each task waits or spins for
 state [X]    the states of the tasks, or that of the task or object X

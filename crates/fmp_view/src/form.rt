@@ -38,7 +38,7 @@ Status, and the line on standard error with it:
            'expect:3: expected ..'; with 'fault', 'run', 'step' and 'export',
            which print it on standard output, a fault of the texts or steps, and not for warnings;
            with 'step', a line that failed, unless standard input is a terminal
-  2        a mistake in the command line; a word that is no code; OUT is a file that is read, or steps
+  2        a mistake in the command line; an unknown code; OUT is a file that is read, or steps
            or a file of DIR are; a picture that begins after the last event, or has more than 40,000,000 bytes
   3        'file: NAME', a file could not be read or written ('-' is standard output, 'stdin' standard input);
            'memory'
@@ -121,7 +121,8 @@ const LINES: &str = "Commands, one a line of standard input:
   run P [xK]   processor P goes on, to its next service call; K times, or until it does nothing
   tick [K]     the clock advances, K times
   int N [xK]   interrupt N is raised; N may be the body of its handler
-  until DEED   all goes on until put(7), E_TMOUT or F_OVF happens; 'by TASK' may stand after it
+  until DEED   all goes on until put(7), E_TMOUT or F_OVF happens, for at most 1000 events;
+               'by TASK' may stand after it, and last 'within K' for K events
   back [K]     the last event is taken back, or the last K
   why          what each task waits or spins for, as 'fmp_view why' says it
   state [X]    the states of the tasks, or that of the task or object X

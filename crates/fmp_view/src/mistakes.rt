@@ -37,18 +37,28 @@ fn unknown_text(alloc: Global, word: &[u8]) -> Result<String, AllocError> {
     };
     let word = String::from_utf8_lossy(alloc, word)?;
     match meant(alloc, &name)? {
-        Some(meant) => format!(in alloc; "`{word}` is no command; did you mean `{meant}`?"),
-        None => format!(in alloc; "`{word}` is no command; `help` prints them"),
+        Some(meant) => format!(in alloc; "`{word}` is not a command; did you mean `{meant}`?"),
+        None => format!(in alloc; "`{word}` is not a command; `help` prints them"),
     }
 }
 
-/// Asks whether one of these names was meant by a word, if one resembles it; else nothing.
+/// A name, if it is another word than this one.
+fn another(word: &[u8], name: Option<Name>) -> Option<Name> {
+    let name = name?;
+    if name.as_bytes() == word {
+        None
+    } else {
+        Some(name)
+    }
+}
+
+/// Asks whether one of these names was meant by another word, if one resembles it; else nothing.
 pub fn asked_for(alloc: Global, word: &[u8], known: &[Name]) -> Result<String, AllocError> {
     let meant = match Name::new(word) {
         Some(name) => name_meant(alloc, &name, known)?,
         None => None,
     };
-    question_text(alloc, meant)
+    question_text(alloc, another(word, meant))
 }
 
 /// The names of the bodies of these interrupts' handlers.
@@ -76,7 +86,7 @@ fn wanted_text(
             format!(in alloc; "`{word}` wants the number of a processor, 1 to {processors}")
         }
         LineMistake::Interrupt => format!(in alloc;
-            "`{word}` wants the number of an interrupt, 1 to 32, or the body of its handler"
+            "`{word}` wants the number of an interrupt, 1 to 32, or a body that one interrupt has"
         ),
         LineMistake::Times => format!(in alloc;
             "`{word}` wants nothing after its number, or how often, x1 to x1048576"

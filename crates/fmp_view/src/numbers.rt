@@ -1,11 +1,12 @@
-//! What is said of a value that is no number in the range of its option.
+//! What is said of a value that is not a number in the range of its option.
 use fmp_arguments::{Argument, ArgumentKind, CommandForm, OptionValue};
 use std::alloc::{AllocError, Global};
 
 /// The ends of ranges that help says as powers of two.
-const POWERS: [(u64, &str); 4] = [
+const POWERS: [(u64, &str); 5] = [
     (1 << 20, "2^20"),
     (1 << 31, "2^31"),
+    (u32::MAX as u64, "2^32 - 1"),
     (1 << 48, "2^48"),
     (u64::MAX, "2^64 - 1"),
 ];
@@ -45,11 +46,11 @@ fn range_in(form: &CommandForm, id: &str) -> Option<NumberRange> {
     None
 }
 
-/// The numbers that the option of this name takes in the first of these commands that has it.
-fn range_among(forms: &[&CommandForm], id: &str) -> Option<NumberRange> {
+/// The numbers that the option of this name takes in the command of this name, if it is one of these.
+fn range_among(forms: &[&CommandForm], command: &str, id: &str) -> Option<NumberRange> {
     for form in forms {
-        if let Some(range) = range_in(form, id) {
-            return Some(range);
+        if form.name == command {
+            return range_in(form, id);
         }
     }
     None
@@ -62,9 +63,9 @@ fn option_of(front: &str) -> Option<&str> {
     Some(name)
 }
 
-/// The numbers that the option takes of which the front of a message speaks.
-fn range_for(forms: &[&CommandForm], front: &str) -> Option<NumberRange> {
-    range_among(forms, option_of(front)?)
+/// The numbers that the option of a command takes of which the front of a message speaks.
+fn range_for(forms: &[&CommandForm], command: &str, front: &str) -> Option<NumberRange> {
+    range_among(forms, command, option_of(front)?)
 }
 
 /// The line of a message, before the reason that it gives, and the lines after it.
@@ -84,18 +85,19 @@ fn end_text(alloc: Global, number: u64) -> Result<String, AllocError> {
     format!(in alloc; "{number}")
 }
 
-/// The message of the command line's parser for a value that is no number in the range of its option, with the range in
-/// place of the parser's reason; none for another message. The option is one of these commands'. `AllocError` if memory
-/// runs out.
+/// The message of the command line's parser for a value that is not a number in the range of its option, with the range
+/// in place of the parser's reason; none for another message. The option is one of this command, which is one of these.
+/// `AllocError` if memory runs out.
 pub fn number_text(
     alloc: Global,
     forms: &[&CommandForm],
+    command: &str,
     message: &str,
 ) -> Result<Option<String>, AllocError> {
     let Some((front, rest)) = parts_of(message) else {
         return Ok(None);
     };
-    let Some(range) = range_for(forms, front) else {
+    let Some(range) = range_for(forms, command, front) else {
         return Ok(None);
     };
     let low = range.low;

@@ -87,13 +87,22 @@ fn with_tip(alloc: Global, message: &str) -> Result<Option<String>, AllocError> 
     Ok(None)
 }
 
-/// What is said of an error in place of its own message, if anything is: of a value which is no number in the range of
-/// its option, of two options of which one is wanted, of a command of the other program, and of a word too many.
-fn text_of(alloc: Global, error: &Error) -> Result<Option<String>, AllocError> {
+/// The command of these words, of which the first is the program's name.
+fn command_of(words: &[String]) -> &str {
+    match words.get(1) {
+        Some(word) => word.as_str(),
+        None => "",
+    }
+}
+
+/// What is said of an error of these words in place of its own message, if anything is: of a value which is not a
+/// number in the range of its option, of two options of which one is wanted, of a command of the other program, and of
+/// a word too many.
+fn text_of(alloc: Global, words: &[String], error: &Error) -> Result<Option<String>, AllocError> {
     match error.kind() {
         ErrorKind::ValueValidation => {
             let message = format!(in alloc; "{error}")?;
-            number_text(alloc, &forms(), &message)
+            number_text(alloc, &forms(), command_of(words), &message)
         }
         ErrorKind::MissingRequiredArgument => {
             let message = format!(in alloc; "{error}")?;
@@ -113,8 +122,13 @@ fn text_of(alloc: Global, error: &Error) -> Result<Option<String>, AllocError> {
 
 /// Says what is wrong with words that do not have the form of the command line, or prints what they ask to be shown,
 /// and gives the status.
-pub fn refuse_form<O: Outside>(alloc: Global, outside: &mut O, error: &Error) -> u8 {
-    match text_of(alloc, error) {
+pub fn refuse_form<O: Outside>(
+    alloc: Global,
+    outside: &mut O,
+    words: &[String],
+    error: &Error,
+) -> u8 {
+    match text_of(alloc, words, error) {
         Ok(Some(text)) => {
             outside.say(text);
             MISTAKE

@@ -393,7 +393,7 @@ where
     }
     match parsed(alloc, &words) {
         Ok(words) => Ok(carry_out(alloc, outside, rt, &words)),
-        Err(error) => Ok(refuse_form(alloc, outside, &error)),
+        Err(error) => Ok(refuse_form(alloc, outside, &words, &error)),
     }
 }
 
@@ -431,6 +431,6 @@ where
 {
     match parsed(alloc, words) {
         Ok(parsed) => run_parsed(alloc, outside, rt, words, &parsed),
-        Err(error) => refuse_form(alloc, outside, &error),
+        Err(error) => refuse_form(alloc, outside, words, &error),
     }
 }

@@ -11,6 +11,7 @@ use fmp_expect::{Checker, ExpectFault, Expected, read_expectations};
 use fmp_kernel::{Body, Kernel};
 use fmp_monitors::Sentence;
 use fmp_session::{Session, TakenEvent};
+use fmp_warnings::Form;
 use std::alloc::{AllocError, Global};
 
 /// What is said where nothing goes on.
@@ -23,6 +24,58 @@ const QUIET_UNTIL_INTERRUPT: &[u8] =
 /// Why a line fails that names no deed.
 const WANTED: &str =
     "`until` wants a deed: a code as E_QOVR, a value as put(7), or a fault as F_IDX";
+
+/// How many events `until` takes at most where its line does not say it.
+const EVENTS: u32 = 1000;
+
+/// Why a line fails that does not say after `within` how many events may come.
+const WITHIN: &str = "`within` wants how many events, 1 to 1048576";
+
+/// A deed that a session goes on for, and how many events may come at most.
+#[derive(Clone, Copy)]
+struct Awaited<'a> {
+    deed: &'a [u8],
+    most: u32,
+}
+
+/// Why a session goes on no more.
+#[derive(Clone, Copy)]
+enum Stop {
+    /// The deed has happened, or the session takes no more events.
+    Done,
+    /// Nothing goes on.
+    Quiet,
+    /// As many events have come as may.
+    Most,
+}
+
+/// How many events a text says, from 1 to 2^20.
+fn most_in(text: &str) -> Option<u32> {
+    let most = text.parse::<u32>().ok()?;
+    if most == 0 || most > EVENTS_MAX {
+        return None;
+    }
+    Some(most)
+}
+
+/// What stands before the last ` within ` of a text, and what stands after it.
+fn parts_at_within(text: &[u8]) -> Option<(&str, &str)> {
+    str::from_utf8(text).ok()?.rsplit_once(" within ")
+}
+
+/// What a session goes on for, as a line says after `until`; none if no number of events stands after `within`.
+fn awaited_in(text: &[u8]) -> Option<Awaited<'_>> {
+    let Some((deed, most)) = parts_at_within(text) else {
+        return Some(Awaited {
+            deed: text,
+            most: EVENTS,
+        });
+    };
+    Some(Awaited {
+        deed: deed.as_bytes(),
+        most: most_in(most)?,
+    })
+}
 
 /// The expectation that a deed never happens, as a text.
 fn never_text(alloc: Global, deed: &[u8]) -> Result<Vec<u8>, AllocError> {
@@ -42,9 +95,21 @@ fn has_limit<B: Body>(kernel: &Kernel<B>) -> bool {
     false
 }
 
-/// Whether the clock can change something: a task waits with a time limit, or there is a cyclic handler.
+/// Whether a cyclic handler of a kernel is started.
+fn has_started<B: Body>(kernel: &Kernel<B>) -> bool {
+    let tables = kernel.tables();
+    for c in 0..tables.cyclic_count() as u8 {
+        if tables.due_time(c).is_some() {
+            return true;
+        }
+    }
+    false
+}
+
+/// Whether the clock can change something: a task waits with a time limit, or a cyclic handler is started.
 fn is_due(session: &Session<'_>) -> bool {
-    !session.image().system().cyclics.is_empty() || has_limit(session.kernel())
+    let kernel = session.kernel();
+    has_started(kernel) || has_limit(kernel)
 }
 
 /// Takes the next event that does something, and appends what is told of it: a run of a processor, in turn from the one
@@ -96,6 +161,16 @@ fn is_full(taken: TakenEvent) -> bool {
     matches!(taken, TakenEvent::Full)
 }
 
+/// What is said where a deed has not happened after as many events as may come.
+fn unhappened_text(alloc: Global, awaited: Awaited<'_>) -> Result<String, AllocError> {
+    let most = awaited.most;
+    let events = if most == 1 { "event" } else { "events" };
+    let deed = String::from_utf8_lossy(alloc, awaited.deed)?;
+    format!(in alloc;
+        "stopped: {deed} has not happened in {most} {events}; `until {deed} within N` allows N events\n"
+    )
+}
+
 /// What is said where nothing goes on in a session.
 fn quiet_text(session: &Session<'_>) -> &'static [u8] {
     if session.image().system().interrupts.is_empty() {
@@ -105,43 +180,73 @@ fn quiet_text(session: &Session<'_>) -> &'static [u8] {
     }
 }
 
-/// Goes on until the deed of a checker happens, nothing goes on or the session is full, and appends what is told.
+/// Goes on until the deed of a checker happens, nothing goes on, the session is full or this many events have come, and
+/// appends what is told of them.
 fn go_on(
     alloc: Global,
     session: &mut Session<'_>,
     stepping: Stepping<'_>,
     checker: &mut Checker,
+    most: u32,
     out: &mut Vec<u8>,
-) -> Result<(), AllocError>
+) -> Result<Stop, AllocError>
     requires { IsSession session.old }
     ensures { IsSession session.new }
 {
     let mut turn = 0;
-    for _event in 0..EVENTS_MAX + 1 {
+    for _event in 0..most {
         let Some((e, taken)) = take_next(alloc, session, stepping, turn, out)? else {
-            return append_told(alloc, stepping.form, quiet_text(session), out);
+            return Ok(Stop::Quiet);
         };
         if is_full(taken) || has_happened(session, taken, checker) {
-            return Ok(());
+            return Ok(Stop::Done);
         }
         turn = turn_after(turn, e);
     }
-    Ok(())
+    Ok(Stop::Most)
 }
 
-/// Goes on until one of these expectations fails, and gives what is told.
+/// Appends why a session goes on no more, unless the deed has happened or the session is full.
+fn append_stop(
+    alloc: Global,
+    session: &Session<'_>,
+    form: Form,
+    awaited: Awaited<'_>,
+    stop: Stop,
+    out: &mut Vec<u8>,
+) -> Result<(), AllocError> {
+    match stop {
+        Stop::Done => Ok(()),
+        Stop::Quiet => append_told(alloc, form, quiet_text(session), out),
+        Stop::Most => {
+            let text = unhappened_text(alloc, awaited)?;
+            append_told(alloc, form, text.as_bytes(), out)
+        }
+    }
+}
+
+/// Goes on until one of these expectations fails, which are of a deed, and gives what is told.
 fn told_until(
     alloc: Global,
     session: &mut Session<'_>,
     stepping: Stepping<'_>,
     expected: &[Expected],
+    awaited: Awaited<'_>,
 ) -> Result<Vec<u8>, AllocError>
     requires { IsSession session.old }
     ensures { IsSession session.new }
 {
     let mut checker = Checker::new(alloc, expected)?;
     let mut out = Vec::new(alloc);
-    go_on(alloc, session, stepping, &mut checker, &mut out)?;
+    let stop = go_on(
+        alloc,
+        session,
+        stepping,
+        &mut checker,
+        awaited.most,
+        &mut out,
+    )?;
+    append_stop(alloc, session, stepping.form, awaited, stop, &mut out)?;
     Ok(out)
 }
 
@@ -160,6 +265,7 @@ fn until_broken(
     session: &mut Session<'_>,
     stepping: Stepping<'_>,
     expected: &[Expected],
+    awaited: Awaited<'_>,
 ) -> Result<Answer, AllocError>
     requires { IsSession session.old }
     ensures session { IsSession session.new }
@@ -168,29 +274,48 @@ fn until_broken(
     if !is_never(expected) {
         return refused(alloc, WANTED);
     }
-    Ok(Answer::Told(told_until(alloc, session, stepping, expected)?))
+    Ok(Answer::Told(told_until(alloc, session, stepping, expected, awaited)?))
 }
 
-/// Goes on until this deed happens: the processors run in turn, and the clock ticks where none of them does anything.
-/// It stops where nothing goes on any more, and where the session is full.
+/// Goes on until a deed happens, at most for as many events as may come.
 #[tactic(auto, using(crate::proofs::SessionLemmas::leaves_all))]
-pub fn until(
+fn until_awaited(
     alloc: Global,
     session: &mut Session<'_>,
     stepping: Stepping<'_>,
-    deed: &[u8],
+    awaited: Awaited<'_>,
 ) -> Result<Answer, AllocError>
     requires { IsSession session.old }
     ensures session { IsSession session.new }
     ensures leaves { IfOk result (Leaves session.old session.new) }
 {
-    let text = never_text(alloc, deed)?;
+    let text = never_text(alloc, awaited.deed)?;
     let sys = session.image().system();
     match read_expectations(alloc, sys, &text) {
-        Ok(expected) => until_broken(alloc, session, stepping, &expected),
+        Ok(expected) => until_broken(alloc, session, stepping, &expected, awaited),
         Err(ExpectFault::Memory) => Err(AllocError),
         Err(ExpectFault::Line { flaw, .. }) => {
             Ok(Answer::Refused(flaw_words(alloc, sys, &text, flaw)?))
         }
+    }
+}
+
+/// Goes on until a deed happens, as a line says after `until`: the processors run in turn, and the clock ticks where
+/// none of them does anything. It stops where nothing goes on any more, where the session is full, and after as many
+/// events as the line says after `within`, or 1,000.
+#[tactic(auto, using(crate::proofs::SessionLemmas::leaves_all))]
+pub fn until(
+    alloc: Global,
+    session: &mut Session<'_>,
+    stepping: Stepping<'_>,
+    text: &[u8],
+) -> Result<Answer, AllocError>
+    requires { IsSession session.old }
+    ensures session { IsSession session.new }
+    ensures leaves { IfOk result (Leaves session.old session.new) }
+{
+    match awaited_in(text) {
+        Some(awaited) => until_awaited(alloc, session, stepping, awaited),
+        None => refused(alloc, WITHIN),
     }
 }

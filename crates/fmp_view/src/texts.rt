@@ -3,7 +3,7 @@ use crate::answering::Stepping;
 use crate::asking::StepWords;
 use crate::stepping::step_image;
 use crate::telling::print_run;
-use crate::word_mistakes::{coverage_over_input, lcov_over_input};
+use crate::word_mistakes::{coverage_over_input, coverage_twice, lcov_over_input};
 use fmp_base::{Entry, System};
 use fmp_cfgparse::read_cfg;
 use fmp_diagnosis::Texts;
@@ -12,8 +12,8 @@ use fmp_frames::CallPlaces;
 use fmp_image::build;
 use fmp_lex::BuildFault;
 use fmp_looking::{
-    CoverageFiles, NamedText, NoTrace, OpenImage, Running, Traced, traced_texts,
-    write_coverage_files,
+    CoverageFiles, NamedText, NoTrace, OpenImage, Running, Traced, is_coverage_one_file,
+    traced_texts, write_coverage_files,
 };
 use fmp_searching::{print_fault, read_both};
 use fmp_session::NamedInterrupt;
@@ -108,6 +108,9 @@ pub fn run_texts<O: Outside>(
     }
     if is_read(outside, files.coverage, names) {
         return refuse_mistake(outside, coverage_over_input(alloc));
+    }
+    if is_coverage_one_file(outside, files) {
+        return refuse_mistake(outside, coverage_twice(alloc));
     }
     trace_texts(alloc, outside, names, run, files)
 }

@@ -23,6 +23,9 @@ const LCOV_OVER_INPUT: &str = "the file of --lcov is one of those that are read"
 /// The message for a table of coverage that would replace a file that is read.
 const COVERAGE_OVER_INPUT: &str = "the file of --coverage is one of those that are read";
 
+/// The message for a tracefile and a table of coverage that would be one file.
+const COVERAGE_TWICE: &str = "--lcov and --coverage name one file";
+
 /// The message for files of a folder that would replace one that is read.
 const FILES_OVER_INPUT: &str = "a file of the folder DIR is one of the two that are read";
 
@@ -60,6 +63,11 @@ pub fn lcov_over_input(alloc: Global) -> Result<Error, AllocError> {
 /// The error for a table of coverage that would replace a file that is read, which has the status 2.
 pub fn coverage_over_input(alloc: Global) -> Result<Error, AllocError> {
     mistake_of(run_command(alloc), "fmp_view run", COVERAGE_OVER_INPUT)
+}
+
+/// The error for a tracefile and a table of coverage that would be one file, which has the status 2.
+pub fn coverage_twice(alloc: Global) -> Result<Error, AllocError> {
+    mistake_of(run_command(alloc), "fmp_view run", COVERAGE_TWICE)
 }
 
 /// The error for C that would replace a file that is read, which has the status 2.

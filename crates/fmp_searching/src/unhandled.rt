@@ -1,0 +1,48 @@
+//! Limits of interrupts that have no handler, which leave nothing out of a search.
+ghost use Rattle.std.specs.Prelude.{◌≡◌, nat_eq};
+ghost use Rattle.std.specs.List.{list_any};
+ghost use Rattle.fmp_searching.specs.Claimed.{PrintsNothing};
+
+use fmp_base::System;
+use fmp_files::Outside;
+use fmp_schedules::InterruptLimit;
+
+/// Whether the interrupt of this number has a handler.
+fn is_handled(sys: &System, number: u8) -> bool
+    ensures { result ≡ list_any (λ config. nat_eq config.number number) sys.now.interrupts.items }
+{
+    sys.interrupts.iter().any(|config| config.number == number)
+}
+
+/// Says of which interrupt without a handler a word of `--int` or `--gap` speaks.
+fn say_option<O: Outside>(outside: &mut O, option: &'static str, interrupt: u8, number: u32)
+    ensures { PrintsNothing (O.done outside.old) (O.done outside.new) }
+{
+    outside.say(format_args!(
+        "{option} {interrupt}:{number}: no handler is defined for interrupt {interrupt}\n"
+    ));
+}
+
+/// Says that a limit is of an interrupt without a handler, if it is.
+#[tactic(auto, using(crate::proofs::Printing::quiet_none))]
+fn say_limit<O: Outside>(outside: &mut O, sys: &System, limit: InterruptLimit)
+    ensures { PrintsNothing (O.done outside.old) (O.done outside.new) }
+{
+    let interrupt = limit.interrupt().saturating_add(1);
+    if is_handled(sys, interrupt) {
+        return;
+    }
+    match limit {
+        InterruptLimit::AtMost { count, .. } => say_option(outside, "--int", interrupt, count),
+        InterruptLimit::Apart { ticks, .. } => say_option(outside, "--gap", interrupt, ticks),
+    }
+}
+
+/// Says which of these limits are of interrupts without handlers: no event is left out by them that does something.
+pub fn say_unhandled<O: Outside>(outside: &mut O, sys: &System, limits: &[InterruptLimit])
+    ensures { PrintsNothing (O.done outside.old) (O.done outside.new) }
+{
+    for limit in limits {
+        say_limit(outside, sys, *limit);
+    }
+}
