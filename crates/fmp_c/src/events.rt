@@ -45,7 +45,7 @@ pub extern "C" fn fmp_call(
         Some(held) => {
             let mut machine = held;
             let number = match call_of(service, &[a, b, c, d]) {
-                Ok(call) => machine.take(&Given::Act(p, Act::Call(call)), p, out),
+                Ok(call) => machine.take_inline(&Given::Act(p, Act::Call(call)), p, out),
                 Err(why) => machine.tell(p, Err(why), out),
             };
             *h = FmpSystem::of(machine);

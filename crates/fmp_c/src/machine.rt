@@ -1,17 +1,21 @@
 //! What a handle holds: a hosted system, the text that its bodies must follow, if there is one, what came to it last,
 //! and the page on which its lines are printed.
 ghost use Rattle.std.specs.Prelude.{◌≡◌, Err, Ok, Some};
+ghost use Rattle.fmp_base.specs.declared.events.Effect.TheVariants as effect;
+ghost use Rattle.fmp_base.specs.Meanings.{context_at};
 ghost use Rattle.fmp_base.specs.Systems.{tables_of};
 ghost use Rattle.fmp_base.specs.Texts.{lines_text};
 ghost use Rattle.fmp_foreign.specs.Hosting.{answer};
+ghost use Rattle.fmp_foreign.specs.Looking.{acting_from, acting_on};
 ghost use Rattle.fmp_c.specs.Exports.{IsConsulted, IsTakenBy, answered, checked_number, machine_after};
 ghost use Rattle.fmp_c.specs.Exports.{machine_restarted, outcome_of};
 ghost use Rattle.fmp_c.specs.Records as spec;
 
-use crate::records::{FmpOutcome, answer_number, changes};
-use fmp_base::Effect;
+use crate::records::{FmpActing, FmpOutcome, answer_number, changes};
+use fmp_base::{Caller, Effect, Held};
 use fmp_checked::{ImageBody, Objection, consult, restart_counts};
-use fmp_foreign::{HostedSystem, Refusal, Shadow};
+use fmp_foreign::{Acting, HostedSystem, Refusal, Shadow};
+use fmp_kernel::actors::actor_on;
 use fmp_outside::Given;
 use fmp_trace::Page;
 
@@ -46,7 +50,16 @@ pub struct Machine {
 
 impl Machine {
     /// Hands in what came for the processor of this number, and says what C is told of it.
+    #[inline(never)]
     pub fn take(&mut self, given: &Given, p: u8, out: &mut FmpOutcome) -> u32
+        ensures { IsTakenBy self.old.text self.old given.now p (Some self.new) out.new result }
+    {
+        self.take_inline(given, p, out)
+    }
+
+    /// As `take`, as a part of its caller: for calls, which come most often.
+    #[inline(always)]
+    pub fn take_inline(&mut self, given: &Given, p: u8, out: &mut FmpOutcome) -> u32
         ensures { IsTakenBy self.old.text self.old given.now p (Some self.new) out.new result }
     {
         match self.consult(given) {
@@ -56,6 +69,7 @@ impl Machine {
     }
 
     /// Why the text does not do this next, if there is a text, and it does not.
+    #[inline(always)]
     fn consult(&mut self, given: &Given) -> Option<Objection>
         ensures { IsConsulted self.old.text self.old given.now self.new result }
     {
@@ -66,17 +80,22 @@ impl Machine {
     }
 
     /// What came, whatever it is.
+    #[inline(always)]
     fn take_any(&mut self, given: &Given, p: u8, out: &mut FmpOutcome) -> u32
         ensures machine { self.new ≡ machine_after self.old (Ok given.now) }
         ensures outcome { out.new ≡ outcome_of (machine_after self.old (Ok given.now)).hosted.kernel p
             (answer self.old.hosted.kernel (Ok given.now)) }
         ensures number { result ≡ spec.answer_number (answer self.old.hosted.kernel (Ok given.now)) }
     {
-        let answer = self.hosted.take(*given);
-        if let Ok(Effect::Done) = answer {
-            self.remember(given);
+        match self.hosted.take(*given) {
+            Ok(Effect::Done) => {
+                self.remember(given);
+                self.tell_done(p, out)
+            }
+            Ok(Effect::Nothing) => self.tell(p, Ok(Effect::Nothing), out),
+            Ok(Effect::Kept) => self.tell(p, Ok(Effect::Kept), out),
+            Err(why) => self.tell(p, Err(why), out),
         }
-        self.tell(p, answer, out)
     }
 
     /// What C is told of what is not done.
@@ -100,9 +119,60 @@ impl Machine {
         self.last = Some(*given);
     }
 
+    /// Who acts on the processor of this number, where a handler does.
+    #[inline(never)]
+    fn tell_handler(&self, p: u8, acting: &mut FmpActing)
+        ensures { acting.new ≡ spec.acting_row (acting_on self.now.hosted.kernel p) }
+    {
+        acting.tell(self.hosted.acting(p));
+    }
+
+    /// The task at this place acts, if it goes on.
+    #[inline(always)]
+    fn tell_task(&self, t: u8, acting: &mut FmpActing)
+        ensures { acting.new
+            ≡ spec.acting_row (acting_from (Caller.Task t) (context_at self.now.hosted.kernel.world.contexts.tasks t)) }
+    {
+        match self.hosted.kernel.held(t) {
+            Some(Held::Goes(told)) => {
+                let caller = Caller::Task(t);
+                acting.set(Acting { caller, told });
+            },
+            Some(Held::Awaits(_)) => *acting = FmpActing::nobody(),
+            None => *acting = FmpActing::nobody(),
+        }
+    }
+
+    /// Who acts on the processor of this number.
+    #[inline(always)]
+    fn tell_actor(&self, p: u8, acting: &mut FmpActing)
+        ensures { acting.new ≡ spec.acting_row (acting_on self.now.hosted.kernel p) }
+    {
+        if p == 0 {
+            *acting = FmpActing::nobody();
+            return;
+        }
+        match actor_on(self.hosted.kernel.tables(), p - 1) {
+            Some(Caller::Task(t)) => self.tell_task(t, acting),
+            Some(Caller::Handler(_)) => self.tell_handler(p, acting),
+            None => *acting = FmpActing::nobody(),
+        }
+    }
+
+    /// What C is told of an event that was done.
+    #[inline(always)]
+    fn tell_done(&self, p: u8, out: &mut FmpOutcome) -> u32
+        ensures outcome { out.new ≡ outcome_of self.now.hosted.kernel p (Ok effect.Done) }
+        ensures number { result ≡ 1 }
+    {
+        out.changes = changes(self.hosted.kernel.lines());
+        self.tell_actor(p, &mut out.acting);
+        1
+    }
+
     /// What C is told of an event that was given for the processor of this number: the answer, who acts there now,
     /// and what has changed.
-    #[inline(always)]
+    #[inline(never)]
     pub fn tell(&self, p: u8, answer: Result<Effect, Refusal>, out: &mut FmpOutcome) -> u32
         ensures outcome { out.new ≡ outcome_of self.now.hosted.kernel p answer }
         ensures number { result ≡ spec.answer_number answer }

@@ -126,7 +126,8 @@ impl FmpActing {
     }
 
     /// Becomes the record of this actor.
-    fn set(&mut self, acting: Acting)
+    #[inline(always)]
+    pub fn set(&mut self, acting: Acting)
         ensures { self.new ≡ spec.told_row acting.caller acting.told }
     {
         self.name(acting.caller);
@@ -184,6 +185,7 @@ fn bit_of(place: u8) -> u32
     }
 }
 
+#[inline(always)]
 fn change(line: &Line) -> u32
     ensures { result ≡ spec.change line.now }
 {
@@ -197,7 +199,34 @@ fn change(line: &Line) -> u32
 }
 
 /// What the lines of an event say of who acts.
+#[inline(always)]
 pub fn changes(lines: &[Line]) -> u32
+    ensures { result ≡ spec.changes lines.now }
+{
+    match lines.split_first() {
+        Some((Line::Call { .. }, others)) => changes_of_few(others),
+        _ => all_changes(lines),
+    }
+}
+
+/// The same of lines of which there is mostly one, or none.
+#[inline(always)]
+fn changes_of_few(lines: &[Line]) -> u32
+    ensures { result ≡ spec.changes lines.now }
+{
+    match lines.split_first() {
+        None => 0,
+        Some((line, others)) if others.is_empty() => {
+            let before = 0;
+            before | change(line)
+        }
+        Some(_) => all_changes(lines),
+    }
+}
+
+/// The same, line by line.
+#[inline(never)]
+fn all_changes(lines: &[Line]) -> u32
     ensures { result ≡ spec.changes lines.now }
 {
     let mut all = 0;

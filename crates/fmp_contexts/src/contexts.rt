@@ -148,6 +148,7 @@ impl<C: Copy> BodyContexts<C> {
     }
 
     /// What is kept of the caller on processor p, where it stands, if there is anything.
+    #[inline(always)]
     fn kept_caller(&self, p: u8, who: Caller) -> Option<&KeptContext<C>>
         ensures { option_copied result ≡ context_of self.now p who }
     {
@@ -187,6 +188,7 @@ impl<C: Copy> BodyContexts<C> {
     }
 
     /// Whether the caller on processor p goes on from a context: not if it awaits a reply, or nothing is kept of it.
+    #[inline(always)]
     pub fn goes(&self, p: u8, who: Caller) -> bool
         ensures { result ≡ is_going (context_of self.now p who) }
     {
@@ -290,6 +292,7 @@ impl<C: Copy> BodyContexts<C> {
     }
 
     /// This context is kept of the caller on processor p, of which something is kept, and awaits a reply, or does not.
+    #[inline(always)]
     pub fn put(&mut self, p: u8, who: Caller, context: &C, awaits: bool)
         requires { HasContext self.old p who }
         ensures { self.new ≡ with_context self.old p who (Some (held_by awaits context.now)) }

@@ -97,6 +97,7 @@ impl<C: Copy> KeptContext<C> {
     }
 
     /// This context is kept, and awaits the reply to its call, or does not.
+    #[inline(always)]
     pub fn put(&mut self, context: &C, awaits: bool)
         ensures { self.new ≡ held_by awaits context.now }
     {

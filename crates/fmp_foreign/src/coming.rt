@@ -26,6 +26,7 @@ impl Coming<Foreign> for Given {
     ghost reaction = { reaction };
 
     #[tactic(auto, using(crate::proofs::AnyStretch::any_stretch))]
+    #[inline(always)]
     fn take(self, kernel: &mut Kernel<Foreign>) -> Effect {
         match self {
             Given::Act(p, act) => kernel.apply_long(p, stretch_of(act)),

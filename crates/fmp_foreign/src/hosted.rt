@@ -46,6 +46,7 @@ impl HostedSystem {
     }
 
     /// Whether the numbers of what comes are out of range.
+    #[inline(always)]
     fn refused_number(&self, given: Given) -> Option<Refusal>
         ensures { result ≡ refused_number self.now.kernel given }
     {
@@ -81,6 +82,7 @@ impl HostedSystem {
     /// What comes, while fewer than 2^31 events were taken. If it is done, its lines and the state after it stand in
     /// the kernel. It does nothing where the processor has no actor, where the call spins for a lock that is held, and
     /// where the interrupt has no handler or is pending. What is refused changes nothing.
+    #[inline(always)]
     pub fn take(&mut self, given: Given) -> Result<Effect, Refusal>
         ensures answer { result ≡ answer self.old.kernel (Ok given) }
         ensures state { self.new ≡ after self.old (Ok given) }

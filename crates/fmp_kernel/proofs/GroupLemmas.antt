@@ -1,6 +1,7 @@
 -- What tasks and handlers may call.
-use Rattle.std.proofs.Common.{◌≡◌, ℕ, Bool, true, false, refl, sym, ◌∙◌}
+use Rattle.std.proofs.Common.{◌≡◌, ℕ, Bool, true, false, not, ◌&&◌, ◌||◌, refl, sym, ap, ◌∙◌}
 use Rattle.fmp_base.specs.declared.calls.Call.{Call}
+use Rattle.fmp_base.specs.declared.codes.Er.TheVariants as er
 use Rattle.fmp_base.specs.declared.permissions.Permission.{Permission}
 use Rattle.fmp_base.specs.declared.permissions.Permission.TheVariants.{Anywhere, LockedTasks, Tasks, TasksOnOthers}
 use Rattle.fmp_base.specs.declared.permissions.Permission.TheVariants.{WaitingTasks, Handlers}
@@ -9,8 +10,13 @@ use Rattle.fmp_base.specs.declared.services.Service.TheVariants as service
 use Rattle.fmp_base.specs.declared.states.Caller.TheVariants as caller
 use Rattle.fmp_base.specs.declared.states.Handler.{Handler}
 use Rattle.fmp_base.specs.declared.states.Processor.{Processor}
-use Rattle.fmp_base.specs.Permissions.{permission, is_barred}
+use Rattle.fmp_base.specs.Calls.{called, case_by}
+use Rattle.fmp_base.specs.Outcomes.{refused_if}
+use Rattle.fmp_base.specs.Permissions.{permission, is_barred, is_on_caller}
+use Rattle.fmp_base.specs.ProcessorCalls.{is_cpu_locked}
 use Rattle.fmp_base.specs.Services.{service_of}
+use Rattle.fmp_base.specs.States.{KernelState, processor_at}
+use Rattle.fmp_base.specs.Systems.{SystemTables}
 use Rattle.fmp_kernel.specs.declared.calls.groups.ServiceGroup.{ServiceGroup}
 use Rattle.fmp_kernel.specs.declared.calls.groups.ServiceGroup.TheVariants as group
 use Rattle.fmp_kernel.specs.Groups.{IsForHandlers, IsForTasks, group_of}
@@ -84,3 +90,31 @@ pub tasks_call : (cpu : Processor) (me : ℕ) (c : Call)
 tasks_call cpu me c e =
     let s = service_of c in
     of_tasks (group_of s) (sym (handlers_by_permission s) ∙ not_of_handlers (permission s) cpu me c e)
+
+-- by a task on an open processor just the calls for handlers are refused
+open_tasks : (locked disabled own : Bool) → not (locked || disabled) ≡ true
+    → (locked ≡ false) × ((locked || (disabled && own)) ≡ false) × ((locked || disabled) ≡ false)
+open_tasks true disabled own e = absurd (cc e)
+open_tasks false true own e = absurd (cc e)
+open_tasks false false own e = (refl, refl, refl)
+
+barred_open : (p : Permission) (cpu : Processor) (me : ℕ) (c : Call)
+    → not (is_cpu_locked cpu || cpu.dispatch_disabled) ≡ true
+    → is_barred p cpu (caller.Task me) c ≡ is_of_handlers p
+barred_open Anywhere cpu me c e = refl
+barred_open LockedTasks cpu me c e = refl
+barred_open Tasks cpu me c e = (open_tasks (is_cpu_locked cpu) cpu.dispatch_disabled (is_on_caller me c) e).0
+barred_open TasksOnOthers cpu me c e =
+    (open_tasks (is_cpu_locked cpu) cpu.dispatch_disabled (is_on_caller me c) e).1
+barred_open WaitingTasks cpu me c e =
+    (open_tasks (is_cpu_locked cpu) cpu.dispatch_disabled (is_on_caller me c) e).2
+barred_open Handlers cpu me c e = refl
+
+-- so its other calls are carried out
+pub called_open : (sys : SystemTables) (s : KernelState) (p me : ℕ) (c : Call)
+    → not (is_cpu_locked (processor_at s p) || (processor_at s p).dispatch_disabled) ≡ true
+    → is_of_handlers (permission (service_of c)) ≡ false
+    → case_by sys s p (caller.Task me) c ≡ called sys s p (caller.Task me) c
+called_open sys s p me c e h =
+    sym (ap (λ (b : Bool). refused_if b s er.Ctx (case_by sys s p (caller.Task me) c))
+    (barred_open (permission (service_of c)) (processor_at s p) me c e ∙ h))

@@ -1,5 +1,6 @@
 mod ActorLemmas
 mod ActorNone
+mod AloneLemmas
 pub mod Comings
 mod CountLemmas
 pub mod Crossing

@@ -1,6 +1,6 @@
 //! The service calls: the test of where a call is made from, then the case of the call. Each call of the uITRON 4.0
 //! standard profile and of the FMP kernel that this kernel has is one, from tasks and from handlers.
-ghost use Rattle.std.specs.Prelude.{◌≡◌, ◌<◌, [], length, vec_capacity, false};
+ghost use Rattle.std.specs.Prelude.{◌≡◌, ◌<◌, [], length, vec_capacity, false, IfNone, IfSome};
 ghost use Rattle.fmp_base.specs.declared.states.Handler.{Handler};
 ghost use Rattle.fmp_base.specs.Calls.{called, case_by, case_of};
 ghost use Rattle.fmp_base.specs.Permissions.{permission, is_barred as barred};
@@ -12,7 +12,7 @@ ghost use Rattle.fmp_tasks.specs.Callers.{IsTaskOf};
 ghost use Rattle.fmp_tasks.specs.Lines.{AreEmptyWithRoom};
 ghost use Rattle.fmp_tasks.specs.Tables.{outcome, SameShape};
 
-use crate::calls::context::is_barred;
+use crate::calls::context::{is_barred, is_open};
 use crate::calls::groups::{ServiceGroup, group};
 use crate::calls::handlers::handler_call;
 use crate::calls::management::management_call;
@@ -21,7 +21,9 @@ use crate::calls::own::own_call;
 use crate::calls::processors::processor_call;
 use crate::calls::queues::queue_call;
 use crate::calls::synchronization::synchronization_call;
-use fmp_base::{Answer, Call, Caller, Er, Line};
+use fmp_base::{Answer, Call, Caller, Er, Line, TimeLimit};
+use fmp_migrate::{slp_tsk, wup_tsk};
+use fmp_objects::{sig_sem, wai_sem};
 use fmp_tasks::KernelState;
 use fmp_tasks::answers::replied;
 
@@ -36,6 +38,7 @@ mod queues;
 mod synchronization;
 
 /// The case of a call that task me, which processor p runs, may make.
+#[inline(always)]
 fn case_of_task(
     tables: &mut KernelState,
     lines: &mut Vec<Line>,
@@ -84,6 +87,7 @@ fn case_of_handler(tables: &mut KernelState, lines: &mut Vec<Line>, p: u8, made:
 
 /// The case of a call that its caller on processor p may make.
 #[tactic(auto, using(crate::proofs::GroupLemmas::handlers_call, crate::proofs::GroupLemmas::tasks_call))]
+#[inline(always)]
 fn permitted_call(
     tables: &mut KernelState,
     lines: &mut Vec<Line>,
@@ -130,4 +134,37 @@ pub fn call(
         return replied(Er::Ctx);
     }
     permitted_call(tables, lines, p, who, made)
+}
+
+/// Carries out a call of those that are made most often, by task me, which processor p runs, with its CPU free and its
+/// dispatching enabled, as `call` does. For another call, and where it is made elsewhere, nothing is done.
+#[tactic(auto, using(crate::proofs::GroupLemmas::called_open))]
+#[inline(always)]
+pub fn frequent_call(
+    tables: &mut KernelState,
+    lines: &mut Vec<Line>,
+    p: u8,
+    me: u8,
+    made: &Call,
+) -> Option<Answer>
+    requires caller { me < length tables.old.system.tasks }
+    requires processor { p < tables.old.system.processors }
+    requires lines { AreEmptyWithRoom 255 lines.old }
+    ensures outcome { IfSome result (λ a. outcome a tables.new lines.new.items
+        ≡ called tables.old.system tables.old.state p (Caller.Task me) made.now) }
+    ensures other { IfNone result (tables.new ≡ tables.old) }
+    ensures shape { SameShape tables.old tables.new }
+    ensures capacity { vec_capacity lines.new ≡ vec_capacity lines.old }
+{
+    if !is_open(&tables.processor(p)) {
+        return None;
+    }
+    match *made {
+        Call::SigSem { semaphore } => Some(sig_sem(tables, lines, semaphore)),
+        Call::WaiSem { semaphore } => Some(wai_sem(tables, me, TimeLimit::Forever, semaphore)),
+        Call::PolSem { semaphore } => Some(wai_sem(tables, me, TimeLimit::Poll, semaphore)),
+        Call::SlpTsk => Some(slp_tsk(tables, me)),
+        Call::WupTsk { task } => Some(wup_tsk(tables, lines, me, task)),
+        _ => None,
+    }
 }

@@ -1,20 +1,16 @@
 //! What events do: the actor of a processor runs, the clock advances, an interrupt is raised.
-ghost use Rattle.std.specs.Prelude.{◌≡◌, ◌+◌, ◌<◌, ◌≤◌, ◌^◌, ◌∷◌, [], Some, true};
+ghost use Rattle.std.specs.Prelude.{◌≡◌, ◌+◌, ◌<◌, ◌≤◌, ◌^◌, ◌∷◌, [], None, Some, true};
 ghost use Rattle.fmp_base.specs.declared.bodies.Held.TheVariants.{Goes};
 ghost use Rattle.fmp_base.specs.Calls.{called};
 ghost use Rattle.fmp_base.specs.Meanings.{caller_body, context_of, with_context};
 ghost use Rattle.fmp_base.specs.States.{processor_at};
 ghost use Rattle.fmp_base.specs.Steps.{Did, actor_of, call_made, effect_of, ended_with, finished};
 ghost use Rattle.fmp_base.specs.Steps.{handler_ended as ended_handler, run_by, run_in, step};
-ghost use Rattle.fmp_base.specs.Stretches.{ending};
-ghost use Rattle.fmp_base.specs.Contexts.{OfCall};
-ghost use Rattle.fmp_contexts.specs.Contexts.{HandsOver, HasContext, IsFor, is_call, is_going, stop_of};
+ghost use Rattle.fmp_contexts.specs.Contexts.{HandsOver, HasContext, is_call, is_going, stop_of};
 ghost use Rattle.fmp_kernel.specs.KernelViews.{Reacts, SameBodies, done_of, done_or, kept_in, progress_of, stopped_on};
 ghost use Rattle.fmp_kernel.specs.KernelViews.{stretch_in, with_stretch};
 ghost use Rattle.fmp_tasks.specs.Callers.{IsTaskOf};
-ghost use Rattle.fmp_tasks.specs.Tables.{SameShape};
 ghost use Rattle.fmp_worlds.specs.Spins.{MaySpin};
-ghost use Rattle.fmp_worlds.specs.Stamps.{actor_at, applied_by, applied_in};
 
 use crate::actors::actor_on;
 use crate::calls::call;
@@ -22,12 +18,13 @@ use crate::runner::Runner;
 use crate::spins::may_spin;
 use crate::ticks::advance;
 use fmp_base::{
-    Answer, Body, Call, Caller, Effect, Event, Fault, Handler, Line, Processor, Reply, Stretch,
-    StretchStop,
+    Answer, Body, Call, Caller, Effect, Event, Fault, Handler, Line, Processor, Reply, StretchStop,
 };
 use fmp_contexts::{end_context, entry_of, stretch};
 use fmp_migrate::end_itself;
 use fmp_tasks::KernelState;
+
+mod applying;
 
 /// The handler of processor p no longer runs.
 fn end_handler(tables: &mut KernelState, p: u8)
@@ -93,6 +90,7 @@ impl<B: Body> Runner<B> {
     }
 
     /// Ends the event of this call, with its reply if it has one.
+    #[inline(always)]
     fn finish_call(&mut self, p: u8, who: Caller, made: &Call, reply: Option<Reply>)
         ensures { Reacts self.old self.new Effect.Done
             (Did (finished self.old.system (B.meaning self.old.body) self.old.world.contexts
@@ -150,41 +148,6 @@ impl<B: Body> Runner<B> {
     {
         let entry = entry_of(&self.tables, &self.contexts, p, who);
         stretch(&self.body, entry, self.bound, &mut self.contexts, p, who)
-    }
-
-    /// The stretch of the actor of processor p, which goes on from a context, is handed in. What is kept of it then
-    /// stands in place.
-    #[tactic(auto, using(fmp_contexts::proofs::ContextLemmas::task_going, fmp_contexts::proofs::ContextLemmas::going_has))]
-    #[inline(always)]
-    fn take(&mut self, p: u8, who: Caller, stretch: Stretch<B::Ctx>) -> StretchStop
-        requires goes { is_going (context_of self.old.world.contexts p who) ≡ true }
-        requires context { OfCall
-            (B.is_context self.old.body (caller_body self.old.system self.old.world.contexts p who))
-            (ending stretch) }
-        ensures stop { result ≡ stop_of (ending stretch) }
-        ensures kept { self.new ≡ with_stretch self.old p who (ending stretch) }
-        ensures caller { IsTaskOf self.old.system who }
-    {
-        // Only a look at a field tells the proof that the contexts fit.
-        let _ = &self.tables;
-        match stretch {
-            Stretch::Over(context) => {
-                self.contexts.put(p, who, &context, false);
-                StretchStop::Over
-            }
-            Stretch::Call(context, made) => {
-                self.contexts.put(p, who, &context, true);
-                StretchStop::Call(made)
-            }
-            Stretch::End(_) => {
-                self.contexts.forget(p, who);
-                StretchStop::End
-            }
-            Stretch::Fault(_, fault) => {
-                self.contexts.forget(p, who);
-                StretchStop::Fault(fault)
-            }
-        }
     }
 
     /// Carries out the call, end or fault with which a stretch of the actor of processor p has stopped; what is kept of
@@ -296,44 +259,6 @@ impl<B: Body> Runner<B> {
         }
     }
 
-    /// The actor of processor p, which goes on from a context, has made this stretch: the call, end or fault is carried
-    /// out, or its place is kept. It finds no spin lock held.
-    #[tactic(auto, using(crate::proofs::StopLemmas::ending_hands))]
-    #[inline(always)]
-    fn apply_stretch(&mut self, p: u8, who: Caller, stretch: Stretch<B::Ctx>) -> Effect
-        requires there { p < self.old.system.processors }
-        requires goes { is_going (context_of self.old.world.contexts p who) ≡ true }
-        requires context { OfCall
-            (B.is_context self.old.body (caller_body self.old.system self.old.world.contexts p who))
-            (ending stretch) }
-        requires free { MaySpin self.old.system self.old.world.state p who → ⊥ }
-        ensures { Reacts self.old self.new result
-            (applied_in self.old.system (B.meaning self.old.body) self.old.world p who
-            (context_of self.old.world.contexts p who) (ending stretch)) }
-    {
-        let stop = self.take(p, who, stretch);
-        self.carry_out_stop(p, who, &stop)
-    }
-
-    /// The same of an actor that may find one held: an actor that spins goes on from the context from which it
-    /// came.
-    #[tactic(auto, using(crate::proofs::StopLemmas::ending_hands))]
-    #[inline(never)]
-    fn apply_stretch_or_spin(&mut self, p: u8, who: Caller, stretch: Stretch<B::Ctx>) -> Effect
-        requires there { p < self.old.system.processors }
-        requires goes { is_going (context_of self.old.world.contexts p who) ≡ true }
-        requires context { OfCall
-            (B.is_context self.old.body (caller_body self.old.system self.old.world.contexts p who))
-            (ending stretch) }
-        ensures { Reacts self.old self.new result
-            (applied_in self.old.system (B.meaning self.old.body) self.old.world p who
-            (context_of self.old.world.contexts p who) (ending stretch)) }
-    {
-        let first = self.first_context(p, who);
-        let stop = self.take(p, who, stretch);
-        self.carry_out_or_spin(p, who, &stop, &first)
-    }
-
     /// The actor of processor p runs for a stretch. Nothing happens if it awaits a reply, or nothing is kept of it.
     #[tactic(auto, using(crate::proofs::StopLemmas::still_runs))]
     #[inline(always)]
@@ -373,55 +298,6 @@ impl<B: Body> Runner<B> {
             None => Effect::Nothing,
             Some(Caller::Task(t)) => self.run_actor(p, Caller::Task(t)),
             Some(Caller::Handler(handler)) => self.run_handler(p, handler),
-        }
-    }
-
-    /// The actor of processor p has made this stretch. Nothing happens if it awaits a reply, or nothing is kept of it.
-    #[tactic(auto, using(crate::proofs::StopLemmas::still_applied, fmp_contexts::proofs::ContextLemmas::going_fits))]
-    #[inline(always)]
-    fn apply_actor(&mut self, p: u8, who: Caller, stretch: Stretch<B::Ctx>) -> Effect
-        requires there { p < self.old.system.processors }
-        requires actor { actor_of (processor_at self.old.world.state p) ≡ Some who }
-        requires context { IsFor B.is_context self.old.body (ending stretch)
-            (actor_at self.old.system self.old.world p) }
-        ensures { Reacts self.old self.new result
-            (applied_by self.old.system (B.meaning self.old.body) self.old.world p (Some who) (ending stretch)) }
-    {
-        if !self.contexts.goes(p, who) {
-            return Effect::Nothing;
-        }
-        if may_spin(&self.tables, p, who) {
-            self.apply_stretch_or_spin(p, who, stretch)
-        } else {
-            self.apply_stretch(p, who, stretch)
-        }
-    }
-
-    /// The handler of processor p has made this stretch.
-    #[inline(never)]
-    fn apply_handler(&mut self, p: u8, handler: Handler, stretch: Stretch<B::Ctx>) -> Effect
-        requires there { p < self.old.system.processors }
-        requires actor { actor_of (processor_at self.old.world.state p) ≡ Some (Caller.Handler handler) }
-        requires context { IsFor B.is_context self.old.body (ending stretch)
-            (actor_at self.old.system self.old.world p) }
-        ensures { Reacts self.old self.new result
-            (applied_by self.old.system (B.meaning self.old.body) self.old.world p (Some (Caller.Handler handler))
-            (ending stretch)) }
-    {
-        self.apply_actor(p, Caller::Handler(handler), stretch)
-    }
-
-    /// Processor p runs its actor, whose stretch is this one.
-    pub fn apply(&mut self, p: u8, stretch: Stretch<B::Ctx>) -> Effect
-        requires { IsFor B.is_context self.old.body (ending stretch) (actor_at self.old.system self.old.world p) }
-        ensures { Reacts self.old self.new result
-            (applied_by self.old.system (B.meaning self.old.body) self.old.world p
-            (actor_of (processor_at self.old.world.state p)) (ending stretch)) }
-    {
-        match actor_on(&self.tables, p) {
-            None => Effect::Nothing,
-            Some(Caller::Task(t)) => self.apply_actor(p, Caller::Task(t), stretch),
-            Some(Caller::Handler(handler)) => self.apply_handler(p, handler, stretch),
         }
     }
 

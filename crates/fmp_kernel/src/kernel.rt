@@ -279,6 +279,7 @@ impl<B: Body> Kernel<B> {
     }
 
     /// As `apply`, while fewer than 2^31 events were taken.
+    #[inline(always)]
     pub fn apply_long(&mut self, p: u8, s: Stretch<B::Ctx>) -> Effect
         requires early { self.old.taken < 2 ^ 31 }
         requires stretch { IsFor B.is_context self.old.body (ending s)

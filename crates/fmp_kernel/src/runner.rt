@@ -1,10 +1,13 @@
 //! The runner of events: the bodies with their contexts over the tables, and room for the lines of an event.
 ghost use Rattle.std.specs.Prelude.{◌≡◌, ◌+◌, ◌≤◌, ◌<◌, ◌^◌, ◌++◌, ◌∷◌, ℕ, [], get_or, length, map, replicate, vec_len};
-ghost use Rattle.std.specs.Prelude.{vec_capacity, IfOk, IfSome, Some, None};
+ghost use Rattle.std.specs.Prelude.{vec_capacity, IfOk, IfSome, Some, None, true};
 ghost use Rattle.fmp_base.specs.declared.events.Effect.TheVariants as effect;
+ghost use Rattle.fmp_base.specs.Queues.{top};
 ghost use Rattle.fmp_base.specs.Runs.{task_state};
 ghost use Rattle.fmp_base.specs.Ranges.{IsInRange};
 ghost use Rattle.fmp_base.specs.Setups.{created_state, first_contexts, setup};
+ghost use Rattle.fmp_base.specs.Settles.{is_same_task as runs_same, pending_handler};
+ghost use Rattle.fmp_base.specs.States.{processor_at};
 ghost use Rattle.fmp_base.specs.Steps.{Did, finished};
 ghost use Rattle.fmp_base.specs.Systems.{tables_of};
 ghost use Rattle.fmp_contexts.specs.Contexts.{Entered};
@@ -214,6 +217,18 @@ impl<B: Body> Runner<B> {
         self.lines.clear();
         self.lines.push_reserved(own);
         self.conclude();
+    }
+
+    /// Whether an event has caused nothing, and the single processor has nothing to settle.
+    #[inline(always)]
+    pub fn is_alone(&self) -> bool
+        ensures alone { result ≡ true → self.now.caused ≡ [] }
+        ensures single { result ≡ true → length self.now.world.state.processors ≡ 1 }
+        ensures none { result ≡ true → pending_handler self.now.system self.now.world.state 0 ≡ None }
+        ensures same { result ≡ true
+            → runs_same (processor_at self.now.world.state 0).run (top self.now.world.state 0) ≡ true }
+    {
+        self.caused.is_empty() && self.tables.processor_count() == 1 && !self.tables.is_marked(0)
     }
 
     /// Setup, where all objects have just been made: the tasks with TA_ACT start, in order of number, and all

@@ -31,6 +31,7 @@ fn is_free(lock: Lock) -> bool
 
 /// Whether some processor holds a spin lock.
 #[tactic(auto, using(crate::proofs::SpinLemmas::none_held))]
+#[inline(never)]
 fn is_lock_held(tables: &KernelState) -> bool
     ensures { result ≡ false → IsLockHeld tables.now.system tables.now.state → ⊥ }
 {
@@ -46,6 +47,7 @@ fn is_lock_held(tables: &KernelState) -> bool
 /// Whether the actor of processor p may find its spin lock held: it is a task, its processor is not locked, and some
 /// processor holds a spin lock. Otherwise no call of it spins.
 #[tactic(auto, using(crate::proofs::SpinLemmas::no_handler, crate::proofs::SpinLemmas::no_locks, crate::proofs::SpinLemmas::none_locked))]
+#[inline(always)]
 pub fn may_spin(tables: &KernelState, p: u8, who: Caller) -> bool
     requires { p < tables.now.system.processors }
     ensures { result ≡ false → MaySpin tables.now.system tables.now.state p who → ⊥ }

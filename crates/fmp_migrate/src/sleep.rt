@@ -15,6 +15,7 @@ use fmp_tasks::answers::{code, gives, replied};
 use fmp_tasks::tasks::{release, wait, wait_within};
 
 /// The caller takes a queued wakeup, or else sleeps within a limit.
+#[inline(always)]
 fn sleep(tables: &mut KernelState, me: u8, limit: TimeLimit) -> Answer
     requires caller { me < length tables.old.system.tasks }
     requires limit { IsTimeLimit limit }
@@ -33,6 +34,7 @@ fn sleep(tables: &mut KernelState, me: u8, limit: TimeLimit) -> Answer
 
 /// `slp_tsk`: the caller takes a queued wakeup and goes on with E_OK, or else waits for one without limit. It is never
 /// refused (uITRON 4.0, section 4.2).
+#[inline(always)]
 pub fn slp_tsk(tables: &mut KernelState, me: u8) -> Answer
     requires caller { me < length tables.old.system.tasks }
     ensures outcome { outcome result tables.new []
@@ -76,6 +78,7 @@ fn queue_wakeup(tables: &mut KernelState, t: u8, x: TaskBlock) -> Answer
 }
 
 /// Task t is woken: a sleeping one is released, for another that is not dormant a wakeup is queued.
+#[inline(always)]
 fn wake(tables: &mut KernelState, lines: &mut Vec<Line>, t: u8) -> Answer
     requires there { t < length tables.old.system.tasks }
     requires lines { AreEmptyWithRoom 1 lines.old }
@@ -97,6 +100,7 @@ fn wake(tables: &mut KernelState, lines: &mut Vec<Line>, t: u8) -> Answer
 /// `wup_tsk`: wakes up a task. A sleeping one is released with E_OK; for another a wakeup is queued. E_ID if no task
 /// has the number, where 0 (TSK_SELF) is the caller; E_OBJ if the task is dormant; E_QOVR if the queued wakeups are at
 /// the limit. What is refused changes nothing (uITRON 4.0, section 4.2).
+#[inline(always)]
 pub fn wup_tsk(tables: &mut KernelState, lines: &mut Vec<Line>, me: u8, task: i32) -> Answer
     requires caller { me < length tables.old.system.tasks }
     requires lines { AreEmptyWithRoom 1 lines.old }

@@ -23,6 +23,7 @@ fn semaphore_of(tables: &KernelState, number: i32) -> Option<u8>
 }
 
 /// The first task that waits for semaphore s is released; with none the count rises, or E_QOVR if it is the greatest.
+#[inline(always)]
 fn signal(tables: &mut KernelState, lines: &mut Vec<Line>, s: u8) -> Answer
     requires there { s < length tables.old.system.semaphores }
     requires lines { AreEmptyWithRoom 1 lines.old }
@@ -46,6 +47,7 @@ fn signal(tables: &mut KernelState, lines: &mut Vec<Line>, s: u8) -> Answer
 /// `sig_sem` and `isig_sem` (uITRON 4.0, section 4.4.1): the first waiting task is released with E_OK; with none the
 /// count rises by one. E_ID if the number names no semaphore, then E_QOVR if no task waits and the count is the
 /// greatest; nothing changes then.
+#[inline(always)]
 pub fn sig_sem(tables: &mut KernelState, lines: &mut Vec<Line>, semaphore: i32) -> Answer
     requires lines { AreEmptyWithRoom 1 lines.old }
     ensures outcome { outcome result tables.new lines.new.items
@@ -59,6 +61,7 @@ pub fn sig_sem(tables: &mut KernelState, lines: &mut Vec<Line>, semaphore: i32) 
 }
 
 /// Task me takes a resource of semaphore s where the count is above 0, else it waits within the limit.
+#[inline(always)]
 fn acquire(tables: &mut KernelState, me: u8, limit: TimeLimit, s: u8) -> Answer
     requires there { s < length tables.old.system.semaphores }
     requires me { me < length tables.old.system.tasks }
@@ -79,6 +82,7 @@ fn acquire(tables: &mut KernelState, me: u8, limit: TimeLimit, s: u8) -> Answer
 /// `wai_sem` and `pol_sem` by task me (uITRON 4.0, section 4.4.1): takes a resource where the count is above 0, else
 /// waits at the end of the order within the limit. E_ID if the number names no semaphore, then E_TMOUT if a poll finds
 /// the count 0; nothing changes then.
+#[inline(always)]
 pub fn wai_sem(tables: &mut KernelState, me: u8, limit: TimeLimit, semaphore: i32) -> Answer
     requires me { me < length tables.old.system.tasks }
     requires limit { IsTimeLimit limit }

@@ -136,6 +136,7 @@ pub fn wait(tables: &mut KernelState, t: u8, x: TaskBlock, cause: WaitCause, dea
 }
 
 /// The task waits within a limit; a poll fails and changes nothing.
+#[inline(always)]
 pub fn wait_within(
     tables: &mut KernelState,
     t: u8,

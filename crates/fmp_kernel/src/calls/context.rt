@@ -1,5 +1,5 @@
 //! The test of where a service is called from (uITRON 4.0, section 3.5; FMP kernel, spin locks).
-ghost use Rattle.std.specs.Prelude.{◌≡◌};
+ghost use Rattle.std.specs.Prelude.{◌≡◌, ◌||◌, not};
 ghost use Rattle.fmp_base.specs.declared.permissions.Permission.TheVariants as permissions;
 ghost use Rattle.fmp_base.specs.Permissions.{permission, is_barred as barred, is_caller as names_caller};
 ghost use Rattle.fmp_base.specs.Permissions.{is_on_caller as names_itself};
@@ -50,4 +50,12 @@ pub fn is_barred(cpu: &Processor, who: Caller, made: &Call) -> bool
         (Permission::Handlers, Caller::Handler(_)) => is_cpu_locked(cpu),
         (_, Caller::Handler(_)) => true,
     }
+}
+
+/// Whether a processor is open: its CPU is free, and its dispatching is enabled.
+#[inline(always)]
+pub fn is_open(cpu: &Processor) -> bool
+    ensures { result ≡ not (is_locked_processor cpu.now || cpu.now.dispatch_disabled) }
+{
+    !is_cpu_locked(cpu) && !cpu.dispatch_disabled
 }

@@ -59,6 +59,7 @@ impl KernelState {
     }
 
     /// The first task that waits in a queue, if any.
+    #[inline(always)]
     pub fn first_waiting(&self, queue: WaitQueue) -> Option<u8>
         requires { IsThere (counts_of self.now.system) queue }
         ensures value { result ≡ first_waiting self.now.system self.now.state queue }

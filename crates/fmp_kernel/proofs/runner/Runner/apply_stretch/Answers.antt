@@ -6,8 +6,8 @@ use Rattle.fmp_kernel.specs.KernelViews.{done_of, done_or, with_stretch}
 use Rattle.fmp_kernel.proofs.StopLemmas.{applies_as, done_free, ending_hands, stops_so}
 use Rattle.fmp_kernel.proofs.runner.Runner.apply_stretch.Goals as goal
 
-pub returns : goal.returns
-returns g c =
+pub returns-in_default : goal.returns-in_default
+returns-in_default g c =
     let r = c.args.self.now in
     let M = g.B.Body.meaning r.body in
     let x = ending c.args.stretch in

@@ -1,5 +1,5 @@
 use Rattle.fmp_c.proofs.Taken.{agreed_taken, objected_taken}
-use Rattle.fmp_c.proofs.machine.Machine.take.Goals as goal
+use Rattle.fmp_c.proofs.machine.Machine.take_inline.Goals as goal
 
 pub returns-in-None : goal.returns-in-None
 returns-in-None c =
