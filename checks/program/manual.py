@@ -26,7 +26,7 @@ from common.program import ROOT, located  # noqa: E402
 from common.tally import Tally  # noqa: E402
 
 PROGRAMS = {"fmp": "PROGRAM", "fmp_view": "VIEW"}  # with the word of the Makefile for each
-SPECS = ("crates/fmp_base/specs/Codes.antt", "crates/fmp_diagnosis/specs/Topics.antt")  # the codes as they are printed
+SPECS = ("fmp_base/specs/Codes.antt", "fmp_base/specs/Texts.antt", "fmp_diagnosis/specs/Topics.antt")  # they have codes
 REFERENCE = "share/doc/fmp/LANGUAGE.md"
 SECTIONS = ("Commands", "Arguments", "Options")
 
@@ -43,7 +43,8 @@ def files(name):
 
 def codes():
     """The codes that `fmp_view code` explains."""
-    return [code for specs in SPECS for code in re.findall(r'codes "(\w+)"', (ROOT / specs).read_text())]
+    texts = [(ROOT / "crates" / specs).read_text() for specs in SPECS]
+    return [code for text in texts for code in re.findall(r'codes "([A-Z](?:_\w+|\d))"', text)]
 
 
 def installed(name):
@@ -274,7 +275,7 @@ def fish(manual):
 # The checks
 
 def completed(name, *words):
-    """What bash completes these words to, behind the program's name."""
+    """What bash completes these words to, after the program's name."""
     script, words = ROOT / f"docs/completions/{name}.bash", [name, *words]
     given = f"COMP_WORDS=({' '.join(words)}); COMP_CWORD={len(words) - 1}"
     command = f'. "{script}"; {given}; _{name}; echo "${{COMPREPLY[@]}}"'

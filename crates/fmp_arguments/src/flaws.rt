@@ -90,6 +90,7 @@ fn add_fixed(known: &mut Vec<Name>, expects: Expects) -> Result<(), AllocError> 
         Expects::NeverEnd => add_names(known, &["after", "until"]),
         Expects::NeverEndOrBy => add_names(known, &["after", "until", "by"]),
         Expects::NeverEndOrAt => add_names(known, &["after", "until", "by", "at"]),
+        Expects::NeverEndOrPlace => add_names(known, &["after", "until", "at"]),
         Expects::UntilEnd => add_name(known, "until"),
         Expects::UntilEndOrBy => add_names(known, &["until", "by"]),
         _ => add_rarer(known, expects),

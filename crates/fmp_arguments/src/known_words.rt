@@ -1,6 +1,6 @@
 //! The words that are known where a word of a command line or of a text of expectations names none of them.
-use fmp_base::{Name, TaskConfig};
-use fmp_expect::{CODES, FAULTS};
+use fmp_base::{FAULTS, Name, TaskConfig};
+use fmp_expect::CODES;
 use std::alloc::{AllocError, Global};
 
 /// Adds a word, if it can be a name.

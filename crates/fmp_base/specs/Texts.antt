@@ -1,5 +1,6 @@
 -- The trace and the final task states as text, with the names of a system.
-use Rattle.std.specs.Prelude.{ℕ, ◌+◌, ℤ, List, [], ◌∷◌, ◌++◌, Option, Some, None, codes, decimal, length}
+use Rattle.std.specs.Prelude.{ℕ, ◌+◌, ℤ, List, [], ◌∷◌, ◌++◌, Option, Some, None, bytes_eq, codes, decimal, find}
+use Rattle.std.specs.Prelude.{length}
 use Rattle.std.specs.Fmt.{signed_decimal}
 use Rattle.fmp_base.specs.declared.bodies.Fault.{Fault}
 use Rattle.fmp_base.specs.declared.bodies.Fault.TheVariants.{Overflow, Division, Index}
@@ -64,6 +65,10 @@ abbrev pub fault_text : Fault → List ℕ
 fault_text Overflow = codes "F_OVF"
 fault_text Division = codes "F_DIV"
 fault_text Index = codes "F_IDX"
+
+-- the fault of this name
+abbrev pub fault_named : List ℕ → Option Fault
+fault_named word = find (λ fault. bytes_eq (fault_text fault) word) (Overflow ∷ Division ∷ Index ∷ [])
 
 -- the number of the processor at place p, with the blanks around it
 abbrev pub processor_text : ℕ → List ℕ

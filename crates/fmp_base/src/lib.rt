@@ -48,3 +48,4 @@ pub use systems::{
     MessageConfig, QUEUE_LIMIT, QueueOrder, SemaphoreConfig, SharedWordConfig, SpinLockConfig,
     System, TaskConfig,
 };
+pub use trace_words::FAULTS;

@@ -1,13 +1,33 @@
 //! The words that a trace has for faults and for the states of tasks.
-ghost use Rattle.std.specs.Prelude.{◌≡◌, ◌≤◌, length};
+ghost use Rattle.std.specs.Prelude.{◌≡◌, ◌≤◌, bytes_eq, find, length};
 ghost use Rattle.fmp_base.specs.Runs.{state_word};
-ghost use Rattle.fmp_base.specs.Texts.{fault_text, word_text};
+ghost use Rattle.fmp_base.specs.Texts.{fault_named, fault_text, word_text};
 
 use crate::bodies::Fault;
 use crate::events::StateWord;
 use crate::states::Phase;
 
+/// All faults of bodies.
+pub const FAULTS: [Fault; 3] = [Fault::Overflow, Fault::Division, Fault::Index];
+
+/// The first of these faults that has this name.
+fn fault_among(faults: &[Fault], word: &[u8]) -> Option<Fault>
+    ensures { result ≡ find (λ fault. bytes_eq (fault_text fault) word.now) faults.now }
+{
+    faults
+        .iter()
+        .copied()
+        .find(|fault| fault.name().as_bytes() == word)
+}
+
 impl Fault {
+    /// The fault that a trace writes so, if it is one.
+    pub fn named(word: &[u8]) -> Option<Fault>
+        ensures { result ≡ fault_named word.now }
+    {
+        fault_among(&FAULTS, word)
+    }
+
     /// The fault as a trace writes it.
     pub fn name(self) -> &'static str
         ensures value { result.now ≡ fault_text self }

@@ -4,8 +4,10 @@ use Rattle.std.specs.Prelude.{unsigned_abs}
 use Rattle.std.specs.Char.{to_ascii_lowercase, to_ascii_uppercase}
 use Rattle.std.specs.Fmt.{signed_decimal}
 use Rattle.std.specs.Str.{bytes_eq}
+use Rattle.fmp_base.specs.declared.bodies.Fault.TheVariants as fault
 use Rattle.fmp_base.specs.declared.codes.Er.{Er}
 use Rattle.fmp_base.specs.Codes.{code_name, code_of}
+use Rattle.fmp_base.specs.Texts.{fault_text}
 use Rattle.fmp_diagnosis.specs.declared.topics.Topic.{Topic}
 use Rattle.fmp_diagnosis.specs.declared.topics.Topic.TheVariants as topic
 use Rattle.fmp_diagnosis.specs.declared.topics.TheConstants.{TOPICS}
@@ -13,9 +15,9 @@ use Rattle.fmp_diagnosis.specs.declared.topics.TheConstants.{TOPICS}
 -- a code as it is printed
 abbrev pub topic_word : Topic → List ℕ
 topic_word (topic.Reply code) = code_name code
-topic_word topic.Overflow = codes "F_OVF"
-topic_word topic.Division = codes "F_DIV"
-topic_word topic.Index = codes "F_IDX"
+topic_word topic.Overflow = fault_text fault.Overflow
+topic_word topic.Division = fault_text fault.Division
+topic_word topic.Index = fault_text fault.Index
 topic_word topic.Syntax = codes "B1"
 topic_word topic.TwiceNamed = codes "B2"
 topic_word topic.UnknownName = codes "B3"

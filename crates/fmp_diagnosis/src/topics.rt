@@ -5,7 +5,7 @@ ghost use Rattle.fmp_diagnosis.specs.Topics as spec;
 ghost use Rattle.fmp_diagnosis.specs.Topics.{EveryTopicIsFound, is_numbered, topic_named, topic_word};
 ghost use Rattle.fmp_diagnosis.specs.Topics.{topic_asked as topic_asked_by};
 
-use fmp_base::Er;
+use fmp_base::{Er, Fault};
 use itoa::Buffer;
 use std::alloc::{AllocError, Global};
 
@@ -114,9 +114,9 @@ impl Topic {
     {
         match self {
             Topic::Reply(code) => code.name(),
-            Topic::Overflow => "F_OVF",
-            Topic::Division => "F_DIV",
-            Topic::Index => "F_IDX",
+            Topic::Overflow => Fault::Overflow.name(),
+            Topic::Division => Fault::Division.name(),
+            Topic::Index => Fault::Index.name(),
             Topic::Syntax => "B1",
             Topic::TwiceNamed => "B2",
             Topic::UnknownName => "B3",

@@ -45,17 +45,6 @@ pub struct Plan {
     ending: Vec<bool>,
 }
 
-/// Whether a cyclic handler is started.
-fn has_started<B: Body>(kernel: &Kernel<B>) -> bool {
-    let tables = kernel.tables();
-    for c in 0..tables.cyclic_count() as u8 {
-        if tables.due_time(c).is_some() {
-            return true;
-        }
-    }
-    false
-}
-
 impl Plan {
     /// The processors in turn; with a seed at random, and the clock and the interrupts between. `AllocError` if memory
     /// runs out.
@@ -91,7 +80,7 @@ impl Plan {
     pub fn is_due<B: Body>(&self, kernel: &Kernel<B>, tasks: u8) -> bool
         requires { tasks ≤ length kernel.now.system.tasks }
     {
-        if self.stirred || has_started(kernel) {
+        if self.stirred || kernel.tables().has_started_cyclic() {
             return true;
         }
         for t in 0..tasks {

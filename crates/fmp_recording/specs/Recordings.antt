@@ -4,10 +4,9 @@ use Rattle.std.specs.Prelude.{Some, None, Result, Ok, Err, Bool, ◌&&◌, if◌
 use Rattle.std.specs.Prelude.{codes, decimal, drop, get_or, map, position, take, zero}
 use Rattle.std.specs.Fmt.{signed_decimal}
 use Rattle.fmp_base.specs.declared.bodies.Fault.{Fault}
-use Rattle.fmp_base.specs.declared.bodies.Fault.TheVariants.{Overflow, Division, Index}
 use Rattle.fmp_base.specs.declared.services.Service.{Service}
 use Rattle.fmp_base.specs.Services.{arguments_of, arity, request, service_name, service_of}
-use Rattle.fmp_base.specs.Texts.{fault_text}
+use Rattle.fmp_base.specs.Texts.{fault_named, fault_text}
 use Rattle.fmp_base.specs.Words.{service_named}
 use Rattle.fmp_outside.specs.declared.given.Act.{Act}
 use Rattle.fmp_outside.specs.declared.given.Act.TheVariants as act
@@ -122,13 +121,6 @@ abbrev pub number_up_to : (most : ℕ) → Option ℤ → Result ℕ RecordingFl
 number_up_to most None = Err flaw.Form
 number_up_to most (Some (pos n)) = if nat_le 1 n && nat_le n most then Ok n else Err flaw.Range
 number_up_to most (Some (negsuc n)) = Err flaw.Range
-
-abbrev pub fault_named : List ℕ → Option Fault
-fault_named word =
-    if bytes_eq word (codes "F_OVF") then Some Overflow
-    else if bytes_eq word (codes "F_DIV") then Some Division
-    else if bytes_eq word (codes "F_IDX") then Some Index
-    else None
 
 -- the call of a service with these arguments
 abbrev pub call_with : Service → Option (List ℤ) → Option Act

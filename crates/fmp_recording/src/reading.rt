@@ -4,7 +4,7 @@ ghost use Rattle.std.specs.Prelude.{ℕ};
 ghost use Rattle.std.specs.Str.{bytes_eq};
 ghost use Rattle.fmp_base.specs.Words.{service_named};
 ghost use Rattle.fmp_recording.specs.Recordings.{IsFaultOf, act_in as spec_act, arguments_in, call_in as spec_call};
-ghost use Rattle.fmp_recording.specs.Recordings.{came, end_in as spec_end, fault_in as spec_fault, fault_named};
+ghost use Rattle.fmp_recording.specs.Recordings.{came, end_in as spec_end, fault_in as spec_fault};
 ghost use Rattle.fmp_recording.specs.Recordings.{given_in as spec_given, in_front_of, int_in as spec_int};
 ghost use Rattle.fmp_recording.specs.Recordings.{is_restart as spec_restart, line_meaning, line_times};
 ghost use Rattle.fmp_recording.specs.Recordings.{recorded_at as spec_at, recorded_in as spec_recorded, recorded_of};
@@ -25,18 +25,6 @@ pub const MOST_LINES: u32 = 1 << 31;
 
 /// The greatest number of an interrupt.
 const INTERRUPTS: u8 = 32;
-
-/// The fault of this name.
-fn find_fault(word: &[u8]) -> Option<Fault>
-    ensures { result ≡ fault_named word.now }
-{
-    match word {
-        b"F_OVF" => Some(Fault::Overflow),
-        b"F_DIV" => Some(Fault::Division),
-        b"F_IDX" => Some(Fault::Index),
-        _ => None,
-    }
-}
 
 /// The first argument of those that are left, after its blank, and what is left after it.
 #[tactic(auto, using(crate::proofs::LineByLine::no_argument, crate::proofs::LineByLine::bad_argument))]
@@ -85,7 +73,7 @@ fn fault_in(rest: &[u8]) -> Option<Act>
     let [_, word @ ..] = rest else {
         return None;
     };
-    Some(Act::Fault(find_fault(word)?))
+    Some(Act::Fault(Fault::named(word)?))
 }
 
 /// An end, if nothing stands after it.

@@ -1,5 +1,6 @@
 //! The clock, and the handlers that are due or pending.
-ghost use Rattle.std.specs.Prelude.{◌≡◌, ◌+◌, ◌<◌, ◌≤◌, ◌^◌, length, map, slice_get, IfSome, None};
+ghost use Rattle.std.specs.Prelude.{◌≡◌, ◌+◌, ◌<◌, ◌≤◌, ◌^◌, is_some, length, map, slice_get, IfSome, None};
+ghost use Rattle.std.specs.List.{list_any};
 ghost use Rattle.fmp_base.specs.ProcessorCalls.{with_due};
 ghost use Rattle.fmp_base.specs.Settles.{pending_handler, without_pending};
 ghost use Rattle.fmp_base.specs.Systems.{found};
@@ -82,6 +83,13 @@ impl KernelState {
         ensures { result ≡ found None (slice_get self.now.state.due_times c) }
     {
         self.cyclics.due_time(c)
+    }
+
+    /// Whether a cyclic handler is started.
+    pub fn has_started_cyclic(&self) -> bool
+        ensures { result ≡ list_any is_some self.now.state.due_times }
+    {
+        self.cyclics.has_started()
     }
 
     /// A cyclic handler is due when the clock is this, which lies after now, or no longer.
