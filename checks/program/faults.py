@@ -378,8 +378,8 @@ SOURCES = [
     ("task deep {\nput([64 times: 1+(]1[64 times: )]); }", 1, 1, 4, "B5", DEEP_BODY),
 ]
 
-INCLUDED = ("expected `NUM_PRC`, found the name `INCLUDE`; no file is included, but `fmp_view import` makes one "
-            "configuration of several")
+INCLUDED = ("expected `NUM_PRC`, found the name `INCLUDE`; no file is included; `fmp_view import` reads a "
+            "configuration of TOPPERS")
 COUNT = "the initial count of `CRE_SEM` is 2; it must be 0 to 1"
 PATTERN = "the attribute of `CRE_FLG` is 8; it must be " + FLAG
 UNKNOWN = "is neither a variable of this body, an object nor a constant"
@@ -446,7 +446,7 @@ SEVERAL = [
      ("t.src", 5, 1, 4, "B1",
       "expected a statement or `}`, found `task`; the `{` at line 1 is not closed"),
      ("t.src", 5, 14, 1, "B3", "`y` " + UNKNOWN)),
-    # An entry without a body comes last, with those behind it.
+    # An entry without a body comes last, with those after it.
     (ONE + "\nCRE_TSK(T, { 0, 0, gone, 1, 64, NULL });\nCRE_TSK(U, { 0, 0, lost, 1, 64, NULL }); }",
      "task m { act_tsk(T); }",
      ("t.cfg", 2, 20, 4, "B3", "no body of the task text has the name `gone`"),
@@ -586,7 +586,7 @@ WARNINGS = [
      ("t.src", 3, 15, 2, MIXED),
      ("t.src", 5, 11, 1, MIXED),
      ("t.src", 6, 30, 2, MIXED)),
-    # Statements behind a jump.
+    # Statements after a jump.
     (TASK + " }",
      "task m {\n    while (exinf) {\n        if (exinf == 1) { break; put(1); }\n        continue;\n        put(2);\n"
      "    }\n    if (exinf) { ext_tsk(); put(3); }\n    return;\n    put(4);\n}\n",

@@ -28,7 +28,7 @@ static IN_CONFIGURATIONS: [Habit; 10] = [
     Habit(
         "`NUM_PRC`",
         &["INCLUDE"],
-        "; no file is included, but `fmp_view import` makes one configuration of several",
+        "; no file is included; `fmp_view import` reads a configuration of TOPPERS",
     ),
     Habit(
         "`CLASS` or",

@@ -15,11 +15,11 @@ pub struct Importing<'a> {
     pub out: Option<&'a str>,
 }
 
-/// The name of a file that stands beside another one.
+/// The name of a file that another one names: it stands beside that, unless its name begins at the root.
 fn name_beside(alloc: Global, cfg: &str, name: &str) -> Result<String, AllocError> {
-    match cfg.rsplit_once('/') {
-        Some((folder, _)) => format!(in alloc; "{folder}/{name}"),
-        None => String::from_str(alloc, name),
+    match (name.as_bytes(), cfg.rsplit_once('/')) {
+        ([b'/', ..], _) | (_, None) => String::from_str(alloc, name),
+        (_, Some((folder, _))) => format!(in alloc; "{folder}/{name}"),
     }
 }
 
@@ -125,6 +125,40 @@ fn say_bytes<O: Outside>(alloc: Global, outside: &mut O, bytes: &[u8]) {
     }
 }
 
+/// Whether the file that is written is one that a configuration includes.
+fn is_over_header<O: Outside>(
+    alloc: Global,
+    outside: &O,
+    importing: Importing<'_>,
+    text: &[u8],
+) -> Result<bool, AllocError> {
+    let Some(out) = importing.out else {
+        return Ok(false);
+    };
+    for name in &included(alloc, text)? {
+        let beside = name_beside(alloc, importing.cfg, name.as_str())?;
+        if outside.is_one_file(out, beside.as_str()) {
+            return Ok(true);
+        }
+    }
+    Ok(false)
+}
+
+/// Imports a text with these constants, unless that would replace a file that it includes, and gives the status.
+fn import_read<O: Outside>(
+    alloc: Global,
+    outside: &mut O,
+    importing: Importing<'_>,
+    text: &[u8],
+    constants: Constants,
+) -> u8 {
+    match is_over_header(alloc, outside, importing, text) {
+        Ok(true) => refuse_mistake(outside, out_over_configuration(alloc)),
+        Ok(false) => import_text(alloc, outside, importing, text, constants),
+        Err(error) => end(outside, &Failure::Memory(error)),
+    }
+}
+
 /// Imports a configuration with these constants, and gives the status.
 fn import_file<O: Outside>(
     alloc: Global,
@@ -133,7 +167,7 @@ fn import_file<O: Outside>(
     constants: Constants,
 ) -> u8 {
     match read_file(alloc, outside, importing.cfg, None) {
-        Ok(text) => import_text(alloc, outside, importing, &text, constants),
+        Ok(text) => import_read(alloc, outside, importing, &text, constants),
         Err(failure) => end(outside, &failure),
     }
 }

@@ -34,7 +34,7 @@ const NO_CONSTANT: &str =
     "--define wants NAME=VALUE, where VALUE is a number or made of known constants";
 
 /// The message for a configuration that would replace the one that is read.
-const OUT_OVER_CONFIGURATION: &str = "the file OUT is the one that is read";
+const OUT_OVER_CONFIGURATION: &str = "the file OUT is one of those that are read";
 
 /// The message for a picture that ends before it begins.
 const FROM_AFTER_TO: &str = "--from is later than --to";
@@ -80,7 +80,7 @@ pub fn no_constant(alloc: Global) -> Result<Error, AllocError> {
     mistake_of(import_command(alloc), "fmp_view import", NO_CONSTANT)
 }
 
-/// The error for a configuration that would replace the one that is read, which has the status 2.
+/// The error for a configuration that would replace a file that is read, which has the status 2.
 pub fn out_over_configuration(alloc: Global) -> Result<Error, AllocError> {
     mistake_of(
         import_command(alloc),
