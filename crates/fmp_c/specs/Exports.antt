@@ -16,7 +16,7 @@ use Rattle.fmp_lex.specs.declared.fault.BuildFault.{BuildFault}
 use Rattle.fmp_lex.specs.declared.fault.BuildFault.TheVariants as build
 use Rattle.fmp_lex.specs.declared.fault.FaultKind.{FaultKind}
 use Rattle.fmp_lex.specs.declared.fault.FaultKind.TheVariants as kind
-use Rattle.fmp_lex.specs.declared.place.Place.{Place}
+use Rattle.fmp_lex.specs.declared.position.TokenPosition.{TokenPosition}
 use Rattle.fmp_foreign.specs.declared.requests.Refusal.{Refusal}
 use Rattle.fmp_foreign.specs.declared.requests.Refusal.TheVariants as refusal
 use Rattle.fmp_foreign.specs.Hosting.{ForeignKernel, IsNew, after, answer, refused, restarted}
@@ -60,7 +60,7 @@ kind_code (kind.Api code) = code_of code
 kind_code k = pos 0
 
 -- the record of a fault
-abbrev pub refusal_of : Place → FaultKind → FmpRefusal
+abbrev pub refusal_of : TokenPosition → FaultKind → FmpRefusal
 refusal_of place why = record { line = place.line; kind = kind_number why; code = kind_code why }
 
 -- what C is told where there is no system: the fault of the text, or that memory ran out

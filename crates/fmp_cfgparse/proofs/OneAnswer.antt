@@ -12,7 +12,7 @@ use Rattle.fmp_lex.specs.declared.reading.GrammarFault.TheVariants.{Syntax, Dept
 use Rattle.fmp_lex.specs.declared.token.Token.{Token}
 use Rattle.fmp_lex.specs.declared.token.TokenKind.{TokenKind}
 use Rattle.fmp_lex.specs.Faults.{Spells, IsSyntaxFault, fault_of, offence_fault}
-use Rattle.fmp_lex.specs.Places.{text_end}
+use Rattle.fmp_lex.specs.Positions.{text_end}
 use Rattle.fmp_lex.specs.Reading.{Rel, kinds_of, IsWhole, Begins, IsFirstFault}
 use Rattle.fmp_lex.proofs.Sequences.{Framed}
 use Rattle.fmp_lex.proofs.Unique.{cuts_unique}

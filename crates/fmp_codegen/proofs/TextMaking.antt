@@ -17,10 +17,10 @@ use Rattle.fmp_lex.specs.declared.token.TextFault.TheVariants as text_fault
 use Rattle.fmp_lex.specs.declared.token.Token.{Token}
 use Rattle.fmp_lex.specs.declared.token.TokenKind.{TokenKind}
 use Rattle.fmp_lex.specs.declared.token.TokenList.{TokenList}
-use Rattle.fmp_lex.specs.declared.place.Place.{Place}
+use Rattle.fmp_lex.specs.declared.position.TokenPosition.{TokenPosition}
 use Rattle.fmp_lex.specs.Cutting.{Cuts}
 use Rattle.fmp_lex.specs.Faults.{Spells, text_max, fault_of, IsSyntaxFault}
-use Rattle.fmp_lex.specs.Places.{text_end}
+use Rattle.fmp_lex.specs.Positions.{text_end}
 use Rattle.fmp_lex.specs.Reading.{ParseResult, stopped, Answers, kinds_of, IsFirstFault}
 use Rattle.fmp_lex.proofs.Wholes.{whole_stopped}
 use Rattle.fmp_tasklang.specs.Grammar.{Bodies}
@@ -177,7 +177,7 @@ text-fault : (tables : SystemTables) (text : List ℕ) (f : BuildFault) → IsSy
 text-fault tables text build.Memory x = tt
 text-fault tables text (build.At f place why) x = inl x
 
-pub text-stopped : (tables : SystemTables) (text : List ℕ) (ts : List Token) (j : ℕ) (end : Place)
+pub text-stopped : (tables : SystemTables) (text : List ℕ) (ts : List Token) (j : ℕ) (end : TokenPosition)
     (why : GrammarFault) (f : BuildFault) → length text ≤ text_max →
     Cuts text 0 ts → IsFirstFault Bodies (kinds_of ts) j why → end ≡ text_end text → f
     ≡ fault_of file.Source end (slice_get ts j) why →

@@ -6,8 +6,8 @@ use Rattle.fmp_json.specs.Members.{number_member, object_line, text_member}
 use Rattle.fmp_diagnosis.specs.declared.reports.FaultReport.{FaultReport}
 
 -- where a finding stands, under the name of its file
-abbrev pub place_members : (name : List ℕ) → FaultReport → List Token
-place_members name f =
+abbrev pub position_members : (name : List ℕ) → FaultReport → List Token
+position_members name f =
     text_member (codes "file") name
     ++ number_member (codes "line") f.line
     ++ number_member (codes "column") f.excerpt.column
@@ -16,7 +16,7 @@ place_members name f =
 -- all members of a finding of this code and with this sentence
 abbrev pub members : (name : List ℕ) → FaultReport → (code sentence : List ℕ) → List Token
 members name f code sentence =
-    place_members name f ++ text_member (codes "code") code ++ text_member (codes "sentence") sentence
+    position_members name f ++ text_member (codes "code") code ++ text_member (codes "sentence") sentence
 
 -- a finding of the text of a file of this name, as an object in one line
 abbrev pub record_text : (name : List ℕ) → FaultReport → List ℕ

@@ -7,7 +7,7 @@ use Rattle.fmp_lex.specs.declared.fault.FaultKind.{FaultKind}
 use Rattle.fmp_lex.specs.declared.fault.FaultKind.TheVariants as fault
 use Rattle.fmp_lex.specs.declared.fault.TextFile.{TextFile}
 use Rattle.fmp_lex.specs.declared.fault.TextFile.TheVariants as file
-use Rattle.fmp_lex.specs.declared.place.Place.{Place}
+use Rattle.fmp_lex.specs.declared.position.TokenPosition.{TokenPosition}
 use Rattle.fmp_diagnosis.specs.declared.excerpt.Excerpt.{Excerpt}
 use Rattle.fmp_diagnosis.specs.declared.reports.FaultReport.{FaultReport}
 use Rattle.fmp_diagnosis.specs.declared.sentence.Texts.{Texts}
@@ -63,9 +63,9 @@ abbrev pub column_behind : (column at end : ℕ) → ℕ
 column_behind column at end = column + max (end - at) 1
 
 -- What is said of a fault of a text: where it is shown, its code, and some sentence.
-pub record IsFinding (text : List ℕ) (place : Place) (kind : FaultKind) (f : FaultReport) : Type 0 where
-  pub culprit : Place
-  pub is_culprit : IsCulprit text place kind culprit
+pub record IsFinding (text : List ℕ) (position : TokenPosition) (kind : FaultKind) (f : FaultReport) : Type 0 where
+  pub culprit : TokenPosition
+  pub is_culprit : IsCulprit text position kind culprit
   pub line : f.line ≡ culprit.line
   pub shows : IsExcerpt text (min culprit.start (length text)) culprit.end f.excerpt
   pub end : f.end ≡ column_behind f.excerpt.column (min culprit.start (length text)) culprit.end
@@ -74,10 +74,10 @@ pub record IsFinding (text : List ℕ) (place : Place) (kind : FaultKind) (f : F
   pub said : 0 < length f.sentence.items
 
 -- What is said of what is legal at a place of a text, but usually a mistake.
-pub record IsWarning (text : List ℕ) (place : Place) (sentence : List ℕ) (f : FaultReport) : Type 0 where
-  pub line : f.line ≡ place.line
-  pub shows : IsExcerpt text (min place.start (length text)) place.end f.excerpt
-  pub end : f.end ≡ column_behind f.excerpt.column (min place.start (length text)) place.end
+pub record IsWarning (text : List ℕ) (position : TokenPosition) (sentence : List ℕ) (f : FaultReport) : Type 0 where
+  pub line : f.line ≡ position.line
+  pub shows : IsExcerpt text (min position.start (length text)) position.end f.excerpt
+  pub end : f.end ≡ column_behind f.excerpt.column (min position.start (length text)) position.end
   pub code : f.code.now ≡ codes "warning"
   pub refusal : f.refusal.now ≡ []
   pub sentence_is : f.sentence.items ≡ sentence

@@ -3,7 +3,7 @@ ghost use Rattle.std.specs.Prelude.{◌≡◌, ◌-◌, length, min, slice_range
 ghost use Rattle.fmp_diagnosis.specs.Culprits.{HasTokens};
 
 use fmp_base::Name;
-use fmp_lex::{Keyword, Place, TokenKind, TokenList, Tokens, tokens};
+use fmp_lex::{Keyword, TokenKind, TokenList, TokenPosition, Tokens, tokens};
 use std::alloc::{AllocError, Global};
 
 /// The greatest number of bytes of a text that is cut into tokens.
@@ -31,7 +31,11 @@ pub struct Around<'a> {
 }
 
 /// The text around a place.
-pub fn around_place<'a>(alloc: Global, text: &'a [u8], at: usize) -> Result<Around<'a>, AllocError>
+pub fn around_position<'a>(
+    alloc: Global,
+    text: &'a [u8],
+    at: usize,
+) -> Result<Around<'a>, AllocError>
     ensures { IfOk result (λ around.
         HasTokens (slice_range text.now 0 (min at (length text.now))) around.before.tokens) }
 {
@@ -52,20 +56,20 @@ impl<'a> Around<'a> {
 
     /// Whether the token before the place stands in the same line.
     pub fn is_in_line(&self) -> bool {
-        self.last_place()
-            .is_some_and(|place| place.line == self.before.end.line)
+        self.last_position()
+            .is_some_and(|position| position.line == self.before.end.line)
     }
 
     /// Whether the token before the place ends there.
     pub fn is_joined(&self) -> bool {
-        self.last_place()
-            .is_some_and(|place| place.end == self.before.end.start)
+        self.last_position()
+            .is_some_and(|position| position.end == self.before.end.start)
     }
 
     /// Where the token before the place stands.
-    fn last_place(&self) -> Option<Place> {
+    fn last_position(&self) -> Option<TokenPosition> {
         let at = self.before.tokens.len().checked_sub(1)?;
-        self.before.tokens.place(at)
+        self.before.tokens.position(at)
     }
 
     /// The token this far before the place, 1 for the last one.
@@ -106,7 +110,7 @@ pub fn name_at(tokens: &Tokens<'_>, at: usize) -> Option<Name> {
 
 /// The line of the token at a place, from 1.
 pub fn line_of(tokens: &Tokens<'_>, at: usize) -> Option<u32> {
-    Some(tokens.place(at)?.line)
+    Some(tokens.position(at)?.line)
 }
 
 /// Whether two names have the same letters.

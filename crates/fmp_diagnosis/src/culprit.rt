@@ -4,12 +4,12 @@ ghost use Rattle.fmp_diagnosis.specs.Culprits as spec;
 ghost use Rattle.fmp_diagnosis.specs.Culprits.{HasTokens, IsCulprit};
 
 use crate::apis::{api_at, begin_of, unknown_constant_place, value_last};
-use crate::around::{Around, around_place, list_of};
+use crate::around::{Around, around_position, list_of};
 use crate::fields::Field;
 use crate::refusals::field_refused;
 use crate::syntax::{is_due_to_word_before, wants_semicolon};
 use fmp_lex::laws::a_text_has_one_cut;
-use fmp_lex::{Api, FaultKind, Place, TextFile, Tokens};
+use fmp_lex::{Api, FaultKind, TextFile, TokenPosition, Tokens};
 use std::alloc::{AllocError, Global};
 
 /// Where a fault is shown.
@@ -27,12 +27,12 @@ pub enum Aim {
 }
 
 /// From the first byte of one token to the last of another in its line.
-fn joined(tokens: &Tokens<'_>, first: usize, last: usize) -> Option<Place>
-    ensures { result ≡ spec.joined (spec.place_at tokens.now first) (spec.place_at tokens.now last) }
+fn joined(tokens: &Tokens<'_>, first: usize, last: usize) -> Option<TokenPosition>
+    ensures { result ≡ spec.joined (spec.position_at tokens.now first) (spec.position_at tokens.now last) }
 {
-    let from = tokens.place(first)?;
-    let to = tokens.place(last)?;
-    Some(Place {
+    let from = tokens.position(first)?;
+    let to = tokens.position(last)?;
+    Some(TokenPosition {
         line: from.line,
         start: from.start,
         end: if to.line == from.line {
@@ -44,25 +44,25 @@ fn joined(tokens: &Tokens<'_>, first: usize, last: usize) -> Option<Place>
 }
 
 /// After the last byte of a token.
-fn behind(tokens: &Tokens<'_>, at: usize) -> Option<Place>
-    ensures { result ≡ option_map spec.behind (spec.place_at tokens.now at) }
+fn behind(tokens: &Tokens<'_>, at: usize) -> Option<TokenPosition>
+    ensures { result ≡ option_map spec.behind (spec.position_at tokens.now at) }
 {
-    let place = tokens.place(at)?;
-    Some(Place {
-        line: place.line,
-        start: place.end,
-        end: place.end,
+    let position = tokens.position(at)?;
+    Some(TokenPosition {
+        line: position.line,
+        start: position.end,
+        end: position.end,
     })
 }
 
 impl Aim {
     /// Where it leads from the token at a place; nowhere if there is no such token.
-    fn place(self, tokens: &Tokens<'_>, at: usize) -> Option<Place>
+    fn position(self, tokens: &Tokens<'_>, at: usize) -> Option<TokenPosition>
         ensures { result ≡ spec.aimed tokens.now at self }
     {
         match self {
             Aim::Here => None,
-            Aim::Before => tokens.place(at.saturating_sub(1)),
+            Aim::Before => tokens.position(at.saturating_sub(1)),
             Aim::Behind => behind(tokens, at.saturating_sub(1)),
             Aim::Tokens(first, last) => joined(tokens, first, last),
         }
@@ -147,22 +147,22 @@ pub(crate) fn culprit_around(
     text: &[u8],
     file: TextFile,
     around: &Around<'_>,
-    place: Place,
+    position: TokenPosition,
     kind: FaultKind,
-) -> Result<Place, AllocError>
-    requires { HasTokens (slice_range text.now 0 (min place.start (length text.now))) around.now.before.tokens }
-    ensures { IfOk result (IsCulprit text.now place kind) }
+) -> Result<TokenPosition, AllocError>
+    requires { HasTokens (slice_range text.now 0 (min position.start (length text.now))) around.now.before.tokens }
+    ensures { IfOk result (IsCulprit text.now position kind) }
 {
     match aim_of(alloc, file, around, kind)? {
         Aim::Here => {
             // The text has tokens, which are not looked at.
             a_text_has_one_cut();
-            Ok(place)
+            Ok(position)
         }
         aim => {
             let list = list_of(alloc, text)?;
             let at = around.before.tokens.len();
-            Ok(aim.place(&list.tokens, at).unwrap_or(place))
+            Ok(aim.position(&list.tokens, at).unwrap_or(position))
         }
     }
 }
@@ -172,11 +172,11 @@ pub fn culprit_of(
     alloc: Global,
     text: &[u8],
     file: TextFile,
-    place: Place,
+    position: TokenPosition,
     kind: FaultKind,
-) -> Result<Place, AllocError>
-    ensures { IfOk result (IsCulprit text.now place kind) }
+) -> Result<TokenPosition, AllocError>
+    ensures { IfOk result (IsCulprit text.now position kind) }
 {
-    let around = around_place(alloc, text, place.start as usize)?;
-    culprit_around(alloc, text, file, &around, place, kind)
+    let around = around_position(alloc, text, position.start as usize)?;
+    culprit_around(alloc, text, file, &around, position, kind)
 }

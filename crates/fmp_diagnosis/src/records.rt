@@ -9,9 +9,9 @@ use json::Writer;
 use std::alloc::{AllocError, Global};
 
 /// Writes where a finding stands, under the name of its file.
-fn write_place(writer: &mut Writer, name: &str, finding: &FaultReport) -> Result<(), AllocError>
+fn write_position(writer: &mut Writer, name: &str, finding: &FaultReport) -> Result<(), AllocError>
     ensures before { writer.new.before ≡ writer.old.before }
-    ensures tokens { OnOk result (writer.new.tokens ≡ writer.old.tokens ++ spec.place_members name.now finding.now) }
+    ensures tokens { OnOk result (writer.new.tokens ≡ writer.old.tokens ++ spec.position_members name.now finding.now) }
 {
     text_member(writer, "file", name)?;
     number_member(writer, "line", u64::from(finding.line))?;
@@ -31,7 +31,7 @@ fn write_members(
     ensures tokens { OnOk result (writer.new.tokens
         ≡ writer.old.tokens ++ spec.members name.now finding.now code.now sentence.now) }
 {
-    write_place(writer, name, finding)?;
+    write_position(writer, name, finding)?;
     text_member(writer, "code", code)?;
     text_member(writer, "sentence", sentence)
 }

@@ -3,11 +3,11 @@ ghost use Rattle.std.specs.Prelude.{◌≡◌, ◌++◌, ◌+◌, ◌-◌, ◌^�
 ghost use Rattle.fmp_diagnosis.specs.Reports as spec;
 ghost use Rattle.fmp_diagnosis.specs.Reports.{IsFinding};
 
-use crate::around::{Around, around_place};
+use crate::around::{Around, around_position};
 use crate::culprit::culprit_around;
 use crate::excerpt::{Excerpt, excerpt_at};
 use crate::sentence::{Texts, say_kind};
-use fmp_lex::{FaultKind, Place, TextFile};
+use fmp_lex::{FaultKind, TextFile, TokenPosition};
 use itoa::Buffer;
 use std::alloc::{AllocError, Global};
 
@@ -173,14 +173,14 @@ pub fn finding_at(
     alloc: Global,
     texts: Texts<'_>,
     file: TextFile,
-    place: Place,
+    position: TokenPosition,
     kind: FaultKind,
 ) -> Result<FaultReport, AllocError>
-    ensures { IfOk result (IsFinding (spec.text_of texts.entry file) place kind) }
+    ensures { IfOk result (IsFinding (spec.text_of texts.entry file) position kind) }
 {
     let text = texts.of(file);
-    let around = around_place(alloc, text, place.start as usize)?;
-    let culprit = culprit_around(alloc, text, file, &around, place, kind)?;
+    let around = around_position(alloc, text, position.start as usize)?;
+    let culprit = culprit_around(alloc, text, file, &around, position, kind)?;
     let at = (culprit.start as usize).min(text.len());
     let excerpt = excerpt_at(alloc, text, at, culprit.end as usize)?;
     let sentence = sentence_of(alloc, texts, file, &around, kind)?;

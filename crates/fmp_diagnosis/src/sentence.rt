@@ -3,7 +3,7 @@ ghost use Rattle.std.specs.Prelude.{◌≡◌, OnOk};
 ghost use Rattle.fmp_diagnosis.specs.Reports.{text_of};
 ghost use Rattle.fmp_diagnosis.specs.Words.{IsSaid};
 
-use crate::around::{Around, around_place};
+use crate::around::{Around, around_position};
 use crate::limits::say_limit;
 use crate::names::{say_shape, say_twice, say_unknown};
 use crate::refusals::{say_refusal, say_small_stack, say_wrong_kind};
@@ -45,7 +45,7 @@ pub fn say_fault(
 ) -> Result<(), AllocError>
     ensures { OnOk result (IsSaid out.old.items out.new.items) }
 {
-    let around = around_place(alloc, texts.of(file), at)?;
+    let around = around_position(alloc, texts.of(file), at)?;
     say_kind(alloc, texts, file, &around, kind, out)
 }
 

@@ -77,7 +77,7 @@ fn put_call_text(row: Row<'_>, x: Tenths, text: &Canvas, out: &mut Canvas) {
 /// A call of a lane, and where it can be named: its own room, after the lane's call before it, and all that the
 /// stretch has.
 #[derive(Clone, Copy)]
-struct CallPlace {
+struct CallLabel {
     made: CallMade,
     own: Tenths,
     least: Tenths,
@@ -86,7 +86,7 @@ struct CallPlace {
 /// The name of a call where it fits: in its own room, or from there on to the left, if it is named first.
 fn put_name(
     row: Row<'_>,
-    place: &CallPlace,
+    place: &CallLabel,
     taken: &mut Vec<TakenPixels>,
     out: &mut Canvas,
 ) -> Result<(), AllocError> {
@@ -106,7 +106,7 @@ fn put_name(
 /// The names of the calls that are named first, or of the others.
 fn put_names(
     row: Row<'_>,
-    places: &[CallPlace],
+    places: &[CallLabel],
     first: bool,
     taken: &mut Vec<TakenPixels>,
     out: &mut Canvas,
@@ -129,7 +129,7 @@ fn stretch_left(span: &PanelSpan, start: u32) -> Tenths {
 }
 
 /// The calls of a lane in a panel, each with its place.
-fn places_of(row: Row<'_>) -> Result<Vec<CallPlace>, AllocError> {
+fn places_of(row: Row<'_>) -> Result<Vec<CallLabel>, AllocError> {
     let mut places = Vec::new(row.scene.alloc);
     let mut previous = Tenths(0);
     for made in calls_of(row) {
@@ -137,7 +137,7 @@ fn places_of(row: Row<'_>) -> Result<Vec<CallPlace>, AllocError> {
             let left = stretch_left(row.span, start);
             let own = previous.or_more(left);
             let least = if made.is_named_first() { left } else { own };
-            places.push(CallPlace {
+            places.push(CallLabel {
                 made: *made,
                 own,
                 least,
@@ -149,7 +149,7 @@ fn places_of(row: Row<'_>) -> Result<Vec<CallPlace>, AllocError> {
 }
 
 /// What is pointed at for each of these calls.
-fn put_areas(row: Row<'_>, places: &[CallPlace], out: &mut Canvas) {
+fn put_areas(row: Row<'_>, places: &[CallLabel], out: &mut Canvas) {
     for place in places {
         let event = place.made.event;
         let area = Rect {

@@ -57,7 +57,7 @@ fn token_at(tokens: &Tokens<'_>, at: usize) -> Option<Token>
     ensures { result ≡ slice_get tokens.now at }
 {
     let kind = tokens.kind(at)?;
-    let place = tokens.place(at)?;
+    let place = tokens.position(at)?;
     Some(Token {
         kind,
         line: place.line,

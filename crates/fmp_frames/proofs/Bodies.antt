@@ -2,28 +2,29 @@
 use Rattle.std.proofs.Common.{◌≡◌, ℕ, suc, zero, ◌+◌, ◌<◌, List, [], ◌∷◌, ◌++◌, length, drop, slice_get, false, cond}
 use Rattle.std.proofs.Common.{option_map, unwrap_or, refl, ap, ◌∙◌, arith}
 use Rattle.fmp_lex.specs.declared.token.Token.{Token}
-use Rattle.fmp_frames.specs.CallPlaces.{bodies_in, body_at, call_place_at, call_places, head_at, is_service, place_at}
+use Rattle.fmp_frames.specs.CallPositions.{bodies_in, body_at, call_position_at, call_positions, head_at, is_service}
+use Rattle.fmp_frames.specs.CallPositions.{position_at}
 
 next : (i : ℕ) → suc (i + 1) ≡ suc i + 1
 next i = omega arith
 
-pub call_place_by : (begins : List ℕ) (ts : List Token) (i : ℕ)
-    → call_place_at begins ts i
-    ≡ cond (unwrap_or (option_map (λ t. is_service t.kind) (slice_get ts i)) false) (place_at begins ts i ∷ []) []
-call_place_by begins [] i = refl
-call_place_by begins (t ∷ ts) zero = refl
-call_place_by begins (t ∷ ts) (suc i) = call_place_by begins ts i
+pub call_position_by : (begins : List ℕ) (ts : List Token) (i : ℕ)
+    → call_position_at begins ts i
+    ≡ cond (unwrap_or (option_map (λ t. is_service t.kind) (slice_get ts i)) false) (position_at begins ts i ∷ []) []
+call_position_by begins [] i = refl
+call_position_by begins (t ∷ ts) zero = refl
+call_position_by begins (t ∷ ts) (suc i) = call_position_by begins ts i
 
-pub call_places_at : (begins : List ℕ) (ts : List Token) (i : ℕ)
-    → call_places begins (drop i ts)
-    ≡ cond (head_at ts i) [] (call_place_at begins ts i ++ call_places begins (drop (i + 1) ts))
-call_places_at begins [] zero = refl
-call_places_at begins [] (suc i) = ap (λ (k : ℕ). call_places begins (drop k [])) (next i)
-call_places_at begins (t ∷ ts) zero = refl
-call_places_at begins (t ∷ ts) (suc i) =
-    call_places_at begins ts i
+pub call_positions_at : (begins : List ℕ) (ts : List Token) (i : ℕ)
+    → call_positions begins (drop i ts)
+    ≡ cond (head_at ts i) [] (call_position_at begins ts i ++ call_positions begins (drop (i + 1) ts))
+call_positions_at begins [] zero = refl
+call_positions_at begins [] (suc i) = ap (λ (k : ℕ). call_positions begins (drop k [])) (next i)
+call_positions_at begins (t ∷ ts) zero = refl
+call_positions_at begins (t ∷ ts) (suc i) =
+    call_positions_at begins ts i
     ∙ ap
-    (λ k. cond (head_at ts i) [] (call_place_at begins ts i ++ call_places begins (drop k (t ∷ ts))))
+    (λ k. cond (head_at ts i) [] (call_position_at begins ts i ++ call_positions begins (drop k (t ∷ ts))))
     (next i)
 
 pub bodies_in_at : (begins : List ℕ) (ts : List Token) (i : ℕ) → i < length ts
@@ -33,5 +34,5 @@ bodies_in_at begins (t ∷ ts) zero h = refl
 bodies_in_at begins (t ∷ ts) (suc i) h =
     bodies_in_at begins ts i (omega arith)
     ∙ ap
-    (λ k. cond (head_at ts i) (call_places begins (drop k (t ∷ ts)) ∷ []) [] ++ bodies_in begins (drop k (t ∷ ts)))
+    (λ k. cond (head_at ts i) (call_positions begins (drop k (t ∷ ts)) ∷ []) [] ++ bodies_in begins (drop k (t ∷ ts)))
     (next i)

@@ -1,6 +1,6 @@
 pub mod Answers
 pub mod CallCounts
-pub mod CallPlaces
+pub mod CallPositions
 pub mod Compares
 pub mod Counting
 pub mod Frames

@@ -11,9 +11,9 @@ use Rattle.fmp_instructions.specs.declared.instructions.MachineContext.{MachineC
 use Rattle.fmp_instructions.specs.Instructions.{BodyTables}
 use Rattle.fmp_kernel.specs.declared.actors.Actor.{Actor}
 use Rattle.fmp_kernel.specs.KernelViews.{KernelView, actor_in, view_after}
-use Rattle.fmp_frames.specs.declared.call_places.CallPlace.{CallPlace}
+use Rattle.fmp_frames.specs.declared.call_positions.CallPosition.{CallPosition}
 use Rattle.fmp_frames.specs.declared.sites.CallSite.{CallSite}
-use Rattle.fmp_frames.specs.CallPlaces.{place_of}
+use Rattle.fmp_frames.specs.CallPositions.{position_of}
 use Rattle.fmp_frames.specs.Sites.{site}
 
 -- the call that ends a stretch of a body: the context is behind it then
@@ -36,24 +36,26 @@ event_site meaning k Tick = None
 event_site meaning k (Int i) = None
 
 -- where a call stands
-abbrev pub site_place : List BodyTables → List (List CallPlace) → Option CallSite → Option CallPlace
-site_place code bodies None = None
-site_place code bodies (Some s) = place_of code bodies s.body s.pc
+abbrev pub site_position : List BodyTables → List (List CallPosition) → Option CallSite → Option CallPosition
+site_position code bodies None = None
+site_position code bodies (Some s) = position_of code bodies s.body s.pc
 
 module _ {B : Type 0} (meaning : B → Meaning MachineContext) (code : List BodyTables)
-    (bodies : List (List CallPlace)) where
+    (bodies : List (List CallPosition)) where
   -- where the call stands that an event makes, where it makes one
-  abbrev pub event_place : KernelView B MachineContext → Event → Option CallPlace
-  event_place k e = site_place code bodies (event_site meaning k e)
+  abbrev pub event_position : KernelView B MachineContext → Event → Option CallPosition
+  event_position k e = site_position code bodies (event_site meaning k e)
 
   -- what stands for an event that did this, in front of what stands for those behind it
-  abbrev pub in_front : Option CallPlace → Reaction MachineContext → List (Option CallPlace) → List (Option CallPlace)
-  in_front place Nothing rest = rest
-  in_front place (Did d) rest = place ∷ rest
-  in_front place (Kept p w) rest = rest
+  abbrev pub in_front : Option CallPosition → Reaction MachineContext → List (Option CallPosition)
+      → List (Option CallPosition)
+  in_front position Nothing rest = rest
+  in_front position (Did d) rest = position ∷ rest
+  in_front position (Kept p w) rest = rest
 
   -- for each event that is done where the call stands that it makes
-  abbrev pub places_made : KernelView B MachineContext → List Event → List (Option CallPlace)
-  places_made k [] = []
-  places_made k (e ∷ es) =
-      in_front (event_place k e) (reaction_of meaning k e) (places_made (view_after k (reaction_of meaning k e)) es)
+  abbrev pub positions_made : KernelView B MachineContext → List Event → List (Option CallPosition)
+  positions_made k [] = []
+  positions_made k (e ∷ es) =
+      in_front (event_position k e) (reaction_of meaning k e)
+      (positions_made (view_after k (reaction_of meaning k e)) es)

@@ -5,7 +5,7 @@ use Rattle.fmp_base.specs.declared.events.Line.TheVariants as line
 use Rattle.fmp_base.specs.Systems.{SystemTables}
 use Rattle.fmp_named.specs.Lines.{named_lines}
 use Rattle.fmp_named.specs.Records.{line_records}
-use Rattle.fmp_frames.specs.declared.call_places.CallPlace.{CallPlace}
+use Rattle.fmp_frames.specs.declared.call_positions.CallPosition.{CallPosition}
 use Rattle.fmp_frames.specs.declared.placed_lines.LineForm.{LineForm}
 use Rattle.fmp_frames.specs.declared.placed_lines.LineForm.TheVariants as form
 
@@ -33,25 +33,25 @@ behind_column form.Text = codes "\n"
 behind_column form.Record = codes "}\n"
 
 -- where a call stands, and the end of its line
-abbrev pub place_text : LineForm → CallPlace → List ℕ
-place_text f p =
+abbrev pub position_text : LineForm → CallPosition → List ℕ
+position_text f p =
     before_line f ++ (decimal p.line ++ (before_column f ++ (decimal p.column ++ behind_column f)))
 
 -- a line, with where its call stands in place of its end if that is known
-abbrev pub with_place : LineForm → Option CallPlace → (text : List ℕ) → List ℕ
-with_place f None text = text
-with_place f (Some p) text = take (length text - end_length f) text ++ place_text f p
+abbrev pub with_position : LineForm → Option CallPosition → (text : List ℕ) → List ℕ
+with_position f None text = text
+with_position f (Some p) text = take (length text - end_length f) text ++ position_text f p
 
 -- where the call of a line stands, if the line tells a call
-abbrev pub place_in : Line → Option CallPlace → Option CallPlace
-place_in (line.Call p who c reply) place = place
-place_in _ place = None
+abbrev pub position_in : Line → Option CallPosition → Option CallPosition
+position_in (line.Call p who c reply) position = position
+position_in _ position = None
 
 -- the first line of event k, with where its call stands
-abbrev pub first_text : LineForm → SystemTables → ℕ → Option CallPlace → Line → List ℕ
-first_text f sys k place l = with_place f (place_in l place) (told f sys k (l ∷ []))
+abbrev pub first_text : LineForm → SystemTables → ℕ → Option CallPosition → Line → List ℕ
+first_text f sys k position l = with_position f (position_in l position) (told f sys k (l ∷ []))
 
 -- the lines of event k, with where its call stands
-abbrev pub placed : LineForm → SystemTables → ℕ → Option CallPlace → List Line → List ℕ
-placed f sys k place [] = []
-placed f sys k place (l ∷ ls) = first_text f sys k place l ++ told f sys k ls
+abbrev pub placed : LineForm → SystemTables → ℕ → Option CallPosition → List Line → List ℕ
+placed f sys k position [] = []
+placed f sys k position (l ∷ ls) = first_text f sys k position l ++ told f sys k ls

@@ -7,7 +7,7 @@ use Rattle.fmp_instructions.specs.declared.instructions.Instruction.TheVariants 
 use Rattle.fmp_instructions.specs.Instructions.{BodyTables, instructions_at}
 use Rattle.fmp_frames.specs.declared.sites.CallSite.{CallSite}
 use Rattle.fmp_frames.specs.declared.sites.SiteCall.{SiteCall}
-use Rattle.fmp_frames.specs.CallPlaces.{is_call}
+use Rattle.fmp_frames.specs.CallPositions.{is_call}
 
 abbrev pub site : (body pc : ℕ) → CallSite
 site body pc = record { body = body; pc = pc }

@@ -1,6 +1,6 @@
 //! Columns of a text.
 ghost use Rattle.std.specs.Prelude.{◌≡◌, ◌≤◌, ◌^◌, IfOk, length};
-ghost use Rattle.fmp_frames.specs.CallPlaces as spec;
+ghost use Rattle.fmp_frames.specs.CallPositions as spec;
 
 use std::alloc::{AllocError, Global};
 

@@ -6,7 +6,7 @@
 
 mod answers;
 mod call_counts;
-mod call_places;
+mod call_positions;
 mod call_table;
 mod codes;
 mod columns;
@@ -41,21 +41,21 @@ mod variable;
 mod watching;
 
 pub use answers::{SiteAnswer, answers_in};
-pub use call_places::{CallPlace, CallPlaces};
+pub use call_positions::{CallPosition, CallPositions};
 pub use call_table::append_calls;
 pub use comparing::{ToldRun, append_difference, first_difference, told_on};
 pub use counting::TaskTally;
 pub use dump::Waves;
 pub use frame::{Frame, last_frame};
 pub use laws::frames_are_of_the_run;
-pub use made::{CodePlaces, event_place, places_made};
+pub use made::{CodePositions, event_position, positions_made};
 pub use placed_lines::{LineForm, append_placed};
 pub use refusal_lines::append_refused;
 pub use refusals::{Refusal, RefusedCall, refused_calls};
 pub use response_table::append_responses;
 pub use responses::{Release, Response, Responses};
 pub use showing::{Viewer, show_all};
-pub use sites::{CallSite, SiteCall};
+pub use sites::{CallSite, SiteCall, call_sites};
 pub use summaries::ResponseSummary;
 pub use taking::frames;
 pub use tallies::Tallies;

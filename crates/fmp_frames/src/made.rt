@@ -4,7 +4,7 @@ ghost use Rattle.fmp_base.specs.Stretches.{ending};
 ghost use Rattle.fmp_instructions.specs.Instructions.{code_tables};
 ghost use Rattle.fmp_frames.specs.Made as spec;
 
-use crate::call_places::{CallPlace, CallPlaces};
+use crate::call_positions::{CallPosition, CallPositions};
 use crate::sites::CallSite;
 use fmp_base::{Effect, Event, Stretch};
 use fmp_instructions::{Code, MachineContext};
@@ -13,9 +13,9 @@ use std::alloc::{AllocError, Global};
 
 /// The code of bodies, and where its calls stand in their text.
 #[derive(Clone, Copy)]
-pub struct CodePlaces<'a> {
+pub struct CodePositions<'a> {
     pub code: &'a Code,
-    pub places: &'a CallPlaces,
+    pub positions: &'a CallPositions,
 }
 
 /// The call that ends a stretch of a body, if a call ends it: its context is after the call then.
@@ -58,44 +58,44 @@ pub fn event_site<B: Body<Ctx = MachineContext>>(kernel: &Kernel<B>, e: Event) -
 }
 
 /// Where a call stands, if it is known.
-fn site_place(text: CodePlaces<'_>, site: Option<CallSite>) -> Option<CallPlace>
-    ensures { result ≡ spec.site_place (code_tables text.entry.code.now) text.entry.places.now site }
+fn site_position(text: CodePositions<'_>, site: Option<CallSite>) -> Option<CallPosition>
+    ensures { result ≡ spec.site_position (code_tables text.entry.code.now) text.entry.positions.now site }
 {
     match site {
-        Some(site) => text.places.place(text.code, site.body, site.pc),
+        Some(site) => text.positions.position(text.code, site.body, site.pc),
         None => None,
     }
 }
 
 /// Where the call stands that an event makes on a kernel, where it makes one.
-pub fn event_place<B: Body<Ctx = MachineContext>>(
+pub fn event_position<B: Body<Ctx = MachineContext>>(
     kernel: &Kernel<B>,
-    text: CodePlaces<'_>,
+    text: CodePositions<'_>,
     e: Event,
-) -> Option<CallPlace>
-    ensures { result ≡ spec.event_place B.meaning (code_tables text.entry.code.now) text.entry.places.now
+) -> Option<CallPosition>
+    ensures { result ≡ spec.event_position B.meaning (code_tables text.entry.code.now) text.entry.positions.now
         kernel.now e }
 {
-    site_place(text, event_site(kernel, e))
+    site_position(text, event_site(kernel, e))
 }
 
 /// Takes events, and gives for each that is done where the call stands that it makes, if it makes one. `AllocError` if
 /// memory runs out.
-pub fn places_made<B: Body<Ctx = MachineContext>>(
+pub fn positions_made<B: Body<Ctx = MachineContext>>(
     alloc: Global,
     kernel: &mut Kernel<B>,
-    text: CodePlaces<'_>,
+    text: CodePositions<'_>,
     events: &[Event],
-) -> Result<Vec<Option<CallPlace>>, AllocError>
+) -> Result<Vec<Option<CallPosition>>, AllocError>
     requires few { kernel.old.taken + length events.now ≤ 2 ^ 31 }
-    ensures { IfOk result (λ made. made.items ≡ spec.places_made B.meaning (code_tables text.entry.code.now)
-        text.entry.places.now kernel.old events.now) }
+    ensures { IfOk result (λ made. made.items ≡ spec.positions_made B.meaning (code_tables text.entry.code.now)
+        text.entry.positions.now kernel.old events.now) }
 {
     let mut made = Vec::new(alloc);
     for e in events {
-        let place = event_place(kernel, text, *e);
+        let position = event_position(kernel, text, *e);
         match e.take(kernel) {
-            Effect::Done => made.push(place)?,
+            Effect::Done => made.push(position)?,
             Effect::Kept => {}
             Effect::Nothing => {}
         }

@@ -3,7 +3,7 @@ ghost use Rattle.std.specs.Prelude.{◌≡◌, ◌++◌, IfOk, OnOk};
 ghost use Rattle.fmp_base.specs.Systems.{tables_of};
 ghost use Rattle.fmp_frames.specs.PlacedLines as spec;
 
-use crate::call_places::CallPlace;
+use crate::call_positions::CallPosition;
 use fmp_base::{Line, System};
 use fmp_named::{append_lines, append_records};
 use itoa::Buffer;
@@ -37,11 +37,11 @@ fn append_told(
 }
 
 /// Where the call of a line stands, if the line tells a call.
-fn place_in(line: Line, place: Option<CallPlace>) -> Option<CallPlace>
-    ensures { result ≡ spec.place_in line place }
+fn position_in(line: Line, position: Option<CallPosition>) -> Option<CallPosition>
+    ensures { result ≡ spec.position_in line position }
 {
     match line {
-        Line::Call { .. } => place,
+        Line::Call { .. } => position,
         _ => None,
     }
 }
@@ -87,28 +87,32 @@ fn behind_column(form: LineForm) -> &'static [u8]
 }
 
 /// Appends where a call stands, and the end of its line.
-fn append_place(form: LineForm, place: CallPlace, out: &mut Vec<u8>) -> Result<(), AllocError>
-    ensures { OnOk result (out.new.items ≡ out.old.items ++ spec.place_text form place) }
+fn append_position(
+    form: LineForm,
+    position: CallPosition,
+    out: &mut Vec<u8>,
+) -> Result<(), AllocError>
+    ensures { OnOk result (out.new.items ≡ out.old.items ++ spec.position_text form position) }
 {
     out.extend_from_slice(before_line(form))?;
-    out.extend_from_slice(Buffer::new().format(place.line).as_bytes())?;
+    out.extend_from_slice(Buffer::new().format(position.line).as_bytes())?;
     out.extend_from_slice(before_column(form))?;
-    out.extend_from_slice(Buffer::new().format(place.column as u64).as_bytes())?;
+    out.extend_from_slice(Buffer::new().format(position.column as u64).as_bytes())?;
     out.extend_from_slice(behind_column(form))
 }
 
 /// A printed line, with where its call stands if that is known.
-fn with_place(
+fn with_position(
     form: LineForm,
-    place: Option<CallPlace>,
+    position: Option<CallPosition>,
     text: Vec<u8>,
 ) -> Result<Vec<u8>, AllocError>
-    ensures { IfOk result (λ out. out.items ≡ spec.with_place form place text.items) }
+    ensures { IfOk result (λ out. out.items ≡ spec.with_position form position text.items) }
 {
     let mut text = text;
-    if let Some(place) = place {
+    if let Some(position) = position {
         text.truncate(text.len().saturating_sub(end_length(form)));
-        append_place(form, place, &mut text)?;
+        append_position(form, position, &mut text)?;
     }
     Ok(text)
 }
@@ -119,16 +123,16 @@ fn append_first(
     form: LineForm,
     sys: &System,
     number: u32,
-    place: Option<CallPlace>,
+    position: Option<CallPosition>,
     line: Line,
     out: &mut Vec<u8>,
 ) -> Result<(), AllocError>
     ensures { OnOk result (out.new.items
-        ≡ out.old.items ++ spec.first_text form (tables_of sys.now) number place line) }
+        ≡ out.old.items ++ spec.first_text form (tables_of sys.now) number position line) }
 {
     let mut text = Vec::new(alloc);
     append_told(alloc, form, sys, number, &[line], &mut text)?;
-    let text = with_place(form, place_in(line, place), text)?;
+    let text = with_position(form, position_in(line, position), text)?;
     out.extend_from_slice(&text)
 }
 
@@ -139,17 +143,17 @@ pub fn append_placed(
     form: LineForm,
     sys: &System,
     number: u32,
-    place: Option<CallPlace>,
+    position: Option<CallPosition>,
     lines: &[Line],
     out: &mut Vec<u8>,
 ) -> Result<(), AllocError>
     ensures { OnOk result (out.new.items
-        ≡ out.old.items ++ spec.placed form (tables_of sys.now) number place lines.now) }
+        ≡ out.old.items ++ spec.placed form (tables_of sys.now) number position lines.now) }
 {
     match lines {
         [] => Ok(()),
         [first, rest @ ..] => {
-            append_first(alloc, form, sys, number, place, *first, out)?;
+            append_first(alloc, form, sys, number, position, *first, out)?;
             append_told(alloc, form, sys, number, rest, out)
         }
     }

@@ -4,7 +4,7 @@ ghost use Rattle.std.specs.List.{flat_map};
 ghost use Rattle.fmp_frames.specs.RefusalLines as spec;
 ghost use Rattle.fmp_frames.specs.Refusals.{refused_of};
 
-use crate::call_places::CallPlace;
+use crate::call_positions::CallPosition;
 use crate::placed_lines::LineForm;
 use crate::refusals::{Refusal, RefusedCall};
 use crate::sites::CallSite;
@@ -39,19 +39,19 @@ fn refusal_words(refusal: Refusal) -> &'static [u8]
 /// Appends where a call stands: in this file, or in the code.
 fn append_site(
     file: &[u8],
-    place: Option<CallPlace>,
+    position: Option<CallPosition>,
     site: CallSite,
     out: &mut Vec<u8>,
 ) -> Result<(), AllocError>
-    ensures { OnOk result (out.new.items ≡ out.old.items ++ spec.site_text file.now place site) }
+    ensures { OnOk result (out.new.items ≡ out.old.items ++ spec.site_text file.now position site) }
 {
-    match place {
-        Some(place) => {
+    match position {
+        Some(position) => {
             append(file, out)?;
             append(b":", out)?;
-            append_number(u64::from(place.line), out)?;
+            append_number(u64::from(position.line), out)?;
             append(b":", out)?;
-            append_number(place.column as u64, out)
+            append_number(position.column as u64, out)
         }
         None => {
             append(b"body ", out)?;
@@ -84,14 +84,14 @@ fn append_codes(codes: &[Er], out: &mut Vec<u8>) -> Result<(), AllocError>
 #[tactic(auto, unfolding(crate::specs::RefusalLines::refused_text))]
 fn append_text(
     file: &[u8],
-    place: Option<CallPlace>,
+    position: Option<CallPosition>,
     call: &RefusedCall,
     out: &mut Vec<u8>,
 ) -> Result<(), AllocError>
     ensures { OnOk result (out.new.items
-        ≡ out.old.items ++ spec.refused_text file.now place (refused_of call.now)) }
+        ≡ out.old.items ++ spec.refused_text file.now position (refused_of call.now)) }
 {
-    append_site(file, place, call.site, out)?;
+    append_site(file, position, call.site, out)?;
     append(b": ", out)?;
     append(call.service.name().as_bytes(), out)?;
     append(refusal_words(call.refusal), out)?;
@@ -102,16 +102,16 @@ fn append_text(
 /// Writes where a call stands: in its text, or in the code.
 fn write_site(
     writer: &mut Writer,
-    place: Option<CallPlace>,
+    position: Option<CallPosition>,
     site: CallSite,
 ) -> Result<(), AllocError>
     ensures before { writer.new.before ≡ writer.old.before }
-    ensures tokens { OnOk result (writer.new.tokens ≡ writer.old.tokens ++ spec.site_members place site) }
+    ensures tokens { OnOk result (writer.new.tokens ≡ writer.old.tokens ++ spec.site_members position site) }
 {
-    match place {
-        Some(place) => {
-            number_member(writer, "line", u64::from(place.line))?;
-            number_member(writer, "column", place.column as u64)
+    match position {
+        Some(position) => {
+            number_member(writer, "line", u64::from(position.line))?;
+            number_member(writer, "column", position.column as u64)
         }
         None => {
             number_member(writer, "body", u64::from(site.body))?;
@@ -154,13 +154,13 @@ fn write_codes(writer: &mut Writer, codes: &[Er]) -> Result<(), AllocError>
 /// An object of JSON in a line.
 fn record_of(
     alloc: Global,
-    place: Option<CallPlace>,
+    position: Option<CallPosition>,
     call: &RefusedCall,
 ) -> Result<Vec<u8>, AllocError>
-    ensures { IfOk result (λ line. line.items ≡ spec.refused_record place (refused_of call.now)) }
+    ensures { IfOk result (λ line. line.items ≡ spec.refused_record position (refused_of call.now)) }
 {
     let mut writer = begin(alloc)?;
-    write_site(&mut writer, place, call.site)?;
+    write_site(&mut writer, position, call.site)?;
     text_member(&mut writer, "call", call.service.name())?;
     text_member(&mut writer, "refused", refusal_word(call.refusal))?;
     write_codes(&mut writer, &call.codes)?;
@@ -174,17 +174,17 @@ pub fn append_refused(
     alloc: Global,
     form: LineForm,
     file: &[u8],
-    place: Option<CallPlace>,
+    position: Option<CallPosition>,
     call: &RefusedCall,
     out: &mut Vec<u8>,
 ) -> Result<(), AllocError>
     ensures { OnOk result (out.new.items
-        ≡ out.old.items ++ spec.refused_line form file.now place (refused_of call.now)) }
+        ≡ out.old.items ++ spec.refused_line form file.now position (refused_of call.now)) }
 {
     match form {
-        LineForm::Text => append_text(file, place, call, out),
+        LineForm::Text => append_text(file, position, call, out),
         LineForm::Record => {
-            let record = record_of(alloc, place, call)?;
+            let record = record_of(alloc, position, call)?;
             append(&record, out)
         }
     }

@@ -6,7 +6,7 @@ ghost use Rattle.fmp_instructions.specs.Instructions.{code_tables};
 ghost use Rattle.fmp_frames.specs.Sites as spec;
 ghost use Rattle.fmp_frames.specs.Sites.{HasSites};
 
-use crate::call_places::is_call;
+use crate::call_positions::is_call;
 use fmp_base::Service;
 use fmp_instructions::{Code, Instruction};
 use std::alloc::{AllocError, Global};

@@ -6,7 +6,7 @@ use Rattle.fmp_lex.specs.declared.fault.BuildFault.TheVariants as build
 use Rattle.fmp_lex.specs.declared.fault.TextFile.TheVariants as file
 use Rattle.fmp_lex.specs.declared.token.Token.{Token}
 use Rattle.fmp_lex.specs.Faults.{IsSyntaxFault, fault_of}
-use Rattle.fmp_lex.specs.Places.{text_end}
+use Rattle.fmp_lex.specs.Positions.{text_end}
 use Rattle.fmp_lex.specs.Reading.{kinds_of, IsWhole, IsFirstFault}
 use Rattle.fmp_lex.proofs.Repetitions.{star_framed}
 use Rattle.fmp_lex.proofs.Sequences.{Framed}

@@ -8,13 +8,13 @@ use Rattle.std.proofs.lemmas.Bool.{cases_lt}
 use Rattle.std.proofs.lemmas.Option.{slice_get-map, slice_get-get_or, slice_get_past}
 use Rattle.fmp_lex.specs.declared.packed.Packed.{Packed}
 use Rattle.fmp_lex.specs.declared.packed.TokenShape.{TokenShape}
-use Rattle.fmp_lex.specs.declared.place.Place.{Place}
+use Rattle.fmp_lex.specs.declared.position.TokenPosition.{TokenPosition}
 use Rattle.fmp_lex.specs.declared.token.LexFault.TheVariants.{Syntax}
 use Rattle.fmp_lex.specs.declared.token.Token.{Token}
 use Rattle.fmp_lex.specs.declared.token.TokenKind.TheVariants.{Bad}
 use Rattle.fmp_lex.specs.Cutting.{Piece, IsPiece, line_at}
 use Rattle.fmp_lex.specs.Packing.{IsPacked, Stands, absent, end_after, kind_in, whole_in}
-use Rattle.fmp_lex.specs.Places.{place_of}
+use Rattle.fmp_lex.specs.Positions.{position_of}
 use Rattle.fmp_lex.specs.Reading.{kind_of, kinds_of}
 
 -- the kind of a token is that of its shape
@@ -66,19 +66,19 @@ pub one_of_all : (text : List ℕ) (ps : List Packed) (k : ℕ) (d p : Packed) �
     IsPacked text p
 one_of_all text ps k d p all lt is = rw is (all k d lt)
 
-place_is : (place : Place) (line start end : ℕ) → place.line ≡ line → place.start ≡ start → place.end ≡ end →
+position_is : (place : TokenPosition) (line start end : ℕ) → place.line ≡ line → place.start ≡ start → place.end ≡ end →
     place ≡ record { line = line; start = start; end = end }
-place_is place line start end a b c = rw (← a, ← b, ← c) refl
+position_is place line start end a b c = rw (← a, ← b, ← c) refl
 
 -- where it stands
-pub packed_place : (text : List ℕ) (ps : List Packed) (k : ℕ) (d p : Packed) (place : Place) → k < length ps → p
-    ≡ get_or ps k d →
+pub packed_position : (text : List ℕ) (ps : List Packed) (k : ℕ) (d p : Packed) (place : TokenPosition)
+    → k < length ps → p ≡ get_or ps k d →
     IsPacked text p → place.line ≡ line_at text p.start → place.start ≡ p.start →
     ((q : Piece) → IsPiece text p.start q → place.end ≡ end_after p.start q) → Some place
-    ≡ option_map place_of (slice_get (map (whole_in text) ps) k)
-packed_place text ps k d p place lt is packed line start end =
+    ≡ option_map position_of (slice_get (map (whole_in text) ps) k)
+packed_position text ps k d p place lt is packed line start end =
     let q = packed.2 in
-    let same = place_is place (line_at text p.start) p.start p.end.value line start (end q.0 q.1 ∙ sym q.2) in
+    let same = position_is place (line_at text p.start) p.start p.end.value line start (end q.0 q.1 ∙ sym q.2) in
     rw (slice_get-map (whole_in text) ps k, slice_get-get_or ps k d lt, ← is, same) refl
 
 -- a list behind n times x

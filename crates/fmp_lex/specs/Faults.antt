@@ -5,7 +5,7 @@ use Rattle.fmp_lex.specs.declared.fault.BuildFault.TheVariants as build
 use Rattle.fmp_lex.specs.declared.fault.FaultKind.{FaultKind}
 use Rattle.fmp_lex.specs.declared.fault.FaultKind.TheVariants as fault
 use Rattle.fmp_lex.specs.declared.fault.TextFile.{TextFile}
-use Rattle.fmp_lex.specs.declared.place.Place.{Place}
+use Rattle.fmp_lex.specs.declared.position.TokenPosition.{TokenPosition}
 use Rattle.fmp_lex.specs.declared.reading.GrammarFault.{GrammarFault}
 use Rattle.fmp_lex.specs.declared.reading.GrammarFault.TheVariants.{Syntax, Depth}
 use Rattle.fmp_lex.specs.declared.token.LexFault.TheVariants.{Limit}
@@ -13,7 +13,7 @@ use Rattle.fmp_lex.specs.declared.token.Token.{Token}
 use Rattle.fmp_lex.specs.declared.token.TokenKind.{TokenKind}
 use Rattle.fmp_lex.specs.declared.token.TokenKind.TheVariants as kind
 use Rattle.fmp_lex.specs.Cutting.{Cuts}
-use Rattle.fmp_lex.specs.Places.{text_start, text_end, place_of, place_or_start}
+use Rattle.fmp_lex.specs.Positions.{text_start, text_end, position_of, position_or_start}
 use Rattle.fmp_lex.specs.Reading.{Rel, kinds_of, IsWhole, IsFirstFault}
 
 -- the greatest number of bytes of a text
@@ -27,13 +27,13 @@ token_fault _ Syntax = fault.Syntax
 token_fault _ Depth = fault.Limit
 
 -- the fault of a token, or of the end of the text if there is none
-abbrev pub fault_of : TextFile → Place → Option Token → GrammarFault → BuildFault
-fault_of file end (Some t) why = build.At file (place_of t) (token_fault t.kind why)
+abbrev pub fault_of : TextFile → TokenPosition → Option Token → GrammarFault → BuildFault
+fault_of file end (Some t) why = build.At file (position_of t) (token_fault t.kind why)
 fault_of file end None why = build.At file end fault.Syntax
 
 -- the fault of what a tree has at a token; wherever a tree names a token there is one
 abbrev pub offence_fault : TextFile → Option Token → FaultKind → BuildFault
-offence_fault file token why = build.At file (place_or_start token) why
+offence_fault file token why = build.At file (position_or_start token) why
 
 -- the tokens of the text spell this by the grammar X
 abbrev pub Spells : {A : Type 0} → Rel A → List ℕ → List Token → A → Type 0

@@ -5,7 +5,7 @@ pub mod Forms
 pub mod Laws
 pub mod ObjectNames
 pub mod Packing
-pub mod Places
+pub mod Positions
 pub mod Reading
 pub mod Scanning
 pub mod Windows

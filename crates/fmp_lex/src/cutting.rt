@@ -3,7 +3,7 @@ ghost use Rattle.std.specs.Prelude.{◌≡◌, List, ℕ, ◌+◌, ◌-◌, ◌^
 ghost use Rattle.std.specs.Prelude.{option_map, IfOk, IfSome};
 ghost use Rattle.std.specs.List.{All};
 ghost use Rattle.fmp_lex.specs.Packing.{IsPacked, IsPlain, HasName, end_after, kind_in, piece_in, whole_in};
-ghost use Rattle.fmp_lex.specs.Places.{text_end};
+ghost use Rattle.fmp_lex.specs.Positions.{text_end};
 ghost use Rattle.fmp_lex.specs.Windows.{CutsUpTo, IsPartEnd};
 ghost use Rattle.fmp_lex.specs.Scanning.{Saturated, IsRun, in_class};
 ghost use Rattle.fmp_lex.specs.declared.scanning.ByteClass.TheVariants as class;
@@ -12,7 +12,7 @@ ghost use Rattle.fmp_lex.specs.Cutting.{number_piece, word_piece, symbol_piece, 
 
 use crate::lengths::{api_of, constant_of, may_be_word, service_of};
 use crate::packed::{Packed, TokenShape, Tokens};
-use crate::place::Place;
+use crate::position::TokenPosition;
 use crate::scanning::{ByteClass, find_close, is_in, line_feeds, run_end, value_of};
 use crate::small::{Four, Three};
 use crate::token::{LexFault, Symbol, TextFault, Token, TokenList};
@@ -261,14 +261,14 @@ fn piece_end(text: &[u8], start: usize) -> usize
 }
 
 /// Where the piece stands that begins here.
-pub(crate) fn place_of_piece(text: &[u8], start: usize) -> Place
+pub(crate) fn position_of_piece(text: &[u8], start: usize) -> TokenPosition
     requires inside { start < length text.now }
     requires short { length text.now ≤ TEXT_MAX }
     ensures line { result.line ≡ line_at text.now start }
     ensures start { result.start ≡ start }
     ensures end { (p : Piece) → IsPiece text.now start p → result.end ≡ end_after start p }
 {
-    Place {
+    TokenPosition {
         line: 1 + line_feeds(&text[..start]),
         start: start as u32,
         end: piece_end(text, start) as u32,
@@ -276,11 +276,11 @@ pub(crate) fn place_of_piece(text: &[u8], start: usize) -> Place
 }
 
 /// Where a text ends.
-fn end_of(text: &[u8]) -> Place
+fn end_of(text: &[u8]) -> TokenPosition
     requires { length text.now ≤ TEXT_MAX }
     ensures { result ≡ text_end text.now }
 {
-    Place {
+    TokenPosition {
         line: 1 + line_feeds(text),
         start: text.len() as u32,
         end: text.len() as u32,

@@ -1,11 +1,11 @@
-//! Faults of texts: the file, the place and what is wrong there.
+//! Faults of texts: the file, the position and what is wrong there.
 ghost use Rattle.std.specs.Prelude.{◌≡◌, slice_get};
 ghost use Rattle.fmp_lex.specs.Faults.{token_fault, fault_of, offence_fault};
-ghost use Rattle.fmp_lex.specs.Places.{text_start};
+ghost use Rattle.fmp_lex.specs.Positions.{text_start};
 ghost use Rattle.fmp_lex.specs.declared.fault.BuildFault.TheVariants.{Memory};
 
 use crate::packed::Tokens;
-use crate::place::Place;
+use crate::position::TokenPosition;
 use crate::reading::{FirstFault, GrammarFault};
 use crate::token::{LexFault, TokenKind, TokenList};
 use fmp_base::Er;
@@ -22,7 +22,7 @@ pub enum TextFile {
     Source,
 }
 
-/// What is wrong at a place of a text.
+/// What is wrong at a position of a text.
 #[derive(Clone, Copy, Debug, PartialEq, Eq)]
 pub enum FaultKind {
     /// No well-formed text goes on like this.
@@ -61,7 +61,7 @@ impl Display for FaultKind {
 #[derive(Debug, Drop, PartialEq, Eq, Error)]
 pub enum BuildFault {
     #[error("{0}:{line}: {2}", line = .1.line)]
-    At(TextFile, Place, FaultKind),
+    At(TextFile, TokenPosition, FaultKind),
     #[error("memory")]
     Memory,
 }
@@ -85,10 +85,10 @@ fn token_fault(kind: TokenKind, why: GrammarFault) -> FaultKind
 }
 
 /// Where a text begins.
-fn text_start() -> Place
+fn text_start() -> TokenPosition
     ensures { result ≡ text_start }
 {
-    Place {
+    TokenPosition {
         line: 1,
         start: 0,
         end: 0,
@@ -102,15 +102,15 @@ pub fn too_long(file: TextFile) -> BuildFault
     BuildFault::At(file, text_start(), FaultKind::Limit)
 }
 
-/// The fault of what a tree has at the token at this place in the list, with the token's place in the text.
+/// The fault of what a tree has at the token at this place in the list, with the token's position in the text.
 pub fn offence_at(tokens: &Tokens<'_>, file: TextFile, at: usize, why: FaultKind) -> BuildFault
     ensures { result ≡ offence_fault file (slice_get tokens.now at) why }
 {
-    let place = match tokens.place(at) {
-        Some(place) => place,
+    let position = match tokens.position(at) {
+        Some(position) => position,
         None => text_start(),
     };
-    BuildFault::At(file, place, why)
+    BuildFault::At(file, position, why)
 }
 
 /// The fault of a text whose tokens have this first fault; after the last token it stands where the text ends.

@@ -5,11 +5,11 @@ ghost use Rattle.std.specs.Prelude.{option_map, IfSome};
 ghost use Rattle.std.specs.List.{All};
 ghost use Rattle.fmp_base.specs.Names.{name_from};
 ghost use Rattle.fmp_lex.specs.Packing.{IsPacked, Stands, absent, kind_in, whole_in};
-ghost use Rattle.fmp_lex.specs.Places.{place_of};
+ghost use Rattle.fmp_lex.specs.Positions.{position_of};
 ghost use Rattle.fmp_lex.specs.Reading.{kinds_of};
 
-use crate::cutting::place_of_piece;
-use crate::place::Place;
+use crate::cutting::position_of_piece;
+use crate::position::TokenPosition;
 use crate::small::{Four, Three};
 use crate::token::{LexFault, Symbol, TokenKind};
 use crate::words::{Api, Constant, Keyword};
@@ -88,7 +88,7 @@ fn name_of(bytes: &[u8]) -> TokenKind
 }
 
 /// Where a token that is not held is said to stand: at the start of the text.
-const ABSENT: Place = Place {
+const ABSENT: TokenPosition = TokenPosition {
     line: 1,
     start: 0,
     end: 0,
@@ -204,14 +204,14 @@ impl<'a> Tokens<'a> {
 
     /// Where the token at a place of the list stands in the text; at its start if it is not held. The text is read from
     /// its start.
-    pub fn place(&self, at: usize) -> Option<Place>
-        ensures { result ≡ option_map place_of (slice_get self.now at) }
+    pub fn position(&self, at: usize) -> Option<TokenPosition>
+        ensures { result ≡ option_map position_of (slice_get self.now at) }
     {
         let place = offset(self.first, at);
         if place >= self.packed.len() {
             return if at < self.first { Some(ABSENT) } else { None };
         }
         let start = self.packed[place].start.get() as usize;
-        Some(place_of_piece(self.text, start))
+        Some(position_of_piece(self.text, start))
     }
 }

@@ -3,7 +3,7 @@ ghost use Rattle.std.specs.Prelude.{◌≡◌};
 ghost use Rattle.fmp_lex.specs.declared.token.TextFault.TheVariants.{Memory};
 
 use crate::packed::Tokens;
-use crate::place::Place;
+use crate::position::TokenPosition;
 use crate::words::{Api, Constant, Keyword};
 use fmp_base::{Name, Service};
 use std::alloc::AllocError;
@@ -78,7 +78,7 @@ pub struct Token {
 #[derive(Drop)]
 pub struct TokenList<'a> {
     pub tokens: Tokens<'a>,
-    pub end: Place,
+    pub end: TokenPosition,
 }
 
 /// Why a text is not cut into tokens at all.

@@ -4,15 +4,15 @@ use Rattle.std.proofs.Common.{drop, length, slice_get, option_map, refl, ap, sym
 use Rattle.std.specs.Prelude.{if◌then◌else◌}
 use Rattle.std.proofs.lemmas.List.{append_assoc, drop_more, map-append}
 use Rattle.std.proofs.lemmas.Option.{slice_get-map, get_or_from_slice_get, slice_get_within}
-use Rattle.fmp_lex.specs.declared.place.Place.{Place}
+use Rattle.fmp_lex.specs.declared.position.TokenPosition.{TokenPosition}
 use Rattle.fmp_lex.specs.declared.token.Token.{Token}
 use Rattle.fmp_lex.specs.declared.token.TokenKind.{TokenKind}
-use Rattle.fmp_lex.specs.Places.{place_of}
+use Rattle.fmp_lex.specs.Positions.{position_of}
 use Rattle.fmp_lex.specs.Reading.{kinds_of}
-use Rattle.fmp_server.specs.declared.roles.NamePlace.{NamePlace}
+use Rattle.fmp_server.specs.declared.roles.NamePosition.{NamePosition}
 use Rattle.fmp_server.specs.declared.roles.Role.{Role}
 use Rattle.fmp_server.specs.declared.roles.RoleWalk.{RoleWalk}
-use Rattle.fmp_server.specs.Roles.{named_places, places_of, stands_for, walked}
+use Rattle.fmp_server.specs.Roles.{named_positions, positions_of, stands_for, walked}
 
 -- the token at a place, and those after it
 held : (ts : List Token) (i : ℕ) (t : Token) → slice_get ts i ≡ Some t → drop i ts ≡ t ∷ drop (i + 1) ts
@@ -31,48 +31,51 @@ found : (ts : List Token) (i : ℕ) (k : TokenKind) → slice_get (kinds_of ts) 
 found ts i k e = of_kind (slice_get ts i) k (sym (slice_get-map (λ (t : Token). t.kind) ts i) ∙ e)
 
 here : (w : RoleWalk) (r : Role) (t : Token) (rest : List Token) (b : Bool) → stands_for w r t.kind ≡ b
-    → named_places w r (t ∷ rest) ≡ (if b then place_of t ∷ [] else []) ++ named_places (walked w t.kind) r rest
+    → named_positions w r (t ∷ rest)
+    ≡ (if b then position_of t ∷ [] else []) ++ named_positions (walked w t.kind) r rest
 here w r t rest b e =
-    ap (λ (b : Bool). (if b then place_of t ∷ [] else []) ++ named_places (walked w t.kind) r rest) e
+    ap (λ (b : Bool). (if b then position_of t ∷ [] else []) ++ named_positions (walked w t.kind) r rest) e
 
 -- a token at which the name does not stand for this
 pub passed : (w : RoleWalk) (r : Role) (ts : List Token) (i : ℕ) (k : TokenKind) → slice_get (kinds_of ts) i ≡ Some k
-    → stands_for w r k ≡ false → named_places (walked w k) r (drop (i + 1) ts) ≡ named_places w r (drop i ts)
+    → stands_for w r k ≡ false → named_positions (walked w k) r (drop (i + 1) ts) ≡ named_positions w r (drop i ts)
 passed w r ts i k e f =
     let h = found ts i k e in
     let rest = drop (i + 1) ts in
-    sym (ap (λ (l : List Token). named_places w r l) (held ts i h.0 h.1)
+    sym (ap (λ (l : List Token). named_positions w r l) (held ts i h.0 h.1)
     ∙ here w r h.0 rest false (ap (λ (x : TokenKind). stands_for w r x) h.2 ∙ f)
-    ∙ ap (λ (x : TokenKind). named_places (walked w x) r rest) h.2)
+    ∙ ap (λ (x : TokenKind). named_positions (walked w x) r rest) h.2)
 
 -- a token at which it does
-pub named : (w : RoleWalk) (r : Role) (ts : List Token) (i : ℕ) (k : TokenKind) (old : List NamePlace) (q : NamePlace)
-    → slice_get (kinds_of ts) i ≡ Some k → option_map place_of (slice_get ts i) ≡ Some q.place
+pub named : (w : RoleWalk) (r : Role) (ts : List Token) (i : ℕ) (k : TokenKind) (old : List NamePosition)
+    (q : NamePosition)
+    → slice_get (kinds_of ts) i ≡ Some k → option_map position_of (slice_get ts i) ≡ Some q.position
     → stands_for w r k ≡ true
-    → places_of (old ++ q ∷ []) ++ named_places (walked w k) r (drop (i + 1) ts)
-    ≡ places_of old ++ named_places w r (drop i ts)
+    → positions_of (old ++ q ∷ []) ++ named_positions (walked w k) r (drop (i + 1) ts)
+    ≡ positions_of old ++ named_positions w r (drop i ts)
 named w r ts i k old q e g f =
     let h = found ts i k e in
     let rest = drop (i + 1) ts in
-    let more = named_places (walked w k) r rest in
-    let before = places_of old in
-    let same : Some (place_of h.0) ≡ Some q.place = sym (ap (λ (o : Option Token). option_map place_of o) h.1) ∙ g in
-    let place : place_of h.0 ≡ q.place = cc in
-    ap (λ (l : List Place). l ++ more) (map-append (λ (p : NamePlace). p.place) old (q ∷ []))
-    ∙ append_assoc before (q.place ∷ []) more
-    ∙ ap (λ (l : List Place). before ++ l)
-    (sym (ap (λ (l : List Token). named_places w r l) (held ts i h.0 h.1)
+    let more = named_positions (walked w k) r rest in
+    let before = positions_of old in
+    let same : Some (position_of h.0) ≡ Some q.position =
+    sym (ap (λ (o : Option Token). option_map position_of o) h.1) ∙ g in
+    let position : position_of h.0 ≡ q.position = cc in
+    ap (λ (l : List TokenPosition). l ++ more) (map-append (λ (p : NamePosition). p.position) old (q ∷ []))
+    ∙ append_assoc before (q.position ∷ []) more
+    ∙ ap (λ (l : List TokenPosition). before ++ l)
+    (sym (ap (λ (l : List Token). named_positions w r l) (held ts i h.0 h.1)
     ∙ here w r h.0 rest true (ap (λ (x : TokenKind). stands_for w r x) h.2 ∙ f)
-    ∙ ap (λ (x : TokenKind). place_of h.0 ∷ named_places (walked w x) r rest) h.2
-    ∙ ap (λ (p : Place). p ∷ more) place))
+    ∙ ap (λ (x : TokenKind). position_of h.0 ∷ named_positions (walked w x) r rest) h.2
+    ∙ ap (λ (p : TokenPosition). p ∷ more) position))
 
 -- a token that is of some kind has a place
 pub placed : (ts : List Token) (i : ℕ) (k : TokenKind) → slice_get (kinds_of ts) i ≡ Some k
-    → (option_map place_of (slice_get ts i) ≡ option_map place_of (slice_get ts i))
-    × ((p : Place) × (option_map place_of (slice_get ts i) ≡ Some p))
+    → (option_map position_of (slice_get ts i) ≡ option_map position_of (slice_get ts i))
+    × ((p : TokenPosition) × (option_map position_of (slice_get ts i) ≡ Some p))
 placed ts i k e =
     let h = found ts i k e in
-    (refl, (place_of h.0, ap (λ (o : Option Token). option_map place_of o) h.1))
+    (refl, (position_of h.0, ap (λ (o : Option Token). option_map position_of o) h.1))
 
 -- within the list there is a kind
 pub kind_held : (ts : List Token) (i : ℕ) → i < length ts

@@ -3,35 +3,36 @@ use Rattle.std.proofs.Common.{ℕ, ◌≡◌, ◌<◌, ◌+◌, ◌-◌, List, [
 use Rattle.std.specs.Prelude.{flat_map}
 use Rattle.std.proofs.lemmas.List.{flat_map_more, map-append, take_more}
 use Rattle.json.specs.Token.{Token}
-use Rattle.fmp_lex.specs.declared.place.Place.{Place}
+use Rattle.fmp_lex.specs.declared.position.TokenPosition.{TokenPosition}
 use Rattle.fmp_server.specs.declared.positions.TextRange.{TextRange}
-use Rattle.fmp_server.specs.declared.roles.NamePlace.{NamePlace}
+use Rattle.fmp_server.specs.declared.roles.NamePosition.{NamePosition}
 use Rattle.fmp_server.specs.Messages.{edit}
 use Rattle.fmp_server.specs.Positions.{AreRanges, IsRange}
-use Rattle.fmp_server.specs.Roles.{places_of}
+use Rattle.fmp_server.specs.Roles.{positions_of}
 
 -- one place more
-ranges_more : (text : List ℕ) (ps : List Place) (rs : List TextRange) (p : Place) (r : TextRange)
+ranges_more : (text : List ℕ) (ps : List TokenPosition) (rs : List TextRange) (p : TokenPosition) (r : TextRange)
     → AreRanges text ps rs → IsRange text (p.line - 1) p.start p.end r
     → AreRanges text (ps ++ p ∷ []) (rs ++ r ∷ [])
 ranges_more text [] rs p r a b = (r, [], ap (λ (l : List TextRange). l ++ r ∷ []) a, b, refl)
 ranges_more text (q ∷ qs) rs p r a b =
     (a.0, a.1 ++ r ∷ [], ap (λ (l : List TextRange). l ++ r ∷ []) a.2, a.3, ranges_more text qs a.1 p r a.4 b)
 
-places_more : (xs : List NamePlace) (i : ℕ) (d : NamePlace) → i < length xs
-    → places_of (take (i + 1) xs) ≡ places_of (take i xs) ++ (get_or xs i d).place ∷ []
-places_more xs i d h =
-    ap (λ (l : List NamePlace). places_of l) (take_more xs i d h)
-    ∙ map-append (λ (p : NamePlace). p.place) (take i xs) (get_or xs i d ∷ [])
+positions_more : (xs : List NamePosition) (i : ℕ) (d : NamePosition) → i < length xs
+    → positions_of (take (i + 1) xs) ≡ positions_of (take i xs) ++ (get_or xs i d).position ∷ []
+positions_more xs i d h =
+    ap (λ (l : List NamePosition). positions_of l) (take_more xs i d h)
+    ∙ map-append (λ (p : NamePosition). p.position) (take i xs) (get_or xs i d ∷ [])
 
 -- the next place of a list
-pub next_range : (text : List ℕ) (xs : List NamePlace) (i : ℕ) (d : NamePlace) (rs : List TextRange) (r : TextRange)
-    → i < length xs → AreRanges text (places_of (take i xs)) rs
-    → IsRange text ((get_or xs i d).place.line - 1) (get_or xs i d).place.start (get_or xs i d).place.end r
-    → AreRanges text (places_of (take (i + 1) xs)) (rs ++ r ∷ [])
+pub next_range : (text : List ℕ) (xs : List NamePosition) (i : ℕ) (d : NamePosition) (rs : List TextRange)
+    (r : TextRange)
+    → i < length xs → AreRanges text (positions_of (take i xs)) rs
+    → IsRange text ((get_or xs i d).position.line - 1) (get_or xs i d).position.start (get_or xs i d).position.end r
+    → AreRanges text (positions_of (take (i + 1) xs)) (rs ++ r ∷ [])
 next_range text xs i d rs r h a b =
-    let more = ranges_more text (places_of (take i xs)) rs (get_or xs i d).place r a b in
-    rw (places_more xs i d h) more
+    let more = ranges_more text (positions_of (take i xs)) rs (get_or xs i d).position r a b in
+    rw (positions_more xs i d h) more
 
 -- its edit
 pub next_edit : (before old new : List Token) (name : List ℕ) (rs : List TextRange) (r : TextRange)

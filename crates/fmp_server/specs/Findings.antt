@@ -17,7 +17,7 @@ use Rattle.fmp_server.specs.Positions.{IsLineStart, IsRange}
 -- what is told of the first fault of two texts
 pub record IsTold (t : Texts) (f : TextsFault) (told : ToldFault) : Type 0 where
   pub file : told.file ≡ f.file
-  pub is_finding : IsFinding (text_of t f.file) f.place f.kind told.finding
+  pub is_finding : IsFinding (text_of t f.file) f.position f.kind told.finding
 
 -- what is told of two texts of which this is the first fault: that one, and those after it
 abbrev pub AreFaults : Texts → TextsFault → List ToldFault → Type 0

@@ -1,7 +1,7 @@
 -- Where bytes of a text stand for an editor.
 use Rattle.std.specs.Prelude.{◌≡◌, ℕ, ◌-◌, ◌<◌, ◌≤◌, ◌==◌, ◌&&◌, nat_lt, nat_le, true, false, if◌then◌else◌, List}
 use Rattle.std.specs.Prelude.{◌+◌, [], ◌∷◌, length, min, take, drop, slice_index, slice_range, sum_by, count_by}
-use Rattle.fmp_lex.specs.declared.place.Place.{Place}
+use Rattle.fmp_lex.specs.declared.position.TokenPosition.{TokenPosition}
 use Rattle.fmp_server.specs.declared.positions.Position.{Position}
 use Rattle.fmp_server.specs.declared.positions.TextRange.{TextRange}
 
@@ -27,7 +27,7 @@ pub record IsRange (text : List ℕ) (line start end : ℕ) (r : TextRange) : Ty
   pub end_is : IsPosition text line (min end (length text)) r.end
 
 -- what stands at each of these places, in order
-abbrev pub AreRanges : (text : List ℕ) → List Place → List TextRange → Type 0
+abbrev pub AreRanges : (text : List ℕ) → List TokenPosition → List TextRange → Type 0
 AreRanges text [] rs = rs ≡ []
 AreRanges text (p ∷ ps) rs =
     (r : TextRange) × (more : List TextRange) × (rs ≡ r ∷ more) × IsRange text (p.line - 1) p.start p.end r

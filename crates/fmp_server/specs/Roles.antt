@@ -11,17 +11,17 @@ use Rattle.fmp_base.specs.declared.words.Keyword.{Keyword}
 use Rattle.fmp_base.specs.declared.words.Keyword.TheVariants as keyword
 use Rattle.fmp_lex.specs.declared.fault.TextFile.{TextFile}
 use Rattle.fmp_lex.specs.declared.fault.TextFile.TheVariants as file
-use Rattle.fmp_lex.specs.declared.place.Place.{Place}
+use Rattle.fmp_lex.specs.declared.position.TokenPosition.{TokenPosition}
 use Rattle.fmp_lex.specs.declared.token.Symbol.{Symbol}
 use Rattle.fmp_lex.specs.declared.token.Symbol.TheVariants as symbol
 use Rattle.fmp_lex.specs.declared.token.Token.{Token}
 use Rattle.fmp_lex.specs.declared.token.TokenKind.{TokenKind}
 use Rattle.fmp_lex.specs.declared.token.TokenKind.TheVariants as kind
-use Rattle.fmp_lex.specs.Places.{place_of}
+use Rattle.fmp_lex.specs.Positions.{position_of}
 use Rattle.fmp_server.specs.declared.roles.Before.{Before}
 use Rattle.fmp_server.specs.declared.roles.Before.TheVariants as before
 use Rattle.fmp_server.specs.declared.roles.Named.{Named}
-use Rattle.fmp_server.specs.declared.roles.NamePlace.{NamePlace}
+use Rattle.fmp_server.specs.declared.roles.NamePosition.{NamePosition}
 use Rattle.fmp_server.specs.declared.roles.Role.{Role}
 use Rattle.fmp_server.specs.declared.roles.Role.TheVariants as role
 use Rattle.fmp_server.specs.declared.roles.RoleWalk.{RoleWalk}
@@ -115,14 +115,14 @@ abbrev pub stands_for : RoleWalk → Role → TokenKind → Bool
 stands_for w r k = is_name k w.name && same_role (role_of w) r
 
 -- where names stand
-abbrev pub places_of : List NamePlace → List Place
-places_of ps = map (λ (p : NamePlace). p.place) ps
+abbrev pub positions_of : List NamePosition → List TokenPosition
+positions_of ps = map (λ (p : NamePosition). p.position) ps
 
 -- of these tokens, from the walk on, the places of those at which the name stands for this
-abbrev pub named_places : RoleWalk → Role → List Token → List Place
-named_places w r [] = []
-named_places w r (t ∷ ts) =
-    (if stands_for w r t.kind then place_of t ∷ [] else []) ++ named_places (walked w t.kind) r ts
+abbrev pub named_positions : RoleWalk → Role → List Token → List TokenPosition
+named_positions w r [] = []
+named_positions w r (t ∷ ts) =
+    (if stands_for w r t.kind then position_of t ∷ [] else []) ++ named_positions (walked w t.kind) r ts
 
 -- the beginning of a text
 abbrev pub start_of : TextFile → Name → RoleWalk
@@ -144,5 +144,5 @@ abbrev pub may_stand_in : Named → TextFile → Bool
 may_stand_in n f = may_in n.role n.file f
 
 -- where in a text a name stands for the same
-abbrev pub uses : Named → TextFile → List Token → List Place
-uses n f ts = if may_stand_in n f then named_places (start_of f n.name) n.role ts else []
+abbrev pub uses : Named → TextFile → List Token → List TokenPosition
+uses n f ts = if may_stand_in n f then named_positions (start_of f n.name) n.role ts else []

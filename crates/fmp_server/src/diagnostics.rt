@@ -39,7 +39,11 @@ pub enum Found {
 fn fault_in(fault: BuildFault) -> Result<Option<TextsFault>, AllocError> {
     match fault {
         BuildFault::Memory => Err(AllocError),
-        BuildFault::At(file, place, kind) => Ok(Some(TextsFault { file, place, kind })),
+        BuildFault::At(file, position, kind) => Ok(Some(TextsFault {
+            file,
+            position,
+            kind,
+        })),
     }
 }
 
@@ -81,7 +85,7 @@ fn told_of(alloc: Global, texts: Texts<'_>, fault: TextsFault) -> Result<ToldFau
     ensures { IfOk result (IsTold texts.entry fault) }
 {
     let file = fault.file;
-    let finding = finding_at(alloc, texts, file, fault.place, fault.kind)?;
+    let finding = finding_at(alloc, texts, file, fault.position, fault.kind)?;
     Ok(ToldFault { file, finding })
 }
 

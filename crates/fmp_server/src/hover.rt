@@ -108,10 +108,10 @@ fn answer_at(
 ) -> Result<Vec<u8>, AllocError> {
     let mut said = Vec::new(alloc);
     say_word(alloc, open, tokens, at, &mut said)?;
-    match tokens.place(at) {
-        Some(place) if !said.is_empty() => {
+    match tokens.position(at) {
+        Some(position) if !said.is_empty() => {
             let text = open.bytes_of(open.file);
-            answer(alloc, id, range_of(text, place), &said)
+            answer(alloc, id, range_of(text, position), &said)
         }
         _ => null_answer(alloc, id),
     }

@@ -2,7 +2,7 @@
 use crate::documents::{CutTexts, OpenTexts};
 use crate::messages::{RequestId, begin_answer, finish, null_answer};
 use crate::positions::{Position, offset_at, range_of};
-use crate::roles::{Named, named_at, places_in, word_at};
+use crate::roles::{Named, named_at, positions_in, word_at};
 use crate::writing::write_location;
 use fmp_lex::TextFile;
 use json::Writer;
@@ -10,7 +10,7 @@ use std::alloc::{AllocError, Global};
 
 /// Which places of a name are asked for.
 #[derive(Clone, Copy)]
-pub enum WantedPlaces {
+pub enum WantedPositions {
     /// Where it is made or declared.
     Declarations,
     /// All others.
@@ -18,13 +18,13 @@ pub enum WantedPlaces {
     All,
 }
 
-impl WantedPlaces {
+impl WantedPositions {
     /// Whether a place is asked for.
     fn wants(self, declares: bool) -> bool {
         match self {
-            WantedPlaces::Declarations => declares,
-            WantedPlaces::Uses => !declares,
-            WantedPlaces::All => true,
+            WantedPositions::Declarations => declares,
+            WantedPositions::Uses => !declares,
+            WantedPositions::All => true,
         }
     }
 }
@@ -38,36 +38,36 @@ pub fn named_in(cut: &CutTexts<'_>, position: Position) -> Option<Named> {
 }
 
 /// Writes the places of a name in one text.
-fn write_places(
+fn write_positions(
     alloc: Global,
     writer: &mut Writer,
     cut: &CutTexts<'_>,
     file: TextFile,
-    (named, wanted): (Named, WantedPlaces),
+    (named, wanted): (Named, WantedPositions),
 ) -> Result<(), AllocError> {
     let Some(document) = cut.open.of(file) else {
         return Ok(());
     };
     let text = document.text.as_bytes();
-    let places = places_in(alloc, cut.tokens(file), file, named)?;
-    for one in &places {
+    let positions = positions_in(alloc, cut.tokens(file), file, named)?;
+    for one in &positions {
         if wanted.wants(one.declares) {
-            write_location(writer, document.uri.as_str(), range_of(text, one.place))?;
+            write_location(writer, document.uri.as_str(), range_of(text, one.position))?;
         }
     }
     Ok(())
 }
 
 /// Writes those places of a name that are asked for, of both texts.
-fn write_all_places(
+fn write_all_positions(
     alloc: Global,
     writer: &mut Writer,
     cut: &CutTexts<'_>,
-    (named, wanted): (Named, WantedPlaces),
+    (named, wanted): (Named, WantedPositions),
 ) -> Result<(), AllocError> {
     writer.begin_array()?;
-    write_places(alloc, writer, cut, TextFile::Configuration, (named, wanted))?;
-    write_places(alloc, writer, cut, TextFile::Source, (named, wanted))?;
+    write_positions(alloc, writer, cut, TextFile::Configuration, (named, wanted))?;
+    write_positions(alloc, writer, cut, TextFile::Source, (named, wanted))?;
     writer.end_array()
 }
 
@@ -76,21 +76,21 @@ fn answer(
     alloc: Global,
     cut: &CutTexts<'_>,
     id: RequestId<'_>,
-    (named, wanted): (Named, WantedPlaces),
+    (named, wanted): (Named, WantedPositions),
 ) -> Result<Vec<u8>, AllocError> {
     let mut writer = begin_answer(alloc, id)?;
-    write_all_places(alloc, &mut writer, cut, (named, wanted))?;
+    write_all_positions(alloc, &mut writer, cut, (named, wanted))?;
     finish(writer)
 }
 
 /// The answer with those places of the name at a position that are asked for, of both texts. `AllocError` if memory
 /// runs out.
-pub fn places(
+pub fn positions(
     alloc: Global,
     open: OpenTexts<'_>,
     id: RequestId<'_>,
     position: Position,
-    wanted: WantedPlaces,
+    wanted: WantedPositions,
 ) -> Result<Vec<u8>, AllocError> {
     let cut = CutTexts::new(alloc, open)?;
     match named_in(&cut, position) {

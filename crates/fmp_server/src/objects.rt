@@ -43,7 +43,7 @@ fn class_at(tokens: &Tokens<'_>, at: usize) -> Option<Name> {
 
 /// The bytes of a text from one token up to another.
 fn source_of<'a>(text: &'a [u8], tokens: &Tokens<'_>, first: usize, last: usize) -> &'a [u8] {
-    let (Some(first), Some(last)) = (tokens.place(first), tokens.place(last)) else {
+    let (Some(first), Some(last)) = (tokens.position(first), tokens.position(last)) else {
         return &[];
     };
     let end = (last.end as usize).min(text.len());

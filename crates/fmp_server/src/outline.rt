@@ -8,7 +8,7 @@ use fmp_diagnosis::apis::{api_at, is_symbol, object_name};
 use fmp_diagnosis::around::{begins_body_at, list_of, name_at};
 use fmp_diagnosis::fields::object_of;
 use fmp_json::{number_member, text_member};
-use fmp_lex::{Keyword, Place, Symbol, TokenKind, Tokens};
+use fmp_lex::{Keyword, Symbol, TokenKind, TokenPosition, Tokens};
 use json::Writer;
 use std::alloc::{AllocError, Global};
 use std::str;
@@ -99,7 +99,7 @@ fn entry_at(tokens: &Tokens<'_>, at: usize) -> Option<OutlineEntry> {
 }
 
 /// What stands from one token up to another.
-fn range_between(text: &[u8], first: Place, last: Place) -> TextRange {
+fn range_between(text: &[u8], first: TokenPosition, last: TokenPosition) -> TextRange {
     TextRange {
         start: range_of(text, first).start,
         end: range_of(text, last).end,
@@ -129,9 +129,9 @@ fn write_entry(
     tokens: &Tokens<'_>,
     entry: &OutlineEntry,
 ) -> Result<(), AllocError> {
-    let first = tokens.place(entry.first);
-    let last = tokens.place(entry.last);
-    match (first, last, tokens.place(entry.at)) {
+    let first = tokens.position(entry.first);
+    let last = tokens.position(entry.last);
+    match (first, last, tokens.position(entry.at)) {
         (Some(first), Some(last), Some(name)) => {
             let whole = range_between(text, first, last);
             write_symbol(writer, entry, whole, range_of(text, name))

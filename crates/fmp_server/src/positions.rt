@@ -4,7 +4,7 @@ ghost use Rattle.std.specs.Prelude.{◌≡◌, ℕ, ◌-◌, ◌<◌, ◌≤◌,
 ghost use Rattle.fmp_server.specs.Positions as spec;
 ghost use Rattle.fmp_server.specs.Positions.{IsColumn, IsLineStart, IsOffset, IsPosition, IsRange};
 
-use fmp_lex::Place;
+use fmp_lex::TokenPosition;
 
 /// A place between two bytes of a text, as editors tell it.
 #[derive(Clone, Copy)]
@@ -87,11 +87,11 @@ pub fn range_in(text: &[u8], line: u64, start: usize, end: usize) -> TextRange
 }
 
 /// What stands at a place of a text.
-pub fn range_of(text: &[u8], place: Place) -> TextRange
-    ensures { IsRange text.now (place.line - 1) place.start place.end result }
+pub fn range_of(text: &[u8], position: TokenPosition) -> TextRange
+    ensures { IsRange text.now (position.line - 1) position.start position.end result }
 {
-    let line = u64::from(place.line).saturating_sub(1);
-    range_in(text, line, place.start as usize, place.end as usize)
+    let line = u64::from(position.line).saturating_sub(1);
+    range_in(text, line, position.start as usize, position.end as usize)
 }
 
 /// Where the line of this number begins, from 0; the text's end if there is none.

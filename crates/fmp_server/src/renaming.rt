@@ -3,7 +3,7 @@ use crate::documents::{CutTexts, OpenTexts};
 use crate::messages::{Refusal, RequestId, begin_answer, finish, refused};
 use crate::navigation::named_in;
 use crate::positions::Position;
-use crate::roles::{Named, Role, RoleWalk, is_exinf, is_name, places_in};
+use crate::roles::{Named, Role, RoleWalk, is_exinf, is_name, positions_in};
 use crate::writing::{begin_member, write_edits};
 use fmp_base::Name;
 use fmp_diagnosis::around::list_of;
@@ -104,9 +104,9 @@ fn write_changes(
     let Some(document) = cut.open.of(file) else {
         return Ok(());
     };
-    let places = places_in(alloc, cut.tokens(file), file, named)?;
+    let positions = positions_in(alloc, cut.tokens(file), file, named)?;
     let (uri, bytes) = (document.uri.as_str(), document.text.as_bytes());
-    write_edits(writer, uri, bytes, &places, text)
+    write_edits(writer, uri, bytes, &positions, text)
 }
 
 /// Writes the edits of both texts.

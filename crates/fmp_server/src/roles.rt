@@ -2,10 +2,10 @@
 ghost use Rattle.std.specs.Prelude.{◌≡◌, ◌<◌, ◌+◌, ◌++◌, IfOk, OnOk, Some, drop, length, slice_get};
 ghost use Rattle.fmp_lex.specs.Reading.{kinds_of};
 ghost use Rattle.fmp_server.specs.Roles as spec;
-ghost use Rattle.fmp_server.specs.Roles.{named_places, places_of, start_of, walked};
+ghost use Rattle.fmp_server.specs.Roles.{named_positions, positions_of, start_of, walked};
 
 use fmp_base::Name;
-use fmp_lex::{Api, Keyword, Place, Symbol, TextFile, TokenKind, Tokens};
+use fmp_lex::{Api, Keyword, Symbol, TextFile, TokenKind, TokenPosition, Tokens};
 use std::alloc::{AllocError, Global};
 
 /// What a name stands for.
@@ -61,8 +61,8 @@ pub struct Named {
 
 /// Where a name stands.
 #[derive(Clone, Copy)]
-pub struct NamePlace {
-    pub place: Place,
+pub struct NamePosition {
+    pub position: TokenPosition,
     /// Whether what it stands for is made or declared here.
     pub declares: bool,
 }
@@ -267,26 +267,26 @@ fn may_stand_in(named: Named, file: TextFile) -> bool
 
 /// Adds the place of the next token of a walk, which is of this kind, if the name stands for this there.
 #[tactic(auto, using(crate::proofs::Naming::passed, crate::proofs::Naming::named, crate::proofs::Naming::placed))]
-fn add_place(
+fn add_position(
     tokens: &Tokens<'_>,
     at: usize,
     kind: TokenKind,
     walk: &RoleWalk,
     role: Role,
-    places: &mut Vec<NamePlace>,
+    positions: &mut Vec<NamePosition>,
 ) -> Result<(), AllocError>
     requires { slice_get (kinds_of tokens.now) at ≡ Some kind }
     ensures { OnOk result (
-        places_of places.new.items ++ named_places (walked walk.now kind) role (drop (at + 1) tokens.now)
-        ≡ places_of places.old.items ++ named_places walk.now role (drop at tokens.now)) }
+        positions_of positions.new.items ++ named_positions (walked walk.now kind) role (drop (at + 1) tokens.now)
+        ≡ positions_of positions.old.items ++ named_positions walk.now role (drop at tokens.now)) }
 {
     if !walk.stands_for(role, kind) {
         return Ok(());
     }
-    match tokens.place(at) {
-        Some(place) => {
+    match tokens.position(at) {
+        Some(position) => {
             let declares = walk.declares();
-            places.push(NamePlace { place, declares })?;
+            positions.push(NamePosition { position, declares })?;
             Ok(())
         }
         None => Ok(()),
@@ -300,15 +300,15 @@ fn take_token(
     at: usize,
     walk: &mut RoleWalk,
     role: Role,
-    places: &mut Vec<NamePlace>,
+    positions: &mut Vec<NamePosition>,
 ) -> Result<(), AllocError>
     requires { at < length tokens.now }
-    ensures { OnOk result (places_of places.new.items ++ named_places walk.new role (drop (at + 1) tokens.now)
-        ≡ places_of places.old.items ++ named_places walk.old role (drop at tokens.now)) }
+    ensures { OnOk result (positions_of positions.new.items ++ named_positions walk.new role (drop (at + 1) tokens.now)
+        ≡ positions_of positions.old.items ++ named_positions walk.old role (drop at tokens.now)) }
 {
     match tokens.kind(at) {
         Some(kind) => {
-            add_place(tokens, at, kind, walk, role, places)?;
+            add_position(tokens, at, kind, walk, role, positions)?;
             walk.take(kind);
             Ok(())
         }
@@ -317,35 +317,35 @@ fn take_token(
 }
 
 /// The places of a text at which a name stands for this, in order.
-fn all_places(
+fn all_positions(
     alloc: Global,
     tokens: &Tokens<'_>,
     start: RoleWalk,
     role: Role,
-) -> Result<Vec<NamePlace>, AllocError>
-    ensures { IfOk result (λ v. places_of v.items ≡ named_places start role tokens.now) }
+) -> Result<Vec<NamePosition>, AllocError>
+    ensures { IfOk result (λ v. positions_of v.items ≡ named_positions start role tokens.now) }
 {
-    let mut places = Vec::new(alloc);
+    let mut positions = Vec::new(alloc);
     let mut walk = start;
     for at in 0..tokens.len() {
-        take_token(tokens, at, &mut walk, role, &mut places)?;
+        take_token(tokens, at, &mut walk, role, &mut positions)?;
     }
-    Ok(places)
+    Ok(positions)
 }
 
 /// The places of a text at which a name stands for the same, in order. `AllocError` if memory runs out.
-pub fn places_in(
+pub fn positions_in(
     alloc: Global,
     tokens: &Tokens<'_>,
     file: TextFile,
     named: Named,
-) -> Result<Vec<NamePlace>, AllocError>
-    ensures { IfOk result (λ v. places_of v.items ≡ spec.uses named file tokens.now) }
+) -> Result<Vec<NamePosition>, AllocError>
+    ensures { IfOk result (λ v. positions_of v.items ≡ spec.uses named file tokens.now) }
 {
     if !may_stand_in(named, file) {
         return Ok(Vec::new(alloc));
     }
-    all_places(alloc, tokens, RoleWalk::new(file, named.name), named.role)
+    all_positions(alloc, tokens, RoleWalk::new(file, named.name), named.role)
 }
 
 /// How many tokens begin before a byte, or at it.
@@ -354,8 +354,8 @@ pub fn begun_at(tokens: &Tokens<'_>, offset: usize) -> usize {
     let mut high = tokens.len();
     'halves: while low < high {
         let middle = low + (high - low) / 2;
-        let begins = match tokens.place(middle) {
-            Some(place) => place.start as usize <= offset,
+        let begins = match tokens.position(middle) {
+            Some(position) => position.start as usize <= offset,
             None => false,
         };
         if begins {
@@ -372,8 +372,8 @@ fn is_word_at(tokens: &Tokens<'_>, at: usize, offset: usize) -> bool {
     if let Some(TokenKind::Symbol(_) | TokenKind::Bad(_)) = tokens.kind(at) {
         return false;
     }
-    match tokens.place(at) {
-        Some(place) => place.start as usize <= offset && offset <= place.end as usize,
+    match tokens.position(at) {
+        Some(position) => position.start as usize <= offset && offset <= position.end as usize,
         None => false,
     }
 }

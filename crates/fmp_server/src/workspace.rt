@@ -7,7 +7,7 @@ use crate::messages::{
     Message, Refusal, RequestId, begin_answer, finish, message_of, null_answer, position_of,
     refused, uri_of,
 };
-use crate::navigation::{WantedPlaces, places};
+use crate::navigation::{WantedPositions, positions};
 use crate::outline::outline;
 use crate::positions::Position;
 use crate::renaming::rename;
@@ -141,7 +141,7 @@ fn new_name_of<'a>(message: &Value<'a>) -> Option<&'a str> {
 }
 
 /// Which places a message asks for: those of declarations too, if it says so.
-fn wanted_by(message: &Value<'_>) -> WantedPlaces {
+fn wanted_by(message: &Value<'_>) -> WantedPositions {
     let context = match message.get("params") {
         Some(params) => params.get("context"),
         None => None,
@@ -151,8 +151,8 @@ fn wanted_by(message: &Value<'_>) -> WantedPlaces {
         None => None,
     };
     match declarations {
-        Some(Value::Bool(true)) => WantedPlaces::All,
-        _ => WantedPlaces::Uses,
+        Some(Value::Bool(true)) => WantedPositions::All,
+        _ => WantedPositions::Uses,
     }
 }
 
@@ -168,8 +168,8 @@ fn answer_at(
         Query::Outline => outline(alloc, open, id),
         Query::Hover => hover(alloc, open, id, position),
         Query::Completion => completion(alloc, open, id, position),
-        Query::Definition => places(alloc, open, id, position, WantedPlaces::Declarations),
-        Query::References => places(alloc, open, id, position, wanted_by(message)),
+        Query::Definition => positions(alloc, open, id, position, WantedPositions::Declarations),
+        Query::References => positions(alloc, open, id, position, wanted_by(message)),
         Query::Rename => match new_name_of(message) {
             Some(name) => rename(alloc, open, id, position, name),
             None => refused_parameters(alloc, id),

@@ -3,10 +3,10 @@ ghost use Rattle.std.specs.Prelude.{◌≡◌, ◌++◌, List, OnOk};
 ghost use Rattle.fmp_server.specs.declared.positions.TextRange.{TextRange};
 ghost use Rattle.fmp_server.specs.Messages as spec;
 ghost use Rattle.fmp_server.specs.Positions.{AreRanges};
-ghost use Rattle.fmp_server.specs.Roles.{places_of};
+ghost use Rattle.fmp_server.specs.Roles.{positions_of};
 
 use crate::positions::{Position, TextRange, range_of};
-use crate::roles::NamePlace;
+use crate::roles::NamePosition;
 use fmp_json::{number_member, text_member};
 use json::Writer;
 use std::alloc::AllocError;
@@ -81,17 +81,17 @@ pub fn write_edits(
     writer: &mut Writer,
     uri: &str,
     text: &[u8],
-    places: &[NamePlace],
+    positions: &[NamePosition],
     name: &str,
 ) -> Result<(), AllocError>
     ensures before { writer.new.before ≡ writer.old.before }
-    ensures tokens { OnOk result ((ranges : List TextRange) × AreRanges text.now (places_of places.now) ranges
+    ensures tokens { OnOk result ((ranges : List TextRange) × AreRanges text.now (positions_of positions.now) ranges
         × (writer.new.tokens ≡ writer.old.tokens ++ spec.edits uri.now ranges name.now)) }
 {
     writer.key(uri)?;
     writer.begin_array()?;
-    for one in places {
-        write_edit(writer, range_of(text, one.place), name)?;
+    for one in positions {
+        write_edit(writer, range_of(text, one.position), name)?;
     }
     writer.end_array()
 }

@@ -6,7 +6,7 @@ use Rattle.fmp_instructions.specs.declared.instructions.MachineContext.{MachineC
 use Rattle.fmp_instructions.specs.Instructions.{BodyTables}
 use Rattle.fmp_kernel.specs.KernelViews.{KernelView}
 use Rattle.fmp_named.specs.Lines.{named_lines}
-use Rattle.fmp_frames.specs.declared.call_places.CallPlace.{CallPlace}
+use Rattle.fmp_frames.specs.declared.call_positions.CallPosition.{CallPosition}
 use Rattle.fmp_frames.specs.declared.placed_lines.LineForm.TheVariants as form
 use Rattle.fmp_frames.specs.PlacedLines.{placed}
 use Rattle.fmp_replay.specs.Replays.{IsLegal, kernel_after, reaction}
@@ -45,5 +45,5 @@ abbrev pub lines_now : KernelView (List BodyTables) MachineContext → List ℕ
 lines_now k = named_lines k.system k.done k.lines
 
 -- the same as objects of JSON, with where the call of the event stands if that is known
-abbrev pub records_now : Option CallPlace → KernelView (List BodyTables) MachineContext → List ℕ
-records_now place k = placed form.Record k.system k.done place k.lines
+abbrev pub records_now : Option CallPosition → KernelView (List BodyTables) MachineContext → List ℕ
+records_now position k = placed form.Record k.system k.done position k.lines

@@ -2,7 +2,7 @@
 ghost use Rattle.std.specs.Prelude.{◌≡◌, ◌-◌, ◌++◌, IfOk, OnErr, OnOk, [], length, take};
 ghost use Rattle.fmp_drive.specs.NextRuns.{AreNext};
 ghost use Rattle.fmp_instructions.specs.Machine.{code_meaning};
-ghost use Rattle.fmp_frames.specs.Made.{event_place as place_of};
+ghost use Rattle.fmp_frames.specs.Made.{event_position as position_of};
 ghost use Rattle.fmp_trace.specs.Steps.{steps_text};
 ghost use Rattle.fmp_session.specs.Sessions.{IsSession, IsTakenAs, lines_now, records_now, with_event};
 
@@ -10,7 +10,9 @@ use crate::replaying::kernel_over;
 use fmp_base::{Effect, Event};
 use fmp_code::Vm;
 use fmp_drive::{NextRun, next_runs};
-use fmp_frames::{CallPlace, CallPlaces, CodePlaces, LineForm, append_placed, event_place};
+use fmp_frames::{
+    CallPosition, CallPositions, CodePositions, LineForm, append_placed, event_position,
+};
 use fmp_image_bytes::Image;
 use fmp_kernel::Kernel;
 use fmp_named::append_lines;
@@ -146,15 +148,15 @@ impl<'a> Session<'a> {
 
     /// Where the call stands that an event would make now, if it makes one. The calls of the bodies stand at these
     /// places of their text.
-    pub fn place(&self, places: &CallPlaces, e: Event) -> Option<CallPlace>
+    pub fn position(&self, positions: &CallPositions, e: Event) -> Option<CallPosition>
         requires { IsSession self.now }
-        ensures { result ≡ place_of code_meaning self.now.image.now.code places.now self.now.kernel e }
+        ensures { result ≡ position_of code_meaning self.now.image.now.code positions.now self.now.kernel e }
     {
-        let text = CodePlaces {
+        let text = CodePositions {
             code: self.image.code(),
-            places,
+            positions,
         };
-        event_place(&self.kernel, text, e)
+        event_position(&self.kernel, text, e)
     }
 
     /// The lines of the last event that was done, or of setup, with the names of objects. `AllocError` if memory runs
@@ -175,18 +177,18 @@ impl<'a> Session<'a> {
     pub fn append_last_records(
         &self,
         alloc: Global,
-        place: Option<CallPlace>,
+        position: Option<CallPosition>,
         out: &mut Vec<u8>,
     ) -> Result<(), AllocError>
         requires { IsSession self.now }
-        ensures { OnOk result (out.new.items ≡ out.old.items ++ records_now place self.now.kernel) }
+        ensures { OnOk result (out.new.items ≡ out.old.items ++ records_now position self.now.kernel) }
     {
         append_placed(
             alloc,
             LineForm::Record,
             self.image.system(),
             self.kernel.done(),
-            place,
+            position,
             self.kernel.lines(),
             out,
         )

@@ -15,7 +15,7 @@ use Rattle.fmp_warnings.specs.Further.{both, both_left, left_out, one_of, with_o
 use Rattle.fmp_warnings.specs.Further.{no_more, told, passed_over, is_passed, is_told}
 
 -- what is left without a stretch, with its first fault
-pub is_next : (l next : Left) (from to : ℕ) → from ≤ l.fault.place.start
+pub is_next : (l next : Left) (from to : ℕ) → from ≤ l.fault.position.start
     → both next.cfg.items next.src.items
     ≡ with_one (both_left l) l.fault.file (left_out (one_of (both_left l) l.fault.file) from to)
     → IsFirst (both_left next) next.fault → IsNext l next
@@ -24,15 +24,15 @@ is_next l next from to begins is first = (record { from = from; to = to; begins 
 -- what is told of the fault of what is left is a finding of its text
 pub told_is : (l : Left) (r : Texts) (f : FaultReport) (x : ToldFault) → r.cfg.now ≡ l.cfg.items
     → r.src.now ≡ l.src.items → x.file ≡ l.fault.file
-    → IsFinding (text_of r l.fault.file) l.fault.place l.fault.kind f → IsShownAs f x.finding
+    → IsFinding (text_of r l.fault.file) l.fault.position l.fault.kind f → IsShownAs f x.finding
     → IsToldOf (both_left l) l.fault x
 told_is l r f x cfg src same found shown =
     record { file = same; finding = f; is_finding = go l.fault.file found; shown = shown }
   where
-    go : (h : TextFile) → IsFinding (text_of r h) l.fault.place l.fault.kind f
-        → IsFinding (one_of (both_left l) h) l.fault.place l.fault.kind f
-    go file.Configuration finding = subst (λ t. IsFinding t l.fault.place l.fault.kind f) cfg finding
-    go file.Source finding = subst (λ t. IsFinding t l.fault.place l.fault.kind f) src finding
+    go : (h : TextFile) → IsFinding (text_of r h) l.fault.position l.fault.kind f
+        → IsFinding (one_of (both_left l) h) l.fault.position l.fault.kind f
+    go file.Configuration finding = subst (λ t. IsFinding t l.fault.position l.fault.kind f) cfg finding
+    go file.Source finding = subst (λ t. IsFinding t l.fault.position l.fault.kind f) src finding
 
 -- a fault is told after others, or passed over
 pub adds_told : (left : BothTexts) (g : TextsFault) (old new : List ToldFault) (x : ToldFault) → IsToldOf left g x

@@ -47,13 +47,13 @@ both_left l = both l.cfg.items l.src.items
 
 -- this is their first fault
 abbrev pub IsFirst : BothTexts → TextsFault → Type 0
-IsFirst t f = IsBuildFault t.cfg t.src (build.At f.file f.place f.kind)
+IsFirst t f = IsBuildFault t.cfg t.src (build.At f.file f.position f.kind)
 
 -- what is left of two texts: in that with this fault a stretch is left out that begins there or before
 pub record IsLeft (t : BothTexts) (f : TextsFault) (left : BothTexts) : Type 0 where
   pub from : ℕ
   pub to : ℕ
-  pub begins : from ≤ f.place.start
+  pub begins : from ≤ f.position.start
   pub is : left ≡ with_one t f.file (left_out (one_of t f.file) from to)
 
 -- what is left of them after a fault, with its own first fault
@@ -79,7 +79,7 @@ pub record IsShownAs (f x : FaultReport) : Type 0 where
 pub record IsToldOf (left : BothTexts) (g : TextsFault) (x : ToldFault) : Type 0 where
   pub file : x.file ≡ g.file
   pub finding : FaultReport
-  pub is_finding : IsFinding (one_of left g.file) g.place g.kind finding
+  pub is_finding : IsFinding (one_of left g.file) g.position g.kind finding
   pub shown : IsShownAs finding x.finding
 
 -- What is told of two texts after a fault of theirs: the first fault of what is left of them, and what is told after

@@ -31,7 +31,7 @@ use Rattle.fmp_warnings.specs.Further.{AreFurther, both_of}
 
 -- this is the first fault of two texts; or they build the image of a system with this number of processors
 abbrev pub IsFound : (cfg src : List ℕ) → TextsVerdict → Type 0
-IsFound cfg src (found.Faulty f) = IsBuildFault cfg src (build.At f.file f.place f.kind)
+IsFound cfg src (found.Faulty f) = IsBuildFault cfg src (build.At f.file f.position f.kind)
 IsFound cfg src (found.Sound processors) =
     (i : ImageTables) × Builds cfg src i × (processors ≡ i.system.processors)
 
@@ -90,7 +90,7 @@ abbrev pub IsShownOf : Form → FileNames → Texts → (steps : List ℕ) → T
 IsShownOf form names t steps (found.Faulty f) (shown.Faulty out) =
     (x : FaultReport)
     × (more : List ToldFault)
-    × IsFinding (text_of t f.file) f.place f.kind x
+    × IsFinding (text_of t f.file) f.position f.kind x
     × AreFurther (both_of t) f more
     × (out.items ≡ printed form (name_of names f.file) x ++ faults_text form names more)
 IsShownOf form names t steps (found.Faulty f) (shown.Sound out) = ⊥

@@ -88,11 +88,11 @@ fn source_stretch(text: &[u8], at: usize, before: &Before) -> Option<Stretch> {
 /// What is left out of a text with a fault: the construct in which it stands. Nothing if the rest depends on it, or if
 /// it goes on to the end of the text.
 pub fn stretch_of(text: &[u8], fault: TextsFault) -> Option<Stretch>
-    ensures begin { IfSome result (λ s. s.from ≤ fault.place.start) }
+    ensures begin { IfSome result (λ s. s.from ≤ fault.position.start) }
     ensures order { IfSome result (λ s. s.from ≤ s.to) }
     ensures within { IfSome result (λ s. s.to ≤ length text.now) }
 {
-    let at = fault.place.start as usize;
+    let at = fault.position.start as usize;
     if at >= text.len() {
         return None;
     }

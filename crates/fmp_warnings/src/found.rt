@@ -5,7 +5,7 @@ ghost use Rattle.fmp_diagnosis.specs.Reports.{IsWarning};
 
 use fmp_diagnosis::apis::is_symbol;
 use fmp_diagnosis::{FaultReport, Texts, column_behind, excerpt_at};
-use fmp_lex::{Place, Symbol, TextFile, Tokens};
+use fmp_lex::{Symbol, TextFile, TokenPosition, Tokens};
 use std::alloc::{AllocError, Global};
 
 /// A warning: which text it is about, and what is said of it.
@@ -23,23 +23,23 @@ pub struct FoundWarnings<'a> {
 }
 
 /// Where the token at a place stands, with the number after it in its line if it is a minus.
-fn place_at(tokens: &Tokens<'_>, at: usize) -> Place {
-    let Some(place) = tokens.place(at) else {
-        return Place {
+fn position_at(tokens: &Tokens<'_>, at: usize) -> TokenPosition {
+    let Some(position) = tokens.position(at) else {
+        return TokenPosition {
             line: 1,
             start: 0,
             end: 0,
         };
     };
     if !is_symbol(tokens, at, Symbol::Minus) {
-        return place;
+        return position;
     }
-    match tokens.place(at.saturating_add(1)) {
-        Some(behind) if behind.line == place.line => Place {
+    match tokens.position(at.saturating_add(1)) {
+        Some(behind) if behind.line == position.line => TokenPosition {
             end: behind.end,
-            ..place
+            ..position
         },
-        _ => place,
+        _ => position,
     }
 }
 
@@ -47,16 +47,16 @@ fn place_at(tokens: &Tokens<'_>, at: usize) -> Place {
 fn warning_at(
     alloc: Global,
     text: &[u8],
-    place: Place,
+    position: TokenPosition,
     sentence: Vec<u8>,
 ) -> Result<FaultReport, AllocError>
-    ensures { IfOk result (IsWarning text.now place sentence.items) }
+    ensures { IfOk result (IsWarning text.now position sentence.items) }
 {
-    let at = (place.start as usize).min(text.len());
-    let excerpt = excerpt_at(alloc, text, at, place.end as usize)?;
+    let at = (position.start as usize).min(text.len());
+    let excerpt = excerpt_at(alloc, text, at, position.end as usize)?;
     Ok(FaultReport {
-        line: place.line,
-        end: column_behind(excerpt.column, at, place.end as usize),
+        line: position.line,
+        end: column_behind(excerpt.column, at, position.end as usize),
         excerpt,
         code: "warning",
         refusal: "",
@@ -86,8 +86,8 @@ impl<'a> FoundWarnings<'a> {
     ) -> Result<(), AllocError>
         ensures { OnOk result (length self.new.list.items ≡ length self.old.list.items + 1) }
     {
-        let place = place_at(tokens, at);
-        let finding = warning_at(alloc, self.texts.of(file), place, sentence)?;
+        let position = position_at(tokens, at);
+        let finding = warning_at(alloc, self.texts.of(file), position, sentence)?;
         self.list.push(Warning { file, finding })?;
         Ok(())
     }

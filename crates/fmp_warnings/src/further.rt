@@ -47,9 +47,13 @@ fn may_follow(kind: FaultKind) -> bool
 
 /// Whether the name with the fault of what is left of two texts stands in what is left out.
 fn is_of_left_out(alloc: Global, texts: Texts<'_>, left: &Left) -> Result<bool, AllocError> {
-    let TextsFault { file, place, kind } = left.fault;
+    let TextsFault {
+        file,
+        position,
+        kind,
+    } = left.fault;
     let text = left.text(file);
-    let name = culprit_of(alloc, text, file, place, kind)?;
+    let name = culprit_of(alloc, text, file, position, kind)?;
     let word = word_at(text, name.start as usize);
     Ok(is_left_out(texts.cfg, &left.cfg, word) || is_left_out(texts.src, &left.src, word))
 }
@@ -104,8 +108,12 @@ fn told_of(alloc: Global, texts: Texts<'_>, left: &Left) -> Result<ToldFault, Al
         cfg: &left.cfg,
         src: &left.src,
     };
-    let TextsFault { file, place, kind } = left.fault;
-    let finding = finding_at(alloc, rest, file, place, kind)?;
+    let TextsFault {
+        file,
+        position,
+        kind,
+    } = left.fault;
+    let finding = finding_at(alloc, rest, file, position, kind)?;
     let finding = shown_in(alloc, texts.of(file), finding)?;
     Ok(ToldFault { file, finding })
 }

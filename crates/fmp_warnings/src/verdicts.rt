@@ -11,7 +11,7 @@ use crate::idle::idle_steps;
 use crate::warnings::warnings_of;
 use fmp_diagnosis::{FaultReport, StepFlaw, Texts, finding_at, step_finding};
 use fmp_image::build;
-use fmp_lex::{BuildFault, FaultKind, Place, TextFile};
+use fmp_lex::{BuildFault, FaultKind, TextFile, TokenPosition};
 use fmp_trace::{StepsFault, read_steps};
 use std::alloc::{AllocError, Global};
 
@@ -39,7 +39,7 @@ pub struct FileNames<'a> {
 #[derive(Clone, Copy)]
 pub struct TextsFault {
     pub file: TextFile,
-    pub place: Place,
+    pub position: TokenPosition,
     pub kind: FaultKind,
 }
 
@@ -98,9 +98,9 @@ pub fn found_in(alloc: Global, cfg: &[u8], src: &[u8]) -> Result<TextsVerdict, A
             Ok(TextsVerdict::Sound(processors))
         }
         Err(BuildFault::Memory) => Err(AllocError),
-        Err(BuildFault::At(file, place, kind)) => Ok(TextsVerdict::Faulty(TextsFault {
+        Err(BuildFault::At(file, position, kind)) => Ok(TextsVerdict::Faulty(TextsFault {
             file,
-            place,
+            position,
             kind,
         })),
     }
@@ -285,7 +285,7 @@ fn shown_of(
 ) -> Result<Shown, AllocError>
     ensures { IfOk result (IsShownOf form names.entry texts.entry steps.now (found.Faulty fault)) }
 {
-    let finding = finding_at(alloc, texts, fault.file, fault.place, fault.kind)?;
+    let finding = finding_at(alloc, texts, fault.file, fault.position, fault.kind)?;
     let further = further_faults(alloc, texts, fault, ROUNDS)?;
     let out = printed_with(alloc, form, names, fault.file, &finding, &further)?;
     Ok(Shown::Faulty(out))

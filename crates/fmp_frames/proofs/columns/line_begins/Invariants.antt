@@ -1,5 +1,5 @@
 use Rattle.std.proofs.Common.{◌≡◌, ◌++◌, drop}
-use Rattle.fmp_frames.specs.CallPlaces.{begins_behind, line_begins}
+use Rattle.fmp_frames.specs.CallPositions.{begins_behind, line_begins}
 use Rattle.fmp_frames.proofs.columns.line_begins.Given as goal
 
 abbrev pub invariant-loop-at : goal.invariant-loop-at

@@ -7,10 +7,10 @@ use Rattle.fmp_lex.specs.declared.reading.GrammarFault.{GrammarFault}
 use Rattle.fmp_lex.specs.declared.token.Token.{Token}
 use Rattle.fmp_lex.specs.declared.token.TokenList.{TokenList}
 use Rattle.fmp_lex.specs.declared.token.TextFault.TheVariants as text_fault
-use Rattle.fmp_lex.specs.declared.place.Place.{Place}
+use Rattle.fmp_lex.specs.declared.position.TokenPosition.{TokenPosition}
 use Rattle.fmp_lex.specs.Cutting.{Cuts}
 use Rattle.fmp_lex.specs.Faults.{text_max, fault_of, IsSyntaxFault}
-use Rattle.fmp_lex.specs.Places.{text_end}
+use Rattle.fmp_lex.specs.Positions.{text_end}
 use Rattle.fmp_lex.specs.Reading.{kinds_of, IsFirstFault}
 use Rattle.fmp_tasklang.specs.Grammar.{Bodies}
 use Rattle.fmp_tasklang.specs.Reading.{IsRead}
@@ -29,7 +29,7 @@ is_read : (text : List ℕ) (f : BuildFault) → IsSyntaxFault file.Source Bodie
 is_read text build.Memory x = tt
 is_read text (build.At f place why) x = x
 
-read_stopped : (text : List ℕ) (ts : List Token) (j : ℕ) (end : Place) (why : GrammarFault) (f : BuildFault)
+read_stopped : (text : List ℕ) (ts : List Token) (j : ℕ) (end : TokenPosition) (why : GrammarFault) (f : BuildFault)
     → length text ≤ text_max → Cuts text 0 ts →
     IsFirstFault Bodies (kinds_of ts) j why → end ≡ text_end text → f ≡ fault_of file.Source end (slice_get ts j) why
     → IsRead text (Err f)

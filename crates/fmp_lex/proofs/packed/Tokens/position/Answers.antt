@@ -1,6 +1,6 @@
 use Rattle.std.proofs.Common.{◌≡◌, ◌+◌, ◌<◌, length, arith}
-use Rattle.fmp_lex.proofs.Packing.{is_held, one_of_all, packed_place, part_held}
-use Rattle.fmp_lex.proofs.packed.Tokens.place.Goals as goal
+use Rattle.fmp_lex.proofs.Packing.{is_held, one_of_all, packed_position, part_held}
+use Rattle.fmp_lex.proofs.packed.Tokens.position.Goals as goal
 
 pub returns : goal.returns
 returns c =
@@ -16,6 +16,6 @@ returns c =
     let packed = one_of_all text ps k _ p c.self.invariant.3 lt c.index.ensures in
     let start = c.get-start.ensures.value in
     rw (← c.self.view_is, part_held text inside.first ps c.args.at k held)
-    (packed_place text ps k _ p c.place_of_piece.result lt c.index.ensures packed
-    (rw start at c.place_of_piece.ensures.line) (rw start at c.place_of_piece.ensures.start)
-    (rw start at c.place_of_piece.ensures.end))
+    (packed_position text ps k _ p c.position_of_piece.result lt c.index.ensures packed
+    (rw start at c.position_of_piece.ensures.line) (rw start at c.position_of_piece.ensures.start)
+    (rw start at c.position_of_piece.ensures.end))

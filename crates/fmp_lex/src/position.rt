@@ -2,7 +2,7 @@
 
 /// Where a token stands, or where the text ends.
 #[derive(Clone, Copy, Debug, PartialEq, Eq)]
-pub struct Place {
+pub struct TokenPosition {
     /// The line of the first byte, from 1.
     pub line: u32,
     /// The first byte, from 0.

@@ -1,6 +1,6 @@
 use Rattle.std.proofs.Common.{◌≡◌, ◌++◌, drop, length, map}
-use Rattle.fmp_frames.specs.CallPlaces.{calls_of}
-use Rattle.fmp_frames.proofs.call_places.text_counts.Given as goal
+use Rattle.fmp_frames.specs.CallPositions.{calls_of}
+use Rattle.fmp_frames.proofs.call_positions.text_counts.Given as goal
 
 abbrev pub invariant-loop-body : goal.invariant-loop-body
 invariant-loop-body l =

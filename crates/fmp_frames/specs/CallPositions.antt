@@ -12,8 +12,8 @@ use Rattle.fmp_lex.specs.declared.token.TokenKind.{TokenKind}
 use Rattle.fmp_lex.specs.declared.token.TokenKind.TheVariants as kind
 use Rattle.fmp_lex.specs.Cutting.{Cuts}
 use Rattle.fmp_lex.specs.Faults.{text_max}
-use Rattle.fmp_frames.specs.declared.call_places.BodyCalls.{BodyCalls}
-use Rattle.fmp_frames.specs.declared.call_places.CallPlace.{CallPlace}
+use Rattle.fmp_frames.specs.declared.call_positions.BodyCalls.{BodyCalls}
+use Rattle.fmp_frames.specs.declared.call_positions.CallPosition.{CallPosition}
 
 -- where lines begin in a text, of which the first byte stands at a place: behind each line feed
 abbrev pub begins_behind : (at : ℕ) → (text : List ℕ) → List ℕ
@@ -30,10 +30,10 @@ abbrev pub column_of : (begins : List ℕ) → (line start : ℕ) → ℕ
 column_of begins line start = start - get_or begins (line - 1) 0 + 1
 
 -- where a token stands
-abbrev pub place_of_token : (begins : List ℕ) → Token → CallPlace
-place_of_token begins t = record { line = t.line; column = column_of begins t.line t.start }
+abbrev pub position_of_token : (begins : List ℕ) → Token → CallPosition
+position_of_token begins t = record { line = t.line; column = column_of begins t.line t.start }
 
-abbrev pub calls_of : BodyCalls → List CallPlace
+abbrev pub calls_of : BodyCalls → List CallPosition
 calls_of b = b.calls.items
 
 abbrev pub is_head_word : Keyword → Bool
@@ -52,20 +52,20 @@ is_service (kind.Service s) = true
 is_service _ = false
 
 -- where a token stands, if it names a service call
-abbrev pub call_place : (begins : List ℕ) → Token → List CallPlace
-call_place begins t = if is_service t.kind then place_of_token begins t ∷ [] else []
+abbrev pub call_position : (begins : List ℕ) → Token → List CallPosition
+call_position begins t = if is_service t.kind then position_of_token begins t ∷ [] else []
 
 -- where the service calls in tokens stand, up to where the next body begins
-abbrev pub call_places : (begins : List ℕ) → List Token → List CallPlace
-call_places begins [] = []
-call_places begins (t ∷ ts) = if is_head t.kind then [] else call_place begins t ++ call_places begins ts
+abbrev pub call_positions : (begins : List ℕ) → List Token → List CallPosition
+call_positions begins [] = []
+call_positions begins (t ∷ ts) = if is_head t.kind then [] else call_position begins t ++ call_positions begins ts
 
 -- the calls of the body that begins with a token, before others
-abbrev pub body_with : (begins : List ℕ) → Token → List Token → List (List CallPlace)
-body_with begins t ts = if is_head t.kind then call_places begins ts ∷ [] else []
+abbrev pub body_with : (begins : List ℕ) → Token → List Token → List (List CallPosition)
+body_with begins t ts = if is_head t.kind then call_positions begins ts ∷ [] else []
 
 -- the calls of each body that begins in tokens
-abbrev pub bodies_in : (begins : List ℕ) → List Token → List (List CallPlace)
+abbrev pub bodies_in : (begins : List ℕ) → List Token → List (List CallPosition)
 bodies_in begins [] = []
 bodies_in begins (t ∷ ts) = body_with begins t ts ++ bodies_in begins ts
 
@@ -74,18 +74,18 @@ bodies_in begins (t ∷ ts) = body_with begins t ts ++ bodies_in begins ts
 abbrev pub head_at : List Token → ℕ → Bool
 head_at ts i = unwrap_or (option_map (λ t. is_head t.kind) (slice_get ts i)) false
 
-abbrev pub place_at : (begins : List ℕ) → List Token → ℕ → CallPlace
-place_at begins ts i =
-    unwrap_or (option_map (λ t. place_of_token begins t) (slice_get ts i)) (record { line = 0; column = 1 })
+abbrev pub position_at : (begins : List ℕ) → List Token → ℕ → CallPosition
+position_at begins ts i =
+    unwrap_or (option_map (λ t. position_of_token begins t) (slice_get ts i)) (record { line = 0; column = 1 })
 
-abbrev pub call_place_at : (begins : List ℕ) → List Token → ℕ → List CallPlace
-call_place_at begins ts i = unwrap_or (option_map (λ t. call_place begins t) (slice_get ts i)) []
+abbrev pub call_position_at : (begins : List ℕ) → List Token → ℕ → List CallPosition
+call_position_at begins ts i = unwrap_or (option_map (λ t. call_position begins t) (slice_get ts i)) []
 
-abbrev pub body_at : (begins : List ℕ) → List Token → ℕ → List (List CallPlace)
-body_at begins ts i = if head_at ts i then call_places begins (drop (i + 1) ts) ∷ [] else []
+abbrev pub body_at : (begins : List ℕ) → List Token → ℕ → List (List CallPosition)
+body_at begins ts i = if head_at ts i then call_positions begins (drop (i + 1) ts) ∷ [] else []
 
 -- these are the calls of the bodies of a text, by its tokens; of one that is too long to be read they are none
-abbrev pub AreCallsOf : (text : List ℕ) → List (List CallPlace) → Type 0
+abbrev pub AreCallsOf : (text : List ℕ) → List (List CallPosition) → Type 0
 AreCallsOf text bodies =
     ((length text ≤ text_max) × ((ts : List Token) × Cuts text 0 ts × (bodies ≡ bodies_in (line_begins text) ts)))
     ⊎ ((text_max < length text) × (bodies ≡ []))
@@ -95,18 +95,18 @@ is_call (instruction.Call service out result) = true
 is_call _ = false
 
 -- where the call at a place of a body stands, or the next one if none is there
-abbrev pub place_by : Option BodyTables → Option (List CallPlace) → (pc : ℕ) → Option CallPlace
-place_by (Some code) (Some calls) pc = slice_get calls (count_by is_call (take pc code.instructions))
-place_by (Some code) None pc = None
-place_by None calls pc = None
+abbrev pub position_by : Option BodyTables → Option (List CallPosition) → (pc : ℕ) → Option CallPosition
+position_by (Some code) (Some calls) pc = slice_get calls (count_by is_call (take pc code.instructions))
+position_by (Some code) None pc = None
+position_by None calls pc = None
 
-abbrev pub place_of : List BodyTables → List (List CallPlace) → (body pc : ℕ) → Option CallPlace
-place_of code bodies body pc = place_by (slice_get code body) (slice_get bodies body) pc
+abbrev pub position_of : List BodyTables → List (List CallPosition) → (body pc : ℕ) → Option CallPosition
+position_of code bodies body pc = position_by (slice_get code body) (slice_get bodies body) pc
 
 -- how many calls each body of a code has
 abbrev pub code_counts : List BodyTables → List ℕ
 code_counts code = map (λ b. count_by is_call b.instructions) code
 
 -- whether a text has as many bodies as a code, each with as many calls
-abbrev pub fits : List BodyTables → List (List CallPlace) → Bool
+abbrev pub fits : List BodyTables → List (List CallPosition) → Bool
 fits code bodies = bytes_eq (code_counts code) (map length bodies)

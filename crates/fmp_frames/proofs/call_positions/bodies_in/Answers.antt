@@ -1,7 +1,7 @@
 use Rattle.std.proofs.Common.{◌+◌, ◌++◌, ◌<◌, append_assoc, drop, length, map, sym, ap, ◌∙◌, arith}
 use Rattle.fmp_frames.proofs.Bodies.{bodies_in_at}
-use Rattle.fmp_frames.proofs.call_places.bodies_in.Goals as goal
-use Rattle.fmp_frames.specs.CallPlaces.{bodies_in, body_at, calls_of}
+use Rattle.fmp_frames.proofs.call_positions.bodies_in.Goals as goal
+use Rattle.fmp_frames.specs.CallPositions.{bodies_in, body_at, calls_of}
 
 pub loop-at-preserved : goal.loop-at-preserved
 loop-at-preserved c =

@@ -1,6 +1,6 @@
 use Rattle.std.proofs.Common.{◌≡◌, ◌++◌, drop, map}
-use Rattle.fmp_frames.specs.CallPlaces.{bodies_in, calls_of}
-use Rattle.fmp_frames.proofs.call_places.bodies_in.Given as goal
+use Rattle.fmp_frames.specs.CallPositions.{bodies_in, calls_of}
+use Rattle.fmp_frames.proofs.call_positions.bodies_in.Given as goal
 
 abbrev pub invariant-loop-at : goal.invariant-loop-at
 invariant-loop-at l =

@@ -2,7 +2,7 @@
 ghost use Rattle.std.specs.Prelude.{◌≡◌, ◌+◌, ◌≤◌, ◌^◌, ◌++◌, IfOk, OnOk, count_by, drop, false, length, map};
 ghost use Rattle.std.specs.Prelude.{option_map, slice_get, take, unwrap_or};
 ghost use Rattle.fmp_instructions.specs.Instructions.{body_tables, code_tables};
-ghost use Rattle.fmp_frames.specs.CallPlaces as spec;
+ghost use Rattle.fmp_frames.specs.CallPositions as spec;
 
 use crate::columns::{column_of, line_begins};
 use fmp_instructions::{BodyCode, Code, Instruction};
@@ -12,7 +12,7 @@ use std::marker::Model;
 
 /// Where a call stands in a text: its line and its column, both from 1. Columns are counted in bytes.
 #[derive(Clone, Copy, Debug, PartialEq, Eq)]
-pub struct CallPlace {
+pub struct CallPosition {
     pub line: u32,
     pub column: usize,
 }
@@ -20,22 +20,22 @@ pub struct CallPlace {
 /// The places of the calls of a body, in order.
 #[derive(Drop)]
 struct BodyCalls {
-    calls: Vec<CallPlace>,
+    calls: Vec<CallPosition>,
 }
 
 /// Where the calls of each body of a text stand. The code of a body has its calls in the order of the text, so the
 /// call at a place of the code is the one of the same number in the text.
 #[derive(Drop)]
-pub struct CallPlaces {
+pub struct CallPositions {
     bodies: Vec<BodyCalls>,
 }
 
-impl Model for CallPlaces {
+impl Model for CallPositions {
     ghost use Rattle.std.specs.Prelude.{List, map};
-    ghost use Rattle.fmp_frames.specs.CallPlaces.{calls_of};
-    ghost use Rattle.fmp_frames.specs.declared.call_places.CallPlace.{CallPlace as Place};
+    ghost use Rattle.fmp_frames.specs.CallPositions.{calls_of};
+    ghost use Rattle.fmp_frames.specs.declared.call_positions.CallPosition.{CallPosition as Position};
 
-    ghost Value = { List (List Place) };
+    ghost Value = { List (List Position) };
 
     ghost view = { λ c. map calls_of c.bodies.items };
 }
@@ -71,32 +71,32 @@ fn is_service_at(tokens: &Tokens<'_>, at: usize) -> bool
 }
 
 /// Where the token at a place of a list stands in a text whose lines begin at these places.
-fn place_at(begins: &[u32], tokens: &Tokens<'_>, at: usize) -> CallPlace
-    ensures { result ≡ spec.place_at begins.now tokens.now at }
+fn position_at(begins: &[u32], tokens: &Tokens<'_>, at: usize) -> CallPosition
+    ensures { result ≡ spec.position_at begins.now tokens.now at }
 {
-    match tokens.place(at) {
-        Some(place) => CallPlace {
-            line: place.line,
-            column: column_of(begins, place.line, place.start),
+    match tokens.position(at) {
+        Some(position) => CallPosition {
+            line: position.line,
+            column: column_of(begins, position.line, position.start),
         },
-        None => CallPlace { line: 0, column: 1 },
+        None => CallPosition { line: 0, column: 1 },
     }
 }
 
 /// Adds where the token at a place of a list stands, if it names a service call.
-#[tactic(auto, using(crate::proofs::Bodies::call_place_by))]
+#[tactic(auto, using(crate::proofs::Bodies::call_position_by))]
 fn add_call_at(
     begins: &[u32],
     tokens: &Tokens<'_>,
     at: usize,
-    calls: &mut Vec<CallPlace>,
+    calls: &mut Vec<CallPosition>,
 ) -> Result<(), AllocError>
-    ensures { OnOk result (calls.new.items ≡ calls.old.items ++ spec.call_place_at begins.now tokens.now at) }
+    ensures { OnOk result (calls.new.items ≡ calls.old.items ++ spec.call_position_at begins.now tokens.now at) }
 {
     if !is_service_at(tokens, at) {
         return Ok(());
     }
-    calls.push(place_at(begins, tokens, at))?;
+    calls.push(position_at(begins, tokens, at))?;
     Ok(())
 }
 
@@ -106,8 +106,8 @@ fn calls_behind(
     begins: &[u32],
     tokens: &Tokens<'_>,
     start: usize,
-) -> Result<Vec<CallPlace>, AllocError>
-    ensures { IfOk result (λ calls. calls.items ≡ spec.call_places begins.now (drop start tokens.now)) }
+) -> Result<Vec<CallPosition>, AllocError>
+    ensures { IfOk result (λ calls. calls.items ≡ spec.call_positions begins.now (drop start tokens.now)) }
 {
     let mut calls = Vec::new(alloc);
     for at in start..tokens.len() {
@@ -206,38 +206,42 @@ fn text_counts(alloc: Global, bodies: &[BodyCalls]) -> Result<Vec<usize>, AllocE
 }
 
 /// The place of the call at a place among instructions, whose calls stand at these places.
-fn place_among(instructions: &[Instruction], calls: &[CallPlace], pc: u16) -> Option<CallPlace>
+fn position_among(
+    instructions: &[Instruction],
+    calls: &[CallPosition],
+    pc: u16,
+) -> Option<CallPosition>
     ensures { result ≡ slice_get calls.now (count_by spec.is_call (take pc instructions.now)) }
 {
     let end = usize::from(pc).min(instructions.len());
     calls.get(call_count(&instructions[..end])).copied()
 }
 
-impl CallPlaces {
+impl CallPositions {
     ghost use Rattle.std.specs.Prelude.{◌≡◌, IfOk};
     ghost use Rattle.fmp_instructions.specs.Instructions.{code_tables};
-    ghost use Rattle.fmp_frames.specs.CallPlaces.{AreCallsOf, fits, place_of};
+    ghost use Rattle.fmp_frames.specs.CallPositions.{AreCallsOf, fits, position_of};
 
     /// Those of a text that an image was built of; none of a text that is too long. `AllocError` if memory runs out.
-    pub fn new(alloc: Global, src: &[u8]) -> Result<CallPlaces, AllocError>
-        ensures { IfOk result (λ places. AreCallsOf src.now places) }
+    pub fn new(alloc: Global, src: &[u8]) -> Result<CallPositions, AllocError>
+        ensures { IfOk result (λ positions. AreCallsOf src.now positions) }
     {
         let bodies = match tokens(alloc, src) {
             Ok(list) => bodies_of(alloc, src, &list.tokens)?,
             Err(TextFault::TooLong) => Vec::new(alloc),
             Err(TextFault::Memory) => return Err(AllocError),
         };
-        Ok(CallPlaces { bodies })
+        Ok(CallPositions { bodies })
     }
 
     /// Where the call stands at a place of the body of this number of this code, or the next call of the body if none
     /// is there.
-    pub fn place(&self, code: &Code, body: u8, pc: u16) -> Option<CallPlace>
-        ensures { result ≡ place_of (code_tables code.now) self.now body pc }
+    pub fn position(&self, code: &Code, body: u8, pc: u16) -> Option<CallPosition>
+        ensures { result ≡ position_of (code_tables code.now) self.now body pc }
     {
         let code = code.bodies.get(usize::from(body))?;
         let text = self.bodies.get(usize::from(body))?;
-        place_among(&code.instructions, &text.calls, pc)
+        position_among(&code.instructions, &text.calls, pc)
     }
 
     /// Whether the text has as many bodies as this code, each with as many calls: if not, it is not the text of the
