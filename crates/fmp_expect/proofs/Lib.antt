@@ -1,6 +1,7 @@
 pub mod Digits
 pub mod Events
 pub mod Fronts
+pub mod Judging
 pub mod Placing
 pub mod Rows
 pub mod Splitting

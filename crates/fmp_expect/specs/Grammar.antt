@@ -19,6 +19,7 @@ use Rattle.std.specs.Prelude.{ℕ, ◌≡◌, ◌+◌, ◌-◌, List, [], ◌∷
 use Rattle.std.specs.Prelude.{bytes_eq, if◌then◌else◌}
 use Rattle.fmp_base.specs.Systems.{SystemTables}
 use Rattle.fmp_monitors.specs.declared.happening.ExpectedActor.{ExpectedActor}
+use Rattle.fmp_monitors.specs.declared.happening.ExpectedActor.TheVariants as actor
 use Rattle.fmp_monitors.specs.declared.happening.ExpectedDeed.{ExpectedDeed}
 use Rattle.fmp_monitors.specs.declared.happening.ExpectedDeed.TheVariants as deed
 use Rattle.fmp_monitors.specs.declared.happening.ExpectedResponse.{ExpectedResponse}
@@ -49,8 +50,9 @@ abbrev pub one_behind : Option ExpectedActor → Expects
 one_behind None = expects.OneOrBy
 one_behind (Some who) = expects.One
 
--- what may stand behind the happening of `never`: behind an answer, of which nobody is named, `at` too
+-- what may stand behind the happening of `never`: behind an answer `at` too, unless it is one of a handler
 abbrev pub never_end_by : Option ExpectedActor → ExpectedDeed → Expects
+never_end_by (Some (actor.Task t)) (deed.Answer code) = expects.NeverEndOrPlace
 never_end_by (Some who) d = expects.NeverEnd
 never_end_by None (deed.Answer code) = expects.NeverEndOrAt
 never_end_by None (deed.Stop fault) = expects.NeverEndOrBy
@@ -59,7 +61,7 @@ never_end_by None (deed.Put value) = expects.NeverEndOrBy
 abbrev pub never_end : Happening → Expects
 never_end h = never_end_by h.by h.deed
 
--- `at` and the number of a line were read: the line ends, and no run tells where its calls stand
+-- `at` and the number of a line were read: the line ends, but where calls stand is not known
 abbrev pub place_ended : (at rest : List (List ℕ)) → ExpectationFlaw
 place_ended ws [] = flaw_at expects.NoPlace ws
 place_ended ws (w ∷ rest) = flaw_at expects.End (w ∷ rest)
@@ -70,7 +72,10 @@ place_read ws (Err e) = e
 
 -- the flaw of words that begin with `at`, behind a happening of this actor and deed
 abbrev pub place_flaw : Option ExpectedActor → ExpectedDeed → List (List ℕ) → ExpectationFlaw
-place_flaw (Some who) d ws = flaw_at expects.NoPlaceOfActor ws
+place_flaw (Some (actor.Task t)) (deed.Answer code) ws =
+    place_read ws (number_in expects.Line 1 2147483647 (behind_first ws))
+place_flaw (Some (actor.Cyclic h)) (deed.Answer code) ws = flaw_at expects.NoPlaceOfActor ws
+place_flaw (Some who) d ws = flaw_at expects.NeverEnd ws
 place_flaw None (deed.Answer code) ws = place_read ws (number_in expects.Line 1 2147483647 (behind_first ws))
 place_flaw None (deed.Stop fault) ws = flaw_at expects.NeverEndOrBy ws
 place_flaw None (deed.Put value) ws = flaw_at expects.NeverEndOrBy ws

@@ -6,3 +6,4 @@ pub mod Places
 pub mod Meaning
 pub mod Watches
 pub mod Runs
+pub mod Judges

@@ -2,7 +2,6 @@
 use Rattle.std.specs.Prelude.{ℕ, ◌-◌, List, [], ◌∷◌, length, Option, Some, None, Result, Ok, Err, Bool, true, false}
 use Rattle.std.specs.Prelude.{if◌then◌else◌, codes, count_by, find, nat_eq, position, bytes_eq, option_map, slice_get}
 use Rattle.std.specs.List.{list_any}
-use Rattle.fmp_base.specs.declared.bodies.Fault.{Fault}
 use Rattle.fmp_base.specs.declared.codes.Er.{Er}
 use Rattle.fmp_base.specs.declared.events.StateWord.{StateWord}
 use Rattle.fmp_base.specs.declared.systems.Entry.{Entry}
@@ -11,7 +10,7 @@ use Rattle.fmp_base.specs.declared.systems.InterruptConfig.{InterruptConfig}
 use Rattle.fmp_base.specs.Codes.{code_name}
 use Rattle.fmp_base.specs.Names.{name_text}
 use Rattle.fmp_base.specs.Systems.{SystemTables}
-use Rattle.fmp_base.specs.Texts.{fault_text, word_text}
+use Rattle.fmp_base.specs.Texts.{fault_named, word_text}
 use Rattle.fmp_monitors.specs.declared.happening.ExpectedActor.{ExpectedActor}
 use Rattle.fmp_monitors.specs.declared.happening.ExpectedActor.TheVariants as actor
 use Rattle.fmp_monitors.specs.declared.happening.ExpectedDeed.{ExpectedDeed}
@@ -21,7 +20,7 @@ use Rattle.fmp_monitors.specs.declared.sentence.Sentence.{Sentence}
 use Rattle.fmp_expect.specs.declared.fault.Expects.{Expects}
 use Rattle.fmp_expect.specs.declared.fault.Expects.TheVariants as expects
 use Rattle.fmp_expect.specs.declared.fault.ExpectationFlaw.{ExpectationFlaw}
-use Rattle.fmp_expect.specs.declared.named.TheConstants.{CODES, FAULTS, STATES}
+use Rattle.fmp_expect.specs.declared.named.TheConstants.{CODES, STATES}
 use Rattle.fmp_expect.specs.Words.{before_comment, number_of, put_value, words_of}
 
 -- what is read of the first words, and the words behind it
@@ -70,9 +69,6 @@ or_else None other = other
 
 abbrev pub code_named : List ℕ → Option Er
 code_named w = find (λ c. bytes_eq (code_name c) w) CODES
-
-abbrev pub fault_named : List ℕ → Option Fault
-fault_named w = find (λ f. bytes_eq (fault_text f) w) FAULTS
 
 abbrev pub state_named : List ℕ → Option StateWord
 state_named w = find (λ s. bytes_eq (word_text s) w) STATES

@@ -58,11 +58,14 @@ pub enum Expects {
     /// Nothing, `after` or `until`, or `by` with an actor, or `at` with the line of a call.
     #[error("the end of the line, `after`, `until`, `by` or `at`")]
     NeverEndOrAt,
-    /// Nothing, `after` or `until`. The line of a call, which `at` names, says whose call it is.
-    #[error("the end of the line, `after` or `until`: `at` says whose call it is")]
+    /// Nothing, `after` or `until`, or `at` with the line of a call.
+    #[error("the end of the line, `after`, `until` or `at`")]
+    NeverEndOrPlace,
+    /// Nothing, `after` or `until`. With `at` only a task may be named.
+    #[error("the end of the line, `after` or `until`: with `at` only a task may be named")]
     NoPlaceOfActor,
-    /// Nothing, `after` or `until`, or `by` with an actor. A run does not tell in which line a call stands.
-    #[error("the end of the line, `after`, `until` or `by`: only `explore` takes `at`")]
+    /// Nothing, `after` or `until`. Where calls stand is not known without the tasks' text.
+    #[error("the end of the line, `after` or `until`: `at` needs the text of the tasks")]
     NoPlace,
     /// The number of a line of the tasks' text.
     #[error("the number of a line, 1 to 2147483647")]

@@ -4,7 +4,7 @@ ghost use Rattle.std.specs.List.{list_any};
 ghost use Rattle.fmp_base.specs.Codes.{code_name};
 ghost use Rattle.fmp_base.specs.Names.{name_text};
 ghost use Rattle.fmp_base.specs.Systems.{tables_of};
-ghost use Rattle.fmp_base.specs.Texts.{fault_text, word_text};
+ghost use Rattle.fmp_base.specs.Texts.{word_text};
 ghost use Rattle.fmp_expect.specs.Parts as spec;
 ghost use Rattle.fmp_expect.specs.Words as words;
 
@@ -29,9 +29,6 @@ pub const CODES: [Er; 12] = [
     Er::Tmout,
 ];
 
-/// All faults of bodies.
-pub const FAULTS: [Fault; 3] = [Fault::Overflow, Fault::Division, Fault::Index];
-
 /// All states of a task.
 pub const STATES: [StateWord; 6] = [
     StateWord::Running,
@@ -49,15 +46,6 @@ fn code_among(codes: &[Er], word: &[u8]) -> Option<Er>
         .iter()
         .copied()
         .find(|code| code.name().as_bytes() == word)
-}
-
-fn fault_among(faults: &[Fault], word: &[u8]) -> Option<Fault>
-    ensures { result ≡ find (λ fault. bytes_eq (fault_text fault) word.now) faults.now }
-{
-    faults
-        .iter()
-        .copied()
-        .find(|fault| fault.name().as_bytes() == word)
 }
 
 /// The state of this name, among these.
@@ -133,7 +121,7 @@ pub fn deed_named(word: &[u8]) -> Option<ExpectedDeed>
     if let Some(code) = code_named(word) {
         return Some(ExpectedDeed::Answer(code));
     }
-    if let Some(fault) = fault_among(&FAULTS, word) {
+    if let Some(fault) = Fault::named(word) {
         return Some(ExpectedDeed::Stop(fault));
     }
     match put_value(word) {

@@ -43,6 +43,7 @@ fn never_end(happening: Happening) -> Expects
     ensures { result ≡ spec.never_end happening }
 {
     match (happening.by, happening.deed) {
+        (Some(ExpectedActor::Task(_)), ExpectedDeed::Answer(_)) => Expects::NeverEndOrPlace,
         (Some(_), _) => Expects::NeverEnd,
         (None, ExpectedDeed::Answer(_)) => Expects::NeverEndOrAt,
         (None, ExpectedDeed::Stop(_) | ExpectedDeed::Put(_)) => Expects::NeverEndOrBy,
@@ -59,7 +60,7 @@ fn place_ended(line: &[u8], rest: &[u8]) -> ExpectationFlaw
     }
 }
 
-/// The flaw of what begins with `at` after an answer of nobody.
+/// The flaw of what begins with `at` after an answer.
 fn place_read(line: &[u8]) -> ExpectationFlaw
     ensures { result ≡ spec.place_read (words_of line.now)
         (number_in Line 1 2147483647 (after_first (words_of line.now))) }
@@ -75,8 +76,11 @@ fn place_flaw(happening: Happening, line: &[u8]) -> ExpectationFlaw
     ensures { result ≡ spec.place_flaw happening.by happening.deed (words_of line.now) }
 {
     match (happening.by, happening.deed) {
-        (Some(_), _) => flaw_at(Expects::NoPlaceOfActor, line),
-        (None, ExpectedDeed::Answer(_)) => place_read(line),
+        (Some(ExpectedActor::Task(_)) | None, ExpectedDeed::Answer(_)) => place_read(line),
+        (Some(ExpectedActor::Cyclic(_)), ExpectedDeed::Answer(_)) => {
+            flaw_at(Expects::NoPlaceOfActor, line)
+        }
+        (Some(_), _) => flaw_at(Expects::NeverEnd, line),
         (None, ExpectedDeed::Stop(_) | ExpectedDeed::Put(_)) => {
             flaw_at(Expects::NeverEndOrBy, line)
         }

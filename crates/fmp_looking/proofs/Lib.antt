@@ -5,6 +5,7 @@ pub mod Fresh
 mod HeardLemmas
 pub mod ImageSites
 mod MarkLemmas
+mod NameLemmas
 mod PartLemmas
 mod SeenLemmas
 mod TestAnswers

@@ -1,6 +1,6 @@
 -- What is seen of runs, where it was seen in parts.
-use Rattle.std.proofs.Common.{◌≡◌, ◌∙◌, ℕ, ◌+◌, ◌-◌, ◌<◌, List, [], ◌∷◌, ◌++◌, Option, Some, None, Result, Ok, Err, IfOk, ap}
-use Rattle.std.proofs.Common.{append_assoc, get_or, length, length-append, refl, sym}
+use Rattle.std.proofs.Common.{◌≡◌, ◌∙◌, ℕ, ◌+◌, ◌-◌, ◌<◌, List, [], ◌∷◌, ◌++◌, Option, Some, None, Result, Ok, Err}
+use Rattle.std.proofs.Common.{IfOk, ap, append_assoc, get_or, length, length-append, refl, sym}
 use Rattle.std.proofs.lemmas.List.{append-nil}
 use Rattle.fmp_base.specs.declared.calls.Reply.{Reply}
 use Rattle.fmp_base.specs.declared.codes.Er.{Er}
@@ -20,8 +20,8 @@ use Rattle.fmp_instructions.specs.declared.instructions.MachineContext.{MachineC
 use Rattle.fmp_instructions.specs.Instructions.{BodyTables}
 use Rattle.fmp_instructions.specs.Machine.{code_meaning}
 use Rattle.fmp_replay.specs.Replays.{kernel_after}
-use Rattle.fmp_frames.specs.declared.call_places.CallPlace.{CallPlace}
-use Rattle.fmp_frames.specs.Made.{event_place, places_made}
+use Rattle.fmp_frames.specs.declared.call_positions.CallPosition.{CallPosition}
+use Rattle.fmp_frames.specs.Made.{event_position, positions_made}
 use Rattle.fmp_looking.specs.declared.branches.BranchStep.{BranchStep}
 use Rattle.fmp_looking.specs.declared.observing.CallSeen.{CallSeen}
 use Rattle.fmp_looking.specs.declared.observing.Outcome.TheVariants as outcome
@@ -45,22 +45,22 @@ one_behind : (cs : List CallSeen) (h : Heard) (c : CallSeen)
 one_behind cs h c =
     ap (λ (x : List CallSeen). record { calls = x; waiting = h.waiting }) (append_assoc cs h.calls (c ∷ []))
 
-made_behind : (cs : List CallSeen) (h : Heard) (p : Option CallPlace) → made (behind cs h) p ≡ behind cs (made h p)
+made_behind : (cs : List CallSeen) (h : Heard) (p : Option CallPosition) → made (behind cs h) p ≡ behind cs (made h p)
 made_behind cs h None = refl
-made_behind cs h (Some p) = one_behind cs h (record { place = p; outcome = outcome.Made })
+made_behind cs h (Some p) = one_behind cs h (record { position = p; outcome = outcome.Made })
 
-answered_behind : (cs : List CallSeen) (h : Heard) (p : Option CallPlace) (c : Er)
+answered_behind : (cs : List CallSeen) (h : Heard) (p : Option CallPosition) (c : Er)
     → answered (behind cs h) p c ≡ behind cs (answered h p c)
 answered_behind cs h None c = refl
-answered_behind cs h (Some p) c = one_behind cs h (record { place = p; outcome = outcome.Answered c })
+answered_behind cs h (Some p) c = one_behind cs h (record { position = p; outcome = outcome.Answered c })
 
-replied_behind : (cs : List CallSeen) (h : Heard) (p : Option CallPlace) (who : Caller) (r : Option Reply)
+replied_behind : (cs : List CallSeen) (h : Heard) (p : Option CallPosition) (who : Caller) (r : Option Reply)
     → replied (behind cs h) p who r ≡ behind cs (replied h p who r)
 replied_behind cs h p who (Some r) = answered_behind cs h p r.code
 replied_behind cs h p (caller.Task t) None = refl
 replied_behind cs h p (caller.Handler x) None = refl
 
-line_behind : (cs : List CallSeen) (h : Heard) (p : Option CallPlace) (l : Line)
+line_behind : (cs : List CallSeen) (h : Heard) (p : Option CallPosition) (l : Line)
     → heard_line (behind cs h) p l ≡ behind cs (heard_line h p l)
 line_behind cs h p (line.Call q who c reply) = replied_behind cs h p who reply
 line_behind cs h p (line.Gets q t reply) = answered_behind cs h (get_or h.waiting t None) reply.code
@@ -73,13 +73,13 @@ line_behind cs h p (line.Pends q c) = refl
 line_behind cs h p (line.Begins q x) = refl
 line_behind cs h p (line.Runs q t) = refl
 
-lines_behind : (cs : List CallSeen) (h : Heard) (p : Option CallPlace) (ls : List Line)
+lines_behind : (cs : List CallSeen) (h : Heard) (p : Option CallPosition) (ls : List Line)
     → heard_lines (behind cs h) p ls ≡ behind cs (heard_lines h p ls)
 lines_behind cs h p [] = refl
 lines_behind cs h p (l ∷ ls) =
     ap (λ (x : Heard). heard_lines x p ls) (line_behind cs h p l) ∙ lines_behind cs (heard_line h p l) p ls
 
-event_behind : (cs : List CallSeen) (h : Heard) (p : Option CallPlace) (e : Effect) (ls : List Line)
+event_behind : (cs : List CallSeen) (h : Heard) (p : Option CallPosition) (e : Effect) (ls : List Line)
     → heard_event (behind cs h) p e ls ≡ behind cs (heard_event h p e ls)
 event_behind cs h p effect.Nothing ls = refl
 event_behind cs h p effect.Kept ls = refl
@@ -87,17 +87,17 @@ event_behind cs h p effect.Done ls =
     ap (λ (x : Heard). heard_lines x p ls) (made_behind cs h p) ∙ lines_behind cs (made h p) p ls
 
 module _ {B : Type 0} (meaning : B → Meaning MachineContext) (code : List BodyTables)
-    (bodies : List (List CallPlace)) where
+    (bodies : List (List CallPosition)) where
   run_behind : (cs : List CallSeen) (k : KernelView B MachineContext) (es : List Event) (h : Heard)
       → heard_in meaning code bodies k es (behind cs h) ≡ behind cs (heard_in meaning code bodies k es h)
   run_behind cs k [] h = refl
   run_behind cs k (e ∷ es) h =
       let reaction = reaction_of meaning k e in
       let after : KernelView B MachineContext = view_after k reaction in
-      let place : Option CallPlace = event_place meaning code bodies k e in
+      let position : Option CallPosition = event_position meaning code bodies k e in
       ap (λ (x : Heard). heard_in meaning code bodies after es x)
-      (event_behind cs h place (effect_of reaction) after.lines)
-      ∙ run_behind cs after es (heard_event h place (effect_of reaction) after.lines)
+      (event_behind cs h position (effect_of reaction) after.lines)
+      ∙ run_behind cs after es (heard_event h position (effect_of reaction) after.lines)
 
   -- the calls of a run stand after those that were known
   calls_behind : (cs : List CallSeen) (k : KernelView B MachineContext) (es : List Event) (calls : List CallSeen)
@@ -105,23 +105,24 @@ module _ {B : Type 0} (meaning : B → Meaning MachineContext) (code : List Body
   calls_behind cs k es calls =
       ap (λ (x : Heard). x.calls) (run_behind cs k es (unheard calls (length k.system.tasks)))
 
-abbrev seen_by : List (List CallPlace) → List (Option CallPlace) → List CallSeen → List BranchStep → Seen
-seen_by places made calls steps = record { places = places; made = made; calls = calls; steps = steps }
+abbrev seen_by : List (List CallPosition) → List (Option CallPosition) → List CallSeen → List BranchStep → Seen
+seen_by positions made calls steps = record { positions = positions; made = made; calls = calls; steps = steps }
 
 module _ (i : ImageTables) (n : ℕ) where
   -- a run after others
   run_after : (s t : Seen) (es : List Event) → with_run i n (both s t) es ≡ both s (with_run i n t es)
   run_after s t es =
       let start = kernel_after i n [] in
-      let calls : List CallSeen = calls_seen code_meaning i.code t.places start es (s.calls ++ t.calls) in
-      let places : List (Option CallPlace) = places_made code_meaning i.code t.places start es in
+      let calls : List CallSeen = calls_seen code_meaning i.code t.positions start es (s.calls ++ t.calls) in
+      let positions : List (Option CallPosition) = positions_made code_meaning i.code t.positions start es in
       let steps : List BranchStep = branch_steps code_meaning i.code start es in
-      ap (λ (x : List (Option CallPlace)). seen_by t.places x calls ((s.steps ++ t.steps) ++ steps))
-      (append_assoc s.made t.made places)
-      ∙ ap (λ (x : List CallSeen). seen_by t.places (s.made ++ (t.made ++ places)) x ((s.steps ++ t.steps) ++ steps))
-      (calls_behind code_meaning i.code t.places s.calls start es t.calls)
-      ∙ ap (λ (x : List BranchStep). seen_by t.places (s.made ++ (t.made ++ places))
-      (s.calls ++ calls_seen code_meaning i.code t.places start es t.calls) x)
+      ap (λ (x : List (Option CallPosition)). seen_by t.positions x calls ((s.steps ++ t.steps) ++ steps))
+      (append_assoc s.made t.made positions)
+      ∙ ap
+      (λ (x : List CallSeen). seen_by t.positions (s.made ++ (t.made ++ positions)) x ((s.steps ++ t.steps) ++ steps))
+      (calls_behind code_meaning i.code t.positions s.calls start es t.calls)
+      ∙ ap (λ (x : List BranchStep). seen_by t.positions (s.made ++ (t.made ++ positions))
+      (s.calls ++ calls_seen code_meaning i.code t.positions start es t.calls) x)
       (append_assoc s.steps t.steps steps)
 
   runs_after : (s t : Seen) (runs : List (List Event)) → with_runs i n (both s t) runs ≡ both s (with_runs i n t runs)
@@ -133,57 +134,59 @@ module _ (i : ImageTables) (n : ℕ) where
   runs_and_runs s [] b = refl
   runs_and_runs s (es ∷ a) b = runs_and_runs (with_run i n s es) a b
 
-  places_stay : (s : Seen) (runs : List (List Event)) → (with_runs i n s runs).places ≡ s.places
-  places_stay s [] = refl
-  places_stay s (es ∷ runs) = places_stay (with_run i n s es) runs
+  positions_stay : (s : Seen) (runs : List (List Event)) → (with_runs i n s runs).positions ≡ s.positions
+  positions_stay s [] = refl
+  positions_stay s (es ∷ runs) = positions_stay (with_run i n s es) runs
 
-  and_none : (s : Seen) → both s (none_seen s.places) ≡ s
+  and_none : (s : Seen) → both s (none_seen s.positions) ≡ s
   and_none s =
-      ap (λ (x : List (Option CallPlace)). seen_by s.places x (s.calls ++ []) (s.steps ++ [])) (append-nil s.made)
-      ∙ ap (λ (x : List CallSeen). seen_by s.places s.made x (s.steps ++ [])) (append-nil s.calls)
-      ∙ ap (λ (x : List BranchStep). seen_by s.places s.made s.calls x) (append-nil s.steps)
+      ap (λ (x : List (Option CallPosition)). seen_by s.positions x (s.calls ++ []) (s.steps ++ [])) (append-nil s.made)
+      ∙ ap (λ (x : List CallSeen). seen_by s.positions s.made x (s.steps ++ [])) (append-nil s.calls)
+      ∙ ap (λ (x : List BranchStep). seen_by s.positions s.made s.calls x) (append-nil s.steps)
 
   -- what is seen of some runs, and of others after them, is seen of all
-  pub both_seen : (places : List (List CallPlace)) (a b : ℕ) (s t : Seen) → AreRunsSeen places i n a s
-      → AreRunsSeen places i n b t → AreRunsSeen places i n (a + b) (both s t)
-  both_seen places a b s t h g =
-      let there : s.places ≡ places = ap (λ (x : Seen). x.places) h.2 ∙ places_stay (none_seen places) h.0 in (
+  pub both_seen : (positions : List (List CallPosition)) (a b : ℕ) (s t : Seen) → AreRunsSeen positions i n a s
+      → AreRunsSeen positions i n b t → AreRunsSeen positions i n (a + b) (both s t)
+  both_seen positions a b s t h g =
+      let there : s.positions ≡ positions =
+      ap (λ (x : Seen). x.positions) h.2 ∙ positions_stay (none_seen positions) h.0 in (
         h.0 ++ g.0,
         length-append h.0 g.0 ∙ ap (λ (x : ℕ). x + length g.0) h.1 ∙ ap (λ (x : ℕ). a + x) g.1,
         ap (λ (x : Seen). both s x) g.2
-            ∙ sym (runs_after s (none_seen places) g.0)
+            ∙ sym (runs_after s (none_seen positions) g.0)
             ∙ ap (λ (x : Seen). with_runs i n x g.0)
-            (ap (λ (p : List (List CallPlace)). both s (none_seen p)) (sym there) ∙ and_none s ∙ h.2)
-            ∙ sym (runs_and_runs (none_seen places) h.0 g.0),
+            (ap (λ (p : List (List CallPosition)). both s (none_seen p)) (sym there) ∙ and_none s ∙ h.2)
+            ∙ sym (runs_and_runs (none_seen positions) h.0 g.0),
       )
 
   -- before the first part
-  pub before_parts : (places : List (List CallPlace)) (seeds : Seeds) (parts : ℕ) (s : Seen) → s ≡ none_seen places
-      → AreRunsSeen places i n (edge seeds parts 0 - seeds.before) s
-  before_parts places seeds parts s none = ([], sym (first_edge seeds parts), none)
+  pub before_parts : (positions : List (List CallPosition)) (seeds : Seeds) (parts : ℕ) (s : Seen)
+      → s ≡ none_seen positions → AreRunsSeen positions i n (edge seeds parts 0 - seeds.before) s
+  before_parts positions seeds parts s none = ([], sym (first_edge seeds parts), none)
 
   -- after one part more
-  pub after_part : (places : List (List CallPlace)) (seeds : Seeds) (parts k : ℕ) (s t u : Seen)
-      → AreRunsSeen places i n (edge seeds parts k - seeds.before) s
-      → AreRunsSeen places i n (edge seeds parts (k + 1) - edge seeds parts k) t → u ≡ both s t
-      → AreRunsSeen places i n (edge seeds parts (k + 1) - seeds.before) u
-  after_part places seeds parts k s t u h g is =
+  pub after_part : (positions : List (List CallPosition)) (seeds : Seeds) (parts k : ℕ) (s t u : Seen)
+      → AreRunsSeen positions i n (edge seeds parts k - seeds.before) s
+      → AreRunsSeen positions i n (edge seeds parts (k + 1) - edge seeds parts k) t → u ≡ both s t
+      → AreRunsSeen positions i n (edge seeds parts (k + 1) - seeds.before) u
+  after_part positions seeds parts k s t u h g is =
       let before : ℕ = edge seeds parts k - seeds.before in
       let more : ℕ = edge seeds parts (k + 1) - edge seeds parts k in
-      let all = both_seen places before more s t h g in
+      let all = both_seen positions before more s t h g in
       (all.0, all.1 ∙ next_edge seeds parts k, is ∙ all.2)
 
   -- after the last one
-  pub after_parts : (places : List (List CallPlace)) (seeds : Seeds) (parts : ℕ) (s : Seen) → 0 < parts
-      → AreRunsSeen places i n (edge seeds parts parts - seeds.before) s
-      → AreRunsSeen places i n (seeds.last - seeds.before) s
-  after_parts places seeds parts s some h = (h.0, h.1 ∙ last_edge seeds parts some, h.2)
+  pub after_parts : (positions : List (List CallPosition)) (seeds : Seeds) (parts : ℕ) (s : Seen) → 0 < parts
+      → AreRunsSeen positions i n (edge seeds parts parts - seeds.before) s
+      → AreRunsSeen positions i n (seeds.last - seeds.before) s
+  after_parts positions seeds parts s some h = (h.0, h.1 ∙ last_edge seeds parts some, h.2)
 
   -- what is known after one part more, if there was memory for it
-  pub with_part : {E : Type 0} (places : List (List CallPlace)) (seeds : Seeds) (parts k : ℕ) (s u : Sightings)
-      (part : Result Sightings E) → AreRunsSeen places i n (edge seeds parts k - seeds.before) (seen_at places s)
-      → IfOk part (λ t. AreRunsSeen places i n (edge seeds parts (k + 1) - edge seeds parts k) (seen_at places t))
-      → IsWithPart s part u → AreRunsSeen places i n (edge seeds parts (k + 1) - seeds.before) (seen_at places u)
-  with_part places seeds parts k s u (Ok t) h g with =
-      after_part places seeds parts k (seen_at places s) (seen_at places t) (seen_at places u) h g (with places)
-  with_part places seeds parts k s u (Err e) h g with = absurd with
+  pub with_part : {E : Type 0} (positions : List (List CallPosition)) (seeds : Seeds) (parts k : ℕ) (s u : Sightings)
+      (part : Result Sightings E) → AreRunsSeen positions i n (edge seeds parts k - seeds.before) (seen_at positions s)
+      → IfOk part (λ t. AreRunsSeen positions i n (edge seeds parts (k + 1) - edge seeds parts k) (seen_at positions t))
+      → IsWithPart s part u → AreRunsSeen positions i n (edge seeds parts (k + 1) - seeds.before) (seen_at positions u)
+  with_part positions seeds parts k s u (Ok t) h g with =
+      after_part positions seeds parts k (seen_at positions s) (seen_at positions t) (seen_at positions u) h g
+      (with positions)
+  with_part positions seeds parts k s u (Err e) h g with = absurd with

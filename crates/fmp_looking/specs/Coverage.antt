@@ -4,8 +4,8 @@ use Rattle.std.specs.Prelude.{List, [], ◌∷◌, ◌++◌, Option, Some, None,
 use Rattle.std.specs.Prelude.{option_map, slice_get, unwrap_or}
 use Rattle.std.specs.List.{flat_map, list_any}
 use Rattle.fmp_looking.specs.declared.tables.BranchCount.{BranchCount}
-use Rattle.fmp_frames.specs.declared.call_places.CallPlace.{CallPlace}
-use Rattle.fmp_frames.specs.CallPlaces.{is_service}
+use Rattle.fmp_frames.specs.declared.call_positions.CallPosition.{CallPosition}
+use Rattle.fmp_frames.specs.CallPositions.{is_service}
 use Rattle.fmp_lex.specs.declared.token.Token.{Token}
 use Rattle.fmp_lex.specs.Cutting.{Cuts}
 use Rattle.fmp_lex.specs.Faults.{text_max}
@@ -42,12 +42,12 @@ AreLinesOf text lines =
     ⊎ ((text_max < length text) × (lines ≡ []))
 
 -- a call stands in a line
-abbrev pub stands_in : ℕ → Option CallPlace → Bool
+abbrev pub stands_in : ℕ → Option CallPosition → Bool
 stands_in line None = false
 stands_in line (Some p) = p.line == line
 
 -- how many of these calls stand in a line
-abbrev pub count_of : List (Option CallPlace) → ℕ → LineCount
+abbrev pub count_of : List (Option CallPosition) → ℕ → LineCount
 count_of made line = record { line = line; count = count_by (stands_in line) made }
 
 -- a line of a tracefile that tells how often a line of a text was reached
@@ -76,7 +76,7 @@ is_reached c = not (c.is_true == 0) || not (c.is_false == 0)
 
 -- a way of a branch, and how often it was gone
 abbrev pub one_way : BranchCount → (number times : ℕ) → Way
-one_way c number times = record { place = c.place; number = number; times = times; is_reached = is_reached c }
+one_way c number times = record { position = c.position; number = number; times = times; is_reached = is_reached c }
 
 -- the two ways of a branch: what it goes by is not 0, or it is
 abbrev pub ways_of : BranchCount → List Way
@@ -87,12 +87,12 @@ abbrev pub times_gone : (times : ℕ) → (is_reached : Bool) → List ℕ
 times_gone times true = decimal times
 times_gone times false = codes "-"
 
-abbrev pub branch_place : CallPlace → List ℕ
-branch_place p = codes "BRDA:" ++ (decimal p.line ++ (codes "," ++ (decimal p.column ++ codes ",")))
+abbrev pub branch_position : CallPosition → List ℕ
+branch_position p = codes "BRDA:" ++ (decimal p.line ++ (codes "," ++ (decimal p.column ++ codes ",")))
 
 abbrev pub way_line : Way → List ℕ
 way_line w =
-    branch_place w.place ++ (decimal w.number ++ (codes "," ++ (times_gone w.times w.is_reached ++ codes "\n")))
+    branch_position w.position ++ (decimal w.number ++ (codes "," ++ (times_gone w.times w.is_reached ++ codes "\n")))
 
 abbrev pub was_gone : Way → Bool
 was_gone w = not (w.times == 0)

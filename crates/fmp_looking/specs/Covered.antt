@@ -9,9 +9,9 @@ use Rattle.fmp_looking.specs.Branches.{branch_steps}
 use Rattle.fmp_looking.specs.Marks.{AreMarksOf}
 use Rattle.fmp_looking.specs.Observed.{calls_seen}
 use Rattle.fmp_looking.specs.Tables.{branch_counts, table_text}
-use Rattle.fmp_frames.specs.declared.call_places.CallPlace.{CallPlace}
-use Rattle.fmp_frames.specs.CallPlaces.{AreCallsOf}
-use Rattle.fmp_frames.specs.Made.{places_made}
+use Rattle.fmp_frames.specs.declared.call_positions.CallPosition.{CallPosition}
+use Rattle.fmp_frames.specs.CallPositions.{AreCallsOf}
+use Rattle.fmp_frames.specs.Made.{positions_made}
 use Rattle.fmp_image_bytes.specs.Images.{ImageTables}
 use Rattle.fmp_instructions.specs.Machine.{code_meaning}
 use Rattle.fmp_replay.specs.Replays.{kernel_after}
@@ -23,32 +23,33 @@ use Rattle.fmp_looking.specs.Coverage.{AreLinesOf, count_of, tracefile}
 
 -- what is seen of runs so far: where their calls stand, what those were answered, and which ways their branches went
 pub record Seen : Type 0 where
-  pub places : List (List CallPlace)
-  pub made : List (Option CallPlace)
+  pub positions : List (List CallPosition)
+  pub made : List (Option CallPosition)
   pub calls : List CallSeen
   pub steps : List BranchStep
 
-abbrev pub seen_at : List (List CallPlace) → Sightings → Seen
-seen_at places s = record { places = places; made = s.made.items; calls = s.calls.items; steps = s.steps.items }
+abbrev pub seen_at : List (List CallPosition) → Sightings → Seen
+seen_at positions s =
+    record { positions = positions; made = s.made.items; calls = s.calls.items; steps = s.steps.items }
 
 abbrev pub seen_of : RunsSeen → Seen
-seen_of s = seen_at s.places s.sightings
+seen_of s = seen_at s.positions s.sightings
 
 -- nothing yet, where calls of bodies stand at these places
-abbrev pub none_seen : List (List CallPlace) → Seen
-none_seen places = record { places = places; made = []; calls = []; steps = [] }
+abbrev pub none_seen : List (List CallPosition) → Seen
+none_seen positions = record { positions = positions; made = []; calls = []; steps = [] }
 
 -- nothing is seen yet of this text
 abbrev pub IsNoneSeen : (src : List ℕ) → Seen → Type 0
-IsNoneSeen src s = (bodies : List (List CallPlace)) × AreCallsOf src bodies × (s ≡ none_seen bodies)
+IsNoneSeen src s = (bodies : List (List CallPosition)) × AreCallsOf src bodies × (s ≡ none_seen bodies)
 
 -- one run more
 abbrev pub with_run : ImageTables → (n : ℕ) → Seen → List Event → Seen
 with_run i n s es =
     let start = kernel_after i n [] in
     record s {
-      made = s.made ++ places_made code_meaning i.code s.places start es;
-      calls = calls_seen code_meaning i.code s.places start es s.calls;
+      made = s.made ++ positions_made code_meaning i.code s.positions start es;
+      calls = calls_seen code_meaning i.code s.positions start es s.calls;
       steps = s.steps ++ branch_steps code_meaning i.code start es;
     }
 
@@ -62,24 +63,25 @@ abbrev pub both : Seen → Seen → Seen
 both s t = record t { made = s.made ++ t.made; calls = s.calls ++ t.calls; steps = s.steps ++ t.steps }
 
 -- this was seen of some runs of an image, this many, whose calls stand at these places
-abbrev pub AreRunsSeen : List (List CallPlace) → ImageTables → (n runs : ℕ) → Seen → Type 0
-AreRunsSeen places i n count s =
-    (runs : List (List Event)) × (length runs ≡ count) × (s ≡ with_runs i n (none_seen places) runs)
+abbrev pub AreRunsSeen : List (List CallPosition) → ImageTables → (n runs : ℕ) → Seen → Type 0
+AreRunsSeen positions i n count s =
+    (runs : List (List Event)) × (length runs ≡ count) × (s ≡ with_runs i n (none_seen positions) runs)
 
 -- what is seen of a part of runs was added
 abbrev pub IsWithPart : {E : Type 0} → (before : Sightings) → Result Sightings E → (after : Sightings) → Type 0
 IsWithPart before (Ok part) after =
-    (places : List (List CallPlace)) → seen_at places after ≡ both (seen_at places before) (seen_at places part)
+    (positions : List (List CallPosition))
+    → seen_at positions after ≡ both (seen_at positions before) (seen_at positions part)
 IsWithPart before (Err e) after = ⊥
 
 -- what is seen of each part of seeds, where they are cut into this many
-abbrev pub ArePartsSeen : {E : Type 0} → List (List CallPlace) → ImageTables → (n : ℕ) → Seeds → (parts : ℕ)
+abbrev pub ArePartsSeen : {E : Type 0} → List (List CallPosition) → ImageTables → (n : ℕ) → Seeds → (parts : ℕ)
     → List (Result Sightings E) → Type 0
-ArePartsSeen {E} places i n seeds parts seen =
+ArePartsSeen {E} positions i n seeds parts seen =
     (length seen ≡ parts)
     × ((k : ℕ) (d : Result Sightings E) → k < parts
     → IfOk (slice_index_or seen k d)
-    (λ s. AreRunsSeen places i n (edge seeds parts (k + 1) - edge seeds parts k) (seen_at places s)))
+    (λ s. AreRunsSeen positions i n (edge seeds parts (k + 1) - edge seeds parts k) (seen_at positions s)))
 
 -- this was seen of these runs of an image, in this text of its bodies
 pub record IsSeen (src : List ℕ) (i : ImageTables) (n : ℕ) (runs : List (List Event)) (s : Seen) : Type 0 where

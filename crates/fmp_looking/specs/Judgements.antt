@@ -1,23 +1,34 @@
 -- How a run does by each expectation of a text alone, and how that is told.
 use Rattle.std.specs.Prelude.{ℕ, ◌≡◌, ◌==◌, Bool, true, false, not, ◌||◌, ◌&&◌, List, [], ◌∷◌, ◌++◌}
-use Rattle.std.specs.Prelude.{Ok, Option, Some, None, codes, if◌then◌else◌, is_some, length, map, string_bytes}
+use Rattle.std.specs.Prelude.{Ok, Option, Some, None, codes, filter, if◌then◌else◌, is_some, length, map, nat_eq}
+use Rattle.std.specs.Prelude.{string_bytes}
 use Rattle.std.specs.List.{flat_map}
 use Rattle.json.specs.Token.{Token}
+use Rattle.fmp_base.specs.declared.events.Event.{Event}
 use Rattle.fmp_base.specs.Steps.{Reaction}
 use Rattle.fmp_base.specs.Systems.{SystemTables}
 use Rattle.fmp_expect.specs.declared.checker.BrokenExpectation.{BrokenExpectation}
 use Rattle.fmp_expect.specs.declared.expectation.Expected.{Expected}
-use Rattle.fmp_expect.specs.Grammar.{expectations_of}
+use Rattle.fmp_expect.specs.declared.placed.PlacedNever.{PlacedNever}
+use Rattle.fmp_expect.specs.Places.{placed_of, unplaced_of}
 use Rattle.fmp_json.specs.declared.junit.TestCase.{TestCase}
 use Rattle.fmp_json.specs.declared.junit.TestSuite.{TestSuite}
 use Rattle.fmp_json.specs.Junit.{is_error, is_failure, report_text}
 use Rattle.fmp_json.specs.Members.{number_member, object_line, text_member}
+use Rattle.fmp_expect.specs.Judges.{broken_along}
+use Rattle.fmp_instructions.specs.declared.instructions.MachineContext.{MachineContext}
+use Rattle.fmp_instructions.specs.Instructions.{BodyTables}
+use Rattle.fmp_instructions.specs.Machine.{code_meaning}
+use Rattle.fmp_kernel.specs.Comings.{reaction_of}
 use Rattle.fmp_kernel.specs.KernelViews.{KernelView}
 use Rattle.fmp_trials.specs.Verdicts.{verdict}
+use Rattle.fmp_looking.specs.declared.call_sentences.CallNever.{CallNever}
+use Rattle.fmp_looking.specs.declared.call_sentences.RunSentences.{RunSentences}
 use Rattle.fmp_looking.specs.declared.judged_cases.JudgedCase.{JudgedCase}
 use Rattle.fmp_looking.specs.declared.judging.Judgement.{Judgement}
 use Rattle.fmp_looking.specs.declared.judging.JudgementForm.{JudgementForm}
 use Rattle.fmp_looking.specs.declared.judging.JudgementForm.TheVariants as form
+use Rattle.fmp_looking.specs.CallSentences.{JudgeTables, breaks_by}
 use Rattle.fmp_looking.specs.Expects.{empty_claims}
 
 -- how a run does by one expectation alone
@@ -30,14 +41,42 @@ judged_by reaction k xs one =
       is_empty = not (length (empty_claims reaction k xs (one ∷ [])) == 0);
     }
 
+-- how a run does by one sentence about calls, where this is the judge by what such sentences say of calls
+abbrev pub placed_by : KernelView (List BodyTables) MachineContext → (judge : List CallNever → JudgeTables)
+    → List Event → List CallNever → PlacedNever → Judgement
+placed_by k judge es nevers p =
+    record {
+      line = p.line;
+      broken =
+          broken_along (breaks_by (judge (filter (λ n. nat_eq n.line p.line) nevers))) (reaction_of code_meaning) k es;
+      is_empty = false;
+    }
+
+-- how it does by each sentence of a text alone: by those about calls last
+abbrev pub judged_by_each : KernelView (List BodyTables) MachineContext → (judge : List CallNever → JudgeTables)
+    → List Event → RunSentences → List Judgement
+judged_by_each k judge es s =
+    map (judged_by (reaction_of code_meaning) k es) s.expected.items
+    ++ map (placed_by k judge es s.nevers.items) s.placed.items
+
 -- what is broken, if it stands in this line
 abbrev pub broken_in : (line : ℕ) → Option BrokenExpectation → Option BrokenExpectation
 broken_in line None = None
 broken_in line (Some b) = if b.line == line then Some b else None
 
--- how random runs do by an expectation, of which one breaks this, if one does
-abbrev pub tested_by : Option BrokenExpectation → Expected → Judgement
-tested_by broken one = record { line = one.line; broken = broken_in one.line broken; is_empty = false }
+-- how random runs do by the expectation in a line, of which one breaks this, if one does
+abbrev pub tested_by : Option BrokenExpectation → (line : ℕ) → Judgement
+tested_by broken n = record { line = n; broken = broken_in n broken; is_empty = false }
+
+-- the lines of expectations, and then those of sentences about calls
+abbrev pub lines_of : List Expected → List PlacedNever → List ℕ
+lines_of expected placed = map (λ x. x.line) expected ++ map (λ p. p.line) placed
+
+-- the same of a text
+pub record AreLinesOf (sys : SystemTables) (text lines : List ℕ) : Type 0 where
+  pub expected : List Expected
+  pub read : unplaced_of sys text ≡ Ok expected
+  pub are : lines ≡ lines_of expected (placed_of sys text)
 
 -- a run fails an expectation; strictly, also one that says nothing of it
 abbrev pub fails : (strict : Bool) → Judgement → Bool
@@ -102,6 +141,6 @@ IsTold form.Records name strict js out = AreRecords name js out
 -- a report of random runs that were judged by a text of expectations: only what one of them breaks fails
 pub record IsTestReport
     (sys : SystemTables) (name text : List ℕ) (broken : Option BrokenExpectation) (out : List ℕ) : Type 0 where
-  pub expected : List Expected
-  pub read : expectations_of sys text ≡ Ok expected
-  pub report : IsReport name false (map (tested_by broken) expected) out
+  pub lines : List ℕ
+  pub are : AreLinesOf sys text lines
+  pub report : IsReport name false (map (tested_by broken) lines) out

@@ -1,5 +1,6 @@
 pub mod Asked
 pub mod Branches
+pub mod CallSentences
 pub mod Called
 pub mod Coverage
 pub mod Covered
@@ -9,6 +10,7 @@ pub mod Expects
 pub mod FilesWritten
 pub mod Judgements
 pub mod Marks
+pub mod NamedSystems
 pub mod Observed
 pub mod OpenSystems
 pub mod PlacedRuns

@@ -3,7 +3,7 @@ use Rattle.std.specs.Prelude.{ℕ, ◌≡◌, ◌+◌, ◌-◌, ◌^◌, ◌<◌
 use Rattle.std.specs.Prelude.{Option, Some, None, option_map, slice_get, unwrap_or, if◌then◌else◌}
 use Rattle.fmp_base.specs.declared.words.Keyword.{Keyword}
 use Rattle.fmp_base.specs.declared.words.Keyword.TheVariants as keyword
-use Rattle.fmp_frames.specs.declared.call_places.CallPlace.{CallPlace}
+use Rattle.fmp_frames.specs.declared.call_positions.CallPosition.{CallPosition}
 use Rattle.fmp_lex.specs.declared.token.Symbol.{Symbol}
 use Rattle.fmp_lex.specs.declared.token.Symbol.TheVariants as symbol
 use Rattle.fmp_lex.specs.declared.token.Token.{Token}
@@ -50,8 +50,8 @@ abbrev pub column_of : (text : List ℕ) → (start : ℕ) → ℕ
 column_of text start = column_after 1 (take start text)
 
 -- where a token stands in a text
-abbrev pub place_of : (text : List ℕ) → Token → CallPlace
-place_of text t = record { line = t.line; column = column_of text t.start }
+abbrev pub position_of : (text : List ℕ) → Token → CallPosition
+position_of text t = record { line = t.line; column = column_of text t.start }
 
 -- one more, as far as a number goes
 abbrev pub one_more : ℕ → ℕ
@@ -62,20 +62,20 @@ abbrev pub at_first : Walk
 at_first = record { bodies = 0; branches = 0; condition = None }
 
 -- the mark at a place
-abbrev pub mark_here : Walk → MarkKind → CallPlace → Mark
-mark_here w k place = record { kind = k; place = place; bodies = w.bodies; branches = w.branches }
+abbrev pub mark_here : Walk → MarkKind → CallPosition → Mark
+mark_here w k position = record { kind = k; position = position; bodies = w.bodies; branches = w.branches }
 
 -- the mark of the condition that ends where its block begins
 abbrev pub mark_of_condition : Walk → Option Condition → List Mark
 mark_of_condition w None = []
-mark_of_condition w (Some c) = mark_here w (mark.Branch c.kind) c.place ∷ []
+mark_of_condition w (Some c) = mark_here w (mark.Branch c.kind) c.position ∷ []
 
 -- the mark that a token gives, if it gives one: a call, `&&` and `||` by themselves, a condition where its block begins
-abbrev pub marks_by : Walk → Piece → CallPlace → List Mark
-marks_by w (piece.Call s) place = mark_here w (mark.Call s) place ∷ []
-marks_by w (piece.Branches k) place = mark_here w (mark.Branch k) place ∷ []
-marks_by w piece.Block place = mark_of_condition w w.condition
-marks_by w _ place = []
+abbrev pub marks_by : Walk → Piece → CallPosition → List Mark
+marks_by w (piece.Call s) position = mark_here w (mark.Call s) position ∷ []
+marks_by w (piece.Branches k) position = mark_here w (mark.Branch k) position ∷ []
+marks_by w piece.Block position = mark_of_condition w w.condition
+marks_by w _ position = []
 
 -- a condition has ended, if there was one
 abbrev pub condition_ended : Walk → Option Condition → Walk
@@ -83,27 +83,27 @@ condition_ended w None = w
 condition_ended w (Some c) = record w { branches = one_more w.branches; condition = None }
 
 -- the walk after a token
-abbrev pub walked : Walk → Piece → CallPlace → Walk
-walked w piece.Head place = record { bodies = one_more w.bodies; branches = 0; condition = None }
-walked w (piece.Begins k) place = record w { condition = Some (record { kind = k; place = place }) }
-walked w (piece.Branches k) place = record w { branches = one_more w.branches }
-walked w piece.Block place = condition_ended w w.condition
-walked w _ place = w
+abbrev pub walked : Walk → Piece → CallPosition → Walk
+walked w piece.Head position = record { bodies = one_more w.bodies; branches = 0; condition = None }
+walked w (piece.Begins k) position = record w { condition = Some (record { kind = k; position = position }) }
+walked w (piece.Branches k) position = record w { branches = one_more w.branches }
+walked w piece.Block position = condition_ended w w.condition
+walked w _ position = w
 
 -- the marks of tokens
 abbrev pub marks_from : (text : List ℕ) → Walk → List Token → List Mark
 marks_from text w [] = []
 marks_from text w (t ∷ ts) =
-    marks_by w (piece_of t.kind) (place_of text t)
-    ++ marks_from text (walked w (piece_of t.kind) (place_of text t)) ts
+    marks_by w (piece_of t.kind) (position_of text t)
+    ++ marks_from text (walked w (piece_of t.kind) (position_of text t)) ts
 
 -- the same of the token at a place
 abbrev pub piece_at : List Token → ℕ → Piece
 piece_at ts i = unwrap_or (option_map (λ t. piece_of t.kind) (slice_get ts i)) piece.Other
 
-abbrev pub place_at : (text : List ℕ) → List Token → ℕ → CallPlace
-place_at text ts i =
-    unwrap_or (option_map (λ t. place_of text t) (slice_get ts i)) (record { line = 0; column = 1 })
+abbrev pub position_at : (text : List ℕ) → List Token → ℕ → CallPosition
+position_at text ts i =
+    unwrap_or (option_map (λ t. position_of text t) (slice_get ts i)) (record { line = 0; column = 1 })
 
 -- these are the marks of a text; of one that is too long to be read they are none
 abbrev pub AreMarksOf : (text : List ℕ) → List Mark → Type 0

@@ -5,8 +5,8 @@ use Rattle.fmp_instructions.specs.Instructions.{BodyTables}
 use Rattle.fmp_instructions.specs.Machine.{code_meaning}
 use Rattle.fmp_kernel.specs.KernelViews.{KernelView}
 use Rattle.fmp_replay.specs.Replays.{kernel_after}
-use Rattle.fmp_frames.specs.declared.call_places.CallPlace.{CallPlace}
-use Rattle.fmp_frames.specs.Made.{places_made}
+use Rattle.fmp_frames.specs.declared.call_positions.CallPosition.{CallPosition}
+use Rattle.fmp_frames.specs.Made.{positions_made}
 use Rattle.fmp_looking.specs.declared.branches.BranchStep.{BranchStep}
 use Rattle.fmp_looking.specs.declared.observing.CallSeen.{CallSeen}
 use Rattle.fmp_looking.specs.declared.placing.PlacedRun.{PlacedRun}
@@ -18,12 +18,12 @@ abbrev pub start_of : PlacedRun → KernelView (List BodyTables) MachineContext
 start_of r = kernel_after r.image.now r.bound []
 
 -- for each event that is done where the call stands that it makes
-abbrev pub places_in : PlacedRun → List (Option CallPlace)
-places_in r = places_made code_meaning r.image.now.code r.places.now (start_of r) r.events.now
+abbrev pub positions_in : PlacedRun → List (Option CallPosition)
+positions_in r = positions_made code_meaning r.image.now.code r.positions.now (start_of r) r.events.now
 
 -- the calls of earlier runs, and those of this one after them
 abbrev pub calls_in : PlacedRun → List CallSeen → List CallSeen
-calls_in r calls = calls_seen code_meaning r.image.now.code r.places.now (start_of r) r.events.now calls
+calls_in r calls = calls_seen code_meaning r.image.now.code r.positions.now (start_of r) r.events.now calls
 
 -- the ways that branches went
 abbrev pub steps_in : PlacedRun → List BranchStep

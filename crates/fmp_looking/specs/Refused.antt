@@ -5,9 +5,9 @@ use Rattle.fmp_base.specs.declared.events.Event.{Event}
 use Rattle.fmp_image_bytes.specs.Images.{ImageTables}
 use Rattle.fmp_instructions.specs.Instructions.{BodyTables}
 use Rattle.fmp_instructions.specs.Machine.{code_meaning}
-use Rattle.fmp_frames.specs.declared.call_places.CallPlace.{CallPlace}
+use Rattle.fmp_frames.specs.declared.call_positions.CallPosition.{CallPosition}
 use Rattle.fmp_frames.specs.Answers.{answers_in}
-use Rattle.fmp_frames.specs.Made.{site_place}
+use Rattle.fmp_frames.specs.Made.{site_position}
 use Rattle.fmp_frames.specs.declared.placed_lines.LineForm.{LineForm}
 use Rattle.fmp_frames.specs.RefusalLines.{refused_line}
 use Rattle.fmp_frames.specs.Refusals.{Refused, refused_calls}
@@ -19,6 +19,7 @@ refused_in i n es =
     refused_calls i.code (answers_in code_meaning (kernel_after i n []) es (length i.system.tasks))
 
 -- a line of this form for each call that is refused, where the calls of bodies stand at these places of a file
-abbrev pub refused_lines : LineForm → (file : List ℕ) → List BodyTables → List (List CallPlace) → List Refused → List ℕ
+abbrev pub refused_lines : LineForm → (file : List ℕ) → List BodyTables → List (List CallPosition) → List Refused
+    → List ℕ
 refused_lines form file code bodies rs =
-    flat_map (λ r. refused_line form file (site_place code bodies (Some r.site)) r) rs
+    flat_map (λ r. refused_line form file (site_position code bodies (Some r.site)) r) rs

@@ -6,7 +6,7 @@ use Rattle.fmp_base.specs.declared.codes.Er.{Er}
 use Rattle.fmp_base.specs.Codes.{code_name, code_of}
 use Rattle.fmp_base.specs.Services.{service_name}
 use Rattle.fmp_frames.specs.Answers.{answer_codes, is_same_code}
-use Rattle.fmp_frames.specs.declared.call_places.CallPlace.{CallPlace}
+use Rattle.fmp_frames.specs.declared.call_positions.CallPosition.{CallPosition}
 use Rattle.fmp_looking.specs.declared.branches.BranchStep.{BranchStep}
 use Rattle.fmp_looking.specs.declared.marks.BranchKind.{BranchKind}
 use Rattle.fmp_looking.specs.declared.marks.BranchKind.TheVariants as branch
@@ -19,7 +19,7 @@ use Rattle.fmp_looking.specs.declared.observing.Outcome.TheVariants as outcome
 use Rattle.fmp_looking.specs.declared.tables.BranchCount.{BranchCount}
 
 -- this is seen of a call at this place
-abbrev pub is_at : CallPlace → CallPlace → Bool
+abbrev pub is_at : CallPosition → CallPosition → Bool
 is_at p q = (q.line == p.line) && (q.column == p.column)
 
 abbrev pub is_made : Outcome → Bool
@@ -31,17 +31,17 @@ is_answer c outcome.Made = false
 is_answer c (outcome.Answered d) = is_same_code d c
 
 -- this says that the call at a place was made, or answered a code
-abbrev pub says_made : CallPlace → CallSeen → Bool
-says_made p s = is_at p s.place && is_made s.outcome
+abbrev pub says_made : CallPosition → CallSeen → Bool
+says_made p s = is_at p s.position && is_made s.outcome
 
-abbrev pub says_answered : CallPlace → Er → CallSeen → Bool
-says_answered p c s = is_at p s.place && is_answer c s.outcome
+abbrev pub says_answered : CallPosition → Er → CallSeen → Bool
+says_answered p c s = is_at p s.position && is_answer c s.outcome
 
 -- how often it was
-abbrev pub times_made : List CallSeen → CallPlace → ℕ
+abbrev pub times_made : List CallSeen → CallPosition → ℕ
 times_made calls p = count_by (says_made p) calls
 
-abbrev pub times_answered : List CallSeen → CallPlace → Er → ℕ
+abbrev pub times_answered : List CallSeen → CallPosition → Er → ℕ
 times_answered calls p c = count_by (says_answered p c) calls
 
 abbrev pub is_way : Bool → BranchStep → Bool
@@ -70,18 +70,18 @@ branch_word branch.And = codes "&&"
 branch_word branch.Or = codes "||"
 
 -- a place in a file
-abbrev pub place_text : (file : List ℕ) → CallPlace → List ℕ
-place_text file p = file ++ (codes ":" ++ (decimal p.line ++ (codes ":" ++ decimal p.column)))
+abbrev pub position_text : (file : List ℕ) → CallPosition → List ℕ
+position_text file p = file ++ (codes ":" ++ (decimal p.line ++ (codes ":" ++ decimal p.column)))
 
 -- where a mark stands in a file, with the word that stands there
 abbrev pub mark_text : (file : List ℕ) → Mark → (word : List ℕ) → List ℕ
-mark_text file m word = place_text file m.place ++ (codes ": " ++ (word ++ codes ": "))
+mark_text file m word = position_text file m.position ++ (codes ": " ++ (word ++ codes ": "))
 
 -- what is seen of a mark
 abbrev pub seen_text : List CallSeen → List BranchStep → Mark → MarkKind → List ℕ
 seen_text calls steps m (mark.Call s) =
-    times (codes "made") (times_made calls m.place)
-    ++ flat_map (λ c. answer_times c (times_answered calls m.place c)) answer_codes
+    times (codes "made") (times_made calls m.position)
+    ++ flat_map (λ c. answer_times c (times_answered calls m.position c)) answer_codes
 seen_text calls steps m (mark.Branch k) =
     times (codes "true") (times_gone steps m true)
     ++ (codes ", " ++ times (codes "false") (times_gone steps m false))
@@ -102,7 +102,7 @@ table_text file calls steps marks = flat_map (λ m. row_text file calls steps m)
 -- how often a branch went each way
 abbrev pub branch_count : List BranchStep → Mark → BranchCount
 branch_count steps m =
-    record { place = m.place; is_true = times_gone steps m true; is_false = times_gone steps m false }
+    record { position = m.position; is_true = times_gone steps m true; is_false = times_gone steps m false }
 
 abbrev pub counted : List BranchStep → Mark → MarkKind → List BranchCount
 counted steps m (mark.Call s) = []

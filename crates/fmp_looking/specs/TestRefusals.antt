@@ -4,11 +4,11 @@ use Rattle.fmp_base.specs.declared.events.Event.{Event}
 use Rattle.fmp_image_bytes.specs.Images.{ImageTables}
 use Rattle.fmp_instructions.specs.Machine.{code_meaning}
 use Rattle.fmp_frames.specs.declared.answers.SiteAnswer.{SiteAnswer}
-use Rattle.fmp_frames.specs.declared.call_places.CallPlace.{CallPlace}
+use Rattle.fmp_frames.specs.declared.call_positions.CallPosition.{CallPosition}
 use Rattle.fmp_frames.specs.declared.placed_lines.LineForm.{LineForm}
 use Rattle.fmp_frames.specs.declared.placed_lines.LineForm.TheVariants as form
 use Rattle.fmp_frames.specs.Answers.{answers_in, with_answer}
-use Rattle.fmp_frames.specs.CallPlaces.{AreCallsOf}
+use Rattle.fmp_frames.specs.CallPositions.{AreCallsOf}
 use Rattle.fmp_frames.specs.Refusals.{refused_calls}
 use Rattle.fmp_looking.specs.Refused.{refused_lines}
 use Rattle.fmp_replay.specs.Replays.{kernel_after}
@@ -39,7 +39,7 @@ AreAnswersOf i n count known =
 -- text of its bodies in a file
 pub record AreRefusedLines (written : LineForm) (file src : List ℕ) (i : ImageTables) (n runs : ℕ)
     (out : List ℕ) : Type 0 where
-  pub bodies : List (List CallPlace)
+  pub bodies : List (List CallPosition)
   pub calls : AreCallsOf src bodies
   pub answers : List SiteAnswer
   pub are : AreAnswersOf i n runs answers

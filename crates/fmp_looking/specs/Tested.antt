@@ -1,8 +1,7 @@
 -- What a test of an image comes to.
-use Rattle.std.specs.Prelude.{◌≡◌, ℕ, List, [], Ok}
+use Rattle.std.specs.Prelude.{◌≡◌, ℕ, List, []}
 use Rattle.fmp_base.specs.Systems.{SystemTables}
 use Rattle.fmp_expect.specs.declared.expectation.Expected.{Expected}
-use Rattle.fmp_expect.specs.Grammar.{expectations_of}
 use Rattle.fmp_image_bytes.specs.Images.{ImageTables}
 use Rattle.fmp_instructions.specs.declared.instructions.MachineContext.{MachineContext}
 use Rattle.fmp_instructions.specs.Instructions.{BodyTables}
@@ -11,16 +10,32 @@ use Rattle.fmp_replay.specs.Replays.{kernel_after}
 use Rattle.fmp_trace.specs.Steps.{steps_text}
 use Rattle.fmp_trials.specs.Found.{IsFound}
 use Rattle.fmp_trials.specs.Trials.{Subject}
+use Rattle.fmp_looking.specs.declared.call_sentences.CallNever.{CallNever}
+use Rattle.fmp_looking.specs.declared.call_sentences.RunSentences.{RunSentences}
 use Rattle.fmp_looking.specs.declared.reporting.FailedTest.{FailedTest}
+use Rattle.fmp_looking.specs.declared.trying.Trials.{Trials}
+use Rattle.fmp_looking.specs.CallSentences.{AreSentencesOf, JudgeTables, breaks_by, judge_of}
 
--- runs of an image from setup, which are to meet these expectations
-abbrev pub subject_of : ImageTables → (bound : ℕ) → List Expected → Subject (List BodyTables) MachineContext
-subject_of i n expected = record { start = kernel_after i n []; expected = expected }
+-- runs of an image from setup, which are to meet these expectations and these sentences about calls
+abbrev pub subject_of : ImageTables → (bound : ℕ) → List Expected → List CallNever
+    → Subject (List BodyTables) MachineContext JudgeTables
+subject_of i n expected nevers =
+    record { start = kernel_after i n []; expected = expected; judge = judge_of i nevers }
 
--- a run of an image fails an expectation of a text, and its steps are printed
-pub record IsFailedTest (i : ImageTables) (configured : SystemTables) (bound : ℕ) (text : List ℕ)
+-- the same of trials
+abbrev pub subject_in : Trials → Subject (List BodyTables) MachineContext JudgeTables
+subject_in t =
+    record {
+      start = kernel_after t.opened.image.now t.opened.bound [];
+      expected = t.expected.now;
+      judge = t.judge.now;
+    }
+
+-- a run of an image whose bodies have this text fails a sentence of a text, and its steps are printed
+pub record IsFailedTest (i : ImageTables) (configured : SystemTables) (bound : ℕ) (src text : List ℕ)
     (t : FailedTest) : Type 0 where
-  pub expected : List Expected
-  pub read : expectations_of configured text ≡ Ok expected
-  pub found : IsFound code_meaning (subject_of i bound expected) t.trial
+  pub sentences : RunSentences
+  pub read : AreSentencesOf i configured src text sentences
+  pub found :
+      IsFound code_meaning breaks_by (subject_of i bound sentences.expected.items sentences.nevers.items) t.trial
   pub printed : t.steps.items ≡ steps_text t.trial.run.steps.items

@@ -19,7 +19,7 @@ use crate::why::why_of;
 use fmp_arguments::kept_events;
 use fmp_base::Event;
 use fmp_engine::SimFault;
-use fmp_frames::CallPlace;
+use fmp_frames::CallPosition;
 use fmp_image::build;
 use fmp_image_bytes::Image;
 use fmp_lex::BuildFault;
@@ -33,7 +33,7 @@ pub struct Running {
     /// Whether the table of calls is printed in place of the trace.
     pub calls: bool,
     /// Whether the lines of a trace say where their calls stand; objects of JSON always do.
-    pub places: bool,
+    pub positions: bool,
     /// Whether a table of what calls and branches come to is made.
     pub coverage: bool,
     /// Whether a tracefile of lcov is made.
@@ -92,16 +92,16 @@ fn built(alloc: Global, cfg: &[u8], src: &[u8]) -> Result<Image, NoTrace>
 fn image_trace(
     alloc: Global,
     form: Form,
-    places: &[Option<CallPlace>],
+    positions: &[Option<CallPosition>],
     image: &Image,
     events: &[Event],
     n: u64,
 ) -> Result<Vec<u8>, AllocError>
     requires few { length events.now ≤ 2 ^ 20 }
-    ensures { IfOk result (λ out. IsTrace form image.now.system places.now code_meaning (reaction_of code_meaning)
+    ensures { IfOk result (λ out. IsTrace form image.now.system positions.now code_meaning (reaction_of code_meaning)
         (kernel_after image.now n []) events.now out.items) }
 {
-    trace_of(alloc, form, places, &OpenImage::new(image, n), events)
+    trace_of(alloc, form, positions, &OpenImage::new(image, n), events)
 }
 
 /// The events that a drive of an image takes, and how it ended.
@@ -156,21 +156,21 @@ fn steps_for(
 
 /// Where the calls of a run of an image stand in the text of its bodies, if that is shown: in objects of JSON it always
 /// is.
-fn shown_places(
+fn shown_positions(
     alloc: Global,
     image: &Image,
     src: &[u8],
     events: &[Event],
     run: Running,
     bound: u64,
-) -> Result<Vec<Option<CallPlace>>, AllocError>
+) -> Result<Vec<Option<CallPosition>>, AllocError>
     requires few { length events.now ≤ 2 ^ 20 }
-    ensures { IfOk result (λ made. AreShown run.form run.places src.now image.now bound events.now made.items) }
+    ensures { IfOk result (λ made. AreShown run.form run.positions src.now image.now bound events.now made.items) }
 {
     match run.form {
         Form::Json => placed(alloc, image, src, events, bound),
         Form::Text => {
-            if run.places {
+            if run.positions {
                 placed(alloc, image, src, events, bound)
             } else {
                 Ok(Vec::new(alloc))
@@ -198,8 +198,8 @@ fn printed(
             RunOutput::Calls,
         );
     }
-    let places = shown_places(alloc, image, src, events, run, bound)?;
-    image_trace(alloc, run.form, &places, image, events, bound)
+    let positions = shown_positions(alloc, image, src, events, run, bound)?;
+    image_trace(alloc, run.form, &positions, image, events, bound)
 }
 
 /// The tracefile of lcov of what a run of an image comes to in this text of its bodies, if it is asked for; else empty.

@@ -4,7 +4,7 @@ ghost use Rattle.std.specs.List.{list_any};
 ghost use Rattle.fmp_looking.specs.Coverage as spec;
 ghost use Rattle.fmp_looking.specs.Coverage.{AreLinesOf};
 
-use fmp_frames::CallPlace;
+use fmp_frames::CallPosition;
 use fmp_lex::{TextFault, TokenKind, Tokens, tokens};
 use std::alloc::{AllocError, Global};
 
@@ -56,8 +56,8 @@ fn is_service_at(tokens: &Tokens<'_>, at: usize) -> bool
 fn line_at(tokens: &Tokens<'_>, at: usize) -> u32
     ensures { result ≡ spec.line_at tokens.now at }
 {
-    match tokens.place(at) {
-        Some(place) => place.line,
+    match tokens.position(at) {
+        Some(position) => position.line,
         None => 0,
     }
 }
@@ -96,22 +96,25 @@ pub fn text_lines(alloc: Global, src: &[u8]) -> Result<Vec<u32>, AllocError>
 }
 
 /// Whether a call stands in a line.
-fn stands_in(line: u32, place: &Option<CallPlace>) -> bool
-    ensures { result ≡ spec.stands_in line place.now }
+fn stands_in(line: u32, position: &Option<CallPosition>) -> bool
+    ensures { result ≡ spec.stands_in line position.now }
 {
-    match place {
-        Some(place) => place.line == line,
+    match position {
+        Some(position) => position.line == line,
         None => false,
     }
 }
 
 /// How many of these calls stand in a line.
-fn count_of(made: &[Option<CallPlace>], line: u32) -> LineCount
+fn count_of(made: &[Option<CallPosition>], line: u32) -> LineCount
     ensures { result ≡ spec.count_of made.now line }
 {
     LineCount {
         line,
-        count: made.iter().filter(|place| stands_in(line, *place)).count(),
+        count: made
+            .iter()
+            .filter(|position| stands_in(line, *position))
+            .count(),
     }
 }
 
@@ -119,7 +122,7 @@ fn count_of(made: &[Option<CallPlace>], line: u32) -> LineCount
 pub fn counts_in(
     alloc: Global,
     lines: &[u32],
-    made: &[Option<CallPlace>],
+    made: &[Option<CallPosition>],
 ) -> Result<Vec<LineCount>, AllocError>
     ensures { IfOk result (λ counts. counts.items ≡ map (spec.count_of made.now) lines.now) }
 {

@@ -1,19 +1,19 @@
 //! The coverage of the text of its bodies by runs of an image: as a table, and as a tracefile of lcov.
 ghost use Rattle.std.specs.Prelude.{◌≡◌, ◌≤◌, ◌++◌, ◌∷◌, ◌^◌, [], IfOk, OnOk, length};
 ghost use Rattle.fmp_looking.specs.Covered.{IsCoverage, IsLcov, IsSeen, seen_of};
-ghost use Rattle.fmp_looking.specs.PlacedRuns.{calls_in, places_in, start_of, steps_in};
+ghost use Rattle.fmp_looking.specs.PlacedRuns.{calls_in, positions_in, start_of, steps_in};
 
 use crate::branches::{BranchStep, add_branch_steps};
 use crate::coverage::{counts_in, text_lines};
 use crate::lcov::tracefile;
 use crate::marks::marks_of;
 use crate::observing::{CallSeen, calls_seen};
-use crate::placing::{PlacedRun, places_over};
+use crate::placing::{PlacedRun, positions_over};
 use crate::refused::NamedText;
 use crate::tables::{branch_counts, coverage_table};
 use fmp_base::Event;
 use fmp_code::Vm;
-use fmp_frames::{CallPlace, CallPlaces, CodePlaces};
+use fmp_frames::{CallPosition, CallPositions, CodePositions};
 use fmp_image_bytes::Image;
 use fmp_kernel::Kernel;
 use fmp_replay::kernel_of;
@@ -23,7 +23,7 @@ use std::alloc::{AllocError, Global};
 #[derive(Drop)]
 pub struct Sightings {
     /// Where the calls stand that were made.
-    made: Vec<Option<CallPlace>>,
+    made: Vec<Option<CallPosition>>,
     /// What they were answered.
     calls: Vec<CallSeen>,
     /// Which ways branches went.
@@ -33,7 +33,7 @@ pub struct Sightings {
 /// What is seen in runs of an image, and where the calls of its bodies stand.
 #[derive(Drop)]
 pub struct RunsSeen {
-    places: CallPlaces,
+    positions: CallPositions,
     sightings: Sightings,
 }
 
@@ -49,9 +49,9 @@ fn calls_on<'a>(
     requires few { length run.events.now ≤ 2 ^ 20 }
     ensures { IfOk result (λ seen. seen.items ≡ calls_in run.entry calls.items) }
 {
-    let text = CodePlaces {
+    let text = CodePositions {
         code: run.image.code(),
-        places: run.places,
+        positions: run.positions,
     };
     calls_seen(alloc, kernel, text, run.events, calls)
 }
@@ -92,23 +92,23 @@ fn add_steps(
 fn add_made(
     alloc: Global,
     run: PlacedRun<'_>,
-    made: &mut Vec<Option<CallPlace>>,
+    made: &mut Vec<Option<CallPosition>>,
 ) -> Result<(), AllocError>
     requires few { length run.events.now ≤ 2 ^ 20 }
-    ensures { OnOk result (made.new.items ≡ made.old.items ++ places_in run.entry) }
+    ensures { OnOk result (made.new.items ≡ made.old.items ++ positions_in run.entry) }
 {
-    let more = places_over(alloc, run)?;
+    let more = positions_over(alloc, run)?;
     made.extend_from_slice(&more)
 }
 
 impl Sightings {
     ghost use Rattle.std.specs.Prelude.{List, ◌≡◌, ◌≤◌, ◌^◌, IfOk, length};
-    ghost use Rattle.fmp_frames.specs.declared.call_places.CallPlace.{CallPlace as Place};
+    ghost use Rattle.fmp_frames.specs.declared.call_positions.CallPosition.{CallPosition as Position};
     ghost use Rattle.fmp_looking.specs.Covered.{both, none_seen, seen_at, with_run as after_run};
 
     /// Nothing is seen yet.
     pub fn none(alloc: Global) -> Sightings
-        ensures { (places : List (List Place)) → seen_at places result ≡ none_seen places }
+        ensures { (positions : List (List Position)) → seen_at positions result ≡ none_seen positions }
     {
         Sightings {
             made: Vec::new(alloc),
@@ -123,12 +123,12 @@ impl Sightings {
         alloc: Global,
         image: &Image,
         n: u64,
-        places: &CallPlaces,
+        positions: &CallPositions,
         events: &[Event],
     ) -> Result<Sightings, AllocError>
         requires few { length events.now ≤ 2 ^ 20 }
-        ensures { IfOk result (λ s. seen_at places.now s
-            ≡ after_run image.now n (seen_at places.now self) events.now) }
+        ensures { IfOk result (λ s. seen_at positions.now s
+            ≡ after_run image.now n (seen_at positions.now self) events.now) }
     {
         let Sightings {
             mut made,
@@ -138,7 +138,7 @@ impl Sightings {
         let run = PlacedRun {
             image,
             bound: n,
-            places,
+            positions,
             events,
         };
         add_made(alloc, run, &mut made)?;
@@ -149,8 +149,8 @@ impl Sightings {
 
     /// What is seen in later runs too. `AllocError` if memory runs out.
     pub fn and(self, later: &Sightings) -> Result<Sightings, AllocError>
-        ensures { IfOk result (λ s. (places : List (List Place)) →
-            seen_at places s ≡ both (seen_at places self) (seen_at places later.now)) }
+        ensures { IfOk result (λ s. (positions : List (List Position)) →
+            seen_at positions s ≡ both (seen_at positions self) (seen_at positions later.now)) }
     {
         let Sightings {
             mut made,
@@ -169,10 +169,13 @@ impl RunsSeen {
     ghost use Rattle.fmp_looking.specs.Covered.{IsTable, IsTracefile, seen_at, seen_of};
 
     /// What is seen in runs of an image whose calls stand at these places.
-    pub fn new(places: CallPlaces, sightings: Sightings) -> RunsSeen
-        ensures { seen_of result ≡ seen_at places sightings }
+    pub fn new(positions: CallPositions, sightings: Sightings) -> RunsSeen
+        ensures { seen_of result ≡ seen_at positions sightings }
     {
-        RunsSeen { places, sightings }
+        RunsSeen {
+            positions,
+            sightings,
+        }
     }
 
     /// The table of what is seen, in this text of the file of this name. `AllocError` if memory runs out.
@@ -212,10 +215,10 @@ fn seen_of_run(
     requires few { length events.now ≤ 2 ^ 20 }
     ensures { IfOk result (λ s. IsSeen src.now image.now n (events.now ∷ []) (seen_of s)) }
 {
-    let places = CallPlaces::new(alloc, src)?;
+    let positions = CallPositions::new(alloc, src)?;
     let none = Sightings::none(alloc);
-    let seen = none.with_run(alloc, image, n, &places, events)?;
-    Ok(RunsSeen::new(places, seen))
+    let seen = none.with_run(alloc, image, n, &positions, events)?;
+    Ok(RunsSeen::new(positions, seen))
 }
 
 /// The table of the coverage of this text of its bodies by a run of an image. `AllocError` if memory runs out.

@@ -2,6 +2,7 @@
 ghost use Rattle.std.specs.Prelude.{◌≡◌, ◌+◌, ◌≤◌, ◌^◌, IfOk, Ok, length};
 ghost use Rattle.fmp_base.specs.Systems.{tables_of};
 ghost use Rattle.fmp_expect.specs.Grammar.{expectations_of};
+ghost use Rattle.fmp_expect.specs.Places.{unplaced_of};
 ghost use Rattle.fmp_trials.specs.Verdicts.{verdict};
 ghost use Rattle.fmp_looking.specs.Expects.{empty_claims};
 
@@ -11,7 +12,8 @@ use crate::opened::Opened;
 use fmp_arguments::flaw_text;
 use fmp_base::{Line, System};
 use fmp_expect::{
-    BrokenExpectation, Checker, ExpectFault, ExpectationFlaw, Expected, read_expectations, tell_run,
+    BrokenExpectation, Checker, ExpectFault, ExpectationFlaw, Expected, read_expectations,
+    read_unplaced, tell_run,
 };
 use fmp_kernel::{Body, Coming, Kernel};
 use fmp_named::append_lines;
@@ -131,8 +133,8 @@ fn broken_text(
     Ok(out)
 }
 
-/// What is printed of a run of a system that does not meet a text.
-fn report_of<O: Opened, T: Coming<O::Bodies>>(
+/// What is printed of a run of a system that does not meet a text. `AllocError` if memory runs out.
+pub fn report_of<O: Opened, T: Coming<O::Bodies>>(
     alloc: Global,
     opened: &O,
     events: &[T],
@@ -176,8 +178,8 @@ fn empty_text(
     Ok(Some(out))
 }
 
-/// What is printed of a run of a system, if it does not meet these expectations. `AllocError` if memory runs out.
-pub fn checked<O: Opened, T: Coming<O::Bodies>>(
+/// What is printed of a run of a system, if it does not meet these expectations.
+fn checked<O: Opened, T: Coming<O::Bodies>>(
     alloc: Global,
     opened: &O,
     events: &[T],
@@ -186,8 +188,22 @@ pub fn checked<O: Opened, T: Coming<O::Bodies>>(
 ) -> Result<Option<Vec<u8>>, AllocError>
     requires { length events.now ≤ 2 ^ 31 }
 {
-    let Expectations { name, text, strict } = *expectations;
     let verdict = verdict_of(alloc, opened, events, expected)?;
+    failure_text(alloc, opened, events, expectations, &verdict)
+}
+
+/// What is printed of a run of a system that comes to this verdict, if it does not meet the text. `AllocError` if
+/// memory runs out.
+pub fn failure_text<O: Opened, T: Coming<O::Bodies>>(
+    alloc: Global,
+    opened: &O,
+    events: &[T],
+    expectations: &Expectations<'_>,
+    verdict: &Verdict,
+) -> Result<Option<Vec<u8>>, AllocError>
+    requires { length events.now ≤ 2 ^ 31 }
+{
+    let Expectations { name, text, strict } = *expectations;
     match verdict.broken {
         Some(broken) => {
             let text = report_of(alloc, opened, events, name, text, broken)?;
@@ -212,12 +228,28 @@ fn flawed(
     }
 }
 
-/// The expectations of a text for a system; that of a configuration has names for the bodies of its handlers. The reason
-/// to give none is the first faulty line of the text, or that memory runs out.
+/// The expectations of a text for a system; that of a configuration has names for the bodies of its handlers. The
+/// reason to give none is the first faulty line of the text, or that memory runs out.
 pub fn expected_of(alloc: Global, sys: &System, text: &[u8]) -> Result<Vec<Expected>, ViewExit>
     ensures { IfOk result (λ xs. expectations_of (tables_of sys.now) text.now ≡ Ok xs.items) }
 {
     match read_expectations(alloc, sys, text) {
+        Ok(expected) => Ok(expected),
+        Err(ExpectFault::Memory) => Err(memory(AllocError)),
+        Err(ExpectFault::Line { line, flaw }) => Err(flawed(alloc, sys, text, line, flaw)),
+    }
+}
+
+/// The expectations of a text for a system that are not about the calls of a line. The reason to give none is the first
+/// faulty line of the text, or that memory runs out.
+pub fn unplaced_expected(
+    alloc: Global,
+    sys: &System,
+    text: &[u8],
+) -> Result<Vec<Expected>, ViewExit>
+    ensures { IfOk result (λ xs. unplaced_of (tables_of sys.now) text.now ≡ Ok xs.items) }
+{
+    match read_unplaced(alloc, sys, text) {
         Ok(expected) => Ok(expected),
         Err(ExpectFault::Memory) => Err(memory(AllocError)),
         Err(ExpectFault::Line { line, flaw }) => Err(flawed(alloc, sys, text, line, flaw)),

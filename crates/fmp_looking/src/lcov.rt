@@ -5,14 +5,14 @@ ghost use Rattle.fmp_looking.specs.Coverage as spec;
 
 use crate::coverage::LineCount;
 use crate::tables::BranchCount;
-use fmp_frames::CallPlace;
+use fmp_frames::CallPosition;
 use itoa::Buffer;
 use std::alloc::{AllocError, Global};
 
 /// A way of a branch.
 #[derive(Clone, Copy)]
 struct Way {
-    place: CallPlace,
+    position: CallPosition,
     /// 0 where what the branch goes by is not 0, 1 where it is.
     number: u64,
     /// How often it was gone.
@@ -69,13 +69,13 @@ fn add_ways(count: &BranchCount, ways: &mut Vec<Way>) -> Result<(), AllocError>
 {
     let is_reached = is_reached(count);
     ways.push(Way {
-        place: count.place,
+        position: count.position,
         number: 0,
         times: count.is_true,
         is_reached,
     })?;
     ways.push(Way {
-        place: count.place,
+        position: count.position,
         number: 1,
         times: count.is_false,
         is_reached,
@@ -106,13 +106,13 @@ fn append_times(way: &Way, out: &mut Vec<u8>) -> Result<(), AllocError>
 }
 
 /// Appends where a branch stands.
-fn append_branch_place(place: CallPlace, out: &mut Vec<u8>) -> Result<(), AllocError>
-    ensures { OnOk result (out.new.items ≡ out.old.items ++ spec.branch_place place) }
+fn append_branch_position(position: CallPosition, out: &mut Vec<u8>) -> Result<(), AllocError>
+    ensures { OnOk result (out.new.items ≡ out.old.items ++ spec.branch_position position) }
 {
     append(b"BRDA:", out)?;
-    append_number(u64::from(place.line), out)?;
+    append_number(u64::from(position.line), out)?;
     append(b",", out)?;
-    append_number(place.column as u64, out)?;
+    append_number(position.column as u64, out)?;
     append(b",", out)
 }
 
@@ -120,7 +120,7 @@ fn append_branch_place(place: CallPlace, out: &mut Vec<u8>) -> Result<(), AllocE
 fn append_way(way: &Way, out: &mut Vec<u8>) -> Result<(), AllocError>
     ensures { OnOk result (out.new.items ≡ out.old.items ++ spec.way_line way.now) }
 {
-    append_branch_place(way.place, out)?;
+    append_branch_position(way.position, out)?;
     append_number(way.number, out)?;
     append(b",", out)?;
     append_times(way, out)?;

@@ -5,7 +5,7 @@ ghost use Rattle.fmp_looking.specs.Marks.{AreMarksOf};
 
 use crate::walking::{Piece, Walk, marks_by, piece_of, walked};
 use fmp_base::Service;
-use fmp_frames::CallPlace;
+use fmp_frames::CallPosition;
 use fmp_lex::{TextFault, Tokens, tokens};
 use std::alloc::{AllocError, Global};
 
@@ -34,7 +34,7 @@ pub enum MarkKind {
 pub struct Mark {
     pub kind: MarkKind,
     /// Where its word stands.
-    pub place: CallPlace,
+    pub position: CallPosition,
     /// How many bodies begin before it.
     pub bodies: usize,
     /// How many branches its body has before it, in the order of its code.
@@ -73,16 +73,16 @@ fn piece_at(tokens: &Tokens<'_>, at: usize) -> Piece
 }
 
 /// Where the token at a place stands in a text.
-fn place_at(text: &[u8], tokens: &Tokens<'_>, at: usize) -> CallPlace
+fn position_at(text: &[u8], tokens: &Tokens<'_>, at: usize) -> CallPosition
     requires { length text.now ≤ 2 ^ 20 }
-    ensures { result ≡ spec.place_at text.now tokens.now at }
+    ensures { result ≡ spec.position_at text.now tokens.now at }
 {
-    match tokens.place(at) {
-        Some(place) => CallPlace {
-            line: place.line,
-            column: column_of(text, place.start as usize),
+    match tokens.position(at) {
+        Some(position) => CallPosition {
+            line: position.line,
+            column: column_of(text, position.start as usize),
         },
-        None => CallPlace { line: 0, column: 1 },
+        None => CallPosition { line: 0, column: 1 },
     }
 }
 
@@ -95,9 +95,9 @@ fn marks_in(alloc: Global, text: &[u8], tokens: &Tokens<'_>) -> Result<Vec<Mark>
     let mut walk = Walk::new();
     for at in 0..tokens.len() {
         let piece = piece_at(tokens, at);
-        let place = place_at(text, tokens, at);
-        marks_by(&walk, piece, place, &mut marks)?;
-        walk = walked(walk, piece, place);
+        let position = position_at(text, tokens, at);
+        marks_by(&walk, piece, position, &mut marks)?;
+        walk = walked(walk, piece, position);
     }
     Ok(marks)
 }

@@ -1,6 +1,6 @@
 //! Where the calls of a run stand in the text of its bodies.
 ghost use Rattle.std.specs.Prelude.{◌≡◌, ◌≤◌, ◌^◌, IfOk, length};
-ghost use Rattle.fmp_looking.specs.PlacedRuns.{places_in, start_of};
+ghost use Rattle.fmp_looking.specs.PlacedRuns.{positions_in, start_of};
 ghost use Rattle.fmp_looking.specs.Traces.{ArePlaced};
 
 use crate::exit::{ViewExit, memory};
@@ -9,7 +9,7 @@ use crate::open_image::OpenImage;
 use crate::opening::{StepsRun, events_for, image_of};
 use fmp_base::{Event, Line};
 use fmp_code::Vm;
-use fmp_frames::{CallPlace, CallPlaces, CodePlaces, places_made};
+use fmp_frames::{CallPosition, CallPositions, CodePositions, positions_made};
 use fmp_image_bytes::Image;
 use fmp_kernel::Kernel;
 use fmp_replay::kernel_of;
@@ -21,37 +21,40 @@ pub struct PlacedRun<'a> {
     pub image: &'a Image,
     /// The bound of a stretch.
     pub bound: u64,
-    pub places: &'a CallPlaces,
+    pub positions: &'a CallPositions,
     pub events: &'a [Event],
 }
 
 /// For each event of a run that is done on this kernel where the call stands that it makes, if it makes one.
 #[tactic(none)]
-fn places_on<'a>(
+fn positions_on<'a>(
     alloc: Global,
     kernel: &mut Kernel<Vm<'a>>,
     run: PlacedRun<'a>,
-) -> Result<Vec<Option<CallPlace>>, AllocError>
+) -> Result<Vec<Option<CallPosition>>, AllocError>
     requires kernel { kernel.old ≡ start_of run }
     requires few { length run.events.now ≤ 2 ^ 20 }
-    ensures { IfOk result (λ made. made.items ≡ places_in run.entry) }
+    ensures { IfOk result (λ made. made.items ≡ positions_in run.entry) }
 {
-    let text = CodePlaces {
+    let text = CodePositions {
         code: run.image.code(),
-        places: run.places,
+        positions: run.positions,
     };
-    places_made(alloc, kernel, text, run.events)
+    positions_made(alloc, kernel, text, run.events)
 }
 
 /// For each event of a run that is done where the call stands that it makes, if it makes one. `AllocError` if memory
 /// runs out.
 #[tactic(none)]
-pub fn places_over(alloc: Global, run: PlacedRun<'_>) -> Result<Vec<Option<CallPlace>>, AllocError>
+pub fn positions_over(
+    alloc: Global,
+    run: PlacedRun<'_>,
+) -> Result<Vec<Option<CallPosition>>, AllocError>
     requires few { length run.events.now ≤ 2 ^ 20 }
-    ensures { IfOk result (λ made. made.items ≡ places_in run.entry) }
+    ensures { IfOk result (λ made. made.items ≡ positions_in run.entry) }
 {
     let mut kernel = kernel_of(alloc, run.image, run.bound)?;
-    let made = places_on(alloc, &mut kernel, run);
+    let made = positions_on(alloc, &mut kernel, run);
     drop(kernel);
     made
 }
@@ -64,24 +67,24 @@ pub fn placed(
     src: &[u8],
     events: &[Event],
     n: u64,
-) -> Result<Vec<Option<CallPlace>>, AllocError>
+) -> Result<Vec<Option<CallPosition>>, AllocError>
     requires few { length events.now ≤ 2 ^ 20 }
     ensures { IfOk result (λ made. ArePlaced src.now image.now n events.now made.items) }
 {
-    let places = CallPlaces::new(alloc, src)?;
+    let positions = CallPositions::new(alloc, src)?;
     let run = PlacedRun {
         image,
         bound: n,
-        places: &places,
+        positions: &positions,
         events,
     };
-    places_over(alloc, run)
+    positions_over(alloc, run)
 }
 
 /// Where the call of the event of this number stands, by the places from the first event on.
-pub fn place_at(places: &[Option<CallPlace>], event: u32) -> Option<CallPlace> {
-    let place = (event as usize).checked_sub(1)?;
-    *places.get(place)?
+pub fn position_at(positions: &[Option<CallPosition>], event: u32) -> Option<CallPosition> {
+    let index = (event as usize).checked_sub(1)?;
+    *positions.get(index)?
 }
 
 /// A text with this after its first line.
@@ -98,14 +101,14 @@ fn after_first_line(alloc: Global, text: &[u8], more: &[u8]) -> Result<Vec<u8>, 
 
 /// The text of these lines of an event, with where its call stands after the first of them, if it tells a call and
 /// that is known.
-pub fn with_place(
+pub fn with_position(
     alloc: Global,
     lines: &[Line],
-    place: Option<CallPlace>,
+    position: Option<CallPosition>,
     text: Vec<u8>,
 ) -> Result<Vec<u8>, AllocError> {
-    match (lines.first(), place) {
-        (Some(Line::Call { .. }), Some(CallPlace { line, column })) => {
+    match (lines.first(), position) {
+        (Some(Line::Call { .. }), Some(CallPosition { line, column })) => {
             let more = format!(in alloc; " at {line}:{column}")?;
             after_first_line(alloc, &text, more.as_bytes())
         }
@@ -115,10 +118,10 @@ pub fn with_place(
 
 /// Where the calls of the code of an image stand in a text of its bodies. The text must have as many bodies as the
 /// image, each with as many calls.
-pub fn places_for(alloc: Global, image: &Image, src: &[u8]) -> Result<CallPlaces, ViewExit> {
-    let places = CallPlaces::new(alloc, src).map_err(|error| memory(error))?;
-    match places.fits(alloc, image.code()) {
-        Ok(true) => Ok(places),
+pub fn positions_for(alloc: Global, image: &Image, src: &[u8]) -> Result<CallPositions, ViewExit> {
+    let positions = CallPositions::new(alloc, src).map_err(|error| memory(error))?;
+    match positions.fits(alloc, image.code()) {
+        Ok(true) => Ok(positions),
         Ok(false) => Err(ViewExit::OtherText),
         Err(error) => Err(memory(error)),
     }
@@ -130,26 +133,26 @@ fn placed_over(
     opened: &OpenImage<'_>,
     steps: &[u8],
     src: &[u8],
-) -> Result<Vec<Option<CallPlace>>, ViewExit> {
+) -> Result<Vec<Option<CallPosition>>, ViewExit> {
     let image = opened.image;
     let events = events_for(alloc, image, steps)?;
-    let places = places_for(alloc, image, src)?;
+    let positions = positions_for(alloc, image, src)?;
     let run = PlacedRun {
         image,
         bound: opened.bound,
-        places: &places,
+        positions: &positions,
         events: &events,
     };
-    places_over(alloc, run).map_err(|error| memory(error))
+    positions_over(alloc, run).map_err(|error| memory(error))
 }
 
 /// Where the calls of a run stand in this text of the bodies of its image, for each event that is done. The text must
 /// have as many bodies as the image, each with as many calls.
-pub fn places_of_run(
+pub fn positions_of_run(
     alloc: Global,
     run: StepsRun<'_>,
     src: &[u8],
-) -> Result<Vec<Option<CallPlace>>, ViewExit> {
+) -> Result<Vec<Option<CallPosition>>, ViewExit> {
     match image_of(alloc, run.image) {
         Ok(image) => {
             let opened = OpenImage::new(&image, run.bound);

@@ -2,9 +2,9 @@
 ghost use Rattle.std.specs.Prelude.{◌≡◌, IfOk, OnOk};
 ghost use Rattle.fmp_timeline.specs.Shown as spec;
 
-use crate::placing::{place_at, with_place};
+use crate::placing::{position_at, with_position};
 use fmp_base::System;
-use fmp_frames::{CallPlace, Frame, IdleTurn, Viewer};
+use fmp_frames::{CallPosition, Frame, IdleTurn, Viewer};
 use fmp_timeline::{Moment, Run, TaskShown, tasks_shown};
 use fmp_trace::print;
 use std::alloc::{AllocError, Global};
@@ -17,7 +17,7 @@ pub struct Beside<'a> {
     /// All turns that do nothing, in order.
     pub turns: &'a [IdleTurn],
     /// Where the calls of the events stand, from the first event on; none are known after the last one here.
-    pub places: &'a [Option<CallPlace>],
+    pub positions: &'a [Option<CallPosition>],
 }
 
 /// A run so far.
@@ -84,8 +84,8 @@ impl<'a> Recorder<'a> {
         let event = self.run.next_event();
         let mut text = Vec::new(alloc);
         print(self.sys, event, &frame.lines, &mut text)?;
-        let place = place_at(self.beside.places, event);
-        let text = with_place(alloc, &frame.lines, place, text)?;
+        let position = position_at(self.beside.positions, event);
+        let text = with_position(alloc, &frame.lines, position, text)?;
         let shown = tasks_shown(alloc, &frame.states, &frame.blocks, &frame.processors)?;
         self.run.show(
             alloc,

@@ -11,12 +11,12 @@ use crate::exit::{ViewExit, memory};
 use crate::kinds::exit_over;
 use crate::open_image::OpenImage;
 use crate::opening::{StepsRun, events_for, image_of};
-use crate::placing::{PlacedRun, places_for};
+use crate::placing::{PlacedRun, positions_for};
 use crate::tracing::line_form;
 use fmp_base::Event;
 use fmp_code::Vm;
 use fmp_frames::{
-    CallPlaces, CodePlaces, LineForm, RefusedCall, SiteAnswer, answers_in, append_refused,
+    CallPositions, CodePositions, LineForm, RefusedCall, SiteAnswer, answers_in, append_refused,
     refused_calls,
 };
 use fmp_image_bytes::Image;
@@ -101,14 +101,14 @@ fn refused_on(
 }
 
 /// Where the calls of the code of an image stand in a task text; nowhere if none is given.
-fn places_in(
+fn positions_in(
     alloc: Global,
     image: &Image,
     source: Option<NamedText<'_>>,
-) -> Result<CallPlaces, ViewExit> {
+) -> Result<CallPositions, ViewExit> {
     match source {
-        Some(source) => places_for(alloc, image, source.text),
-        None => CallPlaces::new(alloc, b"").map_err(|error| memory(error)),
+        Some(source) => positions_for(alloc, image, source.text),
+        None => CallPositions::new(alloc, b"").map_err(|error| memory(error)),
     }
 }
 
@@ -125,16 +125,18 @@ pub fn lines_of(
     alloc: Global,
     form: LineForm,
     file: &[u8],
-    text: CodePlaces<'_>,
+    text: CodePositions<'_>,
     refused: &[RefusedCall],
 ) -> Result<Vec<u8>, AllocError>
     ensures { IfOk result (λ out. out.items ≡ refused_lines form file.now (code_tables text.entry.code.now)
-        text.entry.places.now (map refused_of refused.now)) }
+        text.entry.positions.now (map refused_of refused.now)) }
 {
     let mut out = Vec::new(alloc);
     for call in refused {
-        let place = text.places.place(text.code, call.site.body, call.site.pc);
-        append_refused(alloc, form, file, place, call, &mut out)?;
+        let position = text
+            .positions
+            .position(text.code, call.site.body, call.site.pc);
+        append_refused(alloc, form, file, position, call, &mut out)?;
     }
     Ok(out)
 }
@@ -148,12 +150,12 @@ fn lines_on(
 ) -> Result<Vec<u8>, AllocError>
     requires few { length run.events.now ≤ 2 ^ 20 }
     ensures { IfOk result (λ out. out.items ≡ refused_lines form file.now run.entry.image.now.code
-        run.entry.places.now (refused_in run.entry.image.now run.entry.bound run.entry.events.now)) }
+        run.entry.positions.now (refused_in run.entry.image.now run.entry.bound run.entry.events.now)) }
 {
     let refused = refused_on(alloc, run.image, run.bound, run.events)?;
-    let text = CodePlaces {
+    let text = CodePositions {
         code: run.image.code(),
-        places: run.places,
+        positions: run.positions,
     };
     lines_of(alloc, form, file, text, &refused)
 }
@@ -168,11 +170,11 @@ fn lines_over(
 ) -> Result<Vec<u8>, ViewExit> {
     let image = opened.image;
     let events = events_for(alloc, image, steps)?;
-    let places = places_in(alloc, image, source)?;
+    let positions = positions_in(alloc, image, source)?;
     let run = PlacedRun {
         image,
         bound: opened.bound,
-        places: &places,
+        positions: &positions,
         events: &events,
     };
     lines_on(alloc, line_form(form), file_of(source), run).map_err(|error| memory(error))

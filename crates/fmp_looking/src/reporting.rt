@@ -4,10 +4,12 @@ ghost use Rattle.fmp_base.specs.Systems.{tables_of};
 ghost use Rattle.fmp_instructions.specs.Machine.{code_meaning};
 ghost use Rattle.fmp_trace.specs.Steps.{steps_text};
 ghost use Rattle.fmp_trials.specs.Found.{IsFound};
-ghost use Rattle.fmp_looking.specs.Tested.{IsFailedTest, subject_of};
+ghost use Rattle.fmp_looking.specs.CallSentences.{breaks_by};
+ghost use Rattle.fmp_looking.specs.Tested.{IsFailedTest, subject_in, subject_of};
 
+use crate::call_sentences::{CallJudge, CallNever, sentences_of};
 use crate::exit::{ViewExit, memory};
-use crate::expecting::{Expectations, checked, expected_of};
+use crate::expecting::{Expectations, report_of};
 use crate::open_image::OpenImage;
 use crate::trying::{Trials, failed_trial_of};
 use crate::trying_beside::failed_trial_beside;
@@ -60,12 +62,11 @@ fn text_of(alloc: Global, steps: &[Event]) -> Result<Vec<u8>, AllocError>
     Ok(text)
 }
 
-/// What is printed of a run of an image that fails one of the expectations of a text, which are these.
+/// What is printed of a run of an image that fails one of the expectations of a text.
 fn failed_test(
     alloc: Global,
     opened: &OpenImage<'_>,
     expectations: &Expectations<'_>,
-    expected: &[Expected],
     trial: FailedTrial,
 ) -> Result<FailedTest, ViewExit>
     requires { length trial.run.steps.items ≤ 2 ^ 20 }
@@ -73,13 +74,20 @@ fn failed_test(
     ensures steps { IfOk result (λ test. test.steps.items ≡ steps_text trial.run.steps.items) }
 {
     let steps = text_of(alloc, &trial.run.steps).map_err(|error| memory(error))?;
-    let report = checked(alloc, opened, &trial.run.steps, expectations, expected).map_err(
-        |error| memory(error),
-    )?;
+    let Expectations { name, text, .. } = *expectations;
+    let report = report_of(
+        alloc,
+        opened,
+        &trial.run.steps,
+        name,
+        text,
+        trial.run.broken,
+    )
+    .map_err(|error| memory(error))?;
     Ok(FailedTest {
         trial,
         steps,
-        report: report.unwrap_or(Vec::new(alloc)),
+        report,
     })
 }
 
@@ -100,8 +108,7 @@ fn found_by<R: Threads + Sync>(
     trials: &Trials<'_>,
     seeds: u32,
 ) -> Result<Option<FailedTrial>, AllocError>
-    ensures { IfOk result (λ found. IfSome found (IsFound code_meaning
-        (subject_of trials.now.opened.image.now trials.now.opened.bound trials.now.expected.now))) }
+    ensures { IfOk result (λ found. IfSome found (IsFound code_meaning breaks_by (subject_in trials.now))) }
 {
     if jobs <= 1 {
         return failed_trial_of(alloc, trials, seeds);
@@ -109,22 +116,25 @@ fn found_by<R: Threads + Sync>(
     failed_trial_beside(alloc, rt, jobs, trials, seeds)
 }
 
-/// The first of the random runs of a test that fails one of these expectations.
+/// The first of the random runs of a test that fails one of these expectations, or of these sentences about calls.
 fn first_failed<R: Threads + Sync>(
     alloc: Global,
     rt: &R,
     test: &ImageTest<'_>,
     expected: &[Expected],
+    nevers: &[CallNever],
 ) -> Result<Option<FailedTrial>, ViewExit>
-    ensures { IfOk result (λ found. IfSome found
-        (IsFound code_meaning (subject_of test.now.image.now test.now.testing.bound expected.now))) }
+    ensures { IfOk result (λ found. IfSome found (IsFound code_meaning breaks_by
+        (subject_of test.now.image.now test.now.testing.bound expected.now nevers.now))) }
 {
+    let judge = CallJudge::new(test.image, nevers);
     let trials = Trials {
         opened: OpenImage {
             image: test.image,
             bound: test.testing.bound,
         },
         expected,
+        judge: &judge,
         plan: plan_of(test),
     };
     found_by(alloc, rt, test.testing.jobs, &trials, test.testing.seeds).map_err(|error| memory(
@@ -133,25 +143,26 @@ fn first_failed<R: Threads + Sync>(
 }
 
 /// Makes the random runs of a test: the first that fails one of the expectations of a text. Where none does, nothing is
-/// said of other runs. The reasons to make none are a fault of the text, a line of it that begins with `end`, and that
-/// memory runs out.
+/// said of other runs. The bodies of the image have this text. The reasons to make none are a fault of the text of
+/// expectations, a line of it that begins with `end`, or is about a line without a call, and that memory runs out.
 pub fn tested<R: Threads + Sync>(
     alloc: Global,
     rt: &R,
     test: &ImageTest<'_>,
+    src: &[u8],
     expectations: &Expectations<'_>,
 ) -> Result<Option<FailedTest>, ViewExit>
     ensures { IfOk result (λ found. IfSome found
-        (IsFailedTest test.now.image.now (tables_of test.now.configured.now) test.now.testing.bound
+        (IsFailedTest test.now.image.now (tables_of test.now.configured.now) test.now.testing.bound src.now
         expectations.now.text.now)) }
 {
-    let expected = expected_of(alloc, test.configured, expectations.text)?;
-    refuse_ends(alloc, &expected)?;
-    let found = first_failed(alloc, rt, test, &expected)?;
+    let sentences = sentences_of(alloc, test.image, test.configured, src, expectations.text)?;
+    refuse_ends(alloc, &sentences.expected)?;
+    let found = first_failed(alloc, rt, test, &sentences.expected, &sentences.nevers)?;
     match found {
         Some(trial) => {
             let opened = OpenImage::new(test.image, test.testing.bound);
-            let failed = failed_test(alloc, &opened, expectations, &expected, trial)?;
+            let failed = failed_test(alloc, &opened, expectations, trial)?;
             Ok(Some(failed))
         }
         None => Ok(None),

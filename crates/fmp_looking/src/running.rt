@@ -269,7 +269,8 @@ fn test_by<O: Outside, R: Threads + Sync>(
     test: &ImageTest<'_>,
 ) -> Result<Option<FailedTest>, ViewExit> {
     let text = read_file(alloc, outside, test.expect, None)?;
-    tested(alloc, rt, test, &expectations_of(test.expect, &text))
+    let src = read_file(alloc, outside, test.testing.src, None)?;
+    tested(alloc, rt, test, &src, &expectations_of(test.expect, &text))
 }
 
 /// Makes a test, and gives the status.

@@ -44,9 +44,9 @@ pub fn append_tally_records(
     tallies: &Tallies,
     out: &mut Vec<u8>,
 ) -> Result<(), AllocError> {
-    for (place, config) in sys.tasks.iter().enumerate() {
-        if let Some(tally) = tallies.tallies.get(place) {
-            let spins = tallies.spins.get(place).copied().unwrap_or(0);
+    for (position, config) in sys.tasks.iter().enumerate() {
+        if let Some(tally) = tallies.tallies.get(position) {
+            let spins = tallies.spins.get(position).copied().unwrap_or(0);
             let name = config.name.as_bytes();
             let record = tally_record(alloc, name, tally, spins, tallies.events)?;
             out.extend_from_slice(&record)?;
@@ -93,14 +93,14 @@ pub fn append_response_records(
     responses: &Responses,
     out: &mut Vec<u8>,
 ) -> Result<(), AllocError> {
-    for place in 0..32u8 {
-        let name = format!(in alloc; "#{}", place + 1)?;
-        let handler = Handler::Interrupt(place);
+    for position in 0..32u8 {
+        let name = format!(in alloc; "#{}", position + 1)?;
+        let handler = Handler::Interrupt(position);
         append_summary(alloc, responses, handler, name.as_bytes(), out)?;
     }
-    for (place, config) in sys.cyclics.iter().enumerate() {
-        if let Ok(place) = u8::try_from(place) {
-            let (handler, name) = (Handler::Cyclic(place), config.name.as_bytes());
+    for (position, config) in sys.cyclics.iter().enumerate() {
+        if let Ok(position) = u8::try_from(position) {
+            let (handler, name) = (Handler::Cyclic(position), config.name.as_bytes());
             append_summary(alloc, responses, handler, name, out)?;
         }
     }

@@ -8,14 +8,14 @@ use crate::branches::BranchStep;
 use crate::marks::{BranchKind, Mark, MarkKind};
 use crate::observing::{CallSeen, Outcome};
 use fmp_base::Er;
-use fmp_frames::CallPlace;
+use fmp_frames::CallPosition;
 use itoa::Buffer;
 use std::alloc::{AllocError, Global};
 
 /// How often a branch went each way.
 #[derive(Clone, Copy)]
 pub struct BranchCount {
-    pub place: CallPlace,
+    pub position: CallPosition,
     /// How often what it goes by was not 0.
     pub is_true: usize,
     /// How often it was.
@@ -36,10 +36,10 @@ const ANSWERS: [Er; 9] = [
 ];
 
 /// Whether two places are one.
-fn is_at(place: CallPlace, other: CallPlace) -> bool
-    ensures { result ≡ spec.is_at place other }
+fn is_at(position: CallPosition, other: CallPosition) -> bool
+    ensures { result ≡ spec.is_at position other }
 {
-    other.line == place.line && other.column == place.column
+    other.line == position.line && other.column == position.column
 }
 
 /// Whether two codes are one.
@@ -70,33 +70,36 @@ fn is_answer(code: Er, outcome: Outcome) -> bool
 }
 
 /// Whether this says that the call at a place was made.
-fn says_made(place: CallPlace, seen: &CallSeen) -> bool
-    ensures { result ≡ spec.says_made place seen.now }
+fn says_made(position: CallPosition, seen: &CallSeen) -> bool
+    ensures { result ≡ spec.says_made position seen.now }
 {
-    is_at(place, seen.place) && is_made(seen.outcome)
+    is_at(position, seen.position) && is_made(seen.outcome)
 }
 
 /// Whether this says that the call at a place was answered a code.
-fn says_answered(place: CallPlace, code: Er, seen: &CallSeen) -> bool
-    ensures { result ≡ spec.says_answered place code seen.now }
+fn says_answered(position: CallPosition, code: Er, seen: &CallSeen) -> bool
+    ensures { result ≡ spec.says_answered position code seen.now }
 {
-    is_at(place, seen.place) && is_answer(code, seen.outcome)
+    is_at(position, seen.position) && is_answer(code, seen.outcome)
 }
 
 /// How often the call at a place was made.
-fn times_made(calls: &[CallSeen], place: CallPlace) -> usize
-    ensures { result ≡ spec.times_made calls.now place }
-{
-    calls.iter().filter(|seen| says_made(place, *seen)).count()
-}
-
-/// How often it was answered a code.
-fn times_answered(calls: &[CallSeen], place: CallPlace, code: Er) -> usize
-    ensures { result ≡ spec.times_answered calls.now place code }
+fn times_made(calls: &[CallSeen], position: CallPosition) -> usize
+    ensures { result ≡ spec.times_made calls.now position }
 {
     calls
         .iter()
-        .filter(|seen| says_answered(place, code, *seen))
+        .filter(|seen| says_made(position, *seen))
+        .count()
+}
+
+/// How often it was answered a code.
+fn times_answered(calls: &[CallSeen], position: CallPosition, code: Er) -> usize
+    ensures { result ≡ spec.times_answered calls.now position code }
+{
+    calls
+        .iter()
+        .filter(|seen| says_answered(position, code, *seen))
         .count()
 }
 
@@ -165,15 +168,15 @@ fn append_answer(code: Er, times: usize, out: &mut Vec<u8>) -> Result<(), AllocE
 /// Appends how often a call was answered each of these codes.
 fn append_answers(
     calls: &[CallSeen],
-    place: CallPlace,
+    position: CallPosition,
     codes: &[Er],
     out: &mut Vec<u8>,
 ) -> Result<(), AllocError>
     ensures { OnOk result (out.new.items ≡ out.old.items
-        ++ flat_map (λ c. spec.answer_times c (spec.times_answered calls.now place c)) codes.now) }
+        ++ flat_map (λ c. spec.answer_times c (spec.times_answered calls.now position c)) codes.now) }
 {
     for code in codes {
-        append_answer(*code, times_answered(calls, place, *code), out)?;
+        append_answer(*code, times_answered(calls, position, *code), out)?;
     }
     Ok(())
 }
@@ -201,21 +204,21 @@ fn kind_word(kind: MarkKind) -> &'static [u8]
 }
 
 /// Appends a place in a file.
-fn append_place(file: &[u8], place: CallPlace, out: &mut Vec<u8>) -> Result<(), AllocError>
-    ensures { OnOk result (out.new.items ≡ out.old.items ++ spec.place_text file.now place) }
+fn append_position(file: &[u8], position: CallPosition, out: &mut Vec<u8>) -> Result<(), AllocError>
+    ensures { OnOk result (out.new.items ≡ out.old.items ++ spec.position_text file.now position) }
 {
     append(file, out)?;
     append(b":", out)?;
-    append_number(u64::from(place.line), out)?;
+    append_number(u64::from(position.line), out)?;
     append(b":", out)?;
-    append_number(place.column as u64, out)
+    append_number(position.column as u64, out)
 }
 
 /// Appends where a mark stands in a file, with the word that stands there.
 fn append_mark(file: &[u8], mark: &Mark, word: &[u8], out: &mut Vec<u8>) -> Result<(), AllocError>
     ensures { OnOk result (out.new.items ≡ out.old.items ++ spec.mark_text file.now mark.now word.now) }
 {
-    append_place(file, mark.place, out)?;
+    append_position(file, mark.position, out)?;
     append(b": ", out)?;
     append(word, out)?;
     append(b": ", out)
@@ -233,8 +236,8 @@ fn append_seen(
 {
     match mark.kind {
         MarkKind::Call(_) => {
-            append_times(b"made", times_made(calls, mark.place), out)?;
-            append_answers(calls, mark.place, &ANSWERS, out)
+            append_times(b"made", times_made(calls, mark.position), out)?;
+            append_answers(calls, mark.position, &ANSWERS, out)
         }
         MarkKind::Branch(_) => {
             append_times(b"true", times_gone(steps, mark, true), out)?;
@@ -290,7 +293,7 @@ fn add_count(
         MarkKind::Call(_) => Ok(()),
         MarkKind::Branch(_) => {
             counts.push(BranchCount {
-                place: mark.place,
+                position: mark.position,
                 is_true: times_gone(steps, mark, true),
                 is_false: times_gone(steps, mark, false),
             })?;

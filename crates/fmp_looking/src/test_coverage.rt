@@ -2,10 +2,11 @@
 ghost use Rattle.std.specs.Prelude.{IfOk};
 ghost use Rattle.fmp_looking.specs.Covered.{AreTrialsSeen, IsTable, IsTracefile, seen_of};
 
+use crate::call_sentences::CallJudge;
 use crate::coverage_files::write_coverage_files;
 use crate::covering::RunsSeen;
 use crate::exit::{ViewExit, memory};
-use crate::expecting::expected_of;
+use crate::expecting::unplaced_expected;
 use crate::open_image::OpenImage;
 use crate::refused::NamedText;
 use crate::reporting::plan_of;
@@ -41,13 +42,15 @@ fn seen_by<R: Threads + Sync>(
     ensures { IfOk result (λ seen. AreTrialsSeen texts.entry.src.now test.now.image.now test.now.testing.bound
         runs (seen_of seen)) }
 {
-    let expected = expected_of(alloc, test.configured, texts.expectations)?;
+    let expected = unplaced_expected(alloc, test.configured, texts.expectations)?;
+    let judge = CallJudge::none(test.image);
     let trials = Trials {
         opened: OpenImage {
             image: test.image,
             bound: test.testing.bound,
         },
         expected: &expected,
+        judge: &judge,
         plan: plan_of(test),
     };
     seen_of_trials(alloc, rt, test.testing.jobs, &trials, texts.src, runs).map_err(|error| memory(
@@ -102,7 +105,7 @@ fn write_covered<O: Outside>(
 }
 
 /// Writes the coverage by the first random runs of a test, this many, where that is asked for, and gives the status. A
-/// run goes up to the first event that breaks an expectation.
+/// run goes up to the first event that breaks an expectation which is not about the calls of a line.
 pub fn write_coverage<O: Outside, R: Threads + Sync>(
     alloc: Global,
     outside: &mut O,

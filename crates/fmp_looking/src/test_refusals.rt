@@ -4,18 +4,18 @@ ghost use Rattle.fmp_frames.specs.Answers.{is_answer, is_same_code as is_same, w
 ghost use Rattle.fmp_looking.specs.TestRefusals as spec;
 ghost use Rattle.fmp_looking.specs.TestRefusals.{AreAnswersOf, AreRefusedLines, with_answers};
 
+use crate::call_sentences::CallJudge;
 use crate::exit::{ViewExit, memory};
-use crate::expecting::expected_of;
+use crate::expecting::unplaced_expected;
 use crate::open_image::OpenImage;
 use crate::refused::{NamedText, answers_over, lines_of, refused_among};
 use crate::reporting::plan_of;
 use crate::test_coverage::TestTexts;
-use crate::trying::{Trials, bench_of};
+use crate::trying::{ImageBench, Trials, bench_of};
 use crate::wanted::ImageTest;
 use fmp_base::Er;
-use fmp_code::Vm;
-use fmp_frames::{CallPlaces, CodePlaces, LineForm, SiteAnswer};
-use fmp_trials::{Bench, random_steps};
+use fmp_frames::{CallPositions, CodePositions, LineForm, SiteAnswer};
+use fmp_trials::random_steps;
 use std::alloc::{AllocError, Global};
 
 /// Whether two codes are one.
@@ -65,7 +65,7 @@ fn add_answers(answers: &mut Vec<SiteAnswer>, more: &[SiteAnswer]) -> Result<(),
 /// What the calls of the first random runs of an image were answered, this many: each call with each code, once.
 fn answers_on<'a>(
     alloc: Global,
-    bench: &mut Bench<'a, Vm<'a>>,
+    bench: &mut ImageBench<'a>,
     trials: &Trials<'_>,
     runs: u64,
 ) -> Result<Vec<SiteAnswer>, AllocError>
@@ -104,12 +104,12 @@ fn lines_in(
     ensures { IfOk result (λ out. AreRefusedLines form source.entry.name.now source.entry.text.now
         trials.now.opened.image.now trials.now.opened.bound runs out.items) }
 {
-    let places = CallPlaces::new(alloc, source.text)?;
+    let positions = CallPositions::new(alloc, source.text)?;
     let answers = answers_of(alloc, trials, runs)?;
     let refused = refused_among(alloc, trials.opened.image, &answers)?;
-    let text = CodePlaces {
+    let text = CodePositions {
         code: trials.opened.image.code(),
-        places: &places,
+        positions: &positions,
     };
     lines_of(alloc, form, source.name.as_bytes(), text, &refused)
 }
@@ -136,13 +136,15 @@ pub fn test_refusals(
     ensures { IfOk result (λ out. AreRefusedLines (spec.form_of test.now.testing.json) test.now.testing.src.now
         texts.entry.src.now test.now.image.now test.now.testing.bound runs out.items) }
 {
-    let expected = expected_of(alloc, test.configured, texts.expectations)?;
+    let expected = unplaced_expected(alloc, test.configured, texts.expectations)?;
+    let judge = CallJudge::none(test.image);
     let trials = Trials {
         opened: OpenImage {
             image: test.image,
             bound: test.testing.bound,
         },
         expected: &expected,
+        judge: &judge,
         plan: plan_of(test),
     };
     let source = NamedText {

@@ -1,15 +1,16 @@
 //! Reports of random runs in the XML of JUnit.
-ghost use Rattle.std.specs.Prelude.{◌≡◌, IfOk, false, map, option_map};
+ghost use Rattle.std.specs.Prelude.{◌≡◌, ◌++◌, IfOk, OnOk, false, map, option_map};
 ghost use Rattle.fmp_base.specs.Systems.{tables_of};
 ghost use Rattle.fmp_looking.specs.Judgements as spec;
 
+use crate::call_sentences::placed_in;
 use crate::exit::{ViewExit, memory};
-use crate::expecting::{Expectations, expected_of, line_of};
+use crate::expecting::{Expectations, line_of, unplaced_expected};
 use crate::judged_cases::{JudgedCase, report_of};
 use crate::judging::Judgement;
 use crate::reporting::FailedTest;
 use fmp_base::System;
-use fmp_expect::{BrokenExpectation, Expected};
+use fmp_expect::{BrokenExpectation, Expected, PlacedNever};
 use std::alloc::{AllocError, Global};
 
 /// What is broken, if it stands in this line.
@@ -22,13 +23,13 @@ fn broken_in(line: usize, broken: Option<BrokenExpectation>) -> Option<BrokenExp
     }
 }
 
-/// How random runs do by an expectation, of which one breaks this, if one does.
-fn tested_by(broken: Option<BrokenExpectation>, one: &Expected) -> Judgement
-    ensures { result ≡ spec.tested_by broken one.now }
+/// How random runs do by the expectation in a line, of which one breaks this, if one does.
+fn tested_by(broken: Option<BrokenExpectation>, line: usize) -> Judgement
+    ensures { result ≡ spec.tested_by broken line }
 {
     Judgement {
-        line: one.line,
-        broken: broken_in(one.line, broken),
+        line,
+        broken: broken_in(line, broken),
         is_empty: false,
     }
 }
@@ -87,36 +88,79 @@ fn case_of(
     })
 }
 
-/// How random runs do by each of the expectations of a text.
+/// How random runs do by each of the expectations in these lines of a text.
 fn cases_of(
     alloc: Global,
     text: &[u8],
-    expected: &[Expected],
+    lines: &[usize],
     failed: Option<&FailedTest>,
 ) -> Result<Vec<JudgedCase>, AllocError>
     ensures { IfOk result (λ cases. map (λ c. c.judgement) cases.items
-        ≡ map (spec.tested_by (option_map (λ f. f.now.trial.run.broken) failed.entry)) expected.now) }
+        ≡ map (spec.tested_by (option_map (λ f. f.now.trial.run.broken) failed.entry)) lines.now) }
 {
     let broken = broken_by(failed);
     let mut cases = Vec::new(alloc);
-    for one in expected {
-        cases.push(case_of(alloc, text, failed, tested_by(broken, one))?)?;
+    for line in lines {
+        cases.push(case_of(alloc, text, failed, tested_by(broken, *line))?)?;
     }
     Ok(cases)
 }
 
-/// A report of random runs that were judged by these expectations, of which this one fails, if one does.
+/// The lines of expectations, and then those of sentences about calls.
+fn lines_of(
+    alloc: Global,
+    expected: &[Expected],
+    placed: &[PlacedNever],
+) -> Result<Vec<usize>, AllocError>
+    ensures { IfOk result (λ lines. lines.items ≡ spec.lines_of expected.now placed.now) }
+{
+    let mut lines = Vec::new(alloc);
+    add_expected(&mut lines, expected)?;
+    add_placed(&mut lines, placed)?;
+    Ok(lines)
+}
+
+/// Adds the lines of expectations.
+fn add_expected(lines: &mut Vec<usize>, expected: &[Expected]) -> Result<(), AllocError>
+    ensures { OnOk result (lines.new.items ≡ lines.old.items ++ map (λ x. x.line) expected.now) }
+{
+    for one in expected {
+        lines.push(one.line)?;
+    }
+    Ok(())
+}
+
+/// Adds the lines of sentences about calls.
+fn add_placed(lines: &mut Vec<usize>, placed: &[PlacedNever]) -> Result<(), AllocError>
+    ensures { OnOk result (lines.new.items ≡ lines.old.items ++ map (λ p. p.line) placed.now) }
+{
+    for one in placed {
+        lines.push(one.line)?;
+    }
+    Ok(())
+}
+
+/// A report of random runs that were judged by the expectations in these lines, of which this one fails, if one does.
 fn report_with(
     alloc: Global,
     expectations: &Expectations<'_>,
-    expected: &[Expected],
+    lines: &[usize],
     failed: Option<&FailedTest>,
 ) -> Result<Vec<u8>, AllocError>
     ensures { IfOk result (λ out. spec.IsReport expectations.now.name.now false
-        (map (spec.tested_by (option_map (λ f. f.now.trial.run.broken) failed.entry)) expected.now) out.items) }
+        (map (spec.tested_by (option_map (λ f. f.now.trial.run.broken) failed.entry)) lines.now) out.items) }
 {
-    let cases = cases_of(alloc, expectations.text, expected, failed)?;
+    let cases = cases_of(alloc, expectations.text, lines, failed)?;
     report_of(alloc, expectations.name, false, &cases)
+}
+
+/// The lines of the expectations of a text for a system, and then those of its sentences about calls.
+fn lines_in(alloc: Global, sys: &System, text: &[u8]) -> Result<Vec<usize>, ViewExit>
+    ensures { IfOk result (λ lines. spec.AreLinesOf (tables_of sys.now) text.now lines.items) }
+{
+    let expected = unplaced_expected(alloc, sys, text)?;
+    let placed = placed_in(alloc, sys, text)?;
+    lines_of(alloc, &expected, &placed).map_err(|error| memory(error))
 }
 
 /// A report of random runs of a system that were judged by the expectations of a text, of which this one fails, if one
@@ -131,6 +175,6 @@ pub fn test_report(
     ensures { IfOk result (λ out. spec.IsTestReport (tables_of sys.now) expectations.now.name.now
         expectations.now.text.now (option_map (λ f. f.now.trial.run.broken) failed.entry) out.items) }
 {
-    let expected = expected_of(alloc, sys, expectations.text)?;
-    report_with(alloc, expectations, &expected, failed).map_err(|error| memory(error))
+    let lines = lines_in(alloc, sys, expectations.text)?;
+    report_with(alloc, expectations, &lines, failed).map_err(|error| memory(error))
 }

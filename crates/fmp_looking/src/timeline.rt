@@ -10,7 +10,7 @@ use crate::recording::{Beside, Recorder};
 use fmp_base::System;
 use fmp_drawing::{DrawFault, MOST_BYTES, draw_timed};
 use fmp_engine::SimFault;
-use fmp_frames::{CallPlace, IdleTurn, Viewer, idle_turns, last_frame, show_all};
+use fmp_frames::{CallPosition, IdleTurn, Viewer, idle_turns, last_frame, show_all};
 use fmp_kernel::{Body, Coming, Kernel};
 use fmp_slices::page_of;
 use fmp_timeline::{Choice, PicturePage, Run};
@@ -145,7 +145,7 @@ pub fn run_of<O: Opened, T: Coming<O::Bodies>>(
     opened: &O,
     events: &[T],
     objects: bool,
-    places: &[Option<CallPlace>],
+    positions: &[Option<CallPosition>],
 ) -> Result<Run, AllocError>
     requires { length events.now ≤ 2 ^ 31 }
 {
@@ -153,7 +153,7 @@ pub fn run_of<O: Opened, T: Coming<O::Bodies>>(
     let beside = Beside {
         objects,
         turns: &turns,
-        places,
+        positions,
     };
     run_with(alloc, opened, events, beside)
 }
@@ -242,7 +242,7 @@ pub struct Titled<'a> {
     pub title: &'a [u8],
     pub drawing: Drawing,
     /// Where the calls of the events stand, from the first event on, as far as they are known.
-    pub places: &'a [Option<CallPlace>],
+    pub positions: &'a [Option<CallPosition>],
 }
 
 impl RunLook for Titled<'_> {
@@ -256,7 +256,7 @@ impl RunLook for Titled<'_> {
         times: &[Option<u64>],
     ) -> Result<Picture, ViewExit> {
         let times = known_of(alloc, times)?;
-        match run_of(alloc, opened, events, self.drawing.objects, self.places) {
+        match run_of(alloc, opened, events, self.drawing.objects, self.positions) {
             Ok(run) => {
                 let drawn = DrawnRun {
                     sys: opened.system(),

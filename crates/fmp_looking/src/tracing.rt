@@ -12,7 +12,7 @@ use crate::opened::Opened;
 use crate::states::states_in;
 use crate::why::why_of;
 use fmp_base::{System, TaskBlock, TaskState};
-use fmp_frames::{CallPlace, Frame, LineForm, Viewer, append_placed, last_frame, show_all};
+use fmp_frames::{CallPosition, Frame, LineForm, Viewer, append_placed, last_frame, show_all};
 use fmp_kernel::{Body, Coming, Kernel};
 use fmp_warnings::Form;
 use std::alloc::{AllocError, Global};
@@ -24,7 +24,7 @@ struct Printing<'a> {
     /// The system, whose objects have names.
     sys: &'a System,
     /// Where the calls of the events stand, from the first event on; none are shown after the last one here.
-    places: &'a [Option<CallPlace>],
+    positions: &'a [Option<CallPosition>],
 }
 
 /// A trace so far, and the states of the tasks after its last event.
@@ -59,11 +59,11 @@ fn number_after(number: u32, kept: Option<u8>) -> u32
 }
 
 /// Where the call of the event of this number stands, by the places from the first event on.
-fn place_of(places: &[Option<CallPlace>], number: u32) -> Option<CallPlace>
-    ensures { result ≡ get_or places.now (number - 1) None }
+fn position_of(positions: &[Option<CallPosition>], number: u32) -> Option<CallPosition>
+    ensures { result ≡ get_or positions.now (number - 1) None }
 {
-    match places.get((number as usize).saturating_sub(1)) {
-        Some(place) => *place,
+    match positions.get((number as usize).saturating_sub(1)) {
+        Some(position) => *position,
         None => None,
     }
 }
@@ -72,7 +72,7 @@ impl<'a> Tracer<'a> {
     /// The trace of a system after setup. `AllocError` if memory runs out.
     fn new(alloc: Global, printing: Printing<'a>, setup: &Frame) -> Result<Tracer<'a>, AllocError>
         ensures { IfOk result (λ made. IsBegun printing.entry.form (tables_of printing.entry.sys.now)
-            printing.entry.places.now made (table_of setup.now)) }
+            printing.entry.positions.now made (table_of setup.now)) }
     {
         let mut out = Vec::new(alloc);
         let form = line_form(printing.form);
@@ -114,7 +114,7 @@ impl Viewer for Tracer<'_> {
             line_form(self.printing.form),
             self.printing.sys,
             self.number,
-            place_of(self.printing.places, self.number),
+            position_of(self.printing.positions, self.number),
             &frame.lines,
             &mut self.out,
         )?;
@@ -134,7 +134,7 @@ fn traced<'a, B: Body, T: Coming<B>>(
 ) -> Result<Tracer<'a>, AllocError>
     requires few { kernel.old.taken + length events.now ≤ 2 ^ 31 }
     ensures { IfOk result (λ tracer. WasShown
-        (IsBegun printing.entry.form (tables_of printing.entry.sys.now) printing.entry.places.now)
+        (IsBegun printing.entry.form (tables_of printing.entry.sys.now) printing.entry.positions.now)
         ⟦<Tracer<'a> as Viewer>⟧.shown B.meaning T.reaction kernel.old events.now tracer) }
 {
     let setup = last_frame(alloc, kernel)?;
@@ -154,7 +154,7 @@ fn trace_on<B: Body, T: Coming<B>>(
 ) -> Result<Vec<u8>, AllocError>
     requires few { kernel.old.taken + length events.now ≤ 2 ^ 31 }
     ensures { IfOk result (λ out. IsTrace printing.entry.form (tables_of printing.entry.sys.now)
-        printing.entry.places.now B.meaning T.reaction kernel.old events.now out.items) }
+        printing.entry.positions.now B.meaning T.reaction kernel.old events.now out.items) }
 {
     let tracer = traced(alloc, printing, kernel, events)?;
     tracer.finish(alloc)
@@ -166,19 +166,19 @@ fn trace_on<B: Body, T: Coming<B>>(
 pub fn trace_of<O: Opened, T: Coming<O::Bodies>>(
     alloc: Global,
     form: Form,
-    places: &[Option<CallPlace>],
+    positions: &[Option<CallPosition>],
     opened: &O,
     events: &[T],
 ) -> Result<Vec<u8>, AllocError>
     requires { length events.now ≤ 2 ^ 31 }
-    ensures { IfOk result (λ out. IsTrace form (O.start opened.now).system places.now O.Bodies.meaning T.reaction
+    ensures { IfOk result (λ out. IsTrace form (O.start opened.now).system positions.now O.Bodies.meaning T.reaction
         (O.start opened.now) events.now out.items) }
 {
     let mut kernel = opened.kernel(alloc)?;
     let printing = Printing {
         form,
         sys: opened.system(),
-        places,
+        positions,
     };
     let trace = trace_on(alloc, printing, &mut kernel, events);
     drop(kernel);

@@ -4,14 +4,16 @@ ghost use Rattle.fmp_instructions.specs.Machine.{code_meaning};
 ghost use Rattle.fmp_trials.specs.Found.{IsFound};
 ghost use Rattle.fmp_trials.specs.Shortening.{IsFailing};
 ghost use Rattle.fmp_looking.specs.Covered.{AreRunsSeen, seen_at};
-ghost use Rattle.fmp_looking.specs.Tested.{subject_of};
+ghost use Rattle.fmp_looking.specs.CallSentences.{breaks_by};
+ghost use Rattle.fmp_looking.specs.Tested.{subject_in};
 
+use crate::call_sentences::CallJudge;
 use crate::covering::Sightings;
 use crate::open_image::OpenImage;
 use crate::opened::Opened;
 use fmp_code::Vm;
 use fmp_expect::Expected;
-use fmp_frames::CallPlaces;
+use fmp_frames::CallPositions;
 use fmp_trials::{
     Bench, FailedTrial, FailingSeed, RunPlan, Seeds, first_failed_trial, first_failing,
     random_steps, shortened,
@@ -23,17 +25,21 @@ use std::alloc::{AllocError, Global};
 pub struct Trials<'a> {
     pub opened: OpenImage<'a>,
     pub expected: &'a [Expected],
+    /// What is said of calls.
+    pub judge: &'a CallJudge<'a>,
     pub plan: RunPlan<'a>,
 }
 
+/// Kernels of an image, on which its runs are made.
+pub type ImageBench<'a> = Bench<'a, Vm<'a>, CallJudge<'a>>;
+
 /// Two kernels of an image after setup, on which its runs are made.
-pub fn bench_of<'a>(alloc: Global, trials: &Trials<'a>) -> Result<Bench<'a, Vm<'a>>, AllocError>
-    ensures { IfOk result (λ bench. bench ≡ subject_of trials.now.opened.image.now trials.now.opened.bound
-        trials.now.expected.now) }
+pub fn bench_of<'a>(alloc: Global, trials: &Trials<'a>) -> Result<ImageBench<'a>, AllocError>
+    ensures { IfOk result (λ bench. bench ≡ subject_in trials.now) }
 {
     let start = trials.opened.kernel(alloc)?;
     let kernel = trials.opened.kernel(alloc)?;
-    Ok(Bench::new(start, kernel, trials.expected))
+    Ok(Bench::new(start, kernel, trials.expected, trials.judge))
 }
 
 /// The first of the random runs of an image that fails what is expected, made shorter. Where there is none, nothing is
@@ -43,8 +49,7 @@ pub fn failed_trial_of(
     trials: &Trials<'_>,
     seeds: u32,
 ) -> Result<Option<FailedTrial>, AllocError>
-    ensures { IfOk result (λ found. IfSome found (IsFound code_meaning
-        (subject_of trials.now.opened.image.now trials.now.opened.bound trials.now.expected.now))) }
+    ensures { IfOk result (λ found. IfSome found (IsFound code_meaning breaks_by (subject_in trials.now))) }
 {
     let mut bench = bench_of(alloc, trials)?;
     let found = first_failed_trial(alloc, &mut bench, trials.plan, u64::from(seeds));
@@ -59,8 +64,8 @@ pub fn failing_seed_of(
     trials: &Trials<'_>,
     seeds: Seeds,
 ) -> Result<Option<FailingSeed>, AllocError>
-    ensures { IfOk result (λ found. IfSome found (λ f. IsFailing code_meaning
-        (subject_of trials.now.opened.image.now trials.now.opened.bound trials.now.expected.now) f.run)) }
+    ensures { IfOk result (λ found. IfSome found
+        (λ f. IsFailing code_meaning breaks_by (subject_in trials.now) f.run)) }
 {
     let mut bench = bench_of(alloc, trials)?;
     let found = first_failing(alloc, &mut bench, trials.plan, seeds);
@@ -74,10 +79,8 @@ pub fn shortened_trial_of(
     trials: &Trials<'_>,
     found: FailingSeed,
 ) -> Result<FailedTrial, AllocError>
-    requires { IsFailing code_meaning
-        (subject_of trials.now.opened.image.now trials.now.opened.bound trials.now.expected.now) found.run }
-    ensures { IfOk result (IsFound code_meaning
-        (subject_of trials.now.opened.image.now trials.now.opened.bound trials.now.expected.now)) }
+    requires { IsFailing code_meaning breaks_by (subject_in trials.now) found.run }
+    ensures { IfOk result (IsFound code_meaning breaks_by (subject_in trials.now)) }
 {
     let mut bench = bench_of(alloc, trials)?;
     let trial = shortened(alloc, &mut bench, found);
@@ -88,13 +91,13 @@ pub fn shortened_trial_of(
 /// What is seen in the random runs of these seeds, on the kernels of an image whose calls stand at these places.
 fn seen_on<'a>(
     alloc: Global,
-    bench: &mut Bench<'a, Vm<'a>>,
+    bench: &mut ImageBench<'a>,
     trials: &Trials<'_>,
-    places: &CallPlaces,
+    positions: &CallPositions,
     seeds: Seeds,
 ) -> Result<Sightings, AllocError>
-    ensures { IfOk result (λ seen. AreRunsSeen places.now trials.now.opened.image.now trials.now.opened.bound
-        (seeds.last - seeds.before) (seen_at places.now seen)) }
+    ensures { IfOk result (λ seen. AreRunsSeen positions.now trials.now.opened.image.now trials.now.opened.bound
+        (seeds.last - seeds.before) (seen_at positions.now seen)) }
 {
     let mut seen = Sightings::none(alloc);
     for made in 0..seeds.count() {
@@ -103,7 +106,7 @@ fn seen_on<'a>(
             alloc,
             trials.opened.image,
             trials.opened.bound,
-            places,
+            positions,
             &steps,
         )?;
     }
@@ -115,14 +118,14 @@ fn seen_on<'a>(
 pub fn sightings_of(
     alloc: Global,
     trials: &Trials<'_>,
-    places: &CallPlaces,
+    positions: &CallPositions,
     seeds: Seeds,
 ) -> Result<Sightings, AllocError>
-    ensures { IfOk result (λ seen. AreRunsSeen places.now trials.now.opened.image.now trials.now.opened.bound
-        (seeds.last - seeds.before) (seen_at places.now seen)) }
+    ensures { IfOk result (λ seen. AreRunsSeen positions.now trials.now.opened.image.now trials.now.opened.bound
+        (seeds.last - seeds.before) (seen_at positions.now seen)) }
 {
     let mut bench = bench_of(alloc, trials)?;
-    let seen = seen_on(alloc, &mut bench, trials, places, seeds);
+    let seen = seen_on(alloc, &mut bench, trials, positions, seeds);
     drop(bench);
     seen
 }

@@ -1,7 +1,7 @@
 //! Random runs of an image that several threads make. Each makes those of a part of the seeds, and what comes of the
 //! parts is taken in order.
 ghost use Rattle.std.specs.Prelude.{ℕ, ◌+◌, ◌-◌, ◌<◌, All, IfOk, IfSome, List};
-ghost use Rattle.fmp_frames.specs.declared.call_places.CallPlace.{CallPlace};
+ghost use Rattle.fmp_frames.specs.declared.call_positions.CallPosition.{CallPosition};
 ghost use Rattle.fmp_image_bytes.specs.Images.{ImageTables};
 ghost use Rattle.fmp_instructions.specs.Machine.{code_meaning};
 ghost use Rattle.fmp_trials.specs.declared.seeds.Seeds.{Seeds};
@@ -9,11 +9,12 @@ ghost use Rattle.fmp_trials.specs.Found.{IsFound};
 ghost use Rattle.fmp_trials.specs.Parts.{edge};
 ghost use Rattle.fmp_trials.specs.Shortening.{IsFailing};
 ghost use Rattle.fmp_looking.specs.Covered.{ArePartsSeen, AreRunsSeen, AreTrialsSeen, IsWithPart, seen_at, seen_of};
-ghost use Rattle.fmp_looking.specs.Tested.{subject_of};
+ghost use Rattle.fmp_looking.specs.CallSentences.{breaks_by};
+ghost use Rattle.fmp_looking.specs.Tested.{subject_in};
 
 use crate::covering::{RunsSeen, Sightings};
 use crate::trying::{Trials, failing_seed_of, shortened_trial_of, sightings_of};
-use fmp_frames::CallPlaces;
+use fmp_frames::CallPositions;
 use fmp_trials::{FailedTrial, FailingSeed, Seeds, first_of};
 use std::alloc::{AllocError, Global};
 use std::thread;
@@ -32,13 +33,13 @@ fn failing_parts<R: Threads + Sync>(
     seeds: Seeds,
 ) -> Result<Vec<Result<Option<FailingSeed>, AllocError>>, AllocError>
     requires { 0 < jobs }
-    ensures { IfOk result (λ parts. All (λ part. IfOk part (λ found. IfSome found (λ f. IsFailing code_meaning
-        (subject_of trials.now.opened.image.now trials.now.opened.bound trials.now.expected.now) f.run))) parts.items) }
+    ensures { IfOk result (λ parts. All (λ part. IfOk part (λ found. IfSome found
+        (λ f. IsFailing code_meaning breaks_by (subject_in trials.now) f.run))) parts.items) }
 {
     let look = |k: usize| -> Result<Option<FailingSeed>, AllocError>
         requires { k < jobs }
-        ensures { IfOk result (λ found. IfSome found (λ f. IsFailing code_meaning (subject_of
-            trials.entry.now.opened.image.now trials.entry.now.opened.bound trials.entry.now.expected.now) f.run)) }
+        ensures { IfOk result (λ found. IfSome found
+            (λ f. IsFailing code_meaning breaks_by (subject_in trials.entry.now) f.run)) }
     { failing_seed_of(alloc, trials, seeds.part(u64::from(jobs), k as u64)) };
     thread::map_indices(rt, alloc, jobs as usize, &look)
 }
@@ -53,8 +54,8 @@ fn failing_seed_beside<R: Threads + Sync>(
     seeds: Seeds,
 ) -> Result<Option<FailingSeed>, AllocError>
     requires { 0 < jobs }
-    ensures { IfOk result (λ found. IfSome found (λ f. IsFailing code_meaning
-        (subject_of trials.now.opened.image.now trials.now.opened.bound trials.now.expected.now) f.run)) }
+    ensures { IfOk result (λ found. IfSome found
+        (λ f. IsFailing code_meaning breaks_by (subject_in trials.now) f.run)) }
 {
     let parts = failing_parts(alloc, rt, jobs, trials, seeds)?;
     first_of(parts)
@@ -101,8 +102,8 @@ fn first_failing_beside<R: Threads + Sync>(
     last: u64,
 ) -> Result<Option<FailingSeed>, AllocError>
     requires { 0 < jobs }
-    ensures { IfOk result (λ found. IfSome found (λ f. IsFailing code_meaning
-        (subject_of trials.now.opened.image.now trials.now.opened.bound trials.now.expected.now) f.run)) }
+    ensures { IfOk result (λ found. IfSome found
+        (λ f. IsFailing code_meaning breaks_by (subject_in trials.now) f.run)) }
 {
     let mut round = Round {
         jobs,
@@ -132,8 +133,7 @@ pub fn failed_trial_beside<R: Threads + Sync>(
     seeds: u32,
 ) -> Result<Option<FailedTrial>, AllocError>
     requires { 0 < jobs }
-    ensures { IfOk result (λ found. IfSome found (IsFound code_meaning
-        (subject_of trials.now.opened.image.now trials.now.opened.bound trials.now.expected.now))) }
+    ensures { IfOk result (λ found. IfSome found (IsFound code_meaning breaks_by (subject_in trials.now))) }
 {
     match first_failing_beside(alloc, rt, jobs, trials, u64::from(seeds))? {
         Some(found) => Ok(Some(shortened_trial_of(alloc, trials, found)?)),
@@ -148,19 +148,26 @@ fn parts_seen<R: Threads + Sync>(
     rt: &R,
     jobs: u32,
     trials: &Trials<'_>,
-    places: &CallPlaces,
+    positions: &CallPositions,
     seeds: Seeds,
 ) -> Result<Vec<Result<Sightings, AllocError>>, AllocError>
     requires { 0 < jobs }
-    ensures { IfOk result (λ parts. ArePartsSeen places.now trials.now.opened.image.now trials.now.opened.bound seeds
+    ensures { IfOk result (λ parts. ArePartsSeen positions.now trials.now.opened.image.now trials.now.opened.bound seeds
         jobs parts.items) }
 {
     let look = |k: usize| -> Result<Sightings, AllocError>
         requires { k < jobs }
-        ensures { IfOk result (λ s. AreRunsSeen places.entry.now trials.entry.now.opened.image.now
+        ensures { IfOk result (λ s. AreRunsSeen positions.entry.now trials.entry.now.opened.image.now
             trials.entry.now.opened.bound (edge seeds jobs (k + 1) - edge seeds jobs k)
-            (seen_at places.entry.now s)) }
-    { sightings_of(alloc, trials, places, seeds.part(u64::from(jobs), k as u64)) };
+            (seen_at positions.entry.now s)) }
+    {
+        sightings_of(
+            alloc,
+            trials,
+            positions,
+            seeds.part(u64::from(jobs), k as u64),
+        )
+    };
     let parts = thread::map_indices(rt, alloc, jobs as usize, &look)?;
     Ok(parts)
 }
@@ -177,9 +184,9 @@ fn and_part(seen: Sightings, part: &Result<Sightings, AllocError>) -> Result<Sig
 
 /// What is seen in the runs of parts, in order.
 fn all_seen(alloc: Global, parts: &[Result<Sightings, AllocError>]) -> Result<Sightings, AllocError>
-    ensures { IfOk result (λ s. (places : List (List CallPlace)) (i : ImageTables) (n : ℕ) (seeds : Seeds)
-        (jobs : ℕ) → 0 < jobs → ArePartsSeen places i n seeds jobs parts.now →
-        AreRunsSeen places i n (seeds.last - seeds.before) (seen_at places s)) }
+    ensures { IfOk result (λ s. (positions : List (List CallPosition)) (i : ImageTables) (n : ℕ) (seeds : Seeds)
+        (jobs : ℕ) → 0 < jobs → ArePartsSeen positions i n seeds jobs parts.now →
+        AreRunsSeen positions i n (seeds.last - seeds.before) (seen_at positions s)) }
 {
     let mut seen = Sightings::none(alloc);
     for k in 0..parts.len() {
@@ -195,14 +202,14 @@ fn sightings_beside<R: Threads + Sync>(
     rt: &R,
     jobs: u32,
     trials: &Trials<'_>,
-    places: &CallPlaces,
+    positions: &CallPositions,
     seeds: Seeds,
 ) -> Result<Sightings, AllocError>
     requires { 0 < jobs }
-    ensures { IfOk result (λ seen. AreRunsSeen places.now trials.now.opened.image.now trials.now.opened.bound
-        (seeds.last - seeds.before) (seen_at places.now seen)) }
+    ensures { IfOk result (λ seen. AreRunsSeen positions.now trials.now.opened.image.now trials.now.opened.bound
+        (seeds.last - seeds.before) (seen_at positions.now seen)) }
 {
-    let parts = parts_seen(alloc, rt, jobs, trials, places, seeds)?;
+    let parts = parts_seen(alloc, rt, jobs, trials, positions, seeds)?;
     all_seen(alloc, &parts)
 }
 
@@ -212,16 +219,16 @@ fn sightings_by<R: Threads + Sync>(
     rt: &R,
     jobs: u32,
     trials: &Trials<'_>,
-    places: &CallPlaces,
+    positions: &CallPositions,
     seeds: Seeds,
 ) -> Result<Sightings, AllocError>
-    ensures { IfOk result (λ seen. AreRunsSeen places.now trials.now.opened.image.now trials.now.opened.bound
-        (seeds.last - seeds.before) (seen_at places.now seen)) }
+    ensures { IfOk result (λ seen. AreRunsSeen positions.now trials.now.opened.image.now trials.now.opened.bound
+        (seeds.last - seeds.before) (seen_at positions.now seen)) }
 {
     if jobs <= 1 {
-        return sightings_of(alloc, trials, places, seeds);
+        return sightings_of(alloc, trials, positions, seeds);
     }
-    sightings_beside(alloc, rt, jobs, trials, places, seeds)
+    sightings_beside(alloc, rt, jobs, trials, positions, seeds)
 }
 
 /// What is seen of the random runs of the first seeds, this many, of an image with bodies of this text, where this many
@@ -237,11 +244,11 @@ pub fn seen_of_trials<R: Threads + Sync>(
     ensures { IfOk result (λ seen. AreTrialsSeen src.now trials.now.opened.image.now trials.now.opened.bound seeds
         (seen_of seen)) }
 {
-    let places = CallPlaces::new(alloc, src)?;
+    let positions = CallPositions::new(alloc, src)?;
     let all = Seeds {
         before: 0,
         last: seeds,
     };
-    let seen = sightings_by(alloc, rt, jobs, trials, &places, all)?;
-    Ok(RunsSeen::new(places, seen))
+    let seen = sightings_by(alloc, rt, jobs, trials, &positions, all)?;
+    Ok(RunsSeen::new(positions, seen))
 }

@@ -4,7 +4,7 @@ ghost use Rattle.fmp_looking.specs.Marks as spec;
 
 use crate::marks::{BranchKind, Mark, MarkKind};
 use fmp_base::Service;
-use fmp_frames::CallPlace;
+use fmp_frames::CallPosition;
 use fmp_lex::{Keyword, Symbol, TokenKind};
 use std::alloc::AllocError;
 
@@ -28,7 +28,7 @@ pub enum Piece {
 #[derive(Clone, Copy)]
 pub struct Condition {
     pub kind: BranchKind,
-    pub place: CallPlace,
+    pub position: CallPosition,
 }
 
 /// How far a walk has come.
@@ -94,12 +94,12 @@ pub fn piece_of(kind: TokenKind) -> Piece
 }
 
 /// The mark at a place.
-fn mark_here(walk: &Walk, kind: MarkKind, place: CallPlace) -> Mark
-    ensures { result ≡ spec.mark_here walk.now kind place }
+fn mark_here(walk: &Walk, kind: MarkKind, position: CallPosition) -> Mark
+    ensures { result ≡ spec.mark_here walk.now kind position }
 {
     Mark {
         kind,
-        place,
+        position,
         bodies: walk.bodies,
         branches: walk.branches,
     }
@@ -109,16 +109,20 @@ fn mark_here(walk: &Walk, kind: MarkKind, place: CallPlace) -> Mark
 pub fn marks_by(
     walk: &Walk,
     piece: Piece,
-    place: CallPlace,
+    position: CallPosition,
     marks: &mut Vec<Mark>,
 ) -> Result<(), AllocError>
-    ensures { OnOk result (marks.new.items ≡ marks.old.items ++ spec.marks_by walk.now piece place) }
+    ensures { OnOk result (marks.new.items ≡ marks.old.items ++ spec.marks_by walk.now piece position) }
 {
     let mark = match piece {
-        Piece::Call(service) => mark_here(walk, MarkKind::Call(service), place),
-        Piece::Branches(kind) => mark_here(walk, MarkKind::Branch(kind), place),
+        Piece::Call(service) => mark_here(walk, MarkKind::Call(service), position),
+        Piece::Branches(kind) => mark_here(walk, MarkKind::Branch(kind), position),
         Piece::Block => match walk.condition {
-            Some(condition) => mark_here(walk, MarkKind::Branch(condition.kind), condition.place),
+            Some(condition) => mark_here(
+                walk,
+                MarkKind::Branch(condition.kind),
+                condition.position,
+            ),
             None => return Ok(()),
         },
         _ => return Ok(()),
@@ -149,8 +153,8 @@ fn after_block(walk: Walk) -> Walk
 }
 
 /// The walk after a token.
-pub fn walked(walk: Walk, piece: Piece, place: CallPlace) -> Walk
-    ensures { result ≡ spec.walked walk piece place }
+pub fn walked(walk: Walk, piece: Piece, position: CallPosition) -> Walk
+    ensures { result ≡ spec.walked walk piece position }
 {
     match piece {
         Piece::Head => Walk {
@@ -159,7 +163,7 @@ pub fn walked(walk: Walk, piece: Piece, place: CallPlace) -> Walk
             condition: None,
         },
         Piece::Begins(kind) => Walk {
-            condition: Some(Condition { kind, place }),
+            condition: Some(Condition { kind, position }),
             ..walk
         },
         Piece::Branches(_) => after_branch(walk, walk.condition),

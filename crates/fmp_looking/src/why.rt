@@ -46,21 +46,21 @@ fn counted<O: Opened, T: Coming<O::Bodies>>(
 }
 
 /// How much of what comes to a system leads up to the event of a number, or all of it.
-fn place_of<O: Opened, T: Coming<O::Bodies>>(
+fn position_of<O: Opened, T: Coming<O::Bodies>>(
     alloc: Global,
     opened: &O,
     events: &[T],
     at: Option<u32>,
 ) -> Result<usize, ViewExit>
     requires { length events.now ≤ 2 ^ 31 }
-    ensures { IfOk result (λ place. place ≤ length events.now) }
+    ensures { IfOk result (λ position. position ≤ length events.now) }
 {
     let Some(number) = at else {
         return Ok(events.len());
     };
     match counted(alloc, opened, events, number) {
         Ok((_, done)) if done < number => Err(exit_of(TimelineFault::NoEvent(done))),
-        Ok((place, _)) => Ok(place),
+        Ok((position, _)) => Ok(position),
         Err(error) => Err(memory(error)),
     }
 }
@@ -124,7 +124,7 @@ impl RunLook for Why {
         events: &[T],
         _times: &[Option<u64>],
     ) -> Result<Vec<u8>, ViewExit> {
-        let place = place_of(alloc, opened, events, self.at)?;
-        why_in(alloc, self.form, opened, &events[..place]).map_err(|error| memory(error))
+        let position = position_of(alloc, opened, events, self.at)?;
+        why_in(alloc, self.form, opened, &events[..position]).map_err(|error| memory(error))
     }
 }

@@ -22,7 +22,7 @@ use Rattle.fmp_question.specs.declared.question.NeverAt.{NeverAt}
 use Rattle.fmp_question.specs.declared.question.Question.{Question}
 use Rattle.fmp_question.specs.Forbidden.{forbids, has_code, is_same_code}
 use Rattle.fmp_question.specs.Places.{forbids_there, has_body, is_bad, is_behind, is_caller_behind, is_handler_behind}
-use Rattle.fmp_question.specs.Places.{is_task_behind, tells_there}
+use Rattle.fmp_question.specs.Places.{is_of, is_of_caller, is_task_behind, tells_there}
 use Rattle.fmp_instructions.specs.declared.instructions.MachineContext.{MachineContext}
 use Rattle.fmp_instructions.specs.Instructions.{BodyTables}
 use Rattle.fmp_live.specs.LiveLocals.{LiveTable, table_at}
@@ -101,9 +101,9 @@ module _ (sys : SystemTables) (v w : World MachineContext) (alike : Alike sys v 
   told-there : (never : NeverAt) (l : Line) → tells_there sys v never l ≡ tells_there sys w never l
   unfolding tells_there
   told-there never (line.Call p who made reply) =
-      ap (λ (b : Bool). has_code never.code reply && b) (caller-behind never.site p who)
+      ap (λ (b : Bool). (has_code never.code reply && is_of_caller never.by who) && b) (caller-behind never.site p who)
   told-there never (line.Gets p t reply) =
-      ap (λ (b : Bool). is_same_code reply.code never.code && b) (task-behind never.site t)
+      ap (λ (b : Bool). (is_same_code reply.code never.code && is_of never.by t) && b) (task-behind never.site t)
   told-there never (line.Tick clock) = refl
   told-there never (line.Int i) = refl
   told-there never (line.End p who) = refl
@@ -161,9 +161,9 @@ module _ (sys : SystemTables) (tables : List LiveTable) (w : World MachineContex
   told-zeroed : (never : NeverAt) (l : Line) → tells_there sys dead_as_0 never l ≡ tells_there sys w never l
   unfolding tells_there
   told-zeroed never (line.Call p who made reply) =
-      ap (λ (b : Bool). has_code never.code reply && b) (caller_behind-zeroed never.site p who)
+      ap (λ (b : Bool). (has_code never.code reply && is_of_caller never.by who) && b) (caller_behind-zeroed never.site p who)
   told-zeroed never (line.Gets p t reply) =
-      ap (λ (b : Bool). is_same_code reply.code never.code && b) (task_behind-zeroed never.site t)
+      ap (λ (b : Bool). (is_same_code reply.code never.code && is_of never.by t) && b) (task_behind-zeroed never.site t)
   told-zeroed never (line.Tick clock) = refl
   told-zeroed never (line.Int i) = refl
   told-zeroed never (line.End p who) = refl

@@ -1,6 +1,7 @@
 -- Answers that must never be given to one call: a line tells that its caller gets one, and the caller stands right
 -- behind that call in the world that the event leaves.
-use Rattle.std.specs.Prelude.{ℕ, ◌+◌, ◌-◌, List, Option, Some, None, Bool, false, nat_eq, not, slice_get, ◌&&◌, ◌||◌}
+use Rattle.std.specs.Prelude.{ℕ, ◌+◌, ◌-◌, List, Option, Some, None, Bool, true, false, nat_eq, not, is_some, slice_get}
+use Rattle.std.specs.Prelude.{◌&&◌, ◌||◌}
 use Rattle.std.specs.List.{list_any}
 use Rattle.fmp_base.specs.declared.bodies.HandlerContext.{HandlerContext}
 use Rattle.fmp_base.specs.declared.bodies.Held.{Held}
@@ -56,12 +57,21 @@ abbrev pub is_caller_behind : SystemTables → World MachineContext → CallSite
 is_caller_behind sys w site p (caller.Task t) = is_task_behind sys w site t
 is_caller_behind sys w site p (caller.Handler h) = is_handler_behind site (context_at w.contexts.handlers p)
 
+-- the answers of a task are meant: of this one, or of anybody
+abbrev pub is_of : (by : Option ℕ) → (t : ℕ) → Bool
+is_of None t = true
+is_of (Some task) t = nat_eq task t
+
+abbrev pub is_of_caller : (by : Option ℕ) → Caller → Bool
+is_of_caller by (caller.Task t) = is_of by t
+is_of_caller by (caller.Handler h) = not (is_some by)
+
 -- a line tells that the call gets the answer
 unfoldable pub tells_there : SystemTables → World MachineContext → NeverAt → Line → Bool
 tells_there sys w never (line.Call p who made reply) =
-    has_code never.code reply && is_caller_behind sys w never.site p who
+    (has_code never.code reply && is_of_caller never.by who) && is_caller_behind sys w never.site p who
 tells_there sys w never (line.Gets p t reply) =
-    is_same_code reply.code never.code && is_task_behind sys w never.site t
+    (is_same_code reply.code never.code && is_of never.by t) && is_task_behind sys w never.site t
 tells_there sys w never _ = false
 
 -- a line tells something of these

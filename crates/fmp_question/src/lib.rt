@@ -11,7 +11,7 @@ mod standing;
 
 pub use endless::{Outlook, is_endless, is_same, outlook_of};
 pub use fitting::are_written;
-pub use placing::{body_of, first_bad_at, is_bad, is_started, last_call};
+pub use placing::{body_of, first_bad_at, is_bad, is_started, last_call, tells_there};
 pub use question::{ANSWERS, Never, NeverAt, Question, Ticks, first_forbidden, interrupt_count};
 pub use queueing::queues_within;
 pub use site::CallSite;

@@ -123,9 +123,29 @@ fn is_caller_behind(
     }
 }
 
+/// Whether the answers of a task are meant.
+fn is_of(by: Option<usize>, t: u8) -> bool
+    ensures { result ≡ spec.is_of by t }
+{
+    match by {
+        Some(task) => task == usize::from(t),
+        None => true,
+    }
+}
+
+/// Whether the answers of a caller are meant.
+fn is_of_caller(by: Option<usize>, caller: Caller) -> bool
+    ensures { result ≡ spec.is_of_caller by caller }
+{
+    match caller {
+        Caller::Task(t) => is_of(by, t),
+        Caller::Handler(_) => by.is_none(),
+    }
+}
+
 /// Whether a line that was just told on a kernel tells that a call gets an answer that it must never get.
 #[tactic(auto, unfolding(crate::specs::Places::tells_there))]
-fn tells_there(kernel: &Kernel<Vm<'_>>, sys: &System, never: NeverAt, line: &Line) -> bool
+pub fn tells_there(kernel: &Kernel<Vm<'_>>, sys: &System, never: NeverAt, line: &Line) -> bool
     ensures { result ≡ spec.tells_there (tables_of sys.now) kernel.now.world never line.now }
 {
     match line {
@@ -136,10 +156,13 @@ fn tells_there(kernel: &Kernel<Vm<'_>>, sys: &System, never: NeverAt, line: &Lin
             ..
         } => {
             is_same_code(reply.code, never.code)
+                && is_of_caller(never.by, *caller)
                 && is_caller_behind(kernel, sys, never.site, *processor, *caller)
         }
         Line::Gets { task, reply, .. } => {
-            is_same_code(reply.code, never.code) && is_task_behind(kernel, sys, never.site, *task)
+            is_same_code(reply.code, never.code)
+                && is_of(never.by, *task)
+                && is_task_behind(kernel, sys, never.site, *task)
         }
         _ => false,
     }

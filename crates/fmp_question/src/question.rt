@@ -46,6 +46,8 @@ pub struct NeverAt {
     pub code: Er,
     /// The call that answers the code, or in which a wait ends with it.
     pub site: CallSite,
+    /// The place of the task that must not get it; nobody may, if none is given.
+    pub by: Option<usize>,
 }
 
 /// When the clock may advance.

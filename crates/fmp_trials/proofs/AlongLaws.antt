@@ -1,6 +1,6 @@
 -- A sentence along the lines of events, and by what was shown.
-use Rattle.std.proofs.Common.{◌≡◌, ◌∙◌, ℕ, ◌+◌, ◌-◌, List, [], ◌∷◌, Option, Some, None, Bool, true, false, refl, ap, sym}
-use Rattle.std.proofs.Common.{cond}
+use Rattle.std.proofs.Common.{◌≡◌, ◌∙◌, ℕ, ◌+◌, ◌-◌, List, [], ◌∷◌, Option, Some, None, Bool, true, false}
+use Rattle.std.proofs.Common.{ap, cond, refl, sym}
 use Rattle.std.specs.Prelude.{◌&&◌, ◌||◌, not, is_some}
 use Rattle.fmp_base.specs.declared.events.Event.{Event}
 use Rattle.fmp_base.specs.declared.events.Line.{Line}
@@ -22,7 +22,8 @@ use Rattle.fmp_monitors.specs.declared.sentence.Sentence.{Sentence}
 use Rattle.fmp_monitors.specs.declared.sentence.Sentence.TheVariants as sentence
 use Rattle.fmp_monitors.specs.declared.standing.Standing.{Standing}
 use Rattle.fmp_monitors.specs.Happenings.{answers, asks, holder_on, is_met, is_tick, tells, tells_any}
-use Rattle.fmp_monitors.specs.Meaning.{Seen, OfLine, OfState, breaks, by_line, has_come, holder, is_open, is_owed, is_zero}
+use Rattle.fmp_monitors.specs.Meaning.{Seen, OfLine, OfState, breaks, by_line, has_come, holder, is_open, is_owed}
+use Rattle.fmp_monitors.specs.Meaning.{is_zero}
 use Rattle.fmp_monitors.specs.Monitors.{breaks_by_line, next_by_line, standing_of}
 use Rattle.fmp_schedules.specs.declared.monitor.Monitor.{Monitor}
 use Rattle.fmp_schedules.specs.declared.monitor.MonitorSubject.TheVariants as subject

@@ -9,7 +9,7 @@ use Rattle.fmp_base.specs.Meanings.{Meaning}
 use Rattle.fmp_expect.specs.declared.checker.BrokenExpectation.{BrokenExpectation}
 use Rattle.fmp_trials.specs.declared.shortening.FailingRun.{FailingRun}
 use Rattle.fmp_trials.specs.Shortening.{GoesOn, HasTaken, IsFailing, IsTried, NoneCanGo}
-use Rattle.fmp_trials.specs.Trials.{IsShortest, Subject, broken_by, is_at, without}
+use Rattle.fmp_trials.specs.Trials.{Breaks, IsShortest, Subject, broken_by, is_at, without}
 
 front_left : (es : List Event) (first end : ℕ) → first ≤ end → end ≤ length es → first ≤ length (without es first end)
 front_left es first end low high =
@@ -36,42 +36,43 @@ fewer_more false after first was now left low fewer no_longer some = omega (arit
 abbrev with_room : FailingRun → ℕ → FailingRun
 with_room run r = record run { room = r }
 
-module _ {B C : Type 0} (meaning : B → Meaning C) (s : Subject B C) where
+module _ {B C J : Type 0} (meaning : B → Meaning C) (breaks : Breaks B C J) (s : Subject B C J) where
   pub failing_after : (old new : FailingRun) (r : ℕ) (es : List Event) (verdict : Option BrokenExpectation)
       (done : Bool)
-      → IsFailing meaning s old → length es ≤ 2 ^ 20 → verdict ≡ broken_by meaning s es
-      → HasTaken (with_room old r) new es verdict done → IsFailing meaning s new
+      → IsFailing meaning breaks s old → length es ≤ 2 ^ 20 → verdict ≡ broken_by meaning breaks s es
+      → HasTaken (with_room old r) new es verdict done → IsFailing meaning breaks s new
   failing_after old new r es verdict true failing few is h =
       record {
-        fails = ap (broken_by meaning s) h.0 ∙ sym is ∙ h.1;
+        fails = ap (broken_by meaning breaks s) h.0 ∙ sym is ∙ h.1;
         few = subst (λ (xs : List Event). length xs ≤ 2 ^ 20) (sym h.0) few;
       }
   failing_after old new r es verdict false failing few is h =
       record {
-        fails = ap (broken_by meaning s) h.0 ∙ failing.fails ∙ ap Some (sym h.1);
+        fails = ap (broken_by meaning breaks s) h.0 ∙ failing.fails ∙ ap Some (sym h.1);
         few = subst (λ (xs : List Event). length xs ≤ 2 ^ 20) (sym h.0) failing.few;
       }
 
   pub tried_after : (old new : FailingRun) (r : ℕ) (es : List Event) (verdict : Option BrokenExpectation) (done : Bool)
-      → verdict ≡ broken_by meaning s es → HasTaken (with_room old r) new es verdict done
-      → IsTried meaning s old new es done
+      → verdict ≡ broken_by meaning breaks s es → HasTaken (with_room old r) new es verdict done
+      → IsTried meaning breaks s old new es done
   tried_after old new r es verdict true is h = h.0
   tried_after old new r es verdict false is h = (h.0, λ _. ap (is_at old.broken.line) (sym is) ∙ h.2)
 
-  pub failing_there : (s' : Subject B C) (run : FailingRun) → s' ≡ s → IsFailing meaning s run
-      → IsFailing meaning s' run
-  failing_there s' run same h = subst (λ (x : Subject B C). IsFailing meaning x run) (sym same) h
+  pub failing_there : (s' : Subject B C J) (run : FailingRun) → s' ≡ s → IsFailing meaning breaks s run
+      → IsFailing meaning breaks s' run
+  failing_there s' run same h = subst (λ (x : Subject B C J). IsFailing meaning breaks x run) (sym same) h
 
-  pub tried_there : (s' : Subject B C) (old new : FailingRun) (es : List Event) (done : Bool) → s' ≡ s
-      → IsTried meaning s old new es done → IsTried meaning s' old new es done
-  tried_there s' old new es done same h = subst (λ (x : Subject B C). IsTried meaning x old new es done) (sym same) h
+  pub tried_there : (s' : Subject B C J) (old new : FailingRun) (es : List Event) (done : Bool) → s' ≡ s
+      → IsTried meaning breaks s old new es done → IsTried meaning breaks s' old new es done
+  tried_there s' old new es done same h =
+      subst (λ (x : Subject B C J). IsTried meaning breaks x old new es done) (sym same) h
 
-  pub none_there : (s' : Subject B C) (run : FailingRun) (place : ℕ) (dropped : Bool) → s' ≡ s
-      → NoneCanGo meaning s run place dropped → NoneCanGo meaning s' run place dropped
+  pub none_there : (s' : Subject B C J) (run : FailingRun) (place : ℕ) (dropped : Bool) → s' ≡ s
+      → NoneCanGo meaning breaks s run place dropped → NoneCanGo meaning breaks s' run place dropped
   none_there s' run place dropped same h =
-      subst (λ (x : Subject B C). NoneCanGo meaning x run place dropped) (sym same) h
+      subst (λ (x : Subject B C J). NoneCanGo meaning breaks x run place dropped) (sym same) h
 
-  pub few_after : (run : FailingRun) (left : List Event) (first end : ℕ) → IsFailing meaning s run → first ≤ end
+  pub few_after : (run : FailingRun) (left : List Event) (first end : ℕ) → IsFailing meaning breaks s run → first ≤ end
       → end ≤ length run.steps.items → left ≡ without run.steps.items first end → length left ≤ 2 ^ 20
   few_after run left first end failing low high is =
       subst (λ (xs : List Event). length xs ≤ 2 ^ 20) (sym is)
@@ -79,21 +80,21 @@ module _ {B C : Type 0} (meaning : B → Meaning C) (s : Subject B C) where
 
   -- what is left has the events in front of the piece
   pub left_after : (old new : FailingRun) (first end : ℕ) (done : Bool) → first ≤ end → end ≤ length old.steps.items
-      → IsTried meaning s old new (without old.steps.items first end) done → first ≤ length new.steps.items
+      → IsTried meaning breaks s old new (without old.steps.items first end) done → first ≤ length new.steps.items
   left_after old new first end true low high h =
       subst (λ (xs : List Event). first ≤ length xs) (sym h) (front_left old.steps.items first end low high)
   left_after old new first end false low high h =
       subst (λ (xs : List Event). first ≤ length xs) (sym h.0) (omega (arith, low, high))
 
   pub fewer_after : (old new : FailingRun) (place : ℕ) (gone : Bool) → place < length old.steps.items
-      → IsTried meaning s old new (without old.steps.items place (place + 1)) gone → gone ≡ true
+      → IsTried meaning breaks s old new (without old.steps.items place (place + 1)) gone → gone ≡ true
       → length new.steps.items < length old.steps.items
   fewer_after old new place true below h went =
       subst (λ (xs : List Event). length xs < length old.steps.items) (sym h) (one_fewer old.steps.items place below)
   fewer_after old new place false below h went = absurd (cc (went))
 
   pub no_longer_after : (old new : FailingRun) (place : ℕ) (gone : Bool) → place < length old.steps.items
-      → IsTried meaning s old new (without old.steps.items place (place + 1)) gone
+      → IsTried meaning breaks s old new (without old.steps.items place (place + 1)) gone
       → length new.steps.items ≤ length old.steps.items
   no_longer_after old new place true below h =
       let fewer = fewer_after old new place true below h refl in
@@ -102,46 +103,48 @@ module _ {B C : Type 0} (meaning : B → Meaning C) (s : Subject B C) where
       subst (λ (xs : List Event). length xs ≤ length old.steps.items) (sym h.0) (omega arith)
 
   -- nothing can go behind the last event
-  pub none_behind : (run : FailingRun) → NoneCanGo meaning s run (length run.steps.items) false
+  pub none_behind : (run : FailingRun) → NoneCanGo meaning breaks s run (length run.steps.items) false
   none_behind run = λ _ room i from below. absurd (omega (arith, from, below))
 
-  pub any_can_go : (run : FailingRun) (place : ℕ) → NoneCanGo meaning s run place true
+  pub any_can_go : (run : FailingRun) (place : ℕ) → NoneCanGo meaning breaks s run place true
   any_can_go run place = λ so. absurd (cc)
 
   -- one place more
   pub none_more : (old new : FailingRun) (place : ℕ) (dropped : Bool) → new.broken.line ≡ old.broken.line
-      → new.room ≤ old.room → IsTried meaning s old new (without old.steps.items place (place + 1)) false
-      → NoneCanGo meaning s old (place + 1) dropped → NoneCanGo meaning s new place dropped
+      → new.room ≤ old.room → IsTried meaning breaks s old new (without old.steps.items place (place + 1)) false
+      → NoneCanGo meaning breaks s old (place + 1) dropped → NoneCanGo meaning breaks s new place dropped
   none_more old new place dropped line room h behind = λ so left i from below.
       let es = old.steps.items in
       let inside : i < length es = subst (λ (xs : List Event). i < length xs) h.0 below in
-      let held : is_at old.broken.line (broken_by meaning s (without es i (i + 1))) ≡ false =
+      let held : is_at old.broken.line (broken_by meaning breaks s (without es i (i + 1))) ≡ false =
       ⊎_elim
       (λ (e : place ≡ i).
-      subst (λ (j : ℕ). is_at old.broken.line (broken_by meaning s (without es j (j + 1))) ≡ false) e (h.1 left))
+      subst (λ (j : ℕ). is_at old.broken.line (broken_by meaning breaks s (without es j (j + 1))) ≡ false) e
+      (h.1 left))
       (λ (lt : place < i). behind so (omega (arith, left, room)) i (omega (arith, lt)) inside)
       (eq-or-lt_of_le from) in
-      subst (λ (xs : List Event). is_at new.broken.line (broken_by meaning s (without xs i (i + 1))) ≡ false) (sym h.0)
-      (subst (λ (l : ℕ). is_at l (broken_by meaning s (without es i (i + 1))) ≡ false) (sym line) held)
+      subst (λ (xs : List Event). is_at new.broken.line (broken_by meaning breaks s (without xs i (i + 1))) ≡ false)
+      (sym h.0) (subst (λ (l : ℕ). is_at l (broken_by meaning breaks s (without es i (i + 1))) ≡ false) (sym line) held)
 
   -- where all places were looked at, none can go
-  pub shortest : (run : FailingRun) → 0 < run.room → NoneCanGo meaning s run 0 false
-      → IsShortest meaning s run.steps.items run.broken.line
+  pub shortest : (run : FailingRun) → 0 < run.room → NoneCanGo meaning breaks s run 0 false
+      → IsShortest meaning breaks s run.steps.items run.broken.line
   shortest run room none = λ i below. none refl room i (omega arith) below
 
-module _ {B C : Type 0} (meaning : B → Meaning C) where
+module _ {B C J : Type 0} (meaning : B → Meaning C) (breaks : Breaks B C J) where
   -- where an event was tried and stays
-  pub behind_after : (s s' : Subject B C) (old new : FailingRun) (place : ℕ) (gone dropped : Bool) → s' ≡ s
+  pub behind_after : (s s' : Subject B C J) (old new : FailingRun) (place : ℕ) (gone dropped : Bool) → s' ≡ s
       → gone ≡ false → GoesOn old new
-      → IsTried meaning s' old new (without old.steps.items place (place + 1)) gone
-      → NoneCanGo meaning s old (place + 1) dropped → NoneCanGo meaning s' new place dropped
+      → IsTried meaning breaks s' old new (without old.steps.items place (place + 1)) gone
+      → NoneCanGo meaning breaks s old (place + 1) dropped → NoneCanGo meaning breaks s' new place dropped
   behind_after s s' old new place gone dropped same stays on tried behind =
-      none_more meaning s' old new place dropped on.line on.room
-      (subst (λ (b : Bool). IsTried meaning s' old new (without old.steps.items place (place + 1)) b) stays tried)
-      (none_there meaning s s' old (place + 1) dropped same behind)
+      none_more meaning breaks s' old new place dropped on.line on.room
+      (subst (λ (b : Bool). IsTried meaning breaks s' old new (without old.steps.items place (place + 1)) b) stays
+      tried)
+      (none_there meaning breaks s s' old (place + 1) dropped same behind)
 
   -- where nothing was dropped and there is room left
-  pub shortest_at : (s : Subject B C) (run : FailingRun) (dropped : Bool) → dropped ≡ false → 0 < run.room
-      → NoneCanGo meaning s run 0 dropped → IsShortest meaning s run.steps.items run.broken.line
+  pub shortest_at : (s : Subject B C J) (run : FailingRun) (dropped : Bool) → dropped ≡ false → 0 < run.room
+      → NoneCanGo meaning breaks s run 0 dropped → IsShortest meaning breaks s run.steps.items run.broken.line
   shortest_at s run dropped stays room none =
-      shortest meaning s run room (subst (λ (b : Bool). NoneCanGo meaning s run 0 b) stays none)
+      shortest meaning breaks s run room (subst (λ (b : Bool). NoneCanGo meaning breaks s run 0 b) stays none)

@@ -3,24 +3,27 @@ use Rattle.std.proofs.Common.{◌≡◌, ◌≢◌, ◌∙◌, ℕ, List, [], �
 use Rattle.std.proofs.Common.{ap, arith, refl, subst, sym}
 use Rattle.std.specs.Prelude.{◌||◌, is_some}
 use Rattle.fmp_base.specs.declared.events.Event.{Event}
+use Rattle.fmp_base.specs.declared.events.Line.{Line}
 use Rattle.fmp_base.specs.declared.events.TaskState.{TaskState}
 use Rattle.fmp_base.specs.Meanings.{Meaning}
 use Rattle.fmp_base.specs.Steps.{Reaction, Nothing, Did, Kept}
 use Rattle.fmp_expect.specs.declared.checker.BrokenExpectation.{BrokenExpectation}
 use Rattle.fmp_expect.specs.declared.checker.Watch.{Watch}
 use Rattle.fmp_expect.specs.declared.expectation.Expected.{Expected}
+use Rattle.fmp_expect.specs.Judges.{broken_along}
 use Rattle.fmp_expect.specs.Meaning.{Told, breaks_at_end, broken_at, failure, first_broken, if_broken, outcome}
 use Rattle.fmp_expect.specs.Parts.{or_else}
 use Rattle.fmp_expect.specs.Runs.{last_told, rest_told, run_told, told_after}
 use Rattle.fmp_expect.specs.Watches.{AreTold}
+use Rattle.fmp_expect.proofs.Judging.{idle_along}
 use Rattle.fmp_kernel.specs.Comings.{reaction_of, view_after_each}
 use Rattle.fmp_kernel.specs.KernelViews.{KernelView, view_after}
 use Rattle.fmp_monitors.specs.declared.sentence.Sentence.{Sentence}
 use Rattle.fmp_monitors.specs.declared.sentence.Sentence.TheVariants as sentence
 use Rattle.fmp_trials.specs.declared.random_run.RandomRun.{RandomRun}
-use Rattle.fmp_trials.specs.Drawn.{HasMet, IsDrawn, any_of_end, broken_so_far, is_of_end, subject_of}
-use Rattle.fmp_trials.specs.Trials.{Subject, broken_by}
-use Rattle.fmp_trials.specs.Verdicts.{states_in}
+use Rattle.fmp_trials.specs.Drawn.{HasMet, IsDrawn, any_of_end, broken_so_far, is_of_end}
+use Rattle.fmp_trials.specs.Trials.{Breaks, Subject, broken_by}
+use Rattle.fmp_trials.specs.Verdicts.{states_in, verdict}
 
 module _ {B C X : Type 0} (reaction : KernelView B C → X → Reaction C) where
   each_more : (k : KernelView B C) (xs : List X) (x : X)
@@ -95,14 +98,14 @@ module _ {B C : Type 0} (meaning : B → Meaning C) (start k k' : KernelView B C
         along
         ∙ sym (told_more (reaction_of meaning) start es e (last_told start []))
 
-    pub quiet_here : (xs : List Expected) → broken_so_far meaning (subject_of start xs) es ≡ None
+    pub quiet_here : (xs : List Expected) → broken_so_far meaning start xs es ≡ None
         → first_broken xs (run_told (reaction_of meaning) start es) [] k.done ≡ None
     quiet_here xs quiet =
         ap (λ (v : KernelView B C). first_broken xs (run_told (reaction_of meaning) start es) [] v.done) along ∙ quiet
 
     pub broken_more : (xs : List Expected)
         → first_broken xs (told_after k (reaction_of meaning k e) (run_told (reaction_of meaning) start es)) [] k'.done
-        ≡ broken_so_far meaning (subject_of start xs) (es ++ e ∷ [])
+        ≡ broken_so_far meaning start xs (es ++ e ∷ [])
     broken_more xs =
         ap (λ (ts : List Told). first_broken xs ts [] k'.done) run_more
         ∙ ap (λ (v : KernelView B C). first_broken xs (run_told (reaction_of meaning) start (es ++ e ∷ [])) [] v.done)
@@ -116,20 +119,21 @@ some_not_none : {A : Type 0} (o : Option A) → is_some o ≡ true → o ≢ Non
 some_not_none None is = λ _. absurd (cc)
 some_not_none (Some x) is = λ none. absurd (cc)
 
-module _ {B C : Type 0} (meaning : B → Meaning C) (s : Subject B C) where
+module _ {B C : Type 0} (meaning : B → Meaning C) (start : KernelView B C) (xs : List Expected) where
   pub none_broken : (es steps : List Event) (b : Bool) → steps ≡ es → b ≡ false
-      → b ≡ is_some (broken_so_far meaning s es) → broken_so_far meaning s steps ≡ None
+      → b ≡ is_some (broken_so_far meaning start xs es) → broken_so_far meaning start xs steps ≡ None
   none_broken es steps b same h is =
-      ap (broken_so_far meaning s) same ∙ not_some (broken_so_far meaning s es) (sym is ∙ h)
+      ap (broken_so_far meaning start xs) same ∙ not_some (broken_so_far meaning start xs es) (sym is ∙ h)
 
   pub some_broken : (events : ℕ) (es : List Event) (run : RandomRun) (b : Bool) → run.steps.items ≡ es
-      → run.is_broken ≡ true → b ≡ true → b ≡ is_some (broken_so_far meaning s es) → IsDrawn meaning s events run
+      → run.is_broken ≡ true → b ≡ true → b ≡ is_some (broken_so_far meaning start xs es)
+      → IsDrawn meaning start xs events run
   some_broken events es run b same broken broke is =
-      let so : is_some (broken_so_far meaning s run.steps.items) ≡ true =
-      ap (λ (xs : List Event). is_some (broken_so_far meaning s xs)) same ∙ sym is ∙ broke in
+      let so : is_some (broken_so_far meaning start xs run.steps.items) ≡ true =
+      ap (λ (ys : List Event). is_some (broken_so_far meaning start xs ys)) same ∙ sym is ∙ broke in
       record {
         broken = broken ∙ sym so;
-        whole = λ none. absurd (some_not_none (broken_so_far meaning s run.steps.items) so none);
+        whole = λ none. absurd (some_not_none (broken_so_far meaning start xs run.steps.items) so none);
       }
 
 or_first : (a b : Bool) → (a || b) ≡ false → a ≡ false
@@ -141,7 +145,8 @@ or_second true b h = absurd (cc)
 or_second false b h = h
 
 -- what its end adds to a run
-end_adds : (e : Sentence) → is_of_end e ≡ false → (states : List TaskState) → breaks_at_end e [] ≡ breaks_at_end e states
+end_adds : (e : Sentence) → is_of_end e ≡ false → (states : List TaskState)
+    → breaks_at_end e [] ≡ breaks_at_end e states
 end_adds (sentence.Never h) is states = refl
 end_adds (sentence.Before a b) is states = refl
 end_adds (sentence.NeverAfter h a b) is states = refl
@@ -164,18 +169,38 @@ broken_at_end (x ∷ xs) endless told states n =
     ∙ ap (λ (b : Option BrokenExpectation). broken_at x (outcome x.sentence told states n) b)
     (broken_at_end xs (or_second (is_of_end x.sentence) (any_of_end xs) endless) told states n)
 
-module _ {B C : Type 0} (meaning : B → Meaning C) (s : Subject B C) (events : ℕ) (run : RandomRun)
-    (drawn : IsDrawn meaning s events run) (endless : any_of_end s.expected ≡ false) where
-  same_broken : broken_so_far meaning s run.steps.items ≡ broken_by meaning s run.steps.items
-  same_broken =
-      let last : KernelView B C = view_after_each (reaction_of meaning) s.start run.steps.items in
-      broken_at_end s.expected endless (run_told (reaction_of meaning) s.start run.steps.items) (states_in last) last.done
+first_none : {A : Type 0} (a b : Option A) → or_else a b ≡ None → a ≡ None
+first_none None b h = refl
+first_none (Some x) b h = absurd (cc)
 
-  pub met_if_passed : broken_by meaning s run.steps.items ≡ None → HasMet meaning s events
-  met_if_passed passed =
-      record { steps = run.steps.items; whole = drawn.whole (same_broken ∙ passed); met = passed }
+module _ {B C J : Type 0} (meaning : B → Meaning C) (breaks : Breaks B C J) (s : Subject B C J) (events : ℕ)
+    (run : RandomRun) (drawn : IsDrawn meaning s.start s.expected events run) (endless : any_of_end s.expected ≡ false)
+  where
+    abbrev shown : Option BrokenExpectation
+    shown = verdict (reaction_of meaning) s.start run.steps.items s.expected
 
-  pub met_if_quiet : run.is_broken ≡ false → HasMet meaning s events
-  met_if_quiet quiet =
-      met_if_passed
-      (sym same_broken ∙ not_some (broken_so_far meaning s run.steps.items) (sym drawn.broken ∙ quiet))
+    abbrev judged : Option BrokenExpectation
+    judged = broken_along (breaks s.judge) (reaction_of meaning) s.start run.steps.items
+
+    same_broken : broken_so_far meaning s.start s.expected run.steps.items ≡ shown
+    same_broken =
+        let last : KernelView B C = view_after_each (reaction_of meaning) s.start run.steps.items in
+        broken_at_end s.expected endless (run_told (reaction_of meaning) s.start run.steps.items) (states_in last)
+        last.done
+
+    pub met_if_passed : broken_by meaning breaks s run.steps.items ≡ None → HasMet meaning breaks s events
+    met_if_passed passed =
+        record {
+          steps = run.steps.items;
+          whole = drawn.whole (same_broken ∙ first_none shown judged passed);
+          met = passed;
+        }
+
+    pub met_if_quiet : run.is_broken ≡ false → ((k : KernelView B C) → (l : Line) → breaks s.judge k l ≡ None)
+        → HasMet meaning breaks s events
+    met_if_quiet quiet idle =
+        met_if_passed
+        (ap (λ (o : Option BrokenExpectation). or_else o judged)
+        (sym same_broken
+        ∙ not_some (broken_so_far meaning s.start s.expected run.steps.items) (sym drawn.broken ∙ quiet))
+        ∙ idle_along (breaks s.judge) idle (reaction_of meaning) s.start run.steps.items)

@@ -12,27 +12,25 @@ use Rattle.fmp_kernel.specs.KernelViews.{KernelView}
 use Rattle.fmp_monitors.specs.declared.sentence.Sentence.{Sentence}
 use Rattle.fmp_monitors.specs.declared.sentence.Sentence.TheVariants as sentence
 use Rattle.fmp_trials.specs.declared.random_run.RandomRun.{RandomRun}
-use Rattle.fmp_trials.specs.Trials.{Subject, broken_by}
-
-abbrev pub subject_of : {B C : Type 0} → KernelView B C → List Expected → Subject B C
-subject_of k xs = record { start = k; expected = xs }
+use Rattle.fmp_trials.specs.Trials.{Breaks, Subject, broken_by}
 
 -- the first of the expectations that the run over these events breaks by what it shows; the states of tasks at its end
 -- are not known
-abbrev pub broken_so_far : {B C : Type 0} → (B → Meaning C) → Subject B C → List Event → Option BrokenExpectation
-broken_so_far meaning s es =
-    first_broken s.expected (run_told (reaction_of meaning) s.start es) []
-    (view_after_each (reaction_of meaning) s.start es).done
+abbrev pub broken_so_far : {B C : Type 0} → (B → Meaning C) → (start : KernelView B C) → List Expected → List Event
+    → Option BrokenExpectation
+broken_so_far meaning start xs es =
+    first_broken xs (run_told (reaction_of meaning) start es) [] (view_after_each (reaction_of meaning) start es).done
 
 -- a run has as many events as are planned, up to 2^20, unless it breaks an expectation before
-abbrev pub IsWhole : {B C : Type 0} → (B → Meaning C) → Subject B C → (events : ℕ) → List Event → Type 0
-IsWhole meaning s events es = broken_so_far meaning s es ≡ None → length es ≡ min events (2 ^ 20)
+abbrev pub IsWhole : {B C : Type 0} → (B → Meaning C) → (start : KernelView B C) → List Expected → (events : ℕ)
+    → List Event → Type 0
+IsWhole meaning start xs events es = broken_so_far meaning start xs es ≡ None → length es ≡ min events (2 ^ 20)
 
 -- a random run with this many events in its plan
-pub record IsDrawn {B C : Type 0} (meaning : B → Meaning C) (s : Subject B C) (events : ℕ) (run : RandomRun) : Type 0
-  where
-    pub broken : run.is_broken ≡ is_some (broken_so_far meaning s run.steps.items)
-    pub whole : IsWhole meaning s events run.steps.items
+pub record IsDrawn {B C : Type 0} (meaning : B → Meaning C) (start : KernelView B C) (xs : List Expected) (events : ℕ)
+    (run : RandomRun) : Type 0 where
+  pub broken : run.is_broken ≡ is_some (broken_so_far meaning start xs run.steps.items)
+  pub whole : IsWhole meaning start xs events run.steps.items
 
 -- an expectation of the end of a run
 abbrev pub is_of_end : Sentence → Bool
@@ -44,7 +42,8 @@ abbrev pub any_of_end : List Expected → Bool
 any_of_end xs = list_any (λ x. is_of_end x.sentence) xs
 
 -- a run of as many events as are planned meets all expectations
-pub record HasMet {B C : Type 0} (meaning : B → Meaning C) (s : Subject B C) (events : ℕ) : Type 0 where
+pub record HasMet {B C J : Type 0} (meaning : B → Meaning C) (breaks : Breaks B C J) (s : Subject B C J)
+    (events : ℕ) : Type 0 where
   pub steps : List Event
   pub whole : length steps ≡ min events (2 ^ 20)
-  pub met : broken_by meaning s steps ≡ None
+  pub met : broken_by meaning breaks s steps ≡ None

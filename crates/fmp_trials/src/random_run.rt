@@ -7,7 +7,7 @@ ghost use Rattle.fmp_expect.specs.Meaning.{Told, first_broken};
 ghost use Rattle.fmp_expect.specs.Runs.{last_told, told_after};
 ghost use Rattle.fmp_expect.specs.Watches.{AreTold};
 ghost use Rattle.fmp_kernel.specs.Comings.{reaction_of};
-ghost use Rattle.fmp_trials.specs.Drawn.{IsDrawn, subject_of};
+ghost use Rattle.fmp_trials.specs.Drawn.{IsDrawn};
 ghost use Rattle.fmp_trials.specs.Taking.{HasCome};
 ghost use Rattle.fmp_trials.specs.Verdicts.{IsBeside};
 
@@ -172,7 +172,7 @@ pub fn random_run<B: Body>(
     requires { kernel.old.taken ≡ 0 }
     ensures few { IfOk result (λ run. length run.steps.items ≤ 2 ^ 20) }
     ensures drawn { (xs : List Expected) → AreTold xs [] checker.old
-        → IfOk result (IsDrawn B.meaning (subject_of kernel.old xs) choices.old.plan.events) }
+        → IfOk result (IsDrawn B.meaning kernel.old xs choices.old.plan.events) }
     ensures beside { IsBeside kernel.old kernel.new }
 {
     let mut steps = Vec::new(alloc);

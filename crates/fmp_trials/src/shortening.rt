@@ -5,7 +5,7 @@ ghost use Rattle.fmp_trials.specs.Shortening.{GoesOn, HasTaken, IsFailing, IsTri
 
 use crate::bench::Bench;
 use fmp_base::Event;
-use fmp_expect::BrokenExpectation;
+use fmp_expect::{BrokenExpectation, LineJudge};
 use fmp_kernel::Body;
 use std::alloc::{AllocError, Global};
 
@@ -110,18 +110,18 @@ impl FailingRun {
 }
 
 /// Takes these steps, if they fail as the run does and there is room to try them: whether it does.
-fn try_steps<B: Body>(
+fn try_steps<B: Body, J: LineJudge<B>>(
     alloc: Global,
-    bench: &mut Bench<'_, B>,
+    bench: &mut Bench<'_, B, J>,
     run: &mut FailingRun,
     steps: Vec<Event>,
 ) -> Result<bool, AllocError>
-    requires failing { IsFailing B.meaning bench.old run.old }
+    requires failing { IsFailing B.meaning J.breaks bench.old run.old }
     requires few { length steps.items ≤ 2 ^ 20 }
     ensures same { bench.new ≡ bench.old }
-    ensures failing { IsFailing B.meaning bench.new run.new }
+    ensures failing { IsFailing B.meaning J.breaks bench.new run.new }
     ensures on { GoesOn run.old run.new }
-    ensures tried { IfOk result (IsTried B.meaning bench.new run.old run.new steps.items) }
+    ensures tried { IfOk result (IsTried B.meaning J.breaks bench.new run.old run.new steps.items) }
 {
     if run.room == 0 {
         return Ok(false);
@@ -132,19 +132,19 @@ fn try_steps<B: Body>(
 }
 
 /// Leaves out the events from one place up to another but for the runs of one processor, if the run fails without them.
-fn drop_piece<B: Body>(
+fn drop_piece<B: Body, J: LineJudge<B>>(
     alloc: Global,
-    bench: &mut Bench<'_, B>,
+    bench: &mut Bench<'_, B, J>,
     run: &mut FailingRun,
     first: usize,
     end: usize,
     kept: u8,
 ) -> Result<(), AllocError>
-    requires failing { IsFailing B.meaning bench.old run.old }
+    requires failing { IsFailing B.meaning J.breaks bench.old run.old }
     requires first { first ≤ end }
     requires end { end ≤ length run.old.steps.items }
     ensures same { bench.new ≡ bench.old }
-    ensures failing { IsFailing B.meaning bench.new run.new }
+    ensures failing { IsFailing B.meaning J.breaks bench.new run.new }
     ensures line { run.new.broken.line ≡ run.old.broken.line }
 {
     let steps = thinned(alloc, &run.steps, first, end, kept)?;
@@ -155,16 +155,16 @@ fn drop_piece<B: Body>(
 }
 
 /// Leaves out pieces of this many events without which the run fails, from the last on.
-fn drop_pieces_of<B: Body>(
+fn drop_pieces_of<B: Body, J: LineJudge<B>>(
     alloc: Global,
-    bench: &mut Bench<'_, B>,
+    bench: &mut Bench<'_, B, J>,
     run: &mut FailingRun,
     size: usize,
     kept: u8,
 ) -> Result<(), AllocError>
-    requires failing { IsFailing B.meaning bench.old run.old }
+    requires failing { IsFailing B.meaning J.breaks bench.old run.old }
     ensures same { bench.new ≡ bench.old }
-    ensures failing { IsFailing B.meaning bench.new run.new }
+    ensures failing { IsFailing B.meaning J.breaks bench.new run.new }
     ensures line { run.new.broken.line ≡ run.old.broken.line }
 {
     let stride = (size / 8).max(1);
@@ -178,15 +178,15 @@ fn drop_pieces_of<B: Body>(
 
 /// Leaves out pieces without which the run fails, first of all events and then of fewer and fewer. Runs of one
 /// processor stay.
-fn drop_pieces<B: Body>(
+fn drop_pieces<B: Body, J: LineJudge<B>>(
     alloc: Global,
-    bench: &mut Bench<'_, B>,
+    bench: &mut Bench<'_, B, J>,
     run: &mut FailingRun,
     kept: u8,
 ) -> Result<(), AllocError>
-    requires failing { IsFailing B.meaning bench.old run.old }
+    requires failing { IsFailing B.meaning J.breaks bench.old run.old }
     ensures same { bench.new ≡ bench.old }
-    ensures failing { IsFailing B.meaning bench.new run.new }
+    ensures failing { IsFailing B.meaning J.breaks bench.new run.new }
     ensures line { run.new.broken.line ≡ run.old.broken.line }
 {
     let mut size = run.steps.len();
@@ -198,14 +198,14 @@ fn drop_pieces<B: Body>(
 }
 
 /// Leaves out pieces of all events, and then of those of all processors but one.
-fn drop_pieces_of_all<B: Body>(
+fn drop_pieces_of_all<B: Body, J: LineJudge<B>>(
     alloc: Global,
-    bench: &mut Bench<'_, B>,
+    bench: &mut Bench<'_, B, J>,
     run: &mut FailingRun,
 ) -> Result<(), AllocError>
-    requires failing { IsFailing B.meaning bench.old run.old }
+    requires failing { IsFailing B.meaning J.breaks bench.old run.old }
     ensures same { bench.new ≡ bench.old }
-    ensures failing { IsFailing B.meaning bench.new run.new }
+    ensures failing { IsFailing B.meaning J.breaks bench.new run.new }
     ensures line { run.new.broken.line ≡ run.old.broken.line }
 {
     drop_pieces(alloc, bench, run, NO_PROCESSOR)?;
@@ -218,40 +218,40 @@ fn drop_pieces_of_all<B: Body>(
 }
 
 /// Leaves out the event at a place, if the run fails without it: whether it does.
-fn drop_single<B: Body>(
+fn drop_single<B: Body, J: LineJudge<B>>(
     alloc: Global,
-    bench: &mut Bench<'_, B>,
+    bench: &mut Bench<'_, B, J>,
     run: &mut FailingRun,
     place: usize,
 ) -> Result<bool, AllocError>
-    requires failing { IsFailing B.meaning bench.old run.old }
+    requires failing { IsFailing B.meaning J.breaks bench.old run.old }
     requires place { place < length run.old.steps.items }
     ensures same { bench.new ≡ bench.old }
-    ensures failing { IsFailing B.meaning bench.new run.new }
+    ensures failing { IsFailing B.meaning J.breaks bench.new run.new }
     ensures on { GoesOn run.old run.new }
     ensures tried { IfOk result
-        (IsTried B.meaning bench.new run.old run.new (spec.without run.old.steps.items place (place + 1))) }
+        (IsTried B.meaning J.breaks bench.new run.old run.new (spec.without run.old.steps.items place (place + 1))) }
 {
     let steps = without(alloc, &run.steps, place, place + 1)?;
     try_steps(alloc, bench, run, steps)
 }
 
 /// Leaves out the event at a place, if the run fails without it: whether it was left out, or one after it.
-fn drop_event<B: Body>(
+fn drop_event<B: Body, J: LineJudge<B>>(
     alloc: Global,
-    bench: &mut Bench<'_, B>,
+    bench: &mut Bench<'_, B, J>,
     run: &mut FailingRun,
     place: usize,
     dropped: bool,
 ) -> Result<bool, AllocError>
-    requires failing { IsFailing B.meaning bench.old run.old }
+    requires failing { IsFailing B.meaning J.breaks bench.old run.old }
     requires place { place < length run.old.steps.items }
-    requires behind { NoneCanGo B.meaning bench.old run.old (place + 1) dropped }
+    requires behind { NoneCanGo B.meaning J.breaks bench.old run.old (place + 1) dropped }
     ensures same { bench.new ≡ bench.old }
-    ensures failing { IsFailing B.meaning bench.new run.new }
+    ensures failing { IsFailing B.meaning J.breaks bench.new run.new }
     ensures line { run.new.broken.line ≡ run.old.broken.line }
     ensures left { OnOk result (place ≤ length run.new.steps.items) }
-    ensures behind { IfOk result (NoneCanGo B.meaning bench.new run.new place) }
+    ensures behind { IfOk result (NoneCanGo B.meaning J.breaks bench.new run.new place) }
     ensures no_longer { OnOk result (length run.new.steps.items ≤ length run.old.steps.items) }
     ensures fewer { IfOk result (λ after. after ≡ true → dropped ≡ false
         → length run.new.steps.items < length run.old.steps.items) }
@@ -264,16 +264,16 @@ fn drop_event<B: Body>(
 }
 
 /// Leaves out each event, from the last on, without which the run fails: whether there was one.
-fn drop_events<B: Body>(
+fn drop_events<B: Body, J: LineJudge<B>>(
     alloc: Global,
-    bench: &mut Bench<'_, B>,
+    bench: &mut Bench<'_, B, J>,
     run: &mut FailingRun,
 ) -> Result<bool, AllocError>
-    requires failing { IsFailing B.meaning bench.old run.old }
+    requires failing { IsFailing B.meaning J.breaks bench.old run.old }
     ensures same { bench.new ≡ bench.old }
-    ensures failing { IsFailing B.meaning bench.new run.new }
+    ensures failing { IsFailing B.meaning J.breaks bench.new run.new }
     ensures line { run.new.broken.line ≡ run.old.broken.line }
-    ensures all { IfOk result (NoneCanGo B.meaning bench.new run.new 0) }
+    ensures all { IfOk result (NoneCanGo B.meaning J.breaks bench.new run.new 0) }
     ensures fewer { IfOk result (λ dropped. dropped ≡ true
         → length run.new.steps.items < length run.old.steps.items) }
 {
@@ -288,17 +288,17 @@ fn drop_events<B: Body>(
 
 /// Leaves out events one by one until the run fails only with all that are left, or there is no more room for trials:
 /// whether it ended because none can go.
-fn drop_until_none<B: Body>(
+fn drop_until_none<B: Body, J: LineJudge<B>>(
     alloc: Global,
-    bench: &mut Bench<'_, B>,
+    bench: &mut Bench<'_, B, J>,
     run: &mut FailingRun,
 ) -> Result<bool, AllocError>
-    requires failing { IsFailing B.meaning bench.old run.old }
+    requires failing { IsFailing B.meaning J.breaks bench.old run.old }
     ensures same { bench.new ≡ bench.old }
-    ensures failing { IsFailing B.meaning bench.new run.new }
+    ensures failing { IsFailing B.meaning J.breaks bench.new run.new }
     ensures line { run.new.broken.line ≡ run.old.broken.line }
     ensures shortest { IfOk result (λ shortest. shortest ≡ true
-        → spec.IsShortest B.meaning bench.new run.new.steps.items run.new.broken.line) }
+        → spec.IsShortest B.meaning J.breaks bench.new run.new.steps.items run.new.broken.line) }
     ensures ended { IfOk result (λ shortest. shortest ≡ false → run.new.room ≡ 0) }
 {
     for _round in 0..run.steps.len() + 1 {
@@ -327,15 +327,15 @@ fn place_behind(events: &[Event], at: usize) -> Option<usize>
 }
 
 /// Moves the event at a place after the last one of the same processor before it, if the run fails then.
-fn gather_event<B: Body>(
+fn gather_event<B: Body, J: LineJudge<B>>(
     alloc: Global,
-    bench: &mut Bench<'_, B>,
+    bench: &mut Bench<'_, B, J>,
     run: &mut FailingRun,
     at: usize,
 ) -> Result<(), AllocError>
-    requires failing { IsFailing B.meaning bench.old run.old }
+    requires failing { IsFailing B.meaning J.breaks bench.old run.old }
     ensures same { bench.new ≡ bench.old }
-    ensures failing { IsFailing B.meaning bench.new run.new }
+    ensures failing { IsFailing B.meaning J.breaks bench.new run.new }
     ensures line { run.new.broken.line ≡ run.old.broken.line }
 {
     if at < run.steps.len() {
@@ -348,14 +348,14 @@ fn gather_event<B: Body>(
 }
 
 /// Moves events of a processor together where the run fails then, so that processors take fewer turns.
-fn gather<B: Body>(
+fn gather<B: Body, J: LineJudge<B>>(
     alloc: Global,
-    bench: &mut Bench<'_, B>,
+    bench: &mut Bench<'_, B, J>,
     run: &mut FailingRun,
 ) -> Result<(), AllocError>
-    requires failing { IsFailing B.meaning bench.old run.old }
+    requires failing { IsFailing B.meaning J.breaks bench.old run.old }
     ensures same { bench.new ≡ bench.old }
-    ensures failing { IsFailing B.meaning bench.new run.new }
+    ensures failing { IsFailing B.meaning J.breaks bench.new run.new }
     ensures line { run.new.broken.line ≡ run.old.broken.line }
 {
     for at in 1..run.steps.len() {
@@ -365,14 +365,14 @@ fn gather<B: Body>(
 }
 
 /// Leaves out pieces and moves events together, again and again as long as that makes the run shorter.
-fn drop_and_gather<B: Body>(
+fn drop_and_gather<B: Body, J: LineJudge<B>>(
     alloc: Global,
-    bench: &mut Bench<'_, B>,
+    bench: &mut Bench<'_, B, J>,
     run: &mut FailingRun,
 ) -> Result<(), AllocError>
-    requires failing { IsFailing B.meaning bench.old run.old }
+    requires failing { IsFailing B.meaning J.breaks bench.old run.old }
     ensures same { bench.new ≡ bench.old }
-    ensures failing { IsFailing B.meaning bench.new run.new }
+    ensures failing { IsFailing B.meaning J.breaks bench.new run.new }
     ensures line { run.new.broken.line ≡ run.old.broken.line }
 {
     for _round in 0..ROUNDS {
@@ -387,17 +387,17 @@ fn drop_and_gather<B: Body>(
 }
 
 /// Makes a run shorter: whether no event of it can go any more. Where that is not known, no room to try is left.
-pub fn shorten<B: Body>(
+pub fn shorten<B: Body, J: LineJudge<B>>(
     alloc: Global,
-    bench: &mut Bench<'_, B>,
+    bench: &mut Bench<'_, B, J>,
     run: &mut FailingRun,
 ) -> Result<bool, AllocError>
-    requires failing { IsFailing B.meaning bench.old run.old }
+    requires failing { IsFailing B.meaning J.breaks bench.old run.old }
     ensures same { bench.new ≡ bench.old }
-    ensures failing { IsFailing B.meaning bench.new run.new }
+    ensures failing { IsFailing B.meaning J.breaks bench.new run.new }
     ensures line { run.new.broken.line ≡ run.old.broken.line }
     ensures shortest { IfOk result (λ shortest. shortest ≡ true
-        → spec.IsShortest B.meaning bench.new run.new.steps.items run.new.broken.line) }
+        → spec.IsShortest B.meaning J.breaks bench.new run.new.steps.items run.new.broken.line) }
     ensures ended { IfOk result (λ shortest. shortest ≡ false → run.new.room ≡ 0) }
 {
     drop_and_gather(alloc, bench, run)?;

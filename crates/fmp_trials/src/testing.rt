@@ -11,6 +11,7 @@ use crate::random_run::RandomRun;
 use crate::seeds::Seeds;
 use crate::shortening::{FailingRun, shorten};
 use fmp_base::Event;
+use fmp_expect::LineJudge;
 use fmp_kernel::Body;
 use std::alloc::{AllocError, Global};
 
@@ -38,15 +39,15 @@ pub struct FailingSeed {
 }
 
 /// The run over these steps, if it fails.
-fn failing<B: Body>(
+fn failing<B: Body, J: LineJudge<B>>(
     alloc: Global,
-    bench: &mut Bench<'_, B>,
+    bench: &mut Bench<'_, B, J>,
     steps: Vec<Event>,
 ) -> Result<Option<FailingRun>, AllocError>
     requires { length steps.items ≤ 2 ^ 20 }
     ensures same { bench.new ≡ bench.old }
-    ensures failing { IfOk result (λ found. IfSome found (IsFailing B.meaning bench.new)) }
-    ensures met { IfOk result (λ found. IfNone found (broken_by B.meaning bench.old steps.items ≡ None)) }
+    ensures failing { IfOk result (λ found. IfSome found (IsFailing B.meaning J.breaks bench.new)) }
+    ensures met { IfOk result (λ found. IfNone found (broken_by B.meaning J.breaks bench.old steps.items ≡ None)) }
 {
     match bench.verdict(alloc, &steps)? {
         Some(broken) => Ok(Some(FailingRun {
@@ -60,20 +61,20 @@ fn failing<B: Body>(
 
 /// The random run of this seed, if it fails.
 #[tactic(auto, using(crate::proofs::Drawn::met_if_passed, crate::proofs::Drawn::met_if_quiet))]
-fn failing_run<B: Body>(
+fn failing_run<B: Body, J: LineJudge<B>>(
     alloc: Global,
-    bench: &mut Bench<'_, B>,
+    bench: &mut Bench<'_, B, J>,
     plan: RunPlan<'_>,
     seed: u64,
 ) -> Result<Option<FailingRun>, AllocError>
     ensures same { bench.new ≡ bench.old }
-    ensures failing { IfOk result (λ found. IfSome found (IsFailing B.meaning bench.new)) }
+    ensures failing { IfOk result (λ found. IfSome found (IsFailing B.meaning J.breaks bench.new)) }
     ensures met { any_of_end bench.old.expected ≡ false
-        → IfOk result (λ found. IfNone found (HasMet B.meaning bench.old plan.entry.events)) }
+        → IfOk result (λ found. IfNone found (HasMet B.meaning J.breaks bench.old plan.entry.events)) }
 {
     let mut choices = Choices::new(plan, seed);
     let RandomRun { steps, is_broken } = bench.random_run(alloc, &mut choices)?;
-    if !is_broken {
+    if !is_broken && bench.is_idle() {
         return Ok(None);
     }
     failing(alloc, bench, steps)
@@ -82,18 +83,18 @@ fn failing_run<B: Body>(
 /// The first of these seeds whose random run fails an expectation, and that run. Where there is none, though there are
 /// seeds and no expectation is of the end of a run, a run of as many events as are planned meets them all; nothing is
 /// said of other runs. `AllocError` if memory runs out.
-pub fn first_failing<B: Body>(
+pub fn first_failing<B: Body, J: LineJudge<B>>(
     alloc: Global,
-    bench: &mut Bench<'_, B>,
+    bench: &mut Bench<'_, B, J>,
     plan: RunPlan<'_>,
     seeds: Seeds,
 ) -> Result<Option<FailingSeed>, AllocError>
     ensures same { bench.new ≡ bench.old }
-    ensures failing { IfOk result (λ found. IfSome found (λ f. IsFailing B.meaning bench.new f.run)) }
+    ensures failing { IfOk result (λ found. IfSome found (λ f. IsFailing B.meaning J.breaks bench.new f.run)) }
     ensures after { IfOk result (λ found. IfSome found (λ f. seeds.before < f.seed)) }
     ensures last { IfOk result (λ found. IfSome found (λ f. f.seed ≤ seeds.last)) }
     ensures met { any_of_end bench.old.expected ≡ false → seeds.before < seeds.last
-        → IfOk result (λ found. IfNone found (HasMet B.meaning bench.old plan.entry.events)) }
+        → IfOk result (λ found. IfNone found (HasMet B.meaning J.breaks bench.old plan.entry.events)) }
 {
     for before in seeds.before..seeds.last {
         if let Some(run) = failing_run(alloc, bench, plan, before + 1)? {
@@ -107,18 +108,18 @@ pub fn first_failing<B: Body>(
 }
 
 /// A random run that fails, made shorter, so that it fails the same expectation. `AllocError` if memory runs out.
-pub fn shortened<B: Body>(
+pub fn shortened<B: Body, J: LineJudge<B>>(
     alloc: Global,
-    bench: &mut Bench<'_, B>,
+    bench: &mut Bench<'_, B, J>,
     found: FailingSeed,
 ) -> Result<FailedTrial, AllocError>
-    requires { IsFailing B.meaning bench.old found.run }
+    requires { IsFailing B.meaning J.breaks bench.old found.run }
     ensures same { bench.new ≡ bench.old }
     ensures seed { IfOk result (λ trial. trial.seed ≡ found.seed) }
     ensures drawn { IfOk result (λ trial. trial.drawn ≡ length found.run.steps.items) }
     ensures line { IfOk result (λ trial. trial.run.broken.line ≡ found.run.broken.line) }
     ensures ended { IfOk result (λ trial. trial.shortest ≡ false → trial.run.room ≡ 0) }
-    ensures found { IfOk result (IsFound B.meaning bench.new) }
+    ensures found { IfOk result (IsFound B.meaning J.breaks bench.new) }
 {
     let FailingSeed { seed, mut run } = found;
     let drawn = run.steps.len();
@@ -133,15 +134,16 @@ pub fn shortened<B: Body>(
 
 /// The events of the random run of this seed up to the first that breaks a sentence, or the last. `AllocError` if
 /// memory runs out.
-pub fn random_steps<B: Body>(
+pub fn random_steps<B: Body, J: LineJudge<B>>(
     alloc: Global,
-    bench: &mut Bench<'_, B>,
+    bench: &mut Bench<'_, B, J>,
     plan: RunPlan<'_>,
     seed: u64,
 ) -> Result<Vec<Event>, AllocError>
     ensures same { bench.new ≡ bench.old }
     ensures few { IfOk result (λ steps. length steps.items ≤ 2 ^ 20) }
-    ensures whole { IfOk result (λ steps. IsWhole B.meaning bench.old plan.entry.events steps.items) }
+    ensures whole { IfOk result (λ steps.
+        IsWhole B.meaning bench.old.start bench.old.expected plan.entry.events steps.items) }
 {
     let mut choices = Choices::new(plan, seed);
     let run = bench.random_run(alloc, &mut choices)?;
@@ -150,16 +152,16 @@ pub fn random_steps<B: Body>(
 
 /// The first of the random runs of the seeds from 1 to this one that fails an expectation, made shorter. Where there is
 /// none, nothing is said of other runs. `AllocError` if memory runs out.
-pub fn first_failed_trial<B: Body>(
+pub fn first_failed_trial<B: Body, J: LineJudge<B>>(
     alloc: Global,
-    bench: &mut Bench<'_, B>,
+    bench: &mut Bench<'_, B, J>,
     plan: RunPlan<'_>,
     seeds: u64,
 ) -> Result<Option<FailedTrial>, AllocError>
     ensures same { bench.new ≡ bench.old }
-    ensures found { IfOk result (λ found. IfSome found (IsFound B.meaning bench.new)) }
+    ensures found { IfOk result (λ found. IfSome found (IsFound B.meaning J.breaks bench.new)) }
     ensures met { any_of_end bench.old.expected ≡ false → 0 < seeds
-        → IfOk result (λ found. IfNone found (HasMet B.meaning bench.old plan.entry.events)) }
+        → IfOk result (λ found. IfNone found (HasMet B.meaning J.breaks bench.old plan.entry.events)) }
 {
     let seeds = Seeds {
         before: 0,

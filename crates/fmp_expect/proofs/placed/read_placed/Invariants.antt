@@ -1,4 +1,5 @@
 use Rattle.std.proofs.Common.{◌≡◌, ◌+◌, ◌≤◌, ◌++◌, length}
+use Rattle.fmp_base.specs.Systems.{tables_of}
 use Rattle.fmp_expect.specs.Places.{placed_from, placed_of}
 use Rattle.fmp_expect.specs.Words.{lines_of}
 use Rattle.fmp_expect.proofs.placed.read_placed.Given as goal
@@ -7,7 +8,7 @@ use Rattle.fmp_expect.proofs.placed.read_placed.Given as goal
 abbrev pub invariant-loop-rest : goal.invariant-loop-rest
 invariant-loop-rest l = record {
   counted : l.number + length l.rest ≤ length l.text + 1;
-  said : l.all.items ++ placed_from l.number (lines_of l.rest) ≡ placed_of l.text;
+  said : l.all.items ++ placed_from (tables_of l.sys) l.number (lines_of l.rest) ≡ placed_of (tables_of l.sys) l.text;
 }
 
 abbrev pub decreases-loop-rest : goal.decreases-loop-rest

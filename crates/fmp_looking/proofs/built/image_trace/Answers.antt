@@ -11,12 +11,12 @@ returns c =
     subst
     (λ (i : ImageTables).
     IfOk c.trace_of.result
-    (λ out. IsTrace c.args.form i.system c.args.places.now code_meaning (reaction_of code_meaning)
+    (λ out. IsTrace c.args.form i.system c.args.positions.now code_meaning (reaction_of code_meaning)
     (kernel_after i c.args.n [])
     c.args.events.now out.items)) c.new.ensures.image
     (subst
     (λ (b : ℕ).
     IfOk c.trace_of.result
-    (λ out. IsTrace c.args.form c.new.result.image.now.system c.args.places.now code_meaning (reaction_of code_meaning)
-    (kernel_after c.new.result.image.now b []) c.args.events.now out.items))
+    (λ out. IsTrace c.args.form c.new.result.image.now.system c.args.positions.now code_meaning
+    (reaction_of code_meaning) (kernel_after c.new.result.image.now b []) c.args.events.now out.items))
     c.new.ensures.bound c.trace_of.ensures)

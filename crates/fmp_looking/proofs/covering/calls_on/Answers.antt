@@ -17,10 +17,10 @@ returns c =
     (λ seen h. h
     ∙ ap
     (λ (t : List BodyTables).
-    calls_by code_meaning t c.args.run.places.now c.args.kernel.now c.args.run.events.now c.args.calls.items)
+    calls_by code_meaning t c.args.run.positions.now c.args.kernel.now c.args.run.events.now c.args.calls.items)
     c.code.ensures
     ∙ ap
     (λ (k : KernelView (List BodyTables) MachineContext).
-    calls_by code_meaning c.args.run.image.now.code c.args.run.places.now k c.args.run.events.now c.args.calls.items)
+    calls_by code_meaning c.args.run.image.now.code c.args.run.positions.now k c.args.run.events.now c.args.calls.items)
     c.requires.kernel)
     c.calls_seen.ensures

@@ -4,12 +4,12 @@ use Rattle.fmp_looking.proofs.covering.seen_of_run.Goals as goal
 
 pub returns : goal.returns
 returns c =
-    let places = c.in_ok-places.places in
+    let positions = c.in_ok-positions.positions in
     record {
-      first = none_seen places;
-      none = (places, c.in_ok-places.ensures, refl);
+      first = none_seen positions;
+      none = (positions, c.in_ok-positions.ensures, refl);
       seen =
           c.new-2.ensures
           ∙ c.in_ok-seen.ensures
-          ∙ ap (λ (x : Seen). with_run c.args.image.now c.args.n x c.args.events.now) (c.none-none.ensures places);
+          ∙ ap (λ (x : Seen). with_run c.args.image.now c.args.n x c.args.events.now) (c.none-none.ensures positions);
     }

@@ -6,6 +6,6 @@ pub loop-at-preserved : goal.loop-at-preserved
 loop-at-preserved c =
     let within : c.loop-at.at < length c.args.tokens.now = omega (arith, c.len-at-end.ensures, c.loop-at-test.true) in
     marks_step c.args.text.now c.loop-at.walk c.walked-walk.result c.args.tokens.now c.loop-at.at
-    c.piece_at-piece.result c.place_at-place.result c.loop-at.marks.items c.marks_by.new.marks.items _ within
-    c.piece_at-piece.ensures c.place_at-place.ensures c.in_ok-marks_by.ensures c.walked-walk.ensures
+    c.piece_at-piece.result c.position_at-position.result c.loop-at.marks.items c.marks_by.new.marks.items _ within
+    c.piece_at-piece.ensures c.position_at-position.ensures c.in_ok-marks_by.ensures c.walked-walk.ensures
     c.loop-at.invariant

@@ -7,9 +7,9 @@ use Rattle.fmp_looking.proofs.observing.calls_seen.Given as goal
 abbrev pub invariant-loop-e : goal.invariant-loop-e
 invariant-loop-e g l =
     record {
-      heard : heard_in g.B.Body.meaning (code_tables l.text.code.now) l.text.places.now l.kernel
+      heard : heard_in g.B.Body.meaning (code_tables l.text.code.now) l.text.positions.now l.kernel
           (drop l.e-index l.events) (heard_of l.heard)
-          ≡ heard_in g.B.Body.meaning (code_tables l.text.code.now) l.text.places.now l.fn.kernel l.events
+          ≡ heard_in g.B.Body.meaning (code_tables l.text.code.now) l.text.positions.now l.fn.kernel l.events
           (unheard l.fn.calls.items (length l.fn.kernel.system.tasks));
       few : l.kernel.taken + length l.events ≤ 2 ^ 31 + l.e-index;
     }

@@ -1,4 +1,3 @@
-use Rattle.std.proofs.Common.{refl}
 use Rattle.fmp_looking.proofs.Failed.{is_failed}
 use Rattle.fmp_looking.proofs.reporting.tested.Goals as goal
 
@@ -9,9 +8,8 @@ failed_test-requires g c =
 
 pub returns-in-Some : goal.returns-in-Some
 returns-in-Some g c =
-    is_failed c.args.test.now.image.now c.args.test.now.image.now c.args.test.now.testing.bound
-    c.args.test.now.testing.bound c.args.expectations.now.text.now _ c.in_ok-expected.expected.items
-    c.deref-2.result.now c.in-Some.trial c.in_ok-failed-in-Some.failed
-    c.in_ok-expected.ensures c.deref-2.ensures.value refl refl
+    is_failed c.args.test.now.image.now c.args.test.now.testing.bound c.args.src.now c.args.expectations.now.text.now _
+    c.in_ok-sentences.sentences c.deref-2.result.now c.deref-3.result.now c.in-Some.trial
+    c.in_ok-failed-in-Some.failed c.in_ok-sentences.ensures c.deref-2.ensures.value c.deref-3.ensures.value
     (rw c.in-Some.is at c.in_ok-found.ensures) c.in_ok-failed-in-Some.ensures.trial
     c.in_ok-failed-in-Some.ensures.steps

@@ -5,5 +5,5 @@ use Rattle.fmp_looking.proofs.tables.append_answers.Given as goal
 
 abbrev pub invariant-loop-code : goal.invariant-loop-code
 invariant-loop-code l =
-    l.out.items ++ flat_map (λ c. answer_times c (times_answered l.calls l.place c)) (drop l.code-index l.codes)
-    ≡ l.initial.out.items ++ flat_map (λ c. answer_times c (times_answered l.calls l.place c)) l.codes
+    l.out.items ++ flat_map (λ c. answer_times c (times_answered l.calls l.position c)) (drop l.code-index l.codes)
+    ≡ l.initial.out.items ++ flat_map (λ c. answer_times c (times_answered l.calls l.position c)) l.codes

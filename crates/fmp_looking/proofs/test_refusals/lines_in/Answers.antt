@@ -10,24 +10,26 @@ use Rattle.fmp_looking.proofs.test_refusals.lines_in.Goals as goal
 pub returns : goal.returns
 returns c =
     let image = c.args.trials.now.opened.image.now in
-    let places = c.in_ok-places.places in
+    let positions = c.in_ok-positions.positions in
     let file = c.as_bytes.result.now in
     let answers = c.in_ok-answers.answers.items in
     IfOk-weaker c.lines_of.result _ _
     (λ out h. record {
-      bodies = places;
-      calls = c.in_ok-places.ensures;
+      bodies = positions;
+      calls = c.in_ok-positions.ensures;
       answers = answers;
       are = c.in_ok-answers.ensures;
       text = h
-          ∙ ap (λ (t : List BodyTables). refused_lines c.args.form file t places (map refused_of c.deref-2.result.now))
+          ∙ ap
+          (λ (t : List BodyTables). refused_lines c.args.form file t positions (map refused_of c.deref-2.result.now))
           c.code.ensures
-          ∙ ap (λ (rs : List RefusedCall). refused_lines c.args.form file image.code places (map refused_of rs))
+          ∙ ap (λ (rs : List RefusedCall). refused_lines c.args.form file image.code positions (map refused_of rs))
           c.deref-2.ensures.value
-          ∙ ap (λ (rs : List Refused). refused_lines c.args.form file image.code places rs) c.in_ok-refused.ensures
-          ∙ ap (λ (g : List SiteAnswer). refused_lines c.args.form file image.code places (refused_calls image.code g))
+          ∙ ap (λ (rs : List Refused). refused_lines c.args.form file image.code positions rs) c.in_ok-refused.ensures
+          ∙ ap
+          (λ (g : List SiteAnswer). refused_lines c.args.form file image.code positions (refused_calls image.code g))
           c.deref.ensures.value
-          ∙ ap (λ (f : List ℕ). refused_lines c.args.form f image.code places (refused_calls image.code answers))
+          ∙ ap (λ (f : List ℕ). refused_lines c.args.form f image.code positions (refused_calls image.code answers))
           c.as_bytes.ensures.value;
     })
     c.lines_of.ensures

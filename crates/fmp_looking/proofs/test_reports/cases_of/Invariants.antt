@@ -2,8 +2,8 @@ use Rattle.std.proofs.Common.{◌≡◌, ◌++◌, drop, map, option_map}
 use Rattle.fmp_looking.specs.Judgements.{tested_by}
 use Rattle.fmp_looking.proofs.test_reports.cases_of.Given as goal
 
-abbrev pub invariant-loop-one : goal.invariant-loop-one
-invariant-loop-one l =
+abbrev pub invariant-loop-line : goal.invariant-loop-line
+invariant-loop-line l =
     map (λ c. c.judgement) l.cases.items
-    ++ map (tested_by (option_map (λ f. f.now.trial.run.broken) l.failed)) (drop l.one-index l.expected)
-    ≡ map (tested_by (option_map (λ f. f.now.trial.run.broken) l.failed)) l.expected
+    ++ map (tested_by (option_map (λ f. f.now.trial.run.broken) l.failed)) (drop l.line-index l.lines)
+    ≡ map (tested_by (option_map (λ f. f.now.trial.run.broken) l.failed)) l.lines

@@ -26,7 +26,7 @@ returns g c =
       first = c.in_ok-tracer.tracer;
       begins = subst
           (λ (f : FrameTable). IsBegun c.args.printing.form (tables_of c.args.printing.sys.now)
-          c.args.printing.places.now c.in_ok-tracer.tracer f)
+          c.args.printing.positions.now c.in_ok-tracer.tracer f)
           c.in_ok-setup.ensures c.in_ok-tracer.ensures;
       frames = c.in_ok-show_all.ensures.shown;
     }

@@ -5,13 +5,13 @@ use Rattle.fmp_looking.proofs.trying.seen_on.Goals as goal
 
 pub loop-made-init : goal.loop-made-init
 loop-made-init c =
-    none_made c.args.places.now c.args.trials.now.opened.image.now c.args.trials.now.opened.bound
-    (seen_at c.args.places.now c.none-seen.result) (c.none-seen.ensures c.args.places.now)
+    none_made c.args.positions.now c.args.trials.now.opened.image.now c.args.trials.now.opened.bound
+    (seen_at c.args.positions.now c.none-seen.result) (c.none-seen.ensures c.args.positions.now)
 
 pub loop-made-preserved : goal.loop-made-preserved
 loop-made-preserved c =
-    one_made c.args.places.now c.args.trials.now.opened.image.now c.args.trials.now.opened.bound c.loop-made.made
-    (seen_at c.args.places.now c.loop-made.seen) (seen_at c.args.places.now c.in_ok-seen.seen) c.deref.result.now
+    one_made c.args.positions.now c.args.trials.now.opened.image.now c.args.trials.now.opened.bound c.loop-made.made
+    (seen_at c.args.positions.now c.loop-made.seen) (seen_at c.args.positions.now c.in_ok-seen.seen) c.deref.result.now
     c.loop-made.invariant c.in_ok-seen.ensures
 
 made : (k end n : ℕ) → end ≤ k → k ≤ end → end ≡ n → k ≡ n

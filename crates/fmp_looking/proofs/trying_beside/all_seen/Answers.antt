@@ -6,16 +6,16 @@ use Rattle.fmp_looking.proofs.trying_beside.all_seen.Goals as goal
 
 pub loop-k-init : goal.loop-k-init
 loop-k-init c =
-    λ places i n seeds jobs some parts. before_parts i n places seeds jobs (seen_at places c.none-seen.result)
-    (c.none-seen.ensures places)
+    λ positions i n seeds jobs some parts. before_parts i n positions seeds jobs (seen_at positions c.none-seen.result)
+    (c.none-seen.ensures positions)
 
 within : (k m n : ℕ) → k < m → m ≡ n → k < n
 within k m n before is = rw (sym is) before
 
 pub loop-k-preserved : goal.loop-k-preserved
 loop-k-preserved c =
-    λ places i n seeds jobs some parts. with_part i n places seeds jobs c.loop-k.k c.loop-k.seen c.in_ok-seen.seen
-    c.index-parts-k.result (c.loop-k.invariant places i n seeds jobs some parts)
+    λ positions i n seeds jobs some parts. with_part i n positions seeds jobs c.loop-k.k c.loop-k.seen c.in_ok-seen.seen
+    c.index-parts-k.result (c.loop-k.invariant positions i n seeds jobs some parts)
     (rw c.index-parts-k.is (parts.1 c.loop-k.k c.index-parts-k.result (within _ _ _ c.loop-k-test.true parts.0)))
     c.in_ok-seen.ensures
 
@@ -24,8 +24,8 @@ all k end jobs after before is = omega (arith, after, before, is)
 
 pub returns : goal.returns
 returns c =
-    λ places i n seeds jobs some parts.
-    let seen = c.loop-k.invariant places i n seeds jobs some parts in
+    λ positions i n seeds jobs some parts.
+    let seen = c.loop-k.invariant positions i n seeds jobs some parts in
     let is : c.loop-k.k ≡ jobs = all _ _ _ c.loop-k-test.false c.loop-k.auto.k-end parts.0 in
-    after_parts i n places seeds jobs (seen_at places c.loop-k.seen) some
+    after_parts i n positions seeds jobs (seen_at positions c.loop-k.seen) some
     (seen.0, seen.1 ∙ ap (λ (k : ℕ). edge seeds jobs k - seeds.before) is, seen.2)

@@ -9,8 +9,8 @@ all n = omega arith
 pub returns : goal.returns
 returns g c =
     let trials = c.args.trials.now in
-    let places = c.in_ok-places.places in
+    let positions = c.in_ok-positions.positions in
     let seen = c.in_ok-seen.ensures in
     rw c.new-2.ensures
-    (trials_seen c.args.src.now places trials.opened.image.now trials.opened.bound c.args.seeds
-    (seen_at places c.in_ok-seen.seen) c.in_ok-places.ensures (seen.0, seen.1 ∙ all c.args.seeds, seen.2))
+    (trials_seen c.args.src.now positions trials.opened.image.now trials.opened.bound c.args.seeds
+    (seen_at positions c.in_ok-seen.seen) c.in_ok-positions.ensures (seen.0, seen.1 ∙ all c.args.seeds, seen.2))

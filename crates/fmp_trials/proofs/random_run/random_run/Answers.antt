@@ -6,7 +6,6 @@ use Rattle.fmp_expect.specs.Runs.{run_told}
 use Rattle.fmp_expect.specs.Watches.{AreTold}
 use Rattle.fmp_kernel.specs.Comings.{reaction_of, view_after_each}
 use Rattle.fmp_trials.specs.declared.random_run.RandomRun.{RandomRun}
-use Rattle.fmp_trials.specs.Drawn.{subject_of}
 use Rattle.fmp_trials.proofs.Besides.{beside_after, beside_both, taken_after}
 use Rattle.fmp_trials.proofs.Drawn.{along_more, broken_more, none_broken, quiet_here, run_more, some_broken}
 use Rattle.fmp_trials.proofs.random_run.random_run.Goals as goal
@@ -36,7 +35,7 @@ loop-turn-preserved g c =
           ∙ ap (λ (ys : List Event). run_told (reaction_of meaning) start ys) (sym items))
           (c.judged_next-e.ensures.told xs so_far (c.loop-turn.invariant.told xs are));
       quiet = λ xs are.
-          none_broken meaning (subject_of start xs) (es ++ e ∷ []) c.push.new.self.items c.judged_next-e.result.1
+          none_broken meaning start xs (es ++ e ∷ []) c.push.new.self.items c.judged_next-e.result.1
           items c.if-broken.false
           (c.judged_next-e.ensures.broken xs so_far (c.loop-turn.invariant.told xs are)
           (quiet_here meaning start k k' es e along come xs (c.loop-turn.invariant.quiet xs are))
@@ -55,7 +54,7 @@ returns-then-broken-clause-drawn g c = λ xs are.
     let come = c.judged_next-e.ensures.come in
     let so_far = run_told (reaction_of meaning) start es in
     let run : RandomRun = record { steps = c.push.new.self; is_broken = true } in
-    some_broken meaning (subject_of start xs) c.args.choices.now.plan.events (es ++ e ∷ []) run
+    some_broken meaning start xs c.args.choices.now.plan.events (es ++ e ∷ []) run
     c.judged_next-e.result.1 c.in_ok-push.ensures.items refl c.if-broken.true
     (c.judged_next-e.ensures.broken xs so_far (c.loop-turn.invariant.told xs are)
     (quiet_here meaning start k k' es e along come xs (c.loop-turn.invariant.quiet xs are))

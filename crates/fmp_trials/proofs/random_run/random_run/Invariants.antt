@@ -3,7 +3,7 @@ use Rattle.fmp_expect.specs.declared.expectation.Expected.{Expected}
 use Rattle.fmp_expect.specs.Runs.{run_told}
 use Rattle.fmp_expect.specs.Watches.{AreTold}
 use Rattle.fmp_kernel.specs.Comings.{reaction_of, view_after_each}
-use Rattle.fmp_trials.specs.Drawn.{broken_so_far, subject_of}
+use Rattle.fmp_trials.specs.Drawn.{broken_so_far}
 use Rattle.fmp_trials.specs.Verdicts.{IsBeside}
 use Rattle.fmp_trials.proofs.random_run.random_run.Given as goal
 
@@ -18,5 +18,5 @@ invariant-loop-turn g l =
       told : (xs : List Expected) → AreTold xs [] l.fn.checker
           → AreTold xs (run_told (reaction_of g.B.Body.meaning) l.fn.kernel l.steps.items) l.checker;
       quiet : (xs : List Expected) → AreTold xs [] l.fn.checker
-          → broken_so_far g.B.Body.meaning (subject_of l.fn.kernel xs) l.steps.items ≡ None;
+          → broken_so_far g.B.Body.meaning l.fn.kernel xs l.steps.items ≡ None;
     }

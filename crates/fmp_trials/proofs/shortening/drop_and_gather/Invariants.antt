@@ -5,7 +5,7 @@ use Rattle.fmp_trials.proofs.shortening.drop_and_gather.Given as goal
 abbrev pub invariant-loop-round : goal.invariant-loop-round
 invariant-loop-round g l =
     record {
-      failing : IsFailing g.B.Body.meaning l.bench l.run;
+      failing : IsFailing g.B.Body.meaning g.J.LineJudge.breaks l.bench l.run;
       line : l.run.broken.line ≡ l.fn.run.broken.line;
       same : l.bench ≡ l.fn.bench;
     }

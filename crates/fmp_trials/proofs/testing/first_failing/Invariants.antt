@@ -7,5 +7,5 @@ invariant-loop-before g l =
     record {
       same : l.bench ≡ l.fn.bench;
       met : any_of_end l.fn.bench.expected ≡ false → l.fn.seeds.before < l.before
-          → HasMet g.B.Body.meaning l.fn.bench l.fn.plan.events;
+          → HasMet g.B.Body.meaning g.J.LineJudge.breaks l.fn.bench l.fn.plan.events;
     }

@@ -1,6 +1,6 @@
 use Rattle.std.proofs.Common.{subst}
 use Rattle.std.specs.Result.{IfOk}
-use Rattle.fmp_trials.specs.Drawn.{IsDrawn, subject_of}
+use Rattle.fmp_trials.specs.Drawn.{IsDrawn}
 use Rattle.fmp_trials.proofs.Besides.{put_beside, put_fresh}
 use Rattle.fmp_trials.proofs.bench.Bench.random_run.Goals as goal
 
@@ -20,5 +20,5 @@ returns-clause-drawn g c =
     rw (← c.self.view_is)
     (subst
     (λ v. IfOk c.random_run.result
-    (IsDrawn g.B.Body.meaning (subject_of v c.self.inside.expected.now) c.args.choices.now.plan.events))
+    (IsDrawn g.B.Body.meaning v c.self.inside.expected.now c.args.choices.now.plan.events))
     c.put_back.ensures (c.random_run.ensures.drawn c.self.inside.expected.now c.in_ok-checker.ensures))

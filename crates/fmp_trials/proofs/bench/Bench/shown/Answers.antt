@@ -3,7 +3,7 @@ use Rattle.std.specs.Result.{IfOk}
 use Rattle.fmp_kernel.specs.Comings.{reaction_of}
 use Rattle.fmp_trials.specs.Verdicts.{verdict}
 use Rattle.fmp_trials.proofs.Besides.{put_beside, put_room}
-use Rattle.fmp_trials.proofs.bench.Bench.verdict.Goals as goal
+use Rattle.fmp_trials.proofs.bench.Bench.shown.Goals as goal
 
 pub run_verdict-requires : goal.run_verdict-requires
 run_verdict-requires g c =
