@@ -77,10 +77,15 @@ module _ (asked : Asked) (w : World MachineContext) (x : Watched) where
         each = λ sure p e lt found may. t.each sure p e (omega (arith, lt, le)) found may;
       }
 
-  pub enough_tried : (a b : Search) (m : StateMarks) (tried : ℕ) → length (all_tries i.system) ≤ tried
-      → HasTried asked w x m a b tried → HasTried asked w x m a b (length (all_tries i.system))
-  enough_tried a b m tried le t =
-      record { trying = fewer_tried b m tried (length (all_tries i.system)) le t.trying; grows = t.grows }
+  pub fewer_of : (a b : Search) (m : StateMarks) (tried fewer : ℕ) → fewer ≤ tried → HasTried asked w x m a b tried
+      → HasTried asked w x m a b fewer
+  fewer_of a b m tried fewer le t =
+      record { trying = fewer_tried b m tried fewer le t.trying; grows = t.grows }
+
+  -- a world is tried out in a search that has grown before
+  pub tried_out_before : (a b c : Search) → Grows a b → HasTriedOut asked b c w x → HasTriedOut asked a c w x
+  tried_out_before a b c g out =
+      record { survey = out.survey; grows = grows_on a b c g out.grows; tried = out.tried }
 
   -- every event was tried, the world is no deadlock, and its state breaks no sentence
   pub all_tried : (a b c : Search) (m : StateMarks) → IsImage i

@@ -1,5 +1,5 @@
 //! Exploring every schedule of an image.
-ghost use Rattle.std.specs.Prelude.{◌≡◌, [], All, IfOk, IfSome, IsTrue, true};
+ghost use Rattle.std.specs.Prelude.{◌≡◌, ◌≢◌, [], All, IfOk, IfSome, IsTrue, false, true};
 ghost use Rattle.fmp_instructions.specs.Machine.{code_meaning};
 ghost use Rattle.fmp_schedules.specs.Schedules.{Holds, HoldsThere};
 ghost use Rattle.fmp_witness.specs.Findings.{IsFound};
@@ -10,17 +10,29 @@ ghost use Rattle.fmp_explore.specs.Searching.{AreFound, HasEnded, IsBegun, NoneI
 ghost use Rattle.fmp_witness.specs.Asked.{asked_of};
 
 use crate::crew::{Alone, Crew, Workers};
-use crate::finding::{add_confirmed, confirmed, shortest_alone};
+use crate::finding::{add_stuck, confirmed, shortest_alone};
 use crate::notes::is_beside;
 use crate::searches::Search;
 use crate::searching::{Ending, SearchWatcher};
-use crate::stuck::{Suspicions, suspected};
+use crate::stuck::{SearchLimit, Suspicions, suspected};
 use crate::values::Variety;
 use fmp_image_bytes::Image;
 use fmp_question::Question;
 use fmp_witness::{Coverage, Finding, SearchSubject};
 use std::alloc::{AllocError, Global};
 use std::thread::Threads;
+
+/// Whether stuck tasks were looked for after a search.
+#[derive(Clone, Copy)]
+pub enum StuckSearch {
+    /// They were looked for: every state was examined, and each task that seemed to be stuck is a finding or is not
+    /// stuck. Where one is enough, those after the first are left.
+    Done,
+    /// They were not looked for: some state was not examined, or something else was found and no more was asked for.
+    Skipped,
+    /// The search for them stopped at this limit. Those that were found up to there are told.
+    Stopped(SearchLimit),
+}
 
 /// What a search came to.
 #[derive(Drop)]
@@ -32,8 +44,8 @@ pub struct Report {
     /// Whether no schedule reaches a deadlock, and along none happens what must never happen: every state was
     /// examined, and nothing was found.
     pub holds: bool,
-    /// Whether stuck tasks were looked for: every state was examined, and there was memory to look for them.
-    pub looked: bool,
+    /// Whether stuck tasks were looked for.
+    pub stuck_search: StuckSearch,
     /// How many states were kept.
     pub states: usize,
     /// How many events did something.
@@ -78,7 +90,9 @@ fn asked_for(
 }
 
 /// Whether a search that ended so has examined every state.
-fn is_whole(ending: Ending) -> bool {
+fn is_whole(ending: Ending) -> bool
+    ensures { IsTrue result → ending ≡ Ending.Whole }
+{
     match ending {
         Ending::Whole => true,
         Ending::Enough | Ending::States | Ending::Time | Ending::Memory => false,
@@ -89,59 +103,79 @@ fn is_whole(ending: Ending) -> bool {
 #[derive(Drop)]
 struct SearchFindings {
     findings: Vec<Finding>,
-    /// Whether stuck tasks were looked for, and there was memory for that.
-    looked: bool,
+    stuck_search: StuckSearch,
     /// Whether a task waits for an interrupt.
     waits: bool,
 }
 
+/// Other findings, where stuck tasks were not looked for, or there was no memory to look.
+fn without_stuck(findings: Vec<Finding>, stuck_search: StuckSearch) -> SearchFindings
+    ensures findings { result.findings ≡ findings }
+    ensures stuck { result.stuck_search ≡ stuck_search }
+    ensures waits { result.waits ≡ false }
+{
+    SearchFindings {
+        findings,
+        stuck_search,
+        waits: false,
+    }
+}
+
 /// Other findings and, of what seems to be so after a search in which every state was examined, the tasks that are
 /// stuck: all of them, or the first alone, as is asked.
-fn with_stuck(
+fn with_stuck<W: SearchWatcher>(
     alloc: Global,
     subject: &SearchSubject<'_>,
     mut findings: Vec<Finding>,
     more: Suspicions,
+    watcher: &mut W,
 ) -> SearchFindings
     requires found { AreFound (asked_of subject.now) findings.items }
     ensures { AreFound (asked_of subject.now) result.findings.items }
 {
-    let all = subject.question.all;
-    let added = add_confirmed(alloc, subject, &mut findings, more.findings, all);
+    let added = add_stuck(alloc, subject, &mut findings, more.findings, watcher);
+    let stuck_search = match added {
+        Ok(()) => StuckSearch::Done,
+        Err(limit) => StuckSearch::Stopped(limit),
+    };
     SearchFindings {
         findings,
-        looked: added.is_ok(),
+        stuck_search,
         waits: more.waits,
     }
 }
 
 /// Whether stuck tasks are looked for after a search that has ended so with these candidates.
-fn is_open(question: &Question, ending: Ending, candidates: &[Finding]) -> bool {
+fn is_open(question: &Question, ending: Ending, candidates: &[Finding]) -> bool
+    ensures { IsTrue result → ending ≡ Ending.Whole }
+{
     is_whole(ending) && (question.all || candidates.iter().all(|found| is_beside(found)))
 }
 
 /// The findings of a search that has ended, which forgets them. Stuck tasks are looked for where every state was
 /// examined, and more is asked for.
-fn findings_of(
+fn findings_of<W: SearchWatcher>(
     alloc: Global,
     subject: &SearchSubject<'_>,
     survey: &mut Search,
     ending: Ending,
+    watcher: &mut W,
 ) -> Result<SearchFindings, AllocError>
-    ensures { IfOk result (λ found. AreFound (asked_of subject.now) found.findings.items) }
+    ensures found { IfOk result (λ found. AreFound (asked_of subject.now) found.findings.items) }
+    ensures stuck { IfOk result (λ found. found.stuck_search ≢ StuckSearch.Skipped → ending ≡ Ending.Whole) }
 {
     let question = subject.question;
     let candidates = asked_for(alloc, question, survey.take_candidates(alloc)?)?;
     let goes_on = is_open(question, ending, &candidates);
     let findings = confirmed(alloc, subject, candidates)?;
-    if goes_on && let Ok(more) = suspected(alloc, survey, subject.image.system(), question) {
-        return Ok(with_stuck(alloc, subject, findings, more));
+    if !goes_on {
+        return Ok(without_stuck(findings, StuckSearch::Skipped));
     }
-    Ok(SearchFindings {
-        findings,
-        looked: false,
-        waits: false,
-    })
+    let Ok(more) = suspected(alloc, survey, subject.image.system(), question) else {
+        let limit = SearchLimit::Memory;
+        return Ok(without_stuck(findings, StuckSearch::Stopped(limit)));
+    };
+    Ok(with_stuck(alloc, subject, findings, more, watcher))
 }
 
 /// Whether a search that ended so shows that nothing is found along any schedule.
@@ -157,24 +191,26 @@ fn shows_all(survey: &Search, question: &Question, ending: Ending) -> bool
 }
 
 /// The report of a search that has ended, which forgets what it noted.
-fn make_report(
+fn make_report<W: SearchWatcher>(
     alloc: Global,
     subject: &SearchSubject<'_>,
     survey: &mut Search,
     ending: Ending,
+    watcher: &mut W,
 ) -> Result<Report, AllocError>
     requires holds { ending ≡ Ending.Whole → survey.old.sure ≡ true →
         subject.now.question.now.after.items ≡ [] → NoneIsFound (asked_of subject.now) }
     ensures findings { IfOk result (λ r. AreFound (asked_of subject.now) r.findings.items) }
     ensures holds { IfOk result (λ r. r.holds ≡ true → NoneIsFound (asked_of subject.now)) }
+    ensures stuck { IfOk result (λ r. r.stuck_search ≢ StuckSearch.Skipped → r.ending ≡ Ending.Whole) }
 {
     let holds = shows_all(survey, subject.question, ending);
-    let found = findings_of(alloc, subject, survey, ending)?;
+    let found = findings_of(alloc, subject, survey, ending, watcher)?;
     Ok(Report {
         findings: found.findings,
         ending,
         holds,
-        looked: found.looked,
+        stuck_search: found.stuck_search,
         states: survey.seen.len(),
         events: survey.notes.events,
         depth: survey.depth(),
@@ -228,13 +264,15 @@ fn explore_written<W: SearchWatcher, C: Crew>(
     requires { C.can_work crew.now }
     ensures findings { IfOk result (λ found. IfSome found (λ r. AreFound (asked_of subject.now) r.findings.items)) }
     ensures holds { IfOk result (λ found. IfSome found (λ r. r.holds ≡ true → NoneIsFound (asked_of subject.now))) }
+    ensures stuck { IfOk result (λ found. IfSome found
+        (λ r. r.stuck_search ≢ StuckSearch.Skipped → r.ending ≡ Ending.Whole)) }
 {
     let mut survey = start_search(alloc, true, subject)?;
     let ending = run_search(alloc, crew, &mut survey, subject, watcher);
     if survey.unwritten {
         return Ok(None);
     }
-    let report = make_report(alloc, subject, &mut survey, ending)?;
+    let report = make_report(alloc, subject, &mut survey, ending, watcher)?;
     Ok(Some(report))
 }
 
@@ -248,10 +286,11 @@ fn explore_plainly<W: SearchWatcher, C: Crew>(
     requires { C.can_work crew.now }
     ensures findings { IfOk result (λ r. AreFound (asked_of subject.now) r.findings.items) }
     ensures holds { IfOk result (λ r. r.holds ≡ true → NoneIsFound (asked_of subject.now)) }
+    ensures stuck { IfOk result (λ r. r.stuck_search ≢ StuckSearch.Skipped → r.ending ≡ Ending.Whole) }
 {
     let mut survey = start_search(alloc, false, subject)?;
     let ending = run_search(alloc, crew, &mut survey, subject, watcher);
-    make_report(alloc, subject, &mut survey, ending)
+    make_report(alloc, subject, &mut survey, ending, watcher)
 }
 
 /// Explores the schedules of an image in one search; in another one too, where a reply left an out place as it was.
@@ -264,6 +303,7 @@ fn explore_subject<W: SearchWatcher, C: Crew>(
     requires { C.can_work crew.now }
     ensures findings { IfOk result (λ r. AreFound (asked_of subject.now) r.findings.items) }
     ensures holds { IfOk result (λ r. r.holds ≡ true → NoneIsFound (asked_of subject.now)) }
+    ensures stuck { IfOk result (λ r. r.stuck_search ≢ StuckSearch.Skipped → r.ending ≡ Ending.Whole) }
 {
     match explore_written(alloc, crew, subject, watcher)? {
         Some(report) => Ok(report),
@@ -275,6 +315,7 @@ fn explore_subject<W: SearchWatcher, C: Crew>(
 /// finding is so: its events do something, one after the other, and after them it is seen. If the report holds, no
 /// schedule that the question allows tells a forbidden line, gives a call an answer that it must never get, breaks a
 /// sentence, or reaches a deadlock, however long it is. If it does not hold and has no finding, nothing is claimed.
+/// Stuck tasks are looked for only where every state was examined, and no longer than the watcher gives time.
 /// `AllocError` if there is no memory to begin with, or for the findings.
 pub fn explore<W: SearchWatcher>(
     alloc: Global,
@@ -289,6 +330,7 @@ pub fn explore<W: SearchWatcher>(
     ensures there { IfOk result (λ r. r.holds ≡ true → HoldsThere (rules_of question.now) image.now.system
         (code_meaning image.now.code) n (forbids question.now.nevers.items)
         (forbids_there image.now.system question.now.nevers_at.items)) }
+    ensures stuck { IfOk result (λ r. r.stuck_search ≢ StuckSearch.Skipped → r.ending ≡ Ending.Whole) }
 {
     let subject = SearchSubject { image, n, question };
     explore_subject(alloc, &Alone, &subject, watcher)
@@ -311,6 +353,7 @@ pub fn explore_beside<W: SearchWatcher, R: Threads + Sync>(
     ensures there { IfOk result (λ r. r.holds ≡ true → HoldsThere (rules_of question.now) image.now.system
         (code_meaning image.now.code) n (forbids question.now.nevers.items)
         (forbids_there image.now.system question.now.nevers_at.items)) }
+    ensures stuck { IfOk result (λ r. r.stuck_search ≢ StuckSearch.Skipped → r.ending ≡ Ending.Whole) }
 {
     let subject = SearchSubject { image, n, question };
     explore_subject(alloc, &Workers { rt, jobs }, &subject, watcher)

@@ -1,39 +1,19 @@
 //! Which of the candidates that a search has noted are so, and which of them are told.
-ghost use Rattle.std.specs.Prelude.{◌≡◌, [], IfOk, IsTrue};
-ghost use Rattle.fmp_replay.specs.Replays.{kernel_after};
+ghost use Rattle.std.specs.Prelude.{◌≡◌, [], ◌∷◌, ◌++◌, IfOk, IsTrue, OnErr, OnOk};
 ghost use Rattle.fmp_witness.specs.Findings.{IsSo};
 ghost use Rattle.fmp_witness.specs.Asked.{asked_of};
 ghost use Rattle.fmp_explore.specs.Searching.{AreFound};
 
 use crate::notes::is_beside;
-use crate::stuck::is_stuck;
+use crate::searching::SearchWatcher;
+use crate::stuck::{SearchLimit, is_stuck};
 use fmp_base::Event;
-use fmp_code::Vm;
-use fmp_kernel::Kernel;
 use fmp_replay::kernel_of;
 use fmp_witness::{Finding, FindingKind, SearchSubject, is_so};
 use std::alloc::{AllocError, Global};
 
-/// Whether each of these events does something, and this is seen after them, on a kernel that was just set up.
+/// Whether each of these events does something, and this is known to be seen after them. No claims nothing.
 /// `AllocError` if memory runs out.
-fn is_shown_on<'a>(
-    alloc: Global,
-    kernel: &mut Kernel<Vm<'a>>,
-    subject: &SearchSubject<'a>,
-    steps: &[Event],
-    kind: FindingKind,
-) -> Result<bool, AllocError>
-    requires begun { kernel.old ≡ kernel_after subject.now.image.now subject.now.n [] }
-    ensures { IfOk result (λ shown. IsTrue shown → IsSo (asked_of subject.now) steps.now kind) }
-{
-    if let FindingKind::Stuck(t) = kind {
-        let stuck = is_stuck(alloc, kernel, subject, steps, t)?;
-        return Ok(stuck);
-    }
-    Ok(is_so(kernel, subject, steps, kind))
-}
-
-/// Whether each of these events does something, and this is seen after them. `AllocError` if memory runs out.
 fn is_shown(
     alloc: Global,
     subject: &SearchSubject<'_>,
@@ -43,9 +23,9 @@ fn is_shown(
     ensures { IfOk result (λ found. IsTrue found → IsSo (asked_of subject.now) steps.now kind) }
 {
     let mut kernel = kernel_of(alloc, subject.image, subject.n)?;
-    let shown = is_shown_on(alloc, &mut kernel, subject, steps, kind);
+    let shown = is_so(&mut kernel, subject, steps, kind);
     drop(kernel);
-    shown
+    Ok(shown)
 }
 
 /// Whether a finding is so. `AllocError` if memory runs out.
@@ -78,29 +58,7 @@ fn add_if_found(
     Ok(())
 }
 
-/// Adds those of the candidates that are so to other findings: all of them, or the first alone. `AllocError` if memory
-/// runs out: then those up to there are added.
-pub fn add_confirmed(
-    alloc: Global,
-    subject: &SearchSubject<'_>,
-    findings: &mut Vec<Finding>,
-    candidates: Vec<Finding>,
-    all: bool,
-) -> Result<(), AllocError>
-    requires found { AreFound (asked_of subject.now) findings.old.items }
-    ensures { AreFound (asked_of subject.now) findings.new.items }
-{
-    let known = findings.len();
-    for candidate in candidates {
-        if !all && findings.len() > known {
-            return Ok(());
-        }
-        add_if_found(alloc, subject, findings, candidate)?;
-    }
-    Ok(())
-}
-
-/// Those of the candidates that are so. `AllocError` if memory runs out.
+/// Those of the candidates that are so; of stuck tasks none. `AllocError` if memory runs out.
 pub fn confirmed(
     alloc: Global,
     subject: &SearchSubject<'_>,
@@ -109,8 +67,95 @@ pub fn confirmed(
     ensures { IfOk result (λ findings. AreFound (asked_of subject.now) findings.items) }
 {
     let mut findings = Vec::new(alloc);
-    add_confirmed(alloc, subject, &mut findings, candidates, true)?;
+    for candidate in candidates {
+        add_if_found(alloc, subject, &mut findings, candidate)?;
+    }
     Ok(findings)
+}
+
+/// Whether each of these events does something, and this task is stuck after them. The limit at which the search for
+/// that stops, if it ends before it knows.
+fn is_stuck_after<W: SearchWatcher>(
+    alloc: Global,
+    subject: &SearchSubject<'_>,
+    steps: &[Event],
+    t: u8,
+    watcher: &mut W,
+) -> Result<bool, SearchLimit>
+    ensures { IfOk result (λ stuck. IsTrue stuck → IsSo (asked_of subject.now) steps.now (FindingKind.Stuck t)) }
+{
+    let mut kernel = kernel_of(alloc, subject.image, subject.n)?;
+    let stuck = is_stuck(alloc, &mut kernel, subject, steps, t, watcher);
+    drop(kernel);
+    stuck
+}
+
+/// Whether a finding is a task that is stuck. The limit at which the search for that stops, if it ends before it knows.
+fn is_found_stuck<W: SearchWatcher>(
+    alloc: Global,
+    subject: &SearchSubject<'_>,
+    finding: &Finding,
+    watcher: &mut W,
+) -> Result<bool, SearchLimit>
+    ensures { IfOk result (λ found. IsTrue found →
+        IsSo (asked_of subject.now) finding.now.steps.items finding.now.kind) }
+{
+    if let FindingKind::Stuck(t) = finding.kind {
+        return is_stuck_after(alloc, subject, &finding.steps, t, watcher);
+    }
+    Ok(false)
+}
+
+/// Adds a finding to others. `AllocError` if memory runs out.
+fn add(findings: &mut Vec<Finding>, finding: Finding) -> Result<(), AllocError>
+    ensures ok { OnOk result (findings.new.items ≡ findings.old.items ++ finding ∷ []) }
+    ensures err { OnErr result (findings.new.items ≡ findings.old.items) }
+{
+    findings.push(finding)?;
+    Ok(())
+}
+
+/// Adds a finding to others, if it is a task that is stuck. The limit at which the search for that stops, if it ends
+/// before it knows.
+fn add_if_stuck<W: SearchWatcher>(
+    alloc: Global,
+    subject: &SearchSubject<'_>,
+    findings: &mut Vec<Finding>,
+    finding: Finding,
+    watcher: &mut W,
+) -> Result<(), SearchLimit>
+    requires found { AreFound (asked_of subject.now) findings.old.items }
+    ensures { AreFound (asked_of subject.now) findings.new.items }
+{
+    let found = is_found_stuck(alloc, subject, &finding, watcher)?;
+    if !found {
+        return Ok(());
+    }
+    add(findings, finding)?;
+    Ok(())
+}
+
+/// Adds the tasks that are stuck, of those that seem to be so, to other findings: all of them if more are asked for, or
+/// the first alone. The limit at which a search for that stops, if it ends before it knows: then those up to there are
+/// added.
+pub fn add_stuck<W: SearchWatcher>(
+    alloc: Global,
+    subject: &SearchSubject<'_>,
+    findings: &mut Vec<Finding>,
+    suspects: Vec<Finding>,
+    watcher: &mut W,
+) -> Result<(), SearchLimit>
+    requires found { AreFound (asked_of subject.now) findings.old.items }
+    ensures { AreFound (asked_of subject.now) findings.new.items }
+{
+    let known = findings.len();
+    for suspect in suspects {
+        if !subject.question.all && findings.len() > known {
+            return Ok(());
+        }
+        add_if_stuck(alloc, subject, findings, suspect, watcher)?;
+    }
+    Ok(())
 }
 
 /// The place of the first of the shortest findings, but for those beside which a search goes on; behind all of them if

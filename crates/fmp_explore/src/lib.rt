@@ -25,11 +25,12 @@ mod targets;
 mod trying;
 mod values;
 
-pub use exploring::{Report, explore, explore_beside};
+pub use exploring::{Report, StuckSearch, explore, explore_beside};
 pub use fmp_question::{ANSWERS, CallSite, Never, NeverAt, Question, Ticks};
 pub use fmp_schedules::{Breach, Monitor};
 pub use fmp_witness::{
     Coverage, Finding, FindingKind, Left, Peaks, RunCoverage, SentenceBreach, Started, left_by,
 };
 pub use searching::{Ending, SearchWatcher};
+pub use stuck::SearchLimit;
 pub use values::{Varied, Variety};

@@ -10,7 +10,7 @@ use fmp_base::{Event, Line};
 use fmp_code::Vm;
 use fmp_kernel::Kernel;
 use fmp_monitors::{has_premise, is_premise};
-use fmp_question::{CallSite, first_bad_at, first_forbidden, is_bad};
+use fmp_question::{CallSite, first_bad_at, first_forbidden, is_bad, tells_there};
 use fmp_schedules::{Monitor, MonitorSubject};
 use fmp_tasks::KernelState;
 use fmp_visited::Seen;
@@ -18,12 +18,20 @@ use fmp_witness::{Coverage, Finding, FindingKind, SearchSubject, SentenceBreach}
 use std::alloc::{AllocError, Global};
 use std::mem;
 
-/// Which of what must never happen a line tells: a place among that which must never happen anywhere, or among that
-/// which must never happen at a call.
+/// Which of what must never happen a line tells first: a place among that which must never happen anywhere, or among
+/// that which must never happen at a call.
 #[derive(Clone, Copy, PartialEq, Eq)]
 enum BrokenRule {
     Anywhere(usize),
     At(usize),
+}
+
+/// What a line tells that must never happen: the first rule that it breaks, and the place of the first at a call that
+/// is about the answers of one task alone.
+#[derive(Clone, Copy)]
+struct BrokenRules {
+    first: BrokenRule,
+    of_task: Option<usize>,
 }
 
 /// Something that seems to be found.
@@ -31,7 +39,7 @@ enum BrokenRule {
 struct Candidate {
     finding: Finding,
     /// What a line tells that must never happen, if it is a line.
-    broken: Option<BrokenRule>,
+    broken: Option<BrokenRules>,
 }
 
 /// What was noted.
@@ -90,8 +98,8 @@ pub fn is_beside(found: &Finding) -> bool {
     matches!(found.kind, FindingKind::Endless(_))
 }
 
-/// Which of what must never happen a line tells that a kernel has just told, if it tells something of it.
-fn broken_by(
+/// Which of what must never happen a line tells first that a kernel has just told, if it tells something of it.
+fn first_broken(
     subject: &SearchSubject<'_>,
     kernel: &Kernel<Vm<'_>>,
     line: &Line,
@@ -103,15 +111,45 @@ fn broken_by(
     Some(BrokenRule::At(place))
 }
 
+/// The place of the first rule about the answers of one task at a call that a line breaks.
+fn first_of_task(
+    subject: &SearchSubject<'_>,
+    kernel: &Kernel<Vm<'_>>,
+    line: &Line,
+) -> Option<usize> {
+    let (sys, nevers) = (subject.image.system(), &subject.question.nevers_at);
+    nevers.iter().position(|never| never.by.is_some() && tells_there(kernel, sys, *never, line))
+}
+
+/// What a line tells that must never happen, which a kernel has just told, if it tells something of it.
+fn broken_by(
+    subject: &SearchSubject<'_>,
+    kernel: &Kernel<Vm<'_>>,
+    line: &Line,
+) -> Option<BrokenRules> {
+    let first = first_broken(subject, kernel, line)?;
+    let of_task = first_of_task(subject, kernel, line);
+    Some(BrokenRules { first, of_task })
+}
+
+/// Whether lines tell the same that must never happen, if they are at the same call.
+fn are_alike(one: Option<BrokenRules>, other: Option<BrokenRules>) -> bool {
+    match (one, other) {
+        (Some(one), Some(other)) => one.first == other.first && one.of_task == other.of_task,
+        (None, None) => true,
+        _ => false,
+    }
+}
+
 /// Whether a candidate is of a kind, and at a call. Lines are of one kind if they tell the same that must never happen.
 fn is_of_kind(
     known: &Candidate,
     kind: FindingKind,
     site: Option<CallSite>,
-    broken: Option<BrokenRule>,
+    broken: Option<BrokenRules>,
 ) -> bool {
     let is_same = match (known.finding.kind, kind) {
-        (FindingKind::Line(_), FindingKind::Line(_)) => known.broken == broken,
+        (FindingKind::Line(_), FindingKind::Line(_)) => are_alike(known.broken, broken),
         (FindingKind::Deadlock, FindingKind::Deadlock) => true,
         (FindingKind::Endless(_), FindingKind::Endless(_)) => true,
         (FindingKind::Stuck(a), FindingKind::Stuck(b)) => a == b,
@@ -240,7 +278,7 @@ impl Notes {
         path: Path<'_>,
         kind: FindingKind,
         site: Option<CallSite>,
-        broken: Option<BrokenRule>,
+        broken: Option<BrokenRules>,
     ) -> Result<(), AllocError> {
         let is_known = self
             .candidates

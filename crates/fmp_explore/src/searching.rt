@@ -1,5 +1,6 @@
 //! The search: breadth first over the states of a system, each restored from its row.
-ghost use Rattle.std.specs.Prelude.{◌≡◌, ◌≢◌, ◌+◌, ◌<◌, IfOk, IfSome, IsTrue, OnOk, false, is_some, length, true};
+ghost use Rattle.std.specs.Prelude.{◌≡◌, ◌≢◌, ◌+◌, ◌<◌, ◌≤◌, [], IfOk, IfSome, IsTrue, OnOk, false, is_some};
+ghost use Rattle.std.specs.Prelude.{length, true};
 ghost use Rattle.fmp_base.specs.Steps.{Nothing};
 ghost use Rattle.fmp_base.specs.Meanings.{World};
 ghost use Rattle.fmp_instructions.specs.declared.instructions.MachineContext.{MachineContext};
@@ -106,6 +107,13 @@ fn may_try(subject: &SearchSubject<'_>, at: &ExaminedState, marks: StateMarks, e
     }
 }
 
+/// Whether no sentence is watched, and no single interrupt is limited.
+fn watches_nothing(question: &Question) -> bool
+    ensures { result ≡ true → question.now.monitors.items ≡ [] }
+{
+    question.monitors.is_empty()
+}
+
 /// Whether an event of this effect did something.
 fn has_done(effect: Effect) -> bool
     ensures nothing { result ≡ false → effect ≡ Effect.Nothing }
@@ -206,8 +214,8 @@ impl Search {
         Ok(true)
     }
 
-    /// Tries the events from this place on, on a kernel in the state that is examined, until one does something. Gives
-    /// the place behind it, or behind the last.
+    /// Tries the events from this place on, up to another one, on a kernel in the state that is examined, until one
+    /// does something. Gives the place after it, or after the last.
     #[tactic(auto, using(crate::proofs::KernelLemmas::ready_over))]
     fn try_from<'a>(
         &mut self,
@@ -217,8 +225,10 @@ impl Search {
         at: &ExaminedState,
         marks: &mut StateMarks,
         first: usize,
+        end: usize,
     ) -> Result<usize, AllocError>
-        requires first { first < length self.old.tries.items }
+        requires first { first < end }
+        requires end { end ≤ length self.old.tries.items }
         requires ready { CanStep (asked_of subject.now) kernel.old }
         requires state { IsStateFor (asked_of subject.now) at.now }
         requires trying { IsTrying (asked_of subject.now) kernel.old.world (watched_in subject.now.question.now at.now)
@@ -229,7 +239,6 @@ impl Search {
         ensures above { IfOk result (λ next. first < next) }
         ensures over { IsKernelOf (asked_of subject.now) kernel.new }
     {
-        let end = self.tries.len();
         for place in first..end {
             if self.try_at(alloc, subject, kernel, at, marks, place)? {
                 return Ok(place + 1);
@@ -248,8 +257,10 @@ impl Search {
         at: &ExaminedState,
         marks: &mut StateMarks,
         first: usize,
+        end: usize,
     ) -> Result<usize, AllocError>
-        requires first { first < length self.old.tries.items }
+        requires first { first < end }
+        requires end { end ≤ length self.old.tries.items }
         requires ready { CanStep (asked_of subject.now) from.now }
         requires state { IsStateFor (asked_of subject.now) at.now }
         requires trying { IsTrying (asked_of subject.now) from.now.world (watched_in subject.now.question.now at.now)
@@ -262,25 +273,27 @@ impl Search {
         ensures over { IsKernelOf (asked_of subject.now) kernel.new }
     {
         kernel.put_back(from);
-        self.try_from(alloc, subject, kernel, at, marks, first)
+        self.try_from(alloc, subject, kernel, at, marks, first, end)
     }
 
-    /// Tries each event in the state that is examined, in which `from` is: what was done there.
-    fn try_all<'a>(
+    /// Tries the events before a place in the state that is examined, in which `from` is: what was done there.
+    fn try_before<'a>(
         &mut self,
         alloc: Global,
         subject: &SearchSubject<'a>,
         from: &Kernel<Vm<'a>>,
         kernel: &mut Kernel<Vm<'a>>,
         at: &ExaminedState,
+        end: usize,
     ) -> Result<StateMarks, AllocError>
         requires survey { IsSearch (asked_of subject.now) self.old }
+        requires end { end ≤ length self.old.tries.items }
         requires ready { CanStep (asked_of subject.now) from.now }
         requires state { IsStateFor (asked_of subject.now) at.now }
         requires over { IsKernelOf (asked_of subject.now) kernel.old }
         ensures tried { IfOk result
             (λ marks. HasTried (asked_of subject.now) from.now.world (watched_in subject.now.question.now at.now) marks
-            self.old self.new (length (all_tries subject.now.image.now.system))) }
+            self.old self.new end) }
         ensures over { IsKernelOf (asked_of subject.now) kernel.new }
     {
         let mut marks = StateMarks {
@@ -289,14 +302,44 @@ impl Search {
         };
         task_sites(from, subject.image.system(), &mut self.notes.sites)?;
         self.edges.begin_state(alloc, self.seen.len());
-        let end = self.tries.len();
         let mut next = 0;
         for _try in 0..end {
             if next >= end {
                 return Ok(marks);
             }
-            next = self.try_on(alloc, subject, from, kernel, at, &mut marks, next)?;
+            next = self.try_on(alloc, subject, from, kernel, at, &mut marks, next, end)?;
         }
+        Ok(marks)
+    }
+
+    /// Tries the last event too, which is at this place: what was done then.
+    fn try_last<'a>(
+        &mut self,
+        alloc: Global,
+        subject: &SearchSubject<'a>,
+        from: &Kernel<Vm<'a>>,
+        kernel: &mut Kernel<Vm<'a>>,
+        at: &ExaminedState,
+        marks: StateMarks,
+        last: usize,
+    ) -> Result<StateMarks, AllocError>
+        requires last { length self.old.tries.items ≤ last + 1 }
+        requires ready { CanStep (asked_of subject.now) from.now }
+        requires state { IsStateFor (asked_of subject.now) at.now }
+        requires trying { IsTrying (asked_of subject.now) from.now.world (watched_in subject.now.question.now at.now)
+            marks last self.old }
+        requires over { IsKernelOf (asked_of subject.now) kernel.old }
+        ensures tried { IfOk result
+            (λ marks. HasTried (asked_of subject.now) from.now.world (watched_in subject.now.question.now at.now) marks
+            self.old self.new (length (all_tries subject.now.image.now.system))) }
+        ensures over { IsKernelOf (asked_of subject.now) kernel.new }
+    {
+        let end = self.tries.len();
+        if last >= end {
+            return Ok(marks);
+        }
+        let mut marks = marks;
+        let _next = self.try_on(alloc, subject, from, kernel, at, &mut marks, last, end)?;
         Ok(marks)
     }
 
@@ -376,19 +419,32 @@ impl Search {
         Ok(())
     }
 
-    /// Examines a state, in which `from` is: tries each event in it, and looks whether it is a deadlock, and whether it
-    /// breaks a sentence.
-    fn examine_on<'a>(
+    /// Whether a state in which this was done is no deadlock, no sentence is watched, and there is an event at a place.
+    fn is_busy(&self, subject: &SearchSubject<'_>, marks: StateMarks, last: usize) -> bool
+        ensures there { result ≡ true → last < length self.now.tries.items }
+        ensures busy { result ≡ true → marks.idle ≡ false }
+        ensures none { result ≡ true → subject.now.question.now.monitors.items ≡ [] }
+    {
+        last < self.tries.len() && !marks.idle && watches_nothing(subject.question)
+    }
+
+    /// Goes on to examine a state, in which `from` is, where all events but the last were tried: tries that one, and
+    /// looks whether the state is a deadlock, and whether it breaks a sentence.
+    fn finish<'a>(
         &mut self,
         alloc: Global,
         subject: &SearchSubject<'a>,
         from: &Kernel<Vm<'a>>,
         kernel: &mut Kernel<Vm<'a>>,
         at: &ExaminedState,
+        marks: StateMarks,
+        last: usize,
     ) -> Result<(), AllocError>
-        requires survey { IsSearch (asked_of subject.now) self.old }
+        requires last { length self.old.tries.items ≤ last + 1 }
         requires ready { CanStep (asked_of subject.now) from.now }
         requires state { IsStateFor (asked_of subject.now) at.now }
+        requires trying { IsTrying (asked_of subject.now) from.now.world (watched_in subject.now.question.now at.now)
+            marks last self.old }
         requires over { IsKernelOf (asked_of subject.now) kernel.old }
         ensures tried { OnOk result
             (HasTriedOut (asked_of subject.now) self.old self.new from.now.world
@@ -396,8 +452,70 @@ impl Search {
         ensures over { IsKernelOf (asked_of subject.now) kernel.new }
     {
         subject.image.keeps_rules();
-        let marks = self.try_all(alloc, subject, from, kernel, at)?;
+        let marks = self.try_last(alloc, subject, from, kernel, at, marks, last)?;
         self.look_at(alloc, subject, from, at, marks)
+    }
+
+    /// The same of a state that is no deadlock, since something was done in it, where no sentence is watched: so the
+    /// last event is tried on the kernel that is in it.
+    #[tactic(auto, using(crate::proofs::KernelLemmas::ready_over))]
+    fn finish_busy<'a>(
+        &mut self,
+        alloc: Global,
+        subject: &SearchSubject<'a>,
+        kernel: &mut Kernel<Vm<'a>>,
+        at: &ExaminedState,
+        marks: StateMarks,
+        last: usize,
+    ) -> Result<(), AllocError>
+        requires there { last < length self.old.tries.items }
+        requires last { length self.old.tries.items ≤ last + 1 }
+        requires busy { marks.idle ≡ false }
+        requires none { subject.now.question.now.monitors.items ≡ [] }
+        requires ready { CanStep (asked_of subject.now) kernel.old }
+        requires state { IsStateFor (asked_of subject.now) at.now }
+        requires trying { IsTrying (asked_of subject.now) kernel.old.world (watched_in subject.now.question.now at.now)
+            marks last self.old }
+        ensures tried { OnOk result
+            (HasTriedOut (asked_of subject.now) self.old self.new kernel.old.world
+            (watched_in subject.now.question.now at.now)) }
+        ensures over { IsKernelOf (asked_of subject.now) kernel.new }
+    {
+        subject.image.keeps_rules();
+        let mut marks = marks;
+        self.try_at(alloc, subject, kernel, at, &mut marks, last)?;
+        Ok(())
+    }
+
+    /// Examines a state, in which `top` is: tries each event in it, and looks whether it is a deadlock, and whether it
+    /// breaks a sentence.
+    #[tactic(auto, using(crate::proofs::KernelLemmas::ready_over))]
+    fn examine_on<'a>(
+        &mut self,
+        alloc: Global,
+        subject: &SearchSubject<'a>,
+        top: &mut Kernel<Vm<'a>>,
+        work: &mut Kernel<Vm<'a>>,
+        at: &ExaminedState,
+    ) -> Result<(), AllocError>
+        requires survey { IsSearch (asked_of subject.now) self.old }
+        requires ready { CanStep (asked_of subject.now) top.old }
+        requires state { IsStateFor (asked_of subject.now) at.now }
+        requires work { IsKernelOf (asked_of subject.now) work.old }
+        ensures tried { OnOk result
+            (HasTriedOut (asked_of subject.now) self.old self.new top.old.world
+            (watched_in subject.now.question.now at.now)) }
+        ensures top { IsKernelOf (asked_of subject.now) top.new }
+        ensures work { IsKernelOf (asked_of subject.now) work.new }
+    {
+        let end = self.tries.len();
+        let last = end.saturating_sub(1);
+        let marks = self.try_before(alloc, subject, top, work, at, last)?;
+        let busy = self.is_busy(subject, marks, last);
+        if busy {
+            return self.finish_busy(alloc, subject, top, at, marks, last);
+        }
+        self.finish(alloc, subject, top, work, at, marks, last)
     }
 
     /// Examines the state at a place, with a kernel that is put into the state and one on which events are tried.

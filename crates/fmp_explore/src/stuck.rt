@@ -24,15 +24,34 @@ use fmp_visited::unpack;
 use fmp_witness::{Finding, FindingKind, SearchSubject, follow};
 use std::alloc::{AllocError, Global};
 
-/// Nobody is told how far a search has come.
+/// What a search stopped at before it knew.
 #[derive(Clone, Copy)]
-struct Nobody;
+pub enum SearchLimit {
+    /// As many states were kept as are allowed.
+    States,
+    /// The time that is allowed was over.
+    Time,
+    /// There was no more memory.
+    Memory,
+}
 
-impl SearchWatcher for Nobody {
-    fn grown(&mut self, _states: usize, _examined: usize, _deep: u32) {}
+impl From<AllocError> for SearchLimit {
+    fn from(_error: AllocError) -> Self {
+        SearchLimit::Memory
+    }
+}
+
+/// Another watcher, which is asked for the time and is not told how far the search has come.
+#[derive(Drop)]
+struct Quiet<'w, W: SearchWatcher> {
+    watcher: &'w mut W,
+}
+
+impl<W: SearchWatcher> SearchWatcher for Quiet<'_, W> {
+    fn grown(&mut self, _states: usize, _examined: usize, _depth: u32) {}
 
     fn is_over(&mut self) -> bool {
-        false
+        self.watcher.is_over()
     }
 }
 
@@ -268,36 +287,39 @@ fn question_of(
     })
 }
 
-/// Whether a search shows that no forbidden line is told along any schedule behind the events where it began.
-/// `AllocError` if it ends before it knows, as where memory runs out.
-fn shows_silence(
+/// Whether a search shows that no forbidden line is told along any schedule after the events where it began. The limit
+/// at which it stops, if it ends before it knows.
+fn shows_silence<W: SearchWatcher>(
     alloc: Global,
     subject: &SearchSubject<'_>,
     survey: &mut Search,
-) -> Result<bool, AllocError>
+    watcher: &mut W,
+) -> Result<bool, SearchLimit>
     requires { IsBegun (asked_of subject.now) survey.old }
     ensures { IfOk result (λ yes. IsTrue yes → NoneFollows (asked_of subject.now)) }
 {
     subject.image.keeps_rules();
-    match run_search(alloc, &Alone, survey, subject, &mut Nobody) {
+    match run_search(alloc, &Alone, survey, subject, &mut Quiet { watcher }) {
         Ending::Whole => Ok(survey.sure),
         Ending::Enough => Ok(false),
-        Ending::States | Ending::Time | Ending::Memory => Err(AllocError),
+        Ending::States => Err(SearchLimit::States),
+        Ending::Time => Err(SearchLimit::Time),
+        Ending::Memory => Err(SearchLimit::Memory),
     }
 }
 
 /// The same of a search that is now made, in which the local at the out place of a call counts as written by every
-/// reply, or by E_OK alone. None where a reply left one as it was that counts as written. `AllocError` if the search
-/// ends before it knows, as where memory runs out.
-fn is_silent_so(
+/// reply, or by E_OK alone. None where a reply left one as it was that counts as written.
+fn is_silent_so<W: SearchWatcher>(
     alloc: Global,
     outs: bool,
     subject: &SearchSubject<'_>,
-) -> Result<Option<bool>, AllocError>
+    watcher: &mut W,
+) -> Result<Option<bool>, SearchLimit>
     ensures { IfOk result (λ known. IfSome known (λ yes. IsTrue yes → NoneFollows (asked_of subject.now))) }
 {
     let mut survey = start_search(alloc, outs, subject)?;
-    let yes = shows_silence(alloc, subject, &mut survey)?;
+    let yes = shows_silence(alloc, subject, &mut survey, watcher)?;
     if survey.unwritten {
         return Ok(None);
     }
@@ -305,24 +327,29 @@ fn is_silent_so(
 }
 
 /// The same of a search that is made once more where a reply left an out place as it was.
-fn is_silent(alloc: Global, subject: &SearchSubject<'_>) -> Result<bool, AllocError>
+fn is_silent<W: SearchWatcher>(
+    alloc: Global,
+    subject: &SearchSubject<'_>,
+    watcher: &mut W,
+) -> Result<bool, SearchLimit>
     ensures { IfOk result (λ yes. IsTrue yes → NoneFollows (asked_of subject.now)) }
 {
-    if let Some(yes) = is_silent_so(alloc, true, subject)? {
+    if let Some(yes) = is_silent_so(alloc, true, subject, watcher)? {
         return Ok(yes);
     }
-    match is_silent_so(alloc, false, subject)? {
+    match is_silent_so(alloc, false, subject, watcher)? {
         Some(yes) => Ok(yes),
         None => Ok(false),
     }
 }
 
 /// The same of another question about an image, at the same bound.
-fn is_silent_about(
+fn is_silent_about<W: SearchWatcher>(
     alloc: Global,
     subject: &SearchSubject<'_>,
     about: &Question,
-) -> Result<bool, AllocError>
+    watcher: &mut W,
+) -> Result<bool, SearchLimit>
     ensures { IfOk result (λ yes. IsTrue yes → NoneFollows (record (asked_of subject.now) { question = about.now })) }
 {
     let other = SearchSubject {
@@ -330,21 +357,22 @@ fn is_silent_about(
         n: subject.n,
         question: about,
     };
-    is_silent(alloc, &other)
+    is_silent(alloc, &other, watcher)
 }
 
-/// Whether a task never acts after these events, as a question lets others follow. `AllocError` if the search for that
-/// ends before it knows, as where memory runs out.
-fn never_acts(
+/// Whether a task never acts after these events, as a question lets others follow. The limit at which the search for
+/// that stops, if it ends before it knows.
+fn never_acts<W: SearchWatcher>(
     alloc: Global,
     subject: &SearchSubject<'_>,
     steps: &[Event],
     t: u8,
-) -> Result<bool, AllocError>
+    watcher: &mut W,
+) -> Result<bool, SearchLimit>
     ensures { IfOk result (λ yes. IsTrue yes → NeverActs (asked_of subject.now) steps.now t) }
 {
     let about = question_of(alloc, subject.image.system(), subject.question, steps, t)?;
-    is_silent_about(alloc, subject, &about)
+    is_silent_about(alloc, subject, &about, watcher)
 }
 
 /// Whether the task at a place is started on the kernel of an image, which has taken these events.
@@ -358,14 +386,15 @@ fn is_started_after(kernel: &Kernel<Vm<'_>>, image: &Image, n: u64, steps: &[Eve
 }
 
 /// Whether the task at a place is started on the kernel of an image that was just set up and takes these events, and
-/// never goes on after them. `AllocError` if the search for that ends before it knows, as where memory runs out.
-pub fn is_stuck<'a>(
+/// never goes on after them. The limit at which the search for that stops, if it ends before it knows.
+pub fn is_stuck<'a, W: SearchWatcher>(
     alloc: Global,
     kernel: &mut Kernel<Vm<'a>>,
     subject: &SearchSubject<'a>,
     steps: &[Event],
     t: u8,
-) -> Result<bool, AllocError>
+    watcher: &mut W,
+) -> Result<bool, SearchLimit>
     requires begun { kernel.old ≡ kernel_after subject.now.image.now subject.now.n [] }
     ensures { IfOk result (λ stuck. IsTrue stuck → IsSo (asked_of subject.now) steps.now (FindingKind.Stuck t)) }
 {
@@ -375,6 +404,6 @@ pub fn is_stuck<'a>(
     if !is_started_after(kernel, subject.image, subject.n, steps, t) {
         return Ok(false);
     }
-    let never = never_acts(alloc, subject, steps, t)?;
+    let never = never_acts(alloc, subject, steps, t, watcher)?;
     Ok(never)
 }

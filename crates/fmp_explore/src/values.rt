@@ -1,5 +1,7 @@
 //! The table of values: how many values each field has in some of the states that were seen, and how many what is kept
 //! of each sentence and limit.
+ghost use Rattle.std.specs.Prelude.{◌≤◌};
+
 use fmp_fields::What;
 use fmp_visited::{Seen, unpack};
 use std::alloc::{AllocError, Global};
@@ -36,6 +38,9 @@ fn different(values: &[u64]) -> usize {
 /// How many states are looked at, at most.
 const SAMPLE: usize = 1 << 14;
 
+/// How many numbers of states are looked at, at most, but for those of one state.
+const NUMBERS: usize = 1 << 22;
+
 /// Where a value stands among the numbers of a state.
 #[derive(Clone, Copy)]
 struct Column {
@@ -62,32 +67,33 @@ fn value_in(numbers: &[u32], column: Column) -> u64 {
     first.saturating_mul(1 << 32).saturating_add(second)
 }
 
-/// The values in some of the states, which lie equally far apart.
-fn values_in(
-    alloc: Global,
-    seen: &Seen,
-    first: &[u32],
-    column: Column,
-) -> Result<Vec<u64>, AllocError> {
-    let mut values = Vec::new(alloc);
-    let mut numbers = Vec::new(alloc);
-    let stride = seen.len() / SAMPLE + 1;
-    for i in 0..SAMPLE.min(seen.len()) {
-        let state = i.saturating_mul(stride) % 4_294_967_295;
-        unpack(seen.row(state as u32), first, &mut numbers)?;
-        values.push(value_in(&numbers, column))?;
-    }
-    Ok(values)
+/// How many states with this many numbers each are looked at, at most.
+fn sample_size(numbers: usize) -> usize
+    ensures { 1 ≤ result }
+{
+    SAMPLE.min(NUMBERS / numbers.max(1)).max(1)
 }
 
-/// How many values there are in a sample of the states.
-fn count_in(
-    alloc: Global,
-    seen: &Seen,
-    first: &[u32],
-    column: Column,
-) -> Result<usize, AllocError> {
-    let mut values = values_in(alloc, seen, first, column)?;
+/// The numbers of some of the states, which lie equally far apart.
+fn sampled(alloc: Global, seen: &Seen, first: &[u32]) -> Result<Vec<Vec<u32>>, AllocError> {
+    let mut sample = Vec::new(alloc);
+    let size = sample_size(first.len());
+    let stride = (seen.len() / size).saturating_add(1);
+    for i in 0..size.min(seen.len()) {
+        let state = i.saturating_mul(stride) % 4_294_967_295;
+        let mut numbers = Vec::new(alloc);
+        unpack(seen.row(state as u32), first, &mut numbers)?;
+        sample.push(numbers)?;
+    }
+    Ok(sample)
+}
+
+/// How many values there are in these states, of which these are the numbers.
+fn count_in(alloc: Global, sample: &[Vec<u32>], column: Column) -> Result<usize, AllocError> {
+    let mut values = Vec::with_capacity(alloc, sample.len())?;
+    for numbers in sample {
+        values.push(value_in(numbers, column))?;
+    }
     values.sort()?;
     Ok(different(&values))
 }
@@ -95,12 +101,11 @@ fn count_in(
 /// Adds how many values is kept for each monitor: two numbers of each stand after those of this many fields.
 fn add_standings(
     alloc: Global,
-    seen: &Seen,
-    first: &[u32],
+    sample: &[Vec<u32>],
     fields: usize,
+    monitors: usize,
     table: &mut Vec<Variety>,
 ) -> Result<(), AllocError> {
-    let monitors = first.len().saturating_sub(fields) / 2;
     for monitor in 0..monitors {
         let column = Column {
             place: fields.saturating_add(monitor.saturating_mul(2)),
@@ -108,7 +113,7 @@ fn add_standings(
         };
         table.push(Variety {
             what: Varied::Standing(monitor),
-            values: count_in(alloc, seen, first, column)?,
+            values: count_in(alloc, sample, column)?,
         })?;
     }
     Ok(())
@@ -122,6 +127,7 @@ pub fn varieties(
     first: &[u32],
     fields: &[What],
 ) -> Result<Vec<Variety>, AllocError> {
+    let sample = sampled(alloc, seen, first)?;
     let mut table = Vec::new(alloc);
     for (place, what) in fields.iter().enumerate() {
         let column = Column {
@@ -130,9 +136,10 @@ pub fn varieties(
         };
         table.push(Variety {
             what: Varied::Field(*what),
-            values: count_in(alloc, seen, first, column)?,
+            values: count_in(alloc, &sample, column)?,
         })?;
     }
-    add_standings(alloc, seen, first, fields.len(), &mut table)?;
+    let monitors = first.len().saturating_sub(fields.len()) / 2;
+    add_standings(alloc, &sample, fields.len(), monitors, &mut table)?;
     Ok(table)
 }

@@ -48,7 +48,6 @@ pub returns-clause-tried : goal.returns-clause-tried
 returns-clause-tried c =
     let asked = asked_of c.args.subject.now in
     let l = c.loop-place in
-    let long = c.args.self.now.tries.ok.0 in
-    let last : l.place ≡ c.len-end.result = omega (arith, long) in
+    let last : l.place ≡ c.args.end = omega (arith, c.requires.first) in
     subst (λ (m : ℕ). HasTried asked c.args.kernel.now.world
     (watched_in asked.question c.args.at.now) l.marks c.args.self.now l.self m) last l.invariant.tried

@@ -1,6 +1,6 @@
 use Rattle.std.proofs.Common.{◌≤◌}
 use Rattle.fmp_explore.specs.Searching.{HasTried, IsKernelOf, watched_in}
-use Rattle.fmp_explore.proofs.searches.Search.try_all.Given as goal
+use Rattle.fmp_explore.proofs.searches.Search.try_before.Given as goal
 use Rattle.fmp_witness.specs.Asked.{asked_of}
 
 abbrev pub invariant-loop-try : goal.invariant-loop-try
