@@ -5,7 +5,7 @@ each.
     checks/edits/edits.py [--jobs N] [--unedited] [CRATE[/NAME]..]
 
 An edit is a file CRATE/NAME.edit. Its line `file: PATH` names a file of the crate, and its line `function: PATH` the
-function of this file that it changes, as a check names it behind the name of the crate. Then come lines `old: TEXT` and
+function of this file that it changes, as a check names it after the name of the crate. Then come lines `old: TEXT` and
 `new: TEXT` in pairs: the first text stands in the file once, and becomes the second.
 
 A contract refuses a function by itself, whatever the others do, and a caller knows no more of a function than its
@@ -43,7 +43,7 @@ EDITS = ROOT / "checks/edits"
 PARTS = ("src", "specs", "proofs")
 LINE = re.compile(r"(file|function|old|new):(?: (.*))?")
 HEAD = re.compile(r"^( *)(?:pub(?:\(\w+\))? )?fn (\w+)", re.M)
-NEXT = re.compile(rf"^}}|{HEAD.pattern}", re.M)  # what comes behind a head that has no body
+NEXT = re.compile(rf"^}}|{HEAD.pattern}", re.M)  # what comes after a head that has no body
 CALL = re.compile(r"\b(\w+)\(|::(\w+)\b")
 # What gives up calls a C function that the copy declares, and that is assumed never to return. So it is proved, and a
 # check prints no files from which to begin its proof.

@@ -69,6 +69,7 @@ complete -c fmp_view -n '__fish_seen_subcommand_from diff' -l bound -x -d 'How m
 complete -c fmp_view -n '__fish_seen_subcommand_from diff' -s h -l help -d 'Print help'
 complete -c fmp_view -n '__fish_seen_subcommand_from expect' -l recording -x -d 'Recording of a run whose bodies are not those of an image, as C functions: what came, one a line, with the calls that the bodies made'
 complete -c fmp_view -n '__fish_seen_subcommand_from expect' -l bound -x -d 'How many instructions a body may take in a step, 1 to 2^48; where its next service call is farther, its next step goes on from there [default: 100000]'
+complete -c fmp_view -n '__fish_seen_subcommand_from expect' -l src -x -d 'Task text of IMAGE: its lines are those of '\''never E_QOVR at 12'\'', its bodies those of '\''int BODY'\'''
 complete -c fmp_view -n '__fish_seen_subcommand_from expect' -l strict -d 'Fail an expectation that says nothing of the run, since what it speaks of never happens'
 complete -c fmp_view -n '__fish_seen_subcommand_from expect' -l json -d 'Print an object of JSON a line, for other programs'
 complete -c fmp_view -n '__fish_seen_subcommand_from expect' -l junit -x -d 'Write a report to FILE too, in the XML of JUnit: each line of the text of expectations is a test'

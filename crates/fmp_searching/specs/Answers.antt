@@ -14,13 +14,13 @@ names_text [] = codes " none"
 names_text (code ∷ more) = flat_map (λ c. name_text c) (code ∷ more)
 
 -- where a call stands in this file: its line and its column
-unfoldable pub place_text : (src : List ℕ) → Answered → List ℕ
-place_text src call = src ++ (codes ":" ++ (decimal call.line ++ (codes ":" ++ decimal call.column)))
+unfoldable pub position_text : (src : List ℕ) → Answered → List ℕ
+position_text src call = src ++ (codes ":" ++ (decimal call.line ++ (codes ":" ++ decimal call.column)))
 
 -- a line of what is printed: where a call stands in this file, and what it got
 unfoldable pub answered_text : (src : List ℕ) → Answered → List ℕ
 answered_text src call =
-    codes "answers at " ++ (place_text src call ++ (codes ":" ++ (names_text call.answers.items ++ codes "\n")))
+    codes "answers at " ++ (position_text src call ++ (codes ":" ++ (names_text call.answers.items ++ codes "\n")))
 
 abbrev pub answers_text : (src : List ℕ) → List Answered → List ℕ
 answers_text src calls = flat_map (λ call. answered_text src call) calls

@@ -18,7 +18,7 @@ use Rattle.fmp_witness.specs.Findings.{IsFound}
 use Rattle.fmp_trace.specs.Steps.{steps_text}
 use Rattle.fmp_explore.specs.declared.exploring.Report.{Report}
 use Rattle.fmp_explore.specs.Searching.{NothingIsFound}
-use Rattle.fmp_searching.specs.Claims.{ClaimTables, ending_text, status_of}
+use Rattle.fmp_searching.specs.Claims.{ClaimTables, ending_text, is_done, status_of}
 use Rattle.fmp_searching.specs.Questions.{IsQuestionOf}
 use Rattle.fmp_searching.specs.Records.{IsReportRecords}
 use Rattle.fmp_searching.specs.Sites.{AreBodiesOf, TextBody}
@@ -42,7 +42,7 @@ pub record IsReportText (c : ClaimTables) (r : Report) (text : List ℕ) : Type 
 pub record IsClean (strict : Bool) (q : Question) (r : Report) : Type 0 where
   pub none : r.findings.items ≡ []
   pub holds : r.holds ≡ true
-  pub looked : r.looked ≡ true
+  pub looked : is_done r.stuck_search ≡ true
   pub said : (strict && has_unsaid q r) ≡ false
 
 -- the steps text of a finding
@@ -107,9 +107,11 @@ pub record HasClaimed (f : Form) (strict : Bool) (c : ClaimTables) (done : Optio
   pub is : IsReportIn f strict c report text
   pub printed : HasPrinted text done
 
--- what an exploration claims of an image, of the bodies of its text, and of a question
-abbrev pub claim_of : ImageTables → List TextBody → Question → Exploring → ClaimTables
-claim_of i bodies q e = record { image = i; bodies = bodies; question = q; bound = e.bound }
+-- what an exploration claims of an image, of its system as it is configured, of the bodies of its text, and of a
+-- question
+abbrev pub claim_of : ImageTables → (configured : SystemTables) → List TextBody → Question → Exploring → ClaimTables
+claim_of i configured bodies q e =
+    record { image = i; configured = configured; bodies = bodies; question = q; bound = e.bound }
 
 -- the same of an image whose bodies have this text, and of what the words and a text of sentences ask, which is read
 -- for the system as its configuration describes it
@@ -119,7 +121,7 @@ pub record HoldsOfImage (i : ImageTables) (configured : SystemTables) (src said 
   pub are : AreBodiesOf src bodies
   pub question : Question
   pub asks : IsQuestionOf e.asked said configured i.system i.code bodies question
-  pub claimed : HasClaimed e.form e.strict (claim_of i bodies question e) done
+  pub claimed : HasClaimed e.form e.strict (claim_of i configured bodies question e) done
 
 -- the same of the image that two texts build
 pub record HoldsOfTexts (cfg src said : List ℕ) (e : Exploring) (done : Option (List Deed)) : Type 0 where

@@ -6,15 +6,19 @@ use Rattle.std.specs.List.{flat_map, list_any}
 use Rattle.fmp_base.specs.Codes.{code_name}
 use Rattle.fmp_base.specs.Names.{name_text}
 use Rattle.fmp_base.specs.Services.{service_name}
-use Rattle.fmp_base.specs.Systems.{SystemTables}
+use Rattle.fmp_base.specs.Systems.{SystemTables, tables_of}
 use Rattle.fmp_base.specs.Texts.{fault_text, task_name}
 use Rattle.fmp_base.specs.declared.bodies.Fault.{Fault}
 use Rattle.fmp_base.specs.declared.bodies.Fault.TheVariants.{Overflow, Division, Index}
 use Rattle.fmp_base.specs.declared.services.Service.{Service}
 use Rattle.fmp_base.specs.declared.systems.TaskConfig.{TaskConfig}
 use Rattle.fmp_explore.specs.declared.exploring.Report.{Report}
+use Rattle.fmp_explore.specs.declared.exploring.StuckSearch.{StuckSearch}
+use Rattle.fmp_explore.specs.declared.exploring.StuckSearch.TheVariants as stuck
 use Rattle.fmp_explore.specs.declared.searching.Ending.{Ending}
 use Rattle.fmp_explore.specs.declared.searching.Ending.TheVariants as ending
+use Rattle.fmp_explore.specs.declared.stuck.SearchLimit.{SearchLimit}
+use Rattle.fmp_explore.specs.declared.stuck.SearchLimit.TheVariants as limit
 use Rattle.fmp_witness.specs.declared.finding.Finding.{Finding}
 use Rattle.fmp_witness.specs.declared.finding.FindingKind.{FindingKind}
 use Rattle.fmp_witness.specs.declared.finding.FindingKind.TheVariants as kind
@@ -35,21 +39,36 @@ use Rattle.fmp_searching.specs.Sentences.{monitors_text}
 use Rattle.fmp_searching.specs.Sites.{TextBody, line_of}
 use Rattle.fmp_searching.specs.declared.sources.Claim.{Claim}
 
--- what a claim is about: an image, the bodies of its text, a question, and a bound
+-- what a claim is about: an image, its system as the configuration describes it, the bodies of its text, a question,
+-- and a bound
 pub record ClaimTables : Type 0 where
   pub image : ImageTables
+  pub configured : SystemTables
   pub bodies : List TextBody
   pub question : Question
   pub bound : ℕ
 
 abbrev pub claim_tables : Claim → ClaimTables
-claim_tables c = record { image = c.image.now; bodies = c.lines.now; question = c.question.now; bound = c.bound }
+claim_tables c =
+    record {
+      image = c.image.now;
+      configured = tables_of c.configured.now;
+      bodies = c.lines.now;
+      question = c.question.now;
+      bound = c.bound;
+    }
+
+-- stuck tasks were looked for
+abbrev pub is_done : StuckSearch → Bool
+is_done stuck.Done = true
+is_done stuck.Skipped = false
+is_done (stuck.Stopped at) = false
 
 -- the status of a search: 4 where something was found, or what is unsaid counts so; 0 where the report holds and stuck
 -- tasks were looked for; else 5
 abbrev pub status_of : (unsaid : Bool) → Report → ℕ
 status_of unsaid r =
-    if unsaid || nat_lt 0 (length r.findings.items) then 4 else (if r.holds && r.looked then 0 else 5)
+    if unsaid || nat_lt 0 (length r.findings.items) then 4 else (if r.holds && is_done r.stuck_search then 0 else 5)
 
 -- what must never happen; of a fault it is said at the end
 unfoldable pub never_text : SystemTables → Never → List ℕ
@@ -75,10 +94,16 @@ abbrev pub site_text : List BodyTables → List TextBody → CallSite → List �
 site_text code bodies site =
     call_text site (service_at code site) (line_of code bodies site)
 
+-- whose answers are meant, if that matters
+abbrev pub of_task : SystemTables → Option ℕ → List ℕ
+of_task sys None = []
+of_task sys (Some t) = codes " by " ++ task_name sys t
+
 -- an answer that must never be given to a call
-unfoldable pub never_at_text : List BodyTables → List TextBody → NeverAt → List ℕ
-never_at_text code bodies n =
-    codes "never " ++ (code_name n.code ++ (codes " of " ++ (site_text code bodies n.site ++ codes ", ")))
+unfoldable pub never_at_text : SystemTables → List BodyTables → List TextBody → NeverAt → List ℕ
+never_at_text sys code bodies n =
+    codes "never "
+    ++ (code_name n.code ++ (of_task sys n.by ++ (codes " of " ++ (site_text code bodies n.site ++ codes ", "))))
 
 unfoldable pub rest_text : TaskConfig → List ℕ
 rest_text task = codes ", " ++ (name_text task.name ++ codes " may rest")
@@ -189,15 +214,15 @@ lists_text q bound =
 unfoldable pub nevers_text : SystemTables → List Never → List ℕ
 nevers_text sys nevers = flat_map (λ n. never_text sys n) nevers
 
-unfoldable pub nevers_at_text : List BodyTables → List TextBody → List NeverAt → List ℕ
-nevers_at_text code bodies nevers = flat_map (λ n. never_at_text code bodies n) nevers
+unfoldable pub nevers_at_text : SystemTables → List BodyTables → List TextBody → List NeverAt → List ℕ
+nevers_at_text sys code bodies nevers = flat_map (λ n. never_at_text sys code bodies n) nevers
 
 -- what the words ask for
 unfoldable pub asked_text : ClaimTables → List ℕ
 asked_text c =
     nevers_text c.image.system c.question.nevers.items
-    ++ (nevers_at_text c.image.code c.bodies c.question.nevers_at.items
-    ++ monitors_text c.image.system c.question.monitors.items)
+    ++ (nevers_at_text c.image.system c.image.code c.bodies c.question.nevers_at.items
+    ++ monitors_text c.configured c.question.monitors.items)
 
 -- no deadlock, and why a state is none though no task goes on
 unfoldable pub deadlock_text : SystemTables → Question → List ℕ
@@ -218,15 +243,6 @@ is_of_stuck _ = false
 abbrev pub is_stuck : Finding → Bool
 is_stuck f = is_of_stuck f.kind
 
--- what is said of stuck tasks beside a claim
-unfoldable pub stuck_note : Report → List ℕ
-stuck_note r =
-    if not r.looked
-    then codes "stuck tasks were not looked for: out of memory\n"
-    else (if list_any (λ f. is_stuck f) r.findings.items
-    then []
-    else codes "no stuck task was found (searched, not proved)\n")
-
 -- nothing is said beside findings
 abbrev pub unconfirmed_text : (found : Bool) → List ℕ
 unconfirmed_text true = []
@@ -239,11 +255,42 @@ state_word n = if nat_eq n 1 then codes " state (--states)\n" else codes " state
 unfoldable pub second_word : ℕ → List ℕ
 second_word n = if nat_eq n 1 then codes " second (--time)\n" else codes " seconds (--time)\n"
 
+unfoldable pub states_limit : ℕ → List ℕ
+states_limit n = decimal n ++ state_word n
+
+unfoldable pub seconds_limit : ℕ → List ℕ
+seconds_limit n = decimal n ++ second_word n
+
+-- the limit at which a search for a question stopped
+unfoldable pub limit_text : Question → SearchLimit → List ℕ
+limit_text q limit.States = states_limit q.states
+limit_text q limit.Time = seconds_limit (unwrap_or q.seconds 0)
+limit_text q limit.Memory = codes "out of memory\n"
+
+-- the search for stuck tasks stopped at this limit
+unfoldable pub stopped_text : Question → SearchLimit → List ℕ
+stopped_text q at = codes "stuck tasks were not looked for: " ++ limit_text q at
+
+-- why stuck tasks were not looked for; nothing if they were
+unfoldable pub unlooked_text : Question → StuckSearch → List ℕ
+unlooked_text q stuck.Done = []
+unlooked_text q stuck.Skipped = codes "stuck tasks were not looked for\n"
+unlooked_text q (stuck.Stopped at) = stopped_text q at
+
+-- what is said of stuck tasks beside the claim of a search for a question
+unfoldable pub stuck_note : Question → Report → List ℕ
+stuck_note q r =
+    if not (is_done r.stuck_search)
+    then unlooked_text q r.stuck_search
+    else (if list_any (λ f. is_stuck f) r.findings.items
+    then []
+    else codes "no stuck task was found (searched, not proved)\n")
+
 unfoldable pub states_text : ℕ → List ℕ
-states_text n = codes "stopped at " ++ (decimal n ++ state_word n)
+states_text n = codes "stopped at " ++ states_limit n
 
 unfoldable pub seconds_text : ℕ → List ℕ
-seconds_text n = codes "stopped after " ++ (decimal n ++ second_word n)
+seconds_text n = codes "stopped after " ++ seconds_limit n
 
 -- how a search ended that claims nothing
 unfoldable pub end_text : Question → Ending → (found : Bool) → List ℕ
@@ -257,5 +304,5 @@ end_text q ending.Enough found = unconfirmed_text found
 unfoldable pub ending_text : ClaimTables → Report → List ℕ
 ending_text c r =
     if r.holds
-    then claim_text c ++ stuck_note r
+    then claim_text c ++ stuck_note c.question r
     else end_text c.question r.ending (nat_lt 0 (length r.findings.items))

@@ -4,7 +4,6 @@ use Rattle.std.specs.Prelude.{ℕ, ◌≡◌, List, [], ◌∷◌, ◌++◌, len
 use Rattle.std.specs.Prelude.{is_some, bytes_eq, nat_le, nat_lt}
 use Rattle.std.specs.List.{filter_map, flat_map, list_all, list_any}
 use Rattle.fmp_base.specs.declared.bodies.Fault.TheVariants.{Overflow, Division, Index}
-use Rattle.fmp_base.specs.declared.codes.Er.{Er}
 use Rattle.fmp_base.specs.declared.systems.TaskConfig.{TaskConfig}
 use Rattle.fmp_base.specs.Names.{name_text}
 use Rattle.fmp_base.specs.Systems.{SystemTables}
@@ -44,16 +43,16 @@ nevers_in words = filter_map (λ word. never_named word.now) words
 abbrev pub codes_in : Words → List CodeAt
 codes_in words = filter_map (λ word. never_at_named word.now) words
 
--- the codes of sentences about calls, and the lines of these
+-- the codes of sentences about calls, the lines of these, and whose answers are meant
 abbrev pub placed_code : PlacedNever → CodeAt
-placed_code p = record { code = p.code; line = p.at }
+placed_code p = record { code = p.code; line = p.at; by = p.by }
 
 abbrev pub placed_codes : List PlacedNever → List CodeAt
 placed_codes placed = map (λ p. placed_code p) placed
 
 -- the codes that a text of sentences says must never be answered to the calls of a line
-abbrev pub codes_of : (text : List ℕ) → List CodeAt
-codes_of text = placed_codes (placed_of text)
+abbrev pub codes_of : (configured : SystemTables) → (text : List ℕ) → List CodeAt
+codes_of configured text = placed_codes (placed_of configured text)
 
 -- whether a word says what must never happen
 abbrev pub is_never : List ℕ → Bool
@@ -126,12 +125,12 @@ marks all tasks words expected = map (λ task. is_named words task || is_resting
 abbrev pub are_called : List BodyTables → List TextBody → List CodeAt → Bool
 are_called code bodies codes = list_all (λ c. nat_lt 0 (length (calls_in c.line code bodies))) codes
 
-abbrev pub never_at : Er → CallSite → NeverAt
-never_at code site = record { code = code; site = site }
+abbrev pub never_at : CodeAt → CallSite → NeverAt
+never_at c site = record { code = c.code; site = site; by = c.by }
 
 -- a code at each call of its line
 unfoldable pub nevers_at_of : List BodyTables → List TextBody → CodeAt → List NeverAt
-nevers_at_of code bodies c = map (λ s. never_at c.code s) (calls_in c.line code bodies)
+nevers_at_of code bodies c = map (λ s. never_at c s) (calls_in c.line code bodies)
 
 -- each of these codes, at each call of its line
 abbrev pub nevers_at_in : List BodyTables → List TextBody → List CodeAt → List NeverAt
@@ -187,8 +186,8 @@ pub record IsQuestionOf (a : ExploreWords) (text : List ℕ) (configured system 
   pub expected : List Expected
   pub says : unplaced_of configured text ≡ Ok expected
   pub lasting : has_end expected ≡ false
-  pub called : are_called code bodies (codes_of text) ≡ true
-  pub asks : IsQuestionWith a expected (codes_of text) system code bodies q
+  pub called : are_called code bodies (codes_of configured text) ≡ true
+  pub asks : IsQuestionWith a expected (codes_of configured text) system code bodies q
 
 -- the words of a command name tasks, and lines with calls
 abbrev pub AreKnown : ExploreWords → SystemTables → List BodyTables → List TextBody → Type 0
@@ -213,7 +212,7 @@ IsAsked a text configured system code bodies (Err (mistake.Sentence line flaw)) 
 IsAsked a text configured system code bodies (Err mistake.End) =
     AreKnown a system code bodies × ((expected : List Expected) × EndIsAsked configured text expected)
 IsAsked a text configured system code bodies (Err mistake.Place) =
-    AreKnown a system code bodies × (are_called code bodies (codes_of text) ≡ false)
+    AreKnown a system code bodies × (are_called code bodies (codes_of configured text) ≡ false)
 IsAsked a text configured system code bodies (Err mistake.Never) = ⊥
 IsAsked a text configured system code bodies (Err mistake.Alone) = ⊥
 IsAsked a text configured system code bodies (Err mistake.Count) = ⊥

@@ -11,7 +11,7 @@ use Rattle.fmp_witness.specs.declared.finding.Finding.{Finding}
 use Rattle.fmp_searching.specs.Claims.{ClaimTables, claim_text, end_text, status_of}
 use Rattle.fmp_searching.specs.Unsaid.{has_unsaid}
 use Rattle.fmp_searching.specs.declared.records.FoundRecord.{FoundRecord}
-use Rattle.fmp_searching.specs.declared.records.RecordPlace.{RecordPlace}
+use Rattle.fmp_searching.specs.declared.records.RecordPosition.{RecordPosition}
 use Rattle.fmp_searching.specs.declared.seen.SeenKind.{SeenKind}
 use Rattle.fmp_searching.specs.declared.seen.SeenKind.TheVariants as kind
 
@@ -19,9 +19,9 @@ use Rattle.fmp_searching.specs.declared.seen.SeenKind.TheVariants as kind
 abbrev pub kind_word : SeenKind → List ℕ
 kind_word kind.Never = codes "never"
 kind_word kind.Fault = codes "fault"
-kind_word (kind.Alone place) = codes "alone"
-kind_word (kind.Sentence place) = codes "sentence"
-kind_word (kind.Placed place) = codes "sentence"
+kind_word (kind.Alone position) = codes "alone"
+kind_word (kind.Sentence position) = codes "sentence"
+kind_word (kind.Placed position) = codes "sentence"
 kind_word kind.Deadlock = codes "deadlock"
 kind_word kind.Endless = codes "endless"
 kind_word kind.Stuck = codes "stuck"
@@ -32,9 +32,9 @@ number_or_none name None = []
 number_or_none name (Some n) = number_member name n
 
 -- where a call stands in the text of the bodies
-abbrev pub place_members : Option RecordPlace → List Token
-place_members None = []
-place_members (Some p) = number_or_none (codes "line") p.line ++ number_or_none (codes "column") p.column
+abbrev pub position_members : Option RecordPosition → List Token
+position_members None = []
+position_members (Some p) = number_or_none (codes "line") p.line ++ number_or_none (codes "column") p.column
 
 -- the number of a finding, what it breaks and, of a sentence, the line of that
 abbrev pub kind_members : FoundRecord → List Token
@@ -51,7 +51,7 @@ seen_members f =
 
 -- a finding
 abbrev pub found_record : FoundRecord → List ℕ
-found_record f = object_line (kind_members f ++ (place_members f.place ++ seen_members f))
+found_record f = object_line (kind_members f ++ (position_members f.position ++ seen_members f))
 
 -- a line for each finding, in order
 pub record AreFoundRecords (findings : List Finding) (text : List ℕ) : Type 0 where

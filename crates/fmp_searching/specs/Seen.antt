@@ -1,7 +1,6 @@
 -- What findings break.
-use Rattle.std.specs.Prelude.{ℕ, ◌≡◌, ◌==◌, Bool, true, false, ◌||◌, List, map, nat_lt, Option, Some, None}
-use Rattle.std.specs.Prelude.{if◌then◌else◌}
-use Rattle.std.specs.List.{list_all}
+use Rattle.std.specs.Prelude.{ℕ, ◌≡◌, ◌==◌, Bool, true, false, ◌||◌, List, map, nat_lt, if◌then◌else◌}
+use Rattle.std.specs.List.{list_all, list_any}
 use Rattle.fmp_witness.specs.declared.finding.Finding.{Finding}
 use Rattle.fmp_witness.specs.declared.finding.FindingKind.{FindingKind}
 use Rattle.fmp_witness.specs.declared.finding.FindingKind.TheVariants as finding
@@ -20,14 +19,14 @@ is_same kind.Endless kind.Endless = true
 is_same kind.Stuck kind.Stuck = true
 is_same a b = false
 
--- the sentence about calls at a place, if there is one, is this
-abbrev pub is_placed : SeenKind → Option ℕ → Bool
-is_placed (kind.Placed p) (Some other) = p == other
-is_placed k other = false
+-- the sentence about calls at a place is one of these
+abbrev pub is_placed : SeenKind → (broken : List ℕ) → Bool
+is_placed (kind.Placed p) broken = list_any (λ other. p == other) broken
+is_placed k broken = false
 
--- what is asked is broken, as what a finding breaks, or as the sentence about calls that it breaks too
+-- what is asked is broken, as what a finding breaks, or as one of the sentences about calls that it breaks
 abbrev pub is_broken : (asked : SeenKind) → Seen → Bool
-is_broken asked s = is_same asked s.kind || is_placed asked s.placed
+is_broken asked s = is_same asked s.kind || is_placed asked s.placed.items
 
 -- what is broken where the sentence at a place is, of which the first are those of sections
 abbrev pub kind_at : (sections place : ℕ) → SeenKind

@@ -1,6 +1,7 @@
 -- Sentences, as a claim writes them.
 use Rattle.std.specs.Prelude.{ℕ, ℤ, List, [], ◌++◌, Bool, true, false, Option, Some, None, option_map}
-use Rattle.std.specs.Prelude.{length, slice_get, ◌+◌, codes, decimal, drop, nat_lt, if◌then◌else◌}
+use Rattle.std.specs.Prelude.{length, slice_get, ◌+◌, codes, decimal, drop, find, nat_eq, nat_lt, option_and_then}
+use Rattle.std.specs.Prelude.{if◌then◌else◌}
 use Rattle.std.specs.Fmt.{signed_decimal}
 use Rattle.std.specs.List.{flat_map}
 use Rattle.fmp_base.specs.Codes.{code_name}
@@ -8,6 +9,9 @@ use Rattle.fmp_base.specs.Names.{name_text}
 use Rattle.fmp_base.specs.Systems.{SystemTables}
 use Rattle.fmp_base.specs.Texts.{fault_text, task_name, word_text}
 use Rattle.fmp_base.specs.declared.names.Name.{Name}
+use Rattle.fmp_base.specs.declared.systems.Entry.{Entry}
+use Rattle.fmp_base.specs.declared.systems.Entry.TheVariants as entry
+use Rattle.fmp_expect.specs.Parts.{interrupt_named}
 use Rattle.fmp_monitors.specs.declared.condition.Condition.{Condition}
 use Rattle.fmp_monitors.specs.declared.condition.ConditionTest.{ConditionTest}
 use Rattle.fmp_monitors.specs.declared.condition.Measure.{Measure}
@@ -60,8 +64,27 @@ unfoldable pub response_text : SystemTables → ExpectedResponse → List ℕ
 response_text sys (response.Runs who) = actor_text sys who ++ codes " runs"
 response_text sys (response.Happens h) = happening_text sys h
 
+-- the name of the body of the handler of interrupt n, where a configuration names it
+abbrev pub name_of : Entry → Option Name
+name_of (entry.Named name) = Some name
+name_of (entry.Body k) = None
+
+abbrev pub handler_name : SystemTables → (n : ℕ) → Option Name
+handler_name sys n = option_and_then (λ x. name_of x.entry) (find (λ x. nat_eq x.number n) sys.interrupts)
+
+-- a number is this one
+abbrev pub is_number : Option ℕ → (n : ℕ) → Bool
+is_number None n = false
+is_number (Some m) n = nat_eq m n
+
+-- interrupt n by this name, if a sentence that has the name speaks of just this interrupt; else by its number
+abbrev pub interrupt_by : SystemTables → (n : ℕ) → Option Name → List ℕ
+interrupt_by sys n None = decimal n
+interrupt_by sys n (Some name) =
+    if is_number (interrupt_named sys (name_text name)) n then name_text name else decimal n
+
 unfoldable pub trigger_text : SystemTables → ExpectedTrigger → List ℕ
-trigger_text sys (trigger.Interrupt i) = codes "int " ++ decimal (i + 1)
+trigger_text sys (trigger.Interrupt i) = codes "int " ++ interrupt_by sys (i + 1) (handler_name sys (i + 1))
 trigger_text sys (trigger.Happens h) = happening_text sys h
 
 unfoldable pub until_text : SystemTables → Option Happening → List ℕ

@@ -85,12 +85,12 @@ abbrev pub site : (body pc : ℕ) → CallSite
 site body pc = record { body = body; pc = pc }
 
 -- the places of the calls among instructions, of which the first stands at a place
-abbrev pub call_places : (pc : ℕ) → List Instruction → List ℕ
-call_places pc [] = []
-call_places pc (i ∷ is) = if is_call i then pc ∷ call_places (pc + 1) is else call_places (pc + 1) is
+abbrev pub call_positions : (pc : ℕ) → List Instruction → List ℕ
+call_positions pc [] = []
+call_positions pc (i ∷ is) = if is_call i then pc ∷ call_positions (pc + 1) is else call_positions (pc + 1) is
 
 -- of the calls of a body those that stand in a line: the calls are at these places, and stand in these lines, in order
-abbrev pub sites_at : (body line : ℕ) → (places lines : List ℕ) → List CallSite
+abbrev pub sites_at : (body line : ℕ) → (positions lines : List ℕ) → List CallSite
 sites_at body line [] lines = []
 sites_at body line (pc ∷ pcs) [] = []
 sites_at body line (pc ∷ pcs) (l ∷ ls) =
@@ -98,7 +98,7 @@ sites_at body line (pc ∷ pcs) (l ∷ ls) =
 
 -- the same of a body with this code and these lines of calls, if there is one
 abbrev pub sites_by : (body line : ℕ) → Option (List Instruction) → Option (List ℕ) → List CallSite
-sites_by body line (Some code) (Some lines) = sites_at body line (call_places 0 code) lines
+sites_by body line (Some code) (Some lines) = sites_at body line (call_positions 0 code) lines
 sites_by body line (Some code) None = []
 sites_by body line None lines = []
 

@@ -8,6 +8,7 @@ use Rattle.fmp_json.specs.declared.junit.TestSuite.{TestSuite}
 use Rattle.fmp_json.specs.Junit.{is_error, is_failure, report_text}
 use Rattle.fmp_question.specs.declared.question.Question.{Question}
 use Rattle.fmp_schedules.specs.declared.monitor.Monitor.{Monitor}
+use Rattle.fmp_searching.specs.Claims.{is_done}
 use Rattle.fmp_searching.specs.Seen.{AreSeen, is_broken}
 use Rattle.fmp_searching.specs.Unsaid.{is_unsaid, is_whole}
 use Rattle.fmp_searching.specs.declared.seen.Seen.{Seen}
@@ -24,7 +25,7 @@ first_of asked place (s ∷ seen) = if is_broken asked s then Some place else fi
 
 -- the search is over with what is asked: stuck tasks were looked for, or every state was examined
 abbrev pub is_over : SeenKind → Report → Bool
-is_over kind.Stuck r = r.looked
+is_over kind.Stuck r = is_done r.stuck_search
 is_over _ r = r.holds || (is_whole r.ending && nat_lt 0 (length r.findings.items))
 
 -- the sentence at a place says nothing

@@ -8,9 +8,7 @@ use Rattle.std.specs.Option.{option_or}
 use Rattle.std.specs.Str.{all_ascii_digits}
 use Rattle.std.specs.Str.Parse.{digits_value, signed_digits_value, without_leading_plus, without_leading_sign}
 use Rattle.fmp_base.specs.Codes.{code_name}
-use Rattle.fmp_base.specs.Texts.{fault_text}
-use Rattle.fmp_base.specs.declared.bodies.Fault.{Fault}
-use Rattle.fmp_base.specs.declared.bodies.Fault.TheVariants.{Overflow, Division, Index}
+use Rattle.fmp_base.specs.Texts.{fault_named}
 use Rattle.fmp_base.specs.declared.codes.Er.{Er}
 use Rattle.fmp_searching.specs.declared.words.CodeAt.{CodeAt}
 use Rattle.fmp_searching.specs.declared.words.Section.{Section}
@@ -57,10 +55,6 @@ number_named text =
 unfoldable pub value_put : List ℕ → Option ℤ
 value_put word = option_and_then value_named (option_and_then (before (codes ")")) (after (codes "put(") word))
 
--- the fault that a word names
-unfoldable pub fault_named : List ℕ → Option Fault
-fault_named word = find (λ fault. bytes_eq (fault_text fault) word) (Overflow ∷ Division ∷ Index ∷ [])
-
 -- the code that a word names, of those that calls answer
 unfoldable pub code_named : List ℕ → Option Er
 code_named word = find (λ code. bytes_eq (code_name code) word) ANSWERS
@@ -75,11 +69,11 @@ never_named word =
     (option_map (λ code. never.Answer code) (code_named word)))
 
 abbrev pub code_at : Option Er → Option ℕ → Option CodeAt
-code_at (Some code) (Some line) = Some (record { code = code; line = line })
+code_at (Some code) (Some line) = Some (record { code = code; line = line; by = None })
 code_at (Some code) None = None
 code_at None line = None
 
--- the code that must never be answered to the calls of a line, by a word `E_TMOUT:12`
+-- the code that must never be answered to the calls of a line, whoever gets it, by a word `E_TMOUT:12`
 unfoldable pub never_at_named : List ℕ → Option CodeAt
 never_at_named word = option_and_then (λ parts. code_at (code_named parts.0) (number_named parts.1)) (parts_at 58 word)
 

@@ -6,7 +6,7 @@ ghost use Rattle.fmp_searching.specs.Answers as spec;
 use fmp_base::Er;
 use fmp_code::Code;
 use fmp_explore::Coverage;
-use fmp_frames::{CallPlace, CallPlaces};
+use fmp_frames::{CallPosition, CallPositions};
 use itoa::Buffer;
 use std::alloc::{AllocError, Global};
 
@@ -26,12 +26,12 @@ pub struct Answered {
 pub fn answered_calls(
     alloc: Global,
     code: &Code,
-    places: &CallPlaces,
+    positions: &CallPositions,
     coverage: &Coverage,
 ) -> Result<Vec<Answered>, AllocError> {
     let mut calls = Vec::new(alloc);
     for site in &coverage.made(alloc, code)? {
-        if let Some(CallPlace { line, column }) = places.place(code, site.body, site.pc) {
+        if let Some(CallPosition { line, column }) = positions.position(code, site.body, site.pc) {
             let answers = coverage.answers(alloc, *site)?;
             calls.push(Answered {
                 line,
@@ -87,9 +87,9 @@ fn append_number(number: u64, out: &mut Vec<u8>) -> Result<(), AllocError>
 }
 
 /// Appends where a call stands in a file.
-#[tactic(auto, unfolding(crate::specs::Answers::place_text))]
-fn append_place(src: &[u8], call: &Answered, out: &mut Vec<u8>) -> Result<(), AllocError>
-    ensures { OnOk result (out.new.items ≡ out.old.items ++ spec.place_text src.now call.now) }
+#[tactic(auto, unfolding(crate::specs::Answers::position_text))]
+fn append_position(src: &[u8], call: &Answered, out: &mut Vec<u8>) -> Result<(), AllocError>
+    ensures { OnOk result (out.new.items ≡ out.old.items ++ spec.position_text src.now call.now) }
 {
     append(src, out)?;
     append_number(u64::from(call.line), out)?;
@@ -102,7 +102,7 @@ fn append_answered(src: &[u8], call: &Answered, out: &mut Vec<u8>) -> Result<(),
     ensures { OnOk result (out.new.items ≡ out.old.items ++ spec.answered_text src.now call.now) }
 {
     append(b"answers at ", out)?;
-    append_place(src, call, out)?;
+    append_position(src, call, out)?;
     append(b":", out)?;
     append_names(&call.answers, out)?;
     append(b"\n", out)

@@ -404,7 +404,7 @@ fn called_question(
     requires wanted { IsWanted wanted.now.asked (Ok wanted.now) }
     requires says { unplaced_of (tables_of configured.now) text.now ≡ Ok expected.now }
     requires lasting { spec.has_end expected.now ≡ false }
-    requires codes { codes.now ≡ spec.codes_of text.now }
+    requires codes { codes.now ≡ spec.codes_of (tables_of configured.now) text.now }
     requires called { spec.are_called image.now.code lines.now codes.now ≡ true }
     ensures { IfOk result (λ q. IsQuestionOf wanted.now.asked text.now (tables_of configured.now) image.now.system
         image.now.code lines.now q) }
@@ -431,7 +431,7 @@ fn placed_question(
     ensures { IfOk result (λ q. IsAsked wanted.now.asked text.now (tables_of configured.now) image.now.system
         image.now.code lines.now q) }
 {
-    let codes = codes_of(alloc, text)?;
+    let codes = codes_of(alloc, configured, text)?;
     if !are_called_in(alloc, image, lines, &codes)? {
         return Ok(Err(CommandMistake::Place));
     }

@@ -1,12 +1,13 @@
 //! What must never be answered to the calls of a line.
 ghost use Rattle.std.specs.Prelude.{◌≡◌, ◌++◌, IfOk, OnOk, map};
+ghost use Rattle.fmp_base.specs.Systems.{tables_of};
 ghost use Rattle.fmp_instructions.specs.Instructions.{code_tables};
 ghost use Rattle.fmp_searching.specs.Questions as spec;
 ghost use Rattle.fmp_searching.specs.Sites.{HasSites};
 
 use crate::sites::CallLines;
 use crate::words::CodeAt;
-use fmp_base::Er;
+use fmp_base::System;
 use fmp_code::Code;
 use fmp_expect::{PlacedNever, read_placed};
 use fmp_explore::{CallSite, NeverAt};
@@ -44,12 +45,27 @@ pub fn are_called_in(
     are_called(alloc, image.code(), lines, codes)
 }
 
+/// That a code must never be answered at a call.
+fn never_at(at: CodeAt, site: CallSite) -> NeverAt
+    ensures { result ≡ spec.never_at at site }
+{
+    NeverAt {
+        code: at.code,
+        site,
+        by: at.by,
+    }
+}
+
 /// Adds that a code must never be answered at these calls.
-fn add_nevers_at(code: Er, sites: &[CallSite], nevers: &mut Vec<NeverAt>) -> Result<(), AllocError>
-    ensures { OnOk result (nevers.new.items ≡ nevers.old.items ++ map (λ s. spec.never_at code s) sites.now) }
+fn add_nevers_at(
+    at: CodeAt,
+    sites: &[CallSite],
+    nevers: &mut Vec<NeverAt>,
+) -> Result<(), AllocError>
+    ensures { OnOk result (nevers.new.items ≡ nevers.old.items ++ map (λ s. spec.never_at at s) sites.now) }
 {
     for site in sites {
-        nevers.push(NeverAt { code, site: *site })?;
+        nevers.push(never_at(at, *site))?;
     }
     Ok(())
 }
@@ -67,7 +83,7 @@ fn add_code(
         ≡ nevers.old.items ++ spec.nevers_at_of (code_tables code.now) lines.now at) }
 {
     let sites = lines.calls(alloc, code, at.line)?;
-    add_nevers_at(at.code, &sites, nevers)
+    add_nevers_at(at, &sites, nevers)
 }
 
 /// Each of these codes, at each call of its line.
@@ -101,13 +117,14 @@ pub fn nevers_at_of(
     nevers_at_in(alloc, image.code(), lines, codes)
 }
 
-/// The code of a sentence, and the line of its calls.
+/// The code of a sentence, the line of its calls, and whose answers are meant.
 fn code_at(never: PlacedNever) -> CodeAt
     ensures { result ≡ spec.placed_code never }
 {
     CodeAt {
         code: never.code,
         line: never.at,
+        by: never.by,
     }
 }
 
@@ -123,10 +140,10 @@ fn placed_codes(alloc: Global, placed: &[PlacedNever]) -> Result<Vec<CodeAt>, Al
 }
 
 /// What a text of sentences says of calls: the codes, and the lines of these. `AllocError` if memory runs out.
-pub fn codes_of(alloc: Global, text: &[u8]) -> Result<Vec<CodeAt>, AllocError>
-    ensures { IfOk result (λ codes. codes.items ≡ spec.codes_of text.now) }
+pub fn codes_of(alloc: Global, configured: &System, text: &[u8]) -> Result<Vec<CodeAt>, AllocError>
+    ensures { IfOk result (λ codes. codes.items ≡ spec.codes_of (tables_of configured.now) text.now) }
 {
-    let placed = read_placed(alloc, text)?;
+    let placed = read_placed(alloc, configured, text)?;
     placed_codes(alloc, &placed)
 }
 

@@ -107,20 +107,35 @@ fn append_call(
     append_number(u64::from(site.body), out)
 }
 
+/// Appends whose answers are meant, if that matters.
+fn append_of_task(sys: &System, by: Option<usize>, out: &mut Vec<u8>) -> Result<(), AllocError>
+    ensures { OnOk result (out.new.items ≡ out.old.items ++ spec.of_task (tables_of sys.now) by) }
+{
+    match by {
+        Some(task) => {
+            append(b" by ", out)?;
+            append_task(sys, task, out)
+        }
+        None => Ok(()),
+    }
+}
+
 /// Appends an answer that must never be given to a call.
 #[tactic(auto, unfolding(crate::specs::Claims::never_at_text))]
 pub(crate) fn append_never_at(
+    sys: &System,
     code: &Code,
     lines: &CallLines,
     never: NeverAt,
     out: &mut Vec<u8>,
 ) -> Result<(), AllocError>
     ensures { OnOk result (out.new.items
-        ≡ out.old.items ++ spec.never_at_text (code_tables code.now) lines.now never) }
+        ≡ out.old.items ++ spec.never_at_text (tables_of sys.now) (code_tables code.now) lines.now never) }
 {
     let (service, line) = (service_at(code, never.site), lines.line(code, never.site));
     append(b"never ", out)?;
     append(never.code.name().as_bytes(), out)?;
+    append_of_task(sys, never.by, out)?;
     append(b" of ", out)?;
     append_call(never.site, service, line, out)?;
     append(b", ", out)
@@ -129,16 +144,17 @@ pub(crate) fn append_never_at(
 /// Appends the answers that must never be given to calls.
 #[tactic(auto, unfolding(crate::specs::Claims::nevers_at_text))]
 fn append_nevers_at(
+    sys: &System,
     code: &Code,
     lines: &CallLines,
     nevers: &[NeverAt],
     out: &mut Vec<u8>,
 ) -> Result<(), AllocError>
     ensures { OnOk result (out.new.items
-        ≡ out.old.items ++ spec.nevers_at_text (code_tables code.now) lines.now nevers.now) }
+        ≡ out.old.items ++ spec.nevers_at_text (tables_of sys.now) (code_tables code.now) lines.now nevers.now) }
 {
     for never in nevers {
-        append_never_at(code, lines, *never, out)?;
+        append_never_at(sys, code, lines, *never, out)?;
     }
     Ok(())
 }
@@ -289,8 +305,14 @@ fn append_asked(alloc: Global, claim: &Claim<'_>, out: &mut Vec<u8>) -> Result<(
 {
     let (sys, question) = (claim.image.system(), claim.question);
     append_nevers(sys, &question.nevers, out)?;
-    append_nevers_at(claim.image.code(), claim.lines, &question.nevers_at, out)?;
-    append_monitors(alloc, sys, &question.monitors, out)
+    append_nevers_at(
+        sys,
+        claim.image.code(),
+        claim.lines,
+        &question.nevers_at,
+        out,
+    )?;
+    append_monitors(alloc, claim.configured, &question.monitors, out)
 }
 
 /// Appends that there is no deadlock, and why a state is none though no task goes on.

@@ -3,7 +3,7 @@ ghost use Rattle.std.specs.Prelude.{◌≡◌, []};
 
 use crate::answers::{Answered, answered_calls};
 use crate::covering::{is_varied, most_values};
-use crate::records::{call_place, write_number, write_place};
+use crate::records::{call_position, write_number, write_position};
 use crate::refused::refused_in;
 use crate::sentences::append_sentence;
 use crate::sources::ExploredSources;
@@ -35,7 +35,7 @@ fn append_unmade(
 ) -> Result<(), AllocError> {
     let mut writer = begin(alloc)?;
     text_member(&mut writer, "what", "never_made")?;
-    write_place(&mut writer, Some(call_place(sources, site)))?;
+    write_position(&mut writer, Some(call_position(sources, site)))?;
     append_finished(writer, out)
 }
 
@@ -70,7 +70,12 @@ fn append_answers(
     if !sources.named.answers {
         return Ok(());
     }
-    let calls = answered_calls(alloc, sources.claim.image.code(), sources.places, coverage)?;
+    let calls = answered_calls(
+        alloc,
+        sources.claim.image.code(),
+        sources.positions,
+        coverage,
+    )?;
     for call in &calls {
         append_answered(alloc, out, call)?;
     }
@@ -87,8 +92,10 @@ fn append_all_refused(
     let file = sources.named.src.as_bytes();
     let code = sources.claim.image.code();
     for call in &refused_in(alloc, sources.claim.image, coverage)? {
-        let place = sources.places.place(code, call.site.body, call.site.pc);
-        append_refused(alloc, LineForm::Record, file, place, call, out)?;
+        let position = sources
+            .positions
+            .position(code, call.site.body, call.site.pc);
+        append_refused(alloc, LineForm::Record, file, position, call, out)?;
     }
     Ok(())
 }
@@ -188,7 +195,7 @@ fn append_unsaid(
     place: usize,
     sentence: &Sentence,
 ) -> Result<(), AllocError> {
-    let text = sentence_text(alloc, sources.claim.image.system(), sentence)?;
+    let text = sentence_text(alloc, sources.claim.configured, sentence)?;
     let mut writer = begin(alloc)?;
     text_member(&mut writer, "what", "never_happens")?;
     write_number(&mut writer, "sentence", sources.sentences.line(place))?;
@@ -206,12 +213,12 @@ fn append_all_unsaid(
     if !is_whole(report.ending) {
         return Ok(());
     }
-    for (place, monitor) in sources.claim.question.monitors.iter().enumerate() {
+    for (position, monitor) in sources.claim.question.monitors.iter().enumerate() {
         if let MonitorSubject::Sentence(sentence) = &monitor.subject
-            && report.premises.get(place) == Some(&false)
+            && report.premises.get(position) == Some(&false)
             && has_premise(sentence)
         {
-            append_unsaid(alloc, out, sources, place, sentence)?;
+            append_unsaid(alloc, out, sources, position, sentence)?;
         }
     }
     Ok(())

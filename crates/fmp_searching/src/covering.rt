@@ -46,7 +46,12 @@ fn say_answers(
     if !sources.named.answers {
         return Ok(());
     }
-    let calls = answered_calls(alloc, sources.claim.image.code(), sources.places, coverage)?;
+    let calls = answered_calls(
+        alloc,
+        sources.claim.image.code(),
+        sources.positions,
+        coverage,
+    )?;
     append_answers(sources.named.src.as_bytes(), &calls, out)
 }
 

@@ -12,7 +12,7 @@ use crate::suggesting::{said_of_never, said_of_task};
 use crate::words::{never_at_named, never_named, section_named};
 use clap::{ArgMatches, Error};
 use fmp_arguments::{bound_of, byte_of, flag_of, text_of, word_of, word32_of, words_of};
-use fmp_base::TaskConfig;
+use fmp_base::{System, TaskConfig};
 use fmp_expect::read_placed;
 use fmp_explore::Ticks;
 use fmp_files::mistake_of;
@@ -233,12 +233,13 @@ fn said_of_mistake(
 /// What is said of a text of sentences of which one is about calls in a line in which none stands.
 fn said_of_places(
     alloc: Global,
+    configured: &System,
     text: &[u8],
     image: &Image,
     lines: &CallLines,
 ) -> Result<String, AllocError> {
     image.keeps_rules();
-    for never in &read_placed(alloc, text)? {
+    for never in &read_placed(alloc, configured, text)? {
         let (line, at) = (never.line, never.at);
         if lines.calls(alloc, image.code(), at)?.is_empty() {
             return format!(in alloc;
@@ -254,6 +255,7 @@ fn said_of_places(
 fn said_of_image(
     alloc: Global,
     (asked, text): (&ExploreWords<'_>, &[u8]),
+    configured: &System,
     (image, lines): (&Image, &CallLines),
     mistake: CommandMistake,
 ) -> Result<String, AllocError> {
@@ -261,7 +263,7 @@ fn said_of_image(
     match mistake {
         CommandMistake::Rest => said_of_task(alloc, NO_TASK, wrong_task(asked.rest, tasks), tasks),
         CommandMistake::Call => said_of_calls(alloc, asked.nevers, image, lines),
-        CommandMistake::Place => said_of_places(alloc, text, image, lines),
+        CommandMistake::Place => said_of_places(alloc, configured, text, image, lines),
         mistake => said_of_mistake(alloc, asked, mistake),
     }
 }
@@ -276,15 +278,16 @@ pub fn no_question(
     wrong_words(alloc, &why)
 }
 
-/// The error for words, and a text of sentences, that ask for no question about an image, whose bodies' calls stand in
-/// these lines. It has the status 2.
+/// The error for words, and a text of sentences about what is configured, that ask for no question about an image,
+/// whose bodies' calls stand in these lines. It has the status 2.
 pub fn no_question_of(
     alloc: Global,
     asked: (&ExploreWords<'_>, &[u8]),
+    configured: &System,
     of: (&Image, &CallLines),
     mistake: CommandMistake,
 ) -> Result<Error, AllocError> {
-    let why = said_of_image(alloc, asked, of, mistake)?;
+    let why = said_of_image(alloc, asked, configured, of, mistake)?;
     wrong_words(alloc, &why)
 }
 

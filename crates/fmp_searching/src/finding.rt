@@ -1,6 +1,6 @@
 //! What is printed of a finding: the call to which it belongs, what is seen after its steps, and where they are.
 use crate::seen::{Seen, seen_of};
-use crate::sources::{ExploredSources, say, say_made, say_place};
+use crate::sources::{ExploredSources, say, say_made, say_position};
 use fmp_explore::{CallSite, Finding, FindingKind};
 use std::alloc::{AllocError, Global};
 
@@ -25,7 +25,7 @@ fn say_site(
     site: Option<CallSite>,
 ) -> Result<(), AllocError> {
     if let Some(site) = site {
-        say_place(alloc, out, sources, line_of(sources, finding, site))?;
+        say_position(alloc, out, sources, line_of(sources, finding, site))?;
         say(out, ": ")?;
     }
     Ok(())

@@ -1,13 +1,14 @@
 //! What came of each thing that a search was asked, as a test.
-ghost use Rattle.std.specs.Prelude.{◌≡◌, IfOk, map, slice_get};
+ghost use Rattle.std.specs.Prelude.{◌≡◌, ◌==◌, IfOk, map, slice_get};
+ghost use Rattle.std.specs.List.{list_any};
 ghost use Rattle.fmp_json.specs.Junit.{is_error, is_failure};
 ghost use Rattle.fmp_searching.specs.Seen.{is_broken, is_placed, is_same};
 ghost use Rattle.fmp_searching.specs.Tests as spec;
 
 use crate::end_records::without_feed;
-use crate::ending::append_end;
+use crate::ending::{append_end, append_unlooked, is_done};
 use crate::finding::say_seen;
-use crate::records::place_of;
+use crate::records::position_of;
 use crate::seen::{Seen, SeenKind};
 use crate::sources::ExploredSources;
 use crate::unsaid::{is_unsaid, is_whole};
@@ -76,12 +77,24 @@ fn is_same(one: SeenKind, other: SeenKind) -> bool
     }
 }
 
-/// Whether the sentence about calls at a place, if there is one, is this.
-fn is_placed(asked: SeenKind, placed: Option<usize>) -> bool
-    ensures { result ≡ is_placed asked placed }
+/// Whether a place is one of these.
+fn is_among(place: usize, places: &[usize]) -> bool
+    ensures { result ≡ list_any (λ other. place == other) places.now }
 {
-    match (asked, placed) {
-        (SeenKind::Placed(place), Some(other)) => place == other,
+    for other in places {
+        if place == *other {
+            return true;
+        }
+    }
+    false
+}
+
+/// Whether one of these places is that of a sentence about calls which is asked.
+fn is_placed(asked: SeenKind, broken: &[usize]) -> bool
+    ensures { result ≡ is_placed asked broken.now }
+{
+    match asked {
+        SeenKind::Placed(place) => is_among(place, broken),
         _ => false,
     }
 }
@@ -90,7 +103,7 @@ fn is_placed(asked: SeenKind, placed: Option<usize>) -> bool
 fn is_broken(asked: SeenKind, seen: &Seen) -> bool
     ensures { result ≡ is_broken asked seen.now }
 {
-    is_same(asked, seen.kind) || is_placed(asked, seen.placed)
+    is_same(asked, seen.kind) || is_placed(asked, &seen.placed)
 }
 
 /// The first finding that breaks what is asked.
@@ -111,7 +124,7 @@ fn is_over(asked: SeenKind, report: &Report) -> bool
     ensures { result ≡ spec.is_over asked report.now }
 {
     match asked {
-        SeenKind::Stuck => report.looked,
+        SeenKind::Stuck => is_done(report.stuck_search),
         _ => report.holds || (is_whole(report.ending) && !report.findings.is_empty()),
     }
 }
@@ -181,6 +194,17 @@ fn broken_message(
     String::from_utf8_lossy(alloc, &text)
 }
 
+/// Why stuck tasks were not looked for after a search in which every state was examined.
+fn unlooked_message(
+    alloc: Global,
+    question: &Question,
+    report: &Report,
+) -> Result<String, AllocError> {
+    let mut text = Vec::new(alloc);
+    append_unlooked(question, report.stuck_search, &mut text)?;
+    String::from_utf8_lossy(alloc, &without_feed(text))
+}
+
 /// Why the search is not over with what is asked.
 fn unknown_message(
     alloc: Global,
@@ -189,9 +213,7 @@ fn unknown_message(
     report: &Report,
 ) -> Result<String, AllocError> {
     match (asked, report.ending) {
-        (SeenKind::Stuck, Ending::Whole) => {
-            String::from_str(alloc, "stuck tasks were not looked for")
-        }
+        (SeenKind::Stuck, Ending::Whole) => unlooked_message(alloc, question, report),
         (_, Ending::Enough) => {
             String::from_str(alloc, "not known: the search ended at its first finding")
         }
@@ -247,7 +269,7 @@ fn broken_line(
     if let TestOutcome::Broken(place) = outcome
         && let Some(seen) = searched.seen.get(place)
         && let Some(site) = seen.site
-        && let Some(line) = place_of(sources, seen.kind, site).line
+        && let Some(line) = position_of(sources, seen.kind, site).line
     {
         return usize::try_from(line).unwrap_or(1);
     }

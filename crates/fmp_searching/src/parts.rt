@@ -30,7 +30,13 @@ pub fn add_nevers(
     }
     for never in claim.question.nevers_at.iter().take(at_calls) {
         let mut part = Vec::new(alloc);
-        append_never_at(claim.image.code(), claim.lines, *never, &mut part)?;
+        append_never_at(
+            claim.image.system(),
+            claim.image.code(),
+            claim.lines,
+            *never,
+            &mut part,
+        )?;
         add_part(parts, part)?;
     }
     Ok(())
@@ -84,7 +90,7 @@ pub fn parts_of(alloc: Global, claim: &Claim<'_>) -> Result<Vec<Vec<u8>>, AllocE
     let (sys, question) = (claim.image.system(), claim.question);
     let mut parts = Vec::new(alloc);
     add_nevers(alloc, claim, question.nevers_at.len(), &mut parts)?;
-    add_monitors(alloc, sys, &question.monitors, &mut parts)?;
+    add_monitors(alloc, claim.configured, &question.monitors, &mut parts)?;
     parts.push(deadlock_part(alloc, sys, question)?)?;
     add_faults(alloc, question, &mut parts)?;
     Ok(parts)

@@ -1,49 +1,90 @@
-//! Which sentence of a file about calls a finding breaks.
+//! Which sentences of a file about calls a finding breaks.
 use crate::sources::{ExploredSources, say, say_made};
-use fmp_base::{Er, Line};
+use fmp_base::{Caller, Er, Line};
 use fmp_expect::PlacedNever;
 use fmp_explore::{CallSite, Finding, FindingKind};
+use fmp_named::append_task;
 use fmp_question::first_forbidden;
 use std::alloc::{AllocError, Global};
 
-/// The place of the first sentence with the code and the line of this one.
-pub fn first_like(placed: &[PlacedNever], never: PlacedNever) -> usize {
-    let first = placed
-        .iter()
-        .position(|other| other.code == never.code && other.at == never.at);
-    first.unwrap_or(0)
+/// An answer: its code, and the place of the task that gets it, if one does.
+#[derive(Clone, Copy)]
+struct Answer {
+    code: Er,
+    task: Option<u8>,
 }
 
-/// The code that a line tells as an answer.
-fn answer_told(line: &Line) -> Option<Er> {
+/// The task that a caller is, if it is one.
+fn task_of(caller: Caller) -> Option<u8> {
+    match caller {
+        Caller::Task(task) => Some(task),
+        Caller::Handler(_) => None,
+    }
+}
+
+/// The answer that a line tells.
+fn answer_told(line: &Line) -> Option<Answer> {
     match line {
         Line::Call {
+            caller,
             reply: Some(reply),
             ..
-        } => Some(reply.code),
-        Line::Gets { reply, .. } => Some(reply.code),
+        } => Some(Answer {
+            code: reply.code,
+            task: task_of(*caller),
+        }),
+        Line::Gets { task, reply, .. } => Some(Answer {
+            code: reply.code,
+            task: Some(*task),
+        }),
         _ => None,
     }
 }
 
-/// The place of the first sentence that an answer to a call breaks.
-fn broken_at(sources: &ExploredSources<'_>, site: CallSite, code: Er) -> Option<usize> {
-    let line = sources.claim.lines.line(sources.claim.image.code(), site)?;
-    let mut placed = sources.sentences.placed.iter();
-    placed.position(|never| never.code == code && never.at == line)
+/// Whether a sentence speaks of an answer at a call of its line.
+fn speaks_of(never: &PlacedNever, answer: Answer) -> bool {
+    let is_meant = match (never.by, answer.task) {
+        (None, _) => true,
+        (Some(task), Some(other)) => task == usize::from(other),
+        (Some(_), None) => false,
+    };
+    never.code == answer.code && is_meant
 }
 
-/// The place of the first sentence that a finding breaks which left these lines.
-pub fn broken_by(
+/// The answer that a finding tells which left these lines, and the line of its call.
+fn found_answer(
     sources: &ExploredSources<'_>,
     finding: &Finding,
     lines: &[Line],
-) -> Option<usize> {
+) -> Option<(Answer, u32)> {
     let FindingKind::Line(place) = finding.kind else {
         return None;
     };
-    let code = answer_told(lines.get(place)?)?;
-    broken_at(sources, finding.site?, code)
+    let answer = answer_told(lines.get(place)?)?;
+    let line = sources
+        .claim
+        .lines
+        .line(sources.claim.image.code(), finding.site?)?;
+    Some((answer, line))
+}
+
+/// The places of the sentences that a finding breaks which left these lines. `AllocError` if memory runs out.
+pub fn broken_by(
+    alloc: Global,
+    sources: &ExploredSources<'_>,
+    finding: &Finding,
+    lines: &[Line],
+) -> Result<Vec<usize>, AllocError> {
+    let mut broken = Vec::new(alloc);
+    let Some((answer, line)) = found_answer(sources, finding, lines) else {
+        return Ok(broken);
+    };
+    for (place, never) in sources.sentences.placed.iter().enumerate() {
+        if never.at == line && speaks_of(never, answer) {
+            broken.push(place)?;
+        }
+    }
+    Ok(broken)
 }
 
 /// Whether the command line forbids an answer to a call.
@@ -65,7 +106,7 @@ pub fn is_forbidden(sources: &ExploredSources<'_>, finding: &Finding, lines: &[L
         return true;
     }
     match (finding.site, answer_told(line)) {
-        (Some(site), Some(code)) => is_code_forbidden(sources, site, code),
+        (Some(site), Some(answer)) => is_code_forbidden(sources, site, answer.code),
         _ => false,
     }
 }
@@ -83,5 +124,9 @@ pub fn say_placed(
     let (file, line, at) = (sources.sentences.file, never.line, never.at);
     say_made(out, format!(in alloc; ": {file}:{line}: never "))?;
     say(out, never.code.name())?;
+    if let Some(task) = never.by {
+        say(out, " by ")?;
+        append_task(sources.claim.image.system(), task, out)?;
+    }
     say_made(out, format!(in alloc; " at {at}"))
 }

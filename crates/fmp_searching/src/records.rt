@@ -6,14 +6,14 @@ ghost use Rattle.fmp_searching.specs.Records as spec;
 use crate::seen::{Seen, SeenKind, seen_of};
 use crate::sources::ExploredSources;
 use fmp_explore::{CallSite, Finding};
-use fmp_frames::CallPlace;
+use fmp_frames::CallPosition;
 use fmp_json::{begin, finish, number_member, text_member};
 use json::Writer;
 use std::alloc::{AllocError, Global};
 
 /// Where a call or the head of a body stands in the text of the bodies, as far as that is known.
 #[derive(Clone, Copy)]
-pub struct RecordPlace {
+pub struct RecordPosition {
     pub line: Option<u64>,
     pub column: Option<u64>,
 }
@@ -27,7 +27,7 @@ pub struct FoundRecord {
     /// The line, in its file, of the sentence that is broken, if one is.
     pub sentence: Option<u64>,
     /// The call to which it belongs, if it belongs to one.
-    pub place: Option<RecordPlace>,
+    pub position: Option<RecordPosition>,
     /// What is seen after its steps.
     pub text: String,
     /// How many steps it has.
@@ -45,14 +45,14 @@ fn head_of(sources: &ExploredSources<'_>, site: CallSite) -> Option<u64> {
 }
 
 /// Where a call stands.
-pub fn call_place(sources: &ExploredSources<'_>, site: CallSite) -> RecordPlace {
+pub fn call_position(sources: &ExploredSources<'_>, site: CallSite) -> RecordPosition {
     let code = sources.claim.image.code();
-    match sources.places.place(code, site.body, site.pc) {
-        Some(CallPlace { line, column }) => RecordPlace {
+    match sources.positions.position(code, site.body, site.pc) {
+        Some(CallPosition { line, column }) => RecordPosition {
             line: Some(u64::from(line)),
             column: Some(column as u64),
         },
-        None => RecordPlace {
+        None => RecordPosition {
             line: None,
             column: None,
         },
@@ -60,13 +60,17 @@ pub fn call_place(sources: &ExploredSources<'_>, site: CallSite) -> RecordPlace 
 }
 
 /// Where the call of a finding stands; of a body that goes on for ever its head.
-pub fn place_of(sources: &ExploredSources<'_>, kind: SeenKind, site: CallSite) -> RecordPlace {
+pub fn position_of(
+    sources: &ExploredSources<'_>,
+    kind: SeenKind,
+    site: CallSite,
+) -> RecordPosition {
     match kind {
-        SeenKind::Endless => RecordPlace {
+        SeenKind::Endless => RecordPosition {
             line: head_of(sources, site),
             column: None,
         },
-        _ => call_place(sources, site),
+        _ => call_position(sources, site),
     }
 }
 
@@ -74,14 +78,14 @@ pub fn place_of(sources: &ExploredSources<'_>, kind: SeenKind, site: CallSite) -
 fn sentence_of(sources: &ExploredSources<'_>, seen: &Seen) -> Option<u64> {
     match seen.kind {
         SeenKind::Sentence(place) => sources.sentences.line(place),
-        _ => sources.sentences.placed_line(seen.placed?),
+        _ => sources.sentences.placed_line(*seen.placed.first()?),
     }
 }
 
 /// Where the call of a finding stands, if it belongs to one.
-fn seen_place(sources: &ExploredSources<'_>, seen: &Seen) -> Option<RecordPlace> {
+fn seen_position(sources: &ExploredSources<'_>, seen: &Seen) -> Option<RecordPosition> {
     match seen.site {
-        Some(site) => Some(place_of(sources, seen.kind, site)),
+        Some(site) => Some(position_of(sources, seen.kind, site)),
         None => None,
     }
 }
@@ -101,7 +105,7 @@ fn found_of(
         number,
         kind: seen.kind,
         sentence: sentence_of(sources, &seen),
-        place: seen_place(sources, &seen),
+        position: seen_position(sources, &seen),
         text: String::from_utf8_lossy(alloc, &seen.text)?,
         steps: finding.steps.len(),
         steps_file: format!(in alloc; "{name}.{number}")?,
@@ -154,15 +158,18 @@ pub fn write_number(writer: &mut Writer, name: &str, number: Option<u64>) -> Res
 }
 
 /// Writes where a call stands, if there is one.
-pub fn write_place(writer: &mut Writer, place: Option<RecordPlace>) -> Result<(), AllocError>
+pub fn write_position(
+    writer: &mut Writer,
+    position: Option<RecordPosition>,
+) -> Result<(), AllocError>
     ensures before { writer.new.before ≡ writer.old.before }
-    ensures tokens { OnOk result (writer.new.tokens ≡ writer.old.tokens ++ spec.place_members place) }
+    ensures tokens { OnOk result (writer.new.tokens ≡ writer.old.tokens ++ spec.position_members position) }
 {
-    let Some(place) = place else {
+    let Some(position) = position else {
         return Ok(());
     };
-    write_number(writer, "line", place.line)?;
-    write_number(writer, "column", place.column)
+    write_number(writer, "line", position.line)?;
+    write_number(writer, "column", position.column)
 }
 
 /// Writes what a finding breaks.
@@ -192,7 +199,7 @@ fn found_record(alloc: Global, found: &FoundRecord) -> Result<Vec<u8>, AllocErro
 {
     let mut writer = begin(alloc)?;
     write_kind(&mut writer, found)?;
-    write_place(&mut writer, found.place)?;
+    write_position(&mut writer, found.position)?;
     write_seen(&mut writer, found)?;
     finish(writer)
 }

@@ -47,8 +47,10 @@ pub fn say_refused(
     let file = sources.named.src.as_bytes();
     for call in &refused_in(alloc, sources.claim.image, coverage)? {
         let code = sources.claim.image.code();
-        let place = sources.places.place(code, call.site.body, call.site.pc);
-        append_refused(alloc, LineForm::Text, file, place, call, out)?;
+        let position = sources
+            .positions
+            .position(code, call.site.body, call.site.pc);
+        append_refused(alloc, LineForm::Text, file, position, call, out)?;
     }
     Ok(())
 }

@@ -31,7 +31,7 @@ use fmp_cfgparse::read_cfg;
 use fmp_expect::{Expected, read_placed, read_unplaced};
 use fmp_explore::SearchWatcher;
 use fmp_files::{Failure, Outside, end, print, refuse_mistake, write_file};
-use fmp_frames::CallPlaces;
+use fmp_frames::CallPositions;
 use fmp_image::build;
 use fmp_image_bytes::Image;
 use fmp_lex::BuildFault;
@@ -193,10 +193,10 @@ fn explore_question<O: Outside, R: Clock + Threads + Sync>(
 {
     let exploring = opened.exploring;
     let names = LocalNames::new(alloc, opened.src)?;
-    let places = CallPlaces::new(alloc, opened.src)?;
+    let positions = CallPositions::new(alloc, opened.src)?;
     let out = out_name(alloc, exploring)?;
     let expected = expected_in(alloc, configured, opened.said);
-    let placed = read_placed(alloc, opened.said)?;
+    let placed = read_placed(alloc, configured, opened.said)?;
     let of_words = nevers_at_of(alloc, claim.image, claim.lines, &opened.wanted.nevers_at)?;
     let named = Named {
         src: exploring.src,
@@ -208,7 +208,7 @@ fn explore_question<O: Outside, R: Clock + Threads + Sync>(
     };
     let sources = ExploredSources {
         claim: *claim,
-        places: &places,
+        positions: &positions,
         names: &names,
         sentences: Sentences {
             sections: exploring.asked.alone.len(),
@@ -266,6 +266,7 @@ fn explore_image<O: Outside, R: Clock + Threads + Sync>(
         Ok(question) => {
             let claim = Claim {
                 image,
+                configured,
                 lines: &lines,
                 question: &question,
                 bound: opened.exploring.bound,
@@ -278,7 +279,7 @@ fn explore_image<O: Outside, R: Clock + Threads + Sync>(
         }
         Err(mistake) => {
             let asked = (&opened.exploring.asked, opened.said);
-            let error = no_question_of(alloc, asked, (image, &lines), mistake);
+            let error = no_question_of(alloc, asked, configured, (image, &lines), mistake);
             Ok(refuse_mistake(outside, error))
         }
     }

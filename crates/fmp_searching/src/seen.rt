@@ -5,7 +5,7 @@ ghost use Rattle.fmp_searching.specs.Seen as spec;
 
 use crate::placed::{broken_by, is_forbidden, say_placed};
 use crate::sentences::append_sentence;
-use crate::sources::{ExploredSources, say, say_made, say_place};
+use crate::sources::{ExploredSources, say, say_made, say_position};
 use crate::stuck::{HeldUp, held_up};
 use crate::stuck_words::append_stuck;
 use fmp_base::{Line, System};
@@ -43,9 +43,8 @@ pub struct Seen {
     /// The kind of the finding.
     pub found: FindingKind,
     pub kind: SeenKind,
-    /// The place of the sentence of the file about calls that is broken, if one is, beside what the command line
-    /// forbids too.
-    pub placed: Option<usize>,
+    /// The places of the sentences of the file about calls that are broken, beside what the command line forbids too.
+    pub placed: Vec<usize>,
     /// The call to which it belongs, if it belongs to one.
     pub site: Option<CallSite>,
     /// What is said of it, without that call.
@@ -80,7 +79,7 @@ fn say_started(
     }
     if let Some(site) = started.waits {
         say(out, " (")?;
-        say_place(
+        say_position(
             alloc,
             out,
             sources,
@@ -157,7 +156,7 @@ pub fn say_sentence(
     };
     let (file, line) = (sources.sentences.file, said.line);
     say_made(out, format!(in alloc; "{file}:{line}: {of}"))?;
-    append_sentence(alloc, sources.claim.image.system(), &said.sentence, out)?;
+    append_sentence(alloc, sources.claim.configured, &said.sentence, out)?;
     let _blank = out.pop();
     let _comma = out.pop();
     Ok(())
@@ -274,25 +273,26 @@ fn kind_of(sections: usize, kind: FindingKind, lines: &[Line], placed: Option<us
     }
 }
 
-/// Appends what the steps of a finding leave, and says what it breaks: of a sentence about calls, which one.
+/// Appends what the steps of a finding leave, and says what it breaks: of sentences about calls the first, and which.
 fn say_left_kind(
     alloc: Global,
     out: &mut Vec<u8>,
     sources: &ExploredSources<'_>,
     finding: &Finding,
     left: &Left,
-) -> Result<(Option<usize>, SeenKind), AllocError>
+) -> Result<(Vec<usize>, SeenKind), AllocError>
     ensures { IfOk result (λ r. spec.breaks sources.now.sentences.sections finding.now.kind r.1 ≡ true) }
 {
     say_left(alloc, out, sources, finding.kind, left)?;
-    let placed = broken_by(sources, finding, &left.lines);
-    if let Some(place) = placed {
+    let placed = broken_by(alloc, sources, finding, &left.lines)?;
+    let first = placed.first().copied();
+    if let Some(place) = first {
         say_placed(alloc, out, sources, place)?;
     }
     let alone = if is_forbidden(sources, finding, &left.lines) {
         None
     } else {
-        placed
+        first
     };
     let sections = sources.sentences.sections;
     Ok((placed, kind_of(sections, finding.kind, &left.lines, alone)))
@@ -304,13 +304,13 @@ fn say_what_is_left(
     out: &mut Vec<u8>,
     sources: &ExploredSources<'_>,
     finding: &Finding,
-) -> Result<(Option<usize>, SeenKind), AllocError>
+) -> Result<(Vec<usize>, SeenKind), AllocError>
     ensures { IfOk result (λ r. spec.breaks sources.now.sentences.sections finding.now.kind r.1 ≡ true) }
 {
     let (claim, sections) = (&sources.claim, sources.sentences.sections);
     match left_by(alloc, claim.image, claim.bound, &finding.steps)? {
         Some(left) => say_left_kind(alloc, out, sources, finding, &left),
-        None => Ok((None, kind_of(sections, finding.kind, &[], None))),
+        None => Ok((Vec::new(alloc), kind_of(sections, finding.kind, &[], None))),
     }
 }
 
@@ -390,7 +390,7 @@ pub fn seen_of(
     Ok(Seen {
         found: FindingKind::Stuck(task),
         kind: SeenKind::Stuck,
-        placed: None,
+        placed: Vec::new(alloc),
         site,
         text,
     })

@@ -1,12 +1,13 @@
 //! Sentences, as a claim writes them.
-ghost use Rattle.std.specs.Prelude.{◌≡◌, [], ◌+◌, ◌++◌, IfOk, OnOk, decimal, if◌then◌else◌};
+ghost use Rattle.std.specs.Prelude.{◌≡◌, [], ◌+◌, ◌++◌, IfOk, OnOk, Some, decimal, find, nat_eq, if◌then◌else◌};
 ghost use Rattle.std.specs.List.{flat_map};
 ghost use Rattle.fmp_base.specs.Systems.{tables_of};
 ghost use Rattle.fmp_monitors.specs.Conditions.{tests_of};
 ghost use Rattle.fmp_searching.specs.Sentences as spec;
 
 use crate::claiming::{append, append_number, append_value, append_where};
-use fmp_base::{Name, System};
+use fmp_base::{Entry, InterruptConfig, Name, System};
+use fmp_expect::interrupt_named;
 use fmp_explore::Monitor;
 use fmp_monitors::{
     Condition, ConditionTest, ExpectedActor, ExpectedDeed, ExpectedResponse, ExpectedTrigger,
@@ -95,6 +96,79 @@ fn append_response(
     }
 }
 
+/// The name of the body of a handler, where a configuration names it.
+fn name_of(entry: Entry) -> Option<Name>
+    ensures { result ≡ spec.name_of entry }
+{
+    match entry {
+        Entry::Named(name) => Some(name),
+        Entry::Body(_) => None,
+    }
+}
+
+/// The interrupt of this number, if it has a handler.
+fn interrupt_among(interrupts: &[InterruptConfig], number: u16) -> Option<InterruptConfig>
+    ensures { result ≡ find (λ x. nat_eq x.number number) interrupts.now }
+{
+    interrupts
+        .iter()
+        .copied()
+        .find(|x| u16::from(x.number) == number)
+}
+
+/// The name of the body of the handler of an interrupt, where a configuration names it.
+fn handler_name(sys: &System, number: u16) -> Option<Name>
+    ensures { result ≡ spec.handler_name (tables_of sys.now) number }
+{
+    match interrupt_among(&sys.interrupts, number) {
+        Some(interrupt) => name_of(interrupt.entry),
+        None => None,
+    }
+}
+
+/// Whether a number is this one.
+fn is_number(found: Option<u8>, number: u16) -> bool
+    ensures { result ≡ spec.is_number found number }
+{
+    match found {
+        Some(other) => u16::from(other) == number,
+        None => false,
+    }
+}
+
+/// Appends an interrupt: by this name, if a sentence that has the name speaks of just this interrupt; else by its
+/// number.
+fn append_by_name(
+    sys: &System,
+    number: u16,
+    name: Name,
+    out: &mut Vec<u8>,
+) -> Result<(), AllocError>
+    ensures { OnOk result (out.new.items
+        ≡ out.old.items ++ spec.interrupt_by (tables_of sys.now) number (Some name)) }
+{
+    if is_number(interrupt_named(sys, name.as_bytes()), number) {
+        append(name.as_bytes(), out)
+    } else {
+        append_number(u64::from(number), out)
+    }
+}
+
+/// Appends an interrupt, by this name if it may have that, and else by its number.
+fn append_interrupt(
+    sys: &System,
+    number: u16,
+    name: Option<Name>,
+    out: &mut Vec<u8>,
+) -> Result<(), AllocError>
+    ensures { OnOk result (out.new.items ≡ out.old.items ++ spec.interrupt_by (tables_of sys.now) number name) }
+{
+    match name {
+        Some(name) => append_by_name(sys, number, name, out),
+        None => append_number(u64::from(number), out),
+    }
+}
+
 /// Appends what starts the time.
 #[tactic(auto, unfolding(crate::specs::Sentences::trigger_text))]
 fn append_trigger(
@@ -106,8 +180,9 @@ fn append_trigger(
 {
     match trigger {
         ExpectedTrigger::Interrupt(place) => {
+            let number = u16::from(place) + 1;
             append(b"int ", out)?;
-            append_number(u64::from(place) + 1, out)
+            append_interrupt(sys, number, handler_name(sys, number), out)
         }
         ExpectedTrigger::Happens(happening) => append_happening(sys, happening, out),
     }

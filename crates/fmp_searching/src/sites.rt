@@ -57,8 +57,8 @@ fn begins_at(tokens: &Tokens<'_>, at: usize) -> bool
 fn line_at(tokens: &Tokens<'_>, at: usize) -> u32
     ensures { result ≡ spec.line_at tokens.now at }
 {
-    match tokens.place(at) {
-        Some(place) => place.line,
+    match tokens.position(at) {
+        Some(position) => position.line,
         None => 0,
     }
 }
@@ -151,17 +151,17 @@ fn call_count(instructions: &[Instruction]) -> usize
 }
 
 /// The places of the calls among the instructions of a body.
-fn call_places(alloc: Global, instructions: &[Instruction]) -> Result<Vec<u16>, AllocError>
+fn call_positions(alloc: Global, instructions: &[Instruction]) -> Result<Vec<u16>, AllocError>
     requires { length instructions.now ≤ 65535 }
-    ensures { IfOk result (λ places. places.items ≡ spec.call_places 0 instructions.now) }
+    ensures { IfOk result (λ positions. positions.items ≡ spec.call_positions 0 instructions.now) }
 {
-    let mut places = Vec::new(alloc);
+    let mut positions = Vec::new(alloc);
     for pc in 0..instructions.len() {
         if is_call(&instructions[pc]) {
-            places.push(pc as u16)?;
+            positions.push(pc as u16)?;
         }
     }
-    Ok(places)
+    Ok(positions)
 }
 
 /// Adds a call where this is so.
@@ -178,17 +178,17 @@ fn add_where(is_so: bool, site: CallSite, sites: &mut Vec<CallSite>) -> Result<(
 /// Adds the calls of a body that stand in a line, where its calls are at these places and stand in these lines.
 fn add_sites(
     body: u8,
-    places: &[u16],
+    positions: &[u16],
     lines: &[u32],
     line: u32,
     sites: &mut Vec<CallSite>,
 ) -> Result<(), AllocError>
     ensures { OnOk result (sites.new.items
-        ≡ sites.old.items ++ spec.sites_at body line places.now lines.now) }
+        ≡ sites.old.items ++ spec.sites_at body line positions.now lines.now) }
 {
-    let count = places.len().min(lines.len());
+    let count = positions.len().min(lines.len());
     for at in 0..count {
-        let pc = places[at];
+        let pc = positions[at];
         add_where(lines[at] == line, CallSite { body, pc }, sites)?;
     }
     Ok(())
@@ -270,8 +270,8 @@ impl CallLines {
         let Some(lines) = self.lines_of(body) else {
             return Ok(());
         };
-        let places = call_places(alloc, instructions)?;
-        add_sites(body, &places, lines, line, sites)
+        let positions = call_positions(alloc, instructions)?;
+        add_sites(body, &positions, lines, line, sites)
     }
 
     /// The calls of this code that stand in a line of the text, in order. `AllocError` if memory runs out.

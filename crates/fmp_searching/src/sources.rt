@@ -5,9 +5,10 @@ ghost use Rattle.fmp_searching.specs.Varied.{line_at};
 use crate::asking::ExploreWords;
 use crate::naming::LocalNames;
 use crate::sites::CallLines;
+use fmp_base::System;
 use fmp_expect::{Expected, PlacedNever};
 use fmp_explore::{CallSite, Question};
-use fmp_frames::{CallPlace, CallPlaces};
+use fmp_frames::{CallPosition, CallPositions};
 use fmp_image_bytes::Image;
 use fmp_warnings::Form;
 use std::alloc::{AllocError, Global};
@@ -88,6 +89,8 @@ impl Sentences<'_> {
 #[derive(Clone, Copy)]
 pub struct Claim<'a> {
     pub image: &'a Image,
+    /// Its system as the configuration describes it, which names the bodies of handlers.
+    pub configured: &'a System,
     /// Where the calls of its bodies stand.
     pub lines: &'a CallLines,
     pub question: &'a Question,
@@ -98,7 +101,7 @@ pub struct Claim<'a> {
 #[derive(Clone, Copy)]
 pub struct ExploredSources<'a> {
     pub claim: Claim<'a>,
-    pub places: &'a CallPlaces,
+    pub positions: &'a CallPositions,
     pub names: &'a LocalNames,
     pub sentences: Sentences<'a>,
     pub named: Named<'a>,
@@ -123,14 +126,17 @@ pub fn say_call(
 ) -> Result<(), AllocError> {
     say(out, sources.named.src)?;
     let code = sources.claim.image.code();
-    if let Some(CallPlace { line, column }) = sources.places.place(code, site.body, site.pc) {
+    if let Some(CallPosition { line, column }) = sources
+        .positions
+        .position(code, site.body, site.pc)
+    {
         say_made(out, format!(in alloc; ":{line}:{column}"))?;
     }
     Ok(())
 }
 
 /// Appends a line of the file of the bodies.
-pub fn say_place(
+pub fn say_position(
     alloc: Global,
     out: &mut Vec<u8>,
     sources: &ExploredSources<'_>,

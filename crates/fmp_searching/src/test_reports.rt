@@ -6,7 +6,6 @@ ghost use Rattle.fmp_searching.specs.Tests as spec;
 
 use crate::judging::{AskedTest, JudgedTest, Searched, cases_of, judged};
 use crate::parts::{add_monitors, add_nevers, deadlock_part};
-use crate::placed::first_like;
 use crate::seen::SeenKind;
 use crate::sources::ExploredSources;
 use fmp_explore::Monitor;
@@ -45,10 +44,9 @@ fn add_placed(
     sources: &ExploredSources<'_>,
     (after, before): (usize, usize),
 ) -> Result<(), AllocError> {
-    let placed = sources.sentences.placed;
-    for never in placed {
+    for (place, never) in sources.sentences.placed.iter().enumerate() {
         if never.line > after && never.line < before {
-            let kind = SeenKind::Placed(first_like(placed, *never));
+            let kind = SeenKind::Placed(place);
             add_sentence(alloc, asked, sources, kind, never.line)?;
         }
     }
@@ -126,7 +124,7 @@ fn add_asked_section(
     monitor: Monitor,
 ) -> Result<(), AllocError> {
     let mut parts = Vec::new(alloc);
-    add_monitors(alloc, sources.claim.image.system(), &[monitor], &mut parts)?;
+    add_monitors(alloc, sources.claim.configured, &[monitor], &mut parts)?;
     add_asked(
         alloc,
         asked,

@@ -10,6 +10,8 @@ use fmp_explore::{ANSWERS, Never};
 pub struct CodeAt {
     pub code: Er,
     pub line: u32,
+    /// The place of the task whose answers are meant; anybody's are, if none is named.
+    pub by: Option<usize>,
 }
 
 /// A section, in which one task at a time may be: from where it puts one value to where it puts another, or ends.
@@ -76,23 +78,6 @@ fn value_put(word: &str) -> Option<i32>
     value_named(before(")", text)?)
 }
 
-/// The fault of this name.
-#[tactic(auto, unfolding(crate::specs::Words::fault_named))]
-fn fault_named(word: &str) -> Option<Fault>
-    ensures { result ≡ spec.fault_named word.now }
-{
-    if word == "F_OVF" {
-        return Some(Fault::Overflow);
-    }
-    if word == "F_DIV" {
-        return Some(Fault::Division);
-    }
-    if word == "F_IDX" {
-        return Some(Fault::Index);
-    }
-    None
-}
-
 /// The code of this name that a call may answer.
 #[tactic(auto, unfolding(crate::specs::Words::code_named))]
 fn code_named(word: &str) -> Option<Er>
@@ -110,7 +95,7 @@ pub fn never_named(word: &str) -> Option<Never>
     if let Some(value) = value_put(word) {
         return Some(Never::Put(value));
     }
-    if let Some(fault) = fault_named(word) {
+    if let Some(fault) = Fault::named(word.as_bytes()) {
         return Some(Never::Fault(fault));
     }
     match code_named(word) {
@@ -128,7 +113,11 @@ pub fn never_at_named(word: &str) -> Option<CodeAt>
     let (name, number) = parts_at_colon(word)?;
     let code = code_named(name)?;
     let line = number_named(number)?;
-    Some(CodeAt { code, line })
+    Some(CodeAt {
+        code,
+        line,
+        by: None,
+    })
 }
 
 /// The section of a word as `1,2`, which tasks enter by `put(1)` and leave by `put(2)`. None if the word is not of this

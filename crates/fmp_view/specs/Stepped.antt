@@ -6,7 +6,7 @@ use Rattle.fmp_frames.specs.Frames.{each}
 use Rattle.fmp_instructions.specs.declared.instructions.MachineContext.{MachineContext}
 use Rattle.fmp_instructions.specs.Instructions.{BodyTables}
 use Rattle.fmp_kernel.specs.KernelViews.{KernelView}
-use Rattle.fmp_frames.specs.declared.call_places.CallPlace.{CallPlace}
+use Rattle.fmp_frames.specs.declared.call_positions.CallPosition.{CallPosition}
 use Rattle.fmp_session.specs.declared.session.Session.{Session}
 use Rattle.fmp_session.specs.Sessions.{lines_now, records_now}
 use Rattle.fmp_looking.specs.Traces.{states_text}
@@ -16,9 +16,9 @@ use Rattle.fmp_warnings.specs.declared.verdicts.Form.{Form}
 use Rattle.fmp_warnings.specs.declared.verdicts.Form.TheVariants as form
 
 -- the lines of the last event, or the objects of JSON, with where its call stands if that is known
-abbrev pub last_lines : Form → Option CallPlace → KernelView (List BodyTables) MachineContext → List ℕ
-last_lines form.Text place k = lines_now k
-last_lines form.Json place k = records_now place k
+abbrev pub last_lines : Form → Option CallPosition → KernelView (List BodyTables) MachineContext → List ℕ
+last_lines form.Text position k = lines_now k
+last_lines form.Json position k = records_now position k
 
 -- the states of the tasks of a kernel
 abbrev pub states_text_of : Form → KernelView (List BodyTables) MachineContext → List ℕ

@@ -8,7 +8,7 @@ use crate::session_objects::state_of;
 use crate::session_until::until;
 use fmp_base::Event;
 use fmp_files::{Failure, Outside};
-use fmp_frames::{CallPlace, CallPlaces, last_frame};
+use fmp_frames::{CallPosition, CallPositions, last_frame};
 use fmp_looking::{OpenImage, states_in, why_of};
 use fmp_session::{
     Command, NamedInterrupt, Session, TakenEvent, append_kept, append_nothing, note,
@@ -49,7 +49,7 @@ pub struct Stepping<'a> {
     /// The interrupts that have handlers.
     pub interrupts: &'a [NamedInterrupt],
     /// Where the calls of the bodies stand in their text.
-    pub places: &'a CallPlaces,
+    pub positions: &'a CallPositions,
     /// Whether standard input is a terminal.
     pub terminal: bool,
 }
@@ -69,7 +69,7 @@ struct ToldEvent {
     /// What it came to.
     taken: TakenEvent,
     /// Where its call stands, if it makes one and answers tell it.
-    place: Option<CallPlace>,
+    position: Option<CallPosition>,
 }
 
 /// What a line answers.
@@ -133,15 +133,15 @@ pub fn append_last(
     alloc: Global,
     session: &Session<'_>,
     form: Form,
-    place: Option<CallPlace>,
+    position: Option<CallPosition>,
     out: &mut Vec<u8>,
 ) -> Result<(), AllocError>
     requires { IsSession session.now }
-    ensures { OnOk result (out.new.items ≡ out.old.items ++ last_lines form place session.now.kernel) }
+    ensures { OnOk result (out.new.items ≡ out.old.items ++ last_lines form position session.now.kernel) }
 {
     match form {
         Form::Text => session.append_last(out),
-        Form::Json => session.append_last_records(alloc, place, out),
+        Form::Json => session.append_last_records(alloc, position, out),
     }
 }
 
@@ -172,19 +172,19 @@ fn append_taken(
     requires { IsSession session.now }
 {
     if let TakenEvent::Done = told.taken {
-        return append_last(alloc, session, form, told.place, out);
+        return append_last(alloc, session, form, told.position, out);
     }
     let line = line_of(alloc, session, told)?;
     append_told(alloc, form, &line, out)
 }
 
 /// Where the call stands that an event would make, if it makes one and answers tell it: objects of JSON do.
-fn told_place(session: &Session<'_>, stepping: Stepping<'_>, e: Event) -> Option<CallPlace>
+fn told_position(session: &Session<'_>, stepping: Stepping<'_>, e: Event) -> Option<CallPosition>
     requires { IsSession session.now }
 {
     match stepping.form {
         Form::Text => None,
-        Form::Json => session.place(stepping.places, e),
+        Form::Json => session.position(stepping.positions, e),
     }
 }
 
@@ -200,13 +200,13 @@ pub fn take_event(
     requires { IsSession session.old }
     ensures { IsSession session.new }
 {
-    let place = told_place(session, stepping, e);
+    let position = told_position(session, stepping, e);
     let taken = session.take(e)?;
     if tells_nothing || !matches!(taken, TakenEvent::Nothing) {
         let told = ToldEvent {
             event: e,
             taken,
-            place,
+            position,
         };
         append_taken(alloc, session, stepping.form, told, out)?;
     }

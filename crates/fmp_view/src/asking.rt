@@ -68,6 +68,8 @@ pub struct Expecting<'a> {
     pub form: Form,
     /// The file of a report in the XML of JUnit, if one is written.
     pub junit: Option<&'a str>,
+    /// The file of the text of the bodies, which tells where calls stand.
+    pub src: Option<&'a str>,
 }
 
 /// A picture of a run.
@@ -267,7 +269,7 @@ fn running_of(words: &ArgMatches<'_>) -> Running {
     Running {
         form: form_of(words),
         calls: flag_of(words, "calls"),
-        places: flag_of(words, "places"),
+        positions: flag_of(words, "places"),
         coverage: text_of(words, "coverage").is_some(),
         lcov: text_of(words, "lcov").is_some(),
         events: word32_of(words, "events").unwrap_or(0),
@@ -309,6 +311,7 @@ fn expect_asked<'a>(words: &ArgMatches<'a>) -> Asked<'a> {
         strict: flag_of(words, "strict"),
         form: form_of(words),
         junit: text_of(words, "junit"),
+        src: text_of(words, "src"),
     };
     Asked::Expect(run, expecting)
 }

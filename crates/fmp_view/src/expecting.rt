@@ -1,10 +1,14 @@
 //! The command `expect`: whether a run meets what is expected of it.
 use crate::asking::{Expecting, RunFiles};
 use crate::differing::{DIFFER, print_difference};
-use crate::runs::{is_read, made_of_run, write};
+use crate::runs::{is_read, is_this_file, made_of_run, write};
 use crate::word_mistakes::report_over_input;
 use fmp_files::{Outside, end, print, read_file, refuse_mistake};
-use fmp_looking::{Expectations, Judged, JudgementForm, ViewExit};
+use fmp_looking::{
+    Expectations, Judged, JudgementForm, PlacedExpectations, StepsRun, ViewExit, placed_failure,
+    placed_judgements,
+};
+use fmp_searching::read_both;
 use fmp_warnings::Form;
 use std::alloc::Global;
 
@@ -17,6 +21,62 @@ fn expectations_of<'a>(expecting: Expecting<'a>, text: &'a [u8]) -> Expectations
     }
 }
 
+/// What is in the files of a run over a steps text, and of the text of its bodies.
+#[derive(Drop)]
+struct PlacedFiles {
+    image: Vec<u8>,
+    steps: Vec<u8>,
+    src: Vec<u8>,
+    bound: u64,
+}
+
+impl PlacedFiles {
+    /// The run, as its files have it.
+    fn run(&self) -> StepsRun<'_> {
+        StepsRun {
+            image: &self.image,
+            steps: &self.steps,
+            bound: self.bound,
+        }
+    }
+
+    /// What is expected of the run, with the text of its bodies.
+    fn expected<'a>(&'a self, expectations: Expectations<'a>) -> PlacedExpectations<'a> {
+        PlacedExpectations {
+            expectations,
+            src: &self.src,
+        }
+    }
+}
+
+/// The files of a run, if the text of its bodies is given; a recording has none.
+fn placed_files<O: Outside>(
+    alloc: Global,
+    outside: &O,
+    run: RunFiles<'_>,
+    src: Option<&str>,
+) -> Result<Option<PlacedFiles>, ViewExit> {
+    let (
+        Some(src),
+        RunFiles::Steps {
+            image,
+            steps,
+            bound,
+        },
+    ) = (src, run)
+    else {
+        return Ok(None);
+    };
+    let (image, steps) = read_both(alloc, outside, image, steps)?;
+    let src = read_file(alloc, outside, src, None)?;
+    Ok(Some(PlacedFiles {
+        image,
+        steps,
+        src,
+        bound,
+    }))
+}
+
 /// What is printed of a run that fails an expectation of the text of this file.
 fn failure_of<O: Outside>(
     alloc: Global,
@@ -25,7 +85,11 @@ fn failure_of<O: Outside>(
     expecting: Expecting<'_>,
 ) -> Result<Option<Vec<u8>>, ViewExit> {
     let text = read_file(alloc, outside, expecting.name, None)?;
-    made_of_run(alloc, outside, run, &expectations_of(expecting, &text))
+    let expectations = expectations_of(expecting, &text);
+    match placed_files(alloc, outside, run, expecting.src)? {
+        Some(files) => placed_failure(alloc, files.run(), &files.expected(expectations)),
+        None => made_of_run(alloc, outside, run, &expectations),
+    }
 }
 
 /// How a run does by each expectation of the text of this file, in a form.
@@ -37,11 +101,13 @@ fn judged_of<O: Outside>(
     form: JudgementForm,
 ) -> Result<Vec<u8>, ViewExit> {
     let text = read_file(alloc, outside, expecting.name, None)?;
-    let judged = Judged {
-        expectations: expectations_of(expecting, &text),
-        form,
-    };
-    made_of_run(alloc, outside, run, &judged)
+    let expectations = expectations_of(expecting, &text);
+    match placed_files(alloc, outside, run, expecting.src)? {
+        Some(files) => {
+            placed_judgements(alloc, files.run(), &files.expected(expectations), form)
+        }
+        None => made_of_run(alloc, outside, run, &Judged { expectations, form }),
+    }
 }
 
 /// Writes the report of a run to its file, if one is asked for, and gives the status.
@@ -108,7 +174,11 @@ fn tell_judged<O: Outside>(
 /// Whether the file of a report is one of those that are read.
 fn is_over_input<O: Outside>(outside: &O, run: RunFiles<'_>, expecting: Expecting<'_>) -> bool {
     match expecting.junit {
-        Some(out) => is_read(outside, out, run) || outside.is_one_file(out, expecting.name),
+        Some(out) => {
+            is_read(outside, out, run)
+                || outside.is_one_file(out, expecting.name)
+                || is_this_file(outside, out, expecting.src)
+        }
         None => false,
     }
 }

@@ -116,6 +116,10 @@ const PLACED: &str =
 const REFUSED: &str =
     "Task text of IMAGE: calls that are refused are told by their line and column there";
 
+/// The text that tells where calls stand.
+const JUDGED: &str =
+    "Task text of IMAGE: its lines are those of 'never E_QOVR at 12', its bodies those of 'int BODY'";
+
 /// The commands of a session.
 const LINES: &str = "Commands, one a line of standard input:
   run P [xK]   processor P goes on, to its next service call; K times, or until it does nothing
@@ -333,6 +337,7 @@ static EXPECTED: CommandForm = CommandForm {
         RECORDED,
         BOUNDED,
         Argument("EXPECT", ArgumentKind::WordNoRecording, EXPECT),
+        Argument("src", ArgumentKind::TextWithout("SRC", "recording"), JUDGED),
         Argument("strict", ArgumentKind::Flag, STRICT),
         JSON,
         JUNIT,

@@ -20,10 +20,10 @@ use crate::word_mistakes::{dump_over_input, no_code, picture_of_nothing, picture
 use clap::ArgMatches;
 use fmp_arguments::join;
 use fmp_files::{Device, Failure, Outside, end, print, read_file, refuse_mistake};
-use fmp_frames::CallPlace;
+use fmp_frames::CallPosition;
 use fmp_looking::{
     DrivenText, Driving, Format, NamedText, Picture, PictureCut, RunOutput, Stats, StepsRun,
-    Titled, ViewExit, Why, code, exit_over, places_of_run, refused_in_run, steps,
+    Titled, ViewExit, Why, code, exit_over, positions_of_run, refused_in_run, steps,
 };
 use fmp_searching::{print_fault, read_both, run_explore};
 use fmp_server::serve;
@@ -205,12 +205,12 @@ fn print_calls<O: Outside>(alloc: Global, outside: &mut O, run: RunFiles<'_>) ->
 }
 
 /// Where the calls of a run stand in the text of a file; nothing where none is given, and of a recording.
-fn places_in<O: Outside>(
+fn positions_in<O: Outside>(
     alloc: Global,
     outside: &O,
     run: RunFiles<'_>,
     src: Option<&str>,
-) -> Result<Vec<Option<CallPlace>>, ViewExit> {
+) -> Result<Vec<Option<CallPosition>>, ViewExit> {
     match (run, src) {
         (
             RunFiles::Steps {
@@ -227,7 +227,7 @@ fn places_in<O: Outside>(
                 steps: &steps,
                 bound,
             };
-            places_of_run(alloc, run, &src)
+            positions_of_run(alloc, run, &src)
         }
         _ => Ok(Vec::new(alloc)),
     }
@@ -240,11 +240,11 @@ fn run_timeline<O: Outside>(
     picturing: Picturing<'_>,
 ) -> Result<Picture, ViewExit> {
     let (system, _) = picturing.run.files();
-    let places = places_in(alloc, outside, picturing.run, picturing.src)?;
+    let positions = positions_in(alloc, outside, picturing.run, picturing.src)?;
     let titled = Titled {
         title: title_of(system).as_bytes(),
         drawing: picturing.drawing,
-        places: &places,
+        positions: &positions,
     };
     made_of_run(alloc, outside, picturing.run, &titled)
 }

@@ -95,21 +95,10 @@ fn has_limit<B: Body>(kernel: &Kernel<B>) -> bool {
     false
 }
 
-/// Whether a cyclic handler of a kernel is started.
-fn has_started<B: Body>(kernel: &Kernel<B>) -> bool {
-    let tables = kernel.tables();
-    for c in 0..tables.cyclic_count() as u8 {
-        if tables.due_time(c).is_some() {
-            return true;
-        }
-    }
-    false
-}
-
 /// Whether the clock can change something: a task waits with a time limit, or a cyclic handler is started.
 fn is_due(session: &Session<'_>) -> bool {
     let kernel = session.kernel();
-    has_started(kernel) || has_limit(kernel)
+    kernel.tables().has_started_cyclic() || has_limit(kernel)
 }
 
 /// Takes the next event that does something, and appends what is told of it: a run of a processor, in turn from the one

@@ -8,7 +8,7 @@ use fmp_base::{Entry, System};
 use fmp_cfgparse::read_cfg;
 use fmp_diagnosis::Texts;
 use fmp_files::{Failure, Outside, end, read_file, refuse_mistake};
-use fmp_frames::CallPlaces;
+use fmp_frames::CallPositions;
 use fmp_image::build;
 use fmp_lex::BuildFault;
 use fmp_looking::{
@@ -147,14 +147,14 @@ struct TextsKnown {
     /// The interrupts that have handlers.
     interrupts: Vec<NamedInterrupt>,
     /// Where the calls of the bodies stand.
-    places: CallPlaces,
+    positions: CallPositions,
 }
 
 /// What a session knows of two texts. `AllocError` if memory runs out.
 fn known_of(alloc: Global, texts: Texts<'_>) -> Result<TextsKnown, AllocError> {
     Ok(TextsKnown {
         interrupts: interrupts_in(alloc, texts.cfg)?,
-        places: CallPlaces::new(alloc, texts.src)?,
+        positions: CallPositions::new(alloc, texts.src)?,
     })
 }
 
@@ -176,7 +176,7 @@ where
         names: words.names,
         form: words.form,
         interrupts: &known.interrupts,
-        places: &known.places,
+        positions: &known.positions,
         terminal: rt.reader().is_terminal(),
     };
     match build(alloc, texts.cfg, texts.src) {
