@@ -13,12 +13,13 @@ static char *read_all(FILE *file, size_t *length)
         room = room * 2 + 4096;
         char *more = realloc(text, room);
         if (more == NULL) {
-            break;
+            free(text);
+            return NULL;
         }
         text = more;
         *length += fread(text + *length, 1, room - *length, file);
     } while (*length == room);
-    if (*length == room || ferror(file)) {
+    if (ferror(file)) {
         free(text);
         return NULL;
     }

@@ -40,7 +40,7 @@ def difference(done, wanted):
     at, seed = next(((at, it and it[0]) for at, (line, it) in pairs if not it or line != it[1]), (len(given), None))
     return "\n".join((
         f"status {done.returncode}, seed {seed}, line {at + 1}:",
-        f"it is {given[at:at + 1]}, not {[line for _, line in wanted[at:at + 1]]}, behind",
+        f"it is {given[at:at + 1]}, not {[line for _, line in wanted[at:at + 1]]}, after",
         *given[max(0, at - 6):at],
         done.stderr,
     ))

@@ -108,7 +108,7 @@ def compared(what, given, wanted):
     lines = list(zip_longest(given.splitlines(), wanted.splitlines()))
     at = next(place for place, (left, right) in enumerate(lines) if left != right)
     before = "\n".join(str(right) for _, right in lines[max(0, at - 5):at])
-    raise Difference(f"{what}: line {at + 1} is {lines[at][0]!r}, not {lines[at][1]!r}, behind\n{before}")
+    raise Difference(f"{what}: line {at + 1} is {lines[at][0]!r}, not {lines[at][1]!r}, after\n{before}")
 
 
 def random_steps(chooser, processors):

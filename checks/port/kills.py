@@ -5,7 +5,7 @@
 
 PROGRAM is real.c and REPLAY is replay.c, compiled with the library and the port. COUNT runs (20) of random systems are
 ended, soon after their first lines are there: two of three by SIGKILL, the others by SIGTERM or SIGINT, after which the
-status must be 0. What stands behind the last line feed of a recording is cut; after SIGTERM and SIGINT nothing may
+status must be 0. What stands after the last line feed of a recording is cut; after SIGTERM and SIGINT nothing may
 stand there. Handed to a new kernel of the library and to the model, the rest must give the same trace and states.
 """
 

@@ -1,5 +1,5 @@
 #!/usr/bin/env python3
-"""Builds the static library crates/fmp_c/out/libfmp_c.a behind `rt ci`.
+"""Builds the static library crates/fmp_c/out/libfmp_c.a after `rt ci`.
 
     checks/port/library.py MARK
 

@@ -169,6 +169,13 @@ failures() {
     esac
     verdict "too little memory" "$problem"
     problem=
+    dd if=/dev/null of=great.steps bs=1 seek=300000000 2> errors
+    # shellcheck disable=SC2016
+    refused 3 "file: great.steps" \
+        sh -c 'ulimit -v 200000 && exec "$@"' sh plain/queue "$root/examples/queue.cfg" great.steps
+    rm great.steps
+    verdict "a text that memory does not hold" "$problem"
+    problem=
     if [ -c /dev/full ]; then
         for program in "queue $root/examples/queue.cfg $root/examples/queue.steps" \
             "live-queue $root/examples/queue.cfg 200000 20"; do

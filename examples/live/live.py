@@ -4,7 +4,7 @@ microseconds, and each line `int N` of standard input raises an interrupt, by it
 
     live.py [--tick-us N] [--ticks K] [--view VIEW] CFG SRC
 
-Behind each tick and interrupt the processors go on, in turn, until none of them does anything more or the next tick is
+After each tick and interrupt the processors go on, in turn, until none of them does anything more or the next tick is
 due. A line is printed for each printed value and each fault of a body. After K ticks, or at the end of standard input
 where K is not given, it prints how often what came, and what each task waits for.
 """
@@ -27,11 +27,15 @@ class Session:
 
     def __init__(self, view, cfg, src):
         words = [view, "step", "--json", cfg, src]
-        self.program = subprocess.Popen(words, stdin=subprocess.PIPE, stdout=subprocess.PIPE, text=True)
-        with open(cfg, encoding="utf-8") as text:
-            self.processors = int(re.search(r"NUM_PRC\s*\(\s*(\d+)", text.read()).group(1))
+        try:
+            self.program = subprocess.Popen(words, stdin=subprocess.PIPE, stdout=subprocess.PIPE, text=True)
+        except OSError as error:
+            sys.exit(f"{view}: {error.strerror}")
         self.counts = Counter()
         self.tell(self.answer())  # setup
+        with open(cfg, encoding="utf-8", errors="replace") as text:
+            read = re.sub(r"/\*.*?\*/|//[^\n]*", "", text.read(), flags=re.S)  # what is no comment
+        self.processors = int(re.search(r"NUM_PRC\s*\(\s*(\w+)", read).group(1), 0)
 
     def answer(self):
         """The records of the next answer; none of a line that failed."""
@@ -39,6 +43,8 @@ class Session:
         if not line:
             sys.exit("the session has ended")
         answer = json.loads(line)
+        if "sentence" in answer:  # a text has a fault
+            sys.exit("{file}:{line}:{column}: {code}: {sentence}".format(**answer))
         if "error" in answer:
             print(answer["error"], file=sys.stderr)
         return answer.get("records", [])
@@ -70,14 +76,14 @@ class Session:
 
 
 def read_lines(lines):
-    """Passes on the lines of standard input, and none behind the last one."""
+    """Passes on the lines of standard input, and none after the last one."""
     for line in sys.stdin:
         lines.put(line.strip())
     lines.put(None)
 
 
 def lines_until(lines, due):
-    """The lines that come before a tick is due, each when it comes; none behind the last one."""
+    """The lines that come before a tick is due, each when it comes; none after the last one."""
     while True:
         try:
             yield lines.get(timeout=max(0.0, due - time.monotonic()))

@@ -44,7 +44,7 @@ class Motor:
     def __init__(self):
         self.duty = 0  # 0 to 1000
         self.speed = 0  # in thousandths of a mark a tick: at last that of the duty
-        self.angle = 0  # behind the last mark, in thousandths of the way to the next
+        self.angle = 0  # after the last mark, in thousandths of the way to the next
 
     def tick(self):
         """The motor turns for a tick: how many marks it passes."""

@@ -30,7 +30,7 @@ static ER_UINT counting(uint8_t service, int32_t a)
 }
 
 /*
- * The log: what is put, and a fault, which the call behind it carries out.
+ * The log: what is put, and a fault, which the call after it carries out.
  */
 
 static uint8_t fault;

@@ -1,4 +1,4 @@
-/* latency.h: how late a task's output comes behind the tick that it answers, in real time. */
+/* latency.h: how long a task's output comes after the tick that it answers, in real time. */
 #ifndef LATENCY_H
 #define LATENCY_H
 
