@@ -11,7 +11,7 @@ from common.services import SERVICES
 MAGIC, VERSIONS = b"FMPI", (1, 2, 3)
 NUMBERS = {"u8": "<B", "u16": "<H", "u32": "<I", "i32": "<i"}
 
-# The fields of a row of each table, in order; the tables stand in this order behind the bodies.
+# The fields of a row of each table, in order; the tables stand in this order after the bodies.
 LAYOUTS = {
     "tasks": "name:name attribute:u8 exinf:i32 body:u8 priority:u8 stack:u32 processor:u8 only:u8",
     "semaphores": "name:name attribute:u8 count:u16 greatest:u16",

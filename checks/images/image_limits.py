@@ -111,7 +111,7 @@ def instructions():
                          -(1 << 31)):
             for entry, left in ((0, 0), (0, 1), (1, 0), (1, 1), (2, 0), (2, 1), (2, 2)):
                 code = [*before[:entry], (opcode, argument, entry), *([(3, 0, 1)] if left == 1 else []), ENDING]
-                yield f"{opcode} {argument} on {entry} operands, {left} behind", of_code(code, local_count=3)
+                yield f"{opcode} {argument} on {entry} operands, {left} after it", of_code(code, local_count=3)
     for local_count in (0, 1, 2, 63, 64, 65, 254, 255):
         for place in (0, local_count - 1, local_count, 64, 254, 255):
             code = [(2, place, 0), (3, place, 1), ENDING]

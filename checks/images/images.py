@@ -80,7 +80,7 @@ def pairs(name, data, seed, count):
 
 
 def edited(data, chance):
-    """One edit, and the bytes behind it."""
+    """One edit, and the bytes after it."""
     place = chance.randrange(len(data) + 1)
     length = chance.choice((1, 1, 2, 3, 4, 6))
     match chance.randrange(4):

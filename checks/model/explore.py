@@ -161,7 +161,7 @@ def shows_together(kernel, what):
 
 
 def kept_before(kernel, question, place):
-    """What the sentence at a place keeps before the line of the last event that breaks it; nothing if the state behind
+    """What the sentence at a place keeps before the line of the last event that breaks it; nothing if the state after
     that event does."""
     lines, last = kernel.world.lines, lines_of_last(kernel)
     kept, _ = after_lines(question.watched, starts(question.watched), lines[: len(lines) - len(last)])
@@ -175,7 +175,7 @@ def kept_before(kernel, question, place):
 
 
 def shows_broken(trial, kernel, question, what):
-    """The sentence of a line of the text of expectations is broken by the last event or by the state behind it, and
+    """The sentence of a line of the text of expectations is broken by the last event or by the state after it, and
     told as it stands there; of a section it is told who was inside: its kind."""
     number, said, holder = re.search(rf"(?:^|: ){EXPECT}:(\d+): (.*?)(?:: while (T\d+) is inside)?$", what).groups()
     place = int(number) - 1

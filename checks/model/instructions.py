@@ -130,7 +130,7 @@ def computed(operator, left, right):
 
 
 class Code:
-    """The instructions of a body: for each statement, and for the end behind them, the place of its first one, and
+    """The instructions of a body: for each statement, and for the end after them, the place of its first one, and
     for each place the locals that are live there."""
 
     def __init__(self, body, outs=False):

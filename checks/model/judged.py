@@ -4,7 +4,7 @@ the judge of sentences.py says, and a sentence that `fmp_view explore` found to 
 
     checks/model/judged.py [COUNT [SEED]] [--view PATH] [--program PATH]
 
-The systems and their texts are those of sentenced.py, with up to two sentences of the end of a run behind them. COUNT
+The systems and their texts are those of sentenced.py, with up to two sentences of the end of a run after them. COUNT
 is the number of systems of which it is claimed that each sentence holds, in at most MOST states. A system has LISTS
 lists of up to LONG events, which end before the first event that the search leaves out; one of which nothing is claimed
 has fewer. Every other system runs at a small bound.

@@ -109,7 +109,7 @@ class Kernel:
         return stop.value
 
     def call(self, processor, call, context):
-        """A call of the actor, whose context is this one behind it."""
+        """A call of the actor, whose context is this one after it."""
         actor = processor.actor
         arguments = [context.read(argument) for argument in call.arguments]
         answer, case = self.serve(Services(self.world, actor, processor), call.service, arguments)

@@ -184,7 +184,7 @@ def first_lines(system):
 
 
 def line_of_call(kernel, line):
-    """The line of the call that was answered by a line of the last event: its actor stands behind it."""
+    """The line of the call that was answered by a line of the last event: its actor stands after it."""
     number, name = re.match(r"\d+ p(\d) (\S+) ", line).groups()
     tasks = [task for task in kernel.world.tasks if task.name == name]
     actor = tasks[0] if tasks else kernel.world.processors[int(number) - 1].handler
@@ -251,7 +251,7 @@ def is_deadlock(kernel, question, came):
 
 
 def is_behind_place(kernel, number, name):
-    """Whether the task of this name, or the handler on the processor of this number, stands behind a call with an out
+    """Whether the task of this name, or the handler on the processor of this number, stands after a call with an out
     place. A dormant task counts as one."""
     tasks = [task for task in kernel.world.tasks if task.name == name]
     if tasks and tasks[0].state is State.DORMANT:

@@ -341,7 +341,7 @@ class Services:
     ifsnd_dtq = fsnd_dtq
 
     def trcv_dtq(self, number, limit):
-        """Takes the oldest word; the first sender's word moves up behind the others."""
+        """Takes the oldest word; the first sender's word moves up after the others."""
         queue = find(self.system.data_queues, number)
         need_limit(limit)
         sender = self.world.first(queue.senders)
@@ -355,7 +355,7 @@ class Services:
     # Mailboxes
 
     def snd_mbx(self, number, message):
-        """A message is queued last, or with TA_MPRI behind those that are as urgent or more."""
+        """A message is queued last, or with TA_MPRI after those that are as urgent or more."""
         mailbox = find(self.system.mailboxes, number)
         priority = find(self.system.messages, message)
         need(not mailbox.sorts_messages or priority <= mailbox.least_urgent, Code.E_PAR)

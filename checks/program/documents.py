@@ -4,7 +4,7 @@
     checks/program/documents.py [PROGRAM [VIEW]]
 
 PROGRAM is crates/fmp/out/fmp and VIEW is crates/fmp_view/out/fmp_view where they are not given, as `rt ci` or `rt run`
-leaves them. The first word behind the fence says what a block is, and how it is checked:
+leaves them. The first word after the fence says what a block is, and how it is checked:
 
     cfg FILE, src FILE, steps FILE   the text of this file of examples/
     cfg, src, steps, trace           a system: the texts are accepted, and the run of their image prints the trace
@@ -13,7 +13,7 @@ leaves them. The first word behind the fence says what a block is, and how it is
     values                           rows `EXPRESSION -> NUMBER`, or the fault of the body that has it
     calls [handler]                  rows `STATEMENTS -> ANSWER, ..`: what a task (a handler) of the bench is answered
     faults cfg|src|steps|image       rows `TEXT -> FAULT`
-    console                          commands behind `$ `, each with what it prints, in a copy of examples/ and of the
+    console                          commands after `$ `, each with what it prints, in a copy of examples/ and of the
                                      systems of checks/schedules/
     rust FILE                        code of this file of crates/, as it stands there; its blocks are the whole file
     bytes                            the image of the last system of blocks, in hexadecimal digits

@@ -95,7 +95,7 @@ def words_of_reference():
 
 
 def kind_of(word, before, behind, words):
-    """The kind of a word, by the tokens before and behind it."""
+    """The kind of a word, by the tokens before and after it."""
     if word[0].isdigit():
         return "number" if re.fullmatch(r"0x[0-9A-Fa-f]{1,8}|0|[1-9][0-9]*", word) else "bad number"
     known = next((kind for kind, names in words.items() if word in names), None)

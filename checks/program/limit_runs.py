@@ -31,7 +31,7 @@ def lone(name, source, steps, expected, bound=None):
 
 
 # The calls of one task, in this order, and the answers. The text has `&v` where a call gives a value to a place; the
-# trace leaves it out. Behind `/` stand the lines of what the call causes.
+# trace leaves it out. After `/` stand the lines of what the call causes.
 CALL_APIS = """NUM_PRC(2);
 CLASS(TCL_1) {
     CRE_TSK(M, { TA_ACT, 0, m, 10, 256, NULL });

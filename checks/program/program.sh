@@ -264,7 +264,7 @@ says 'a configuration of 1 MiB and a byte' 1 'cfg:1: B5' check over.cfg b.src
 says 'a configuration of 3 MB' 1 'cfg:1: B5' check far.cfg b.src
 says 'a task text of 1 MiB and a byte' 1 'src:1: B5' check a.cfg over.src
 printf 'x' | cat a.want - > more.img
-says 'a byte behind an image' 1 'image: L6' sim more.img c.steps
+says 'a byte after an image' 1 'image: L6' sim more.img c.steps
 head -c 56 a.want > less.img
 says 'an image without its last byte' 1 'image: L1' sim less.img c.steps
 { printf 'FMPI\001'; tail -c 52 a.want; } > first.img

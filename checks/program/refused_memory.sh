@@ -122,7 +122,7 @@ each_refused_in_test() {
 each_refused_in_test hosting::processors_that_wait_for_one_another
 each_refused_in_test following::a_board_that_was_fed
 
-# Its one growth behind those of the board is refused, too.
+# Its one growth after those of the board is refused, too.
 made=overtaking::a_board_that_takes_no_memory_once_it_is_made
 passes REFUSE_FROM=0 "$made" || failed=1
 whole=$(cat asked)

@@ -65,7 +65,7 @@ LETTERS = {
 
 
 def framed(body):
-    """A message behind its header."""
+    """A message after its header."""
     body = body if isinstance(body, bytes) else json.dumps(body).encode()
     return b"Content-Length: %d\r\n\r\n%s" % (len(body), body)
 
@@ -156,7 +156,7 @@ def edits(answer):
 
 
 def handshake(program, tally):
-    """What comes before `initialize`, at it and behind `shutdown`."""
+    """What comes before `initialize`, at it and after `shutdown`."""
     editor = Editor(program)
     tally.verdict("a request before initialize", -32002, editor.ask("textDocument/hover", {})["code"])
     editor.notify("textDocument/didOpen", {"textDocument": {"uri": "a.cfg", "text": "x"}})
@@ -182,8 +182,8 @@ def handshake(program, tally):
         tally.verdict(f"no message: {text}", -32600, editor.receive()["error"]["code"])
     editor.send(framed(b'{"id": "a b", "method": "shutdown"}'))
     tally.verdict("an id that is a text", {"jsonrpc": "2.0", "id": "a b", "result": None}, editor.receive())
-    tally.verdict("a request behind shutdown", -32600, editor.at("hover", "a.cfg", 0, 0)["code"])
-    tally.verdict("exit behind shutdown", (0, ""), editor.end(False))
+    tally.verdict("a request after shutdown", -32600, editor.at("hover", "a.cfg", 0, 0)["code"])
+    tally.verdict("exit after shutdown", (0, ""), editor.end(False))
     tally.verdict("exit alone", (1, ""), Editor(program).started().end(False))
     editor = Editor(program)
     editor.process.stdin.close()
@@ -234,7 +234,7 @@ def diagnosed(program, tally):
     change = {"textDocument": {"uri": FOLDER + "a.src", "version": 2}, "contentChanges": [{"text": faulty}]}
     editor.notify("textDocument/didChange", change)
     found = editor.published(2)
-    tally.verdict("behind other characters in a comment", [((4, 23, 4, 28), 1, "B3")],
+    tally.verdict("after other characters in a comment", [((4, 23, 4, 28), 1, "B3")],
                   [it[:3] for it in found["a.src"]])
     tally.holds("what was meant", "did you mean `OTHER`?" in found["a.src"][0][3])
     tally.verdict("no fault in the other text", [], found["a.cfg"])
@@ -327,7 +327,7 @@ def hovered(program, tally):
         ("a handler", ("a.cfg", 7, 21), "`beat`: a handler body\n\n- the entry of an interrupt handler"),
         ("a variable", ("a.src", 5, 16), "`first`: a variable, place 1 of 0 to 63"),
         ("an array", ("a.src", 5, 4), "`list`: a variable, place 2 to 6 of 0 to 63"),
-        ("a variable behind an array", ("a.src", 3, 10), "`MAIN_`: a variable, place 7 of 0 to 63"),
+        ("a variable after an array", ("a.src", 3, 10), "`MAIN_`: a variable, place 7 of 0 to 63"),
         ("exinf", ("a.src", 4, 35), "`exinf`: the extended information of the static API, place 0 of 0 to 63"),
         ("a class", ("a.cfg", 1, 8), "class `TCL_1`: tasks begin on the processor of its number"),
         ("a constant", ("a.cfg", 2, 21), "`TA_ACT` is 2"),
@@ -337,9 +337,9 @@ def hovered(program, tally):
         answer = editor.at("hover", *where)
         tally.verdict(title, wanted, answer and answer["contents"]["value"])
     for title, where in (("a symbol", ("a.cfg", 0, 11)), ("a keyword", ("a.src", 0, 1)), ("a number", ("a.cfg", 0, 8)),
-                         ("a comment", ("a.src", 4, 7)), ("behind the text", ("a.src", 99, 0))):
+                         ("a comment", ("a.src", 4, 7)), ("after the text", ("a.src", 99, 0))):
         tally.verdict(f"nothing to say: {title}", None, editor.at("hover", *where))
-    tally.verdict("behind the end of a line", None, editor.at("hover", "a.src", 9, 999))
+    tally.verdict("after the end of a line", None, editor.at("hover", "a.src", 9, 999))
     tally.verdict("the end", (0, ""), editor.end())
 
 

@@ -10,7 +10,7 @@ the document tells by hand are left out of them. `--write` writes the lists: aft
 comment, and of docs/PROVED.md. Without it they are compared. The paths in docs/MAP.md and CONTRIBUTING.md are looked up
 too: one is below crates/ or the root; a bare name is that of a file of the crate or the folder that was named last; and
 what stands as `NAME` in `PATH` is a name that this file has. So are the definitions that docs/DEFINITIONS.md tells by
-hand. In docs/PROVED.md the names in brackets behind a function, in front of the colon of its item, are clauses of its
+hand. In docs/PROVED.md the names in brackets after a function, in front of the colon of its item, are clauses of its
 contract. Links between documents are followed.
 """
 
@@ -62,7 +62,7 @@ def floors():
 
 
 def first_sentences(text, least=0):
-    """The first sentence of a text, and those behind it while all together have fewer characters than the least."""
+    """The first sentence of a text, and those after it while all together have fewer characters than the least."""
     told, *others = re.split(r"(?<=\.) +(?=[A-Z`])", text)
     while others and len(told) < least:
         told = f"{told} {others.pop(0)}"
@@ -279,7 +279,7 @@ def clauses(crate):
 
 
 def check_clauses(tally):
-    """The clauses that are named behind a function are its own, or those of the last function of several."""
+    """The clauses that are named after a function are its own, or those of the last function of several."""
     crates, part = [], PROVED.read_text().partition(HEADLINE)[2].partition("\n## ")[2]
     for _, text in items(part):
         crates = re.findall(r"\*\*`(\w+)`", text) or crates

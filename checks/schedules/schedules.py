@@ -296,7 +296,7 @@ class Search:
         return [*(f"run {p + 1}" for p in range(self.processors())), *ticks, *ints]
 
     def given(self, option):
-        """The words that stand behind an option, in order."""
+        """The words that stand after an option, in order."""
         return [word for it, word in zip(self.options, self.options[1:]) if it == option]
 
     def never(self, word):
@@ -327,7 +327,7 @@ class Search:
         return f"all lists of events{few}{idle}{self.queued(few, idle)}"
 
     def queued(self, few, idle):
-        """How much may be queued, behind how many interrupts may come and when the clock ticks."""
+        """How much may be queued, after how many interrupts may come and when the clock ticks."""
         if not self.given("--queued"):
             return ""
         most = self.given("--queued")[0]
