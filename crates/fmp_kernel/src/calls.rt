@@ -137,7 +137,7 @@ pub fn call(
 }
 
 /// Carries out a call of those that are made most often, by task me, which processor p runs, with its CPU free and its
-/// dispatching enabled, as `call` does. For another call, and where it is made elsewhere, nothing is done.
+/// dispatching enabled, as `call` does. None of another call, and where it is made elsewhere: then nothing is done.
 #[tactic(auto, using(crate::proofs::GroupLemmas::called_open))]
 #[inline(always)]
 pub fn frequent_call(
@@ -153,6 +153,7 @@ pub fn frequent_call(
     ensures outcome { IfSome result (λ a. outcome a tables.new lines.new.items
         ≡ called tables.old.system tables.old.state p (Caller.Task me) made.now) }
     ensures other { IfNone result (tables.new ≡ tables.old) }
+    ensures untold { IfNone result (lines.new ≡ lines.old) }
     ensures shape { SameShape tables.old tables.new }
     ensures capacity { vec_capacity lines.new ≡ vec_capacity lines.old }
 {

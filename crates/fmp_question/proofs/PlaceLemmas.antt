@@ -161,7 +161,8 @@ module _ (sys : SystemTables) (tables : List LiveTable) (w : World MachineContex
   told-zeroed : (never : NeverAt) (l : Line) → tells_there sys dead_as_0 never l ≡ tells_there sys w never l
   unfolding tells_there
   told-zeroed never (line.Call p who made reply) =
-      ap (λ (b : Bool). (has_code never.code reply && is_of_caller never.by who) && b) (caller_behind-zeroed never.site p who)
+      ap (λ (b : Bool). (has_code never.code reply && is_of_caller never.by who) && b)
+      (caller_behind-zeroed never.site p who)
   told-zeroed never (line.Gets p t reply) =
       ap (λ (b : Bool). (is_same_code reply.code never.code && is_of never.by t) && b) (task_behind-zeroed never.site t)
   told-zeroed never (line.Tick clock) = refl
