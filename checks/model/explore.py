@@ -127,7 +127,7 @@ def explored(trial, bound, question, most=MOST):
 
 def numbers_of(text):
     """The states, events and depth that are printed."""
-    found = re.search(r"^(\d+) states, (\d+) events, (\d+) deep$", text, re.MULTILINE)
+    found = re.search(r"^(\d+) states?, (\d+) events?, (\d+) deep$", text, re.MULTILINE)
     expect(found, f"there is no count of states in {text!r}")
     return tuple(map(int, found.groups()))
 

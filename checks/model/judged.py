@@ -25,7 +25,7 @@ from model.explore import BOUND, EXPECT, explored, is_claimed  # noqa: E402
 from model.harness import SECONDS, expect, main  # noqa: E402
 from model.kernel import Kernel  # noqa: E402
 from model.schedules import after, tries_of  # noqa: E402
-from model.sentences import Judge, Sentences, read  # noqa: E402
+from model.sentences import Judge, Sentences, read_all  # noqa: E402
 from model.sentenced import asked  # noqa: E402
 
 MOST = 2_000
@@ -62,7 +62,7 @@ def judged(start, question, sentences, events):
 
 def printed(trial, bound):
     """The place of the sentence that `fmp_view expect` says the run fails, and the event; none if it says nothing."""
-    words = ["expect", "system.img", "system.steps", ENDED, "--bound", str(bound)]
+    words = ["expect", "system.img", "system.steps", ENDED, "--src", "system.src", "--bound", str(bound)]
     done = subprocess.run([trial.programs["fmp_view"], *words], cwd=trial.folder, capture_output=True, text=True,
                           check=False, timeout=SECONDS)
     found = re.match(rf"{ENDED}:(\d+): event (\d+): ", done.stdout)
@@ -75,7 +75,7 @@ def judge_lists(trial, case, bound, question, holds, chosen):
     ends = Sentences(chosen, case, ())
     lines = [*trial.read(EXPECT).split("\n"), *(ends.end() for _ in range(chosen.randint(0, 2)))]
     trial.write(ENDED, "\n".join(lines))
-    sentences, failed = tuple(map(read, lines)), Counter()
+    sentences, failed = read_all(lines, case.system), Counter()
     start, tries = Kernel(case.system, bound), tries_of(case.system)
     for _ in range(LISTS[holds]):
         events = chosen.choices(tries, k=chosen.randint(0, LONG))

@@ -26,7 +26,7 @@ from model.explore import BOUND, EXPECT, SECTIONS, compare, limits_of, with_sect
 from model.harness import BOUND as GREATEST, main  # noqa: E402
 from model.kernel import Kernel  # noqa: E402
 from model.schedules import Question, tries_of  # noqa: E402
-from model.sentences import FAULTS, Judge, Sentence, Sentences, read  # noqa: E402
+from model.sentences import FAULTS, Judge, Sentence, Sentences, read_all  # noqa: E402
 from model.systems import Generator  # noqa: E402
 
 MOST = 500
@@ -44,7 +44,7 @@ def without_faults(case):
 def ran(case, lines, chosen):
     """The judge of some sentences beside a random run."""
     kernel = Kernel(deepcopy(case.system), GREATEST)
-    judge = Judge(tuple(map(read, lines)), kernel)
+    judge = Judge(read_all(lines, case.system), kernel)
     for event in chosen.choices(tries_of(case.system), k=EVENTS):
         kernel.step(event)
         judge.see()
@@ -74,7 +74,7 @@ def asked(seed, version):
     case = with_sections(without_faults(case) if chosen.random() < 0.9 else case, chosen.sample(SECTIONS, 2), chosen)
     case.system.queue_limit = 255
     lines = expectations(case, chosen)
-    question = Question(FAULTS, sentences=tuple(map(read, lines)), idle_ticks=chosen.random() < 0.5,
+    question = Question(FAULTS, sentences=read_all(lines, case.system), idle_ticks=chosen.random() < 0.5,
                         interrupts=chosen.choice((None, None, 0, 1, 2)), queued=chosen.choice((None, None, 0, 1)),
                         limits=limits_of(case, chosen))
     return case, lines, question

@@ -1,12 +1,15 @@
 """The sentences of a text of expectations, from what docs/LANGUAGE.md says of each: how a line is read, what a sentence
 keeps of a run, and which line, state or end of a run breaks it.
 
-Names are those of random systems: the letter of a kind, as T for tasks and C for cyclic handlers, and a number.
+Names are those of random systems: the letter of a kind, as T for tasks and C for cyclic handlers, and a number. The
+handler of an interrupt goes by its body, and by `#I` in lines.
 """
 
 import operator
 import re
+from collections import Counter
 from dataclasses import dataclass
+from functools import partial
 
 LINE = re.compile(r"\d+ (?:p\d (\S+) )?(.*)")  # who a line is of, or what happens to it; and what it tells
 CALL_OR_WAIT = r"(?:\w+\([^)]*\)|gets)"
@@ -252,8 +255,18 @@ def split(words, *marks):
     return [rest, *reversed(parts)]
 
 
-def happening(words):
-    return Happening(words[0], words[2] if len(words) > 1 else None) if words else None
+def handlers_of(system):
+    """What lines call the handlers of interrupts, by their bodies, where only one interrupt has the body."""
+    bodies = [(system.bodies[handler.body].name, handler.name) for handler in system.interrupt_handlers]
+    counts = Counter(body for body, _ in bodies)
+    return {body: name for body, name in bodies if counts[body] == 1}
+
+
+def happening(words, handlers):
+    if not words:
+        return None
+    deed, *by = words
+    return Happening(deed, handlers.get(by[1], by[1]) if by else None)
 
 
 def test(words):
@@ -274,9 +287,9 @@ def joined(words, mark):
     return [part.split() for part in text.split(f" {mark} ")]
 
 
-def read(line):
-    """The sentence of a line."""
-    words = line.split("#")[0].split()
+def read(line, handlers):
+    """The sentence of a line, where these are the handlers by their bodies."""
+    words, said = line.split("#")[0].split(), partial(happening, handlers=handlers)
     match words:
         case []:
             return Sentence()
@@ -287,17 +300,22 @@ def read(line):
         case ["always", *tests]:
             return Always(tuple(tuple(map(test, joined(part, "and"))) for part in joined(tests, "or")))
         case ["between", *happenings, "one", "at", "a", "time"]:
-            return Between(*map(happening, split(happenings, "and")))
+            return Between(*map(said, split(happenings, "and")))
         case ["never", *happenings]:
-            what, since, until = map(happening, split(happenings, "after", "until"))
+            what, since, until = map(said, split(happenings, "after", "until"))
             return Before(until, what) if until and not since else Never(what, since, until)
     first, then, bound = split(words, "before", "within")
     if then:
-        return Before(happening(first), happening(then))
-    response = Runs(first[0]) if first[1:] == ["runs"] else happening(first)
+        return Before(said(first), said(then))
+    response = Runs(handlers.get(first[0], first[0])) if first[1:] == ["runs"] else said(first)
     ticks, _, _, *trigger = bound
     is_interrupt = trigger[0] == "int"
-    return Within(response, int(ticks), Interrupt(int(trigger[1])) if is_interrupt else happening(trigger))
+    return Within(response, int(ticks), Interrupt(int(trigger[1])) if is_interrupt else said(trigger))
+
+
+def read_all(lines, system):
+    """The sentences of lines about a system."""
+    return tuple(map(partial(read, handlers=handlers_of(system)), lines))
 
 
 # Judges
@@ -355,10 +373,12 @@ class Sentences:
 
     def __init__(self, chosen, case, lines):
         self.chosen, system = chosen, case.system
-        came = [(who, found[1] or found[2]) for who, text in map(told, lines) if (found := DEED.fullmatch(text))]
+        bodies = {name: body for body, name in handlers_of(system).items()}
+        came = [(bodies.get(who, who), found[1] or found[2]) for who, text in map(told, lines)
+                if (found := DEED.fullmatch(text))]
         self.came = sorted(set(came)) or [("T1", "put(0)")]
         self.tasks = [task.name for task in system.tasks]
-        self.actors = 2 * self.tasks + [handler.name for handler in system.cyclic_handlers]
+        self.actors = 2 * self.tasks + [handler.name for handler in system.cyclic_handlers] + [*bodies.values()]
         self.interrupts = [handler.number for handler in system.interrupt_handlers] or [1]
         counts = {"S": system.semaphores, "F": system.flags, "D": system.data_queues, "X": system.mailboxes,
                   "W": system.shared_words}

@@ -13,15 +13,6 @@ fn add_states(known: &mut Vec<Name>) -> Result<(), AllocError> {
     Ok(())
 }
 
-/// Adds the tasks and the cyclic handlers.
-fn add_actors(known: &mut Vec<Name>, sys: &System) -> Result<(), AllocError> {
-    add_tasks(known, &sys.tasks)?;
-    for cyclic in &sys.cyclics {
-        known.push(cyclic.name)?;
-    }
-    Ok(())
-}
-
 /// Adds the bodies that only the handler of one interrupt has.
 fn add_handlers(known: &mut Vec<Name>, sys: &System) -> Result<(), AllocError> {
     for interrupt in &sys.interrupts {
@@ -32,6 +23,15 @@ fn add_handlers(known: &mut Vec<Name>, sys: &System) -> Result<(), AllocError> {
         }
     }
     Ok(())
+}
+
+/// Adds the tasks, the cyclic handlers, and the bodies that only the handler of one interrupt has.
+fn add_actors(known: &mut Vec<Name>, sys: &System) -> Result<(), AllocError> {
+    add_tasks(known, &sys.tasks)?;
+    for cyclic in &sys.cyclics {
+        known.push(cyclic.name)?;
+    }
+    add_handlers(known, sys)
 }
 
 /// Adds words, if they can be names.
@@ -89,8 +89,8 @@ fn add_fixed(known: &mut Vec<Name>, expects: Expects) -> Result<(), AllocError> 
         Expects::BeforeOrBy => add_names(known, &["before", "within", "by"]),
         Expects::NeverEnd => add_names(known, &["after", "until"]),
         Expects::NeverEndOrBy => add_names(known, &["after", "until", "by"]),
-        Expects::NeverEndOrAt => add_names(known, &["after", "until", "by", "at"]),
-        Expects::NeverEndOrPlace => add_names(known, &["after", "until", "at"]),
+        Expects::NeverEndByOrAt => add_names(known, &["after", "until", "by", "at"]),
+        Expects::NeverEndOrAt => add_names(known, &["after", "until", "at"]),
         Expects::UntilEnd => add_name(known, "until"),
         Expects::UntilEndOrBy => add_names(known, &["until", "by"]),
         _ => add_rarer(known, expects),
@@ -119,7 +119,7 @@ fn add_known(known: &mut Vec<Name>, sys: &System, expects: Expects) -> Result<()
     match expects {
         Expects::Sentence => add_beginnings(known, sys),
         Expects::Deed => add_deeds(known),
-        Expects::Actor => add_actors(known, sys),
+        Expects::Actor | Expects::ActorOrHandler | Expects::ActorOfImage => add_actors(known, sys),
         Expects::Task => add_tasks(known, &sys.tasks),
         Expects::State => add_states(known),
         Expects::Test => add_tests(known, sys),
@@ -154,6 +154,9 @@ fn is_shown(word: &[u8]) -> bool {
 /// What is expected where a flaw is, in words; of a processor how many there are too.
 fn expected_text(alloc: Global, sys: &System, flaw: ExpectationFlaw) -> Result<String, AllocError> {
     match flaw.expects {
+        Expects::Processor if sys.processors == 1 => {
+            format!(in alloc; "{flaw}, which has 1 alone")
+        }
         Expects::Processor => {
             let count = sys.processors;
             format!(in alloc; "{flaw}, 1 to {count}")

@@ -2,7 +2,7 @@ pub mod Digits
 pub mod Events
 pub mod Fronts
 pub mod Judging
-pub mod Placing
+pub mod CallSentenceLemmas
 pub mod Rows
 pub mod Splitting
 pub mod Steps

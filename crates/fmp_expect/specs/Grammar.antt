@@ -13,8 +13,9 @@
 --     trigger   = "int" interrupt | happening
 --     interrupt = number | body
 --
--- An actor is the name of a task or of a cyclic handler, and a body one that only the handler of the interrupt has. A
--- line without words says nothing. What a condition is stands in Conditions, and a sentence about calls in Places.
+-- An actor is the name of a task, else of a cyclic handler, else a body, and a body is one that the handler of only one
+-- interrupt has. A line without words says nothing. What a condition is stands in Conditions, and a sentence about
+-- calls in CallSentences.
 use Rattle.std.specs.Prelude.{ℕ, ◌≡◌, ◌+◌, ◌-◌, List, [], ◌∷◌, Option, Some, None, ◌++◌, Result, Ok, Err, Bool, codes}
 use Rattle.std.specs.Prelude.{bytes_eq, if◌then◌else◌}
 use Rattle.fmp_base.specs.Systems.{SystemTables}
@@ -52,9 +53,9 @@ one_behind (Some who) = expects.One
 
 -- what may stand behind the happening of `never`: behind an answer `at` too, unless it is one of a handler
 abbrev pub never_end_by : Option ExpectedActor → ExpectedDeed → Expects
-never_end_by (Some (actor.Task t)) (deed.Answer code) = expects.NeverEndOrPlace
+never_end_by (Some (actor.Task t)) (deed.Answer code) = expects.NeverEndOrAt
 never_end_by (Some who) d = expects.NeverEnd
-never_end_by None (deed.Answer code) = expects.NeverEndOrAt
+never_end_by None (deed.Answer code) = expects.NeverEndByOrAt
 never_end_by None (deed.Stop fault) = expects.NeverEndOrBy
 never_end_by None (deed.Put value) = expects.NeverEndOrBy
 
@@ -62,23 +63,23 @@ abbrev pub never_end : Happening → Expects
 never_end h = never_end_by h.by h.deed
 
 -- `at` and the number of a line were read: the line ends, but where calls stand is not known
-abbrev pub place_ended : (at rest : List (List ℕ)) → ExpectationFlaw
-place_ended ws [] = flaw_at expects.NoPlace ws
-place_ended ws (w ∷ rest) = flaw_at expects.End (w ∷ rest)
+abbrev pub at_ended : (at rest : List (List ℕ)) → ExpectationFlaw
+at_ended ws [] = flaw_at expects.TextNeeded ws
+at_ended ws (w ∷ rest) = flaw_at expects.End (w ∷ rest)
 
-abbrev pub place_read : (at : List (List ℕ)) → Result (Read ℕ) ExpectationFlaw → ExpectationFlaw
-place_read ws (Ok n) = place_ended ws n.rest
-place_read ws (Err e) = e
+abbrev pub at_read : (at : List (List ℕ)) → Result (Read ℕ) ExpectationFlaw → ExpectationFlaw
+at_read ws (Ok n) = at_ended ws n.rest
+at_read ws (Err e) = e
 
 -- the flaw of words that begin with `at`, behind a happening of this actor and deed
-abbrev pub place_flaw : Option ExpectedActor → ExpectedDeed → List (List ℕ) → ExpectationFlaw
-place_flaw (Some (actor.Task t)) (deed.Answer code) ws =
-    place_read ws (number_in expects.Line 1 2147483647 (behind_first ws))
-place_flaw (Some (actor.Cyclic h)) (deed.Answer code) ws = flaw_at expects.NoPlaceOfActor ws
-place_flaw (Some who) d ws = flaw_at expects.NeverEnd ws
-place_flaw None (deed.Answer code) ws = place_read ws (number_in expects.Line 1 2147483647 (behind_first ws))
-place_flaw None (deed.Stop fault) ws = flaw_at expects.NeverEndOrBy ws
-place_flaw None (deed.Put value) ws = flaw_at expects.NeverEndOrBy ws
+abbrev pub at_flaw : Option ExpectedActor → ExpectedDeed → List (List ℕ) → ExpectationFlaw
+at_flaw (Some (actor.Task t)) (deed.Answer code) ws =
+    at_read ws (number_in expects.Line 1 2147483647 (behind_first ws))
+at_flaw (Some who) (deed.Answer code) ws = flaw_at expects.TaskOnly ws
+at_flaw (Some who) d ws = flaw_at expects.NeverEnd ws
+at_flaw None (deed.Answer code) ws = at_read ws (number_in expects.Line 1 2147483647 (behind_first ws))
+at_flaw None (deed.Stop fault) ws = flaw_at expects.NeverEndOrBy ws
+at_flaw None (deed.Put value) ws = flaw_at expects.NeverEndOrBy ws
 
 -- what may stand behind the happening of `after`
 abbrev pub until_end : Option ExpectedActor → Expects
@@ -117,7 +118,7 @@ never_behind sys h [] = Ok (sentence.Never h)
 never_behind sys h (w ∷ ws) =
     if bytes_eq w (codes "after") then after_of sys h ws
     else if bytes_eq w (codes "until") then until_of sys h ws
-    else if bytes_eq w (codes "at") then Err (place_flaw h.by h.deed (w ∷ ws))
+    else if bytes_eq w (codes "at") then Err (at_flaw h.by h.deed (w ∷ ws))
     else Err (flaw_at (never_end h) (w ∷ ws))
 
 -- `never` was read

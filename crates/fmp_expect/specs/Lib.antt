@@ -2,7 +2,7 @@ pub mod Words
 pub mod Parts
 pub mod Conditions
 pub mod Grammar
-pub mod Places
+pub mod CallSentences
 pub mod Meaning
 pub mod Watches
 pub mod Runs

@@ -86,11 +86,6 @@ deed_named w =
     or_else (option_map (λ c. deed.Answer c) (code_named w))
     (or_else (option_map (λ f. deed.Stop f) (fault_named w)) (option_map (λ v. deed.Put v) (put_value w)))
 
--- the task, or else the cyclic handler, of a name
-abbrev pub actor_named : SystemTables → List ℕ → Option ExpectedActor
-actor_named sys w =
-    or_else (option_map (λ t. actor.Task t) (task_named sys w)) (option_map (λ c. actor.Cyclic c) (cyclic_named sys w))
-
 -- whether an entry is a name, and whether it is this one: a configuration names bodies, and an image numbers them
 abbrev pub is_name : Entry → Bool
 is_name (entry.Named name) = true
@@ -106,22 +101,40 @@ number_of_handler w is =
     if nat_eq (count_by (λ i. is_named w i.entry) is) 1
     then option_map (λ i. i.number) (find (λ i. is_named w i.entry) is) else None
 
+-- the task of a name, or else the cyclic handler, or else the handler with the body of the name, if only one interrupt
+-- has it
+abbrev pub actor_named : SystemTables → List ℕ → Option ExpectedActor
+actor_named sys w =
+    or_else (option_map (λ t. actor.Task t) (task_named sys w))
+    (or_else (option_map (λ c. actor.Cyclic c) (cyclic_named sys w))
+    (option_map (λ n. actor.Interrupt (n - 1)) (number_of_handler w sys.interrupts)))
+
 -- the interrupt of a word: its number from 1 to 32, or the name of a body that only its handler has
 abbrev pub interrupt_named : SystemTables → List ℕ → Option ℕ
 interrupt_named sys w = or_else (number_of 1 32 w) (number_of_handler w sys.interrupts)
 
--- what may stand behind `int`: names too, where bodies of handlers have names
+-- what may stand where an interrupt is told: by `named`, where bodies of handlers have names, by `numbered`, where they
+-- have numbers alone, and by `none`, where there is no handler
+abbrev pub expected_by : List InterruptConfig → (named numbered none : Expects) → Expects
+expected_by [] named numbered none = none
+expected_by (i ∷ is) named numbered none = if list_any (λ i. is_name i.entry) (i ∷ is) then named else numbered
+
+-- what may stand after `int`
 abbrev pub interrupt_expected : SystemTables → Expects
 interrupt_expected sys =
-    if list_any (λ i. is_name i.entry) sys.interrupts then expects.InterruptOrHandler else expects.Interrupt
+    expected_by sys.interrupts expects.InterruptOrHandler expects.InterruptOfImage expects.Interrupt
+
+-- what may stand where an actor is told
+abbrev pub actor_expected : SystemTables → Expects
+actor_expected sys = expected_by sys.interrupts expects.ActorOrHandler expects.ActorOfImage expects.Actor
 
 abbrev pub deed_of : List (List ℕ) → Result (Read ExpectedDeed) ExpectationFlaw
 deed_of [] = Err (flaw_at expects.Deed [])
 deed_of (w ∷ ws) = found_or expects.Deed (w ∷ ws) ws (deed_named w)
 
 abbrev pub actor_of : SystemTables → List (List ℕ) → Result (Read ExpectedActor) ExpectationFlaw
-actor_of sys [] = Err (flaw_at expects.Actor [])
-actor_of sys (w ∷ ws) = found_or expects.Actor (w ∷ ws) ws (actor_named sys w)
+actor_of sys [] = Err (flaw_at (actor_expected sys) [])
+actor_of sys (w ∷ ws) = found_or (actor_expected sys) (w ∷ ws) ws (actor_named sys w)
 
 abbrev pub task_of : SystemTables → List (List ℕ) → Result (Read ℕ) ExpectationFlaw
 task_of sys [] = Err (flaw_at expects.Task [])

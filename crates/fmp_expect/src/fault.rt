@@ -1,7 +1,7 @@
 //! What can be wrong with a text of expectations.
 use thiserror::Error;
 
-/// What may stand at a place of a line.
+/// What may stand in a line.
 #[derive(Clone, Copy, Debug, PartialEq, Eq, Error)]
 pub enum Expects {
     /// The first word of a sentence.
@@ -13,6 +13,12 @@ pub enum Expects {
     /// The name of a task or of a cyclic handler.
     #[error("the name of a task or a cyclic handler")]
     Actor,
+    /// The name of a task or of a cyclic handler, or a body that the handler of only one interrupt has.
+    #[error("the name of a task or a cyclic handler, or a body that only the handler of an interrupt has")]
+    ActorOrHandler,
+    /// The name of a task or of a cyclic handler. An image has no names of bodies.
+    #[error("the name of a task or a cyclic handler (with --src also the body of an interrupt's handler)")]
+    ActorOfImage,
     /// The name of a task.
     #[error("the name of a task")]
     Task,
@@ -28,6 +34,9 @@ pub enum Expects {
     /// The number of an interrupt, or the name of a body that only its handler has.
     #[error("the number of an interrupt, 1 to 32, or a body that only its handler has")]
     InterruptOrHandler,
+    /// The number of an interrupt. An image has no names of bodies.
+    #[error("the number of an interrupt, 1 to 32 (with --src also the body of its handler)")]
+    InterruptOfImage,
     /// The word `runs`.
     #[error("`runs`")]
     Runs,
@@ -57,16 +66,16 @@ pub enum Expects {
     NeverEndOrBy,
     /// Nothing, `after` or `until`, or `by` with an actor, or `at` with the line of a call.
     #[error("the end of the line, `after`, `until`, `by` or `at`")]
-    NeverEndOrAt,
+    NeverEndByOrAt,
     /// Nothing, `after` or `until`, or `at` with the line of a call.
     #[error("the end of the line, `after`, `until` or `at`")]
-    NeverEndOrPlace,
+    NeverEndOrAt,
     /// Nothing, `after` or `until`. With `at` only a task may be named.
     #[error("the end of the line, `after` or `until`: with `at` only a task may be named")]
-    NoPlaceOfActor,
+    TaskOnly,
     /// Nothing, `after` or `until`. Where calls stand is not known without the tasks' text.
-    #[error("the end of the line, `after` or `until`: `at` needs the text of the tasks")]
-    NoPlace,
+    #[error("the end of the line, `after` or `until`: `at` needs --src SRC")]
+    TextNeeded,
     /// The number of a line of the tasks' text.
     #[error("the number of a line, 1 to 2147483647")]
     Line,

@@ -1,6 +1,7 @@
 //! What is expected of a run: texts of expectations, and whether a run meets them.
 #![tactic(auto)]
 
+mod call_sentences;
 mod checker;
 mod conditions;
 mod expectation;
@@ -10,12 +11,12 @@ mod laws;
 mod named;
 mod numbers;
 mod parts;
-mod placed;
 mod reading;
 mod running;
 mod sentences;
 mod words;
 
+pub use call_sentences::{CallSentence, read_call_sentences, read_other_sentences};
 pub use checker::{BrokenExpectation, Checker, Watch};
 pub use expectation::Expected;
 pub use fault::{ExpectFault, ExpectationFlaw, Expects};
@@ -23,6 +24,5 @@ pub use judge::{LineJudge, judge_run};
 pub use laws::events_tell_as_their_run;
 pub use named::{CODES, STATES, interrupt_named};
 pub use parts::faulty_word;
-pub use placed::{PlacedNever, read_placed, read_unplaced};
 pub use reading::read_expectations;
 pub use running::tell_run;

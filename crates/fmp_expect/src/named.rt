@@ -130,19 +130,6 @@ pub fn deed_named(word: &[u8]) -> Option<ExpectedDeed>
     }
 }
 
-/// The task, or else the cyclic handler, of this name.
-pub fn actor_named(sys: &System, word: &[u8]) -> Option<ExpectedActor>
-    ensures { result ≡ spec.actor_named (tables_of sys.now) word.now }
-{
-    if let Some(task) = task_named(sys, word) {
-        return Some(ExpectedActor::Task(task));
-    }
-    match cyclic_among(&sys.cyclics, word) {
-        Some(cyclic) => Some(ExpectedActor::Cyclic(cyclic)),
-        None => None,
-    }
-}
-
 /// Whether the configuration names the body of a handler.
 fn has_name(interrupt: &InterruptConfig) -> bool
     ensures { result ≡ spec.is_name interrupt.now.entry }
@@ -190,6 +177,23 @@ fn number_of_handler(interrupts: &[InterruptConfig], word: &[u8]) -> Option<u8>
     }
 }
 
+/// The task of this name, or else the cyclic handler, or else the handler with the body of this name, if only one
+/// interrupt has it.
+pub fn actor_named(sys: &System, word: &[u8]) -> Option<ExpectedActor>
+    ensures { result ≡ spec.actor_named (tables_of sys.now) word.now }
+{
+    if let Some(task) = task_named(sys, word) {
+        return Some(ExpectedActor::Task(task));
+    }
+    if let Some(cyclic) = cyclic_among(&sys.cyclics, word) {
+        return Some(ExpectedActor::Cyclic(cyclic));
+    }
+    match number_of_handler(&sys.interrupts, word) {
+        Some(number) => Some(ExpectedActor::Interrupt(number.saturating_sub(1))),
+        None => None,
+    }
+}
+
 /// The interrupt of a word: its number from 1 to 32, or the name of a body that only its handler has.
 pub fn interrupt_named(sys: &System, word: &[u8]) -> Option<u8>
     ensures { result ≡ spec.interrupt_named (tables_of sys.now) word.now }
@@ -206,13 +210,44 @@ fn have_names(interrupts: &[InterruptConfig]) -> bool
     interrupts.iter().any(|i| has_name(i))
 }
 
-/// What may stand after `int`: names too, where the bodies of handlers have names.
+/// What may stand where an interrupt is told: by names, by numbers alone, or where there is no handler.
+fn expected_by(
+    interrupts: &[InterruptConfig],
+    named: Expects,
+    numbered: Expects,
+    none: Expects,
+) -> Expects
+    ensures { result ≡ spec.expected_by interrupts.now named numbered none }
+{
+    if interrupts.is_empty() {
+        none
+    } else if have_names(interrupts) {
+        named
+    } else {
+        numbered
+    }
+}
+
+/// What may stand after `int`.
 pub fn interrupt_expected(sys: &System) -> Expects
     ensures { result ≡ spec.interrupt_expected (tables_of sys.now) }
 {
-    if have_names(&sys.interrupts) {
-        Expects::InterruptOrHandler
-    } else {
-        Expects::Interrupt
-    }
+    expected_by(
+        &sys.interrupts,
+        Expects::InterruptOrHandler,
+        Expects::InterruptOfImage,
+        Expects::Interrupt,
+    )
+}
+
+/// What may stand where an actor is told.
+pub fn actor_expected(sys: &System) -> Expects
+    ensures { result ≡ spec.actor_expected (tables_of sys.now) }
+{
+    expected_by(
+        &sys.interrupts,
+        Expects::ActorOrHandler,
+        Expects::ActorOfImage,
+        Expects::Actor,
+    )
 }

@@ -6,7 +6,8 @@ ghost use Rattle.fmp_expect.specs.Words.{words_of};
 
 use crate::fault::{ExpectationFlaw, Expects};
 use crate::named::{
-    STATES, actor_named, deed_named, interrupt_expected, interrupt_named, state_among, task_named,
+    STATES, actor_expected, actor_named, deed_named, interrupt_expected, interrupt_named,
+    state_among, task_named,
 };
 use crate::numbers::number_in;
 use crate::words::{before_comment, next_word, word_at, word_count};
@@ -67,9 +68,10 @@ pub fn actor_in<'a>(
         ≡ Ok (record { value = r.0; rest = words_of r.1.now })) }
     ensures fault { IfErr result (λ e. spec.actor_of (tables_of sys.now) (words_of line.now) ≡ Err e) }
 {
+    let expects = actor_expected(sys);
     match next_word(line) {
-        Some((word, rest)) => found_or(Expects::Actor, line, rest, actor_named(sys, word)),
-        None => Err(flaw_at(Expects::Actor, line)),
+        Some((word, rest)) => found_or(expects, line, rest, actor_named(sys, word)),
+        None => Err(flaw_at(expects, line)),
     }
 }
 

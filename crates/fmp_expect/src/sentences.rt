@@ -43,43 +43,41 @@ fn never_end(happening: Happening) -> Expects
     ensures { result ≡ spec.never_end happening }
 {
     match (happening.by, happening.deed) {
-        (Some(ExpectedActor::Task(_)), ExpectedDeed::Answer(_)) => Expects::NeverEndOrPlace,
+        (Some(ExpectedActor::Task(_)), ExpectedDeed::Answer(_)) => Expects::NeverEndOrAt,
         (Some(_), _) => Expects::NeverEnd,
-        (None, ExpectedDeed::Answer(_)) => Expects::NeverEndOrAt,
+        (None, ExpectedDeed::Answer(_)) => Expects::NeverEndByOrAt,
         (None, ExpectedDeed::Stop(_) | ExpectedDeed::Put(_)) => Expects::NeverEndOrBy,
     }
 }
 
 /// The flaw of what begins with `at`, after which the number of a line and the rest stand.
-fn place_ended(line: &[u8], rest: &[u8]) -> ExpectationFlaw
-    ensures { result ≡ spec.place_ended (words_of line.now) (words_of rest.now) }
+fn at_ended(line: &[u8], rest: &[u8]) -> ExpectationFlaw
+    ensures { result ≡ spec.at_ended (words_of line.now) (words_of rest.now) }
 {
     match next_word(rest) {
         Some(_) => flaw_at(Expects::End, rest),
-        None => flaw_at(Expects::NoPlace, line),
+        None => flaw_at(Expects::TextNeeded, line),
     }
 }
 
 /// The flaw of what begins with `at` after an answer.
-fn place_read(line: &[u8]) -> ExpectationFlaw
-    ensures { result ≡ spec.place_read (words_of line.now)
+fn at_read(line: &[u8]) -> ExpectationFlaw
+    ensures { result ≡ spec.at_read (words_of line.now)
         (number_in Line 1 2147483647 (after_first (words_of line.now))) }
 {
     match ranged_in(Expects::Line, 1, 2147483647, behind_first(line)) {
-        Ok((_, rest)) => place_ended(line, rest),
+        Ok((_, rest)) => at_ended(line, rest),
         Err(flaw) => flaw,
     }
 }
 
 /// The flaw of what begins with `at` after this happening.
-fn place_flaw(happening: Happening, line: &[u8]) -> ExpectationFlaw
-    ensures { result ≡ spec.place_flaw happening.by happening.deed (words_of line.now) }
+fn at_flaw(happening: Happening, line: &[u8]) -> ExpectationFlaw
+    ensures { result ≡ spec.at_flaw happening.by happening.deed (words_of line.now) }
 {
     match (happening.by, happening.deed) {
-        (Some(ExpectedActor::Task(_)) | None, ExpectedDeed::Answer(_)) => place_read(line),
-        (Some(ExpectedActor::Cyclic(_)), ExpectedDeed::Answer(_)) => {
-            flaw_at(Expects::NoPlaceOfActor, line)
-        }
+        (Some(ExpectedActor::Task(_)) | None, ExpectedDeed::Answer(_)) => at_read(line),
+        (Some(_), ExpectedDeed::Answer(_)) => flaw_at(Expects::TaskOnly, line),
         (Some(_), _) => flaw_at(Expects::NeverEnd, line),
         (None, ExpectedDeed::Stop(_) | ExpectedDeed::Put(_)) => {
             flaw_at(Expects::NeverEndOrBy, line)
@@ -195,7 +193,7 @@ fn never_behind(
             } else if is_this(word, b"until") {
                 until_in(sys, happening, rest)
             } else if is_this(word, b"at") {
-                Err(place_flaw(happening, line))
+                Err(at_flaw(happening, line))
             } else {
                 Err(flaw_at(never_end(happening), line))
             }

@@ -3,7 +3,7 @@ ghost use Rattle.std.specs.Prelude.{◌≡◌, ◌≢◌, ◌∷◌, [], ◌<◌
 ghost use Rattle.std.specs.Prelude.{IfSome, MatchOption, if◌then◌else◌};
 ghost use Rattle.fmp_base.specs.Systems.{SystemTables};
 ghost use Rattle.fmp_expect.specs.Grammar.{expectations_from, in_front, line_meaning};
-ghost use Rattle.fmp_expect.specs.Places.{IsCut};
+ghost use Rattle.fmp_expect.specs.CallSentences.{IsCut};
 ghost use Rattle.fmp_expect.specs.Words as spec;
 ghost use Rattle.fmp_expect.specs.Words.{lines_of, words_of};
 

@@ -44,6 +44,7 @@ is_fault _ _ = false
 abbrev pub is_actor : ExpectedActor → Caller → Bool
 is_actor (actor.Task t) (caller.Task other) = nat_eq other t
 is_actor (actor.Cyclic c) (caller.Handler (handler.Cyclic other)) = nat_eq other c
+is_actor (actor.Interrupt i) (caller.Handler (handler.Interrupt other)) = nat_eq other i
 is_actor _ _ = false
 
 -- whoever it is, or this one

@@ -12,13 +12,15 @@ pub enum ExpectedDeed {
     Stop(Fault),
 }
 
-/// Who acts, by its place in the tables of the system.
+/// Who acts.
 #[derive(Clone, Copy)]
 pub enum ExpectedActor {
-    /// A task.
+    /// A task, by its place.
     Task(usize),
-    /// A cyclic handler.
+    /// A cyclic handler, by its place.
     Cyclic(usize),
+    /// The handler of an interrupt, by its number less 1.
+    Interrupt(u8),
 }
 
 /// A deed, of anybody or of one actor.

@@ -1,5 +1,5 @@
 //! Laws of monitors, each the contract of a function that does nothing.
-ghost use Rattle.std.specs.Prelude.{◌≡◌, ◌∷◌, List};
+ghost use Rattle.std.specs.Prelude.{◌≡◌, ◌∷◌, List, false, true};
 ghost use Rattle.fmp_base.specs.declared.events.Line.{Line};
 ghost use Rattle.fmp_base.specs.States.{KernelState};
 ghost use Rattle.fmp_base.specs.Systems.{SystemTables};
@@ -10,7 +10,8 @@ ghost use Rattle.fmp_monitors.specs.declared.sentence.Sentence.{Sentence};
 ghost use Rattle.fmp_monitors.specs.declared.standing.Standing.{Standing};
 ghost use Rattle.fmp_monitors.specs.Conditions.{holds as is_so};
 ghost use Rattle.fmp_monitors.specs.Meaning.{Seen, breaks};
-ghost use Rattle.fmp_monitors.specs.Monitors.{breaks_by_line, is_broken_by, next_by_line, next_standing, standing_of};
+ghost use Rattle.fmp_monitors.specs.Monitors.{breaks_by_line, is_broken_by, is_empty_claim, next_by_line};
+ghost use Rattle.fmp_monitors.specs.Monitors.{next_standing, standing_of};
 ghost use Rattle.fmp_monitors.specs.Standings.{code};
 
 /// What a monitor keeps is what was seen so far comes to, and it tells what breaks the sentence.
@@ -20,6 +21,13 @@ pub fn monitors_tell_what_breaks()
         next_standing e (standing_of e before) x ≡ standing_of e (x ∷ before) }
     ensures breaks { (e : Sentence) (before : List Seen) (x : Seen) →
         is_broken_by e (standing_of e before) x ≡ breaks e before x }
+{}
+
+/// A sentence that says nothing of what was seen is not broken by it.
+#[tactic(auto, using(crate::proofs::EmptyLaws::empty_is_kept))]
+pub fn empty_claims_are_kept()
+    ensures { (e : Sentence) (before : List Seen) (x : Seen) → is_empty_claim e (x ∷ before) ≡ true →
+        breaks e before x ≡ false }
 {}
 
 /// The number of what is kept of a sentence tells it.

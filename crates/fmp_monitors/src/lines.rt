@@ -51,6 +51,9 @@ fn is_actor(actor: ExpectedActor, who: Caller) -> bool
         (ExpectedActor::Cyclic(cyclic), Caller::Handler(Handler::Cyclic(other))) => {
             usize::from(other) == cyclic
         }
+        (ExpectedActor::Interrupt(interrupt), Caller::Handler(Handler::Interrupt(other))) => {
+            other == interrupt
+        }
         _ => false,
     }
 }

@@ -1,5 +1,5 @@
 pub mod EndlessLemmas
 pub mod ForbiddenLemmas
-pub mod PlaceLemmas
+pub mod SiteLemmas
 pub mod QueueLemmas
 pub mod StandLemmas

@@ -1,6 +1,6 @@
 pub mod Behind
 pub mod Endless
 pub mod Forbidden
-pub mod Places
+pub mod Sites
 pub mod Rules
 pub mod Standing

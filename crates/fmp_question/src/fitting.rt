@@ -5,7 +5,7 @@ ghost use Rattle.fmp_base.specs.Systems.{tables_of};
 ghost use Rattle.fmp_instructions.specs.Instructions.{code_tables};
 ghost use Rattle.fmp_live.specs.Fits as spec;
 
-use crate::placing::{body_of, is_started};
+use crate::callers::{body_of, is_started};
 use fmp_base::{Caller, Er, HandlerContext, Held, Line, Reply, System};
 use fmp_code::{MachineContext, Vm};
 use fmp_instructions::Code;

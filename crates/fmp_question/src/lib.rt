@@ -1,17 +1,17 @@
 //! What is asked about all schedules of a system, and whether a kernel shows it in the state that it is in.
 #![tactic(auto)]
 
+mod callers;
 mod endless;
 mod fitting;
-mod placing;
 mod question;
 mod queueing;
 mod site;
 mod standing;
 
+pub use callers::{body_of, first_bad_at, is_bad, is_started, last_call, tells_there};
 pub use endless::{Outlook, is_endless, is_same, outlook_of};
 pub use fitting::are_written;
-pub use placing::{body_of, first_bad_at, is_bad, is_started, last_call, tells_there};
 pub use question::{ANSWERS, Never, NeverAt, Question, Ticks, first_forbidden, interrupt_count};
 pub use queueing::queues_within;
 pub use site::CallSite;

@@ -3,7 +3,7 @@
 ghost use Rattle.std.specs.Prelude.{◌≡◌, ◌++◌, IfOk, IfErr, OnOk, Ok, Some};
 ghost use Rattle.fmp_base.specs.Systems.{tables_of};
 ghost use Rattle.fmp_expect.specs.Grammar.{IsFaultOf};
-ghost use Rattle.fmp_expect.specs.Places as spec;
+ghost use Rattle.fmp_expect.specs.CallSentences as spec;
 ghost use Rattle.fmp_expect.specs.Words.{words_of};
 
 use crate::expectation::Expected;
@@ -18,7 +18,7 @@ use std::alloc::{AllocError, Global};
 
 /// A sentence about calls: a code that they must never be answered.
 #[derive(Clone, Copy)]
-pub struct PlacedNever {
+pub struct CallSentence {
     /// The line of the text of sentences, from 1.
     pub line: usize,
     pub code: Er,
@@ -40,8 +40,8 @@ fn only_number(line: &[u8]) -> Option<u32>
 }
 
 /// The number of a line after `at`, if nothing else stands there.
-fn place_in(line: &[u8]) -> Option<u32>
-    ensures { result ≡ spec.place_of (words_of line.now) }
+fn line_after_at(line: &[u8]) -> Option<u32>
+    ensures { result ≡ spec.line_after_at (words_of line.now) }
 {
     if begins(b"at", line) {
         only_number(behind_first(line))
@@ -51,11 +51,11 @@ fn place_in(line: &[u8]) -> Option<u32>
 }
 
 /// The sentence that a code must never be answered at the calls of a line, if that is what stands there.
-fn never_at(number: usize, code: Er, by: Option<usize>, line: &[u8]) -> Option<PlacedNever>
-    ensures { result ≡ spec.never_at number code by (spec.place_of (words_of line.now)) }
+fn never_at(number: usize, code: Er, by: Option<usize>, line: &[u8]) -> Option<CallSentence>
+    ensures { result ≡ spec.never_at number code by (spec.line_after_at (words_of line.now)) }
 {
-    let at = place_in(line)?;
-    Some(PlacedNever {
+    let at = line_after_at(line)?;
+    Some(CallSentence {
         line: number,
         code,
         by,
@@ -64,8 +64,8 @@ fn never_at(number: usize, code: Er, by: Option<usize>, line: &[u8]) -> Option<P
 }
 
 /// What stands after `by` in the line of this number, if it is a task, and calls of a line.
-fn by_placed(sys: &System, number: usize, code: Er, line: &[u8]) -> Option<PlacedNever>
-    ensures { result ≡ spec.by_placed (tables_of sys.now) number code (words_of line.now) }
+fn by_said(sys: &System, number: usize, code: Er, line: &[u8]) -> Option<CallSentence>
+    ensures { result ≡ spec.by_said (tables_of sys.now) number code (words_of line.now) }
 {
     let (word, rest) = next_word(line)?;
     let task = task_named(sys, word)?;
@@ -73,39 +73,39 @@ fn by_placed(sys: &System, number: usize, code: Er, line: &[u8]) -> Option<Place
 }
 
 /// What stands after a code in the line of this number, if it is about calls.
-fn code_placed(sys: &System, number: usize, code: Er, line: &[u8]) -> Option<PlacedNever>
-    ensures { result ≡ spec.code_placed (tables_of sys.now) number (Some code) (words_of line.now) }
+fn code_said(sys: &System, number: usize, code: Er, line: &[u8]) -> Option<CallSentence>
+    ensures { result ≡ spec.code_said (tables_of sys.now) number (Some code) (words_of line.now) }
 {
     if begins(b"by", line) {
-        by_placed(sys, number, code, behind_first(line))
+        by_said(sys, number, code, behind_first(line))
     } else {
         never_at(number, code, None, line)
     }
 }
 
 /// What stands after `never` in the line of this number, if it is about calls.
-fn answer_placed(sys: &System, number: usize, line: &[u8]) -> Option<PlacedNever>
-    ensures { result ≡ spec.answer_placed (tables_of sys.now) number (words_of line.now) }
+fn answer_said(sys: &System, number: usize, line: &[u8]) -> Option<CallSentence>
+    ensures { result ≡ spec.answer_said (tables_of sys.now) number (words_of line.now) }
 {
     let (word, rest) = next_word(line)?;
     let code = code_named(word)?;
-    code_placed(sys, number, code, rest)
+    code_said(sys, number, code, rest)
 }
 
 /// The sentence of the line of this number, if it is about calls.
-fn line_placed(sys: &System, number: usize, line: &[u8]) -> Option<PlacedNever>
-    ensures { result ≡ spec.line_placed (tables_of sys.now) number line.now }
+fn call_sentence_of(sys: &System, number: usize, line: &[u8]) -> Option<CallSentence>
+    ensures { result ≡ spec.call_sentence_of (tables_of sys.now) number line.now }
 {
     let text = before_comment(line);
     if begins(b"never", text) {
-        answer_placed(sys, number, behind_first(text))
+        answer_said(sys, number, behind_first(text))
     } else {
         None
     }
 }
 
 /// Adds a sentence, if there is one.
-fn add(all: &mut Vec<PlacedNever>, said: Option<PlacedNever>) -> Result<(), AllocError>
+fn add(all: &mut Vec<CallSentence>, said: Option<CallSentence>) -> Result<(), AllocError>
     ensures { OnOk result (all.new.items ≡ all.old.items ++ spec.listed said) }
 {
     if let Some(never) = said {
@@ -115,16 +115,20 @@ fn add(all: &mut Vec<PlacedNever>, said: Option<PlacedNever>) -> Result<(), Allo
 }
 
 /// The sentences about calls of a text for a system, in order. `AllocError` if memory runs out.
-#[tactic(auto, using(crate::proofs::Placing::placed_next))]
-pub fn read_placed(alloc: Global, sys: &System, text: &[u8]) -> Result<Vec<PlacedNever>, AllocError>
-    ensures { IfOk result (λ placed. placed.items ≡ spec.placed_of (tables_of sys.now) text.now) }
+#[tactic(auto, using(crate::proofs::CallSentenceLemmas::call_sentences_next))]
+pub fn read_call_sentences(
+    alloc: Global,
+    sys: &System,
+    text: &[u8],
+) -> Result<Vec<CallSentence>, AllocError>
+    ensures { IfOk result (λ said. said.items ≡ spec.call_sentences_of (tables_of sys.now) text.now) }
 {
     let mut all = Vec::new(alloc);
     let mut rest = text;
     let mut number = 1;
     while !rest.is_empty() {
         let (line, behind) = first_line(rest);
-        add(&mut all, line_placed(sys, number, line))?;
+        add(&mut all, call_sentence_of(sys, number, line))?;
         rest = behind;
         number += 1;
     }
@@ -132,27 +136,31 @@ pub fn read_placed(alloc: Global, sys: &System, text: &[u8]) -> Result<Vec<Place
 }
 
 /// A line, which is taken as empty if its sentence is about calls.
-fn unplaced<'a>(sys: &System, line: &'a [u8]) -> &'a [u8]
-    ensures { result.now ≡ spec.unplaced (tables_of sys.now) line.now }
+fn without_call_sentence<'a>(sys: &System, line: &'a [u8]) -> &'a [u8]
+    ensures { result.now ≡ spec.without_call_sentence (tables_of sys.now) line.now }
 {
-    match line_placed(sys, 0, line) {
+    match call_sentence_of(sys, 0, line) {
         Some(_) => &[],
         None => line,
     }
 }
 
 /// Reads the sentences of a text that are not about calls, as `read_expectations` does.
-#[tactic(auto, using(crate::proofs::Placing::unplaced_next))]
-pub fn read_unplaced(alloc: Global, sys: &System, text: &[u8]) -> Result<Vec<Expected>, ExpectFault>
-    ensures ok { IfOk result (λ xs. spec.unplaced_of (tables_of sys.now) text.now ≡ Ok xs.items) }
-    ensures fault { IfErr result (λ fault. IsFaultOf fault (spec.unplaced_of (tables_of sys.now) text.now)) }
+#[tactic(auto, using(crate::proofs::CallSentenceLemmas::other_sentences_next))]
+pub fn read_other_sentences(
+    alloc: Global,
+    sys: &System,
+    text: &[u8],
+) -> Result<Vec<Expected>, ExpectFault>
+    ensures ok { IfOk result (λ xs. spec.other_sentences_of (tables_of sys.now) text.now ≡ Ok xs.items) }
+    ensures fault { IfErr result (λ fault. IsFaultOf fault (spec.other_sentences_of (tables_of sys.now) text.now)) }
 {
     let mut all = Vec::new(alloc);
     let mut rest = text;
     let mut number = 1;
     while !rest.is_empty() {
         let (line, behind) = first_line(rest);
-        if let Err(fault) = read_line(sys, number, unplaced(sys, line), &mut all) {
+        if let Err(fault) = read_line(sys, number, without_call_sentence(sys, line), &mut all) {
             return Err(fault);
         }
         rest = behind;

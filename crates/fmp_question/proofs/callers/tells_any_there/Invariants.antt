@@ -1,7 +1,7 @@
 use Rattle.std.proofs.Common.{◌≡◌, false, take}
 use Rattle.fmp_base.specs.Systems.{tables_of}
-use Rattle.fmp_question.specs.Places.{forbids_there}
-use Rattle.fmp_question.proofs.placing.tells_any_there.Given as goal
+use Rattle.fmp_question.specs.Sites.{forbids_there}
+use Rattle.fmp_question.proofs.callers.tells_any_there.Given as goal
 
 abbrev pub invariant-loop-never : goal.invariant-loop-never
 invariant-loop-never l =

@@ -1,14 +1,16 @@
 use Rattle.std.proofs.Common.{◌≡◌, ◌+◌, ◌≤◌, ◌++◌, length}
 use Rattle.fmp_base.specs.Systems.{tables_of}
-use Rattle.fmp_expect.specs.Places.{placed_from, placed_of}
+use Rattle.fmp_expect.specs.CallSentences.{call_sentences_from, call_sentences_of}
 use Rattle.fmp_expect.specs.Words.{lines_of}
-use Rattle.fmp_expect.proofs.placed.read_placed.Given as goal
+use Rattle.fmp_expect.proofs.call_sentences.read_call_sentences.Given as goal
 
 -- the sentences so far, and those of the lines that are left, are those of the text
 abbrev pub invariant-loop-rest : goal.invariant-loop-rest
 invariant-loop-rest l = record {
   counted : l.number + length l.rest ≤ length l.text + 1;
-  said : l.all.items ++ placed_from (tables_of l.sys) l.number (lines_of l.rest) ≡ placed_of (tables_of l.sys) l.text;
+  said :
+      l.all.items ++ call_sentences_from (tables_of l.sys) l.number (lines_of l.rest)
+      ≡ call_sentences_of (tables_of l.sys) l.text;
 }
 
 abbrev pub decreases-loop-rest : goal.decreases-loop-rest

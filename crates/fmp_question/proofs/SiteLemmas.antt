@@ -21,8 +21,8 @@ use Rattle.fmp_question.specs.declared.site.CallSite.{CallSite}
 use Rattle.fmp_question.specs.declared.question.NeverAt.{NeverAt}
 use Rattle.fmp_question.specs.declared.question.Question.{Question}
 use Rattle.fmp_question.specs.Forbidden.{forbids, has_code, is_same_code}
-use Rattle.fmp_question.specs.Places.{forbids_there, has_body, is_bad, is_behind, is_caller_behind, is_handler_behind}
-use Rattle.fmp_question.specs.Places.{is_of, is_of_caller, is_task_behind, tells_there}
+use Rattle.fmp_question.specs.Sites.{forbids_there, has_body, is_bad, is_behind, is_caller_behind, is_handler_behind}
+use Rattle.fmp_question.specs.Sites.{is_of, is_of_caller, is_task_behind, tells_there}
 use Rattle.fmp_instructions.specs.declared.instructions.MachineContext.{MachineContext}
 use Rattle.fmp_instructions.specs.Instructions.{BodyTables}
 use Rattle.fmp_live.specs.LiveLocals.{LiveTable, table_at}

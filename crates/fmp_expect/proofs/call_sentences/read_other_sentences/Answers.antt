@@ -3,10 +3,10 @@ use Rattle.fmp_base.specs.Systems.{tables_of}
 use Rattle.fmp_expect.specs.declared.expectation.Expected.{Expected}
 use Rattle.fmp_expect.specs.declared.fault.ExpectFault.{ExpectFault}
 use Rattle.fmp_expect.specs.Grammar.{IsFaultOf, behind_all, in_front, line_meaning}
-use Rattle.fmp_expect.specs.Places.{unplaced_from}
+use Rattle.fmp_expect.specs.CallSentences.{other_sentences_from}
 use Rattle.fmp_expect.specs.Words.{lines_of}
-use Rattle.fmp_expect.proofs.Placing.{unplaced_next}
-use Rattle.fmp_expect.proofs.placed.read_unplaced.Goals as goal
+use Rattle.fmp_expect.proofs.CallSentenceLemmas.{other_sentences_next}
+use Rattle.fmp_expect.proofs.call_sentences.read_other_sentences.Goals as goal
 
 pub returns-in-Err-clause-fault : goal.returns-in-Err-clause-fault
 returns-in-Err-clause-fault c =
@@ -14,11 +14,11 @@ returns-in-Err-clause-fault c =
     let n = c.loop-rest.number in
     let all = c.loop-rest.all.items in
     let cut = c.first_line in
-    let more = unplaced_from sys (n + 1) (lines_of cut.result.1.now) in
+    let more = other_sentences_from sys (n + 1) (lines_of cut.result.1.now) in
     subst (λ (r : Result (List Expected) ExpectFault). IsFaultOf c.in-Err.fault r)
-    (ap (λ line. behind_all all (in_front n (line_meaning sys line) more)) c.unplaced.ensures
+    (ap (λ line. behind_all all (in_front n (line_meaning sys line) more)) c.without_call_sentence.ensures
     ∙ sym
     (ap (behind_all all)
-    (unplaced_next sys n c.loop-rest.rest.now cut.result.0.now cut.result.1.now cut.ensures.cut))
+    (other_sentences_next sys n c.loop-rest.rest.now cut.result.0.now cut.result.1.now cut.ensures.cut))
     ∙ c.loop-rest.invariant.said)
     (c.in-Err.ensures.fault more)

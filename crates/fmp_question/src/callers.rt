@@ -4,7 +4,7 @@ ghost use Rattle.std.specs.List.{position};
 ghost use Rattle.fmp_base.specs.States.{task_at};
 ghost use Rattle.fmp_base.specs.Systems.{body_of as number_of, tables_of};
 ghost use Rattle.fmp_base.specs.TaskCalls.{is_dormant as sleeps};
-ghost use Rattle.fmp_question.specs.Places as spec;
+ghost use Rattle.fmp_question.specs.Sites as spec;
 
 use crate::question::{NeverAt, Question, is_forbidden, is_same_code};
 use crate::site::CallSite;
@@ -144,7 +144,7 @@ fn is_of_caller(by: Option<usize>, caller: Caller) -> bool
 }
 
 /// Whether a line that was just told on a kernel tells that a call gets an answer that it must never get.
-#[tactic(auto, unfolding(crate::specs::Places::tells_there))]
+#[tactic(auto, unfolding(crate::specs::Sites::tells_there))]
 pub fn tells_there(kernel: &Kernel<Vm<'_>>, sys: &System, never: NeverAt, line: &Line) -> bool
     ensures { result ≡ spec.tells_there (tables_of sys.now) kernel.now.world never line.now }
 {
