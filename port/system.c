@@ -26,6 +26,7 @@ typedef void (*body_function)(intptr_t);
 struct event {
     alignas(64) fmp_outcome outcome;
     uint32_t others;            /* what changes elsewhere than on this processor, by bits */
+    uint8_t processor;
 };
 
 fmp_system system_kernel = FMP_BLANK;
@@ -209,29 +210,35 @@ struct flow *system_flow(const fmp_actor *actor, uint8_t p)
     return actor->who == FMP_TASK ? &tasks[actor->number - 1] : &handlers[p - 1];
 }
 
-static uint32_t event_of(uint8_t p, const struct flow *flow, fmp_outcome *outcome)
+static inline uint32_t event_of(const struct flow *flow, struct event *event)
 {
-    const int32_t *with = flow->arguments;
+    const volatile int32_t *with = flow->arguments;
+    uint8_t p = event->processor;
     if (flow->wish == CALLS) {
-        return fmp_call(&system_kernel, p, flow->service, with[0], with[1], with[2], with[3], outcome);
+        return fmp_call(&system_kernel, p, flow->service, with[0], with[1], with[2], with[3], &event->outcome);
     }
     switch (flow->wish) {
     case ENDS:
-        return fmp_end(&system_kernel, p, outcome);
+        return fmp_end(&system_kernel, p, &event->outcome);
     case FAULTS:
-        return fmp_fault(&system_kernel, p, flow->fault, outcome);
+        return fmp_fault(&system_kernel, p, flow->fault, &event->outcome);
     default:
         return FMP_KEPT;
     }
 }
 
-static inline uint32_t hand_in(uint8_t p, struct flow *flow, struct event *event)
+static inline bool is_watched(void)
 {
-    uint32_t answer = event_of(p, flow, &event->outcome);
+    return ((uintptr_t)trace_file | (uintptr_t)recording_file) != 0;
+}
+
+static inline uint32_t hand_in(struct flow *flow, struct event *event)
+{
+    uint32_t answer = event_of(flow, event);
     if (answer == FMP_DONE) {
         flow->wish = GOES_ON;
         uint32_t changes = event->outcome.changes & event->others;
-        if (changes != 0 || trace_file != NULL || recording_file != NULL) {
+        if (changes != 0 || is_watched()) {
             follow(changes);
         }
         count();
@@ -249,29 +256,36 @@ static inline uint32_t hand_in(uint8_t p, struct flow *flow, struct event *event
 uint32_t system_hand_in(uint8_t p, struct flow *flow, uint32_t *changes)
 {
     struct event *event = &last[p - 1];
-    uint32_t answer = hand_in(p, flow, event);
+    uint32_t answer = hand_in(flow, event);
     *changes = event->outcome.changes & event->others;
     return answer;
 }
 
-uint32_t system_step(uint8_t p, const struct driver *driver, struct coroutine *outside)
+/* The body that acts on the processor of this event goes on until it has a wish, which is handed in. */
+__attribute__((noinline)) static uint32_t step(struct event *event, const struct driver *driver,
+                                               struct coroutine *outside)
 {
-    if ((uint8_t)(p - 1) >= system_steppable) {
-        return atomic_load(&system_runs) || system_kernel.at != NULL ? FMP_NOTHING : FMP_NO_SYSTEM;
-    }
-    struct event *event = &last[(uint8_t)(p - 1)];
     const fmp_actor *actor = &event->outcome.acting;
     if (running != NULL || actor->who == FMP_NOBODY) {
         return FMP_NOTHING;
     }
-    struct flow *flow = system_flow(actor, p);
+    struct flow *flow = system_flow(actor, event->processor);
     if (flow->wish <= BEGINS) {
         flow->told = actor;
         flow->polls = 0;
         system_driver = driver;
         system_enter(outside, flow);
     }
-    return hand_in(p, flow, event);
+    return hand_in(flow, event);
+}
+
+uint32_t system_step(uint8_t p, const struct driver *driver, struct coroutine *outside)
+{
+    uint8_t at = (uint8_t)(p - 1);
+    if (at >= system_steppable) {
+        return atomic_load(&system_runs) || system_kernel.at != NULL ? FMP_NOTHING : FMP_NO_SYSTEM;
+    }
+    return step(&last[at], driver, outside);
 }
 
 static uint32_t finished(uint32_t answer, const fmp_outcome *outcome, uint32_t *changes)
@@ -371,6 +385,7 @@ static bool take_stacks(FILE *messages)
     for (uint32_t p = 1; p <= system_processors; p++) {
         struct flow *flow = &handlers[p - 1];
         last[p - 1].others = ~(1u << (p - 1));
+        last[p - 1].processor = (uint8_t)p;
         flow->name = handler_names[p - 1];
         if (!take_stack(flow, SPARE_STACK, messages)) {
             return false;

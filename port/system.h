@@ -25,7 +25,7 @@ struct flow {
     enum wish wish;
     uint8_t service;            /* of its call */
     uint8_t fault;
-    int32_t arguments[4];
+    volatile int32_t arguments[4];  /* volatile: each is kept by itself; gathered in a vector, they take longer */
     const fmp_actor *told;      /* what it was told, when it goes on */
     fmp_actor reply;            /* where a driver keeps that */
     unsigned long polls;        /* since it went on */

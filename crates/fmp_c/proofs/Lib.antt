@@ -1,3 +1,4 @@
+pub mod Frequent
 pub mod Rows
 pub mod Short
 pub mod Steps

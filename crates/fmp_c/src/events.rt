@@ -2,13 +2,15 @@
 //! after 2^31 events, 4 where the handle is blank, 5 to 9 where a number is out of range. Of a checked system it is 10
 //! where the text of the actor does another thing next, and 11 where that text is still within a stretch, in which it
 //! has gone on by one turn. Unless it is 1, nothing that C reads has changed.
-ghost use Rattle.std.specs.Prelude.{◌≡◌, ◌∷◌, [], IfSome, None, Ok};
+ghost use Rattle.std.specs.Prelude.{◌≡◌, ◌∷◌, [], IfSome, None, Ok, pos};
 ghost use Rattle.fmp_outside.specs.declared.given.Act.TheVariants as act;
 ghost use Rattle.fmp_outside.specs.declared.given.Given.TheVariants as given;
 ghost use Rattle.fmp_foreign.specs.Hosting.{called_by, made_by};
 ghost use Rattle.fmp_c.specs.Exports.{IsTaken, fault_of};
+ghost use Rattle.fmp_c.specs.Services as spec;
 
 use crate::handle::FmpSystem;
+use crate::machine::{POL_SEM, SIG_SEM, SLP_TSK, WAI_SEM, WUP_TSK};
 use crate::names::item;
 use crate::records::FmpOutcome;
 use fmp_base::Fault;
@@ -23,10 +25,9 @@ const BLANK: u32 = 4;
 /// What is answered where there is no such fault.
 const NO_FAULT: u32 = 9;
 
-/// The actor of the processor of this number, from 1, makes the call of the service of this function code, 1 to 59.
-/// Arguments that it does not take are ignored.
-#[unsafe(no_mangle)]
-pub extern "C" fn fmp_call(
+/// The actor of the processor of this number makes the call of the service of this function code, whichever it is.
+#[inline(never)]
+fn call_any(
     alloc: Global,
     h: &mut FmpSystem,
     p: u8,
@@ -52,6 +53,72 @@ pub extern "C" fn fmp_call(
             number
         }
         None => BLANK,
+    }
+}
+
+/// The same with this first argument, and 0 for any other: mostly a call that is one of those that are made most often.
+#[inline(never)]
+fn call_often(
+    alloc: Global,
+    h: &mut FmpSystem,
+    p: u8,
+    service: u8,
+    a: i32,
+    out: &mut FmpOutcome,
+) -> u32
+    ensures taken { IfSome h.old.machine (λ m.
+        IsTaken m (made_by p (called_by service (a ∷ pos 0 ∷ pos 0 ∷ pos 0 ∷ []))) p h.new.machine out.new result) }
+    ensures blank { h.old.machine ≡ None → (h.new.machine ≡ None) × (result ≡ 4) × (out.new ≡ out.old) }
+{
+    match mem::replace(h, FmpSystem::blank()).into_box(alloc) {
+        Some(held) => {
+            let mut machine = held;
+            let number = machine.call_straight(p, service, a, out);
+            *h = FmpSystem::of(machine);
+            match number {
+                Some(number) => number,
+                None => call_any(alloc, h, p, service, a, 0, 0, 0, out),
+            }
+        }
+        None => BLANK,
+    }
+}
+
+/// Whether calls of the service of this function code are made most often. Such a service takes one argument at most.
+#[inline(always)]
+fn is_frequent(service: u8) -> bool
+    ensures { result ≡ spec.is_frequent service }
+{
+    service == SLP_TSK
+        || service == WUP_TSK
+        || service == SIG_SEM
+        || service == WAI_SEM
+        || service == POL_SEM
+}
+
+/// The actor of the processor of this number, from 1, makes the call of the service of this function code, 1 to 59.
+/// Arguments that it does not take are ignored.
+#[tactic(auto, using(crate::proofs::Frequent::frequent_taken))]
+#[unsafe(no_mangle)]
+pub extern "C" fn fmp_call(
+    alloc: Global,
+    h: &mut FmpSystem,
+    p: u8,
+    service: u8,
+    a: i32,
+    b: i32,
+    c: i32,
+    d: i32,
+    out: &mut FmpOutcome,
+) -> u32
+    ensures taken { IfSome h.old.machine (λ m.
+        IsTaken m (made_by p (called_by service (a ∷ b ∷ c ∷ d ∷ []))) p h.new.machine out.new result) }
+    ensures blank { h.old.machine ≡ None → (h.new.machine ≡ None) × (result ≡ 4) × (out.new ≡ out.old) }
+{
+    if is_frequent(service) {
+        call_often(alloc, h, p, service, a, out)
+    } else {
+        call_any(alloc, h, p, service, a, b, c, d, out)
     }
 }
 

@@ -1,23 +1,40 @@
 //! What a handle holds: a hosted system, the text that its bodies must follow, if there is one, what came to it last,
 //! and the page on which its lines are printed.
-ghost use Rattle.std.specs.Prelude.{◌≡◌, Err, Ok, Some};
+ghost use Rattle.std.specs.Prelude.{◌≡◌, ◌∷◌, [], Err, IfNone, IfSome, Ok, Some, pos};
 ghost use Rattle.fmp_base.specs.declared.events.Effect.TheVariants as effect;
 ghost use Rattle.fmp_base.specs.Meanings.{context_at};
 ghost use Rattle.fmp_base.specs.Systems.{tables_of};
 ghost use Rattle.fmp_base.specs.Texts.{lines_text};
-ghost use Rattle.fmp_foreign.specs.Hosting.{answer};
+ghost use Rattle.fmp_foreign.specs.Hosting.{answer, called_by, made_by};
 ghost use Rattle.fmp_foreign.specs.Looking.{acting_from, acting_on};
-ghost use Rattle.fmp_c.specs.Exports.{IsConsulted, IsTakenBy, answered, checked_number, machine_after};
+ghost use Rattle.fmp_outside.specs.declared.given.Act.TheVariants as act;
+ghost use Rattle.fmp_outside.specs.declared.given.Given.TheVariants as given;
+ghost use Rattle.fmp_c.specs.Exports.{IsConsulted, IsTaken, IsTakenBy, answered, checked_number, machine_after};
 ghost use Rattle.fmp_c.specs.Exports.{machine_restarted, outcome_of};
 ghost use Rattle.fmp_c.specs.Records as spec;
 
 use crate::records::{FmpActing, FmpOutcome, answer_number, changes};
-use fmp_base::{Caller, Effect, Held};
+use fmp_base::{Call, Caller, Effect, Held, Lock};
 use fmp_checked::{ImageBody, Objection, consult, restart_counts};
 use fmp_foreign::{Acting, HostedSystem, Refusal, Shadow};
 use fmp_kernel::actors::actor_on;
-use fmp_outside::Given;
+use fmp_outside::{Act, Given};
 use fmp_trace::Page;
+
+/// The function code of `slp_tsk`.
+pub const SLP_TSK: u8 = 12;
+
+/// The function code of `wup_tsk`.
+pub const WUP_TSK: u8 = 14;
+
+/// The function code of `sig_sem`.
+pub const SIG_SEM: u8 = 20;
+
+/// The function code of `wai_sem`.
+pub const WAI_SEM: u8 = 21;
+
+/// The function code of `pol_sem`.
+pub const POL_SEM: u8 = 22;
 
 /// What is answered where the text of the actor does another thing next.
 const NOT_THE_TEXT: u32 = 10;
@@ -65,6 +82,67 @@ impl Machine {
         match self.consult(given) {
             None => self.take_any(given, p, out),
             Some(why) => self.refuse(why, p, out),
+        }
+    }
+
+    /// Whether nothing stands in the way of a call of the actor of the processor of this number: it is a task that goes
+    /// on, on a processor that is open, there is no text, and there are no spin locks.
+    #[inline(always)]
+    fn is_straight(&self, p: u8) -> bool {
+        let kernel = &self.hosted.kernel;
+        let tables = kernel.tables();
+        if self.text.is_some() || kernel.taken() >= 1 << 31 {
+            return false;
+        }
+        if p < 1 || p as usize > tables.processor_count() {
+            return false;
+        }
+        match actor_on(tables, p - 1) {
+            Some(Caller::Task(t)) => {
+                let cpu = tables.processor(p - 1);
+                matches!(kernel.held(t), Some(Held::Goes(_)))
+                    && tables.spin_lock_count() == 0
+                    && matches!(cpu.lock, Lock::Free)
+                    && !cpu.dispatch_disabled
+            }
+            _ => false,
+        }
+    }
+
+    /// The actor of the processor of this number makes this call, inline, so that nothing is left but what is done for
+    /// this call. None where something may stand in its way: then nothing has happened.
+    #[inline(always)]
+    fn take_straight(&mut self, p: u8, call: Call, out: &mut FmpOutcome) -> Option<u32>
+        ensures taken { IfSome result (λ number.
+            IsTakenBy self.old.text self.old (given.Act p (act.Call call)) p (Some self.new) out.new number) }
+        ensures other { IfNone result (self.new ≡ self.old) }
+        ensures untold { IfNone result (out.new ≡ out.old) }
+    {
+        if self.is_straight(p) {
+            Some(self.take_inline(&Given::Act(p, Act::Call(call)), p, out))
+        } else {
+            None
+        }
+    }
+
+    /// The actor of the processor of this number makes the call of the service of this function code with this first
+    /// argument, and 0 for any other, where it is one of those that are made most often, and nothing stands in its way.
+    /// None of another one, or where something may stand in its way: then nothing has happened.
+    #[inline(always)]
+    pub fn call_straight(&mut self, p: u8, service: u8, a: i32, out: &mut FmpOutcome) -> Option<u32>
+        ensures taken { IfSome result (λ number.
+            IsTaken self.old (made_by p (called_by service (a ∷ pos 0 ∷ pos 0 ∷ pos 0 ∷ []))) p (Some self.new)
+            out.new number) }
+        ensures other { IfNone result (self.new ≡ self.old) }
+        ensures untold { IfNone result (out.new ≡ out.old) }
+    {
+        match service {
+            SLP_TSK => self.take_straight(p, Call::SlpTsk, out),
+            WUP_TSK => self.take_straight(p, Call::WupTsk { task: a }, out),
+            SIG_SEM => self.take_straight(p, Call::SigSem { semaphore: a }, out),
+            WAI_SEM => self.take_straight(p, Call::WaiSem { semaphore: a }, out),
+            POL_SEM => self.take_straight(p, Call::PolSem { semaphore: a }, out),
+            _ => None,
         }
     }
 

@@ -1,9 +1,10 @@
 //! The service calls: the test of where a call is made from, then the case of the call. Each call of the uITRON 4.0
 //! standard profile and of the FMP kernel that this kernel has is one, from tasks and from handlers.
-ghost use Rattle.std.specs.Prelude.{◌≡◌, ◌<◌, [], length, vec_capacity, false, IfNone, IfSome};
+ghost use Rattle.std.specs.Prelude.{◌≡◌, ◌<◌, ◌||◌, [], length, not, vec_capacity, false, true, IfNone, IfSome};
 ghost use Rattle.fmp_base.specs.declared.states.Handler.{Handler};
 ghost use Rattle.fmp_base.specs.Calls.{called, case_by, case_of};
 ghost use Rattle.fmp_base.specs.Permissions.{permission, is_barred as barred};
+ghost use Rattle.fmp_base.specs.ProcessorCalls.{is_cpu_locked as is_locked};
 ghost use Rattle.fmp_base.specs.Ranges.{IsInRange};
 ghost use Rattle.fmp_base.specs.Services.{service_of};
 ghost use Rattle.fmp_base.specs.States.{processor_at, task_at};
@@ -12,7 +13,7 @@ ghost use Rattle.fmp_tasks.specs.Callers.{IsTaskOf};
 ghost use Rattle.fmp_tasks.specs.Lines.{AreEmptyWithRoom};
 ghost use Rattle.fmp_tasks.specs.Tables.{outcome, SameShape};
 
-use crate::calls::context::{is_barred, is_open};
+use crate::calls::context::is_barred;
 use crate::calls::groups::{ServiceGroup, group};
 use crate::calls::handlers::handler_call;
 use crate::calls::management::management_call;
@@ -137,7 +138,7 @@ pub fn call(
 }
 
 /// Carries out a call of those that are made most often, by task me, which processor p runs, with its CPU free and its
-/// dispatching enabled, as `call` does. None of another call, and where it is made elsewhere: then nothing is done.
+/// dispatching enabled, as `call` does. None of another call: then nothing is done.
 #[tactic(auto, using(crate::proofs::GroupLemmas::called_open))]
 #[inline(always)]
 pub fn frequent_call(
@@ -148,7 +149,8 @@ pub fn frequent_call(
     made: &Call,
 ) -> Option<Answer>
     requires caller { me < length tables.old.system.tasks }
-    requires processor { p < tables.old.system.processors }
+    requires open { not (is_locked (processor_at tables.old.state p)
+        || (processor_at tables.old.state p).dispatch_disabled) ≡ true }
     requires lines { AreEmptyWithRoom 255 lines.old }
     ensures outcome { IfSome result (λ a. outcome a tables.new lines.new.items
         ≡ called tables.old.system tables.old.state p (Caller.Task me) made.now) }
@@ -157,9 +159,6 @@ pub fn frequent_call(
     ensures shape { SameShape tables.old tables.new }
     ensures capacity { vec_capacity lines.new ≡ vec_capacity lines.old }
 {
-    if !is_open(&tables.processor(p)) {
-        return None;
-    }
     match *made {
         Call::SigSem { semaphore } => Some(sig_sem(tables, lines, semaphore)),
         Call::WaiSem { semaphore } => Some(wai_sem(tables, me, TimeLimit::Forever, semaphore)),

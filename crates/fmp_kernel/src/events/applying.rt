@@ -1,5 +1,5 @@
 //! Stretches that are handed in: the actor of a processor has made one elsewhere. The calls that tasks make most often
-//! take a way of their own, as a part of the caller.
+//! are carried out inline.
 ghost use Rattle.std.specs.Prelude.{◌≡◌, ◌<◌, ◌∷◌, [], None, Some, length, true};
 ghost use Rattle.fmp_base.specs.declared.bodies.Held.TheVariants.{Awaits};
 ghost use Rattle.fmp_base.specs.Calls.{called};
@@ -17,6 +17,7 @@ ghost use Rattle.fmp_worlds.specs.Spins.{MaySpin};
 ghost use Rattle.fmp_worlds.specs.Stamps.{actor_at, applied_by, applied_in};
 
 use crate::actors::actor_on;
+use crate::calls::context::is_open;
 use crate::calls::frequent_call;
 use crate::runner::Runner;
 use crate::spins::may_spin;
@@ -140,7 +141,7 @@ impl<B: Body> Runner<B> {
         self.make_call(p, who, &made)
     }
 
-    /// The same, where a call that is made often is a part of the caller.
+    /// The same, where a call that is made often is carried out inline.
     #[inline(always)]
     fn call_from(&mut self, p: u8, t: u8, context: &B::Ctx, made: &Call) -> Effect
         requires there { p < self.old.system.processors }
@@ -155,6 +156,9 @@ impl<B: Body> Runner<B> {
             made.now (called self.old.system self.old.world.state p (Caller.Task t) made.now)) }
     {
         let who = Caller::Task(t);
+        if !is_open(&self.tables.processor(p)) {
+            return self.call_apart(p, t, *context, *made);
+        }
         self.caused.clear();
         match frequent_call(&mut self.tables, &mut self.caused, p, t, made) {
             Some(Answer::Replies(reply)) => self.reply_to(p, who, context, made, reply),

@@ -25,7 +25,7 @@ returns-in-Some-Spins g c =
 
 pub returns-in-None : goal.returns-in-None
 returns-in-None g c =
-    let made = rw (c.in-None.ensures.other) at c.call_apart.ensures in
+    let made = rw (c.in-None.ensures.other) at c.call_apart-in-None.ensures in
     rw (← c.self.view_is) (record {
       effect = made.effect;
       after = made.after;
