@@ -11,7 +11,7 @@ use Rattle.fmp_base.specs.Steps.{Did}
 use Rattle.fmp_question.specs.declared.question.Question.{Question}
 use Rattle.fmp_explore.specs.declared.searches.Search.{Search}
 use Rattle.fmp_question.specs.Forbidden.{forbids}
-use Rattle.fmp_question.specs.Places.{forbids_there, is_bad}
+use Rattle.fmp_question.specs.Sites.{forbids_there, is_bad}
 use Rattle.fmp_explore.specs.Searching.{HasDealt, HasDone, HasKept, HasKeptPlace, IsBegun, IsClean, IsFresh, IsSearch}
 use Rattle.fmp_explore.specs.Searching.{Stays, came_on, rows_of, monitors_at_setup}
 use Rattle.fmp_explore.specs.States.{IsKept, MayCome, counted, watched_with}
@@ -29,7 +29,7 @@ use Rattle.fmp_schedules.specs.Deadlocks.{is_interrupt}
 use Rattle.fmp_schedules.specs.declared.monitor.Monitor.{Monitor}
 use Rattle.fmp_schedules.specs.Schedules.{Watched, came_after, is_any_broken, is_request, monitors_after}
 use Rattle.fmp_schedules.proofs.EventLines.{setup-counts}
-use Rattle.fmp_question.proofs.PlaceLemmas.{none-anywhere, none-there}
+use Rattle.fmp_question.proofs.SiteLemmas.{none-anywhere, none-there}
 use Rattle.fmp_witness.specs.Followed.{IsFollowed}
 use Rattle.fmp_witness.proofs.OverLemmas.{Kernels}
 use Rattle.fmp_witness.proofs.StepLemmas.{kept_by_run}

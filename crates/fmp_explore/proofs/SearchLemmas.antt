@@ -12,7 +12,7 @@ use Rattle.fmp_base.specs.Steps.{step}
 use Rattle.fmp_question.specs.declared.question.Question.{Question}
 use Rattle.fmp_explore.specs.declared.searches.Search.{Search}
 use Rattle.fmp_question.specs.Forbidden.{forbids}
-use Rattle.fmp_question.specs.Places.{forbids_there}
+use Rattle.fmp_question.specs.Sites.{forbids_there}
 use Rattle.fmp_question.specs.Rules.{rules_of}
 use Rattle.fmp_explore.specs.Searching.{Grows, HasExamined, HasTriedOut, IsBegun, IsSearching, IsSearch, IsWhole}
 use Rattle.fmp_explore.specs.Searching.{NoneIsFound, StandsAt, Stays, monitors_at_setup, rows_of, watched_first}
@@ -38,7 +38,7 @@ use Rattle.fmp_schedules.proofs.MonitorLaws.{any_broken_in-alike}
 use Rattle.fmp_schedules.proofs.RuleLaws.{may_come-same}
 use Rattle.fmp_schedules.proofs.SilentLaws.{searched-silent}
 use Rattle.fmp_question.proofs.ForbiddenLemmas.{forbids-timeless}
-use Rattle.fmp_question.proofs.PlaceLemmas.{there-even}
+use Rattle.fmp_question.proofs.SiteLemmas.{there-even}
 use Rattle.fmp_visited.specs.Seen.{SeenStates}
 use Rattle.fmp_witness.proofs.OverLemmas.{Kernels}
 use Rattle.fmp_explore.proofs.StateLemmas.{Leads, alike_self, examined_grown, kept_grown, readable, row_alike}

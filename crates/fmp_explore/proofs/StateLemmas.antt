@@ -12,7 +12,7 @@ use Rattle.fmp_base.specs.Meanings.{World}
 use Rattle.fmp_base.specs.Steps.{Done, Reaction, Nothing, Did, Kept}
 use Rattle.fmp_question.specs.declared.question.Question.{Question}
 use Rattle.fmp_question.specs.Forbidden.{forbids}
-use Rattle.fmp_question.specs.Places.{forbids_there}
+use Rattle.fmp_question.specs.Sites.{forbids_there}
 use Rattle.fmp_question.specs.Rules.{rules_of}
 use Rattle.fmp_explore.specs.Searching.{came_on}
 use Rattle.fmp_explore.specs.Slices.{IsAmong}

@@ -19,7 +19,7 @@ use Rattle.fmp_witness.specs.declared.finding.Finding.{Finding}
 use Rattle.fmp_witness.specs.Findings.{IsFound}
 use Rattle.fmp_witness.specs.Followed.{IsOver}
 use Rattle.fmp_question.specs.Forbidden.{forbids}
-use Rattle.fmp_question.specs.Places.{forbids_there}
+use Rattle.fmp_question.specs.Sites.{forbids_there}
 use Rattle.fmp_question.specs.Rules.{rules_of}
 use Rattle.fmp_explore.specs.States.{AreFew, AreMonitorsOf}
 use Rattle.fmp_explore.specs.States.{HasRow, IsExamined, IsKept, IsStuckIn, IsTriedOut, KeptRows, LeadsOn, MayCome}

@@ -10,7 +10,7 @@ use Rattle.fmp_base.specs.Steps.{Reaction, step}
 use Rattle.fmp_base.specs.Systems.{SystemTables}
 use Rattle.fmp_question.specs.declared.question.Question.{Question}
 use Rattle.fmp_question.specs.Forbidden.{forbids}
-use Rattle.fmp_question.specs.Places.{forbids_there}
+use Rattle.fmp_question.specs.Sites.{forbids_there}
 use Rattle.fmp_question.specs.Rules.{rules_of}
 use Rattle.fmp_fields.specs.declared.field.What.{What}
 use Rattle.fmp_fields.specs.FieldNumbers.{number_of}

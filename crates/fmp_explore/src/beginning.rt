@@ -6,7 +6,7 @@ ghost use Rattle.fmp_schedules.specs.Deadlocks.{is_interrupt as is_request};
 ghost use Rattle.fmp_schedules.specs.Schedules.{is_any_broken};
 ghost use Rattle.fmp_explore.specs.States.{AreFew, AreMonitorsOf, watched_with};
 ghost use Rattle.fmp_witness.specs.Followed.{IsFollowed};
-ghost use Rattle.fmp_question.specs.Places.{is_bad};
+ghost use Rattle.fmp_question.specs.Sites.{is_bad};
 ghost use Rattle.fmp_explore.specs.Searching.{
   HasKept,
   HasLive,

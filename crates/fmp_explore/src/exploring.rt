@@ -4,7 +4,7 @@ ghost use Rattle.fmp_instructions.specs.Machine.{code_meaning};
 ghost use Rattle.fmp_schedules.specs.Schedules.{Holds, HoldsThere};
 ghost use Rattle.fmp_witness.specs.Findings.{IsFound};
 ghost use Rattle.fmp_question.specs.Forbidden.{forbids};
-ghost use Rattle.fmp_question.specs.Places.{forbids_there};
+ghost use Rattle.fmp_question.specs.Sites.{forbids_there};
 ghost use Rattle.fmp_question.specs.Rules.{rules_of};
 ghost use Rattle.fmp_explore.specs.Searching.{AreFound, HasEnded, IsBegun, NoneIsFound};
 ghost use Rattle.fmp_witness.specs.Asked.{asked_of};

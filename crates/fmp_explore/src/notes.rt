@@ -3,7 +3,7 @@ ghost use Rattle.std.specs.Prelude.{◌≡◌, IfOk};
 ghost use Rattle.std.specs.List.{list_any};
 ghost use Rattle.fmp_schedules.specs.Schedules.{is_any_broken};
 ghost use Rattle.fmp_schedules.specs.Monitors.{is_any_broken_in, is_broken, is_broken_in};
-ghost use Rattle.fmp_question.specs.Places.{is_bad as is_bad_line};
+ghost use Rattle.fmp_question.specs.Sites.{is_bad as is_bad_line};
 
 use crate::outlooks::Outlooks;
 use fmp_base::{Event, Line};

@@ -9,7 +9,7 @@ ghost use Rattle.fmp_schedules.specs.Monitors.{is_any_broken_in};
 ghost use Rattle.fmp_schedules.specs.Schedules.{is_any_broken};
 ghost use Rattle.fmp_explore.specs.States.{AreFew, AreMonitorsOf, watched_with};
 ghost use Rattle.fmp_live.specs.Fits.{is_written};
-ghost use Rattle.fmp_question.specs.Places.{is_bad};
+ghost use Rattle.fmp_question.specs.Sites.{is_bad};
 ghost use Rattle.fmp_explore.specs.Searching.{
   HasDealt,
   HasDone,

@@ -26,7 +26,7 @@ use Rattle.fmp_schedules.specs.Deadlocks.{IsDeadlock, may_interrupt}
 use Rattle.fmp_schedules.specs.Schedules.{lines_after, reached}
 use Rattle.fmp_schedules.specs.Monitors.{IsBreach, is_broken_in, monitor_after, monitor_along}
 use Rattle.fmp_question.specs.Endless.{IsEndlessOn}
-use Rattle.fmp_question.specs.Places.{is_bad}
+use Rattle.fmp_question.specs.Sites.{is_bad}
 use Rattle.fmp_question.specs.Rules.{rules_of}
 use Rattle.fmp_schedules.specs.Stuck.{NeverGoesOn}
 

@@ -1,6 +1,6 @@
 use Rattle.std.proofs.Common.{◌≡◌, take}
 use Rattle.std.specs.List.{list_any}
-use Rattle.fmp_question.specs.Places.{is_bad}
+use Rattle.fmp_question.specs.Sites.{is_bad}
 use Rattle.fmp_explore.proofs.notes.Notes.note_each.Given as goal
 
 abbrev pub invariant-loop-place : goal.invariant-loop-place
