@@ -1,24 +1,31 @@
--- What a run that fails is, where the sentences and the run are known by other names.
-use Rattle.std.proofs.Common.{◌≡◌, ◌∙◌, ℕ, List, ap, subst, sym}
+-- What random runs come to, where the sentences and the run are known by other names.
+use Rattle.std.proofs.Common.{◌≡◌, ◌∙◌, ℕ, List, [], ap, subst, sym}
 use Rattle.fmp_base.specs.Systems.{SystemTables}
 use Rattle.fmp_expect.specs.declared.expectation.Expected.{Expected}
 use Rattle.fmp_image_bytes.specs.Images.{ImageTables}
 use Rattle.fmp_instructions.specs.Machine.{code_meaning}
+use Rattle.fmp_kernel.specs.Comings.{reaction_of}
+use Rattle.fmp_replay.specs.Replays.{kernel_after}
 use Rattle.fmp_trace.specs.Steps.{steps_text}
 use Rattle.fmp_trials.specs.declared.testing.FailedTrial.{FailedTrial}
+use Rattle.fmp_trials.specs.Drawn.{HasMet}
 use Rattle.fmp_trials.specs.Found.{IsFound}
 use Rattle.fmp_looking.specs.declared.call_sentences.CallNever.{CallNever}
 use Rattle.fmp_looking.specs.declared.call_sentences.RunSentences.{RunSentences}
 use Rattle.fmp_looking.specs.declared.reporting.FailedTest.{FailedTest}
 use Rattle.fmp_looking.specs.CallSentences.{AreSentencesOf, breaks_by}
-use Rattle.fmp_looking.specs.Tested.{IsFailedTest, subject_of}
+use Rattle.fmp_looking.specs.Looks.{ShowsEvent}
+use Rattle.fmp_looking.specs.Tested.{HasMetText, IsFailedTest, subject_of}
 
 pub is_failed : (i : ImageTables) (bound : ℕ) (src text : List ℕ) (sys : SystemTables) (sentences : RunSentences)
     (expected : List Expected) (nevers : List CallNever) (trial : FailedTrial) (t : FailedTest)
     → AreSentencesOf i sys src text sentences → expected ≡ sentences.expected.items → nevers ≡ sentences.nevers.items
     → IsFound code_meaning breaks_by (subject_of i bound expected nevers) trial → t.trial ≡ trial
-    → t.steps.items ≡ steps_text trial.run.steps.items → IsFailedTest i sys bound src text t
-is_failed i bound src text sys sentences expected nevers trial t read alike same found is printed =
+    → t.steps.items ≡ steps_text trial.run.steps.items
+    → ShowsEvent (reaction_of code_meaning) (kernel_after i bound []) trial.run.steps.items trial.run.broken.event
+    t.report.items
+    → IsFailedTest i sys bound src text t
+is_failed i bound src text sys sentences expected nevers trial t read alike same found is printed reported =
     record {
       sentences = sentences;
       read = read;
@@ -33,4 +40,26 @@ is_failed i bound src text sys sentences expected nevers trial t read alike same
           (subst (λ (es : List Expected). IsFound code_meaning breaks_by (subject_of i bound es nevers) trial) alike
           found));
       printed = printed ∙ ap (λ (x : FailedTrial). steps_text x.run.steps.items) (sym is);
+      reported =
+          subst
+          (λ (x : FailedTrial). ShowsEvent (reaction_of code_meaning) (kernel_after i bound []) x.run.steps.items
+          x.run.broken.event t.report.items) (sym is) reported;
+    }
+
+pub has_met : (i : ImageTables) (bound events : ℕ) (src text : List ℕ) (sys : SystemTables) (sentences : RunSentences)
+    (expected : List Expected) (nevers : List CallNever)
+    → AreSentencesOf i sys src text sentences → expected ≡ sentences.expected.items → nevers ≡ sentences.nevers.items
+    → HasMet code_meaning breaks_by (subject_of i bound expected nevers) events
+    → HasMetText i sys bound events src text
+has_met i bound events src text sys sentences expected nevers read alike same met =
+    record {
+      sentences = sentences;
+      read = read;
+      met =
+          subst
+          (λ (ns : List CallNever). HasMet code_meaning breaks_by (subject_of i bound sentences.expected.items ns)
+          events)
+          same
+          (subst (λ (es : List Expected). HasMet code_meaning breaks_by (subject_of i bound es nevers) events) alike
+          met);
     }

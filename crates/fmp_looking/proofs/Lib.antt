@@ -4,10 +4,14 @@ pub mod Failed
 pub mod Fresh
 mod HeardLemmas
 pub mod ImageSites
+mod LapLemmas
 mod MarkLemmas
+mod MetLemmas
 mod NameLemmas
 mod PartLemmas
 mod SeenLemmas
 mod TestAnswers
 mod TrialRuns
+mod WayLemmas
+mod WordLemmas
 mod WrittenLemmas

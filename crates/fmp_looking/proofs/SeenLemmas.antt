@@ -1,6 +1,7 @@
 -- What is seen of runs, where it was seen in parts.
 use Rattle.std.proofs.Common.{◌≡◌, ◌∙◌, ℕ, ◌+◌, ◌-◌, ◌<◌, List, [], ◌∷◌, ◌++◌, Option, Some, None, Result, Ok, Err}
-use Rattle.std.proofs.Common.{IfOk, ap, append_assoc, get_or, length, length-append, refl, sym}
+use Rattle.std.proofs.Common.{IfOk, ap, append_assoc, arith, count_by, get_or, length, length-append, refl, sym}
+use Rattle.std.proofs.Math.Path.{fun_ext}
 use Rattle.std.proofs.lemmas.List.{append-nil}
 use Rattle.fmp_base.specs.declared.calls.Reply.{Reply}
 use Rattle.fmp_base.specs.declared.codes.Er.{Er}
@@ -23,6 +24,7 @@ use Rattle.fmp_replay.specs.Replays.{kernel_after}
 use Rattle.fmp_frames.specs.declared.call_positions.CallPosition.{CallPosition}
 use Rattle.fmp_frames.specs.Made.{event_position, positions_made}
 use Rattle.fmp_looking.specs.declared.branches.BranchStep.{BranchStep}
+use Rattle.fmp_looking.specs.Ways.{TimesGone, both_gone, capped, goes, none_gone, with_steps}
 use Rattle.fmp_looking.specs.declared.observing.CallSeen.{CallSeen}
 use Rattle.fmp_looking.specs.declared.observing.Outcome.TheVariants as outcome
 use Rattle.fmp_looking.specs.Branches.{branch_steps}
@@ -105,8 +107,32 @@ module _ {B : Type 0} (meaning : B → Meaning MachineContext) (code : List Body
   calls_behind cs k es calls =
       ap (λ (x : Heard). x.calls) (run_behind cs k es (unheard calls (length k.system.tasks)))
 
-abbrev seen_by : List (List CallPosition) → List (Option CallPosition) → List CallSeen → List BranchStep → Seen
-seen_by positions made calls steps = record { positions = positions; made = made; calls = calls; steps = steps }
+abbrev seen_by : List (List CallPosition) → List (Option CallPosition) → List CallSeen → TimesGone → Seen
+seen_by positions made calls gone = record { positions = positions; made = made; calls = calls; gone = gone }
+
+count_after : (a b c : ℕ) → capped (capped (a + b) + c) ≡ capped (a + capped (b + c))
+count_after a b c = omega arith
+
+count_and_none : (a : ℕ) → capped (capped a + 0) ≡ capped a
+count_and_none a = omega arith
+
+no_count : capped (0 + 0) ≡ 0
+no_count = omega arith
+
+-- what branches went after others
+gone_after : (s t : TimesGone) (steps : List BranchStep)
+    → with_steps (both_gone s t) steps ≡ both_gone s (with_steps t steps)
+gone_after s t steps =
+    fun_ext (λ b. fun_ext (λ n. fun_ext (λ way.
+    count_after (s b n way) (t b n way) (count_by (goes b n way) steps))))
+
+gone_and_none : (s : TimesGone) (steps : List BranchStep)
+    → both_gone (with_steps s steps) none_gone ≡ with_steps s steps
+gone_and_none s steps =
+    fun_ext (λ b. fun_ext (λ n. fun_ext (λ way. count_and_none (s b n way + count_by (goes b n way) steps))))
+
+none_and_none : both_gone none_gone none_gone ≡ none_gone
+none_and_none = fun_ext (λ b. fun_ext (λ n. fun_ext (λ way. no_count)))
 
 module _ (i : ImageTables) (n : ℕ) where
   -- a run after others
@@ -116,14 +142,15 @@ module _ (i : ImageTables) (n : ℕ) where
       let calls : List CallSeen = calls_seen code_meaning i.code t.positions start es (s.calls ++ t.calls) in
       let positions : List (Option CallPosition) = positions_made code_meaning i.code t.positions start es in
       let steps : List BranchStep = branch_steps code_meaning i.code start es in
-      ap (λ (x : List (Option CallPosition)). seen_by t.positions x calls ((s.steps ++ t.steps) ++ steps))
-      (append_assoc s.made t.made positions)
+      ap (λ (x : List (Option CallPosition)). seen_by t.positions x calls
+      (with_steps (both_gone s.gone t.gone) steps)) (append_assoc s.made t.made positions)
       ∙ ap
-      (λ (x : List CallSeen). seen_by t.positions (s.made ++ (t.made ++ positions)) x ((s.steps ++ t.steps) ++ steps))
+      (λ (x : List CallSeen). seen_by t.positions (s.made ++ (t.made ++ positions)) x
+      (with_steps (both_gone s.gone t.gone) steps))
       (calls_behind code_meaning i.code t.positions s.calls start es t.calls)
-      ∙ ap (λ (x : List BranchStep). seen_by t.positions (s.made ++ (t.made ++ positions))
+      ∙ ap (λ (x : TimesGone). seen_by t.positions (s.made ++ (t.made ++ positions))
       (s.calls ++ calls_seen code_meaning i.code t.positions start es t.calls) x)
-      (append_assoc s.steps t.steps steps)
+      (gone_after s.gone t.gone steps)
 
   runs_after : (s t : Seen) (runs : List (List Event)) → with_runs i n (both s t) runs ≡ both s (with_runs i n t runs)
   runs_after s t [] = refl
@@ -138,24 +165,42 @@ module _ (i : ImageTables) (n : ℕ) where
   positions_stay s [] = refl
   positions_stay s (es ∷ runs) = positions_stay (with_run i n s es) runs
 
-  and_none : (s : Seen) → both s (none_seen s.positions) ≡ s
-  and_none s =
-      ap (λ (x : List (Option CallPosition)). seen_by s.positions x (s.calls ++ []) (s.steps ++ [])) (append-nil s.made)
-      ∙ ap (λ (x : List CallSeen). seen_by s.positions s.made x (s.steps ++ [])) (append-nil s.calls)
-      ∙ ap (λ (x : List BranchStep). seen_by s.positions s.made s.calls x) (append-nil s.steps)
+  none_after : (s : Seen) (gone : TimesGone) → both_gone gone none_gone ≡ gone
+      → both (record s { gone = gone }) (none_seen s.positions) ≡ record s { gone = gone }
+  none_after s gone none =
+      ap (λ (x : List (Option CallPosition)). seen_by s.positions x (s.calls ++ []) (both_gone gone none_gone))
+      (append-nil s.made)
+      ∙ ap (λ (x : List CallSeen). seen_by s.positions s.made x (both_gone gone none_gone)) (append-nil s.calls)
+      ∙ ap (λ (x : TimesGone). seen_by s.positions s.made s.calls x) none
+
+  -- of counts that are capped, those of no runs after them change nothing
+  still_none : (s : Seen) (runs : List (List Event)) → both_gone s.gone none_gone ≡ s.gone
+      → both_gone (with_runs i n s runs).gone none_gone ≡ (with_runs i n s runs).gone
+  still_none s [] none = none
+  still_none s (es ∷ runs) none =
+      still_none (with_run i n s es) runs
+      (gone_and_none s.gone (branch_steps code_meaning i.code (kernel_after i n []) es))
+
+  and_none : (positions : List (List CallPosition)) (runs : List (List Event))
+      → both (with_runs i n (none_seen positions) runs) (none_seen (with_runs i n (none_seen positions) runs).positions)
+      ≡ with_runs i n (none_seen positions) runs
+  and_none positions runs =
+      none_after (with_runs i n (none_seen positions) runs) (with_runs i n (none_seen positions) runs).gone
+      (still_none (none_seen positions) runs none_and_none)
 
   -- what is seen of some runs, and of others after them, is seen of all
   pub both_seen : (positions : List (List CallPosition)) (a b : ℕ) (s t : Seen) → AreRunsSeen positions i n a s
       → AreRunsSeen positions i n b t → AreRunsSeen positions i n (a + b) (both s t)
   both_seen positions a b s t h g =
-      let there : s.positions ≡ positions =
-      ap (λ (x : Seen). x.positions) h.2 ∙ positions_stay (none_seen positions) h.0 in (
+      let all : Seen = with_runs i n (none_seen positions) h.0 in
+      let there : all.positions ≡ positions = positions_stay (none_seen positions) h.0 in (
         h.0 ++ g.0,
         length-append h.0 g.0 ∙ ap (λ (x : ℕ). x + length g.0) h.1 ∙ ap (λ (x : ℕ). a + x) g.1,
         ap (λ (x : Seen). both s x) g.2
             ∙ sym (runs_after s (none_seen positions) g.0)
             ∙ ap (λ (x : Seen). with_runs i n x g.0)
-            (ap (λ (p : List (List CallPosition)). both s (none_seen p)) (sym there) ∙ and_none s ∙ h.2)
+            (ap (λ (x : Seen). both x (none_seen positions)) h.2
+            ∙ ap (λ (p : List (List CallPosition)). both all (none_seen p)) (sym there) ∙ and_none positions h.0)
             ∙ sym (runs_and_runs (none_seen positions) h.0 g.0),
       )
 

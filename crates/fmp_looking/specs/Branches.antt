@@ -29,7 +29,7 @@ abbrev pub is_branch : Instruction → Bool
 is_branch (instruction.JumpIfZero a) = true
 is_branch _ = false
 
--- how many branches a body has before a place
+-- how many branches a body has before a position
 abbrev pub branches_before : List Instruction → (pc : ℕ) → ℕ
 branches_before code pc = count_by is_branch (take pc code)
 
@@ -37,7 +37,7 @@ branches_before code pc = count_by is_branch (take pc code)
 abbrev pub top_of : MachineContext → ℤ
 top_of c = get_or c.operands (c.count - 1) (pos 0)
 
--- a branch stands at a place
+-- a branch stands at a position
 abbrev pub is_branch_at : List Instruction → (pc : ℕ) → Bool
 is_branch_at code pc = unwrap_or (option_map is_branch (slice_get code pc)) false
 
@@ -53,6 +53,11 @@ step_here code body c = if is_branch_at code c.pc then step_of code body c ∷ [
 abbrev pub left_by : Ending MachineContext → Option MachineContext
 left_by (ends.Over c) = c
 left_by _ = None
+
+-- the context, if it was left
+abbrev pub left_if : Bool → MachineContext → Option MachineContext
+left_if true c = Some c
+left_if false c = None
 
 -- goes on from there
 abbrev pub from_there : Option MachineContext → (MachineContext → List BranchStep) → List BranchStep
@@ -77,11 +82,15 @@ if_taken steps effect.Nothing = []
 if_taken steps effect.Done = steps
 if_taken steps effect.Kept = steps
 
+-- the actor that an event runs, if it runs one
+abbrev pub event_actor : {B : Type 0} → KernelView B MachineContext → Event → Option (Actor MachineContext)
+event_actor k (Run p) = actor_in k p
+event_actor k Tick = None
+event_actor k (Int i) = None
+
 module _ {B : Type 0} (meaning : B → Meaning MachineContext) (code : List BodyTables) where
   abbrev pub event_steps : KernelView B MachineContext → Event → List BranchStep
-  event_steps k (Run p) = actor_steps (meaning k.body) code k.bound (actor_in k p)
-  event_steps k Tick = []
-  event_steps k (Int i) = []
+  event_steps k e = actor_steps (meaning k.body) code k.bound (event_actor k e)
 
   -- the branches to which a run comes, with the ways that it goes there
   abbrev pub branch_steps : KernelView B MachineContext → List Event → List BranchStep

@@ -5,8 +5,8 @@ use Rattle.std.specs.List.{flat_map}
 use Rattle.fmp_base.specs.declared.events.Line.{Line}
 use Rattle.fmp_base.specs.Meanings.{World}
 use Rattle.fmp_base.specs.Systems.{SystemTables}
-use Rattle.fmp_expect.specs.declared.placed.PlacedNever.{PlacedNever}
-use Rattle.fmp_expect.specs.Places.{placed_of, unplaced_of}
+use Rattle.fmp_expect.specs.declared.call_sentences.CallSentence.{CallSentence}
+use Rattle.fmp_expect.specs.CallSentences.{call_sentences_of, other_sentences_of}
 use Rattle.fmp_frames.specs.declared.call_positions.CallPosition.{CallPosition}
 use Rattle.fmp_frames.specs.declared.sites.CallSite.{CallSite}
 use Rattle.fmp_frames.specs.CallPositions.{AreCallsOf, position_of}
@@ -15,7 +15,7 @@ use Rattle.fmp_image_bytes.specs.Images.{ImageTables}
 use Rattle.fmp_instructions.specs.declared.instructions.MachineContext.{MachineContext}
 use Rattle.fmp_instructions.specs.Instructions.{BodyTables}
 use Rattle.fmp_kernel.specs.KernelViews.{KernelView}
-use Rattle.fmp_question.specs.Places.{tells_there}
+use Rattle.fmp_question.specs.Sites.{tells_there}
 use Rattle.fmp_looking.specs.declared.call_sentences.CallNever.{CallNever}
 use Rattle.fmp_looking.specs.declared.call_sentences.RunSentences.{RunSentences}
 use Rattle.fmp_looking.specs.NamedSystems.{IsNamedBy}
@@ -29,7 +29,7 @@ abbrev pub calls_in : List BodyTables → List (List CallPosition) → (line : �
 calls_in code bodies line = filter (λ s. is_line line (position_of code bodies s.body s.pc)) (call_sites code)
 
 -- what a sentence says of a call
-abbrev pub never_of : PlacedNever → CallSite → CallNever
+abbrev pub never_of : CallSentence → CallSite → CallNever
 never_of p s =
     record {
       line = p.line;
@@ -37,10 +37,10 @@ never_of p s =
     }
 
 -- what it says of each call of its line
-abbrev pub nevers_of : List BodyTables → List (List CallPosition) → PlacedNever → List CallNever
+abbrev pub nevers_of : List BodyTables → List (List CallPosition) → CallSentence → List CallNever
 nevers_of code bodies p = map (λ s. never_of p s) (calls_in code bodies p.at)
 
-abbrev pub nevers_in : List BodyTables → List (List CallPosition) → List PlacedNever → List CallNever
+abbrev pub nevers_in : List BodyTables → List (List CallPosition) → List CallSentence → List CallNever
 nevers_in code bodies placed = flat_map (λ p. nevers_of code bodies p) placed
 
 -- the line of the first sentence that a line breaks, which was just told: it tells that a call gets the answer
@@ -62,11 +62,11 @@ breaks_by j k l = first_told j.system j.nevers k.world l
 
 -- the sentences of a text for this system, whose image has bodies of this text
 pub record AreSentencesOf (i : ImageTables) (sys : SystemTables) (src text : List ℕ) (s : RunSentences) : Type 0 where
-  pub read : unplaced_of sys text ≡ Ok s.expected.items
-  pub placed : s.placed.items ≡ placed_of sys text
+  pub read : other_sentences_of sys text ≡ Ok s.expected.items
+  pub placed : s.placed.items ≡ call_sentences_of sys text
   pub bodies : List (List CallPosition)
   pub calls : AreCallsOf src bodies
-  pub nevers : s.nevers.items ≡ nevers_in i.code bodies (placed_of sys text)
+  pub nevers : s.nevers.items ≡ nevers_in i.code bodies (call_sentences_of sys text)
 
 -- the same for the system of the image, with the names of the bodies of that text
 pub record AreNamedSentences (i : ImageTables) (src text : List ℕ) (s : RunSentences) : Type 0 where

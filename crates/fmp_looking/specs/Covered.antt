@@ -2,7 +2,6 @@
 use Rattle.std.specs.Prelude.{ℕ, ◌≡◌, ◌+◌, ◌-◌, ◌<◌, List, [], ◌∷◌, ◌++◌, Option, Result, Ok, Err, IfOk, length}
 use Rattle.std.specs.Prelude.{map, slice_index_or}
 use Rattle.fmp_base.specs.declared.events.Event.{Event}
-use Rattle.fmp_looking.specs.declared.branches.BranchStep.{BranchStep}
 use Rattle.fmp_looking.specs.declared.marks.Mark.{Mark}
 use Rattle.fmp_looking.specs.declared.observing.CallSeen.{CallSeen}
 use Rattle.fmp_looking.specs.Branches.{branch_steps}
@@ -20,24 +19,25 @@ use Rattle.fmp_looking.specs.declared.covering.Sightings.{Sightings}
 use Rattle.fmp_trials.specs.declared.seeds.Seeds.{Seeds}
 use Rattle.fmp_trials.specs.Parts.{edge}
 use Rattle.fmp_looking.specs.Coverage.{AreLinesOf, count_of, tracefile}
+use Rattle.fmp_looking.specs.Ways.{TimesGone, both_gone, none_gone, times_in, with_steps}
 
--- what is seen of runs so far: where their calls stand, what those were answered, and which ways their branches went
+-- what is seen of runs so far: where their calls stand, what those were answered, and how often branches went each way
 pub record Seen : Type 0 where
   pub positions : List (List CallPosition)
   pub made : List (Option CallPosition)
   pub calls : List CallSeen
-  pub steps : List BranchStep
+  pub gone : TimesGone
 
 abbrev pub seen_at : List (List CallPosition) → Sightings → Seen
 seen_at positions s =
-    record { positions = positions; made = s.made.items; calls = s.calls.items; steps = s.steps.items }
+    record { positions = positions; made = s.made.items; calls = s.calls.items; gone = times_in s.ways }
 
 abbrev pub seen_of : RunsSeen → Seen
 seen_of s = seen_at s.positions s.sightings
 
--- nothing yet, where calls of bodies stand at these places
+-- nothing yet, where calls of bodies stand at these positions
 abbrev pub none_seen : List (List CallPosition) → Seen
-none_seen positions = record { positions = positions; made = []; calls = []; steps = [] }
+none_seen positions = record { positions = positions; made = []; calls = []; gone = none_gone }
 
 -- nothing is seen yet of this text
 abbrev pub IsNoneSeen : (src : List ℕ) → Seen → Type 0
@@ -50,7 +50,7 @@ with_run i n s es =
     record s {
       made = s.made ++ positions_made code_meaning i.code s.positions start es;
       calls = calls_seen code_meaning i.code s.positions start es s.calls;
-      steps = s.steps ++ branch_steps code_meaning i.code start es;
+      gone = with_steps s.gone (branch_steps code_meaning i.code start es);
     }
 
 -- what is seen of these runs, and of those before them
@@ -60,9 +60,9 @@ with_runs i n s (es ∷ runs) = with_runs i n (with_run i n s es) runs
 
 -- what is seen of some runs, and of others after them
 abbrev pub both : Seen → Seen → Seen
-both s t = record t { made = s.made ++ t.made; calls = s.calls ++ t.calls; steps = s.steps ++ t.steps }
+both s t = record t { made = s.made ++ t.made; calls = s.calls ++ t.calls; gone = both_gone s.gone t.gone }
 
--- this was seen of some runs of an image, this many, whose calls stand at these places
+-- this was seen of some runs of an image, this many, whose calls stand at these positions
 abbrev pub AreRunsSeen : List (List CallPosition) → ImageTables → (n runs : ℕ) → Seen → Type 0
 AreRunsSeen positions i n count s =
     (runs : List (List Event)) × (length runs ≡ count) × (s ≡ with_runs i n (none_seen positions) runs)
@@ -97,7 +97,7 @@ AreTrialsSeen src i n count s = (runs : List (List Event)) × (length runs ≡ c
 pub record IsTable (file src : List ℕ) (s : Seen) (out : List ℕ) : Type 0 where
   pub marks : List Mark
   pub are : AreMarksOf src marks
-  pub text : out ≡ table_text file s.calls s.steps marks
+  pub text : out ≡ table_text file s.calls s.gone marks
 
 -- the tracefile of what is seen, of a text in a file
 pub record IsTracefile (file src : List ℕ) (s : Seen) (out : List ℕ) : Type 0 where
@@ -105,7 +105,7 @@ pub record IsTracefile (file src : List ℕ) (s : Seen) (out : List ℕ) : Type 
   pub lines_are : AreLinesOf src lines
   pub marks : List Mark
   pub marks_are : AreMarksOf src marks
-  pub text : out ≡ tracefile file (map (count_of s.made) lines) (branch_counts s.steps marks)
+  pub text : out ≡ tracefile file (map (count_of s.made) lines) (branch_counts s.gone marks)
 
 -- the table of what these runs of an image come to, in this text of its bodies
 abbrev pub IsCoverage : (file src : List ℕ) → ImageTables → (n : ℕ) → (runs : List (List Event)) → (out : List ℕ)

@@ -9,12 +9,13 @@ use Rattle.fmp_base.specs.Steps.{Reaction}
 use Rattle.fmp_base.specs.Systems.{SystemTables}
 use Rattle.fmp_expect.specs.declared.checker.BrokenExpectation.{BrokenExpectation}
 use Rattle.fmp_expect.specs.declared.expectation.Expected.{Expected}
-use Rattle.fmp_expect.specs.declared.placed.PlacedNever.{PlacedNever}
-use Rattle.fmp_expect.specs.Places.{placed_of, unplaced_of}
+use Rattle.fmp_expect.specs.declared.call_sentences.CallSentence.{CallSentence}
+use Rattle.fmp_expect.specs.CallSentences.{call_sentences_of, other_sentences_of}
 use Rattle.fmp_json.specs.declared.junit.TestCase.{TestCase}
 use Rattle.fmp_json.specs.declared.junit.TestSuite.{TestSuite}
 use Rattle.fmp_json.specs.Junit.{is_error, is_failure, report_text}
 use Rattle.fmp_json.specs.Members.{number_member, object_line, text_member}
+use Rattle.fmp_expect.specs.Grammar.{expectations_of}
 use Rattle.fmp_expect.specs.Judges.{broken_along}
 use Rattle.fmp_instructions.specs.declared.instructions.MachineContext.{MachineContext}
 use Rattle.fmp_instructions.specs.Instructions.{BodyTables}
@@ -24,6 +25,7 @@ use Rattle.fmp_kernel.specs.KernelViews.{KernelView}
 use Rattle.fmp_trials.specs.Verdicts.{verdict}
 use Rattle.fmp_looking.specs.declared.call_sentences.CallNever.{CallNever}
 use Rattle.fmp_looking.specs.declared.call_sentences.RunSentences.{RunSentences}
+use Rattle.fmp_looking.specs.declared.judged.Judged.{Judged}
 use Rattle.fmp_looking.specs.declared.judged_cases.JudgedCase.{JudgedCase}
 use Rattle.fmp_looking.specs.declared.judging.Judgement.{Judgement}
 use Rattle.fmp_looking.specs.declared.judging.JudgementForm.{JudgementForm}
@@ -43,7 +45,7 @@ judged_by reaction k xs one =
 
 -- how a run does by one sentence about calls, where this is the judge by what such sentences say of calls
 abbrev pub placed_by : KernelView (List BodyTables) MachineContext → (judge : List CallNever → JudgeTables)
-    → List Event → List CallNever → PlacedNever → Judgement
+    → List Event → List CallNever → CallSentence → Judgement
 placed_by k judge es nevers p =
     record {
       line = p.line;
@@ -69,14 +71,14 @@ abbrev pub tested_by : Option BrokenExpectation → (line : ℕ) → Judgement
 tested_by broken n = record { line = n; broken = broken_in n broken; is_empty = false }
 
 -- the lines of expectations, and then those of sentences about calls
-abbrev pub lines_of : List Expected → List PlacedNever → List ℕ
+abbrev pub lines_of : List Expected → List CallSentence → List ℕ
 lines_of expected placed = map (λ x. x.line) expected ++ map (λ p. p.line) placed
 
 -- the same of a text
 pub record AreLinesOf (sys : SystemTables) (text lines : List ℕ) : Type 0 where
   pub expected : List Expected
-  pub read : unplaced_of sys text ≡ Ok expected
-  pub are : lines ≡ lines_of expected (placed_of sys text)
+  pub read : other_sentences_of sys text ≡ Ok expected
+  pub are : lines ≡ lines_of expected (call_sentences_of sys text)
 
 -- a run fails an expectation; strictly, also one that says nothing of it
 abbrev pub fails : (strict : Bool) → Judgement → Bool
@@ -137,6 +139,15 @@ pub record AreRecords (file : List ℕ) (js : List Judgement) (out : List ℕ) :
 abbrev pub IsTold : JudgementForm → (name : List ℕ) → (strict : Bool) → List Judgement → (out : List ℕ) → Type 0
 IsTold form.Junit name strict js out = IsReport name strict js out
 IsTold form.Records name strict js out = AreRecords name js out
+
+-- this tells in a form how a run does by each expectation of a text alone
+pub record AreJudgements {B C X : Type 0} (judged : Judged) (reaction : KernelView B C → X → Reaction C)
+    (k : KernelView B C) (xs : List X) (out : List ℕ) : Type 0 where
+  pub expected : List Expected
+  pub read : expectations_of k.system judged.expectations.text.now ≡ Ok expected
+  pub told :
+      IsTold judged.form judged.expectations.name.now judged.expectations.strict
+      (map (judged_by reaction k xs) expected) out
 
 -- a report of random runs that were judged by a text of expectations: only what one of them breaks fails
 pub record IsTestReport

@@ -1,10 +1,16 @@
 //! Which way bodies go at their branches in a run.
-ghost use Rattle.std.specs.Prelude.{◌≡◌, ◌+◌, ◌≤◌, ◌++◌, ◌^◌, IfOk, IfSome, OnOk, Some, count_by, length, map};
+ghost use Rattle.std.specs.Prelude.{◌≡◌, ◌+◌, ◌<◌, ◌≤◌, ◌^◌, IfOk, IfSome, OnOk, Some, get_or, if◌then◌else◌, length};
+ghost use Rattle.std.specs.Prelude.{true};
 ghost use Rattle.fmp_base.specs.Operators.{is_zero as is_zero_value};
 ghost use Rattle.fmp_instructions.specs.Instructions.{body_tables, code_tables};
 ghost use Rattle.fmp_looking.specs.Branches as spec;
+ghost use Rattle.fmp_looking.specs.BranchNumbers.{AreNumbers, AreOfCode};
+ghost use Rattle.fmp_looking.specs.Laps.{walk};
+ghost use Rattle.fmp_looking.specs.Ways.{IsWithSteps};
 
-use fmp_base::{Effect, Event, Stretch};
+use crate::branch_numbers::{BranchNumbers, is_branch};
+use crate::ways::{BranchWays, WayCounts};
+use fmp_base::{Effect, Event, StretchStop};
 use fmp_instructions::{Code, Instruction, MachineContext};
 use fmp_kernel::{Actor, Body, Coming, Kernel};
 use std::alloc::{AllocError, Global};
@@ -25,24 +31,33 @@ struct NumberedBody<'a> {
     /// From 0.
     number: u8,
     instructions: &'a [Instruction],
+    /// For each instruction how many branches stand before it.
+    branches_before: &'a [usize],
 }
 
-/// Whether an instruction is a branch.
-fn is_branch(instruction: &Instruction) -> bool
-    ensures { result ≡ spec.is_branch instruction.now }
-{
-    match instruction {
-        Instruction::JumpIfZero(_) => true,
-        _ => false,
-    }
+/// A code, and which of the branches of its body each branch is.
+#[derive(Clone, Copy)]
+struct NumberedCode<'a> {
+    code: &'a Code,
+    numbers: &'a BranchNumbers,
 }
 
-/// How many branches these instructions have before a place.
-fn branches_before(instructions: &[Instruction], pc: u16) -> usize
-    ensures { result ≡ spec.branches_before instructions.now pc }
-{
-    let end = usize::from(pc).min(instructions.len());
-    instructions[..end].iter().filter(|i| is_branch(*i)).count()
+/// A body goes on from a context by at most n instructions, this many times.
+#[derive(Clone, Copy)]
+struct Laps {
+    from: MachineContext,
+    n: u64,
+    times: u64,
+}
+
+/// A context of a stretch to which it may come back.
+#[derive(Clone, Copy)]
+struct Lap {
+    from: MachineContext,
+    /// How many instructions of the stretch were made before.
+    before: u64,
+    /// After how many more a later context is taken.
+    length: u64,
 }
 
 /// Whether a number is 0.
@@ -63,7 +78,7 @@ fn top_of(context: &MachineContext) -> i32
     }
 }
 
-/// Whether a branch stands at a place of these instructions.
+/// Whether a branch stands at a position of these instructions.
 fn is_branch_at(instructions: &[Instruction], pc: u16) -> bool
     ensures { result ≡ spec.is_branch_at instructions.now pc }
 {
@@ -73,70 +88,199 @@ fn is_branch_at(instructions: &[Instruction], pc: u16) -> bool
     }
 }
 
+/// The number at a position; 0 if there is none.
+fn number_at(numbers: &[usize], pc: u16) -> usize
+    ensures { result ≡ get_or numbers.now pc 0 }
+{
+    match numbers.get(usize::from(pc)) {
+        Some(number) => *number,
+        None => 0,
+    }
+}
+
 /// Which way a body goes at a branch.
+
 fn step_of(code: NumberedBody<'_>, context: &MachineContext) -> BranchStep
+    requires numbers { AreNumbers code.instructions.now code.branches_before.now }
+    requires branch { spec.is_branch_at code.instructions.now context.now.pc ≡ true }
     ensures { result ≡ spec.step_of code.entry.instructions.now code.entry.number context.now }
 {
     BranchStep {
         body: code.number,
-        number: branches_before(code.instructions, context.pc),
+        number: number_at(code.branches_before, context.pc),
         is_true: !is_zero(top_of(context)),
     }
 }
 
-/// Adds which way a body goes, if it stands at a branch.
+/// Adds which way a body goes, this many times, if it stands at a branch.
 fn add_step(
+    alloc: Global,
     code: NumberedBody<'_>,
     context: &MachineContext,
-    steps: &mut Vec<BranchStep>,
+    times: u64,
+    ways: &mut BranchWays,
 ) -> Result<(), AllocError>
-    ensures { OnOk result (steps.new.items
-        ≡ steps.old.items ++ spec.step_here code.entry.instructions.now code.entry.number context.now) }
+    requires { AreNumbers code.instructions.now code.branches_before.now }
+    ensures { OnOk result (IsWithSteps times ways.old
+        (spec.step_here code.entry.instructions.now code.entry.number context.now) ways.new) }
 {
     if !is_branch_at(code.instructions, context.pc) {
         return Ok(());
     }
-    steps.push(step_of(code, context))?;
-    Ok(())
+    let step = step_of(code, context);
+    ways.add(
+        alloc,
+        usize::from(step.body),
+        step.number,
+        WayCounts::one_way(step.is_true, times),
+    )
 }
 
-/// Where a body stands after one instruction; none if that calls, ends or faults.
-fn next_of<B: Body<Ctx = MachineContext>>(
-    body: &B,
-    entry: u8,
-    context: MachineContext,
-) -> Option<MachineContext>
+/// Goes on by one instruction: whether the body stands after it, and does not call, end or fault.
+fn goes_on<B: Body<Ctx = MachineContext>>(body: &B, entry: u8, context: &mut MachineContext) -> bool
     requires entry { B.has_entry body.now entry }
-    requires context { B.is_context body.now entry context }
-    ensures next { result ≡ spec.left_by ((B.meaning body.now).stretch entry 1 context) }
-    ensures context { IfSome result (B.is_context body.now entry) }
+    requires context { B.is_context body.now entry context.old }
+    ensures next { spec.left_by ((B.meaning body.now).stretch entry 1 context.old)
+        ≡ spec.left_if result context.new }
+    ensures context { result ≡ true → B.is_context body.now entry context.new }
 {
-    match body.stretch(entry, 1, context) {
-        Stretch::Over(next) => Some(next),
-        Stretch::Call(..) | Stretch::End(_) | Stretch::Fault(..) => None,
+    match body.stretch_in_place(entry, 1, context) {
+        StretchStop::Over => true,
+        StretchStop::Call(_) | StretchStop::End | StretchStop::Fault(_) => false,
     }
 }
 
-/// Adds the branches of a stretch of at most n instructions.
+/// Adds the branches of laps.
+fn add_laps<B: Body<Ctx = MachineContext>>(
+    alloc: Global,
+    body: &B,
+    code: NumberedBody<'_>,
+    laps: Laps,
+    ways: &mut BranchWays,
+) -> Result<(), AllocError>
+    requires entry { B.has_entry body.now code.number }
+    requires context { B.is_context body.now code.number laps.from }
+    requires numbers { AreNumbers code.instructions.now code.branches_before.now }
+    ensures { OnOk result (IsWithSteps laps.times ways.old
+        (spec.stretch_steps (B.meaning body.now) code.entry.instructions.now code.entry.number laps.n laps.from)
+        ways.new) }
+{
+    let mut here = laps.from;
+    for _turn in 0..laps.n {
+        add_step(alloc, code, &here, laps.times, ways)?;
+        if !goes_on(body, code.number, &mut here) {
+            return Ok(());
+        }
+    }
+    Ok(())
+}
+
+/// Adds the branches of at most n instructions from a context to which the body comes back after each of this many.
+fn add_cycle<B: Body<Ctx = MachineContext>>(
+    alloc: Global,
+    body: &B,
+    code: NumberedBody<'_>,
+    cycle: u64,
+    n: u64,
+    context: MachineContext,
+    ways: &mut BranchWays,
+) -> Result<(), AllocError>
+    requires entry { B.has_entry body.now code.number }
+    requires context { B.is_context body.now code.number context }
+    requires numbers { AreNumbers code.instructions.now code.branches_before.now }
+    requires some { 0 < cycle }
+    requires cycle { walk (B.meaning body.now) code.number cycle context ≡ Some context }
+    ensures { OnOk result (IsWithSteps 1 ways.old
+        (spec.stretch_steps (B.meaning body.now) code.entry.instructions.now code.entry.number n context) ways.new) }
+{
+    let whole = Laps {
+        from: context,
+        n: cycle,
+        times: n / cycle,
+    };
+    let rest = Laps {
+        from: context,
+        n: n % cycle,
+        times: 1,
+    };
+    add_laps(alloc, body, code, whole, ways)?;
+    add_laps(alloc, body, code, rest, ways)
+}
+
+/// Whether these numbers are the same.
+#[tactic(auto, using(crate::proofs::LapLemmas::same_numbers))]
+fn are_same(a: &[i32; 64], b: &[i32; 64]) -> bool
+    ensures { result ≡ true → a.now ≡ b.now }
+{
+    *a == *b
+}
+
+/// Whether two contexts are one.
+#[tactic(auto, using(crate::proofs::LapLemmas::same_fields))]
+fn is_same(a: &MachineContext, b: &MachineContext) -> bool
+    ensures { result ≡ true → a.now ≡ b.now }
+{
+    if a.pc != b.pc || a.count != b.count {
+        return false;
+    }
+    are_same(&a.locals, &b.locals) && are_same(&a.operands, &b.operands)
+}
+
+impl Lap {
+    ghost use Rattle.std.specs.Prelude.{ℕ, ◌≤◌};
+    ghost use Rattle.fmp_base.specs.Meanings.{Meaning};
+    ghost use Rattle.fmp_instructions.specs.declared.instructions.MachineContext.{MachineContext as Context};
+    ghost use Rattle.fmp_looking.specs.Laps.{IsLap};
+
+    /// After more instructions, this many in all: the same, or one that begins here, if it is long.
+    fn at(self, here: &MachineContext, made: u64) -> Lap
+        requires { self.before ≤ made }
+        ensures { (M : Meaning Context) (body : ℕ) → IsLap M body self made here.now
+            → IsLap M body result made here.now }
+    {
+        if made - self.before < self.length {
+            return self;
+        }
+        Lap {
+            from: *here,
+            before: made,
+            length: self.length.saturating_mul(2),
+        }
+    }
+}
+
+/// Adds the branches of a stretch of at most n instructions. One that goes round in a cycle is not gone through to its
+/// end.
 fn add_stretch<B: Body<Ctx = MachineContext>>(
+    alloc: Global,
     body: &B,
     code: NumberedBody<'_>,
     n: u64,
     context: MachineContext,
-    steps: &mut Vec<BranchStep>,
+    ways: &mut BranchWays,
 ) -> Result<(), AllocError>
     requires entry { B.has_entry body.now code.number }
     requires context { B.is_context body.now code.number context }
-    ensures { OnOk result (steps.new.items ≡ steps.old.items
-        ++ spec.stretch_steps (B.meaning body.now) code.entry.instructions.now code.entry.number n context) }
+    requires numbers { AreNumbers code.instructions.now code.branches_before.now }
+    ensures { OnOk result (IsWithSteps 1 ways.old
+        (spec.stretch_steps (B.meaning body.now) code.entry.instructions.now code.entry.number n context) ways.new) }
 {
     let mut here = context;
-    for _turn in 0..n {
-        add_step(code, &here, steps)?;
-        match next_of(body, code.number, here) {
-            Some(next) => here = next,
-            None => return Ok(()),
+    let mut lap = Lap {
+        from: context,
+        before: 0,
+        length: 1,
+    };
+    for turn in 0..n {
+        add_step(alloc, code, &here, 1, ways)?;
+        if !goes_on(body, code.number, &mut here) {
+            return Ok(());
         }
+        let made = turn + 1;
+        if is_same(&here, &lap.from) {
+            return add_cycle(alloc, body, code, made - lap.before, n - made, here, ways);
+        }
+        lap = lap.at(&here, made);
     }
     Ok(())
 }
@@ -153,54 +297,85 @@ fn instructions_of(code: &Code, entry: u8) -> &[Instruction]
 
 /// Adds the branches of an actor up to its next call within a bound.
 fn add_actor<B: Body<Ctx = MachineContext>>(
+    alloc: Global,
     body: &B,
-    code: &Code,
+    code: NumberedCode<'_>,
     n: u64,
     actor: &Actor<MachineContext>,
-    steps: &mut Vec<BranchStep>,
+    ways: &mut BranchWays,
 ) -> Result<(), AllocError>
     requires entry { B.has_entry body.now actor.now.entry }
     requires context { B.is_context body.now actor.now.entry actor.now.context }
-    ensures { OnOk result (steps.new.items
-        ≡ steps.old.items ++ spec.actor_steps (B.meaning body.now) (code_tables code.now) n (Some actor.now)) }
+    requires numbers { AreOfCode (code_tables code.code.now) code.numbers.now }
+    ensures { OnOk result (IsWithSteps 1 ways.old
+        (spec.actor_steps (B.meaning body.now) (code_tables code.entry.code.now) n (Some actor.now)) ways.new) }
 {
-    let code = NumberedBody {
+    let numbered = NumberedBody {
         number: actor.entry,
-        instructions: instructions_of(code, actor.entry),
+        instructions: instructions_of(code.code, actor.entry),
+        branches_before: code.numbers.body(actor.entry),
     };
-    add_stretch(body, code, n, actor.context, steps)
+    add_stretch(alloc, body, numbered, n, actor.context, ways)
 }
 
-/// The branches through which an event goes on a kernel, if it does something.
-fn event_steps<B: Body<Ctx = MachineContext>>(
+/// The actor that an event runs on a kernel, if it runs one.
+fn event_actor<B: Body<Ctx = MachineContext>>(
+    kernel: &Kernel<B>,
+    e: Event,
+) -> Option<Actor<MachineContext>>
+    ensures value { result ≡ spec.event_actor kernel.now e }
+    ensures entry { IfSome result (λ a. B.has_entry kernel.now.body a.entry) }
+    ensures context { IfSome result (λ a. B.is_context kernel.now.body a.entry a.context) }
+{
+    match e {
+        Event::Run(p) => kernel.actor(p),
+        Event::Tick | Event::Int(_) => None,
+    }
+}
+
+/// Adds the branches through which an event went that did this, where it ran this actor.
+fn add_event<B: Body<Ctx = MachineContext>>(
     alloc: Global,
     kernel: &Kernel<B>,
-    code: &Code,
-    e: Event,
-) -> Result<Vec<BranchStep>, AllocError>
-    ensures { IfOk result (λ steps. steps.items ≡ spec.event_steps B.meaning (code_tables code.now) kernel.now e) }
+    code: NumberedCode<'_>,
+    actor: Option<Actor<MachineContext>>,
+    effect: Effect,
+    ways: &mut BranchWays,
+) -> Result<(), AllocError>
+    requires entry { IfSome actor (λ a. B.has_entry kernel.now.body a.entry) }
+    requires context { IfSome actor (λ a. B.is_context kernel.now.body a.entry a.context) }
+    requires numbers { AreOfCode (code_tables code.code.now) code.numbers.now }
+    ensures { OnOk result (IsWithSteps 1 ways.old
+        (spec.if_taken (spec.actor_steps (B.meaning kernel.now.body) (code_tables code.entry.code.now)
+        kernel.now.bound actor) effect) ways.new) }
 {
-    let mut steps = Vec::new(alloc);
-    if let Event::Run(p) = e
-        && let Some(actor) = kernel.actor(p)
-    {
-        add_actor(kernel.body(), code, kernel.bound(), &actor, &mut steps)?;
+    match (actor, effect) {
+        (None, _) | (_, Effect::Nothing) => Ok(()),
+        (Some(actor), Effect::Done | Effect::Kept) => {
+            add_actor(alloc, kernel.body(), code, kernel.bound(), &actor, ways)
+        }
     }
-    Ok(steps)
 }
 
-/// Adds the branches through which an event went that did this.
-fn add_taken(
-    through: &[BranchStep],
-    effect: Effect,
-    steps: &mut Vec<BranchStep>,
+/// Takes events, and adds the branches to which bodies of this code come, with the ways that they go there.
+fn add_events<B: Body<Ctx = MachineContext>>(
+    alloc: Global,
+    kernel: &mut Kernel<B>,
+    code: NumberedCode<'_>,
+    events: &[Event],
+    ways: &mut BranchWays,
 ) -> Result<(), AllocError>
-    ensures { OnOk result (steps.new.items ≡ steps.old.items ++ spec.if_taken through.now effect) }
+    requires few { kernel.old.taken + length events.now ≤ 2 ^ 31 }
+    requires numbers { AreOfCode (code_tables code.code.now) code.numbers.now }
+    ensures { OnOk result (IsWithSteps 1 ways.old
+        (spec.branch_steps B.meaning (code_tables code.entry.code.now) kernel.old events.now) ways.new) }
 {
-    match effect {
-        Effect::Done | Effect::Kept => steps.extend_from_slice(through),
-        Effect::Nothing => Ok(()),
+    for e in events {
+        let actor = event_actor(kernel, *e);
+        let effect = e.take(kernel);
+        add_event(alloc, kernel, code, actor, effect, ways)?;
     }
+    Ok(())
 }
 
 /// Takes events, and adds the branches to which bodies of this code come, with the ways that they go there.
@@ -210,16 +385,16 @@ pub fn add_branch_steps<B: Body<Ctx = MachineContext>>(
     kernel: &mut Kernel<B>,
     code: &Code,
     events: &[Event],
-    steps: &mut Vec<BranchStep>,
+    ways: &mut BranchWays,
 ) -> Result<(), AllocError>
     requires few { kernel.old.taken + length events.now ≤ 2 ^ 31 }
-    ensures { OnOk result (steps.new.items
-        ≡ steps.old.items ++ spec.branch_steps B.meaning (code_tables code.now) kernel.old events.now) }
+    ensures { OnOk result (IsWithSteps 1 ways.old
+        (spec.branch_steps B.meaning (code_tables code.now) kernel.old events.now) ways.new) }
 {
-    for e in events {
-        let through = event_steps(alloc, kernel, code, *e)?;
-        let effect = e.take(kernel);
-        add_taken(&through, effect, steps)?;
-    }
-    Ok(())
+    let numbers = BranchNumbers::new(alloc, code)?;
+    let code = NumberedCode {
+        code,
+        numbers: &numbers,
+    };
+    add_events(alloc, kernel, code, events, ways)
 }

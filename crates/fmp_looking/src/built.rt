@@ -1,9 +1,11 @@
 //! A run of a system that is built from its texts in memory.
-ghost use Rattle.std.specs.Prelude.{◌≡◌, ◌≤◌, ◌∷◌, ◌^◌, [], IfOk, length, true};
+ghost use Rattle.std.specs.Prelude.{◌≡◌, ◌≤◌, ◌∷◌, ◌^◌, [], None, IfOk, Ok, false, length, true};
 ghost use Rattle.fmp_kernel.specs.Comings.{reaction_of};
 ghost use Rattle.fmp_image.specs.Building.{Builds};
 ghost use Rattle.fmp_instructions.specs.Machine.{code_meaning};
 ghost use Rattle.fmp_replay.specs.Replays.{kernel_after};
+ghost use Rattle.fmp_trace.specs.Steps.{steps_of};
+ghost use Rattle.fmp_looking.specs.BuiltRuns.{AreComing, IsDrive, IsRunOf, IsRunOfTexts, IsRunTrace, IsTraced};
 ghost use Rattle.fmp_looking.specs.Covered.{IsCoverage, IsLcov};
 ghost use Rattle.fmp_looking.specs.Traces.{AreShown, IsTrace};
 
@@ -107,7 +109,8 @@ fn image_trace(
 /// The events that a drive of an image takes, and how it ended.
 #[tactic(none)]
 fn driven_events(alloc: Global, image: &Image, run: Running) -> Result<Stepped, AllocError>
-    ensures { IfOk result (λ s. length s.events.items ≤ 2 ^ 20) }
+    ensures drive { IfOk result (λ s. IsDrive image.now run s.events.items s.ending) }
+    ensures few { IfOk result (λ s. length s.events.items ≤ 2 ^ 20) }
 {
     let drive = driven(alloc, image, kept_events(run.events), run.seed, run.bound)?;
     let next = drive.next;
@@ -124,7 +127,9 @@ fn driven_events(alloc: Global, image: &Image, run: Running) -> Result<Stepped, 
 
 /// The events of a steps text for an image.
 fn read_events(alloc: Global, image: &Image, text: &[u8]) -> Result<Stepped, NoTrace>
-    ensures { IfOk result (λ s. length s.events.items ≤ 2 ^ 20) }
+    ensures read { IfOk result (λ s. steps_of image.now.system.processors text.now ≡ Ok s.events.items) }
+    ensures ending { IfOk result (λ s. s.ending ≡ None) }
+    ensures few { IfOk result (λ s. length s.events.items ≤ 2 ^ 20) }
 {
     match events_of(alloc, text, image.system().processors) {
         Ok(events) => Ok(Stepped {
@@ -143,7 +148,8 @@ fn steps_for(
     steps: Option<&[u8]>,
     run: Running,
 ) -> Result<Stepped, NoTrace>
-    ensures { IfOk result (λ s. length s.events.items ≤ 2 ^ 20) }
+    ensures coming { IfOk result (λ s. AreComing image.now run steps.entry s.events.items s.ending) }
+    ensures few { IfOk result (λ s. length s.events.items ≤ 2 ^ 20) }
 {
     match steps {
         Some(text) => read_events(alloc, image, text),
@@ -188,6 +194,8 @@ fn printed(
     run: Running,
 ) -> Result<Vec<u8>, AllocError>
     requires { length events.now ≤ 2 ^ 20 }
+    ensures { run.calls ≡ false
+        → IfOk result (λ out. IsRunTrace image.now src.now run events.now out.items) }
 {
     let bound = run.bound;
     if run.calls {
@@ -250,6 +258,8 @@ fn traced_over(
     run: Running,
 ) -> Result<Traced, AllocError>
     requires { length stepped.now.events.items ≤ 2 ^ 20 }
+    ensures traced { IfOk result (λ t. IsTraced image.now source.entry run stepped.now.events.items t) }
+    ensures ending { IfOk result (λ t. t.ending ≡ stepped.now.ending) }
 {
     let text = printed(alloc, image, source.text, &stepped.events, run)?;
     let opened = OpenImage::new(image, run.bound);
@@ -272,9 +282,14 @@ fn traced_image(
     source: NamedText<'_>,
     steps: Option<&[u8]>,
     run: Running,
-) -> Result<Traced, NoTrace> {
+) -> Result<Traced, NoTrace>
+    ensures { IfOk result (IsRunOf image.now source.entry steps.entry run) }
+{
     let stepped = steps_for(alloc, image, steps, run)?;
-    traced_over(alloc, image, source, &stepped, run).map_err(|_| NoTrace::Memory)
+    match traced_over(alloc, image, source, &stepped, run) {
+        Ok(traced) => Ok(traced),
+        Err(_) => Err(NoTrace::Memory),
+    }
 }
 
 /// What is printed of a run of the system of two texts: over a steps text, or of a drive where there is none.
@@ -284,7 +299,9 @@ pub fn traced_texts(
     source: NamedText<'_>,
     steps: Option<&[u8]>,
     run: Running,
-) -> Result<Traced, NoTrace> {
+) -> Result<Traced, NoTrace>
+    ensures { IfOk result (IsRunOfTexts cfg.now source.entry steps.entry run) }
+{
     let image = built(alloc, cfg, source.text)?;
     let traced = traced_image(alloc, &image, source, steps, run);
     drop(image);

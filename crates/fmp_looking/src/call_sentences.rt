@@ -1,7 +1,7 @@
 //! Sentences about the calls of a line of the tasks' text, for runs of an image.
 ghost use Rattle.std.specs.Prelude.{◌≡◌, ◌++◌, IfOk, OnOk, filter, map};
 ghost use Rattle.fmp_base.specs.Systems.{tables_of};
-ghost use Rattle.fmp_expect.specs.Places.{placed_of};
+ghost use Rattle.fmp_expect.specs.CallSentences.{call_sentences_of};
 ghost use Rattle.fmp_frames.specs.CallPositions.{position_of};
 ghost use Rattle.fmp_frames.specs.Sites.{HasSites};
 ghost use Rattle.fmp_instructions.specs.Instructions.{code_tables};
@@ -12,7 +12,7 @@ use crate::exit::{ViewExit, memory};
 use crate::expecting::unplaced_expected;
 use fmp_base::{Line, System};
 use fmp_code::{Code, Vm};
-use fmp_expect::{Expected, LineJudge, PlacedNever, read_placed};
+use fmp_expect::{CallSentence, Expected, LineJudge, read_call_sentences};
 use fmp_frames::{CallPositions, CallSite, call_sites};
 use fmp_image_bytes::Image;
 use fmp_kernel::Kernel;
@@ -33,7 +33,7 @@ pub struct RunSentences {
     /// Those that are not about the calls of a line.
     pub expected: Vec<Expected>,
     /// Those that are.
-    pub placed: Vec<PlacedNever>,
+    pub placed: Vec<CallSentence>,
     /// What the latter say of each call.
     pub nevers: Vec<CallNever>,
 }
@@ -155,7 +155,7 @@ fn calls_in(
 }
 
 /// What a sentence says of a call.
-fn never_of(placed: PlacedNever, site: CallSite) -> CallNever
+fn never_of(placed: CallSentence, site: CallSite) -> CallNever
     ensures { result ≡ spec.never_of placed site }
 {
     CallNever {
@@ -173,7 +173,7 @@ fn never_of(placed: PlacedNever, site: CallSite) -> CallNever
 
 /// Adds what a sentence says of each of these calls.
 fn add_calls(
-    placed: PlacedNever,
+    placed: CallSentence,
     sites: &[CallSite],
     nevers: &mut Vec<CallNever>,
 ) -> Result<(), AllocError>
@@ -186,7 +186,7 @@ fn add_calls(
 }
 
 /// What is said of a sentence about a line without a call.
-fn uncalled(alloc: Global, placed: PlacedNever) -> ViewExit {
+fn uncalled(alloc: Global, placed: CallSentence) -> ViewExit {
     match format!(in alloc;
         "expect:{}: `at` names a line of SRC in which no call stands: `{}`",
         placed.line, placed.at
@@ -201,7 +201,7 @@ fn add_sentence(
     alloc: Global,
     code: &Code,
     positions: &CallPositions,
-    placed: PlacedNever,
+    placed: CallSentence,
     nevers: &mut Vec<CallNever>,
 ) -> Result<(), ViewExit>
     requires { HasSites (code_tables code.now) }
@@ -220,7 +220,7 @@ fn nevers_in(
     alloc: Global,
     code: &Code,
     positions: &CallPositions,
-    placed: &[PlacedNever],
+    placed: &[CallSentence],
 ) -> Result<Vec<CallNever>, ViewExit>
     requires { HasSites (code_tables code.now) }
     ensures { IfOk result (λ nevers. nevers.items ≡ spec.nevers_in (code_tables code.now) positions.now placed.now) }
@@ -238,7 +238,7 @@ pub fn nevers_of(
     alloc: Global,
     image: &Image,
     positions: &CallPositions,
-    placed: &[PlacedNever],
+    placed: &[CallSentence],
 ) -> Result<Vec<CallNever>, ViewExit>
     ensures { IfOk result (λ nevers. nevers.items ≡ spec.nevers_in image.now.code positions.now placed.now) }
 {
@@ -247,10 +247,10 @@ pub fn nevers_of(
 }
 
 /// The sentences about calls of a text for a system.
-pub fn placed_in(alloc: Global, sys: &System, text: &[u8]) -> Result<Vec<PlacedNever>, ViewExit>
-    ensures { IfOk result (λ placed. placed.items ≡ placed_of (tables_of sys.now) text.now) }
+pub fn placed_in(alloc: Global, sys: &System, text: &[u8]) -> Result<Vec<CallSentence>, ViewExit>
+    ensures { IfOk result (λ placed. placed.items ≡ call_sentences_of (tables_of sys.now) text.now) }
 {
-    read_placed(alloc, sys, text).map_err(|error| memory(error))
+    read_call_sentences(alloc, sys, text).map_err(|error| memory(error))
 }
 
 /// The sentences of a text for a system, whose image has bodies of this text. The reasons to give none are the first

@@ -1,5 +1,6 @@
 //! Two runs of a system side by side: the first event in which they differ.
-ghost use Rattle.std.specs.Prelude.{◌≤◌, ◌^◌, IfOk, length};
+ghost use Rattle.std.specs.Prelude.{◌≡◌, ◌-◌, ◌≤◌, ◌^◌, IfOk, length, min};
+ghost use Rattle.fmp_frames.specs.Watches.{LeadUp};
 
 use crate::exit::{ViewExit, memory};
 use crate::kinds::exit_over;
@@ -28,6 +29,13 @@ fn told_of<'a, O: Opened, T: Coming<O::Bodies>>(
     told
 }
 
+/// The number of an event, which is below 2^32: for a greater number, the greatest one.
+fn event_number(number: usize) -> u32
+    ensures { result ≡ min number (2 ^ 32 - 1) }
+{
+    u32::try_from(number).unwrap_or(u32::MAX)
+}
+
 /// How much of what comes to a system leads up to the event of a number, or all of it if there are fewer.
 #[tactic(none)]
 fn count_to<O: Opened, T: Coming<O::Bodies>>(
@@ -37,11 +45,11 @@ fn count_to<O: Opened, T: Coming<O::Bodies>>(
     number: usize,
 ) -> Result<usize, AllocError>
     requires { length events.now ≤ 2 ^ 31 }
-    ensures { IfOk result (λ count. count ≤ length events.now) }
+    ensures few { IfOk result (λ count. count ≤ length events.now) }
+    ensures count { IfOk result (LeadUp T.reaction (O.start opened.now) events.now (min number (2 ^ 32 - 1))) }
 {
     let mut kernel = opened.kernel(alloc)?;
-    let number = u32::try_from(number).unwrap_or(u32::MAX);
-    let count = count_up_to(&mut kernel, events, number);
+    let count = count_up_to(&mut kernel, events, event_number(number));
     drop(kernel);
     Ok(count)
 }

@@ -2,8 +2,9 @@
 ghost use Rattle.std.specs.Prelude.{◌≡◌, ◌≤◌, ◌++◌, ◌∷◌, ◌^◌, [], IfOk, OnOk, length};
 ghost use Rattle.fmp_looking.specs.Covered.{IsCoverage, IsLcov, IsSeen, seen_of};
 ghost use Rattle.fmp_looking.specs.PlacedRuns.{calls_in, positions_in, start_of, steps_in};
+ghost use Rattle.fmp_looking.specs.Ways.{IsWithSteps};
 
-use crate::branches::{BranchStep, add_branch_steps};
+use crate::branches::add_branch_steps;
 use crate::coverage::{counts_in, text_lines};
 use crate::lcov::tracefile;
 use crate::marks::marks_of;
@@ -11,6 +12,7 @@ use crate::observing::{CallSeen, calls_seen};
 use crate::placing::{PlacedRun, positions_over};
 use crate::refused::NamedText;
 use crate::tables::{branch_counts, coverage_table};
+use crate::ways::BranchWays;
 use fmp_base::Event;
 use fmp_code::Vm;
 use fmp_frames::{CallPosition, CallPositions, CodePositions};
@@ -26,8 +28,8 @@ pub struct Sightings {
     made: Vec<Option<CallPosition>>,
     /// What they were answered.
     calls: Vec<CallSeen>,
-    /// Which ways branches went.
-    steps: Vec<BranchStep>,
+    /// How often branches went each way.
+    ways: BranchWays,
 }
 
 /// What is seen in runs of an image, and where the calls of its bodies stand.
@@ -74,16 +76,12 @@ fn calls_over(
 
 /// Adds the ways that branches went in a run.
 #[tactic(none)]
-fn add_steps(
-    alloc: Global,
-    run: PlacedRun<'_>,
-    steps: &mut Vec<BranchStep>,
-) -> Result<(), AllocError>
+fn add_steps(alloc: Global, run: PlacedRun<'_>, ways: &mut BranchWays) -> Result<(), AllocError>
     requires few { length run.events.now ≤ 2 ^ 20 }
-    ensures { OnOk result (steps.new.items ≡ steps.old.items ++ steps_in run.entry) }
+    ensures { OnOk result (IsWithSteps 1 ways.old (steps_in run.entry) ways.new) }
 {
     let mut kernel = kernel_of(alloc, run.image, run.bound)?;
-    let added = add_branch_steps(alloc, &mut kernel, run.image.code(), run.events, steps);
+    let added = add_branch_steps(alloc, &mut kernel, run.image.code(), run.events, ways);
     drop(kernel);
     added
 }
@@ -113,7 +111,7 @@ impl Sightings {
         Sightings {
             made: Vec::new(alloc),
             calls: Vec::new(alloc),
-            steps: Vec::new(alloc),
+            ways: BranchWays::none(alloc),
         }
     }
 
@@ -133,7 +131,7 @@ impl Sightings {
         let Sightings {
             mut made,
             calls,
-            mut steps,
+            mut ways,
         } = self;
         let run = PlacedRun {
             image,
@@ -143,24 +141,24 @@ impl Sightings {
         };
         add_made(alloc, run, &mut made)?;
         let calls = calls_over(alloc, run, calls)?;
-        add_steps(alloc, run, &mut steps)?;
-        Ok(Sightings { made, calls, steps })
+        add_steps(alloc, run, &mut ways)?;
+        Ok(Sightings { made, calls, ways })
     }
 
     /// What is seen in later runs too. `AllocError` if memory runs out.
-    pub fn and(self, later: &Sightings) -> Result<Sightings, AllocError>
+    pub fn and(self, alloc: Global, later: &Sightings) -> Result<Sightings, AllocError>
         ensures { IfOk result (λ s. (positions : List (List Position)) →
             seen_at positions s ≡ both (seen_at positions self) (seen_at positions later.now)) }
     {
         let Sightings {
             mut made,
             mut calls,
-            mut steps,
+            mut ways,
         } = self;
         made.extend_from_slice(&later.made)?;
         calls.extend_from_slice(&later.calls)?;
-        steps.extend_from_slice(&later.steps)?;
-        Ok(Sightings { made, calls, steps })
+        ways.add_all(alloc, &later.ways)?;
+        Ok(Sightings { made, calls, ways })
     }
 }
 
@@ -187,7 +185,7 @@ impl RunsSeen {
             alloc,
             file.as_bytes(),
             &self.sightings.calls,
-            &self.sightings.steps,
+            &self.sightings.ways,
             &marks,
         )
     }
@@ -199,7 +197,7 @@ impl RunsSeen {
         let lines = text_lines(alloc, src)?;
         let counts = counts_in(alloc, &lines, &self.sightings.made)?;
         let marks = marks_of(alloc, src)?;
-        let branches = branch_counts(alloc, &self.sightings.steps, &marks)?;
+        let branches = branch_counts(alloc, &self.sightings.ways, &marks)?;
         tracefile(alloc, file, &counts, &branches)
     }
 }

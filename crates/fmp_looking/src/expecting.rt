@@ -1,10 +1,12 @@
 //! Whether a run meets a text of expectations.
-ghost use Rattle.std.specs.Prelude.{◌≡◌, ◌+◌, ◌≤◌, ◌^◌, IfOk, Ok, length};
+ghost use Rattle.std.specs.Prelude.{ℕ, ◌≡◌, ◌+◌, ◌++◌, ◌==◌, ◌≤◌, ◌^◌, IfOk, List, Ok, is_some, length, not};
 ghost use Rattle.fmp_base.specs.Systems.{tables_of};
 ghost use Rattle.fmp_expect.specs.Grammar.{expectations_of};
-ghost use Rattle.fmp_expect.specs.Places.{unplaced_of};
+ghost use Rattle.fmp_expect.specs.CallSentences.{other_sentences_of};
+ghost use Rattle.fmp_named.specs.Lines.{named_lines};
 ghost use Rattle.fmp_trials.specs.Verdicts.{verdict};
-ghost use Rattle.fmp_looking.specs.Expects.{empty_claims};
+ghost use Rattle.fmp_looking.specs.Expects.{empty_claims, fails_text};
+ghost use Rattle.fmp_looking.specs.Looks.{IsEventText, ShowsEvent};
 
 use crate::exit::{ViewExit, memory};
 use crate::looking::RunLook;
@@ -13,8 +15,9 @@ use fmp_arguments::flaw_text;
 use fmp_base::{Line, System};
 use fmp_expect::{
     BrokenExpectation, Checker, ExpectFault, ExpectationFlaw, Expected, read_expectations,
-    read_unplaced, tell_run,
+    read_other_sentences, tell_run,
 };
+use fmp_frames::count_up_to;
 use fmp_kernel::{Body, Coming, Kernel};
 use fmp_named::append_lines;
 use fmp_trials::verdict_at_end;
@@ -67,25 +70,15 @@ pub fn verdict_of<O: Opened, T: Coming<O::Bodies>>(
     verdict
 }
 
-/// Takes what comes to a kernel up to the event of this number.
-fn run_up_to<B: Body, T: Coming<B>>(kernel: &mut Kernel<B>, events: &[T], number: u32)
-    requires { kernel.old.taken + length events.now ≤ 2 ^ 31 }
-{
-    for e in events {
-        if kernel.done() >= number {
-            return;
-        }
-        e.take(kernel);
-    }
-}
-
 /// Lines of the event of this number, with the names of objects.
 fn lines_text(
     alloc: Global,
     sys: &System,
     lines: &[Line],
     number: u32,
-) -> Result<Vec<u8>, AllocError> {
+) -> Result<Vec<u8>, AllocError>
+    ensures { IfOk result (λ out. out.items ≡ named_lines (tables_of sys.now) number lines.now) }
+{
     let mut out = Vec::new(alloc);
     append_lines(sys, number, lines, &mut out)?;
     Ok(out)
@@ -100,19 +93,20 @@ pub fn event_text<O: Opened, T: Coming<O::Bodies>>(
     number: u32,
 ) -> Result<Vec<u8>, AllocError>
     requires { length events.now ≤ 2 ^ 31 }
+    ensures { IfOk result (λ out. IsEventText T.reaction (O.start opened.now) events.now number out.items) }
 {
     let mut kernel = opened.kernel(alloc)?;
-    run_up_to(&mut kernel, events, number);
+    let _ = count_up_to(&mut kernel, events, number);
     let text = lines_text(alloc, opened.system(), kernel.lines(), number);
     drop(kernel);
     text
 }
 
-/// The line of this number of a text, from 1, without its line feed.
+/// The line of this number of a text, from 1, without the white space at its end.
 pub fn line_of(text: &[u8], number: usize) -> &[u8] {
     let mut lines = text.split(|byte| *byte == b'\n');
     match lines.nth(number.saturating_sub(1)) {
-        Some(line) => line,
+        Some(line) => line.trim_ascii_end(),
         None => &[],
     }
 }
@@ -124,7 +118,9 @@ fn broken_text(
     text: &[u8],
     broken: BrokenExpectation,
     event: &[u8],
-) -> Result<Vec<u8>, AllocError> {
+) -> Result<Vec<u8>, AllocError>
+    ensures { IfOk result (λ out. (head : List ℕ) × (out.items ≡ head ++ event.now)) }
+{
     let head = format!(in alloc; "{name}:{}: event {}: ", broken.line, broken.event)?;
     let mut out = head.into_bytes();
     out.extend_from_slice(line_of(text, broken.line))?;
@@ -143,6 +139,7 @@ pub fn report_of<O: Opened, T: Coming<O::Bodies>>(
     broken: BrokenExpectation,
 ) -> Result<Vec<u8>, AllocError>
     requires { length events.now ≤ 2 ^ 31 }
+    ensures { IfOk result (λ out. ShowsEvent T.reaction (O.start opened.now) events.now broken.event out.items) }
 {
     let event = event_text(alloc, opened, events, broken.event)?;
     broken_text(alloc, name, text, broken, &event)
@@ -167,7 +164,9 @@ fn empty_text(
     alloc: Global,
     named: (&str, &[u8]),
     lines: &[usize],
-) -> Result<Option<Vec<u8>>, AllocError> {
+) -> Result<Option<Vec<u8>>, AllocError>
+    ensures { IfOk result (λ text. is_some text ≡ not (length lines.now == 0)) }
+{
     if lines.is_empty() {
         return Ok(None);
     }
@@ -187,6 +186,9 @@ fn checked<O: Opened, T: Coming<O::Bodies>>(
     expected: &[Expected],
 ) -> Result<Option<Vec<u8>>, AllocError>
     requires { length events.now ≤ 2 ^ 31 }
+    ensures { IfOk result (λ text. is_some text ≡ fails_text expectations.now.strict
+        (verdict T.reaction (O.start opened.now) events.now expected.now)
+        (empty_claims T.reaction (O.start opened.now) events.now expected.now)) }
 {
     let verdict = verdict_of(alloc, opened, events, expected)?;
     failure_text(alloc, opened, events, expectations, &verdict)
@@ -202,6 +204,8 @@ pub fn failure_text<O: Opened, T: Coming<O::Bodies>>(
     verdict: &Verdict,
 ) -> Result<Option<Vec<u8>>, AllocError>
     requires { length events.now ≤ 2 ^ 31 }
+    ensures { IfOk result (λ text. is_some text
+        ≡ fails_text expectations.now.strict verdict.now.broken verdict.now.empty.items) }
 {
     let Expectations { name, text, strict } = *expectations;
     match verdict.broken {
@@ -247,9 +251,9 @@ pub fn unplaced_expected(
     sys: &System,
     text: &[u8],
 ) -> Result<Vec<Expected>, ViewExit>
-    ensures { IfOk result (λ xs. unplaced_of (tables_of sys.now) text.now ≡ Ok xs.items) }
+    ensures { IfOk result (λ xs. other_sentences_of (tables_of sys.now) text.now ≡ Ok xs.items) }
 {
-    match read_unplaced(alloc, sys, text) {
+    match read_other_sentences(alloc, sys, text) {
         Ok(expected) => Ok(expected),
         Err(ExpectFault::Memory) => Err(memory(AllocError)),
         Err(ExpectFault::Line { line, flaw }) => Err(flawed(alloc, sys, text, line, flaw)),
@@ -266,9 +270,14 @@ pub struct Expectations<'a> {
 }
 
 impl RunLook for Expectations<'_> {
+    ghost use Rattle.std.specs.Prelude.{is_some};
+    ghost use Rattle.fmp_looking.specs.Expects.{IsJudgedBy};
+
     /// What is printed of a run that does not meet the text: the first line that fails, and the event in which it does;
     /// or the lines that say nothing of the run, if these fail too.
     type Made = Option<Vec<u8>>;
+
+    ghost makes = { λ x reaction k xs times text. IsJudgedBy x.text.now x.strict reaction k xs (is_some text) };
 
     fn of<O: Opened, T: Coming<O::Bodies>>(
         &self,

@@ -39,8 +39,12 @@ fn judged_text<O: Opened, T: Coming<O::Bodies>>(
 }
 
 impl RunLook for Judged<'_> {
+    ghost use Rattle.fmp_looking.specs.Judgements.{AreJudgements};
+
     /// A test, or an object of JSON, for each expectation, in their order.
     type Made = Vec<u8>;
+
+    ghost makes = { λ x reaction k xs times out. AreJudgements x reaction k xs out.items };
 
     fn of<O: Opened, T: Coming<O::Bodies>>(
         &self,

@@ -16,7 +16,7 @@ struct Way {
     /// 0 where what the branch goes by is not 0, 1 where it is.
     number: u64,
     /// How often it was gone.
-    times: usize,
+    times: u64,
     /// Whether the branch was reached.
     is_reached: bool,
 }
@@ -99,7 +99,7 @@ fn append_times(way: &Way, out: &mut Vec<u8>) -> Result<(), AllocError>
     ensures { OnOk result (out.new.items ≡ out.old.items ++ spec.times_gone way.now.times way.now.is_reached) }
 {
     if way.is_reached {
-        append_number(way.times as u64, out)
+        append_number(way.times, out)
     } else {
         append(b"-", out)
     }

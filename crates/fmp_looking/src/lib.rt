@@ -5,6 +5,7 @@
 #![tactic(auto)]
 
 mod asking;
+mod branch_numbers;
 mod branches;
 mod built;
 mod built_system;
@@ -55,6 +56,7 @@ mod trying_beside;
 mod viewing;
 mod walking;
 mod wanted;
+mod ways;
 mod why;
 
 pub use asking::{files_of, testing_of};

@@ -1,6 +1,15 @@
 //! Looks at runs: of an image over a steps text, and of a recording.
-ghost use Rattle.std.specs.Prelude.{◌≡◌, ◌≤◌, ◌^◌, IfOk, length};
+ghost use Rattle.std.specs.Prelude.{⊤, ℕ, ◌≡◌, ◌≤◌, ◌^◌, List, [], IfOk, Ok, Option, length};
+ghost use Rattle.fmp_base.specs.Steps.{Reaction};
+ghost use Rattle.fmp_foreign.specs.Hosting.{reaction};
+ghost use Rattle.fmp_instructions.specs.Machine.{code_meaning};
+ghost use Rattle.fmp_kernel.specs.Comings.{reaction_of};
+ghost use Rattle.fmp_kernel.specs.KernelViews.{KernelView};
+ghost use Rattle.fmp_recording.specs.Recordings as recordings;
+ghost use Rattle.fmp_recording.specs.Replaying.{new_kernel};
+ghost use Rattle.fmp_replay.specs.Replays.{kernel_after};
 ghost use Rattle.fmp_looking.specs.Exits.{exit_of_recording, has_last_events};
+ghost use Rattle.fmp_looking.specs.Looks.{OfImage, OfRecording, OfSteps, OfSystem};
 
 use crate::exit::{ViewExit, memory};
 use crate::kinds::exit_over;
@@ -19,6 +28,10 @@ pub trait RunLook {
     /// What it makes of a run.
     type Made;
 
+    /// What holds of that: by what comes to a kernel after setup, what each does to a kernel, and when they came.
+    ghost makes: { {B C X : Type 0} → Self → (KernelView B C → X → Reaction C) → KernelView B C → List X
+        → List (Option ℕ) → Self.Made → Type 0 } = { λ _ _ _ _ _ _. ⊤ };
+
     /// What it makes of what comes to a system. The times are those of a recording, in microseconds, in the same order;
     /// an image has none.
     fn of<O: Opened, T: Coming<O::Bodies>>(
@@ -28,7 +41,8 @@ pub trait RunLook {
         events: &[T],
         times: &[Option<u64>],
     ) -> Result<Self::Made, ViewExit>
-        requires { length events.now ≤ 2 ^ 31 };
+        requires { length events.now ≤ 2 ^ 31 }
+        ensures { IfOk result (makes self.now T.reaction (O.start opened.now) events.now times.now) };
 }
 
 /// What a look makes of a run of an image over a steps text.
@@ -37,7 +51,10 @@ fn over_steps<L: RunLook>(
     look: &L,
     opened: &OpenImage<'_>,
     steps: &[u8],
-) -> Result<L::Made, ViewExit> {
+) -> Result<L::Made, ViewExit>
+    ensures { IfOk result (λ made. OfSteps opened.now.image.now steps.now (λ es. L.makes look.now
+        (reaction_of code_meaning) (kernel_after opened.now.image.now opened.now.bound []) es [] made)) }
+{
     match events_for(alloc, opened.image, steps) {
         Ok(events) => look.of(alloc, opened, &events, &[]),
         Err(exit) => Err(exit),
@@ -49,7 +66,10 @@ pub fn look_at_image<L: RunLook>(
     alloc: Global,
     look: &L,
     run: StepsRun<'_>,
-) -> Result<L::Made, ViewExit> {
+) -> Result<L::Made, ViewExit>
+    ensures { IfOk result (λ made. OfImage run.entry.image.now (λ i. OfSteps i run.entry.steps.now (λ es. L.makes
+        look.now (reaction_of code_meaning) (kernel_after i run.entry.bound []) es [] made))) }
+{
     match image_of(alloc, run.image) {
         Ok(image) => {
             let made = over_steps(alloc, look, &OpenImage::new(&image, run.bound), run.steps);
@@ -62,7 +82,8 @@ pub fn look_at_image<L: RunLook>(
 
 /// What was recorded, if it is no more than a kernel takes.
 fn within_most(recording: Vec<Given>) -> Result<Vec<Given>, ViewExit>
-    ensures { IfOk result (λ kept. length kept.items ≤ 2 ^ 31) }
+    ensures same { IfOk result (λ kept. kept.items ≡ recording.items) }
+    ensures few { IfOk result (λ kept. length kept.items ≤ 2 ^ 31) }
 {
     if recording.len() > MOST_LINES as usize {
         let line = MOST_LINES + 1;
@@ -98,7 +119,8 @@ fn exit_over_recording(fault: RecordingFault, text: &[u8]) -> ViewExit
 
 /// What a recording of a system of this many processors says.
 pub fn recording_of(alloc: Global, text: &[u8], processors: u8) -> Result<Vec<Given>, ViewExit>
-    ensures { IfOk result (λ recording. length recording.items ≤ 2 ^ 31) }
+    ensures read { IfOk result (λ recording. recordings.recording_of processors text.now ≡ Ok recording.items) }
+    ensures few { IfOk result (λ recording. length recording.items ≤ 2 ^ 31) }
 {
     match read_recording(alloc, text, processors) {
         Ok(recording) => within_most(recording),
@@ -107,7 +129,9 @@ pub fn recording_of(alloc: Global, text: &[u8], processors: u8) -> Result<Vec<Gi
 }
 
 /// When each line of a recording came, where it says so.
-fn times_of(alloc: Global, recording: &[u8]) -> Result<Vec<Option<u64>>, ViewExit> {
+fn times_of(alloc: Global, recording: &[u8]) -> Result<Vec<Option<u64>>, ViewExit>
+    ensures { IfOk result (λ times. times.items ≡ recordings.times_of recording.now) }
+{
     read_times(alloc, recording).map_err(|error| memory(error))
 }
 
@@ -122,7 +146,10 @@ fn over_recording<L: RunLook>(
     look: &L,
     opened: &OpenSystem,
     recording: &[u8],
-) -> Result<L::Made, ViewExit> {
+) -> Result<L::Made, ViewExit>
+    ensures { IfOk result (λ made. OfRecording opened.now recording.now (λ gs. L.makes look.now reaction
+        (new_kernel opened.now) gs (recordings.times_of recording.now) made)) }
+{
     let events = recording_of(alloc, recording, opened.system().processors)?;
     let times = times_of(alloc, recording)?;
     look.of(alloc, opened, &events, &times)
@@ -134,7 +161,10 @@ pub fn look_at_recording<L: RunLook>(
     look: &L,
     cfg: &[u8],
     recording: &[u8],
-) -> Result<L::Made, ViewExit> {
+) -> Result<L::Made, ViewExit>
+    ensures { IfOk result (λ made. OfSystem cfg.now (λ sys. OfRecording sys recording.now (λ gs. L.makes look.now
+        reaction (new_kernel sys) gs (recordings.times_of recording.now) made))) }
+{
     match OpenSystem::new(alloc, cfg) {
         Ok(opened) => {
             let made = over_recording(alloc, look, &opened, recording);

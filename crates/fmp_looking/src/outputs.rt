@@ -1,5 +1,5 @@
 //! Files that a command would write twice.
-ghost use Rattle.std.specs.Prelude.{◌≡◌, IsTrue, MatchOption, false};
+ghost use Rattle.std.specs.Prelude.{◌≡◌, IfSome, IsTrue, MatchOption, None, false};
 
 use crate::wanted::CoverageFiles;
 use fmp_files::Outside;
@@ -28,6 +28,10 @@ pub fn is_report_over_coverage<O: Outside>(
     outside: &O,
     junit: Option<&str>,
     files: CoverageFiles<'_>,
-) -> bool {
+) -> bool
+    ensures none { junit.entry ≡ None → result ≡ false }
+    ensures lcov { IfSome junit.entry (λ a. IfSome files.entry.lcov (λ b. a.now ≡ b.now → IsTrue result)) }
+    ensures coverage { IfSome junit.entry (λ a. IfSome files.entry.coverage (λ b. a.now ≡ b.now → IsTrue result)) }
+{
     are_one_file(outside, junit, files.lcov) || are_one_file(outside, junit, files.coverage)
 }

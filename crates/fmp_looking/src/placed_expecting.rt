@@ -1,6 +1,6 @@
 //! Whether a run of an image meets a text of expectations of which some are about the calls of a line, where the text
 //! of its bodies is given.
-ghost use Rattle.std.specs.Prelude.{◌≡◌, ◌≤◌, ◌++◌, ◌^◌, [], IfOk, OnOk, filter, length, map, nat_eq};
+ghost use Rattle.std.specs.Prelude.{◌≡◌, ◌≤◌, ◌++◌, ◌^◌, [], IfOk, OnOk, filter, is_some, length, map, nat_eq};
 ghost use Rattle.fmp_expect.specs.Judges.{broken_along};
 ghost use Rattle.fmp_instructions.specs.Machine.{code_meaning};
 ghost use Rattle.fmp_kernel.specs.Comings.{reaction_of};
@@ -8,6 +8,9 @@ ghost use Rattle.fmp_replay.specs.Replays.{kernel_after};
 ghost use Rattle.fmp_trials.specs.Trials.{broken_by};
 ghost use Rattle.fmp_looking.specs.Judgements as spec;
 ghost use Rattle.fmp_looking.specs.CallSentences.{AreNamedSentences, breaks_by, judge_of};
+ghost use Rattle.fmp_looking.specs.Expects.{empty_claims};
+ghost use Rattle.fmp_looking.specs.Looks.{OfImage, OfSteps};
+ghost use Rattle.fmp_looking.specs.PlacedVerdicts.{ArePlacedJudgements, IsPlacedVerdict, fails_sentences};
 ghost use Rattle.fmp_looking.specs.Tested.{subject_of};
 
 use crate::call_sentences::{CallJudge, CallNever, RunSentences, sentences_of};
@@ -23,7 +26,7 @@ use crate::opened::Opened;
 use crate::opening::{StepsRun, events_for, image_of};
 use crate::placing::positions_for;
 use fmp_base::Event;
-use fmp_expect::{BrokenExpectation, PlacedNever, judge_run};
+use fmp_expect::{BrokenExpectation, CallSentence, judge_run};
 use std::alloc::{AllocError, Global};
 
 /// A text of expectations, and the text of the bodies of an image.
@@ -60,9 +63,11 @@ fn verdict_by(
     sentences: &RunSentences,
 ) -> Result<Verdict, AllocError>
     requires { length events.now ≤ 2 ^ 20 }
-    ensures { IfOk result (λ v. v.broken ≡ broken_by code_meaning breaks_by
+    ensures broken { IfOk result (λ v. v.broken ≡ broken_by code_meaning breaks_by
         (subject_of opened.now.image.now opened.now.bound sentences.now.expected.items sentences.now.nevers.items)
         events.now) }
+    ensures empty { IfOk result (λ v. v.empty.items ≡ empty_claims (reaction_of code_meaning)
+        (kernel_after opened.now.image.now opened.now.bound []) events.now sentences.now.expected.items) }
 {
     let Verdict { broken, empty } = verdict_of(alloc, opened, events, &sentences.expected)?;
     match broken {
@@ -86,6 +91,8 @@ fn failure_of(
     sentences: &RunSentences,
 ) -> Result<Option<Vec<u8>>, AllocError>
     requires { length events.now ≤ 2 ^ 20 }
+    ensures { IfOk result (λ text. is_some text ≡ fails_sentences opened.now.image.now opened.now.bound events.now
+        expectations.now.strict sentences.now) }
 {
     let verdict = verdict_by(alloc, opened, events, sentences)?;
     failure_text(alloc, opened, events, expectations, &verdict)
@@ -110,7 +117,7 @@ fn judgement_of(
     opened: &OpenImage<'_>,
     events: &[Event],
     nevers: &[CallNever],
-    placed: PlacedNever,
+    placed: CallSentence,
 ) -> Result<Judgement, AllocError>
     requires { length events.now ≤ 2 ^ 20 }
     ensures { IfOk result (λ j. j ≡ spec.placed_by (kernel_after opened.now.image.now opened.now.bound [])
@@ -209,12 +216,16 @@ fn failure_over(
     opened: &OpenImage<'_>,
     steps: &[u8],
     placed: &PlacedExpectations<'_>,
-) -> Result<Option<Vec<u8>>, ViewExit> {
+) -> Result<Option<Vec<u8>>, ViewExit>
+    ensures { IfOk result (λ text. OfSteps opened.now.image.now steps.now
+        (λ es. IsPlacedVerdict opened.now.image.now opened.now.bound es placed.now (is_some text))) }
+{
     let events = events_for(alloc, opened.image, steps)?;
     let sentences = sentences_for(alloc, opened, placed)?;
-    failure_of(alloc, opened, &events, &placed.expectations, &sentences).map_err(|error| memory(
-        error,
-    ))
+    match failure_of(alloc, opened, &events, &placed.expectations, &sentences) {
+        Ok(text) => Ok(text),
+        Err(error) => Err(memory(error)),
+    }
 }
 
 /// How a run of an image over a steps text does by each sentence of a text alone, in a form.
@@ -224,14 +235,20 @@ fn judgements_over(
     steps: &[u8],
     placed: &PlacedExpectations<'_>,
     form: JudgementForm,
-) -> Result<Vec<u8>, ViewExit> {
+) -> Result<Vec<u8>, ViewExit>
+    ensures { IfOk result (λ out. OfSteps opened.now.image.now steps.now
+        (λ es. ArePlacedJudgements opened.now.image.now opened.now.bound es placed.now form out.items)) }
+{
     let events = events_for(alloc, opened.image, steps)?;
     let sentences = sentences_for(alloc, opened, placed)?;
     let judged = Judged {
         expectations: placed.expectations,
         form,
     };
-    judged_text(alloc, opened, &events, &judged, &sentences).map_err(|error| memory(error))
+    match judged_text(alloc, opened, &events, &judged, &sentences) {
+        Ok(out) => Ok(out),
+        Err(error) => Err(memory(error)),
+    }
 }
 
 /// What is printed of a run that does not meet a text: the first line that fails, and the event in which it does; or
@@ -241,7 +258,10 @@ pub fn placed_failure(
     alloc: Global,
     run: StepsRun<'_>,
     placed: &PlacedExpectations<'_>,
-) -> Result<Option<Vec<u8>>, ViewExit> {
+) -> Result<Option<Vec<u8>>, ViewExit>
+    ensures { IfOk result (λ text. OfImage run.entry.image.now (λ i. OfSteps i run.entry.steps.now
+        (λ es. IsPlacedVerdict i run.entry.bound es placed.now (is_some text)))) }
+{
     match image_of(alloc, run.image) {
         Ok(image) => {
             let opened = OpenImage::new(&image, run.bound);
@@ -260,7 +280,10 @@ pub fn placed_judgements(
     run: StepsRun<'_>,
     placed: &PlacedExpectations<'_>,
     form: JudgementForm,
-) -> Result<Vec<u8>, ViewExit> {
+) -> Result<Vec<u8>, ViewExit>
+    ensures { IfOk result (λ out. OfImage run.entry.image.now (λ i. OfSteps i run.entry.steps.now
+        (λ es. ArePlacedJudgements i run.entry.bound es placed.now form out.items))) }
+{
     match image_of(alloc, run.image) {
         Ok(image) => {
             let opened = OpenImage::new(&image, run.bound);

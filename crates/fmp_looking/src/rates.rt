@@ -1,6 +1,8 @@
 //! How often interrupts come.
-ghost use Rattle.std.specs.Prelude.{◌≡◌, nat_eq};
+ghost use Rattle.std.specs.Prelude.{◌≡◌, IfOk, MatchOption, None, Some, nat_eq, option_map};
 ghost use Rattle.std.specs.List.{list_any};
+ghost use Rattle.fmp_base.specs.Systems.{tables_of};
+ghost use Rattle.fmp_looking.specs.Rates as spec;
 
 use fmp_base::System;
 use fmp_files::Outside;
@@ -10,11 +12,36 @@ use std::alloc::{AllocError, Global};
 /// How often an interrupt comes of which nothing is said: once in this many events.
 const USUAL: u32 = 50;
 
+/// What stands before and after the first colon of a word.
+fn parts_at_colon(word: &str) -> Option<(&str, &str)>
+    ensures { MatchOption result (spec.parts_at_colon word.now ≡ None)
+        (λ parts. spec.parts_at_colon word.now ≡ Some (parts.0.now, parts.1.now)) }
+{
+    word.split_once(':')
+}
+
+/// The number of an interrupt that a text spells, of any size.
+fn interrupt_named(text: &str) -> Option<u8>
+    ensures { result ≡ spec.number_named 8 text.now }
+{
+    text.parse::<u8>().ok()
+}
+
+/// The number of events that a text spells.
+fn events_named(text: &str) -> Option<u32>
+    ensures { result ≡ spec.number_named 32 text.now }
+{
+    text.parse::<u32>().ok()
+}
+
 /// How often an interrupt comes, by a word as `3:50`; none if the word says nothing of the kind.
-fn rate_of(word: &str) -> Option<InterruptRate> {
-    let (interrupt, every) = word.split_once(':')?;
-    let interrupt = interrupt.parse::<u8>().ok()?;
-    let every = every.parse::<u32>().ok()?;
+#[tactic(auto, unfolding(crate::specs::Rates::rate_named))]
+fn rate_of(word: &str) -> Option<InterruptRate>
+    ensures { result ≡ spec.rate_named word.now }
+{
+    let (interrupt, every) = parts_at_colon(word)?;
+    let interrupt = interrupt_named(interrupt)?;
+    let every = events_named(every)?;
     if interrupt == 0 || interrupt > 32 || every == 0 {
         return None;
     }
@@ -22,7 +49,9 @@ fn rate_of(word: &str) -> Option<InterruptRate> {
 }
 
 /// Each interrupt that has a handler, as often as is usual.
-fn usual_rates(alloc: Global, sys: &System) -> Result<Vec<InterruptRate>, AllocError> {
+fn usual_rates(alloc: Global, sys: &System) -> Result<Vec<InterruptRate>, AllocError>
+    ensures { IfOk result (λ rates. rates.items ≡ spec.usual_rates (tables_of sys.now)) }
+{
     let mut rates = Vec::new(alloc);
     for interrupt in &sys.interrupts {
         rates.push(InterruptRate {
@@ -33,16 +62,10 @@ fn usual_rates(alloc: Global, sys: &System) -> Result<Vec<InterruptRate>, AllocE
     Ok(rates)
 }
 
-/// How often interrupts come, by words as `3:50`; where there are none, all of the system do. None if a word says
-/// nothing of the kind.
-pub fn rates_of(
-    alloc: Global,
-    sys: &System,
-    words: &[&str],
-) -> Result<Option<Vec<InterruptRate>>, AllocError> {
-    if words.is_empty() {
-        return Ok(Some(usual_rates(alloc, sys)?));
-    }
+/// How often interrupts come, by words as `3:50`; none if a word says nothing of the kind.
+fn each_rate(alloc: Global, words: &[&str]) -> Result<Option<Vec<InterruptRate>>, AllocError>
+    ensures { IfOk result (λ rates. option_map (λ rs. rs.items) rates ≡ spec.each_rate words.now) }
+{
     let mut rates = Vec::new(alloc);
     for word in words {
         match rate_of(word) {
@@ -51,6 +74,22 @@ pub fn rates_of(
         }
     }
     Ok(Some(rates))
+}
+
+/// How often interrupts come, by words as `3:50`; where there are none, all of the system do. None if a word says
+/// nothing of the kind.
+pub fn rates_of(
+    alloc: Global,
+    sys: &System,
+    words: &[&str],
+) -> Result<Option<Vec<InterruptRate>>, AllocError>
+    ensures { IfOk result (λ rates.
+        option_map (λ rs. rs.items) rates ≡ spec.rates_named (tables_of sys.now) words.now) }
+{
+    if words.is_empty() {
+        return Ok(Some(usual_rates(alloc, sys)?));
+    }
+    each_rate(alloc, words)
 }
 
 /// Whether the interrupt of this number has a handler.

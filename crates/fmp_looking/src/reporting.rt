@@ -1,11 +1,15 @@
 //! Random runs of an image that are judged by a text of expectations, and what is printed of the first that fails.
-ghost use Rattle.std.specs.Prelude.{◌≡◌, ◌≤◌, ◌^◌, IfOk, IfSome, length};
+ghost use Rattle.std.specs.Prelude.{◌≡◌, ◌<◌, ◌≤◌, ◌^◌, [], IfNone, IfOk, IfSome, OnOk, false, length};
 ghost use Rattle.fmp_base.specs.Systems.{tables_of};
 ghost use Rattle.fmp_instructions.specs.Machine.{code_meaning};
+ghost use Rattle.fmp_kernel.specs.Comings.{reaction_of};
+ghost use Rattle.fmp_replay.specs.Replays.{kernel_after};
 ghost use Rattle.fmp_trace.specs.Steps.{steps_text};
+ghost use Rattle.fmp_trials.specs.Drawn.{HasMet, any_of_end, is_of_end};
 ghost use Rattle.fmp_trials.specs.Found.{IsFound};
 ghost use Rattle.fmp_looking.specs.CallSentences.{breaks_by};
-ghost use Rattle.fmp_looking.specs.Tested.{IsFailedTest, subject_in, subject_of};
+ghost use Rattle.fmp_looking.specs.Looks.{ShowsEvent};
+ghost use Rattle.fmp_looking.specs.Tested.{HasMetText, IsFailedTest, subject_in, subject_of};
 
 use crate::call_sentences::{CallJudge, CallNever, sentences_of};
 use crate::exit::{ViewExit, memory};
@@ -43,10 +47,22 @@ fn end_text(alloc: Global, line: usize) -> ViewExit {
     }
 }
 
+/// Whether a sentence is about the end of a run.
+fn is_of_end(sentence: &Sentence) -> bool
+    ensures { result ≡ is_of_end sentence.now }
+{
+    match sentence {
+        Sentence::End { .. } => true,
+        _ => false,
+    }
+}
+
 /// Refuses expectations of the end of a run.
-fn refuse_ends(alloc: Global, expected: &[Expected]) -> Result<(), ViewExit> {
+fn refuse_ends(alloc: Global, expected: &[Expected]) -> Result<(), ViewExit>
+    ensures { OnOk result (any_of_end expected.now ≡ false) }
+{
     for one in expected {
-        if let Sentence::End { .. } = one.sentence {
+        if is_of_end(&one.sentence) {
             return Err(end_text(alloc, one.line));
         }
     }
@@ -63,6 +79,37 @@ fn text_of(alloc: Global, steps: &[Event]) -> Result<Vec<u8>, AllocError>
 }
 
 /// What is printed of a run of an image that fails one of the expectations of a text.
+fn printed_test(
+    alloc: Global,
+    opened: &OpenImage<'_>,
+    expectations: &Expectations<'_>,
+    trial: FailedTrial,
+) -> Result<FailedTest, AllocError>
+    requires { length trial.run.steps.items ≤ 2 ^ 20 }
+    ensures trial { IfOk result (λ test. test.trial ≡ trial) }
+    ensures steps { IfOk result (λ test. test.steps.items ≡ steps_text trial.run.steps.items) }
+    ensures report { IfOk result (λ test. ShowsEvent (reaction_of code_meaning)
+        (kernel_after opened.now.image.now opened.now.bound []) trial.run.steps.items trial.run.broken.event
+        test.report.items) }
+{
+    let Expectations { name, text, .. } = *expectations;
+    let steps = text_of(alloc, &trial.run.steps)?;
+    let report = report_of(
+        alloc,
+        opened,
+        &trial.run.steps,
+        name,
+        text,
+        trial.run.broken,
+    )?;
+    Ok(FailedTest {
+        trial,
+        steps,
+        report,
+    })
+}
+
+/// The same, or that memory runs out.
 fn failed_test(
     alloc: Global,
     opened: &OpenImage<'_>,
@@ -72,27 +119,20 @@ fn failed_test(
     requires { length trial.run.steps.items ≤ 2 ^ 20 }
     ensures trial { IfOk result (λ test. test.trial ≡ trial) }
     ensures steps { IfOk result (λ test. test.steps.items ≡ steps_text trial.run.steps.items) }
+    ensures report { IfOk result (λ test. ShowsEvent (reaction_of code_meaning)
+        (kernel_after opened.now.image.now opened.now.bound []) trial.run.steps.items trial.run.broken.event
+        test.report.items) }
 {
-    let steps = text_of(alloc, &trial.run.steps).map_err(|error| memory(error))?;
-    let Expectations { name, text, .. } = *expectations;
-    let report = report_of(
-        alloc,
-        opened,
-        &trial.run.steps,
-        name,
-        text,
-        trial.run.broken,
-    )
-    .map_err(|error| memory(error))?;
-    Ok(FailedTest {
-        trial,
-        steps,
-        report,
-    })
+    match printed_test(alloc, opened, expectations, trial) {
+        Ok(test) => Ok(test),
+        Err(error) => Err(memory(error)),
+    }
 }
 
 /// How the random runs of a test go.
-pub fn plan_of<'a>(test: &ImageTest<'a>) -> RunPlan<'a> {
+pub fn plan_of<'a>(test: &ImageTest<'a>) -> RunPlan<'a>
+    ensures { result.events ≡ test.now.testing.events }
+{
     RunPlan {
         events: test.testing.events,
         tick: test.testing.tick,
@@ -108,7 +148,9 @@ fn found_by<R: Threads + Sync>(
     trials: &Trials<'_>,
     seeds: u32,
 ) -> Result<Option<FailedTrial>, AllocError>
-    ensures { IfOk result (λ found. IfSome found (IsFound code_meaning breaks_by (subject_in trials.now))) }
+    ensures found { IfOk result (λ found. IfSome found (IsFound code_meaning breaks_by (subject_in trials.now))) }
+    ensures met { any_of_end trials.now.expected.now ≡ false → 0 < seeds → IfOk result (λ found. IfNone found
+        (HasMet code_meaning breaks_by (subject_in trials.now) trials.now.plan.events)) }
 {
     if jobs <= 1 {
         return failed_trial_of(alloc, trials, seeds);
@@ -124,8 +166,11 @@ fn first_failed<R: Threads + Sync>(
     expected: &[Expected],
     nevers: &[CallNever],
 ) -> Result<Option<FailedTrial>, ViewExit>
-    ensures { IfOk result (λ found. IfSome found (IsFound code_meaning breaks_by
+    ensures found { IfOk result (λ found. IfSome found (IsFound code_meaning breaks_by
         (subject_of test.now.image.now test.now.testing.bound expected.now nevers.now))) }
+    ensures met { any_of_end expected.now ≡ false → 0 < test.now.testing.seeds → IfOk result
+        (λ found. IfNone found (HasMet code_meaning breaks_by
+        (subject_of test.now.image.now test.now.testing.bound expected.now nevers.now) test.now.testing.events)) }
 {
     let judge = CallJudge::new(test.image, nevers);
     let trials = Trials {
@@ -142,9 +187,10 @@ fn first_failed<R: Threads + Sync>(
     ))
 }
 
-/// Makes the random runs of a test: the first that fails one of the expectations of a text. Where none does, nothing is
-/// said of other runs. The bodies of the image have this text. The reasons to make none are a fault of the text of
-/// expectations, a line of it that begins with `end`, or is about a line without a call, and that memory runs out.
+/// Makes the random runs of a test: the first that fails one of the expectations of a text. Where none does, a run of
+/// as many events as are planned meets them all; nothing is said of other runs. The bodies of the image have this text.
+/// The reasons to make none are a fault of the text of expectations, a line of it that begins with `end`, or is about a
+/// line without a call, and that memory runs out.
 pub fn tested<R: Threads + Sync>(
     alloc: Global,
     rt: &R,
@@ -152,9 +198,12 @@ pub fn tested<R: Threads + Sync>(
     src: &[u8],
     expectations: &Expectations<'_>,
 ) -> Result<Option<FailedTest>, ViewExit>
-    ensures { IfOk result (λ found. IfSome found
+    ensures failed { IfOk result (λ found. IfSome found
         (IsFailedTest test.now.image.now (tables_of test.now.configured.now) test.now.testing.bound src.now
         expectations.now.text.now)) }
+    ensures met { 0 < test.now.testing.seeds → IfOk result (λ found. IfNone found
+        (HasMetText test.now.image.now (tables_of test.now.configured.now) test.now.testing.bound
+        test.now.testing.events src.now expectations.now.text.now)) }
 {
     let sentences = sentences_of(alloc, test.image, test.configured, src, expectations.text)?;
     refuse_ends(alloc, &sentences.expected)?;

@@ -1,4 +1,7 @@
 //! The command `test` of a system: random runs, and the steps of the first that fails an expectation.
+ghost use Rattle.std.specs.Prelude.{◌≡◌, IfNone, IfSome, IsTrue, None, false};
+ghost use Rattle.fmp_looking.specs.TestFiles.{AreApart};
+
 use crate::asking::{TestMistake, test_mistake};
 use crate::built_system::BuiltSystem;
 use crate::exit::ViewExit;
@@ -128,7 +131,12 @@ fn print_record<O: Outside>(
 }
 
 /// Whether a file, if one is named, is one of those that a test reads.
-fn is_over_input<O: Outside>(outside: &O, out: Option<&str>, test: &ImageTest<'_>) -> bool {
+fn is_over_input<O: Outside>(outside: &O, out: Option<&str>, test: &ImageTest<'_>) -> bool
+    ensures none { out.entry ≡ None → result ≡ false }
+    ensures expect { IfSome out.entry (λ out. out.now ≡ test.now.expect.now → IsTrue result) }
+    ensures cfg { IfSome out.entry (λ out. out.now ≡ test.now.testing.cfg.now → IsTrue result) }
+    ensures src { IfSome out.entry (λ out. out.now ≡ test.now.testing.src.now → IsTrue result) }
+{
     match out {
         Some(out) => {
             outside.is_one_file(out, test.expect)
@@ -140,7 +148,9 @@ fn is_over_input<O: Outside>(outside: &O, out: Option<&str>, test: &ImageTest<'_
 }
 
 /// The mistake of writing over a file that is read, or of writing one twice, if that would be so.
-fn output_mistake<O: Outside>(outside: &O, test: &ImageTest<'_>) -> Option<TestMistake> {
+fn output_mistake<O: Outside>(outside: &O, test: &ImageTest<'_>) -> Option<TestMistake>
+    ensures { IfNone result (AreApart test.now) }
+{
     let files = test.testing.files;
     let junit = test.testing.junit;
     if is_coverage_one_file(outside, files) || is_report_over_coverage(outside, junit, files) {

@@ -3,10 +3,11 @@ ghost use Rattle.std.specs.Prelude.{◌≡◌, ◌++◌, IfOk, OnOk, count_by, d
 ghost use Rattle.std.specs.List.{flat_map};
 ghost use Rattle.fmp_frames.specs.Answers.{is_same_code as is_same};
 ghost use Rattle.fmp_looking.specs.Tables as spec;
+ghost use Rattle.fmp_looking.specs.Ways.{times_in};
 
-use crate::branches::BranchStep;
 use crate::marks::{BranchKind, Mark, MarkKind};
 use crate::observing::{CallSeen, Outcome};
+use crate::ways::BranchWays;
 use fmp_base::Er;
 use fmp_frames::CallPosition;
 use itoa::Buffer;
@@ -17,9 +18,9 @@ use std::alloc::{AllocError, Global};
 pub struct BranchCount {
     pub position: CallPosition,
     /// How often what it goes by was not 0.
-    pub is_true: usize,
+    pub is_true: u64,
     /// How often it was.
-    pub is_false: usize,
+    pub is_false: u64,
 }
 
 /// The codes that calls and the ends of waits answer.
@@ -35,7 +36,7 @@ const ANSWERS: [Er; 9] = [
     Er::Tmout,
 ];
 
-/// Whether two places are one.
+/// Whether two positions are one.
 fn is_at(position: CallPosition, other: CallPosition) -> bool
     ensures { result ≡ spec.is_at position other }
 {
@@ -69,21 +70,21 @@ fn is_answer(code: Er, outcome: Outcome) -> bool
     }
 }
 
-/// Whether this says that the call at a place was made.
+/// Whether this says that the call at a position was made.
 fn says_made(position: CallPosition, seen: &CallSeen) -> bool
     ensures { result ≡ spec.says_made position seen.now }
 {
     is_at(position, seen.position) && is_made(seen.outcome)
 }
 
-/// Whether this says that the call at a place was answered a code.
+/// Whether this says that the call at a position was answered a code.
 fn says_answered(position: CallPosition, code: Er, seen: &CallSeen) -> bool
     ensures { result ≡ spec.says_answered position code seen.now }
 {
     is_at(position, seen.position) && is_answer(code, seen.outcome)
 }
 
-/// How often the call at a place was made.
+/// How often the call at a position was made.
 fn times_made(calls: &[CallSeen], position: CallPosition) -> usize
     ensures { result ≡ spec.times_made calls.now position }
 {
@@ -103,28 +104,14 @@ fn times_answered(calls: &[CallSeen], position: CallPosition, code: Er) -> usize
         .count()
 }
 
-/// Whether a step goes this way.
-fn is_way(way: bool, step: &BranchStep) -> bool
-    ensures { result ≡ spec.is_way way step.now }
+/// How often the branch of a mark went this way.
+fn times_gone(ways: &BranchWays, mark: &Mark, way: bool) -> u64
+    ensures { result ≡ spec.times_gone (times_in ways.now) mark.now way }
 {
-    if way { step.is_true } else { !step.is_true }
-}
-
-/// Whether the branch of a mark went this way.
-fn is_step(mark: &Mark, way: bool, step: &BranchStep) -> bool
-    ensures { result ≡ spec.is_step mark.now way step.now }
-{
-    usize::from(step.body) + 1 == mark.bodies && step.number == mark.branches && is_way(way, step)
-}
-
-/// How often it did.
-fn times_gone(steps: &[BranchStep], mark: &Mark, way: bool) -> usize
-    ensures { result ≡ spec.times_gone steps.now mark.now way }
-{
-    steps
-        .iter()
-        .filter(|step| is_step(mark, way, *step))
-        .count()
+    if mark.bodies == 0 {
+        return 0;
+    }
+    ways.times(mark.bodies - 1, mark.branches, way)
 }
 
 fn append(text: &[u8], out: &mut Vec<u8>) -> Result<(), AllocError>
@@ -140,7 +127,7 @@ fn append_number(number: u64, out: &mut Vec<u8>) -> Result<(), AllocError>
 }
 
 /// Appends how often something was so.
-fn append_times(word: &[u8], times: usize, out: &mut Vec<u8>) -> Result<(), AllocError>
+fn append_times(word: &[u8], times: u64, out: &mut Vec<u8>) -> Result<(), AllocError>
     ensures { OnOk result (out.new.items ≡ out.old.items ++ spec.times word.now times) }
 {
     if times == 0 {
@@ -149,7 +136,7 @@ fn append_times(word: &[u8], times: usize, out: &mut Vec<u8>) -> Result<(), Allo
     }
     append(word, out)?;
     append(b" ", out)?;
-    append_number(times as u64, out)
+    append_number(times, out)
 }
 
 /// Appends how often a call was answered a code, if it was.
@@ -203,7 +190,7 @@ fn kind_word(kind: MarkKind) -> &'static [u8]
     }
 }
 
-/// Appends a place in a file.
+/// Appends a position in a file.
 fn append_position(file: &[u8], position: CallPosition, out: &mut Vec<u8>) -> Result<(), AllocError>
     ensures { OnOk result (out.new.items ≡ out.old.items ++ spec.position_text file.now position) }
 {
@@ -227,22 +214,22 @@ fn append_mark(file: &[u8], mark: &Mark, word: &[u8], out: &mut Vec<u8>) -> Resu
 /// Appends what is seen of a mark.
 fn append_seen(
     calls: &[CallSeen],
-    steps: &[BranchStep],
+    ways: &BranchWays,
     mark: &Mark,
     out: &mut Vec<u8>,
 ) -> Result<(), AllocError>
     ensures { OnOk result (out.new.items
-        ≡ out.old.items ++ spec.seen_text calls.now steps.now mark.now mark.now.kind) }
+        ≡ out.old.items ++ spec.seen_text calls.now (times_in ways.now) mark.now mark.now.kind) }
 {
     match mark.kind {
         MarkKind::Call(_) => {
-            append_times(b"made", times_made(calls, mark.position), out)?;
+            append_times(b"made", times_made(calls, mark.position) as u64, out)?;
             append_answers(calls, mark.position, &ANSWERS, out)
         }
         MarkKind::Branch(_) => {
-            append_times(b"true", times_gone(steps, mark, true), out)?;
+            append_times(b"true", times_gone(ways, mark, true), out)?;
             append(b", ", out)?;
-            append_times(b"false", times_gone(steps, mark, false), out)
+            append_times(b"false", times_gone(ways, mark, false), out)
         }
     }
 }
@@ -251,15 +238,15 @@ fn append_seen(
 fn append_row(
     file: &[u8],
     calls: &[CallSeen],
-    steps: &[BranchStep],
+    ways: &BranchWays,
     mark: &Mark,
     out: &mut Vec<u8>,
 ) -> Result<(), AllocError>
     ensures { OnOk result (out.new.items
-        ≡ out.old.items ++ spec.row_text file.now calls.now steps.now mark.now) }
+        ≡ out.old.items ++ spec.row_text file.now calls.now (times_in ways.now) mark.now) }
 {
     append_mark(file, mark, kind_word(mark.kind), out)?;
-    append_seen(calls, steps, mark, out)?;
+    append_seen(calls, ways, mark, out)?;
     append(b"\n", out)
 }
 
@@ -269,33 +256,34 @@ pub fn coverage_table(
     alloc: Global,
     file: &[u8],
     calls: &[CallSeen],
-    steps: &[BranchStep],
+    ways: &BranchWays,
     marks: &[Mark],
 ) -> Result<Vec<u8>, AllocError>
-    ensures { IfOk result (λ out. out.items ≡ spec.table_text file.now calls.now steps.now marks.now) }
+    ensures { IfOk result (λ out. out.items ≡ spec.table_text file.now calls.now (times_in ways.now) marks.now) }
 {
     let mut out = Vec::new(alloc);
     for mark in marks {
-        append_row(file, calls, steps, mark, &mut out)?;
+        append_row(file, calls, ways, mark, &mut out)?;
     }
     Ok(out)
 }
 
 /// Adds how often a branch went each way, if the mark is one.
 fn add_count(
-    steps: &[BranchStep],
+    ways: &BranchWays,
     mark: &Mark,
     counts: &mut Vec<BranchCount>,
 ) -> Result<(), AllocError>
-    ensures { OnOk result (counts.new.items ≡ counts.old.items ++ spec.counted steps.now mark.now mark.now.kind) }
+    ensures { OnOk result (counts.new.items
+        ≡ counts.old.items ++ spec.counted (times_in ways.now) mark.now mark.now.kind) }
 {
     match mark.kind {
         MarkKind::Call(_) => Ok(()),
         MarkKind::Branch(_) => {
             counts.push(BranchCount {
                 position: mark.position,
-                is_true: times_gone(steps, mark, true),
-                is_false: times_gone(steps, mark, false),
+                is_true: times_gone(ways, mark, true),
+                is_false: times_gone(ways, mark, false),
             })?;
             Ok(())
         }
@@ -305,14 +293,14 @@ fn add_count(
 /// How often each branch among marks went each way. `AllocError` if memory runs out.
 pub fn branch_counts(
     alloc: Global,
-    steps: &[BranchStep],
+    ways: &BranchWays,
     marks: &[Mark],
 ) -> Result<Vec<BranchCount>, AllocError>
-    ensures { IfOk result (λ counts. counts.items ≡ spec.branch_counts steps.now marks.now) }
+    ensures { IfOk result (λ counts. counts.items ≡ spec.branch_counts (times_in ways.now) marks.now) }
 {
     let mut counts = Vec::new(alloc);
     for mark in marks {
-        add_count(steps, mark, &mut counts)?;
+        add_count(ways, mark, &mut counts)?;
     }
     Ok(counts)
 }

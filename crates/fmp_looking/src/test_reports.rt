@@ -10,7 +10,7 @@ use crate::judged_cases::{JudgedCase, report_of};
 use crate::judging::Judgement;
 use crate::reporting::FailedTest;
 use fmp_base::System;
-use fmp_expect::{BrokenExpectation, Expected, PlacedNever};
+use fmp_expect::{BrokenExpectation, CallSentence, Expected};
 use std::alloc::{AllocError, Global};
 
 /// What is broken, if it stands in this line.
@@ -110,7 +110,7 @@ fn cases_of(
 fn lines_of(
     alloc: Global,
     expected: &[Expected],
-    placed: &[PlacedNever],
+    placed: &[CallSentence],
 ) -> Result<Vec<usize>, AllocError>
     ensures { IfOk result (λ lines. lines.items ≡ spec.lines_of expected.now placed.now) }
 {
@@ -131,7 +131,7 @@ fn add_expected(lines: &mut Vec<usize>, expected: &[Expected]) -> Result<(), All
 }
 
 /// Adds the lines of sentences about calls.
-fn add_placed(lines: &mut Vec<usize>, placed: &[PlacedNever]) -> Result<(), AllocError>
+fn add_placed(lines: &mut Vec<usize>, placed: &[CallSentence]) -> Result<(), AllocError>
     ensures { OnOk result (lines.new.items ≡ lines.old.items ++ map (λ p. p.line) placed.now) }
 {
     for one in placed {

@@ -1,6 +1,7 @@
 //! Random runs of an image.
-ghost use Rattle.std.specs.Prelude.{◌≡◌, ◌-◌, IfOk, IfSome};
+ghost use Rattle.std.specs.Prelude.{◌≡◌, ◌-◌, ◌<◌, IfNone, IfOk, IfSome, false};
 ghost use Rattle.fmp_instructions.specs.Machine.{code_meaning};
+ghost use Rattle.fmp_trials.specs.Drawn.{HasMet, any_of_end};
 ghost use Rattle.fmp_trials.specs.Found.{IsFound};
 ghost use Rattle.fmp_trials.specs.Shortening.{IsFailing};
 ghost use Rattle.fmp_looking.specs.Covered.{AreRunsSeen, seen_at};
@@ -42,14 +43,16 @@ pub fn bench_of<'a>(alloc: Global, trials: &Trials<'a>) -> Result<ImageBench<'a>
     Ok(Bench::new(start, kernel, trials.expected, trials.judge))
 }
 
-/// The first of the random runs of an image that fails what is expected, made shorter. Where there is none, nothing is
-/// said of other runs. `AllocError` if memory runs out.
+/// The first of the random runs of an image that fails what is expected, made shorter. Where there is none, a run of as
+/// many events as are planned meets that; nothing is said of other runs. `AllocError` if memory runs out.
 pub fn failed_trial_of(
     alloc: Global,
     trials: &Trials<'_>,
     seeds: u32,
 ) -> Result<Option<FailedTrial>, AllocError>
-    ensures { IfOk result (λ found. IfSome found (IsFound code_meaning breaks_by (subject_in trials.now))) }
+    ensures found { IfOk result (λ found. IfSome found (IsFound code_meaning breaks_by (subject_in trials.now))) }
+    ensures met { any_of_end trials.now.expected.now ≡ false → 0 < seeds → IfOk result (λ found. IfNone found
+        (HasMet code_meaning breaks_by (subject_in trials.now) trials.now.plan.events)) }
 {
     let mut bench = bench_of(alloc, trials)?;
     let found = first_failed_trial(alloc, &mut bench, trials.plan, u64::from(seeds));
@@ -57,15 +60,17 @@ pub fn failed_trial_of(
     found
 }
 
-/// The first of these seeds whose random run of an image fails what is expected, and that run. Where there is none,
-/// nothing is said of other runs. `AllocError` if memory runs out.
+/// The first of these seeds whose random run of an image fails what is expected, and that run. Where there is none, a
+/// run of as many events as are planned meets that; nothing is said of other runs. `AllocError` if memory runs out.
 pub fn failing_seed_of(
     alloc: Global,
     trials: &Trials<'_>,
     seeds: Seeds,
 ) -> Result<Option<FailingSeed>, AllocError>
-    ensures { IfOk result (λ found. IfSome found
+    ensures failing { IfOk result (λ found. IfSome found
         (λ f. IsFailing code_meaning breaks_by (subject_in trials.now) f.run)) }
+    ensures met { any_of_end trials.now.expected.now ≡ false → seeds.before < seeds.last → IfOk result
+        (λ found. IfNone found (HasMet code_meaning breaks_by (subject_in trials.now) trials.now.plan.events)) }
 {
     let mut bench = bench_of(alloc, trials)?;
     let found = first_failing(alloc, &mut bench, trials.plan, seeds);

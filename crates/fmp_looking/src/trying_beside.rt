@@ -1,11 +1,13 @@
 //! Random runs of an image that several threads make. Each makes those of a part of the seeds, and what comes of the
 //! parts is taken in order.
-ghost use Rattle.std.specs.Prelude.{ℕ, ◌+◌, ◌-◌, ◌<◌, All, IfOk, IfSome, List};
+ghost use Rattle.std.specs.Prelude.{ℕ, ◌≡◌, ◌+◌, ◌-◌, ◌<◌, All, IfNone, IfOk, IfSome, List, false};
 ghost use Rattle.fmp_frames.specs.declared.call_positions.CallPosition.{CallPosition};
 ghost use Rattle.fmp_image_bytes.specs.Images.{ImageTables};
 ghost use Rattle.fmp_instructions.specs.Machine.{code_meaning};
 ghost use Rattle.fmp_trials.specs.declared.seeds.Seeds.{Seeds};
+ghost use Rattle.fmp_trials.specs.Drawn.{HasMet, any_of_end};
 ghost use Rattle.fmp_trials.specs.Found.{IsFound};
+ghost use Rattle.fmp_trials.specs.Parts as part_spec;
 ghost use Rattle.fmp_trials.specs.Parts.{edge};
 ghost use Rattle.fmp_trials.specs.Shortening.{IsFailing};
 ghost use Rattle.fmp_looking.specs.Covered.{ArePartsSeen, AreRunsSeen, AreTrialsSeen, IsWithPart, seen_at, seen_of};
@@ -33,13 +35,19 @@ fn failing_parts<R: Threads + Sync>(
     seeds: Seeds,
 ) -> Result<Vec<Result<Option<FailingSeed>, AllocError>>, AllocError>
     requires { 0 < jobs }
-    ensures { IfOk result (λ parts. All (λ part. IfOk part (λ found. IfSome found
+    ensures failing { IfOk result (λ parts. All (λ part. IfOk part (λ found. IfSome found
         (λ f. IsFailing code_meaning breaks_by (subject_in trials.now) f.run))) parts.items) }
+    ensures met { any_of_end trials.now.expected.now ≡ false → seeds.before < seeds.last → IfOk result
+        (λ parts. IfOk (part_spec.first_of parts.items) (λ found. IfNone found
+        (HasMet code_meaning breaks_by (subject_in trials.now) trials.now.plan.events))) }
 {
     let look = |k: usize| -> Result<Option<FailingSeed>, AllocError>
         requires { k < jobs }
-        ensures { IfOk result (λ found. IfSome found
+        ensures failing { IfOk result (λ found. IfSome found
             (λ f. IsFailing code_meaning breaks_by (subject_in trials.entry.now) f.run)) }
+        ensures met { any_of_end trials.entry.now.expected.now ≡ false
+            → edge seeds jobs k < edge seeds jobs (k + 1) → IfOk result (λ found. IfNone found
+            (HasMet code_meaning breaks_by (subject_in trials.entry.now) trials.entry.now.plan.events)) }
     { failing_seed_of(alloc, trials, seeds.part(u64::from(jobs), k as u64)) };
     thread::map_indices(rt, alloc, jobs as usize, &look)
 }
@@ -54,8 +62,10 @@ fn failing_seed_beside<R: Threads + Sync>(
     seeds: Seeds,
 ) -> Result<Option<FailingSeed>, AllocError>
     requires { 0 < jobs }
-    ensures { IfOk result (λ found. IfSome found
+    ensures failing { IfOk result (λ found. IfSome found
         (λ f. IsFailing code_meaning breaks_by (subject_in trials.now) f.run)) }
+    ensures met { any_of_end trials.now.expected.now ≡ false → seeds.before < seeds.last → IfOk result
+        (λ found. IfNone found (HasMet code_meaning breaks_by (subject_in trials.now) trials.now.plan.events)) }
 {
     let parts = failing_parts(alloc, rt, jobs, trials, seeds)?;
     first_of(parts)
@@ -74,7 +84,10 @@ struct Round {
 
 impl Round {
     /// The seeds of the round, of which this is the last of all.
-    fn seeds(self, last: u64) -> Seeds {
+    fn seeds(self, last: u64) -> Seeds
+        ensures before { result.before ≡ self.before }
+        ensures last { self.before < last → 0 < self.each → 0 < self.jobs → self.before < result.last }
+    {
         let count = self.each.saturating_mul(u64::from(self.jobs));
         Seeds {
             before: self.before,
@@ -83,7 +96,9 @@ impl Round {
     }
 
     /// The round after the one that ends with this seed.
-    fn after(self, last: u64) -> Round {
+    fn after(self, last: u64) -> Round
+        ensures before { result.before ≡ last }
+    {
         Round {
             each: self.each.saturating_mul(2).min(ROUND_MOST),
             before: last,
@@ -102,8 +117,10 @@ fn first_failing_beside<R: Threads + Sync>(
     last: u64,
 ) -> Result<Option<FailingSeed>, AllocError>
     requires { 0 < jobs }
-    ensures { IfOk result (λ found. IfSome found
+    ensures failing { IfOk result (λ found. IfSome found
         (λ f. IsFailing code_meaning breaks_by (subject_in trials.now) f.run)) }
+    ensures met { any_of_end trials.now.expected.now ≡ false → 0 < last → IfOk result
+        (λ found. IfNone found (HasMet code_meaning breaks_by (subject_in trials.now) trials.now.plan.events)) }
 {
     let mut round = Round {
         jobs,
@@ -124,7 +141,8 @@ fn first_failing_beside<R: Threads + Sync>(
 }
 
 /// The first of the random runs of an image that fails what is expected, made shorter, where this many threads make
-/// them. Where there is none, nothing is said of other runs. `AllocError` if memory runs out.
+/// them. Where there is none, a run of as many events as are planned meets that; nothing is said of other runs.
+/// `AllocError` if memory runs out.
 pub fn failed_trial_beside<R: Threads + Sync>(
     alloc: Global,
     rt: &R,
@@ -133,7 +151,9 @@ pub fn failed_trial_beside<R: Threads + Sync>(
     seeds: u32,
 ) -> Result<Option<FailedTrial>, AllocError>
     requires { 0 < jobs }
-    ensures { IfOk result (λ found. IfSome found (IsFound code_meaning breaks_by (subject_in trials.now))) }
+    ensures found { IfOk result (λ found. IfSome found (IsFound code_meaning breaks_by (subject_in trials.now))) }
+    ensures met { any_of_end trials.now.expected.now ≡ false → 0 < seeds → IfOk result (λ found. IfNone found
+        (HasMet code_meaning breaks_by (subject_in trials.now) trials.now.plan.events)) }
 {
     match first_failing_beside(alloc, rt, jobs, trials, u64::from(seeds))? {
         Some(found) => Ok(Some(shortened_trial_of(alloc, trials, found)?)),
@@ -173,11 +193,15 @@ fn parts_seen<R: Threads + Sync>(
 }
 
 /// What was seen, and what is seen in the runs of a part after it.
-fn and_part(seen: Sightings, part: &Result<Sightings, AllocError>) -> Result<Sightings, AllocError>
+fn and_part(
+    alloc: Global,
+    seen: Sightings,
+    part: &Result<Sightings, AllocError>,
+) -> Result<Sightings, AllocError>
     ensures { IfOk result (IsWithPart seen part.now) }
 {
     match part {
-        Ok(later) => seen.and(later),
+        Ok(later) => seen.and(alloc, later),
         Err(_) => Err(AllocError),
     }
 }
@@ -190,7 +214,7 @@ fn all_seen(alloc: Global, parts: &[Result<Sightings, AllocError>]) -> Result<Si
 {
     let mut seen = Sightings::none(alloc);
     for k in 0..parts.len() {
-        seen = and_part(seen, &parts[k])?;
+        seen = and_part(alloc, seen, &parts[k])?;
     }
     Ok(seen)
 }

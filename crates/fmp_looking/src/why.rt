@@ -1,5 +1,7 @@
 //! Why nothing goes on after an event of a run.
-ghost use Rattle.std.specs.Prelude.{◌≤◌, ◌^◌, IfOk, length};
+ghost use Rattle.std.specs.Prelude.{◌≡◌, ◌≤◌, ◌^◌, IfOk, length};
+ghost use Rattle.fmp_frames.specs.Watches.{LeadUp, after_first};
+ghost use Rattle.fmp_looking.specs.Looks.{IsUpTo};
 
 use crate::exit::{ViewExit, exit_of, memory};
 use crate::looking::RunLook;
@@ -36,7 +38,10 @@ fn counted<O: Opened, T: Coming<O::Bodies>>(
     number: u32,
 ) -> Result<(usize, u32), AllocError>
     requires { length events.now ≤ 2 ^ 31 }
-    ensures { IfOk result (λ counts. counts.0 ≤ length events.now) }
+    ensures few { IfOk result (λ counts. counts.0 ≤ length events.now) }
+    ensures count { IfOk result (λ counts. LeadUp T.reaction (O.start opened.now) events.now number counts.0) }
+    ensures done { IfOk result (λ counts.
+        counts.1 ≡ (after_first T.reaction (O.start opened.now) events.now counts.0).done) }
 {
     let mut kernel = opened.kernel(alloc)?;
     let count = count_up_to(&mut kernel, events, number);
@@ -53,7 +58,8 @@ fn position_of<O: Opened, T: Coming<O::Bodies>>(
     at: Option<u32>,
 ) -> Result<usize, ViewExit>
     requires { length events.now ≤ 2 ^ 31 }
-    ensures { IfOk result (λ position. position ≤ length events.now) }
+    ensures few { IfOk result (λ position. position ≤ length events.now) }
+    ensures up_to { IfOk result (IsUpTo T.reaction (O.start opened.now) events.now at) }
 {
     let Some(number) = at else {
         return Ok(events.len());
@@ -115,7 +121,13 @@ pub struct Why {
 }
 
 impl RunLook for Why {
+    ghost use Rattle.std.specs.Prelude.{ℕ};
+    ghost use Rattle.fmp_looking.specs.Looks.{IsUpTo};
+
     type Made = Vec<u8>;
+
+    // The event of the number is done.
+    ghost makes = { λ why reaction k xs times out. (count : ℕ) × IsUpTo reaction k xs why.at count };
 
     fn of<O: Opened, T: Coming<O::Bodies>>(
         &self,

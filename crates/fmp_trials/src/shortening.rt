@@ -131,6 +131,16 @@ fn try_steps<B: Body, J: LineJudge<B>>(
     Ok(run.take(steps, verdict))
 }
 
+/// Whether one of these events is no run of this processor.
+fn has_others(events: &[Event], kept: u8) -> bool {
+    for e in events {
+        if *e != Event::Run(kept) {
+            return true;
+        }
+    }
+    false
+}
+
 /// Leaves out the events from one place up to another but for the runs of one processor, if the run fails without them.
 fn drop_piece<B: Body, J: LineJudge<B>>(
     alloc: Global,
@@ -147,10 +157,11 @@ fn drop_piece<B: Body, J: LineJudge<B>>(
     ensures failing { IsFailing B.meaning J.breaks bench.new run.new }
     ensures line { run.new.broken.line ≡ run.old.broken.line }
 {
-    let steps = thinned(alloc, &run.steps, first, end, kept)?;
-    if steps.len() < run.steps.len() {
-        try_steps(alloc, bench, run, steps)?;
+    if run.room == 0 || !has_others(&run.steps[first..end], kept) {
+        return Ok(());
     }
+    let steps = thinned(alloc, &run.steps, first, end, kept)?;
+    try_steps(alloc, bench, run, steps)?;
     Ok(())
 }
 
@@ -232,6 +243,9 @@ fn drop_single<B: Body, J: LineJudge<B>>(
     ensures tried { IfOk result
         (IsTried B.meaning J.breaks bench.new run.old run.new (spec.without run.old.steps.items place (place + 1))) }
 {
+    if run.room == 0 {
+        return Ok(false);
+    }
     let steps = without(alloc, &run.steps, place, place + 1)?;
     try_steps(alloc, bench, run, steps)
 }
@@ -338,7 +352,7 @@ fn gather_event<B: Body, J: LineJudge<B>>(
     ensures failing { IsFailing B.meaning J.breaks bench.new run.new }
     ensures line { run.new.broken.line ≡ run.old.broken.line }
 {
-    if at < run.steps.len() {
+    if run.room > 0 && at < run.steps.len() {
         if let Some(to) = place_behind(&run.steps, at) {
             let steps = moved(alloc, &run.steps, at, to)?;
             try_steps(alloc, bench, run, steps)?;

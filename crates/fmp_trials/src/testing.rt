@@ -16,7 +16,7 @@ use fmp_kernel::Body;
 use std::alloc::{AllocError, Global};
 
 /// How many events are run at most to make a run shorter.
-const ROOM: u64 = 1 << 27;
+const ROOM: u64 = 1 << 25;
 
 /// A random run that fails an expectation, made shorter.
 #[derive(Drop)]

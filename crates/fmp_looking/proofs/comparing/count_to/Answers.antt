@@ -2,11 +2,20 @@ use Rattle.std.proofs.lemmas.Result.{err_from_is_err_and}
 use Rattle.fmp_looking.proofs.Fresh.{room}
 use Rattle.fmp_looking.proofs.comparing.count_to.Goals as goal
 
-pub returns-in_err-kernel : goal.returns-in_err-kernel
-returns-in_err-kernel g c = rw ((err_from_is_err_and c.from_residual.result c.from_residual.ensures.1).1) tt
+pub returns-in_err-kernel-clause-few : goal.returns-in_err-kernel-clause-few
+returns-in_err-kernel-clause-few g c =
+    rw ((err_from_is_err_and c.from_residual.result c.from_residual.ensures.1).1) tt
+
+pub returns-in_err-kernel-clause-count : goal.returns-in_err-kernel-clause-count
+returns-in_err-kernel-clause-count g c =
+    rw ((err_from_is_err_and c.from_residual.result c.from_residual.ensures.1).1) tt
 
 pub count_up_to-count-requires : goal.count_up_to-count-requires
 count_up_to-count-requires g c = room _ _ c.in_ok-kernel.ensures.taken c.requires
 
-pub returns : goal.returns
-returns g c = c.count_up_to-count.ensures.few
+pub returns-clause-few : goal.returns-clause-few
+returns-clause-few g c = c.count_up_to-count.ensures.few
+
+pub returns-clause-count : goal.returns-clause-count
+returns-clause-count g c =
+    rw c.event_number.ensures at (rw c.in_ok-kernel.ensures.start at c.count_up_to-count.ensures.count)
