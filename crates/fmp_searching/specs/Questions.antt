@@ -15,8 +15,8 @@ use Rattle.fmp_question.specs.declared.question.Question.{Question}
 use Rattle.fmp_question.specs.declared.site.CallSite.{CallSite}
 use Rattle.fmp_expect.specs.declared.expectation.Expected.{Expected}
 use Rattle.fmp_expect.specs.declared.fault.ExpectFault.TheVariants as fault
-use Rattle.fmp_expect.specs.declared.placed.PlacedNever.{PlacedNever}
-use Rattle.fmp_expect.specs.Places.{placed_of, unplaced_of}
+use Rattle.fmp_expect.specs.declared.call_sentences.CallSentence.{CallSentence}
+use Rattle.fmp_expect.specs.CallSentences.{call_sentences_of, other_sentences_of}
 use Rattle.fmp_monitors.specs.declared.happening.ExpectedDeed.TheVariants as deed
 use Rattle.fmp_monitors.specs.declared.happening.Happening.{Happening}
 use Rattle.fmp_monitors.specs.declared.sentence.Sentence.{Sentence}
@@ -44,15 +44,15 @@ abbrev pub codes_in : Words → List CodeAt
 codes_in words = filter_map (λ word. never_at_named word.now) words
 
 -- the codes of sentences about calls, the lines of these, and whose answers are meant
-abbrev pub placed_code : PlacedNever → CodeAt
-placed_code p = record { code = p.code; line = p.at; by = p.by }
+abbrev pub sentence_code : CallSentence → CodeAt
+sentence_code s = record { code = s.code; line = s.at; by = s.by }
 
-abbrev pub placed_codes : List PlacedNever → List CodeAt
-placed_codes placed = map (λ p. placed_code p) placed
+abbrev pub sentence_codes : List CallSentence → List CodeAt
+sentence_codes sentences = map (λ s. sentence_code s) sentences
 
 -- the codes that a text of sentences says must never be answered to the calls of a line
 abbrev pub codes_of : (configured : SystemTables) → (text : List ℕ) → List CodeAt
-codes_of configured text = placed_codes (placed_of configured text)
+codes_of configured text = sentence_codes (call_sentences_of configured text)
 
 -- whether a word says what must never happen
 abbrev pub is_never : List ℕ → Bool
@@ -91,7 +91,7 @@ IsWanted a (Err mistake.Gap) =
 IsWanted a (Err mistake.Rest) = ⊥
 IsWanted a (Err mistake.Call) = ⊥
 IsWanted a (Err (mistake.Sentence line flaw)) = ⊥
-IsWanted a (Err mistake.Place) = ⊥
+IsWanted a (Err mistake.SentenceCall) = ⊥
 IsWanted a (Err mistake.End) = ⊥
 
 -- a word is the name of a task
@@ -184,7 +184,7 @@ pub record IsQuestionWith (a : ExploreWords) (expected : List Expected) (codes :
 pub record IsQuestionOf (a : ExploreWords) (text : List ℕ) (configured system : SystemTables) (code : List BodyTables)
     (bodies : List TextBody) (q : Question) : Type 0 where
   pub expected : List Expected
-  pub says : unplaced_of configured text ≡ Ok expected
+  pub says : other_sentences_of configured text ≡ Ok expected
   pub lasting : has_end expected ≡ false
   pub called : are_called code bodies (codes_of configured text) ≡ true
   pub asks : IsQuestionWith a expected (codes_of configured text) system code bodies q
@@ -195,7 +195,7 @@ AreKnown a system code bodies =
     (are_tasks system.tasks a.rest.now ≡ true) × (are_called code bodies (codes_in a.nevers.now) ≡ true)
 
 abbrev pub EndIsAsked : (configured : SystemTables) → (text : List ℕ) → List Expected → Type 0
-EndIsAsked configured text expected = (unplaced_of configured text ≡ Ok expected) × (has_end expected ≡ true)
+EndIsAsked configured text expected = (other_sentences_of configured text ≡ Ok expected) × (has_end expected ≡ true)
 
 -- what the words of a command and a text of sentences ask, or what is mistaken: a word names no task, or a line without
 -- a call; a line of the text is no sentence; a sentence is about the end of a run, or about the calls of a line without
@@ -208,10 +208,10 @@ IsAsked a text configured system code bodies (Err mistake.Rest) = are_tasks syst
 IsAsked a text configured system code bodies (Err mistake.Call) =
     (are_tasks system.tasks a.rest.now ≡ true) × (are_called code bodies (codes_in a.nevers.now) ≡ false)
 IsAsked a text configured system code bodies (Err (mistake.Sentence line flaw)) =
-    AreKnown a system code bodies × (unplaced_of configured text ≡ Err (fault.Line line flaw))
+    AreKnown a system code bodies × (other_sentences_of configured text ≡ Err (fault.Line line flaw))
 IsAsked a text configured system code bodies (Err mistake.End) =
     AreKnown a system code bodies × ((expected : List Expected) × EndIsAsked configured text expected)
-IsAsked a text configured system code bodies (Err mistake.Place) =
+IsAsked a text configured system code bodies (Err mistake.SentenceCall) =
     AreKnown a system code bodies × (are_called code bodies (codes_of configured text) ≡ false)
 IsAsked a text configured system code bodies (Err mistake.Never) = ⊥
 IsAsked a text configured system code bodies (Err mistake.Alone) = ⊥

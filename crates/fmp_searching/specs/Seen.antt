@@ -1,9 +1,26 @@
 -- What findings break.
-use Rattle.std.specs.Prelude.{ℕ, ◌≡◌, ◌==◌, Bool, true, false, ◌||◌, List, map, nat_lt, if◌then◌else◌}
-use Rattle.std.specs.List.{list_all, list_any}
+use Rattle.std.specs.Prelude.{ℕ, ◌≡◌, ◌+◌, ◌==◌, ◌⊎◌, ◌++◌, Bool, true, false, ◌&&◌, ◌||◌, List, [], ◌∷◌, map, nat_eq}
+use Rattle.std.specs.Prelude.{nat_lt, option_and_then, slice_get, take, Option, None, Some, is_some, position}
+use Rattle.std.specs.Prelude.{if◌then◌else◌}
+use Rattle.std.specs.List.{AllZip, list_all, list_any}
+use Rattle.fmp_base.specs.declared.calls.Reply.{Reply}
+use Rattle.fmp_base.specs.declared.events.Line.{Line}
+use Rattle.fmp_base.specs.declared.events.Line.TheVariants as line
+use Rattle.fmp_base.specs.declared.states.Caller.{Caller}
+use Rattle.fmp_base.specs.declared.states.Caller.TheVariants as caller
+use Rattle.fmp_expect.specs.declared.call_sentences.CallSentence.{CallSentence}
+use Rattle.fmp_question.specs.Forbidden.{is_same_code, tells}
+use Rattle.fmp_question.specs.declared.question.NeverAt.{NeverAt}
+use Rattle.fmp_question.specs.declared.site.CallSite.{CallSite}
+use Rattle.fmp_replay.specs.Replays.{replay}
 use Rattle.fmp_witness.specs.declared.finding.Finding.{Finding}
 use Rattle.fmp_witness.specs.declared.finding.FindingKind.{FindingKind}
 use Rattle.fmp_witness.specs.declared.finding.FindingKind.TheVariants as finding
+use Rattle.fmp_searching.specs.Claims.{ClaimTables}
+use Rattle.fmp_searching.specs.Sites.{line_of}
+use Rattle.fmp_searching.specs.Sources.{SourceTables}
+use Rattle.fmp_searching.specs.declared.call_sentences.Answer.{Answer}
+use Rattle.fmp_searching.specs.declared.seen.Broken.{Broken}
 use Rattle.fmp_searching.specs.declared.seen.Seen.{Seen}
 use Rattle.fmp_searching.specs.declared.seen.SeenKind.{SeenKind}
 use Rattle.fmp_searching.specs.declared.seen.SeenKind.TheVariants as kind
@@ -13,20 +30,20 @@ is_same kind.Never kind.Never = true
 is_same kind.Fault kind.Fault = true
 is_same (kind.Alone p) (kind.Alone other) = p == other
 is_same (kind.Sentence p) (kind.Sentence other) = p == other
-is_same (kind.Placed p) (kind.Placed other) = p == other
+is_same (kind.CallSentence p) (kind.CallSentence other) = p == other
 is_same kind.Deadlock kind.Deadlock = true
 is_same kind.Endless kind.Endless = true
 is_same kind.Stuck kind.Stuck = true
 is_same a b = false
 
 -- the sentence about calls at a place is one of these
-abbrev pub is_placed : SeenKind → (broken : List ℕ) → Bool
-is_placed (kind.Placed p) broken = list_any (λ other. p == other) broken
-is_placed k broken = false
+abbrev pub is_broken_call_sentence : SeenKind → (broken : List ℕ) → Bool
+is_broken_call_sentence (kind.CallSentence p) broken = list_any (λ other. p == other) broken
+is_broken_call_sentence k broken = false
 
 -- what is asked is broken, as what a finding breaks, or as one of the sentences about calls that it breaks
 abbrev pub is_broken : (asked : SeenKind) → Seen → Bool
-is_broken asked s = is_same asked s.kind || is_placed asked s.placed.items
+is_broken asked s = is_same asked s.kind || is_broken_call_sentence asked s.call_sentences.items
 
 -- what is broken where the sentence at a place is, of which the first are those of sections
 abbrev pub kind_at : (sections place : ℕ) → SeenKind
@@ -35,7 +52,7 @@ kind_at sections place = if nat_lt place sections then kind.Alone place else kin
 -- a line tells what must never come, as a fault
 abbrev pub is_line : SeenKind → Bool
 is_line kind.Never = true
-is_line (kind.Placed place) = true
+is_line (kind.CallSentence place) = true
 is_line kind.Fault = true
 is_line other = false
 
@@ -51,12 +68,130 @@ breaks sections (finding.Stuck t) k = is_same kind.Stuck k
 abbrev pub is_fitting : (sections : ℕ) → Seen → Bool
 is_fitting sections s = breaks sections s.found s.kind
 
+-- ---- sentences about calls
+
+abbrev pub task_of : Caller → Option ℕ
+task_of (caller.Task t) = Some t
+task_of (caller.Handler h) = None
+
+abbrev pub answer_of : Caller → Option Reply → Option Answer
+answer_of who None = None
+answer_of who (Some reply) = Some (record { code = reply.code; task = task_of who })
+
+-- the answer that a line tells, and the task that gets it
+abbrev pub answer_told : Line → Option Answer
+answer_told (line.Call p who made reply) = answer_of who reply
+answer_told (line.Gets p t reply) = Some (record { code = reply.code; task = Some t })
+answer_told _ = None
+
+-- the answers to this task are meant, if it is a task and some task's are
+abbrev pub is_meant : (by task : Option ℕ) → Bool
+is_meant None task = true
+is_meant (Some t) (Some other) = nat_eq t other
+is_meant (Some t) None = false
+
+-- a sentence forbids an answer to a call in this line
+abbrev pub forbids_answer : (line : ℕ) → Answer → CallSentence → Bool
+forbids_answer line a s = nat_eq s.at line && (is_same_code s.code a.code && is_meant s.by a.task)
+
+-- the places of the sentences that forbid an answer, where the first has this place
+abbrev pub forbidding : (line : ℕ) → Answer → (place : ℕ) → List CallSentence → List ℕ
+forbidding line a place [] = []
+forbidding line a place (s ∷ ss) =
+    (if forbids_answer line a s then place ∷ [] else []) ++ forbidding line a (place + 1) ss
+
+abbrev pub forbidding_at : Option Answer → (line : Option ℕ) → List CallSentence → List ℕ
+forbidding_at None line ss = []
+forbidding_at (Some a) None ss = []
+forbidding_at (Some a) (Some line) ss = forbidding line a 0 ss
+
+-- the line of the trace that a finding is about, of those that its last step told, if it is about one
+abbrev pub line_found : FindingKind → List Line → Option Line
+line_found (finding.Line place) told = slice_get told place
+line_found _ told = None
+
+abbrev pub call_line : ClaimTables → Finding → Option ℕ
+call_line c f = option_and_then (λ site. line_of c.image.code c.bodies site) f.site
+
+-- the places of the sentences about calls that a finding breaks whose last step told these lines
+abbrev pub broken_sentences : SourceTables → Finding → (told : List Line) → List ℕ
+broken_sentences s f told =
+    forbidding_at (option_and_then answer_told (line_found f.kind told)) (call_line s.claim f) s.call_sentences
+
+-- ---- what the command line forbids
+
+abbrev pub is_same_site : CallSite → CallSite → Bool
+is_same_site a b = nat_eq a.body b.body && nat_eq a.pc b.pc
+
+-- one of these answers at calls is this one
+abbrev pub is_among : List NeverAt → CallSite → Answer → Bool
+is_among nevers site a = list_any (λ n. is_same_code n.code a.code && is_same_site n.site site) nevers
+
+abbrev pub is_at_call : List NeverAt → Option CallSite → Option Answer → Bool
+is_at_call nevers (Some site) (Some a) = is_among nevers site a
+is_at_call nevers (Some site) None = false
+is_at_call nevers None a = false
+
+abbrev pub is_line_forbidden : SourceTables → Option CallSite → Option Line → Bool
+is_line_forbidden s site None = false
+is_line_forbidden s site (Some l) =
+    is_some (position (λ never. tells never l) s.claim.question.nevers.items)
+    || is_at_call (take s.nevers_at s.claim.question.nevers_at.items) site (answer_told l)
+
+-- the command line forbids what a finding tells whose last step told these lines
+abbrev pub is_forbidden : SourceTables → Finding → (told : List Line) → Bool
+is_forbidden s f told = is_line_forbidden s f.site (line_found f.kind told)
+
+-- ---- what a finding breaks
+
+-- what a line breaks: a fault is one; else what only a sentence about calls forbids breaks that
+abbrev pub line_kind : Option Line → (sentence : Option ℕ) → SeenKind
+line_kind (Some (line.Fault p who fault)) sentence = kind.Fault
+line_kind l (Some place) = kind.CallSentence place
+line_kind l None = kind.Never
+
+abbrev pub kind_by : (sections : ℕ) → FindingKind → (told : List Line) → (sentence : Option ℕ) → SeenKind
+kind_by sections (finding.Line place) told sentence = line_kind (slice_get told place) sentence
+kind_by sections finding.Deadlock told sentence = kind.Deadlock
+kind_by sections (finding.Endless p) told sentence = kind.Endless
+kind_by sections (finding.Breach b) told sentence = kind_at sections b.monitor
+kind_by sections (finding.State place) told sentence = kind_at sections place
+kind_by sections (finding.Stuck t) told sentence = kind.Stuck
+
+-- the first sentence about calls that a finding breaks, if the command line does not forbid the same
+abbrev pub sentence_alone : SourceTables → Finding → (told : List Line) → Option ℕ
+sentence_alone s f told = if is_forbidden s f told then None else slice_get (broken_sentences s f told) 0
+
+abbrev pub kind_of : SourceTables → Finding → (told : List Line) → SeenKind
+kind_of s f told = kind_by s.sections f.kind told (sentence_alone s f told)
+
+-- these are the lines of the last step of a finding, or they are not known
+abbrev pub AreTold : ClaimTables → Finding → (told : List Line) → Type 0
+AreTold c f told = (told ≡ []) ⊎ (told ≡ (replay c.image c.bound f.steps.items).lines)
+
+-- what a finding breaks whose last step told these lines
+pub record IsBroken (s : SourceTables) (f : Finding) (told : List Line) (b : Broken) : Type 0 where
+  pub fits : breaks s.sections f.kind b.kind ≡ true
+  pub kind : b.kind ≡ kind_of s f told
+  pub sentences : b.sentences.items ≡ broken_sentences s f told
+
+-- the same by the lines that its last step told
+pub record IsBrokenBy (s : SourceTables) (f : Finding) (b : Broken) : Type 0 where
+  pub told : List Line
+  pub are_told : AreTold s.claim f told
+  pub is : IsBroken s f told b
+
 -- what is seen of a finding
-pub record IsSeen (sections : ℕ) (f : Finding) (s : Seen) : Type 0 where
-  pub found : s.found ≡ f.kind
-  pub broken : is_fitting sections s ≡ true
+pub record IsSeen (s : SourceTables) (f : Finding) (x : Seen) : Type 0 where
+  pub found : x.found ≡ f.kind
+  pub broken : is_fitting s.sections x ≡ true
+  pub told : List Line
+  pub are_told : AreTold s.claim f told
+  pub kind : x.kind ≡ kind_of s f told
+  pub sentences : x.call_sentences.items ≡ broken_sentences s f told
 
 -- what is seen of findings, in order
-pub record AreSeen (sections : ℕ) (findings : List Finding) (seen : List Seen) : Type 0 where
-  pub found : map (λ s. s.found) seen ≡ map (λ f. f.kind) findings
-  pub broken : list_all (λ s. is_fitting sections s) seen ≡ true
+pub record AreSeen (s : SourceTables) (findings : List Finding) (seen : List Seen) : Type 0 where
+  pub found : map (λ x. x.found) seen ≡ map (λ f. f.kind) findings
+  pub broken : list_all (λ x. is_fitting s.sections x) seen ≡ true
+  pub each : AllZip (IsSeen s) findings seen

@@ -46,9 +46,18 @@ deed_text (deed.Answer code) = code_name code
 deed_text (deed.Put value) = codes "put(" ++ (signed_decimal value ++ codes ")")
 deed_text (deed.Stop fault) = fault_text fault
 
+-- the name of the body of the handler of interrupt n, where a configuration names it
+abbrev pub name_of : Entry → Option Name
+name_of (entry.Named name) = Some name
+name_of (entry.Body k) = None
+
+abbrev pub handler_name : SystemTables → (n : ℕ) → Option Name
+handler_name sys n = option_and_then (λ x. name_of x.entry) (find (λ x. nat_eq x.number n) sys.interrupts)
+
 abbrev pub actor_name : SystemTables → ExpectedActor → Option Name
 actor_name sys (actor.Task t) = option_map (λ c. c.name) (slice_get sys.tasks t)
 actor_name sys (actor.Cyclic h) = option_map (λ c. c.name) (slice_get sys.cyclics h)
+actor_name sys (actor.Interrupt i) = handler_name sys (i + 1)
 
 abbrev pub actor_text : SystemTables → ExpectedActor → List ℕ
 actor_text sys who = named_text (actor_name sys who)
@@ -63,14 +72,6 @@ happening_text sys h = deed_text h.deed ++ by_text sys h.by
 unfoldable pub response_text : SystemTables → ExpectedResponse → List ℕ
 response_text sys (response.Runs who) = actor_text sys who ++ codes " runs"
 response_text sys (response.Happens h) = happening_text sys h
-
--- the name of the body of the handler of interrupt n, where a configuration names it
-abbrev pub name_of : Entry → Option Name
-name_of (entry.Named name) = Some name
-name_of (entry.Body k) = None
-
-abbrev pub handler_name : SystemTables → (n : ℕ) → Option Name
-handler_name sys n = option_and_then (λ x. name_of x.entry) (find (λ x. nat_eq x.number n) sys.interrupts)
 
 -- a number is this one
 abbrev pub is_number : Option ℕ → (n : ℕ) → Bool

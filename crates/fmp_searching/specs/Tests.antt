@@ -1,7 +1,9 @@
 -- A search as a report of tests.
-use Rattle.std.specs.Prelude.{ℕ, ◌≡◌, ◌+◌, ◌==◌, List, [], ◌∷◌, Bool, true, false, ◌&&◌, ◌||◌, Option, Some}
+use Rattle.std.specs.Prelude.{ℕ, ◌≡◌, ◌+◌, ◌++◌, ◌==◌, List, [], ◌∷◌, Bool, true, false, ◌&&◌, ◌||◌, Option, Some}
 use Rattle.std.specs.Prelude.{None, length, map, nat_lt, slice_get, if◌then◌else◌}
 use Rattle.std.specs.List.{flat_map}
+use Rattle.fmp_expect.specs.declared.call_sentences.CallSentence.{CallSentence}
+use Rattle.fmp_expect.specs.declared.expectation.Expected.{Expected}
 use Rattle.fmp_explore.specs.declared.exploring.Report.{Report}
 use Rattle.fmp_json.specs.declared.junit.TestCase.{TestCase}
 use Rattle.fmp_json.specs.declared.junit.TestSuite.{TestSuite}
@@ -9,7 +11,9 @@ use Rattle.fmp_json.specs.Junit.{is_error, is_failure, report_text}
 use Rattle.fmp_question.specs.declared.question.Question.{Question}
 use Rattle.fmp_schedules.specs.declared.monitor.Monitor.{Monitor}
 use Rattle.fmp_searching.specs.Claims.{is_done}
-use Rattle.fmp_searching.specs.Seen.{AreSeen, is_broken}
+use Rattle.fmp_searching.specs.Parts.{never_parts}
+use Rattle.fmp_searching.specs.Seen.{is_broken}
+use Rattle.fmp_searching.specs.Sources.{SourceTables}
 use Rattle.fmp_searching.specs.Unsaid.{is_unsaid, is_whole}
 use Rattle.fmp_searching.specs.declared.seen.Seen.{Seen}
 use Rattle.fmp_searching.specs.declared.seen.SeenKind.{SeenKind}
@@ -42,7 +46,7 @@ abbrev pub is_unsaid_kind : SeenKind → Question → Report → Bool
 is_unsaid_kind (kind.Alone place) q r = is_unsaid_at q r place
 is_unsaid_kind (kind.Sentence place) q r = is_unsaid_at q r place
 is_unsaid_kind kind.Never q r = false
-is_unsaid_kind (kind.Placed place) q r = false
+is_unsaid_kind (kind.CallSentence place) q r = false
 is_unsaid_kind kind.Fault q r = false
 is_unsaid_kind kind.Deadlock q r = false
 is_unsaid_kind kind.Endless q r = false
@@ -93,17 +97,57 @@ pub record IsReportOf (counted : List (ℕ × Bool × Bool)) (out : List ℕ) : 
   pub are : flat_map counted_suite suites ≡ counted
   pub text : out ≡ report_text suites
 
--- a report in the XML of JUnit: its tests are judged by the findings of a search, and fail where one breaks them
-pub record IsTestReport (strict : Bool) (q : Question) (r : Report) (seen : List Seen) (out : List ℕ) : Type 0 where
+-- ---- what is asked
+
+-- a line comes after one, and before another if there is one
+abbrev pub is_between : (after : ℕ) → (before : Option ℕ) → (line : ℕ) → Bool
+is_between after None line = nat_lt after line
+is_between after (Some before) line = nat_lt after line && nat_lt line before
+
+-- the sentences about calls between two lines, where the first has this place
+abbrev pub calls_between : (after : ℕ) → (before : Option ℕ) → (place : ℕ) → List CallSentence → List SeenKind
+calls_between after before place [] = []
+calls_between after before place (s ∷ ss) =
+    (if is_between after before s.line then kind.CallSentence place ∷ [] else [])
+    ++ calls_between after before (place + 1) ss
+
+-- the sentences of a file in the order of their lines: these, where the first has this place, and those about calls
+-- that stand after a line
+abbrev pub sentence_kinds : List CallSentence → (place after : ℕ) → List Expected → List SeenKind
+sentence_kinds calls place after [] = calls_between after None 0 calls
+sentence_kinds calls place after (x ∷ xs) =
+    calls_between after (Some x.line) 0 calls ++ (kind.Sentence place ∷ sentence_kinds calls (place + 1) x.line xs)
+
+-- the sections, where the first of these monitors has this place
+abbrev pub section_kinds : (sections place : ℕ) → List Monitor → List SeenKind
+section_kinds sections place [] = []
+section_kinds sections place (m ∷ ms) =
+    (if nat_lt place sections then kind.Alone place ∷ [] else []) ++ section_kinds sections (place + 1) ms
+
+-- what must never happen by the command line, if anything but faults must
+abbrev pub never_kinds : SourceTables → List SeenKind
+never_kinds s = if nat_lt 0 (length (never_parts s.claim s.nevers_at)) then kind.Never ∷ [] else []
+
+abbrev pub last_kinds : List SeenKind
+last_kinds = kind.Deadlock ∷ kind.Fault ∷ kind.Endless ∷ kind.Stuck ∷ []
+
+-- what is asked beside the sentences of the file
+abbrev pub other_kinds : SourceTables → List SeenKind
+other_kinds s =
+    never_kinds s ++ (section_kinds s.sections 0 s.claim.question.monitors.items ++ last_kinds)
+
+-- all that is asked, each once
+abbrev pub asked_kinds : SourceTables → List SeenKind
+asked_kinds s =
+    (if nat_lt 0 (length s.file) then sentence_kinds s.call_sentences s.sections 0 s.expected else [])
+    ++ other_kinds s
+
+-- a report in the XML of JUnit: there is a test for all that is asked, which is judged by the findings of a search, and
+-- fails where one breaks it
+pub record IsTestReport (s : SourceTables) (r : Report) (seen : List Seen) (out : List ℕ) : Type 0 where
   pub tests : List JudgedTest
-  pub judged : AreJudged strict q r seen tests
+  pub asked : map (λ t. t.kind) tests ≡ asked_kinds s
+  pub judged : AreJudged s.strict s.claim.question r seen tests
   pub suites : List TestSuite
   pub counted : flat_map counted_suite suites ≡ map wanted_test tests
   pub text : out ≡ report_text suites
-
--- the same of what is seen of the findings of a search, of which these sentences are of sections
-pub record HasTestReport (strict : Bool) (q : Question) (r : Report) (out : List ℕ) : Type 0 where
-  pub sections : ℕ
-  pub seen : List Seen
-  pub are : AreSeen sections r.findings.items seen
-  pub report : IsTestReport strict q r seen out

@@ -9,7 +9,7 @@ use Rattle.fmp_schedules.specs.declared.limit.InterruptLimit.TheVariants as limi
 use Rattle.fmp_schedules.specs.declared.monitor.Monitor.{Monitor}
 use Rattle.fmp_schedules.specs.declared.monitor.MonitorSubject.{MonitorSubject}
 use Rattle.fmp_schedules.specs.declared.monitor.MonitorSubject.TheVariants as subject
-use Rattle.fmp_searching.specs.declared.sources.ExploredSources.{ExploredSources}
+use Rattle.fmp_searching.specs.Sources.{SourceTables}
 use Rattle.fmp_searching.specs.Sentences.{sentence_text}
 
 -- the number of an interrupt, and in brackets the option that limits it, as ` (--int ` of `3 (--int 3:2)`
@@ -58,8 +58,7 @@ line_at sections expected place =
     if nat_lt place sections then None else option_map (λ x. x.line) (slice_get expected (place - sections))
 
 -- what is kept for the monitor at a place of a question
-abbrev pub kept_name : ExploredSources → (place : ℕ) → List ℕ
+abbrev pub kept_name : SourceTables → (place : ℕ) → List ℕ
 kept_name s place =
-    standing_name s.claim.image.now.system s.sentences.file.now
-    (line_at s.sentences.sections s.sentences.expected.now place)
-    (slice_get s.claim.question.now.monitors.items place)
+    standing_name s.claim.image.system s.file (line_at s.sections s.expected place)
+    (slice_get s.claim.question.monitors.items place)

@@ -4,7 +4,7 @@ ghost use Rattle.std.specs.List.{list_all};
 ghost use Rattle.fmp_base.specs.Names.{name_text};
 ghost use Rattle.fmp_base.specs.Systems.{tables_of};
 ghost use Rattle.fmp_searching.specs.Questions as spec;
-ghost use Rattle.fmp_expect.specs.Places.{unplaced_of};
+ghost use Rattle.fmp_expect.specs.CallSentences.{other_sentences_of};
 ghost use Rattle.fmp_searching.specs.Questions.{AreKnown, IsAsked, IsQuestionOf, IsQuestionWith, IsWanted};
 
 use crate::at_calls::{all_codes, are_called_in, codes_of, nevers_at_of};
@@ -12,7 +12,7 @@ use crate::limits::{add_limits, are_counts, are_gaps, limits_in};
 use crate::sites::CallLines;
 use crate::words::{CodeAt, Section, never_at_named, never_named, section_named};
 use fmp_base::{Fault, System, TaskConfig};
-use fmp_expect::{ExpectFault, ExpectationFlaw, Expected, read_unplaced};
+use fmp_expect::{ExpectFault, ExpectationFlaw, Expected, read_other_sentences};
 use fmp_explore::{Monitor, Never, Question, Ticks};
 use fmp_image_bytes::Image;
 use fmp_monitors::{ExpectedDeed, Happening, Sentence};
@@ -64,7 +64,7 @@ pub enum CommandMistake {
     /// The line of this number of the text of sentences, from 1, has a flaw.
     Sentence { line: usize, flaw: ExpectationFlaw },
     /// A sentence is about the calls of a line in which none stands.
-    Place,
+    SentenceCall,
     /// A sentence is about the end of a run, of which a search knows nothing.
     End,
 }
@@ -368,7 +368,7 @@ fn question_of(
 }
 
 /// Whether a sentence is about the end of a run.
-fn is_end(sentence: &Sentence) -> bool
+pub fn is_end(sentence: &Sentence) -> bool
     ensures { result ≡ spec.is_end sentence.now }
 {
     match sentence {
@@ -402,7 +402,7 @@ fn called_question(
     lines: &CallLines,
 ) -> Result<Question, AllocError>
     requires wanted { IsWanted wanted.now.asked (Ok wanted.now) }
-    requires says { unplaced_of (tables_of configured.now) text.now ≡ Ok expected.now }
+    requires says { other_sentences_of (tables_of configured.now) text.now ≡ Ok expected.now }
     requires lasting { spec.has_end expected.now ≡ false }
     requires codes { codes.now ≡ spec.codes_of (tables_of configured.now) text.now }
     requires called { spec.are_called image.now.code lines.now codes.now ≡ true }
@@ -415,7 +415,7 @@ fn called_question(
 
 /// The question of words that are not mistaken, of these sentences of a text, and of its sentences about calls, unless
 /// one of these is about a line without any.
-fn placed_question(
+fn question_at_calls(
     alloc: Global,
     wanted: &ExploreChoices<'_>,
     text: &[u8],
@@ -426,14 +426,14 @@ fn placed_question(
 ) -> Result<Result<Question, CommandMistake>, AllocError>
     requires wanted { IsWanted wanted.now.asked (Ok wanted.now) }
     requires known { AreKnown wanted.now.asked image.now.system image.now.code lines.now }
-    requires says { unplaced_of (tables_of configured.now) text.now ≡ Ok expected.now }
+    requires says { other_sentences_of (tables_of configured.now) text.now ≡ Ok expected.now }
     requires lasting { spec.has_end expected.now ≡ false }
     ensures { IfOk result (λ q. IsAsked wanted.now.asked text.now (tables_of configured.now) image.now.system
         image.now.code lines.now q) }
 {
     let codes = codes_of(alloc, configured, text)?;
     if !are_called_in(alloc, image, lines, &codes)? {
-        return Ok(Err(CommandMistake::Place));
+        return Ok(Err(CommandMistake::SentenceCall));
     }
     let question = called_question(
         alloc, wanted, text, configured, expected, &codes, image, lines,
@@ -454,14 +454,14 @@ fn lasting_question(
 ) -> Result<Result<Question, CommandMistake>, AllocError>
     requires wanted { IsWanted wanted.now.asked (Ok wanted.now) }
     requires known { AreKnown wanted.now.asked image.now.system image.now.code lines.now }
-    requires says { unplaced_of (tables_of configured.now) text.now ≡ Ok expected.now }
+    requires says { other_sentences_of (tables_of configured.now) text.now ≡ Ok expected.now }
     ensures { IfOk result (λ q. IsAsked wanted.now.asked text.now (tables_of configured.now) image.now.system
         image.now.code lines.now q) }
 {
     if has_end(expected) {
         return Ok(Err(CommandMistake::End));
     }
-    placed_question(alloc, wanted, text, configured, expected, image, lines)
+    question_at_calls(alloc, wanted, text, configured, expected, image, lines)
 }
 
 /// The question of words that are not mistaken, and of the sentences of a text about what is configured.
@@ -478,7 +478,7 @@ fn said_question(
     ensures { IfOk result (λ q. IsAsked wanted.now.asked text.now (tables_of configured.now) image.now.system
         image.now.code lines.now q) }
 {
-    match read_unplaced(alloc, configured, text) {
+    match read_other_sentences(alloc, configured, text) {
         Ok(expected) => {
             lasting_question(alloc, wanted, text, configured, &expected, image, lines)
         }

@@ -9,7 +9,7 @@ use crate::sites::CallLines;
 use crate::words::CodeAt;
 use fmp_base::System;
 use fmp_code::Code;
-use fmp_expect::{PlacedNever, read_placed};
+use fmp_expect::{CallSentence, read_call_sentences};
 use fmp_explore::{CallSite, NeverAt};
 use fmp_image_bytes::Image;
 use std::alloc::{AllocError, Global};
@@ -118,8 +118,8 @@ pub fn nevers_at_of(
 }
 
 /// The code of a sentence, the line of its calls, and whose answers are meant.
-fn code_at(never: PlacedNever) -> CodeAt
-    ensures { result ≡ spec.placed_code never }
+fn code_at(never: CallSentence) -> CodeAt
+    ensures { result ≡ spec.sentence_code never }
 {
     CodeAt {
         code: never.code,
@@ -129,11 +129,11 @@ fn code_at(never: PlacedNever) -> CodeAt
 }
 
 /// The codes of sentences, and the lines of their calls.
-fn placed_codes(alloc: Global, placed: &[PlacedNever]) -> Result<Vec<CodeAt>, AllocError>
-    ensures { IfOk result (λ codes. codes.items ≡ spec.placed_codes placed.now) }
+fn sentence_codes(alloc: Global, sentences: &[CallSentence]) -> Result<Vec<CodeAt>, AllocError>
+    ensures { IfOk result (λ codes. codes.items ≡ spec.sentence_codes sentences.now) }
 {
     let mut codes = Vec::new(alloc);
-    for never in placed {
+    for never in sentences {
         codes.push(code_at(*never))?;
     }
     Ok(codes)
@@ -143,19 +143,19 @@ fn placed_codes(alloc: Global, placed: &[PlacedNever]) -> Result<Vec<CodeAt>, Al
 pub fn codes_of(alloc: Global, configured: &System, text: &[u8]) -> Result<Vec<CodeAt>, AllocError>
     ensures { IfOk result (λ codes. codes.items ≡ spec.codes_of (tables_of configured.now) text.now) }
 {
-    let placed = read_placed(alloc, configured, text)?;
-    placed_codes(alloc, &placed)
+    let sentences = read_call_sentences(alloc, configured, text)?;
+    sentence_codes(alloc, &sentences)
 }
 
 /// The codes of words, and then those of sentences. `AllocError` if memory runs out.
 pub fn all_codes(
     alloc: Global,
     words: &[CodeAt],
-    placed: &[CodeAt],
+    of_sentences: &[CodeAt],
 ) -> Result<Vec<CodeAt>, AllocError>
-    ensures { IfOk result (λ codes. codes.items ≡ words.now ++ placed.now) }
+    ensures { IfOk result (λ codes. codes.items ≡ words.now ++ of_sentences.now) }
 {
     let mut codes = Vec::from_slice(alloc, words)?;
-    codes.extend_from_slice(placed)?;
+    codes.extend_from_slice(of_sentences)?;
     Ok(codes)
 }

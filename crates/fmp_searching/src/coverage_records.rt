@@ -1,19 +1,30 @@
 //! What a search saw, for other programs: objects of JSON, one in a line.
-ghost use Rattle.std.specs.Prelude.{◌≡◌, []};
+ghost use Rattle.std.specs.Prelude.{◌≡◌, ◌++◌, [], IfOk, OnOk, codes, map, string_bytes};
+ghost use Rattle.std.specs.List.{flat_map};
+ghost use Rattle.std.specs.Str.Lossy.{utf8_lossy};
+ghost use Rattle.fmp_base.specs.Systems.{tables_of};
+ghost use Rattle.fmp_frames.specs.Refusals.{refused_calls, refused_of};
+ghost use Rattle.fmp_json.specs.Members.{finished, list_begin, list_end};
+ghost use Rattle.fmp_searching.specs.Extent.{words_of};
+ghost use Rattle.fmp_searching.specs.ExtentRecords as spec;
+ghost use Rattle.fmp_searching.specs.Lines.{numbered};
+ghost use Rattle.fmp_searching.specs.Sources.{source_tables};
 
 use crate::answers::{Answered, answered_calls};
 use crate::covering::{is_varied, most_values};
 use crate::records::{call_position, write_number, write_position};
-use crate::refused::refused_in;
+use crate::refused::{answers_of, refused_in};
 use crate::sentences::append_sentence;
 use crate::sources::ExploredSources;
-use crate::unsaid::is_whole;
+use crate::unsaid::{is_unsaid, is_whole};
 use crate::varied::append_varied;
-use fmp_base::System;
-use fmp_explore::{CallSite, Coverage, Report};
-use fmp_frames::{LineForm, append_refused};
+use fmp_base::{
+    CyclicConfig, DataQueueConfig, Er, MailboxConfig, Name, SemaphoreConfig, System, TaskConfig,
+};
+use fmp_explore::{CallSite, Monitor, Report, Variety};
+use fmp_frames::{LineForm, RefusedCall, SiteAnswer, append_refused};
 use fmp_json::{begin, begin_list, end_list, finish, number_member, text_member};
-use fmp_monitors::{Sentence, has_premise};
+use fmp_monitors::Sentence;
 use fmp_schedules::MonitorSubject;
 use json::Writer;
 use std::alloc::{AllocError, Global};
@@ -21,6 +32,7 @@ use std::alloc::{AllocError, Global};
 /// Appends an object of JSON.
 fn append_finished(writer: Writer, out: &mut Vec<u8>) -> Result<(), AllocError>
     requires { writer.before ≡ [] }
+    ensures { OnOk result (out.new.items ≡ out.old.items ++ finished writer.tokens) }
 {
     let line = finish(writer)?;
     out.extend_from_slice(&line)
@@ -32,26 +44,58 @@ fn append_unmade(
     out: &mut Vec<u8>,
     sources: &ExploredSources<'_>,
     site: CallSite,
-) -> Result<(), AllocError> {
+) -> Result<(), AllocError>
+    ensures { OnOk result (out.new.items
+        ≡ out.old.items ++ spec.unmade_record (source_tables sources.now) site) }
+{
     let mut writer = begin(alloc)?;
     text_member(&mut writer, "what", "never_made")?;
     write_position(&mut writer, Some(call_position(sources, site)))?;
     append_finished(writer, out)
 }
 
-/// Writes the codes that a call got.
-fn write_answers(writer: &mut Writer, call: &Answered) -> Result<(), AllocError>
-    ensures { writer.new.before ≡ writer.old.before }
+/// Appends the calls that were never made.
+fn append_all_unmade(
+    alloc: Global,
+    out: &mut Vec<u8>,
+    sources: &ExploredSources<'_>,
+    sites: &[CallSite],
+) -> Result<(), AllocError>
+    ensures { OnOk result (out.new.items
+        ≡ out.old.items ++ flat_map (λ site. spec.unmade_record (source_tables sources.now) site) sites.now) }
 {
-    begin_list(writer, "answers")?;
-    for code in &call.answers {
+    for site in sites {
+        append_unmade(alloc, out, sources, *site)?;
+    }
+    Ok(())
+}
+
+/// Writes codes.
+fn write_codes(writer: &mut Writer, codes: &[Er]) -> Result<(), AllocError>
+    ensures before { writer.new.before ≡ writer.old.before }
+    ensures tokens { OnOk result (writer.new.tokens ≡ writer.old.tokens ++ spec.code_tokens codes.now) }
+{
+    for code in codes {
         writer.string(code.name())?;
     }
+    Ok(())
+}
+
+/// Writes the codes that a call got.
+fn write_answers(writer: &mut Writer, call: &Answered) -> Result<(), AllocError>
+    ensures before { writer.new.before ≡ writer.old.before }
+    ensures tokens { OnOk result (writer.new.tokens ≡ writer.old.tokens
+        ++ (list_begin (codes "answers") ++ (spec.code_tokens call.now.answers.items ++ list_end))) }
+{
+    begin_list(writer, "answers")?;
+    write_codes(writer, &call.answers)?;
     end_list(writer)
 }
 
 /// Appends the codes that a call got.
-fn append_answered(alloc: Global, out: &mut Vec<u8>, call: &Answered) -> Result<(), AllocError> {
+fn append_answered(alloc: Global, out: &mut Vec<u8>, call: &Answered) -> Result<(), AllocError>
+    ensures { OnOk result (out.new.items ≡ out.old.items ++ spec.answered_record call.now) }
+{
     let mut writer = begin(alloc)?;
     text_member(&mut writer, "what", "answers")?;
     number_member(&mut writer, "line", u64::from(call.line))?;
@@ -60,44 +104,85 @@ fn append_answered(alloc: Global, out: &mut Vec<u8>, call: &Answered) -> Result<
     append_finished(writer, out)
 }
 
-/// Appends the codes that each call got, if they are asked for.
-fn append_answers(
+/// Appends the codes that each of these calls got.
+fn append_all_answered(
     alloc: Global,
     out: &mut Vec<u8>,
-    sources: &ExploredSources<'_>,
-    coverage: &Coverage,
-) -> Result<(), AllocError> {
-    if !sources.named.answers {
-        return Ok(());
-    }
-    let calls = answered_calls(
-        alloc,
-        sources.claim.image.code(),
-        sources.positions,
-        coverage,
-    )?;
-    for call in &calls {
+    calls: &[Answered],
+) -> Result<(), AllocError>
+    ensures { OnOk result (out.new.items
+        ≡ out.old.items ++ flat_map (λ call. spec.answered_record call) calls.now) }
+{
+    for call in calls {
         append_answered(alloc, out, call)?;
     }
     Ok(())
 }
 
-/// Appends the calls that are refused.
+/// Appends the codes that each of these calls got, if they are asked for.
+fn append_answers(
+    alloc: Global,
+    out: &mut Vec<u8>,
+    sources: &ExploredSources<'_>,
+    calls: &[Answered],
+) -> Result<(), AllocError>
+    ensures { OnOk result (out.new.items
+        ≡ out.old.items ++ spec.asked_records (source_tables sources.now) calls.now) }
+{
+    if sources.named.answers {
+        append_all_answered(alloc, out, calls)
+    } else {
+        Ok(())
+    }
+}
+
+/// Appends a call that is refused.
+fn append_one_refused(
+    alloc: Global,
+    out: &mut Vec<u8>,
+    sources: &ExploredSources<'_>,
+    call: &RefusedCall,
+) -> Result<(), AllocError>
+    ensures { OnOk result (out.new.items
+        ≡ out.old.items ++ spec.refused_line (source_tables sources.now) (refused_of call.now)) }
+{
+    let file = sources.named.src.as_bytes();
+    let code = sources.claim.image.code();
+    let position = sources
+        .positions
+        .position(code, call.site.body, call.site.pc);
+    append_refused(alloc, LineForm::Record, file, position, call, out)
+}
+
+/// Appends these calls, which are refused.
+fn append_each_refused(
+    alloc: Global,
+    out: &mut Vec<u8>,
+    sources: &ExploredSources<'_>,
+    calls: &[RefusedCall],
+) -> Result<(), AllocError>
+    ensures { OnOk result (out.new.items ≡ out.old.items
+        ++ flat_map (λ x. spec.refused_line (source_tables sources.now) x) (map refused_of calls.now)) }
+{
+    for call in calls {
+        append_one_refused(alloc, out, sources, call)?;
+    }
+    Ok(())
+}
+
+/// Appends the calls that are refused, where calls got these answers.
 fn append_all_refused(
     alloc: Global,
     out: &mut Vec<u8>,
     sources: &ExploredSources<'_>,
-    coverage: &Coverage,
-) -> Result<(), AllocError> {
-    let file = sources.named.src.as_bytes();
-    let code = sources.claim.image.code();
-    for call in &refused_in(alloc, sources.claim.image, coverage)? {
-        let position = sources
-            .positions
-            .position(code, call.site.body, call.site.pc);
-        append_refused(alloc, LineForm::Record, file, position, call, out)?;
-    }
-    Ok(())
+    answers: &[SiteAnswer],
+) -> Result<(), AllocError>
+    ensures { OnOk result (out.new.items ≡ out.old.items
+        ++ flat_map (λ x. spec.refused_line (source_tables sources.now) x)
+        (refused_calls (source_tables sources.now).claim.image.code answers.now)) }
+{
+    let calls = refused_in(alloc, sources.claim.image, answers)?;
+    append_each_refused(alloc, out, sources, &calls)
 }
 
 /// Appends an object with a name, and a number if there is one.
@@ -107,7 +192,9 @@ fn append_named(
     what: &str,
     name: &[u8],
     number: Option<u64>,
-) -> Result<(), AllocError> {
+) -> Result<(), AllocError>
+    ensures { OnOk result (out.new.items ≡ out.old.items ++ spec.named_record what.now name.now number) }
+{
     let name = String::from_utf8_lossy(alloc, name)?;
     let mut writer = begin(alloc)?;
     text_member(&mut writer, "what", what)?;
@@ -116,24 +203,199 @@ fn append_named(
     append_finished(writer, out)
 }
 
+/// Appends a name, unless what has it ran.
+fn append_unrun_name(
+    alloc: Global,
+    out: &mut Vec<u8>,
+    name: Name,
+    ran: bool,
+) -> Result<(), AllocError>
+    ensures { OnOk result (out.new.items ≡ out.old.items ++ spec.unrun_record name ran) }
+{
+    if ran {
+        Ok(())
+    } else {
+        append_named(alloc, out, "never_run", name.as_bytes(), None)
+    }
+}
+
+/// Appends the tasks that never ran.
+#[tactic(auto, using(crate::proofs::SeenLists::numbered_at))]
+fn append_unrun_tasks(
+    alloc: Global,
+    out: &mut Vec<u8>,
+    tasks: &[TaskConfig],
+    ran: &[bool],
+) -> Result<(), AllocError>
+    ensures { OnOk result (out.new.items
+        ≡ out.old.items ++ numbered (λ _ x ran. spec.unrun_record x.name ran) 0 tasks.now ran.now) }
+{
+    let count = tasks.len().min(ran.len());
+    for t in 0..count {
+        append_unrun_name(alloc, out, tasks[t].name, ran[t])?;
+    }
+    Ok(())
+}
+
+/// Appends the cyclic handlers that never ran.
+#[tactic(auto, using(crate::proofs::SeenLists::numbered_at))]
+fn append_unrun_cyclics(
+    alloc: Global,
+    out: &mut Vec<u8>,
+    cyclics: &[CyclicConfig],
+    ran: &[bool],
+) -> Result<(), AllocError>
+    ensures { OnOk result (out.new.items
+        ≡ out.old.items ++ numbered (λ _ x ran. spec.unrun_record x.name ran) 0 cyclics.now ran.now) }
+{
+    let count = cyclics.len().min(ran.len());
+    for c in 0..count {
+        append_unrun_name(alloc, out, cyclics[c].name, ran[c])?;
+    }
+    Ok(())
+}
+
 /// Appends the tasks and the cyclic handlers that never ran.
 fn append_unrun(
     alloc: Global,
     out: &mut Vec<u8>,
     sys: &System,
-    coverage: &Coverage,
-) -> Result<(), AllocError> {
-    for (t, config) in sys.tasks.iter().enumerate() {
-        if coverage.runs.tasks.get(t) == Some(&false) {
-            append_named(alloc, out, "never_run", config.name.as_bytes(), None)?;
-        }
-    }
-    for (c, config) in sys.cyclics.iter().enumerate() {
-        if coverage.runs.cyclics.get(c) == Some(&false) {
-            append_named(alloc, out, "never_run", config.name.as_bytes(), None)?;
-        }
+    report: &Report,
+) -> Result<(), AllocError>
+    ensures { OnOk result (out.new.items ≡ out.old.items ++ spec.unrun_records (tables_of sys.now) report.now) }
+{
+    append_unrun_tasks(alloc, out, &sys.tasks, &report.coverage.runs.tasks)?;
+    append_unrun_cyclics(alloc, out, &sys.cyclics, &report.coverage.runs.cyclics)
+}
+
+/// Appends a name and its greatest count or length.
+fn append_peak(
+    alloc: Global,
+    out: &mut Vec<u8>,
+    what: &str,
+    name: Name,
+    most: u64,
+) -> Result<(), AllocError>
+    ensures { OnOk result (out.new.items ≡ out.old.items ++ spec.peak_record what.now name most) }
+{
+    append_named(alloc, out, what, name.as_bytes(), Some(most))
+}
+
+/// Appends the greatest count of each of these semaphores.
+#[tactic(auto, using(crate::proofs::SeenLists::numbered_at))]
+fn append_semaphore_peaks(
+    alloc: Global,
+    out: &mut Vec<u8>,
+    what: &str,
+    semaphores: &[SemaphoreConfig],
+    counts: &[u16],
+) -> Result<(), AllocError>
+    ensures { OnOk result (out.new.items ≡ out.old.items
+        ++ numbered (λ _ x most. spec.peak_record what.now x.name most) 0 semaphores.now
+        counts.now) }
+{
+    let count = semaphores.len().min(counts.len());
+    for i in 0..count {
+        append_peak(alloc, out, what, semaphores[i].name, u64::from(counts[i]))?;
     }
     Ok(())
+}
+
+/// Appends the greatest length of each of these data queues.
+#[tactic(auto, using(crate::proofs::SeenLists::numbered_at))]
+fn append_queue_peaks(
+    alloc: Global,
+    out: &mut Vec<u8>,
+    what: &str,
+    queues: &[DataQueueConfig],
+    words: &[u8],
+) -> Result<(), AllocError>
+    ensures { OnOk result (out.new.items ≡ out.old.items
+        ++ numbered (λ _ x most. spec.peak_record what.now x.name most) 0 queues.now words.now) }
+{
+    let count = queues.len().min(words.len());
+    for i in 0..count {
+        append_peak(alloc, out, what, queues[i].name, u64::from(words[i]))?;
+    }
+    Ok(())
+}
+
+/// Appends the greatest length of each of these mailboxes.
+#[tactic(auto, using(crate::proofs::SeenLists::numbered_at))]
+fn append_mailbox_peaks(
+    alloc: Global,
+    out: &mut Vec<u8>,
+    what: &str,
+    mailboxes: &[MailboxConfig],
+    messages: &[u8],
+) -> Result<(), AllocError>
+    ensures { OnOk result (out.new.items ≡ out.old.items
+        ++ numbered (λ _ x most. spec.peak_record what.now x.name most) 0 mailboxes.now
+        messages.now) }
+{
+    let count = mailboxes.len().min(messages.len());
+    for i in 0..count {
+        append_peak(alloc, out, what, mailboxes[i].name, u64::from(messages[i]))?;
+    }
+    Ok(())
+}
+
+/// Appends the greatest length of each data queue and mailbox, in this word.
+fn append_lengths(
+    alloc: Global,
+    out: &mut Vec<u8>,
+    what: &str,
+    sys: &System,
+    report: &Report,
+) -> Result<(), AllocError>
+    ensures { OnOk result (out.new.items ≡ out.old.items
+        ++ (numbered (λ _ x most. spec.peak_record what.now x.name most) 0 (tables_of sys.now).data_queues
+        report.now.coverage.peaks.words.items
+        ++ numbered (λ _ x most. spec.peak_record what.now x.name most) 0 (tables_of sys.now).mailboxes
+        report.now.coverage.peaks.messages.items)) }
+{
+    append_queue_peaks(
+        alloc,
+        out,
+        what,
+        &sys.data_queues,
+        &report.coverage.peaks.words,
+    )?;
+    append_mailbox_peaks(
+        alloc,
+        out,
+        what,
+        &sys.mailboxes,
+        &report.coverage.peaks.messages,
+    )
+}
+
+/// Appends the greatest count of each semaphore, and the greatest length of each data queue and mailbox, in these
+/// words.
+fn append_peaks_as(
+    alloc: Global,
+    out: &mut Vec<u8>,
+    count: &str,
+    length: &str,
+    sys: &System,
+    report: &Report,
+) -> Result<(), AllocError>
+    ensures { OnOk result (out.new.items ≡ out.old.items
+        ++ (numbered (λ _ x most. spec.peak_record count.now x.name most) 0 (tables_of sys.now).semaphores
+        report.now.coverage.peaks.counts.items
+        ++ (numbered (λ _ x most. spec.peak_record length.now x.name most) 0 (tables_of sys.now).data_queues
+        report.now.coverage.peaks.words.items
+        ++ numbered (λ _ x most. spec.peak_record length.now x.name most) 0 (tables_of sys.now).mailboxes
+        report.now.coverage.peaks.messages.items))) }
+{
+    append_semaphore_peaks(
+        alloc,
+        out,
+        count,
+        &sys.semaphores,
+        &report.coverage.peaks.counts,
+    )?;
+    append_lengths(alloc, out, length, sys, report)
 }
 
 /// Appends the greatest count of each semaphore, and the greatest length of each data queue and mailbox.
@@ -141,46 +403,17 @@ fn append_peaks(
     alloc: Global,
     out: &mut Vec<u8>,
     sys: &System,
-    coverage: &Coverage,
-) -> Result<(), AllocError> {
-    for (s, config) in sys.semaphores.iter().enumerate() {
-        if let Some(count) = coverage.peaks.counts.get(s) {
-            append_named(
-                alloc,
-                out,
-                "greatest_count",
-                config.name.as_bytes(),
-                Some(u64::from(*count)),
-            )?;
-        }
-    }
-    for (d, config) in sys.data_queues.iter().enumerate() {
-        if let Some(words) = coverage.peaks.words.get(d) {
-            append_named(
-                alloc,
-                out,
-                "greatest_length",
-                config.name.as_bytes(),
-                Some(u64::from(*words)),
-            )?;
-        }
-    }
-    for (x, config) in sys.mailboxes.iter().enumerate() {
-        if let Some(messages) = coverage.peaks.messages.get(x) {
-            append_named(
-                alloc,
-                out,
-                "greatest_length",
-                config.name.as_bytes(),
-                Some(u64::from(*messages)),
-            )?;
-        }
-    }
-    Ok(())
+    report: &Report,
+) -> Result<(), AllocError>
+    ensures { OnOk result (out.new.items ≡ out.old.items ++ spec.peak_records (tables_of sys.now) report.now) }
+{
+    append_peaks_as(alloc, out, "greatest_count", "greatest_length", sys, report)
 }
 
 /// The text of a sentence.
-fn sentence_text(alloc: Global, sys: &System, sentence: &Sentence) -> Result<String, AllocError> {
+fn sentence_text(alloc: Global, sys: &System, sentence: &Sentence) -> Result<String, AllocError>
+    ensures { IfOk result (λ text. string_bytes text ≡ utf8_lossy (words_of (tables_of sys.now) sentence.now)) }
+{
     let mut text = Vec::new(alloc);
     append_sentence(alloc, sys, sentence, &mut text)?;
     text.truncate(text.len().saturating_sub(2));
@@ -188,13 +421,16 @@ fn sentence_text(alloc: Global, sys: &System, sentence: &Sentence) -> Result<Str
 }
 
 /// Appends the sentence at a place, which says nothing.
-fn append_unsaid(
+fn append_nothing(
     alloc: Global,
     out: &mut Vec<u8>,
     sources: &ExploredSources<'_>,
     place: usize,
     sentence: &Sentence,
-) -> Result<(), AllocError> {
+) -> Result<(), AllocError>
+    ensures { OnOk result (out.new.items
+        ≡ out.old.items ++ spec.nothing_record (source_tables sources.now) place sentence.now) }
+{
     let text = sentence_text(alloc, sources.claim.configured, sentence)?;
     let mut writer = begin(alloc)?;
     text_member(&mut writer, "what", "never_happens")?;
@@ -203,38 +439,93 @@ fn append_unsaid(
     append_finished(writer, out)
 }
 
+/// Appends the sentence of the monitor at a place, if it says nothing, by whether what it speaks of came.
+fn append_unsaid(
+    alloc: Global,
+    out: &mut Vec<u8>,
+    sources: &ExploredSources<'_>,
+    place: usize,
+    monitor: &Monitor,
+    came: bool,
+) -> Result<(), AllocError>
+    ensures { OnOk result (out.new.items
+        ≡ out.old.items ++ spec.unsaid_record (source_tables sources.now) place monitor.now came) }
+{
+    if !is_unsaid(&monitor.subject, came) {
+        return Ok(());
+    }
+    match &monitor.subject {
+        MonitorSubject::Sentence(sentence) => append_nothing(alloc, out, sources, place, sentence),
+        MonitorSubject::Limit(_) => Ok(()),
+    }
+}
+
+/// Appends the sentences of these monitors that say nothing.
+#[tactic(auto, using(crate::proofs::SeenLists::numbered_at))]
+fn append_each_unsaid(
+    alloc: Global,
+    out: &mut Vec<u8>,
+    sources: &ExploredSources<'_>,
+    monitors: &[Monitor],
+    premises: &[bool],
+) -> Result<(), AllocError>
+    ensures { OnOk result (out.new.items ≡ out.old.items
+        ++ numbered (λ place m came. spec.unsaid_record (source_tables sources.now) place m came) 0 monitors.now
+        premises.now) }
+{
+    let count = monitors.len().min(premises.len());
+    for place in 0..count {
+        append_unsaid(
+            alloc,
+            out,
+            sources,
+            place,
+            &monitors[place],
+            premises[place],
+        )?;
+    }
+    Ok(())
+}
+
 /// Appends the sentences that say nothing, where every state was examined.
 fn append_all_unsaid(
     alloc: Global,
     out: &mut Vec<u8>,
     sources: &ExploredSources<'_>,
     report: &Report,
-) -> Result<(), AllocError> {
+) -> Result<(), AllocError>
+    ensures { OnOk result (out.new.items
+        ≡ out.old.items ++ spec.unsaid_records (source_tables sources.now) report.now) }
+{
     if !is_whole(report.ending) {
         return Ok(());
     }
-    for (position, monitor) in sources.claim.question.monitors.iter().enumerate() {
-        if let MonitorSubject::Sentence(sentence) = &monitor.subject
-            && report.premises.get(position) == Some(&false)
-            && has_premise(sentence)
-        {
-            append_unsaid(alloc, out, sources, position, sentence)?;
-        }
-    }
-    Ok(())
+    append_each_unsaid(
+        alloc,
+        out,
+        sources,
+        &sources.claim.question.monitors,
+        &report.premises,
+    )
 }
 
-/// Appends the calls that were never made.
-fn append_all_unmade(
+/// Appends how many values a field has, if it is one of the most varied ones.
+fn append_variety(
     alloc: Global,
     out: &mut Vec<u8>,
     sources: &ExploredSources<'_>,
-    coverage: &Coverage,
-) -> Result<(), AllocError> {
-    for site in &coverage.never_made(alloc, sources.claim.image.code())? {
-        append_unmade(alloc, out, sources, *site)?;
+    most: usize,
+    variety: &Variety,
+) -> Result<(), AllocError>
+    ensures { OnOk result (out.new.items
+        ≡ out.old.items ++ spec.varied_record (source_tables sources.now) most variety.now) }
+{
+    if !is_varied(most, variety) {
+        return Ok(());
     }
-    Ok(())
+    let mut name = Vec::new(alloc);
+    append_varied(alloc, sources, variety.what, &mut name)?;
+    append_named(alloc, out, "values", &name, Some(variety.values as u64))
 }
 
 /// Appends how many values the most varied fields have, where the search stopped at a limit.
@@ -242,17 +533,56 @@ fn append_varieties(
     alloc: Global,
     out: &mut Vec<u8>,
     sources: &ExploredSources<'_>,
-    report: &Report,
-) -> Result<(), AllocError> {
-    let most = most_values(report);
-    for variety in &report.varieties {
-        if is_varied(most, variety) {
-            let mut name = Vec::new(alloc);
-            append_varied(alloc, sources, variety.what, &mut name)?;
-            append_named(alloc, out, "values", &name, Some(variety.values as u64))?;
-        }
+    varieties: &[Variety],
+) -> Result<(), AllocError>
+    ensures { OnOk result (out.new.items
+        ≡ out.old.items ++ spec.varied_records (source_tables sources.now) varieties.now) }
+{
+    let most = most_values(varieties);
+    for variety in varieties {
+        append_variety(alloc, out, sources, most, variety)?;
     }
     Ok(())
+}
+
+/// Appends what falls out of a search, in whose states these calls were never made, got these codes, and answers.
+fn append_coverage(
+    alloc: Global,
+    out: &mut Vec<u8>,
+    sources: &ExploredSources<'_>,
+    report: &Report,
+    unmade: &[CallSite],
+    answered: &[Answered],
+    answers: &[SiteAnswer],
+) -> Result<(), AllocError>
+    ensures { OnOk result (out.new.items ≡ out.old.items ++ spec.coverage_records (source_tables sources.now)
+        report.now unmade.now answered.now
+        (refused_calls (source_tables sources.now).claim.image.code answers.now)) }
+{
+    let sys = sources.claim.image.system();
+    append_all_unsaid(alloc, out, sources, report)?;
+    append_all_unmade(alloc, out, sources, unmade)?;
+    append_answers(alloc, out, sources, answered)?;
+    append_all_refused(alloc, out, sources, answers)?;
+    append_unrun(alloc, out, sys, report)?;
+    append_peaks(alloc, out, sys, report)?;
+    append_varieties(alloc, out, sources, &report.varieties)
+}
+
+/// The same as a text.
+fn records_of(
+    alloc: Global,
+    sources: &ExploredSources<'_>,
+    report: &Report,
+    unmade: &[CallSite],
+    answered: &[Answered],
+    answers: &[SiteAnswer],
+) -> Result<Vec<u8>, AllocError>
+    ensures { IfOk result (λ text. spec.AreCoverageRecords (source_tables sources.now) report.now text.items) }
+{
+    let mut out = Vec::new(alloc);
+    append_coverage(alloc, &mut out, sources, report, unmade, answered, answers)?;
+    Ok(out)
 }
 
 /// What falls out of a search, as objects of JSON, one in a line. `AllocError` if memory runs out.
@@ -260,15 +590,12 @@ pub fn coverage_records(
     alloc: Global,
     sources: &ExploredSources<'_>,
     report: &Report,
-) -> Result<Vec<u8>, AllocError> {
-    let (sys, coverage) = (sources.claim.image.system(), &report.coverage);
-    let mut out = Vec::new(alloc);
-    append_all_unsaid(alloc, &mut out, sources, report)?;
-    append_all_unmade(alloc, &mut out, sources, coverage)?;
-    append_answers(alloc, &mut out, sources, coverage)?;
-    append_all_refused(alloc, &mut out, sources, coverage)?;
-    append_unrun(alloc, &mut out, sys, coverage)?;
-    append_peaks(alloc, &mut out, sys, coverage)?;
-    append_varieties(alloc, &mut out, sources, report)?;
-    Ok(out)
+) -> Result<Vec<u8>, AllocError>
+    ensures { IfOk result (λ text. spec.AreCoverageRecords (source_tables sources.now) report.now text.items) }
+{
+    let (image, coverage) = (sources.claim.image, &report.coverage);
+    let unmade = coverage.never_made(alloc, image.code())?;
+    let answered = answered_calls(alloc, image.code(), sources.positions, coverage)?;
+    let answers = answers_of(alloc, image.code(), coverage)?;
+    records_of(alloc, sources, report, &unmade, &answered, &answers)
 }

@@ -1,119 +1,306 @@
 //! What a search saw: how far it went, what was never made or run, the greatest counts and lengths, and the answers.
-use crate::answers::{answered_calls, append_answers};
+ghost use Rattle.std.specs.Prelude.{◌≡◌, ◌++◌, IfOk, OnOk, codes, decimal};
+ghost use Rattle.std.specs.List.{flat_map};
+ghost use Rattle.fmp_base.specs.Systems.{tables_of};
+ghost use Rattle.fmp_frames.specs.Refusals.{refused_calls};
+ghost use Rattle.fmp_searching.specs.Extent as spec;
+ghost use Rattle.fmp_searching.specs.Lines.{numbered};
+ghost use Rattle.fmp_searching.specs.Sources.{source_tables};
+
+use crate::answers::{Answered, answered_calls, append_answers};
+use crate::claiming::append_number;
 use crate::naming::is_queue;
-use crate::refused::say_refused;
-use crate::sources::{ExploredSources, say, say_call, say_made};
+use crate::refused::{answers_of, say_refused};
+use crate::sources::{ExploredSources, say, say_call};
+use crate::unsaid::is_whole;
 use crate::varied::append_varied;
-use fmp_base::{Name, System};
-use fmp_explore::{Coverage, Report, Varied, Variety};
+use fmp_base::{
+    CyclicConfig, DataQueueConfig, MailboxConfig, Name, SemaphoreConfig, System, TaskConfig,
+};
+use fmp_explore::{CallSite, Report, Varied, Variety};
+use fmp_frames::SiteAnswer;
 use std::alloc::{AllocError, Global};
 
-/// Appends how much a search saw.
-pub fn say_extent(alloc: Global, out: &mut Vec<u8>, report: &Report) -> Result<(), AllocError> {
-    if report.waits {
-        say(out, "a task waits for an interrupt\n")?;
-    }
-    let (states, events, depth) = (report.states, report.events, report.depth);
-    say_made(
-        out,
-        format!(in alloc; "{states} states, {events} events, {depth} deep\n"),
-    )
+/// What ends the noun of a count.
+#[tactic(auto, unfolding(crate::specs::Extent::plural))]
+fn plural(count: u64) -> &'static str
+    ensures { result.now ≡ spec.plural count }
+{
+    if count == 1 { "" } else { "s" }
 }
 
-/// Appends the calls that were never made, each in a line.
-fn say_unmade(
-    alloc: Global,
+/// Appends how many there are of what this word names.
+fn say_counted(out: &mut Vec<u8>, count: u64, word: &str) -> Result<(), AllocError>
+    ensures { OnOk result (out.new.items ≡ out.old.items
+        ++ (decimal count ++ (word.now ++ spec.plural count))) }
+{
+    append_number(count, out)?;
+    say(out, word)?;
+    say(out, plural(count))
+}
+
+/// Appends how many events lead to the deepest state.
+fn say_depth(out: &mut Vec<u8>, depth: u32) -> Result<(), AllocError>
+    ensures { OnOk result (out.new.items ≡ out.old.items
+        ++ (codes ", " ++ (decimal depth ++ codes " deep\n"))) }
+{
+    say(out, ", ")?;
+    append_number(u64::from(depth), out)?;
+    say(out, " deep\n")
+}
+
+/// Appends how far a search went.
+#[tactic(auto, unfolding(crate::specs::Extent::extent_line))]
+fn say_reach(out: &mut Vec<u8>, states: u64, events: u64, depth: u32) -> Result<(), AllocError>
+    ensures { OnOk result (out.new.items ≡ out.old.items ++ spec.extent_line states events depth) }
+{
+    say_counted(out, states, " state")?;
+    say(out, ", ")?;
+    say_counted(out, events, " event")?;
+    say_depth(out, depth)
+}
+
+/// Appends that a task waits for an interrupt, if one does.
+fn say_waits(out: &mut Vec<u8>, waits: bool) -> Result<(), AllocError>
+    ensures { OnOk result (out.new.items ≡ out.old.items ++ spec.waits_line waits) }
+{
+    if waits {
+        say(out, "a task waits for an interrupt\n")
+    } else {
+        Ok(())
+    }
+}
+
+/// Appends how much a search saw.
+pub fn say_extent(out: &mut Vec<u8>, report: &Report) -> Result<(), AllocError>
+    ensures { OnOk result (out.new.items ≡ out.old.items ++ (spec.waits_line report.now.waits
+        ++ spec.extent_line report.now.states report.now.events report.now.depth)) }
+{
+    say_waits(out, report.waits)?;
+    say_reach(out, report.states as u64, report.events, report.depth)
+}
+
+/// Appends a call that was never made, in a line.
+#[tactic(auto, unfolding(crate::specs::Extent::unmade_line))]
+fn say_unmade_call(
     out: &mut Vec<u8>,
     sources: &ExploredSources<'_>,
-    coverage: &Coverage,
-) -> Result<(), AllocError> {
-    let sites = coverage.never_made(alloc, sources.claim.image.code())?;
-    for site in &sites {
-        say(out, "call never made: ")?;
-        say_call(alloc, out, sources, *site)?;
-        say(out, "\n")?;
+    site: CallSite,
+) -> Result<(), AllocError>
+    ensures { OnOk result (out.new.items
+        ≡ out.old.items ++ spec.unmade_line (source_tables sources.now) site) }
+{
+    say(out, "call never made: ")?;
+    say_call(out, sources, site)?;
+    say(out, "\n")
+}
+
+/// Appends each of these calls in a line, which were never made.
+fn say_unmade_calls(
+    out: &mut Vec<u8>,
+    sources: &ExploredSources<'_>,
+    sites: &[CallSite],
+) -> Result<(), AllocError>
+    ensures { OnOk result (out.new.items
+        ≡ out.old.items ++ flat_map (λ site. spec.unmade_line (source_tables sources.now) site) sites.now) }
+{
+    for site in sites {
+        say_unmade_call(out, sources, *site)?;
     }
     Ok(())
 }
 
-/// Appends the answers that each call got, if they are asked for.
-fn say_answers(
-    alloc: Global,
+/// Appends a text and a number in a line.
+fn say_number(out: &mut Vec<u8>, text: &str, number: usize) -> Result<(), AllocError>
+    ensures { OnOk result (out.new.items ≡ out.old.items ++ (text.now ++ (decimal number ++ codes "\n"))) }
+{
+    say(out, text)?;
+    append_number(number as u64, out)?;
+    say(out, "\n")
+}
+
+/// Appends how many calls were not made before a search ended early.
+#[tactic(auto, unfolding(crate::specs::Extent::count_line))]
+fn say_unmade_count(out: &mut Vec<u8>, count: usize) -> Result<(), AllocError>
+    ensures { OnOk result (out.new.items ≡ out.old.items ++ spec.count_line count) }
+{
+    say_number(out, "calls never made so far: ", count)
+}
+
+/// Appends the calls that were never made, each in a line; of a search that ended early how many there are.
+fn say_unmade(
     out: &mut Vec<u8>,
     sources: &ExploredSources<'_>,
-    coverage: &Coverage,
-) -> Result<(), AllocError> {
-    if !sources.named.answers {
+    whole: bool,
+    sites: &[CallSite],
+) -> Result<(), AllocError>
+    ensures { OnOk result (out.new.items
+        ≡ out.old.items ++ spec.unmade_text (source_tables sources.now) whole sites.now) }
+{
+    if whole {
+        return say_unmade_calls(out, sources, sites);
+    }
+    if sites.is_empty() {
         return Ok(());
     }
-    let calls = answered_calls(
-        alloc,
-        sources.claim.image.code(),
-        sources.positions,
-        coverage,
-    )?;
-    append_answers(sources.named.src.as_bytes(), &calls, out)
+    say_unmade_count(out, sites.len())
 }
 
-/// A line of what there is of one kind, which begins with a title where there is any.
-#[derive(Clone, Copy)]
-struct CoverageRow<'a> {
-    title: &'a str,
-    is_begun: bool,
+/// Appends the answers that each of these calls got, if they are asked for.
+fn say_answers(
+    out: &mut Vec<u8>,
+    sources: &ExploredSources<'_>,
+    calls: &[Answered],
+) -> Result<(), AllocError>
+    ensures { OnOk result (out.new.items
+        ≡ out.old.items ++ spec.asked_answers (source_tables sources.now) calls.now) }
+{
+    if sources.named.answers {
+        append_answers(sources.named.src.as_bytes(), calls, out)
+    } else {
+        Ok(())
+    }
 }
 
-impl<'a> CoverageRow<'a> {
-    /// A line with this title.
-    fn new(title: &'a str) -> CoverageRow<'a> {
-        CoverageRow {
-            title,
-            is_begun: false,
-        }
+/// Appends a line of these words after a title, if there are any.
+fn say_row(out: &mut Vec<u8>, title: &str, words: &[u8]) -> Result<(), AllocError>
+    ensures { OnOk result (out.new.items ≡ out.old.items ++ spec.row_text title.now words.now) }
+{
+    if words.is_empty() {
+        return Ok(());
     }
+    say(out, title)?;
+    out.extend_from_slice(words)?;
+    say(out, "\n")
+}
 
-    /// Appends a name.
-    fn say_name(&mut self, out: &mut Vec<u8>, name: Name) -> Result<(), AllocError> {
-        say(out, if self.is_begun { " " } else { self.title })?;
-        self.is_begun = true;
-        out.extend_from_slice(name.as_bytes())
+/// Appends a name after a blank, unless what has it ran.
+#[tactic(auto, unfolding(crate::specs::Extent::unrun_word))]
+fn say_unrun_word(out: &mut Vec<u8>, name: Name, ran: bool) -> Result<(), AllocError>
+    ensures { OnOk result (out.new.items ≡ out.old.items ++ spec.unrun_word name ran) }
+{
+    if ran {
+        return Ok(());
     }
+    say(out, " ")?;
+    out.extend_from_slice(name.as_bytes())
+}
 
-    /// Appends a name with a number.
-    fn say_number(
-        &mut self,
-        alloc: Global,
-        out: &mut Vec<u8>,
-        name: Name,
-        number: usize,
-    ) -> Result<(), AllocError> {
-        self.say_name(out, name)?;
-        say_made(out, format!(in alloc; " {number}"))
+/// Appends the names of the tasks that never ran.
+#[tactic(auto, using(crate::proofs::SeenLists::numbered_at))]
+fn say_unrun_tasks(out: &mut Vec<u8>, tasks: &[TaskConfig], ran: &[bool]) -> Result<(), AllocError>
+    ensures { OnOk result (out.new.items
+        ≡ out.old.items ++ numbered (λ _ x ran. spec.unrun_word x.name ran) 0 tasks.now ran.now) }
+{
+    let count = tasks.len().min(ran.len());
+    for t in 0..count {
+        say_unrun_word(out, tasks[t].name, ran[t])?;
     }
+    Ok(())
+}
 
-    /// Ends the line, if there is one.
-    fn end(self, out: &mut Vec<u8>) -> Result<(), AllocError> {
-        if self.is_begun {
-            say(out, "\n")
-        } else {
-            Ok(())
-        }
+/// Appends the names of the cyclic handlers that never ran.
+#[tactic(auto, using(crate::proofs::SeenLists::numbered_at))]
+fn say_unrun_cyclics(
+    out: &mut Vec<u8>,
+    cyclics: &[CyclicConfig],
+    ran: &[bool],
+) -> Result<(), AllocError>
+    ensures { OnOk result (out.new.items
+        ≡ out.old.items ++ numbered (λ _ x ran. spec.unrun_word x.name ran) 0 cyclics.now ran.now) }
+{
+    let count = cyclics.len().min(ran.len());
+    for c in 0..count {
+        say_unrun_word(out, cyclics[c].name, ran[c])?;
     }
+    Ok(())
 }
 
 /// Appends the tasks and the cyclic handlers that never ran.
-fn say_unrun(out: &mut Vec<u8>, sys: &System, coverage: &Coverage) -> Result<(), AllocError> {
-    let mut row = CoverageRow::new("never run: ");
-    for (t, config) in sys.tasks.iter().enumerate() {
-        if coverage.runs.tasks.get(t) == Some(&false) {
-            row.say_name(out, config.name)?;
-        }
+fn say_unrun(
+    alloc: Global,
+    out: &mut Vec<u8>,
+    sys: &System,
+    report: &Report,
+) -> Result<(), AllocError>
+    ensures { OnOk result (out.new.items ≡ out.old.items ++ spec.unrun_text (tables_of sys.now) report.now) }
+{
+    let mut words = Vec::new(alloc);
+    say_unrun_tasks(&mut words, &sys.tasks, &report.coverage.runs.tasks)?;
+    say_unrun_cyclics(&mut words, &sys.cyclics, &report.coverage.runs.cyclics)?;
+    say_row(out, "never run:", &words)
+}
+
+/// Appends a name after a blank, and its greatest count or length.
+#[tactic(auto, unfolding(crate::specs::Extent::peak_words))]
+fn say_peak(out: &mut Vec<u8>, name: Name, most: u64) -> Result<(), AllocError>
+    ensures { OnOk result (out.new.items ≡ out.old.items ++ spec.peak_words name most) }
+{
+    say(out, " ")?;
+    out.extend_from_slice(name.as_bytes())?;
+    say(out, " ")?;
+    append_number(most, out)
+}
+
+/// Appends the greatest count of each of these semaphores.
+#[tactic(auto, using(crate::proofs::SeenLists::numbered_at))]
+fn say_semaphore_peaks(
+    out: &mut Vec<u8>,
+    semaphores: &[SemaphoreConfig],
+    counts: &[u16],
+) -> Result<(), AllocError>
+    ensures { OnOk result (out.new.items
+        ≡ out.old.items ++ numbered (λ _ x most. spec.peak_words x.name most) 0 semaphores.now counts.now) }
+{
+    let count = semaphores.len().min(counts.len());
+    for i in 0..count {
+        say_peak(out, semaphores[i].name, u64::from(counts[i]))?;
     }
-    for (c, config) in sys.cyclics.iter().enumerate() {
-        if coverage.runs.cyclics.get(c) == Some(&false) {
-            row.say_name(out, config.name)?;
-        }
+    Ok(())
+}
+
+/// Appends the greatest length of each of these data queues.
+#[tactic(auto, using(crate::proofs::SeenLists::numbered_at))]
+fn say_queue_peaks(
+    out: &mut Vec<u8>,
+    queues: &[DataQueueConfig],
+    words: &[u8],
+) -> Result<(), AllocError>
+    ensures { OnOk result (out.new.items
+        ≡ out.old.items ++ numbered (λ _ x most. spec.peak_words x.name most) 0 queues.now words.now) }
+{
+    let count = queues.len().min(words.len());
+    for i in 0..count {
+        say_peak(out, queues[i].name, u64::from(words[i]))?;
     }
-    row.end(out)
+    Ok(())
+}
+
+/// Appends the greatest length of each of these mailboxes.
+#[tactic(auto, using(crate::proofs::SeenLists::numbered_at))]
+fn say_mailbox_peaks(
+    out: &mut Vec<u8>,
+    mailboxes: &[MailboxConfig],
+    messages: &[u8],
+) -> Result<(), AllocError>
+    ensures { OnOk result (out.new.items
+        ≡ out.old.items ++ numbered (λ _ x most. spec.peak_words x.name most) 0 mailboxes.now messages.now) }
+{
+    let count = mailboxes.len().min(messages.len());
+    for i in 0..count {
+        say_peak(out, mailboxes[i].name, u64::from(messages[i]))?;
+    }
+    Ok(())
+}
+
+/// The greatest count of each semaphore, each after its name.
+fn count_words(alloc: Global, sys: &System, report: &Report) -> Result<Vec<u8>, AllocError>
+    ensures { IfOk result (λ words. words.items ≡ numbered (λ _ x most. spec.peak_words x.name most) 0
+        (tables_of sys.now).semaphores report.now.coverage.peaks.counts.items) }
+{
+    let mut words = Vec::new(alloc);
+    say_semaphore_peaks(&mut words, &sys.semaphores, &report.coverage.peaks.counts)?;
+    Ok(words)
 }
 
 /// Appends the greatest count of each semaphore.
@@ -121,15 +308,12 @@ fn say_counts(
     alloc: Global,
     out: &mut Vec<u8>,
     sys: &System,
-    counts: &[u16],
-) -> Result<(), AllocError> {
-    let mut row = CoverageRow::new("greatest counts: ");
-    for (s, config) in sys.semaphores.iter().enumerate() {
-        if let Some(count) = counts.get(s) {
-            row.say_number(alloc, out, config.name, usize::from(*count))?;
-        }
-    }
-    row.end(out)
+    report: &Report,
+) -> Result<(), AllocError>
+    ensures { OnOk result (out.new.items ≡ out.old.items ++ spec.counts_text (tables_of sys.now) report.now) }
+{
+    let words = count_words(alloc, sys, report)?;
+    say_row(out, "greatest counts:", &words)
 }
 
 /// Appends the greatest length of each data queue and mailbox.
@@ -137,58 +321,197 @@ fn say_lengths(
     alloc: Global,
     out: &mut Vec<u8>,
     sys: &System,
-    coverage: &Coverage,
-) -> Result<(), AllocError> {
-    let mut row = CoverageRow::new("greatest lengths: ");
-    for (d, config) in sys.data_queues.iter().enumerate() {
-        if let Some(words) = coverage.peaks.words.get(d) {
-            row.say_number(alloc, out, config.name, usize::from(*words))?;
-        }
-    }
-    for (x, config) in sys.mailboxes.iter().enumerate() {
-        if let Some(messages) = coverage.peaks.messages.get(x) {
-            row.say_number(alloc, out, config.name, usize::from(*messages))?;
-        }
-    }
-    row.end(out)
+    report: &Report,
+) -> Result<(), AllocError>
+    ensures { OnOk result (out.new.items ≡ out.old.items ++ spec.lengths_text (tables_of sys.now) report.now) }
+{
+    let mut words = Vec::new(alloc);
+    say_queue_peaks(&mut words, &sys.data_queues, &report.coverage.peaks.words)?;
+    say_mailbox_peaks(&mut words, &sys.mailboxes, &report.coverage.peaks.messages)?;
+    say_row(out, "greatest lengths:", &words)
 }
 
-/// Appends what falls out of a search.
-pub fn say_coverage(
+/// Appends who never ran, and the greatest counts and lengths.
+fn say_rows(
+    alloc: Global,
+    out: &mut Vec<u8>,
+    sys: &System,
+    report: &Report,
+) -> Result<(), AllocError>
+    ensures { OnOk result (out.new.items ≡ out.old.items ++ (spec.unrun_text (tables_of sys.now) report.now
+        ++ (spec.counts_text (tables_of sys.now) report.now ++ spec.lengths_text (tables_of sys.now) report.now))) }
+{
+    say_unrun(alloc, out, sys, report)?;
+    say_counts(alloc, out, sys, report)?;
+    say_lengths(alloc, out, sys, report)
+}
+
+/// Appends who never ran, and the greatest counts and lengths, of the system that was explored.
+fn say_rows_of(
     alloc: Global,
     out: &mut Vec<u8>,
     sources: &ExploredSources<'_>,
-    coverage: &Coverage,
-) -> Result<(), AllocError> {
-    let sys = sources.claim.image.system();
-    say_unmade(alloc, out, sources, coverage)?;
-    say_answers(alloc, out, sources, coverage)?;
-    say_refused(alloc, out, sources, coverage)?;
-    say_unrun(out, sys, coverage)?;
-    say_counts(alloc, out, sys, &coverage.peaks.counts)?;
-    say_lengths(alloc, out, sys, coverage)
+    report: &Report,
+) -> Result<(), AllocError>
+    ensures { OnOk result (out.new.items ≡ out.old.items
+        ++ (spec.unrun_text (source_tables sources.now).claim.image.system report.now
+        ++ (spec.counts_text (source_tables sources.now).claim.image.system report.now
+        ++ spec.lengths_text (source_tables sources.now).claim.image.system report.now))) }
+{
+    say_rows(alloc, out, sources.claim.image.system(), report)
+}
+
+/// Appends the calls that are refused, where calls got these answers, and who never ran, and the greatest counts and
+/// lengths.
+fn say_refused_and_rows(
+    alloc: Global,
+    out: &mut Vec<u8>,
+    sources: &ExploredSources<'_>,
+    report: &Report,
+    answers: &[SiteAnswer],
+) -> Result<(), AllocError>
+    ensures { OnOk result (out.new.items ≡ out.old.items
+        ++ (flat_map (λ x. spec.refused_line (source_tables sources.now) x)
+        (refused_calls (source_tables sources.now).claim.image.code answers.now)
+        ++ (spec.unrun_text (source_tables sources.now).claim.image.system report.now
+        ++ (spec.counts_text (source_tables sources.now).claim.image.system report.now
+        ++ spec.lengths_text (source_tables sources.now).claim.image.system report.now)))) }
+{
+    say_refused(alloc, out, sources, answers)?;
+    say_rows_of(alloc, out, sources, report)
+}
+
+/// The same after the codes that calls got.
+fn say_answers_and_rows(
+    alloc: Global,
+    out: &mut Vec<u8>,
+    sources: &ExploredSources<'_>,
+    report: &Report,
+    answered: &[Answered],
+    answers: &[SiteAnswer],
+) -> Result<(), AllocError>
+    ensures { OnOk result (out.new.items ≡ out.old.items
+        ++ (spec.asked_answers (source_tables sources.now) answered.now
+        ++ (flat_map (λ x. spec.refused_line (source_tables sources.now) x)
+        (refused_calls (source_tables sources.now).claim.image.code answers.now)
+        ++ (spec.unrun_text (source_tables sources.now).claim.image.system report.now
+        ++ (spec.counts_text (source_tables sources.now).claim.image.system report.now
+        ++ spec.lengths_text (source_tables sources.now).claim.image.system report.now))))) }
+{
+    say_answers(out, sources, answered)?;
+    say_refused_and_rows(alloc, out, sources, report, answers)
+}
+
+/// Appends what falls out of a search, in whose states these calls were never made, got these codes, and answers.
+fn say_coverage(
+    alloc: Global,
+    out: &mut Vec<u8>,
+    sources: &ExploredSources<'_>,
+    report: &Report,
+    unmade: &[CallSite],
+    answered: &[Answered],
+    answers: &[SiteAnswer],
+) -> Result<(), AllocError>
+    ensures { OnOk result (out.new.items ≡ out.old.items ++ spec.coverage_text (source_tables sources.now) report.now
+        unmade.now answered.now (refused_calls (source_tables sources.now).claim.image.code answers.now)) }
+{
+    say_unmade(out, sources, is_whole(report.ending), unmade)?;
+    say_answers_and_rows(alloc, out, sources, report, answered, answers)
+}
+
+/// The same as a text.
+fn coverage_of(
+    alloc: Global,
+    sources: &ExploredSources<'_>,
+    report: &Report,
+    unmade: &[CallSite],
+    answered: &[Answered],
+    answers: &[SiteAnswer],
+) -> Result<Vec<u8>, AllocError>
+    ensures { IfOk result (λ text. spec.IsCoverage (source_tables sources.now) report.now text.items) }
+{
+    let mut out = Vec::new(alloc);
+    say_coverage(alloc, &mut out, sources, report, unmade, answered, answers)?;
+    Ok(out)
+}
+
+/// What falls out of a search.
+pub fn coverage_text(
+    alloc: Global,
+    sources: &ExploredSources<'_>,
+    report: &Report,
+) -> Result<Vec<u8>, AllocError>
+    ensures { IfOk result (λ text. spec.IsCoverage (source_tables sources.now) report.now text.items) }
+{
+    let (image, coverage) = (sources.claim.image, &report.coverage);
+    let unmade = coverage.never_made(alloc, image.code())?;
+    let answered = answered_calls(alloc, image.code(), sources.positions, coverage)?;
+    let answers = answers_of(alloc, image.code(), coverage)?;
+    coverage_of(alloc, sources, report, &unmade, &answered, &answers)
 }
 
 /// What is said of how a field gets fewer values.
-fn hint_of(variety: &Variety) -> &'static str {
-    match variety.what {
+fn hint_of(what: Varied) -> &'static str
+    ensures { result.now ≡ spec.hint what }
+{
+    match what {
         Varied::Field(what) if is_queue(what) => " (fewer with --queued)",
         Varied::Field(_) | Varied::Standing(_) => "",
     }
 }
 
 /// How many values the most varied field has.
-pub fn most_values(report: &Report) -> usize {
+pub fn most_values(varieties: &[Variety]) -> usize
+    ensures { result ≡ spec.most_values varieties.now }
+{
     let mut most = 0;
-    for variety in &report.varieties {
+    for variety in varieties {
         most = variety.values.max(most);
     }
     most
 }
 
 /// Whether a field is one of the most varied ones, of which the first has this many values.
-pub fn is_varied(most: usize, variety: &Variety) -> bool {
+pub fn is_varied(most: usize, variety: &Variety) -> bool
+    ensures { result ≡ spec.is_varied most variety.now }
+{
     variety.values > 1 && variety.values >= most / 2
+}
+
+/// Appends how many values a field has, in a line.
+#[tactic(auto, unfolding(crate::specs::Extent::values_line))]
+fn say_values(
+    alloc: Global,
+    out: &mut Vec<u8>,
+    sources: &ExploredSources<'_>,
+    variety: &Variety,
+) -> Result<(), AllocError>
+    ensures { OnOk result (out.new.items
+        ≡ out.old.items ++ spec.values_line (source_tables sources.now) variety.now) }
+{
+    append_number(variety.values as u64, out)?;
+    say(out, " values: ")?;
+    append_varied(alloc, sources, variety.what, out)?;
+    say(out, hint_of(variety.what))?;
+    say(out, "\n")
+}
+
+/// Appends the same, if it is one of the most varied ones.
+fn say_variety(
+    alloc: Global,
+    out: &mut Vec<u8>,
+    sources: &ExploredSources<'_>,
+    most: usize,
+    variety: &Variety,
+) -> Result<(), AllocError>
+    ensures { OnOk result (out.new.items
+        ≡ out.old.items ++ spec.varied_line (source_tables sources.now) most variety.now) }
+{
+    if is_varied(most, variety) {
+        say_values(alloc, out, sources, variety)
+    } else {
+        Ok(())
+    }
 }
 
 /// Appends how many values the most varied fields have, where the search stopped at a limit.
@@ -196,17 +519,14 @@ pub fn say_varieties(
     alloc: Global,
     out: &mut Vec<u8>,
     sources: &ExploredSources<'_>,
-    report: &Report,
-) -> Result<(), AllocError> {
-    let most = most_values(report);
-    for variety in &report.varieties {
-        if is_varied(most, variety) {
-            let values = variety.values;
-            say_made(out, format!(in alloc; "{values} values: "))?;
-            append_varied(alloc, sources, variety.what, out)?;
-            say(out, hint_of(variety))?;
-            say(out, "\n")?;
-        }
+    varieties: &[Variety],
+) -> Result<(), AllocError>
+    ensures { OnOk result (out.new.items
+        ≡ out.old.items ++ spec.values_text (source_tables sources.now) varieties.now) }
+{
+    let most = most_values(varieties);
+    for variety in varieties {
+        say_variety(alloc, out, sources, most, variety)?;
     }
     Ok(())
 }

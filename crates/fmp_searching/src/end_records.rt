@@ -1,10 +1,14 @@
 //! How a search ended, for other programs: an object of JSON in a line.
 ghost use Rattle.std.specs.Prelude.{◌≡◌, ◌++◌, IfOk, OnOk, map, string_bytes};
+ghost use Rattle.std.specs.Str.Lossy.{utf8_lossy};
 ghost use Rattle.fmp_searching.specs.Claims.{claim_tables};
+ghost use Rattle.fmp_searching.specs.Members.{string_tokens};
+ghost use Rattle.fmp_searching.specs.Parts.{claim_parts};
 ghost use Rattle.fmp_searching.specs.Records as spec;
+ghost use Rattle.fmp_searching.specs.Sources.{source_tables};
 
 use crate::claiming::append_claim;
-use crate::ending::{append_end, status_of};
+use crate::ending::{append_end, append_unlooked, status_of};
 use crate::parts::parts_of;
 use crate::sources::{Claim, ExploredSources};
 use crate::unsaid::counts_unsaid;
@@ -34,12 +38,13 @@ fn claimed(alloc: Global, claim: &Claim<'_>, report: &Report) -> Result<Vec<u8>,
     Ok(text)
 }
 
-/// Why a search ended whose report does not hold; else nothing.
+/// Why a search ended whose report does not hold; else why stuck tasks were not looked for, if they were not.
 fn stopped(alloc: Global, question: &Question, report: &Report) -> Result<Vec<u8>, AllocError>
     ensures { IfOk result (λ text. text.items ≡ spec.stopped_text question.now report.now) }
 {
     let mut text = Vec::new(alloc);
     if report.holds {
+        append_unlooked(question, report.stuck_search, &mut text)?;
         return Ok(text);
     }
     let found = !report.findings.is_empty();
@@ -55,7 +60,8 @@ fn claim_line(alloc: Global, claim: &Claim<'_>, report: &Report) -> Result<Strin
     String::from_utf8_lossy(alloc, &without_feed(text))
 }
 
-/// Why a search ended that claims nothing, as a line; empty where something is claimed, or the reason is a finding.
+/// Why a search claims nothing, or claims something and did not look for stuck tasks, as a line; empty if it did both,
+/// or the reason is a finding.
 fn stop_line(alloc: Global, question: &Question, report: &Report) -> Result<String, AllocError>
     ensures { IfOk result (λ line. string_bytes line ≡ spec.stop_line question.now report.now) }
 {
@@ -64,7 +70,10 @@ fn stop_line(alloc: Global, question: &Question, report: &Report) -> Result<Stri
 }
 
 /// Texts as strings.
-fn strings_of(alloc: Global, texts: &[Vec<u8>]) -> Result<Vec<String>, AllocError> {
+fn strings_of(alloc: Global, texts: &[Vec<u8>]) -> Result<Vec<String>, AllocError>
+    ensures { IfOk result (λ strings. map string_bytes strings.items
+        ≡ map (λ text. utf8_lossy text) (map (λ text. text.items) texts.now)) }
+{
     let mut strings = Vec::new(alloc);
     for text in texts {
         strings.push(String::from_utf8_lossy(alloc, text)?)?;
@@ -72,11 +81,20 @@ fn strings_of(alloc: Global, texts: &[Vec<u8>]) -> Result<Vec<String>, AllocErro
     Ok(strings)
 }
 
+/// The parts of a claim as strings.
+fn part_strings(alloc: Global, claim: &Claim<'_>) -> Result<Vec<String>, AllocError>
+    ensures { IfOk result (λ strings. map string_bytes strings.items
+        ≡ map (λ part. utf8_lossy part) (claim_parts (claim_tables claim.now))) }
+{
+    let parts = parts_of(alloc, claim)?;
+    strings_of(alloc, &parts)
+}
+
 /// Writes strings.
 fn write_strings(writer: &mut Writer, strings: &[String]) -> Result<(), AllocError>
     ensures before { writer.new.before ≡ writer.old.before }
     ensures tokens { OnOk result (writer.new.tokens
-        ≡ writer.old.tokens ++ spec.string_tokens (map string_bytes strings.now)) }
+        ≡ writer.old.tokens ++ string_tokens (map string_bytes strings.now)) }
 {
     for string in strings {
         writer.string(string.as_str())?;
@@ -143,13 +161,12 @@ pub fn end_record(
     sources: &ExploredSources<'_>,
     report: &Report,
 ) -> Result<Vec<u8>, AllocError>
-    ensures { IfOk result (λ line. spec.IsEndRecord sources.now.named.strict (claim_tables sources.now.claim)
-        report.now line.items) }
+    ensures { IfOk result (λ line. line.items ≡ spec.end_record (source_tables sources.now) report.now) }
 {
     let question = sources.claim.question;
     let claim = claim_line(alloc, &sources.claim, report)?;
     let stopped = stop_line(alloc, question, report)?;
-    let parts = strings_of(alloc, &parts_of(alloc, &sources.claim)?)?;
+    let parts = part_strings(alloc, &sources.claim)?;
     let unsaid = counts_unsaid(sources.named.strict, question, report);
     let status = status_of(unsaid, report);
     end_line(

@@ -12,8 +12,7 @@ use crate::suggesting::{said_of_never, said_of_task};
 use crate::words::{never_at_named, never_named, section_named};
 use clap::{ArgMatches, Error};
 use fmp_arguments::{bound_of, byte_of, flag_of, text_of, word_of, word32_of, words_of};
-use fmp_base::{System, TaskConfig};
-use fmp_expect::read_placed;
+use fmp_base::TaskConfig;
 use fmp_explore::Ticks;
 use fmp_files::mistake_of;
 use fmp_image_bytes::Image;
@@ -42,15 +41,12 @@ const NO_TASK: &str = "--rest names no task of the configuration";
 /// The message for a line of an answer in which no call stands.
 const NO_CALL: &str = "--never names a line of SRC in which no call stands";
 
-/// The message for a sentence about calls in a line in which none stands.
-const NO_PLACE: &str = "--expect names a line of SRC in which no call stands";
-
-/// The message for a sentence about the end of a run.
-const NO_END: &str = "--expect takes no sentence that begins with 'end': a search looks at no end";
+/// The message for a text of sentences that asks for no question.
+const NO_SENTENCES: &str = "--expect has a sentence that asks nothing of a search";
 
 /// The message for steps that would replace a file that is read.
 const STEPS_OVER_INPUT: &str =
-    "a file of steps is one of the two that are read: no steps are written";
+    "a file of steps is one of those that are read: no steps are written";
 
 /// The message for a report that would replace a file that is read.
 const REPORT_OVER_INPUT: &str = "the file of --junit is one of those that are read";
@@ -222,40 +218,16 @@ fn said_of_mistake(
         CommandMistake::Gap => said_of_gaps(alloc, asked.gaps),
         CommandMistake::Rest => String::from_str(alloc, NO_TASK),
         CommandMistake::Call => String::from_str(alloc, NO_CALL),
-        CommandMistake::Sentence { line, flaw } => format!(in alloc;
-            "--expect: line {line}: {flaw}"
-        ),
-        CommandMistake::Place => String::from_str(alloc, NO_PLACE),
-        CommandMistake::End => String::from_str(alloc, NO_END),
-    }
-}
-
-/// What is said of a text of sentences of which one is about calls in a line in which none stands.
-fn said_of_places(
-    alloc: Global,
-    configured: &System,
-    text: &[u8],
-    image: &Image,
-    lines: &CallLines,
-) -> Result<String, AllocError> {
-    image.keeps_rules();
-    for never in &read_placed(alloc, configured, text)? {
-        let (line, at) = (never.line, never.at);
-        if lines.calls(alloc, image.code(), at)?.is_empty() {
-            return format!(in alloc;
-                "--expect: line {line}: names a line of SRC in which no call stands: `{at}`"
-            );
+        CommandMistake::Sentence { .. } | CommandMistake::SentenceCall | CommandMistake::End => {
+            String::from_str(alloc, NO_SENTENCES)
         }
     }
-    String::from_str(alloc, NO_PLACE)
 }
 
-/// What is said of words, and of a text of sentences, that ask for no question about an image, whose bodies' calls
-/// stand in these lines.
+/// What is said of words that ask for no question about an image, whose bodies' calls stand in these lines.
 fn said_of_image(
     alloc: Global,
-    (asked, text): (&ExploreWords<'_>, &[u8]),
-    configured: &System,
+    asked: &ExploreWords<'_>,
     (image, lines): (&Image, &CallLines),
     mistake: CommandMistake,
 ) -> Result<String, AllocError> {
@@ -263,7 +235,6 @@ fn said_of_image(
     match mistake {
         CommandMistake::Rest => said_of_task(alloc, NO_TASK, wrong_task(asked.rest, tasks), tasks),
         CommandMistake::Call => said_of_calls(alloc, asked.nevers, image, lines),
-        CommandMistake::Place => said_of_places(alloc, configured, text, image, lines),
         mistake => said_of_mistake(alloc, asked, mistake),
     }
 }
@@ -278,16 +249,15 @@ pub fn no_question(
     wrong_words(alloc, &why)
 }
 
-/// The error for words, and a text of sentences about what is configured, that ask for no question about an image,
-/// whose bodies' calls stand in these lines. It has the status 2.
+/// The error for words that ask for no question about an image, whose bodies' calls stand in these lines. It has the
+/// status 2.
 pub fn no_question_of(
     alloc: Global,
-    asked: (&ExploreWords<'_>, &[u8]),
-    configured: &System,
+    asked: &ExploreWords<'_>,
     of: (&Image, &CallLines),
     mistake: CommandMistake,
 ) -> Result<Error, AllocError> {
-    let why = said_of_image(alloc, asked, configured, of, mistake)?;
+    let why = said_of_image(alloc, asked, of, mistake)?;
     wrong_words(alloc, &why)
 }
 

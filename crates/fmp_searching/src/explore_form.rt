@@ -38,10 +38,14 @@ const TICKS_WHEN: &[&str] = &["any", "idle"];
 const INTS: &str = "How many interrupts there may be, 0 to 255; without it any number";
 
 /// How often a single interrupt may come.
-const INT: &str = "At most COUNT of interrupt N may come, as 3:2; it may be given again";
+const INT: &str =
+    "At most COUNT of interrupt N may come, as 3:2; it may be given again. N is 1 to 32, and
+COUNT 0 to 2^32 - 1";
 
 /// How soon a single interrupt may come again.
-const GAP: &str = "At least T ticks come between two of interrupt N, as 3:5; it may be given again";
+const GAP: &str =
+    "At least T ticks come between two of interrupt N, as 3:5; it may be given again. N is 1 to 32,
+and T 0 to 2^32 - 1";
 
 /// How much may be queued.
 const QUEUED: &str =

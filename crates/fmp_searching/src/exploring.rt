@@ -1,14 +1,18 @@
 //! What `explore` prints of the schedules of two texts.
-ghost use Rattle.std.specs.Prelude.{◌≡◌, [], All, IfOk, IfSome, map, true};
+ghost use Rattle.std.specs.Prelude.{◌≡◌, ◌+◌, ◌++◌, ◌<◌, ◌^◌, All, IfOk, IfSome, OnOk, is_some, length, map, true};
 ghost use Rattle.fmp_explore.specs.Searching.{NothingIsFound};
 ghost use Rattle.fmp_witness.specs.Findings.{IsFound};
-ghost use Rattle.fmp_searching.specs.Claims.{claim_tables};
 ghost use Rattle.fmp_searching.specs.Claimed.{IsExplored, IsReportIn, IsReportText, Tells, text_of};
+ghost use Rattle.fmp_searching.specs.Extent.{IsCoverage, IsExtent, extent_line, unsaid_text, values_text, waits_line};
+ghost use Rattle.fmp_searching.specs.Findings.{finding_text};
+ghost use Rattle.fmp_searching.specs.Lines.{numbered};
 ghost use Rattle.fmp_searching.specs.Records.{IsReportRecords};
-ghost use Rattle.fmp_searching.specs.Tests.{HasTestReport, IsTestReport};
+ghost use Rattle.fmp_searching.specs.Seen.{AreSeen};
+ghost use Rattle.fmp_searching.specs.Sources.{source_tables};
+ghost use Rattle.fmp_searching.specs.Tests.{IsTestReport};
 
 use crate::coverage_records::coverage_records;
-use crate::covering::{say_coverage, say_extent, say_varieties};
+use crate::covering::{coverage_text, say_extent, say_varieties};
 use crate::end_records::end_record;
 use crate::ending::{append_ending, status_of};
 use crate::finding::say_finding;
@@ -34,20 +38,84 @@ pub struct Explored {
     pub status: u8,
 }
 
-/// What is printed of findings: nothing where there are none.
+/// What is printed of findings, of which this is seen.
+#[tactic(auto, using(crate::proofs::SeenLists::numbered_at))]
 fn findings_text(
     alloc: Global,
     sources: &ExploredSources<'_>,
     findings: &[Finding],
+    seen: &[Seen],
 ) -> Result<Vec<u8>, AllocError>
-    ensures { IfOk result (λ text. findings.now ≡ [] → text.items ≡ []) }
+    ensures { IfOk result (λ text. text.items
+        ≡ numbered (λ number f x. finding_text (source_tables sources.now) number f x) 1 findings.now seen.now) }
 {
     let mut text = Vec::new(alloc);
-    let mut number: usize = 0;
-    for finding in findings {
-        number = number.saturating_add(1);
-        say_finding(alloc, &mut text, sources, finding, number)?;
+    let count = findings.len().min(seen.len());
+    for i in 0..count {
+        say_finding(&mut text, sources, i + 1, &findings[i], &seen[i])?;
     }
+    Ok(text)
+}
+
+/// Appends what falls out of a search, and what has the most values.
+fn append_coverage(
+    alloc: Global,
+    out: &mut Vec<u8>,
+    sources: &ExploredSources<'_>,
+    report: &Report,
+    coverage: &[u8],
+) -> Result<(), AllocError>
+    ensures { OnOk result (out.new.items ≡ out.old.items
+        ++ (coverage.now ++ values_text (source_tables sources.now) report.now.varieties.items)) }
+{
+    out.extend_from_slice(coverage)?;
+    say_varieties(alloc, out, sources, &report.varieties)
+}
+
+/// Appends how far a search went, and the same.
+fn append_reach(
+    alloc: Global,
+    out: &mut Vec<u8>,
+    sources: &ExploredSources<'_>,
+    report: &Report,
+    coverage: &[u8],
+) -> Result<(), AllocError>
+    ensures { OnOk result (out.new.items ≡ out.old.items ++ (waits_line report.now.waits
+        ++ (extent_line report.now.states report.now.events report.now.depth
+        ++ (coverage.now ++ values_text (source_tables sources.now) report.now.varieties.items)))) }
+{
+    say_extent(out, report)?;
+    append_coverage(alloc, out, sources, report, coverage)
+}
+
+/// Appends the sentences that say nothing, and the same.
+fn append_extent(
+    alloc: Global,
+    out: &mut Vec<u8>,
+    sources: &ExploredSources<'_>,
+    report: &Report,
+    coverage: &[u8],
+) -> Result<(), AllocError>
+    ensures { OnOk result (out.new.items ≡ out.old.items ++ (unsaid_text (source_tables sources.now) report.now
+        ++ (waits_line report.now.waits ++ (extent_line report.now.states report.now.events report.now.depth
+        ++ (coverage.now ++ values_text (source_tables sources.now) report.now.varieties.items))))) }
+{
+    say_all_unsaid(alloc, out, sources, report)?;
+    append_reach(alloc, out, sources, report, coverage)
+}
+
+/// What is printed after the end of a search out of which this falls.
+fn extent_by(
+    alloc: Global,
+    sources: &ExploredSources<'_>,
+    report: &Report,
+    coverage: &[u8],
+) -> Result<Vec<u8>, AllocError>
+    requires { IsCoverage (source_tables sources.now) report.now coverage.now }
+    ensures { IfOk result (λ text. IsExtent (source_tables sources.now) report.now text.items) }
+{
+    let mut text = Vec::new(alloc);
+    append_extent(alloc, &mut text, sources, report, coverage)?;
     Ok(text)
 }
 
@@ -57,13 +125,11 @@ fn extent_text(
     alloc: Global,
     sources: &ExploredSources<'_>,
     report: &Report,
-) -> Result<Vec<u8>, AllocError> {
-    let mut text = Vec::new(alloc);
-    say_all_unsaid(alloc, &mut text, sources, report)?;
-    say_extent(alloc, &mut text, report)?;
-    say_coverage(alloc, &mut text, sources, &report.coverage)?;
-    say_varieties(alloc, &mut text, sources, report)?;
-    Ok(text)
+) -> Result<Vec<u8>, AllocError>
+    ensures { IfOk result (λ text. IsExtent (source_tables sources.now) report.now text.items) }
+{
+    let coverage = coverage_text(alloc, sources, report)?;
+    extent_by(alloc, sources, report, &coverage)
 }
 
 /// What is printed of a report: its findings, what is claimed or why the search ended, and what the search saw.
@@ -71,10 +137,11 @@ fn report_text(
     alloc: Global,
     sources: &ExploredSources<'_>,
     report: &Report,
+    seen: &[Seen],
 ) -> Result<Vec<u8>, AllocError>
-    ensures { IfOk result (λ text. IsReportText (claim_tables sources.now.claim) report.now text.items) }
+    ensures { IfOk result (λ text. IsReportText (source_tables sources.now) report.now seen.now text.items) }
 {
-    let mut text = findings_text(alloc, sources, &report.findings)?;
+    let mut text = findings_text(alloc, sources, &report.findings, seen)?;
     append_ending(alloc, &sources.claim, report, &mut text)?;
     let extent = extent_text(alloc, sources, report)?;
     text.extend_from_slice(&extent)?;
@@ -86,11 +153,11 @@ fn report_records(
     alloc: Global,
     sources: &ExploredSources<'_>,
     report: &Report,
+    seen: &[Seen],
 ) -> Result<Vec<u8>, AllocError>
-    ensures { IfOk result (λ text. IsReportRecords sources.now.named.strict (claim_tables sources.now.claim)
-        report.now text.items) }
+    ensures { IfOk result (λ text. IsReportRecords (source_tables sources.now) report.now seen.now text.items) }
 {
-    let mut text = found_records(alloc, sources, &report.findings)?;
+    let mut text = found_records(alloc, sources, &report.findings, seen)?;
     let between = coverage_records(alloc, sources, report)?;
     text.extend_from_slice(&between)?;
     let end = end_record(alloc, sources, report)?;
@@ -103,13 +170,14 @@ fn report_in(
     alloc: Global,
     sources: &ExploredSources<'_>,
     report: &Report,
+    seen: &[Seen],
 ) -> Result<Vec<u8>, AllocError>
-    ensures { IfOk result (λ text. IsReportIn sources.now.named.form sources.now.named.strict
-        (claim_tables sources.now.claim) report.now text.items) }
+    ensures { IfOk result (λ text.
+        IsReportIn sources.now.named.form (source_tables sources.now) report.now seen.now text.items) }
 {
     match sources.named.form {
-        Form::Text => report_text(alloc, sources, report),
-        Form::Json => report_records(alloc, sources, report),
+        Form::Text => report_text(alloc, sources, report, seen),
+        Form::Json => report_records(alloc, sources, report, seen),
     }
 }
 
@@ -133,72 +201,64 @@ fn steps_texts(alloc: Global, findings: &[Finding]) -> Result<Vec<Vec<u8>>, Allo
     Ok(texts)
 }
 
-/// A report of tests by what is seen of the findings.
-fn tests_by(
-    alloc: Global,
-    sources: &ExploredSources<'_>,
-    report: &Report,
-    seen: Vec<Seen>,
-) -> Result<Vec<u8>, AllocError>
-    ensures { IfOk result (λ out.
-        IsTestReport sources.now.named.strict sources.now.claim.question.now report.now seen.items
-        out.items) }
-{
-    let searched = Searched {
-        question: sources.claim.question,
-        report,
-        seen: &seen,
-    };
-    search_report(alloc, sources, searched)
-}
-
-/// A report of tests.
-fn tests_of(
-    alloc: Global,
-    sources: &ExploredSources<'_>,
-    report: &Report,
-) -> Result<Vec<u8>, AllocError>
-    ensures { IfOk result (λ out.
-        HasTestReport sources.now.named.strict sources.now.claim.question.now report.now out.items) }
-{
-    let seen = all_seen(alloc, sources, &report.findings)?;
-    tests_by(alloc, sources, report, seen)
-}
-
-/// A report of tests, if one is asked for.
+/// A report of tests by what is seen of the findings, if one is asked for.
 fn tests_asked(
     alloc: Global,
     sources: &ExploredSources<'_>,
     report: &Report,
+    seen: &[Seen],
 ) -> Result<Option<Vec<u8>>, AllocError>
-    ensures { IfOk result (λ asked. IfSome asked
-        (λ out. HasTestReport sources.now.named.strict sources.now.claim.question.now report.now out.items)) }
+    requires { sources.now.sentences.sections + length sources.now.sentences.expected.now < 2 ^ 64 }
+    ensures report { IfOk result (λ asked. IfSome asked
+        (λ out. IsTestReport (source_tables sources.now) report.now seen.now out.items)) }
+    ensures asked { IfOk result (λ asked. is_some asked ≡ sources.now.named.report) }
 {
     if !sources.named.report {
         return Ok(None);
     }
-    match tests_of(alloc, sources, report) {
+    let searched = Searched {
+        question: sources.claim.question,
+        report,
+        seen,
+    };
+    match search_report(alloc, sources, searched) {
         Ok(out) => Ok(Some(out)),
         Err(error) => Err(error),
     }
 }
 
-/// What is printed of a report, its steps texts, and the status.
+/// What is printed of a report, its steps texts, a report of tests if one is asked for, and the status, by what is seen
+/// of its findings.
+fn explored_by(
+    alloc: Global,
+    sources: &ExploredSources<'_>,
+    report: &Report,
+    seen: &[Seen],
+) -> Result<Explored, AllocError>
+    requires places { sources.now.sentences.sections + length sources.now.sentences.expected.now < 2 ^ 64 }
+    requires seen { AreSeen (source_tables sources.now) report.now.findings.items seen.now }
+    ensures { IfOk result (Tells (source_tables sources.now) report.now) }
+{
+    let unsaid = counts_unsaid(sources.named.strict, sources.claim.question, report);
+    Ok(Explored {
+        text: report_in(alloc, sources, report, seen)?,
+        steps: steps_texts(alloc, &report.findings)?,
+        report: tests_asked(alloc, sources, report, seen)?,
+        status: status_of(unsaid, report),
+    })
+}
+
+/// The same of a report.
 fn explored_report(
     alloc: Global,
     sources: &ExploredSources<'_>,
     report: &Report,
 ) -> Result<Explored, AllocError>
-    ensures { IfOk result (Tells sources.now.named.form sources.now.named.strict (claim_tables sources.now.claim)
-        report.now) }
+    requires { sources.now.sentences.sections + length sources.now.sentences.expected.now < 2 ^ 64 }
+    ensures { IfOk result (Tells (source_tables sources.now) report.now) }
 {
-    let unsaid = counts_unsaid(sources.named.strict, sources.claim.question, report);
-    Ok(Explored {
-        text: report_in(alloc, sources, report)?,
-        steps: steps_texts(alloc, &report.findings)?,
-        report: tests_asked(alloc, sources, report)?,
-        status: status_of(unsaid, report),
-    })
+    let seen = all_seen(alloc, sources, &report.findings)?;
+    explored_by(alloc, sources, report, &seen)
 }
 
 /// What a search comes to, by this many threads.
@@ -230,8 +290,8 @@ pub fn explored_image<W: SearchWatcher, R: Threads + Sync>(
     sources: &ExploredSources<'_>,
     watcher: &mut W,
 ) -> Result<Explored, AllocError>
-    ensures { IfOk result (IsExplored sources.now.named.form sources.now.named.strict
-        (claim_tables sources.now.claim)) }
+    requires { sources.now.sentences.sections + length sources.now.sentences.expected.now < 2 ^ 64 }
+    ensures { IfOk result (IsExplored (source_tables sources.now)) }
 {
     let report = searched(alloc, rt, jobs, &sources.claim, watcher)?;
     let explored = explored_report(alloc, sources, &report);

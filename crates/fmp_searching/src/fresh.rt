@@ -1,6 +1,6 @@
 //! The kernel of an image after setup.
-ghost use Rattle.std.specs.Prelude.{IfOk};
-ghost use Rattle.fmp_searching.specs.Fresh.{IsFresh};
+ghost use Rattle.std.specs.Prelude.{IfOk, []};
+ghost use Rattle.fmp_searching.specs.Fresh.{HasSeen};
 
 use fmp_code::Vm;
 use fmp_image_bytes::Image;
@@ -15,7 +15,7 @@ pub fn fresh_kernel<'a>(
     image: &'a Image,
     n: u64,
 ) -> Result<Kernel<Vm<'a>>, AllocError>
-    ensures { IfOk result (λ kernel. IsFresh image.now n kernel) }
+    ensures { IfOk result (λ kernel. HasSeen image.now n [] kernel) }
 {
     kernel_of(alloc, image, n)
 }

@@ -2,7 +2,7 @@
 ghost use Rattle.std.specs.Prelude.{◌≡◌, ◌==◌, IfOk, map, slice_get};
 ghost use Rattle.std.specs.List.{list_any};
 ghost use Rattle.fmp_json.specs.Junit.{is_error, is_failure};
-ghost use Rattle.fmp_searching.specs.Seen.{is_broken, is_placed, is_same};
+ghost use Rattle.fmp_searching.specs.Seen.{is_broken, is_broken_call_sentence, is_same};
 ghost use Rattle.fmp_searching.specs.Tests as spec;
 
 use crate::end_records::without_feed;
@@ -69,7 +69,7 @@ fn is_same(one: SeenKind, other: SeenKind) -> bool
         (SeenKind::Fault, SeenKind::Fault) => true,
         (SeenKind::Alone(place), SeenKind::Alone(other)) => place == other,
         (SeenKind::Sentence(place), SeenKind::Sentence(other)) => place == other,
-        (SeenKind::Placed(place), SeenKind::Placed(other)) => place == other,
+        (SeenKind::CallSentence(place), SeenKind::CallSentence(other)) => place == other,
         (SeenKind::Deadlock, SeenKind::Deadlock) => true,
         (SeenKind::Endless, SeenKind::Endless) => true,
         (SeenKind::Stuck, SeenKind::Stuck) => true,
@@ -90,11 +90,11 @@ fn is_among(place: usize, places: &[usize]) -> bool
 }
 
 /// Whether one of these places is that of a sentence about calls which is asked.
-fn is_placed(asked: SeenKind, broken: &[usize]) -> bool
-    ensures { result ≡ is_placed asked broken.now }
+fn is_broken_call_sentence(asked: SeenKind, broken: &[usize]) -> bool
+    ensures { result ≡ is_broken_call_sentence asked broken.now }
 {
     match asked {
-        SeenKind::Placed(place) => is_among(place, broken),
+        SeenKind::CallSentence(place) => is_among(place, broken),
         _ => false,
     }
 }
@@ -103,7 +103,7 @@ fn is_placed(asked: SeenKind, broken: &[usize]) -> bool
 fn is_broken(asked: SeenKind, seen: &Seen) -> bool
     ensures { result ≡ is_broken asked seen.now }
 {
-    is_same(asked, seen.kind) || is_placed(asked, &seen.placed)
+    is_same(asked, seen.kind) || is_broken_call_sentence(asked, &seen.call_sentences)
 }
 
 /// The first finding that breaks what is asked.
@@ -156,7 +156,7 @@ fn is_unsaid_kind(asked: SeenKind, question: &Question, report: &Report) -> bool
     match asked {
         SeenKind::Alone(place) | SeenKind::Sentence(place) => is_unsaid_at(question, report, place),
         SeenKind::Never
-        | SeenKind::Placed(_)
+        | SeenKind::CallSentence(_)
         | SeenKind::Fault
         | SeenKind::Deadlock
         | SeenKind::Endless
@@ -190,7 +190,7 @@ fn broken_message(
     seen: &Seen,
 ) -> Result<String, AllocError> {
     let mut text = Vec::new(alloc);
-    say_seen(alloc, &mut text, sources, finding, seen)?;
+    say_seen(&mut text, sources, finding, seen)?;
     String::from_utf8_lossy(alloc, &text)
 }
 
@@ -283,8 +283,9 @@ pub fn judged(
     searched: Searched<'_>,
     asked: &AskedTest,
 ) -> Result<JudgedTest, AllocError>
-    ensures { IfOk result (λ t. t.outcome ≡ spec.outcome_of sources.now.named.strict searched.entry.question.now
-        searched.entry.report.now searched.entry.seen.now t.kind) }
+    ensures outcome { IfOk result (λ t. t.outcome ≡ spec.outcome_of sources.now.named.strict
+        searched.entry.question.now searched.entry.report.now searched.entry.seen.now t.kind) }
+    ensures kind { IfOk result (λ t. t.kind ≡ asked.now.kind) }
 {
     let outcome = outcome_of(sources.named.strict, searched, asked.kind);
     let line = broken_line(sources, searched, outcome);

@@ -1,11 +1,14 @@
 //! The names of fields, in the words of the two texts.
-ghost use Rattle.std.specs.Prelude.{◌≡◌};
+ghost use Rattle.std.specs.Prelude.{◌≡◌, ◌++◌, OnOk, Some, decimal, slice_get};
+ghost use Rattle.fmp_base.specs.Systems.{tables_of};
+ghost use Rattle.fmp_searching.specs.FieldNames as spec;
 ghost use Rattle.fmp_searching.specs.Fields.{counts_queued};
 
 use crate::sites::begins_body;
-use fmp_base::{Entry, Name, System};
+use fmp_base::{Entry, Name, System, TaskConfig};
 use fmp_fields::What;
 use fmp_lex::{Keyword, Symbol, TextFault, TokenKind, Tokens, tokens};
+use itoa::Buffer;
 use std::alloc::{AllocError, Global};
 
 /// A place among the locals of a body: the name of its variable, and its index where that is an array.
@@ -52,6 +55,9 @@ fn add_variable(
 }
 
 impl LocalNames {
+    ghost use Rattle.std.specs.Prelude.{◌≡◌};
+    ghost use Rattle.fmp_searching.specs.FieldNames.{local_at};
+
     /// Adds what the token at a place tells.
     fn note(&mut self, alloc: Global, list: &Tokens<'_>, at: usize) -> Result<(), AllocError> {
         let Some(kind) = list.kind(at) else {
@@ -86,7 +92,9 @@ impl LocalNames {
     }
 
     /// The local at a place of a body, but `exinf`.
-    fn local(&self, entry: Entry, place: u8) -> Option<LocalPlace> {
+    fn local(&self, entry: Entry, place: u8) -> Option<LocalPlace>
+        ensures { result ≡ local_at self.now entry place }
+    {
         let Entry::Body(body) = entry else {
             return None;
         };
@@ -96,51 +104,68 @@ impl LocalNames {
 }
 
 /// Appends text.
-fn say(out: &mut Vec<u8>, text: &str) -> Result<(), AllocError> {
+fn say(out: &mut Vec<u8>, text: &str) -> Result<(), AllocError>
+    ensures { OnOk result (out.new.items ≡ out.old.items ++ text.now) }
+{
     out.extend_from_slice(text.as_bytes())
 }
 
-/// Appends the name of an object, if it is there, and what is meant of it.
-fn say_of(out: &mut Vec<u8>, name: Option<Name>, what: &str) -> Result<(), AllocError> {
+/// Appends a name and a blank, if there is a name.
+fn say_before(out: &mut Vec<u8>, name: Option<Name>) -> Result<(), AllocError>
+    ensures { OnOk result (out.new.items ≡ out.old.items ++ spec.before name) }
+{
     if let Some(name) = name {
         out.extend_from_slice(name.as_bytes())?;
         say(out, " ")?;
     }
-    say(out, what)
+    Ok(())
+}
+
+/// Appends a number.
+fn say_number(out: &mut Vec<u8>, number: u16) -> Result<(), AllocError>
+    ensures { OnOk result (out.new.items ≡ out.old.items ++ decimal number) }
+{
+    say(out, Buffer::new().format(number))
 }
 
 /// Appends a text and the number, from 1, of what stands at a place.
-fn say_numbered(alloc: Global, out: &mut Vec<u8>, text: &str, place: u8) -> Result<(), AllocError> {
+#[tactic(auto, unfolding(crate::specs::FieldNames::numbered_text))]
+fn say_numbered(out: &mut Vec<u8>, text: &str, place: u8) -> Result<(), AllocError>
+    ensures { OnOk result (out.new.items ≡ out.old.items ++ spec.numbered_text text.now place) }
+{
     say(out, text)?;
-    let number = u16::from(place) + 1;
-    say(out, format!(in alloc; "{number}")?.as_str())
+    say_number(out, u16::from(place) + 1)
 }
 
-/// Appends the name of a local of the body of this entry.
-fn say_local(
-    alloc: Global,
-    out: &mut Vec<u8>,
-    names: &LocalNames,
-    entry: Entry,
-    place: u8,
-) -> Result<(), AllocError> {
-    match names.local(entry, place) {
-        Some(LocalPlace { name, index: None }) => out.extend_from_slice(name.as_bytes()),
-        Some(
-            LocalPlace {
-                name,
-                index: Some(index),
-            },
-        ) => {
+/// Appends the index of a local, where it is of an array.
+fn say_index(out: &mut Vec<u8>, index: Option<u8>) -> Result<(), AllocError>
+    ensures { OnOk result (out.new.items ≡ out.old.items ++ spec.index_text index) }
+{
+    let Some(index) = index else {
+        return Ok(());
+    };
+    say(out, "[")?;
+    say_number(out, u16::from(index))?;
+    say(out, "]")
+}
+
+/// Appends the name of a local of a body.
+fn say_local(out: &mut Vec<u8>, local: Option<LocalPlace>) -> Result<(), AllocError>
+    ensures { OnOk result (out.new.items ≡ out.old.items ++ spec.local_name local) }
+{
+    match local {
+        Some(LocalPlace { name, index }) => {
             out.extend_from_slice(name.as_bytes())?;
-            say(out, format!(in alloc; "[{index}]")?.as_str())
+            say_index(out, index)
         }
         None => say(out, "exinf"),
     }
 }
 
 /// What a field of a task is. Most have two words at least, so that none is the name of a local.
-fn task_field(what: What) -> &'static str {
+fn task_word(what: What) -> &'static str
+    ensures { result.now ≡ spec.task_word what }
+{
     match what {
         What::Phase(_) => "task state",
         What::Object(_) => "object of its wait",
@@ -158,33 +183,57 @@ fn task_field(what: What) -> &'static str {
     }
 }
 
+/// Appends what is meant of a task with this entry.
+fn say_task_meant(
+    out: &mut Vec<u8>,
+    names: &LocalNames,
+    entry: Entry,
+    what: What,
+) -> Result<(), AllocError>
+    ensures { OnOk result (out.new.items ≡ out.old.items ++ spec.task_meant names.now entry what) }
+{
+    match what {
+        What::Local(_, place) => say_local(out, names.local(entry, place)),
+        What::Operand(_, place) => say_numbered(out, "operand ", place),
+        _ => say(out, task_word(what)),
+    }
+}
+
 /// Appends the name of a field of a task.
+fn say_field_of(
+    out: &mut Vec<u8>,
+    config: &TaskConfig,
+    names: &LocalNames,
+    what: What,
+) -> Result<(), AllocError>
+    ensures { OnOk result (out.new.items
+        ≡ out.old.items ++ spec.task_field names.now (Some config.now) what) }
+{
+    say_before(out, Some(config.name))?;
+    say_task_meant(out, names, config.entry, what)
+}
+
+/// Appends the name of a field of the task at a place, if there is one.
 fn say_task_field(
-    alloc: Global,
     out: &mut Vec<u8>,
     sys: &System,
     names: &LocalNames,
     t: u8,
     what: What,
-) -> Result<(), AllocError> {
-    let Some(config) = sys.tasks.get(usize::from(t)).copied() else {
-        return say(out, "task");
-    };
-    match what {
-        What::Local(_, place) => {
-            say_of(out, Some(config.name), "")?;
-            say_local(alloc, out, names, config.entry, place)
-        }
-        What::Operand(_, place) => {
-            say_of(out, Some(config.name), "")?;
-            say_numbered(alloc, out, "operand ", place)
-        }
-        _ => say_of(out, Some(config.name), task_field(what)),
+) -> Result<(), AllocError>
+    ensures { OnOk result (out.new.items
+        ≡ out.old.items ++ spec.task_field names.now (slice_get (tables_of sys.now).tasks t) what) }
+{
+    match sys.tasks.get(usize::from(t)) {
+        Some(config) => say_field_of(out, config, names, what),
+        None => say(out, "task"),
     }
 }
 
 /// What a field of a processor is.
-fn processor_field(what: What) -> &'static str {
+fn processor_word(what: What) -> &'static str
+    ensures { result.now ≡ spec.processor_word what }
+{
     match what {
         What::Runs(_) => "task",
         What::Lock(_) => "lock",
@@ -196,30 +245,37 @@ fn processor_field(what: What) -> &'static str {
     }
 }
 
-/// Appends the name of a field of a processor.
-fn say_processor_field(
-    alloc: Global,
-    out: &mut Vec<u8>,
-    processor: u8,
-    what: What,
-) -> Result<(), AllocError> {
-    say_numbered(alloc, out, "processor ", processor)?;
-    say(out, " ")?;
+/// Appends what is meant of a processor.
+fn say_processor_meant(out: &mut Vec<u8>, what: What) -> Result<(), AllocError>
+    ensures { OnOk result (out.new.items ≡ out.old.items ++ spec.processor_meant what) }
+{
     match what {
         What::HandlerLocal(_, place) => {
-            say_numbered(alloc, out, "local ", place)?;
+            say_numbered(out, "local ", place)?;
             say(out, " of its handler")
         }
         What::HandlerOperand(_, place) => {
-            say_numbered(alloc, out, "operand ", place)?;
+            say_numbered(out, "operand ", place)?;
             say(out, " of its handler")
         }
-        _ => say(out, processor_field(what)),
+        _ => say(out, processor_word(what)),
     }
 }
 
+/// Appends the name of a field of a processor.
+#[tactic(auto, unfolding(crate::specs::FieldNames::processor_field))]
+fn say_processor_field(out: &mut Vec<u8>, processor: u8, what: What) -> Result<(), AllocError>
+    ensures { OnOk result (out.new.items ≡ out.old.items ++ spec.processor_field processor what) }
+{
+    say_numbered(out, "processor ", processor)?;
+    say(out, " ")?;
+    say_processor_meant(out, what)
+}
+
 /// The name of the object that a field is of, if it is one of an object.
-fn object_name(sys: &System, what: What) -> Option<Name> {
+fn object_name(sys: &System, what: What) -> Option<Name>
+    ensures { result ≡ spec.object_name (tables_of sys.now) what }
+{
     match what {
         What::Count(s) => Some(sys.semaphores.get(usize::from(s))?.name),
         What::Pattern(f) => Some(sys.flags.get(usize::from(f))?.name),
@@ -235,7 +291,9 @@ fn object_name(sys: &System, what: What) -> Option<Name> {
 }
 
 /// What a field of an object is, or how many interrupts came.
-fn object_field(what: What) -> &'static str {
+fn object_word(what: What) -> &'static str
+    ensures { result.now ≡ spec.object_word what }
+{
     match what {
         What::Count(_) => "count",
         What::Pattern(_) => "pattern",
@@ -249,25 +307,31 @@ fn object_field(what: What) -> &'static str {
     }
 }
 
-/// Appends the name of a field that is neither of a task nor of a processor.
-fn say_object_field(
-    alloc: Global,
-    out: &mut Vec<u8>,
-    sys: &System,
-    what: What,
-) -> Result<(), AllocError> {
+/// Appends what is meant of an object.
+fn say_object_meant(out: &mut Vec<u8>, what: What) -> Result<(), AllocError>
+    ensures { OnOk result (out.new.items ≡ out.old.items ++ spec.object_meant what) }
+{
     match what {
-        What::PendingInterrupt(place) => say_numbered(alloc, out, "pending interrupt ", place),
-        What::Word(_, place) => {
-            say_of(out, object_name(sys, what), "")?;
-            say_numbered(alloc, out, "word ", place)
-        }
-        _ => say_of(out, object_name(sys, what), object_field(what)),
+        What::Word(_, place) => say_numbered(out, "word ", place),
+        _ => say(out, object_word(what)),
     }
 }
 
+/// Appends the name of a field that is neither of a task nor of a processor.
+fn say_object_field(out: &mut Vec<u8>, sys: &System, what: What) -> Result<(), AllocError>
+    ensures { OnOk result (out.new.items ≡ out.old.items ++ spec.object_field (tables_of sys.now) what) }
+{
+    if let What::PendingInterrupt(place) = what {
+        return say_numbered(out, "pending interrupt ", place);
+    }
+    say_before(out, object_name(sys, what))?;
+    say_object_meant(out, what)
+}
+
 /// The task that a field is of, if it is one of a task.
-fn task_of(what: What) -> Option<u8> {
+fn task_of(what: What) -> Option<u8>
+    ensures { result ≡ spec.task_of what }
+{
     match what {
         What::Phase(t)
         | What::Object(t)
@@ -289,7 +353,9 @@ fn task_of(what: What) -> Option<u8> {
 }
 
 /// The processor that a field is of, if it is one of a processor.
-fn processor_of(what: What) -> Option<u8> {
+fn processor_of(what: What) -> Option<u8>
+    ensures { result ≡ spec.processor_of what }
+{
     match what {
         What::Runs(p)
         | What::Lock(p)
@@ -314,19 +380,28 @@ pub fn is_queue(what: What) -> bool
     }
 }
 
+/// Appends the name of a field that is not one of a task.
+fn say_other_field(out: &mut Vec<u8>, sys: &System, what: What) -> Result<(), AllocError>
+    ensures { OnOk result (out.new.items
+        ≡ out.old.items ++ spec.other_field (tables_of sys.now) (spec.processor_of what) what) }
+{
+    match processor_of(what) {
+        Some(p) => say_processor_field(out, p, what),
+        None => say_object_field(out, sys, what),
+    }
+}
+
 /// Appends the name of a field in the words of the two texts, as `CONTROL samples`. `AllocError` if memory runs out.
 pub fn append_name(
-    alloc: Global,
     out: &mut Vec<u8>,
     sys: &System,
     names: &LocalNames,
     what: What,
-) -> Result<(), AllocError> {
-    if let Some(t) = task_of(what) {
-        return say_task_field(alloc, out, sys, names, t, what);
-    }
-    match processor_of(what) {
-        Some(p) => say_processor_field(alloc, out, p, what),
-        None => say_object_field(alloc, out, sys, what),
+) -> Result<(), AllocError>
+    ensures { OnOk result (out.new.items ≡ out.old.items ++ spec.field_name (tables_of sys.now) names.now what) }
+{
+    match task_of(what) {
+        Some(t) => say_task_field(out, sys, names, t, what),
+        None => say_other_field(out, sys, what),
     }
 }

@@ -1,6 +1,6 @@
 //! The bytes of files.
 ghost use Rattle.std.specs.Prelude.{IfOk, option_map};
-ghost use Rattle.fmp_searching.specs.Claimed.{IsFile, IsSaid};
+ghost use Rattle.fmp_searching.specs.Claimed.{IsFile, IsNamedFile, IsSaid};
 
 use crate::sources::Exploring;
 use fmp_files::{Failure, Outside, read_file};
@@ -21,7 +21,9 @@ pub fn read_both<O: Outside>(
 }
 
 /// The bytes of a file; none where it has no name.
-pub fn read_named<O: Outside>(alloc: Global, outside: &O, name: &str) -> Result<Vec<u8>, Failure> {
+pub fn read_named<O: Outside>(alloc: Global, outside: &O, name: &str) -> Result<Vec<u8>, Failure>
+    ensures { IfOk result (λ bytes. IsNamedFile (O.files outside.now) name.now bytes.items) }
+{
     if name.is_empty() {
         return Ok(Vec::new(alloc));
     }

@@ -1,10 +1,14 @@
 //! What a search came to, for other programs: objects of JSON, one in a line.
-ghost use Rattle.std.specs.Prelude.{◌≡◌, ◌++◌, [], IfOk, OnOk, length, map, string_bytes};
-ghost use Rattle.std.specs.List.{flat_map};
+ghost use Rattle.std.specs.Prelude.{◌≡◌, ◌++◌, IfOk, OnOk, option_and_then, option_map, slice_get, string_bytes};
+ghost use Rattle.fmp_searching.specs.Lines.{numbered};
+ghost use Rattle.fmp_searching.specs.Members as members;
 ghost use Rattle.fmp_searching.specs.Records as spec;
+ghost use Rattle.fmp_searching.specs.Sources.{source_tables};
+ghost use Rattle.fmp_searching.specs.declared.seen.SeenKind.TheVariants as kind;
 
-use crate::seen::{Seen, SeenKind, seen_of};
+use crate::seen::{Seen, SeenKind};
 use crate::sources::ExploredSources;
+use crate::steps_files::steps_name_of;
 use fmp_explore::{CallSite, Finding};
 use fmp_frames::CallPosition;
 use fmp_json::{begin, finish, number_member, text_member};
@@ -36,18 +40,11 @@ pub struct FoundRecord {
     pub steps_file: String,
 }
 
-/// The line of the head of a body.
-fn head_of(sources: &ExploredSources<'_>, site: CallSite) -> Option<u64> {
-    match sources.claim.lines.head(site.body) {
-        Some(line) => Some(u64::from(line)),
-        None => None,
-    }
-}
-
-/// Where a call stands.
-pub fn call_position(sources: &ExploredSources<'_>, site: CallSite) -> RecordPosition {
-    let code = sources.claim.image.code();
-    match sources.positions.position(code, site.body, site.pc) {
+/// Where the call stands that has this position, as far as that is known.
+fn known_position(position: Option<CallPosition>) -> RecordPosition
+    ensures { result ≡ members.known_position position }
+{
+    match position {
         Some(CallPosition { line, column }) => RecordPosition {
             line: Some(u64::from(line)),
             column: Some(column as u64),
@@ -59,31 +56,61 @@ pub fn call_position(sources: &ExploredSources<'_>, site: CallSite) -> RecordPos
     }
 }
 
+/// Where a call stands.
+pub fn call_position(sources: &ExploredSources<'_>, site: CallSite) -> RecordPosition
+    ensures { result ≡ members.call_position (source_tables sources.now) site }
+{
+    let code = sources.claim.image.code();
+    known_position(sources.positions.position(code, site.body, site.pc))
+}
+
+/// Where the head of a body stands.
+fn head_position(sources: &ExploredSources<'_>, site: CallSite) -> RecordPosition
+    ensures { result ≡ spec.record_position (source_tables sources.now) kind.Endless site }
+{
+    let line = match sources.claim.lines.head(site.body) {
+        Some(line) => Some(u64::from(line)),
+        None => None,
+    };
+    RecordPosition { line, column: None }
+}
+
 /// Where the call of a finding stands; of a body that goes on for ever its head.
-pub fn position_of(
-    sources: &ExploredSources<'_>,
-    kind: SeenKind,
-    site: CallSite,
-) -> RecordPosition {
+pub fn position_of(sources: &ExploredSources<'_>, kind: SeenKind, site: CallSite) -> RecordPosition
+    ensures { result ≡ spec.record_position (source_tables sources.now) kind site }
+{
     match kind {
-        SeenKind::Endless => RecordPosition {
-            line: head_of(sources, site),
-            column: None,
-        },
+        SeenKind::Endless => head_position(sources, site),
         _ => call_position(sources, site),
     }
 }
 
+/// The line of the first of these sentences about calls.
+fn first_line(sources: &ExploredSources<'_>, call_sentences: &[usize]) -> Option<u64>
+    ensures { result ≡ option_and_then (λ place. option_map (λ x. x.line)
+        (slice_get (source_tables sources.now).call_sentences place)) (slice_get call_sentences.now 0) }
+{
+    sources
+        .sentences
+        .call_sentence_line(*call_sentences.get(0)?)
+}
+
 /// The line of the sentence that is broken, if one is.
-fn sentence_of(sources: &ExploredSources<'_>, seen: &Seen) -> Option<u64> {
+fn sentence_line(sources: &ExploredSources<'_>, seen: &Seen) -> Option<u64>
+    ensures { result ≡ spec.sentence_line (source_tables sources.now) seen.now.kind
+        seen.now.call_sentences.items }
+{
     match seen.kind {
         SeenKind::Sentence(place) => sources.sentences.line(place),
-        _ => sources.sentences.placed_line(*seen.placed.first()?),
+        _ => first_line(sources, &seen.call_sentences),
     }
 }
 
 /// Where the call of a finding stands, if it belongs to one.
-fn seen_position(sources: &ExploredSources<'_>, seen: &Seen) -> Option<RecordPosition> {
+fn seen_position(sources: &ExploredSources<'_>, seen: &Seen) -> Option<RecordPosition>
+    ensures { result ≡ option_map
+        (λ site. spec.record_position (source_tables sources.now) seen.now.kind site) seen.now.site }
+{
     match seen.site {
         Some(site) => Some(position_of(sources, seen.kind, site)),
         None => None,
@@ -94,40 +121,22 @@ fn seen_position(sources: &ExploredSources<'_>, seen: &Seen) -> Option<RecordPos
 fn found_of(
     alloc: Global,
     sources: &ExploredSources<'_>,
-    finding: &Finding,
     number: usize,
+    finding: &Finding,
+    seen: &Seen,
 ) -> Result<FoundRecord, AllocError>
-    ensures { IfOk result (λ found. found.steps ≡ length finding.now.steps.items) }
+    ensures { IfOk result (λ found. spec.found_record found
+        ≡ spec.finding_record (source_tables sources.now) number finding.now seen.now) }
 {
-    let seen: Seen = seen_of(alloc, sources, finding)?;
-    let name = sources.named.out;
     Ok(FoundRecord {
         number,
         kind: seen.kind,
-        sentence: sentence_of(sources, &seen),
-        position: seen_position(sources, &seen),
+        sentence: sentence_line(sources, seen),
+        position: seen_position(sources, seen),
         text: String::from_utf8_lossy(alloc, &seen.text)?,
         steps: finding.steps.len(),
-        steps_file: format!(in alloc; "{name}.{number}")?,
+        steps_file: steps_name_of(alloc, sources.named.out, number)?,
     })
-}
-
-/// Findings with their texts, in their order.
-fn all_found(
-    alloc: Global,
-    sources: &ExploredSources<'_>,
-    findings: &[Finding],
-) -> Result<Vec<FoundRecord>, AllocError>
-    ensures { IfOk result (λ all.
-        map (λ f. f.steps) all.items ≡ map (λ f. length f.steps.items) findings.now) }
-{
-    let mut all = Vec::new(alloc);
-    let mut number: usize = 0;
-    for finding in findings {
-        number = number.saturating_add(1);
-        all.push(found_of(alloc, sources, finding, number)?)?;
-    }
-    Ok(all)
 }
 
 /// What a finding breaks, in a word.
@@ -138,7 +147,7 @@ fn kind_word(kind: SeenKind) -> &'static str
         SeenKind::Never => "never",
         SeenKind::Fault => "fault",
         SeenKind::Alone(_) => "alone",
-        SeenKind::Sentence(_) | SeenKind::Placed(_) => "sentence",
+        SeenKind::Sentence(_) | SeenKind::CallSentence(_) => "sentence",
         SeenKind::Deadlock => "deadlock",
         SeenKind::Endless => "endless",
         SeenKind::Stuck => "stuck",
@@ -149,7 +158,7 @@ fn kind_word(kind: SeenKind) -> &'static str
 pub fn write_number(writer: &mut Writer, name: &str, number: Option<u64>) -> Result<(), AllocError>
     ensures before { writer.new.before ≡ writer.old.before }
     ensures tokens { OnOk result (writer.new.tokens
-        ≡ writer.old.tokens ++ spec.number_or_none name.now number) }
+        ≡ writer.old.tokens ++ members.number_or_none name.now number) }
 {
     match number {
         Some(number) => number_member(writer, name, number),
@@ -163,7 +172,7 @@ pub fn write_position(
     position: Option<RecordPosition>,
 ) -> Result<(), AllocError>
     ensures before { writer.new.before ≡ writer.old.before }
-    ensures tokens { OnOk result (writer.new.tokens ≡ writer.old.tokens ++ spec.position_members position) }
+    ensures tokens { OnOk result (writer.new.tokens ≡ writer.old.tokens ++ members.position_members position) }
 {
     let Some(position) = position else {
         return Ok(());
@@ -175,7 +184,8 @@ pub fn write_position(
 /// Writes what a finding breaks.
 fn write_kind(writer: &mut Writer, found: &FoundRecord) -> Result<(), AllocError>
     ensures before { writer.new.before ≡ writer.old.before }
-    ensures tokens { OnOk result (writer.new.tokens ≡ writer.old.tokens ++ spec.kind_members found.now) }
+    ensures tokens { OnOk result (writer.new.tokens ≡ writer.old.tokens
+        ++ spec.kind_members found.now.number found.now.kind found.now.sentence) }
 {
     text_member(writer, "what", "finding")?;
     number_member(writer, "number", found.number as u64)?;
@@ -186,7 +196,9 @@ fn write_kind(writer: &mut Writer, found: &FoundRecord) -> Result<(), AllocError
 /// Writes what is seen of a finding, how many steps lead there, and where these are.
 fn write_seen(writer: &mut Writer, found: &FoundRecord) -> Result<(), AllocError>
     ensures before { writer.new.before ≡ writer.old.before }
-    ensures tokens { OnOk result (writer.new.tokens ≡ writer.old.tokens ++ spec.seen_members found.now) }
+    ensures tokens { OnOk result (writer.new.tokens ≡ writer.old.tokens
+        ++ spec.seen_members (string_bytes found.now.text) found.now.steps
+        (string_bytes found.now.steps_file)) }
 {
     text_member(writer, "text", found.text.as_str())?;
     number_member(writer, "steps", found.steps as u64)?;
@@ -204,35 +216,40 @@ fn found_record(alloc: Global, found: &FoundRecord) -> Result<Vec<u8>, AllocErro
     finish(writer)
 }
 
-/// Appends a finding as an object of JSON.
-fn append_found(alloc: Global, found: &FoundRecord, out: &mut Vec<u8>) -> Result<(), AllocError>
-    ensures { OnOk result (out.new.items ≡ out.old.items ++ spec.found_record found.now) }
+/// Appends a finding of this number as an object of JSON.
+fn append_finding(
+    alloc: Global,
+    sources: &ExploredSources<'_>,
+    number: usize,
+    finding: &Finding,
+    seen: &Seen,
+    out: &mut Vec<u8>,
+) -> Result<(), AllocError>
+    ensures { OnOk result (out.new.items
+        ≡ out.old.items ++ spec.finding_record (source_tables sources.now) number finding.now seen.now) }
 {
-    let record = found_record(alloc, found)?;
+    let found = found_of(alloc, sources, number, finding, seen)?;
+    let record = found_record(alloc, &found)?;
     out.extend_from_slice(&record)
 }
 
-/// Appends findings as objects of JSON, in their order.
-fn append_all_found(alloc: Global, all: &[FoundRecord], out: &mut Vec<u8>) -> Result<(), AllocError>
-    ensures { OnOk result (out.new.items
-        ≡ out.old.items ++ flat_map (λ f. spec.found_record f) all.now) }
-{
-    for found in all {
-        append_found(alloc, found, out)?;
-    }
-    Ok(())
-}
-
-/// The findings of a search as objects of JSON, one in a line, in their order. `AllocError` if memory runs out.
+/// The findings of a search, of which this is seen, as objects of JSON, one in a line, in their order. `AllocError` if
+/// memory runs out.
+#[tactic(auto, using(crate::proofs::SeenLists::numbered_at))]
 pub fn found_records(
     alloc: Global,
     sources: &ExploredSources<'_>,
     findings: &[Finding],
+    seen: &[Seen],
 ) -> Result<Vec<u8>, AllocError>
-    ensures { IfOk result (λ text. spec.AreFoundRecords findings.now text.items) }
+    ensures { IfOk result (λ text. text.items
+        ≡ numbered (λ number f x. spec.finding_record (source_tables sources.now) number f x) 1 findings.now
+        seen.now) }
 {
-    let all = all_found(alloc, sources, findings)?;
     let mut out = Vec::new(alloc);
-    append_all_found(alloc, &all, &mut out)?;
+    let count = findings.len().min(seen.len());
+    for i in 0..count {
+        append_finding(alloc, sources, i + 1, &findings[i], &seen[i], &mut out)?;
+    }
     Ok(out)
 }

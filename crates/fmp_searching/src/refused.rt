@@ -1,4 +1,9 @@
 //! The calls that are refused in the states that a search saw.
+ghost use Rattle.std.specs.Prelude.{◌≡◌, ◌++◌, IfOk, OnOk, map};
+ghost use Rattle.std.specs.List.{flat_map};
+ghost use Rattle.fmp_frames.specs.Refusals.{refused_calls as refused_by, refused_of};
+ghost use Rattle.fmp_searching.specs.Extent as spec;
+ghost use Rattle.fmp_searching.specs.Sources.{source_tables};
 
 use crate::sources::ExploredSources;
 use fmp_code::Code;
@@ -7,8 +12,8 @@ use fmp_frames::{CallSite, LineForm, RefusedCall, SiteAnswer, append_refused, re
 use fmp_image_bytes::Image;
 use std::alloc::{AllocError, Global};
 
-/// The answers that calls ever got.
-fn answers_of(
+/// The answers that calls ever got. `AllocError` if memory runs out.
+pub fn answers_of(
     alloc: Global,
     code: &Code,
     coverage: &Coverage,
@@ -26,31 +31,64 @@ fn answers_of(
     Ok(answers)
 }
 
-/// The calls that are refused: always, or by a code that says that they are used wrongly.
+/// The calls that are refused, where calls got these answers: always, or by a code that says that they are used
+/// wrongly. `AllocError` if memory runs out.
 pub fn refused_in(
     alloc: Global,
     image: &Image,
-    coverage: &Coverage,
-) -> Result<Vec<RefusedCall>, AllocError> {
+    answers: &[SiteAnswer],
+) -> Result<Vec<RefusedCall>, AllocError>
+    ensures { IfOk result (λ refused. map refused_of refused.items ≡ refused_by image.now.code answers.now) }
+{
     image.keeps_rules();
-    let answers = answers_of(alloc, image.code(), coverage)?;
-    refused_calls(alloc, image.code(), &answers)
+    refused_calls(alloc, image.code(), answers)
 }
 
-/// Appends the calls that are refused, each in a line.
+/// Appends a call that is refused, in a line.
+fn say_one_refused(
+    alloc: Global,
+    out: &mut Vec<u8>,
+    sources: &ExploredSources<'_>,
+    call: &RefusedCall,
+) -> Result<(), AllocError>
+    ensures { OnOk result (out.new.items
+        ≡ out.old.items ++ spec.refused_line (source_tables sources.now) (refused_of call.now)) }
+{
+    let file = sources.named.src.as_bytes();
+    let code = sources.claim.image.code();
+    let position = sources
+        .positions
+        .position(code, call.site.body, call.site.pc);
+    append_refused(alloc, LineForm::Text, file, position, call, out)
+}
+
+/// Appends these calls, which are refused, each in a line.
+fn say_each_refused(
+    alloc: Global,
+    out: &mut Vec<u8>,
+    sources: &ExploredSources<'_>,
+    calls: &[RefusedCall],
+) -> Result<(), AllocError>
+    ensures { OnOk result (out.new.items ≡ out.old.items
+        ++ flat_map (λ x. spec.refused_line (source_tables sources.now) x) (map refused_of calls.now)) }
+{
+    for call in calls {
+        say_one_refused(alloc, out, sources, call)?;
+    }
+    Ok(())
+}
+
+/// Appends the calls that are refused, where calls got these answers, each in a line. `AllocError` if memory runs out.
 pub fn say_refused(
     alloc: Global,
     out: &mut Vec<u8>,
     sources: &ExploredSources<'_>,
-    coverage: &Coverage,
-) -> Result<(), AllocError> {
-    let file = sources.named.src.as_bytes();
-    for call in &refused_in(alloc, sources.claim.image, coverage)? {
-        let code = sources.claim.image.code();
-        let position = sources
-            .positions
-            .position(code, call.site.body, call.site.pc);
-        append_refused(alloc, LineForm::Text, file, position, call, out)?;
-    }
-    Ok(())
+    answers: &[SiteAnswer],
+) -> Result<(), AllocError>
+    ensures { OnOk result (out.new.items ≡ out.old.items
+        ++ flat_map (λ x. spec.refused_line (source_tables sources.now) x)
+        (refused_by (source_tables sources.now).claim.image.code answers.now)) }
+{
+    let calls = refused_in(alloc, sources.claim.image, answers)?;
+    say_each_refused(alloc, out, sources, &calls)
 }

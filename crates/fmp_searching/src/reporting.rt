@@ -1,4 +1,6 @@
 //! The fault of two texts, or their warnings, as they are printed.
+ghost use Rattle.std.specs.Prelude.{◌≡◌, ◌⊎◌};
+
 use crate::reading::{read_both, read_named};
 use fmp_diagnosis::Texts;
 use fmp_files::{Failure, Outside, end, print};
@@ -32,13 +34,15 @@ fn shown_of<O: Outside>(
     shown_over(alloc, outside, names, form, texts)
 }
 
-/// Prints the fault of the texts of these files, with status 1, or their warnings.
+/// Prints the fault of the texts of these files, with status 1, or their warnings; the status is 3 after a failure.
 pub fn print_fault<O: Outside>(
     alloc: Global,
     outside: &mut O,
     names: FileNames<'_>,
     form: Form,
-) -> u8 {
+) -> u8
+    ensures { (result ≡ 0) ⊎ (result ≡ 1) ⊎ (result ≡ 3) }
+{
     match shown_of(alloc, outside, names, form) {
         Ok(shown) => print(alloc, outside, shown.text()).max(shown.status()),
         Err(exit) => end(outside, &exit),

@@ -1,12 +1,18 @@
 //! The command `explore`: it explores the schedules of two texts, and writes the steps of what it finds.
-ghost use Rattle.std.specs.Prelude.{◌≡◌, ◌≢◌, [], IfOk, Ok, if◌then◌else◌, nat_eq};
+ghost use Rattle.std.specs.Prelude.{◌≡◌, ◌⊎◌, ◌+◌, ◌<◌, ◌^◌, [], IfOk, Ok, if◌then◌else◌, false, length, map, nat_eq};
+ghost use Rattle.std.specs.Prelude.{option_map, string_bytes, true};
+ghost use Rattle.std.specs.List.{AllByRecursion};
 ghost use Rattle.fmp_base.specs.Systems.{tables_of};
 ghost use Rattle.fmp_cfgparse.specs.Configurations.{Describes};
+ghost use Rattle.fmp_files.specs.Deeds.{Does};
 ghost use Rattle.fmp_files.specs.Prints.{Prints};
 ghost use Rattle.fmp_searching.specs.Questions.{IsWanted};
 ghost use Rattle.fmp_searching.specs.Claims.{claim_tables};
-ghost use Rattle.fmp_searching.specs.Claimed.{HasClaimed, HasShown, HoldsOfFiles, HoldsOfImage, HoldsOfTexts};
-ghost use Rattle.fmp_searching.specs.Claimed.{PrintsNothing, PrintsOnly};
+ghost use Rattle.fmp_searching.specs.Claimed.{EndsOfFiles, Gives, HasClaimed, HasEnded, HasShown, HoldsOfFiles};
+ghost use Rattle.fmp_frames.specs.CallPositions.{AreCallsOf};
+ghost use Rattle.fmp_searching.specs.Claimed.{OfImage, OfQuestion, OfTexts, PrintsNothing, PrintsOnly, sources_of};
+ghost use Rattle.fmp_searching.specs.Files.{IsApart, RemovesSteps, files_written, is_refusal, report_written};
+ghost use Rattle.fmp_searching.specs.Sources.{source_tables};
 
 use crate::asking::{CommandMistake, ExploreChoices, question_by, wanted_by};
 use crate::at_calls::nevers_at_of;
@@ -17,18 +23,17 @@ use crate::exploring::{Explored, explored_image};
 use crate::naming::LocalNames;
 use crate::reading::read_texts;
 use crate::reporting::print_fault;
+use crate::sentence_faults::{expected_in, fault_of_sentences};
 use crate::sites::CallLines;
 use crate::sources::{Claim, ExploredSources, Exploring, Named, Sentences};
 use crate::steps_files::{
     is_over_input, is_read, is_report_of_steps, out_name, remove_earlier, steps_names, write_steps,
 };
-use crate::test_reports::line_at;
 use crate::unhandled::say_unhandled;
 use clap::Error;
-use fmp_arguments::flaw_text;
 use fmp_base::System;
 use fmp_cfgparse::read_cfg;
-use fmp_expect::{Expected, read_placed, read_unplaced};
+use fmp_expect::read_call_sentences;
 use fmp_explore::SearchWatcher;
 use fmp_files::{Failure, Outside, end, print, refuse_mistake, write_file};
 use fmp_frames::CallPositions;
@@ -103,6 +108,10 @@ fn give_steps<O: Outside>(
 ) -> u8
     ensures status { result ≡ 0 → explored.now.status ≡ 0 }
     ensures quiet { PrintsNothing (O.done outside.old) (O.done outside.new) }
+    ensures written { is_refusal result ≡ false → (result ≡ explored.now.status)
+        × AllByRecursion (IsApart exploring.now) (map string_bytes names.now)
+        × Does (O.done outside.old) (files_written (map string_bytes names.now)
+        (map (λ text. text.items) explored.now.steps.items)) (O.done outside.new) }
 {
     if is_over_input(outside, names, exploring) {
         return refuse_mistake(outside, steps_over_input(alloc));
@@ -113,17 +122,22 @@ fn give_steps<O: Outside>(
     }
 }
 
-/// Writes a report of tests to its file, if there are both, and gives the status.
+/// Writes the report of tests of an exploration to its file, if there are both, and gives the status.
 fn write_report<O: Outside>(
     alloc: Global,
     outside: &mut O,
     junit: Option<&str>,
-    report: Option<&Vec<u8>>,
-) -> u8 {
+    explored: &Explored,
+) -> u8
+    ensures status { (result ≡ 0) ⊎ (result ≡ 3) }
+    ensures written { result ≡ 0 → Does (O.done outside.old)
+        (report_written (option_map (λ name. name.now) junit.entry)
+        (option_map (λ out. out.items) explored.now.report)) (O.done outside.new) }
+{
     let Some(name) = junit else {
         return 0;
     };
-    let Some(report) = report else {
+    let Some(report) = &explored.report else {
         return 0;
     };
     match write_file(alloc, outside, name, report) {
@@ -153,6 +167,8 @@ fn give<O: Outside>(
     ensures text { PrintsOnly explored.now.text.items (O.done outside.old) (O.done outside.new) }
     ensures printed { result ≡ 0 → explored.now.steps.items ≡ [] →
         Prints (O.done outside.old) explored.now.text.items (O.done outside.new) }
+    ensures given { is_refusal result ≡ false → (result ≡ explored.now.status)
+        × Gives exploring.now out.now explored.now (O.done outside.old) (O.done outside.new) }
 {
     match print(alloc, outside, &explored.text) {
         0 => {}
@@ -167,12 +183,76 @@ fn give<O: Outside>(
     }
 }
 
-/// The sentences of a text that are not about calls, with their lines; none if memory runs out.
-fn expected_in(alloc: Global, configured: &System, said: &[u8]) -> Vec<Expected> {
-    match read_unplaced(alloc, configured, said) {
-        Ok(expected) => expected,
-        Err(_) => Vec::new(alloc),
-    }
+/// Removes the files of steps of an earlier search whose numbers come after those of these steps texts.
+fn remove_after<O: Outside>(
+    alloc: Global,
+    outside: &mut O,
+    out: &str,
+    steps: &[Vec<u8>],
+    exploring: &Exploring<'_>,
+    processors: u8,
+) -> Result<(), AllocError>
+    ensures { RemovesSteps exploring.now out.now (length steps.now) (O.done outside.old) (O.done outside.new) }
+{
+    remove_earlier(alloc, outside, out, steps.len(), exploring, processors)
+}
+
+/// Explores what the report of an exploration speaks of, and prints what the search comes to of what it can claim.
+fn explore_sources<O: Outside, R: Clock + Threads + Sync>(
+    alloc: Global,
+    outside: &mut O,
+    rt: &R,
+    exploring: &Exploring<'_>,
+    sources: &ExploredSources<'_>,
+) -> Result<u8, AllocError>
+    requires { sources.now.sentences.sections + length sources.now.sentences.expected.now < 2 ^ 64 }
+    ensures shown { IfOk result (λ _. HasShown (source_tables sources.now) (O.done outside.new)) }
+    ensures claimed { IfOk result (λ status. status ≡ 0 →
+        HasClaimed (source_tables sources.now) (O.done outside.new)) }
+    ensures ended { IfOk result (λ status. is_refusal status ≡ false →
+        HasEnded exploring.now (source_tables sources.now) status (O.done outside.new)) }
+{
+    let claim = &sources.claim;
+    let end = end_after(rt, claim.question.seconds);
+    let explored = explored_image(
+        alloc,
+        rt,
+        exploring.jobs,
+        sources,
+        &mut Telling {
+            outside,
+            clock: rt,
+            end,
+        },
+    )?;
+    let (out, processors) = (sources.named.out, claim.image.system().processors);
+    remove_after(alloc, outside, out, &explored.steps, exploring, processors)?;
+    let written = write_report(alloc, outside, exploring.junit, &explored);
+    let status = give(alloc, outside, out, exploring, &explored);
+    Ok(status_after(written, status))
+}
+
+/// The same of an exploration that has read its files.
+fn explore_told<O: Outside, R: Clock + Threads + Sync>(
+    alloc: Global,
+    outside: &mut O,
+    rt: &R,
+    opened: &Opened<'_>,
+    sources: &ExploredSources<'_>,
+) -> Result<u8, AllocError>
+    requires places { sources.now.sentences.sections + length sources.now.sentences.expected.now < 2 ^ 64 }
+    requires stand { AreCallsOf opened.now.src.now sources.now.positions.now }
+    requires same { source_tables sources.now ≡ sources_of (claim_tables sources.now.claim) sources.now.positions.now
+        sources.now.names.now opened.now.said.now opened.now.exploring.now }
+    ensures shown { IfOk result (λ _. OfQuestion (claim_tables sources.now.claim) opened.now.src.now
+        opened.now.said.now opened.now.exploring.now (λ s. HasShown s (O.done outside.new))) }
+    ensures claimed { IfOk result (λ status. status ≡ 0 → OfQuestion (claim_tables sources.now.claim)
+        opened.now.src.now opened.now.said.now opened.now.exploring.now (λ s. HasClaimed s (O.done outside.new))) }
+    ensures ended { IfOk result (λ status. is_refusal status ≡ false → OfQuestion (claim_tables sources.now.claim)
+        opened.now.src.now opened.now.said.now opened.now.exploring.now
+        (λ s. HasEnded opened.now.exploring.now s status (O.done outside.new))) }
+{
+    explore_sources(alloc, outside, rt, opened.exploring, sources)
 }
 
 /// Explores an image, and prints what the search comes to of what it can claim.
@@ -181,22 +261,23 @@ fn explore_question<O: Outside, R: Clock + Threads + Sync>(
     outside: &mut O,
     rt: &R,
     claim: &Claim<'_>,
-    configured: &System,
     opened: &Opened<'_>,
 ) -> Result<u8, AllocError>
-    ensures shown { IfOk result (λ _.
-        HasShown opened.now.exploring.now.form opened.now.exploring.now.strict (claim_tables claim.now)
-        (O.done outside.new)) }
-    ensures claimed { IfOk result (λ status. status ≡ 0 →
-        HasClaimed opened.now.exploring.now.form opened.now.exploring.now.strict (claim_tables claim.now)
-        (O.done outside.new)) }
+    requires { IsWanted opened.now.exploring.now.asked (Ok opened.now.wanted.now) }
+    ensures shown { IfOk result (λ _. OfQuestion (claim_tables claim.now) opened.now.src.now opened.now.said.now
+        opened.now.exploring.now (λ s. HasShown s (O.done outside.new))) }
+    ensures claimed { IfOk result (λ status. status ≡ 0 → OfQuestion (claim_tables claim.now) opened.now.src.now
+        opened.now.said.now opened.now.exploring.now (λ s. HasClaimed s (O.done outside.new))) }
+    ensures ended { IfOk result (λ status. is_refusal status ≡ false → OfQuestion (claim_tables claim.now)
+        opened.now.src.now opened.now.said.now opened.now.exploring.now
+        (λ s. HasEnded opened.now.exploring.now s status (O.done outside.new))) }
 {
     let exploring = opened.exploring;
     let names = LocalNames::new(alloc, opened.src)?;
     let positions = CallPositions::new(alloc, opened.src)?;
     let out = out_name(alloc, exploring)?;
-    let expected = expected_in(alloc, configured, opened.said);
-    let placed = read_placed(alloc, configured, opened.said)?;
+    let expected = expected_in(alloc, claim.configured, opened.said)?;
+    let call_sentences = read_call_sentences(alloc, claim.configured, opened.said)?;
     let of_words = nevers_at_of(alloc, claim.image, claim.lines, &opened.wanted.nevers_at)?;
     let named = Named {
         src: exploring.src,
@@ -215,29 +296,12 @@ fn explore_question<O: Outside, R: Clock + Threads + Sync>(
             file: exploring.expect.unwrap_or(""),
             text: opened.said,
             expected: &expected,
-            placed: &placed,
+            call_sentences: &call_sentences,
             nevers_at: of_words.len(),
         },
         named,
     };
-    let end = end_after(rt, claim.question.seconds);
-    let explored = explored_image(
-        alloc,
-        rt,
-        exploring.jobs,
-        &sources,
-        &mut Telling {
-            outside,
-            clock: rt,
-            end,
-        },
-    )?;
-    let processors = claim.image.system().processors;
-    let count = explored.steps.len();
-    remove_earlier(alloc, outside, out.as_str(), count, exploring, processors)?;
-    let written = write_report(alloc, outside, exploring.junit, explored.report.as_ref());
-    let status = give(alloc, outside, out.as_str(), exploring, &explored);
-    Ok(status_after(written, status))
+    explore_told(alloc, outside, rt, opened, &sources)
 }
 
 /// Says which line of a text of sentences has a flaw, and gives the status.
@@ -246,6 +310,27 @@ fn refuse_sentence<O: Outside>(outside: &mut O, text: &str) -> u8
 {
     outside.say(format_args!("{text}\n"));
     1
+}
+
+/// Says what is mistaken in the words or the sentences of an exploration, which ask for no question about an image,
+/// whose bodies' calls stand in these lines. The status is 1 for a sentence, and 2 for words.
+fn refuse_question<O: Outside>(
+    alloc: Global,
+    outside: &mut O,
+    opened: &Opened<'_>,
+    configured: &System,
+    of: (&Image, &CallLines),
+    mistake: CommandMistake,
+) -> Result<u8, AllocError>
+    ensures { IfOk result (λ status. is_refusal status ≡ true) }
+{
+    match fault_of_sentences(alloc, configured, opened.said, of, mistake)? {
+        Some(text) => Ok(refuse_sentence(outside, &text)),
+        None => {
+            let error = no_question_of(alloc, &opened.exploring.asked, of, mistake);
+            Ok(refuse_mistake(outside, error))
+        }
+    }
 }
 
 /// Explores an image that the texts of an exploration build, whose configuration describes this system.
@@ -258,8 +343,11 @@ fn explore_image<O: Outside, R: Clock + Threads + Sync>(
     opened: &Opened<'_>,
 ) -> Result<u8, AllocError>
     requires { IsWanted opened.now.exploring.now.asked (Ok opened.now.wanted.now) }
-    ensures { IfOk result (λ status. status ≡ 0 → HoldsOfImage image.now (tables_of configured.now)
-        opened.now.src.now opened.now.said.now opened.now.exploring.now (O.done outside.new)) }
+    ensures holds { IfOk result (λ status. status ≡ 0 → OfImage image.now (tables_of configured.now)
+        opened.now.src.now opened.now.said.now opened.now.exploring.now (λ s. HasClaimed s (O.done outside.new))) }
+    ensures ended { IfOk result (λ status. is_refusal status ≡ false → OfImage image.now (tables_of configured.now)
+        opened.now.src.now opened.now.said.now opened.now.exploring.now
+        (λ s. HasEnded opened.now.exploring.now s status (O.done outside.new))) }
 {
     let lines = CallLines::new(alloc, opened.src)?;
     match question_by(alloc, opened.wanted, opened.said, configured, image, &lines)? {
@@ -271,16 +359,10 @@ fn explore_image<O: Outside, R: Clock + Threads + Sync>(
                 question: &question,
                 bound: opened.exploring.bound,
             };
-            explore_question(alloc, outside, rt, &claim, configured, opened)
-        }
-        Err(CommandMistake::Sentence { line, flaw }) => {
-            let text = flaw_text(alloc, configured, line, line_at(opened.said, line), flaw)?;
-            Ok(refuse_sentence(outside, &text))
+            explore_question(alloc, outside, rt, &claim, opened)
         }
         Err(mistake) => {
-            let asked = (&opened.exploring.asked, opened.said);
-            let error = no_question_of(alloc, asked, configured, (image, &lines), mistake);
-            Ok(refuse_mistake(outside, error))
+            refuse_question(alloc, outside, opened, configured, (image, &lines), mistake)
         }
     }
 }
@@ -295,8 +377,11 @@ fn explore_status<O: Outside, R: Clock + Threads + Sync>(
     opened: &Opened<'_>,
 ) -> u8
     requires { IsWanted opened.now.exploring.now.asked (Ok opened.now.wanted.now) }
-    ensures { result ≡ 0 → HoldsOfImage image.now (tables_of configured.now) opened.now.src.now
-        opened.now.said.now opened.now.exploring.now (O.done outside.new) }
+    ensures holds { result ≡ 0 → OfImage image.now (tables_of configured.now) opened.now.src.now
+        opened.now.said.now opened.now.exploring.now (λ s. HasClaimed s (O.done outside.new)) }
+    ensures ended { is_refusal result ≡ false → OfImage image.now (tables_of configured.now) opened.now.src.now
+        opened.now.said.now opened.now.exploring.now
+        (λ s. HasEnded opened.now.exploring.now s result (O.done outside.new)) }
 {
     say_unhandled(outside, image.system(), &opened.wanted.limits);
     match explore_image(alloc, outside, rt, image, configured, opened) {
@@ -305,14 +390,15 @@ fn explore_status<O: Outside, R: Clock + Threads + Sync>(
     }
 }
 
-/// Prints the first fault of the texts of an exploration, which build no image, and gives the status.
+/// Prints the first fault of the texts of an exploration, which build no image, with status 1, or that memory ran out,
+/// with status 3.
 fn refuse_texts<O: Outside>(
     alloc: Global,
     outside: &mut O,
     exploring: &Exploring<'_>,
     fault: &BuildFault,
 ) -> u8
-    ensures { result ≢ 0 }
+    ensures { (result ≡ 1) ⊎ (result ≡ 3) }
 {
     let names = FileNames {
         cfg: exploring.cfg,
@@ -336,8 +422,10 @@ fn explore_system<O: Outside, R: Clock + Threads + Sync>(
 ) -> u8
     requires wanted { IsWanted opened.now.exploring.now.asked (Ok opened.now.wanted.now) }
     requires described { Describes opened.now.cfg.now configured.now }
-    ensures { result ≡ 0 → HoldsOfTexts opened.now.cfg.now opened.now.src.now opened.now.said.now
-        opened.now.exploring.now (O.done outside.new) }
+    ensures holds { result ≡ 0 → OfTexts opened.now.cfg.now opened.now.src.now opened.now.said.now
+        opened.now.exploring.now (λ s. HasClaimed s (O.done outside.new)) }
+    ensures ended { is_refusal result ≡ false → OfTexts opened.now.cfg.now opened.now.src.now opened.now.said.now
+        opened.now.exploring.now (λ s. HasEnded opened.now.exploring.now s result (O.done outside.new)) }
 {
     match build(alloc, opened.cfg, opened.src) {
         Ok(image) => {
@@ -357,8 +445,10 @@ fn explore_texts<O: Outside, R: Clock + Threads + Sync>(
     opened: &Opened<'_>,
 ) -> u8
     requires { IsWanted opened.now.exploring.now.asked (Ok opened.now.wanted.now) }
-    ensures { result ≡ 0 → HoldsOfTexts opened.now.cfg.now opened.now.src.now opened.now.said.now
-        opened.now.exploring.now (O.done outside.new) }
+    ensures holds { result ≡ 0 → OfTexts opened.now.cfg.now opened.now.src.now opened.now.said.now
+        opened.now.exploring.now (λ s. HasClaimed s (O.done outside.new)) }
+    ensures ended { is_refusal result ≡ false → OfTexts opened.now.cfg.now opened.now.src.now opened.now.said.now
+        opened.now.exploring.now (λ s. HasEnded opened.now.exploring.now s result (O.done outside.new)) }
 {
     match read_cfg(alloc, opened.cfg) {
         Ok(configured) => {
@@ -379,7 +469,9 @@ fn explore_files<O: Outside, R: Clock + Threads + Sync>(
     wanted: &ExploreChoices<'_>,
 ) -> u8
     requires { IsWanted exploring.now.asked (Ok wanted.now) }
-    ensures { result ≡ 0 → HoldsOfFiles (O.files outside.old) exploring.now (O.done outside.new) }
+    ensures holds { result ≡ 0 → HoldsOfFiles (O.files outside.old) exploring.now (O.done outside.new) }
+    ensures ended { is_refusal result ≡ false →
+        EndsOfFiles (O.files outside.old) exploring.now result (O.done outside.new) }
 {
     match read_texts(alloc, outside, exploring) {
         Ok((cfg, src, said)) => {
@@ -420,15 +512,18 @@ fn report_mistake<O: Outside>(
     }
 }
 
-/// Explores the schedules of the texts of two files, or prints their first fault, with status 1. This clock tells how
-/// long the search takes.
+/// Explores the schedules of the texts of two files, or prints their first fault, with status 1. The status is 2 where
+/// the words are mistaken, or a file that is read would be written, and 3 after a failure. This clock tells how long
+/// the search takes.
 pub fn run_explore<O: Outside, R: Clock + Threads + Sync>(
     alloc: Global,
     outside: &mut O,
     rt: &R,
     exploring: &Exploring<'_>,
 ) -> u8
-    ensures { result ≡ 0 → HoldsOfFiles (O.files outside.old) exploring.now (O.done outside.new) }
+    ensures holds { result ≡ 0 → HoldsOfFiles (O.files outside.old) exploring.now (O.done outside.new) }
+    ensures ended { is_refusal result ≡ false →
+        EndsOfFiles (O.files outside.old) exploring.now result (O.done outside.new) }
 {
     if let Some(mistake) = report_mistake(alloc, outside, exploring) {
         return refuse_mistake(outside, mistake);

@@ -1,14 +1,18 @@
 //! What is seen after the steps of a finding, and the call to which it belongs.
-ghost use Rattle.std.specs.Prelude.{◌≡◌, IfOk, map, true};
-ghost use Rattle.std.specs.List.{list_all};
+ghost use Rattle.std.specs.Prelude.{◌≡◌, ◌<◌, ◌++◌, IfOk, IfSome, OnOk, Some, length, option_map, slice_get, true};
+ghost use Rattle.fmp_base.specs.Systems.{tables_of};
+ghost use Rattle.fmp_searching.specs.Extent.{said_text, value_of, words_of};
 ghost use Rattle.fmp_searching.specs.Seen as spec;
+ghost use Rattle.fmp_searching.specs.Sources.{source_tables};
 
-use crate::placed::{broken_by, is_forbidden, say_placed};
+use crate::call_sentences::{broken_by, is_forbidden, say_call_sentence};
+use crate::claiming::append_number;
 use crate::sentences::append_sentence;
 use crate::sources::{ExploredSources, say, say_made, say_position};
 use crate::stuck::{HeldUp, held_up};
 use crate::stuck_words::append_stuck;
 use fmp_base::{Line, System};
+use fmp_expect::Expected;
 use fmp_explore::{CallSite, Finding, FindingKind, Left, SentenceBreach, Started, left_by};
 use fmp_monitors::{ExpectedDeed, Happening, Sentence, Standing};
 use fmp_schedules::MonitorSubject;
@@ -28,7 +32,7 @@ pub enum SeenKind {
     /// The sentence of the file is broken that stands at this place among those of the question.
     Sentence(usize),
     /// A call is answered what the sentence forbids that stands at this place among those of the file about calls.
-    Placed(usize),
+    CallSentence(usize),
     /// No processor can do anything.
     Deadlock,
     /// A body goes on for ever without a call.
@@ -44,7 +48,7 @@ pub struct Seen {
     pub found: FindingKind,
     pub kind: SeenKind,
     /// The places of the sentences of the file about calls that are broken, beside what the command line forbids too.
-    pub placed: Vec<usize>,
+    pub call_sentences: Vec<usize>,
     /// The call to which it belongs, if it belongs to one.
     pub site: Option<CallSite>,
     /// What is said of it, without that call.
@@ -68,7 +72,6 @@ fn say_line(
 
 /// Appends a task that is started, with the call in which it waits.
 fn say_started(
-    alloc: Global,
     out: &mut Vec<u8>,
     sources: &ExploredSources<'_>,
     started: Started,
@@ -79,12 +82,7 @@ fn say_started(
     }
     if let Some(site) = started.waits {
         say(out, " (")?;
-        say_position(
-            alloc,
-            out,
-            sources,
-            claim.lines.line(claim.image.code(), site),
-        )?;
+        say_position(out, sources, claim.lines.line(claim.image.code(), site))?;
         say(out, ")")?;
     }
     Ok(())
@@ -92,14 +90,13 @@ fn say_started(
 
 /// Appends the tasks of a deadlock.
 fn say_deadlock(
-    alloc: Global,
     out: &mut Vec<u8>,
     sources: &ExploredSources<'_>,
     started: &[Started],
 ) -> Result<(), AllocError> {
     for (i, task) in started.iter().enumerate() {
         say(out, if i == 0 { "deadlock of " } else { ", " })?;
-        say_started(alloc, out, sources, *task)?;
+        say_started(out, sources, *task)?;
     }
     Ok(())
 }
@@ -113,7 +110,9 @@ fn say_task(out: &mut Vec<u8>, sources: &ExploredSources<'_>, task: u8) -> Resul
 }
 
 /// The value of a happening that somebody puts it.
-fn value_of(happening: &Happening) -> i32 {
+pub fn value_of(happening: &Happening) -> i32
+    ensures { result ≡ value_of happening.now.deed }
+{
     match happening.deed {
         ExpectedDeed::Put(value) => value,
         _ => 0,
@@ -143,6 +142,36 @@ fn say_holder(
     )
 }
 
+/// A sentence without the comma and the blank after it.
+fn words_of(alloc: Global, sys: &System, sentence: &Sentence) -> Result<Vec<u8>, AllocError>
+    ensures { IfOk result (λ text. text.items ≡ words_of (tables_of sys.now) sentence.now) }
+{
+    let mut text = Vec::new(alloc);
+    append_sentence(alloc, sys, sentence, &mut text)?;
+    text.truncate(text.len().saturating_sub(2));
+    Ok(text)
+}
+
+/// Appends a sentence of the file with its line, after what is said of it.
+fn say_expected(
+    alloc: Global,
+    out: &mut Vec<u8>,
+    sources: &ExploredSources<'_>,
+    said: &Expected,
+    of: &str,
+) -> Result<(), AllocError>
+    ensures { OnOk result (out.new.items
+        ≡ out.old.items ++ said_text (source_tables sources.now) of.now (Some said.now)) }
+{
+    let words = words_of(alloc, sources.claim.configured, &said.sentence)?;
+    say(out, sources.sentences.file)?;
+    say(out, ":")?;
+    append_number(said.line as u64, out)?;
+    say(out, ": ")?;
+    say(out, of)?;
+    out.extend_from_slice(&words)
+}
+
 /// Appends a sentence of the file, at this place among them, with its line, and what is said of it.
 pub fn say_sentence(
     alloc: Global,
@@ -150,16 +179,14 @@ pub fn say_sentence(
     sources: &ExploredSources<'_>,
     place: usize,
     of: &str,
-) -> Result<(), AllocError> {
-    let Some(said) = sources.sentences.expected.get(place) else {
-        return Ok(());
-    };
-    let (file, line) = (sources.sentences.file, said.line);
-    say_made(out, format!(in alloc; "{file}:{line}: {of}"))?;
-    append_sentence(alloc, sources.claim.configured, &said.sentence, out)?;
-    let _blank = out.pop();
-    let _comma = out.pop();
-    Ok(())
+) -> Result<(), AllocError>
+    ensures { OnOk result (out.new.items ≡ out.old.items
+        ++ said_text (source_tables sources.now) of.now (slice_get sources.now.sentences.expected.now place)) }
+{
+    match sources.sentences.expected.get(place) {
+        Some(said) => say_expected(alloc, out, sources, said, of),
+        None => Ok(()),
+    }
 }
 
 /// Appends a sentence of the file that a line broke, and who was inside, if that is what it is about.
@@ -209,7 +236,7 @@ fn say_left(
     let sys = sources.claim.image.system();
     match kind {
         FindingKind::Line(place) => say_line(out, sys, left.number, &left.lines, place),
-        FindingKind::Deadlock => say_deadlock(alloc, out, sources, &left.started),
+        FindingKind::Deadlock => say_deadlock(out, sources, &left.started),
         FindingKind::Endless(p) => say_made(
             out,
             format!(in alloc; "processor {p} goes on for ever without a call"),
@@ -226,14 +253,6 @@ fn say_left(
     }
 }
 
-/// Whether the line at a place tells that a body stops with a fault.
-fn is_fault(lines: &[Line], place: usize) -> bool {
-    match lines.get(place) {
-        Some(Line::Fault { .. }) => true,
-        _ => false,
-    }
-}
-
 /// What is broken where the sentence at a place is, of which the first are those of sections.
 fn kind_at(sections: usize, place: usize) -> SeenKind
     ensures { result ≡ spec.kind_at sections place }
@@ -245,26 +264,28 @@ fn kind_at(sections: usize, place: usize) -> SeenKind
     }
 }
 
-/// What a line at a place tells that must never come; what only a sentence about calls forbids has its place here.
-fn line_kind(lines: &[Line], place: usize, placed: Option<usize>) -> SeenKind
-    ensures { spec.is_line result ≡ true }
+/// What a line breaks: a fault is one; what only a sentence about calls forbids has its place here.
+fn line_kind(line: Option<&Line>, broken: Option<usize>) -> SeenKind
+    ensures line { spec.is_line result ≡ true }
+    ensures kind { result ≡ spec.line_kind (option_map (λ l. l.now) line.entry) broken }
 {
-    if is_fault(lines, place) {
+    if let Some(Line::Fault { .. }) = line {
         return SeenKind::Fault;
     }
-    match placed {
-        Some(placed) => SeenKind::Placed(placed),
+    match broken {
+        Some(place) => SeenKind::CallSentence(place),
         None => SeenKind::Never,
     }
 }
 
-/// What a finding breaks that left these lines; what only a sentence about calls forbids has its place here.
+/// What a finding breaks whose last step told these lines; what only a sentence about calls forbids has its place here.
 #[tactic(auto, using(crate::proofs::SameKinds::same_self))]
-fn kind_of(sections: usize, kind: FindingKind, lines: &[Line], placed: Option<usize>) -> SeenKind
-    ensures { spec.breaks sections kind result ≡ true }
+fn kind_by(sections: usize, kind: FindingKind, told: &[Line], broken: Option<usize>) -> SeenKind
+    ensures broken { spec.breaks sections kind result ≡ true }
+    ensures kind { result ≡ spec.kind_by sections kind told.now broken }
 {
     match kind {
-        FindingKind::Line(place) => line_kind(lines, place, placed),
+        FindingKind::Line(place) => line_kind(told.get(place), broken),
         FindingKind::Deadlock => SeenKind::Deadlock,
         FindingKind::Endless(_) => SeenKind::Endless,
         FindingKind::Breach(breached) => kind_at(sections, breached.monitor),
@@ -273,29 +294,63 @@ fn kind_of(sections: usize, kind: FindingKind, lines: &[Line], placed: Option<us
     }
 }
 
-/// Appends what the steps of a finding leave, and says what it breaks: of sentences about calls the first, and which.
+/// What a finding breaks: of sentences about calls which, and what it breaks first of all that is asked.
+#[derive(Drop)]
+struct Broken {
+    sentences: Vec<usize>,
+    kind: SeenKind,
+}
+
+/// What only a sentence about calls forbids, of those that a finding breaks whose last step told these lines.
+fn sentence_alone(
+    sources: &ExploredSources<'_>,
+    finding: &Finding,
+    told: &[Line],
+    broken: &[usize],
+) -> Option<usize>
+    requires { broken.now ≡ spec.broken_sentences (source_tables sources.now) finding.now told.now }
+    ensures { result ≡ spec.sentence_alone (source_tables sources.now) finding.now told.now }
+{
+    if is_forbidden(sources, finding, told) {
+        return None;
+    }
+    match broken.get(0) {
+        Some(place) => Some(*place),
+        None => None,
+    }
+}
+
+/// What a finding breaks whose last step told these lines.
+fn broken_of(
+    alloc: Global,
+    sources: &ExploredSources<'_>,
+    finding: &Finding,
+    told: &[Line],
+) -> Result<Broken, AllocError>
+    ensures { IfOk result (spec.IsBroken (source_tables sources.now) finding.now told.now) }
+{
+    let sentences = broken_by(alloc, sources, finding, told)?;
+    let alone = sentence_alone(sources, finding, told, &sentences);
+    let kind = kind_by(sources.sentences.sections, finding.kind, told, alone);
+    Ok(Broken { sentences, kind })
+}
+
+/// Appends what the steps of a finding leave, and says what it breaks.
 fn say_left_kind(
     alloc: Global,
     out: &mut Vec<u8>,
     sources: &ExploredSources<'_>,
     finding: &Finding,
     left: &Left,
-) -> Result<(Vec<usize>, SeenKind), AllocError>
-    ensures { IfOk result (λ r. spec.breaks sources.now.sentences.sections finding.now.kind r.1 ≡ true) }
+) -> Result<Broken, AllocError>
+    ensures { IfOk result (spec.IsBroken (source_tables sources.now) finding.now left.now.lines.items) }
 {
     say_left(alloc, out, sources, finding.kind, left)?;
-    let placed = broken_by(alloc, sources, finding, &left.lines)?;
-    let first = placed.first().copied();
-    if let Some(place) = first {
-        say_placed(alloc, out, sources, place)?;
+    let broken = broken_of(alloc, sources, finding, &left.lines)?;
+    if let Some(place) = broken.sentences.first().copied() {
+        say_call_sentence(alloc, out, sources, place)?;
     }
-    let alone = if is_forbidden(sources, finding, &left.lines) {
-        None
-    } else {
-        first
-    };
-    let sections = sources.sentences.sections;
-    Ok((placed, kind_of(sections, finding.kind, &left.lines, alone)))
+    Ok(broken)
 }
 
 /// The same, if the steps of a finding leave something.
@@ -304,13 +359,13 @@ fn say_what_is_left(
     out: &mut Vec<u8>,
     sources: &ExploredSources<'_>,
     finding: &Finding,
-) -> Result<(Vec<usize>, SeenKind), AllocError>
-    ensures { IfOk result (λ r. spec.breaks sources.now.sentences.sections finding.now.kind r.1 ≡ true) }
+) -> Result<Broken, AllocError>
+    ensures { IfOk result (λ broken. spec.IsBrokenBy (source_tables sources.now) finding.now broken) }
 {
-    let (claim, sections) = (&sources.claim, sources.sentences.sections);
+    let claim = &sources.claim;
     match left_by(alloc, claim.image, claim.bound, &finding.steps)? {
         Some(left) => say_left_kind(alloc, out, sources, finding, &left),
-        None => Ok((Vec::new(alloc), kind_of(sections, finding.kind, &[], None))),
+        None => broken_of(alloc, sources, finding, &[]),
     }
 }
 
@@ -320,14 +375,14 @@ fn seen_left(
     sources: &ExploredSources<'_>,
     finding: &Finding,
 ) -> Result<Seen, AllocError>
-    ensures { IfOk result (spec.IsSeen sources.now.sentences.sections finding.now) }
+    ensures { IfOk result (spec.IsSeen (source_tables sources.now) finding.now) }
 {
     let mut text = Vec::new(alloc);
-    let (placed, kind) = say_what_is_left(alloc, &mut text, sources, finding)?;
+    let broken = say_what_is_left(alloc, &mut text, sources, finding)?;
     Ok(Seen {
         found: finding.kind,
-        kind,
-        placed,
+        kind: broken.kind,
+        call_sentences: broken.sentences,
         site: finding.site,
         text,
     })
@@ -381,7 +436,7 @@ pub fn seen_of(
     sources: &ExploredSources<'_>,
     finding: &Finding,
 ) -> Result<Seen, AllocError>
-    ensures { IfOk result (spec.IsSeen sources.now.sentences.sections finding.now) }
+    ensures { IfOk result (spec.IsSeen (source_tables sources.now) finding.now) }
 {
     let FindingKind::Stuck(task) = finding.kind else {
         return seen_left(alloc, sources, finding);
@@ -390,10 +445,24 @@ pub fn seen_of(
     Ok(Seen {
         found: FindingKind::Stuck(task),
         kind: SeenKind::Stuck,
-        placed: Vec::new(alloc),
+        call_sentences: Vec::new(alloc),
         site,
         text,
     })
+}
+
+/// What is seen of the finding at a place among these.
+fn seen_at(
+    alloc: Global,
+    sources: &ExploredSources<'_>,
+    findings: &[Finding],
+    place: usize,
+) -> Result<Seen, AllocError>
+    requires { place < length findings.now }
+    ensures { IfOk result (λ seen. IfSome (slice_get findings.now place)
+        (λ finding. spec.IsSeen (source_tables sources.now) finding seen)) }
+{
+    seen_of(alloc, sources, &findings[place])
 }
 
 /// What is seen of each finding, in their order. `AllocError` if memory runs out.
@@ -402,13 +471,11 @@ pub fn all_seen(
     sources: &ExploredSources<'_>,
     findings: &[Finding],
 ) -> Result<Vec<Seen>, AllocError>
-    ensures found { IfOk result (λ all. map (λ s. s.found) all.items ≡ map (λ f. f.kind) findings.now) }
-    ensures broken { IfOk result (λ all.
-        list_all (λ s. spec.is_fitting sources.now.sentences.sections s) all.items ≡ true) }
+    ensures { IfOk result (λ all. spec.AreSeen (source_tables sources.now) findings.now all.items) }
 {
     let mut all = Vec::new(alloc);
-    for finding in findings {
-        all.push(seen_of(alloc, sources, finding)?)?;
+    for i in 0..findings.len() {
+        all.push(seen_at(alloc, sources, findings, i)?)?;
     }
     Ok(all)
 }

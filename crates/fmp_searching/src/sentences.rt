@@ -50,6 +50,7 @@ fn actor_name(sys: &System, actor: ExpectedActor) -> Option<Name>
     match actor {
         ExpectedActor::Task(task) => Some(sys.tasks.get(task)?.name),
         ExpectedActor::Cyclic(cyclic) => Some(sys.cyclics.get(cyclic)?.name),
+        ExpectedActor::Interrupt(interrupt) => handler_name(sys, u16::from(interrupt) + 1),
     }
 }
 

@@ -1,17 +1,21 @@
 //! What is explored, the names of its files, and the text that is put together.
-ghost use Rattle.std.specs.Prelude.{◌≡◌};
+ghost use Rattle.std.specs.Prelude.{◌≡◌, ◌++◌, OnOk, option_map, slice_get};
+ghost use Rattle.fmp_searching.specs.Extent.{call_text, column_text};
+ghost use Rattle.fmp_searching.specs.Findings.{position_text};
+ghost use Rattle.fmp_searching.specs.Sources.{source_tables};
 ghost use Rattle.fmp_searching.specs.Varied.{line_at};
 
 use crate::asking::ExploreWords;
+use crate::claiming::append_number;
 use crate::naming::LocalNames;
 use crate::sites::CallLines;
 use fmp_base::System;
-use fmp_expect::{Expected, PlacedNever};
+use fmp_expect::{CallSentence, Expected};
 use fmp_explore::{CallSite, Question};
 use fmp_frames::{CallPosition, CallPositions};
 use fmp_image_bytes::Image;
 use fmp_warnings::Form;
-use std::alloc::{AllocError, Global};
+use std::alloc::AllocError;
 
 /// What is explored, and what is asked of it.
 #[derive(Clone, Copy)]
@@ -65,7 +69,7 @@ pub struct Sentences<'a> {
     /// The sentences of the file, with their lines, but for those about calls.
     pub expected: &'a [Expected],
     /// The sentences of the file about calls.
-    pub placed: &'a [PlacedNever],
+    pub call_sentences: &'a [CallSentence],
     /// How many of the answers that the question forbids at calls are of the command line. The others are of the file.
     pub nevers_at: usize,
 }
@@ -80,8 +84,10 @@ impl Sentences<'_> {
     }
 
     /// The line of the sentence at a place among those about calls.
-    pub fn placed_line(&self, place: usize) -> Option<u64> {
-        Some(self.placed.get(place)?.line as u64)
+    pub fn call_sentence_line(&self, place: usize) -> Option<u64>
+        ensures { result ≡ option_map (λ s. s.line) (slice_get self.now.call_sentences.now place) }
+    {
+        Some(self.call_sentences.get(place)?.line as u64)
     }
 }
 
@@ -108,7 +114,9 @@ pub struct ExploredSources<'a> {
 }
 
 /// Appends text.
-pub fn say(out: &mut Vec<u8>, text: &str) -> Result<(), AllocError> {
+pub fn say(out: &mut Vec<u8>, text: &str) -> Result<(), AllocError>
+    ensures { OnOk result (out.new.items ≡ out.old.items ++ text.now) }
+{
     out.extend_from_slice(text.as_bytes())
 }
 
@@ -117,34 +125,45 @@ pub fn say_made(out: &mut Vec<u8>, text: Result<String, AllocError>) -> Result<(
     say(out, text?.as_str())
 }
 
+/// Appends where a call stands in a file, after the name of that.
+fn say_column(out: &mut Vec<u8>, position: Option<CallPosition>) -> Result<(), AllocError>
+    ensures { OnOk result (out.new.items ≡ out.old.items ++ column_text position) }
+{
+    let Some(CallPosition { line, column }) = position else {
+        return Ok(());
+    };
+    say(out, ":")?;
+    append_number(u64::from(line), out)?;
+    say(out, ":")?;
+    append_number(column as u64, out)
+}
+
 /// Appends where a call stands in the file of the bodies.
 pub fn say_call(
-    alloc: Global,
     out: &mut Vec<u8>,
     sources: &ExploredSources<'_>,
     site: CallSite,
-) -> Result<(), AllocError> {
-    say(out, sources.named.src)?;
+) -> Result<(), AllocError>
+    ensures { OnOk result (out.new.items ≡ out.old.items ++ call_text (source_tables sources.now) site) }
+{
     let code = sources.claim.image.code();
-    if let Some(CallPosition { line, column }) = sources
-        .positions
-        .position(code, site.body, site.pc)
-    {
-        say_made(out, format!(in alloc; ":{line}:{column}"))?;
-    }
-    Ok(())
+    let position = sources.positions.position(code, site.body, site.pc);
+    say(out, sources.named.src)?;
+    say_column(out, position)
 }
 
 /// Appends a line of the file of the bodies.
 pub fn say_position(
-    alloc: Global,
     out: &mut Vec<u8>,
     sources: &ExploredSources<'_>,
     line: Option<u32>,
-) -> Result<(), AllocError> {
+) -> Result<(), AllocError>
+    ensures { OnOk result (out.new.items ≡ out.old.items ++ position_text sources.now.named.src.now line) }
+{
     say(out, sources.named.src)?;
-    if let Some(line) = line {
-        say_made(out, format!(in alloc; ":{line}"))?;
-    }
-    Ok(())
+    let Some(line) = line else {
+        return Ok(());
+    };
+    say(out, ":")?;
+    append_number(u64::from(line), out)
 }

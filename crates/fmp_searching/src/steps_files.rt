@@ -1,30 +1,74 @@
 //! The files of steps of what a search finds, and those of an earlier one.
+ghost use Rattle.std.specs.Prelude.{◌≡◌, ◌++◌, ◌<◌, IfOk, IfSome, IsTrue, OnOk, codes, false, length, map};
+ghost use Rattle.std.specs.Prelude.{[], ◌∷◌, option_map, slice_get, string_bytes};
+ghost use Rattle.std.specs.List.{AllByRecursion};
+ghost use Rattle.fmp_files.specs.Deeds.{Does, wrote};
 ghost use Rattle.fmp_searching.specs.Claimed.{PrintsNothing};
+ghost use Rattle.fmp_searching.specs.Files as spec;
+ghost use Rattle.fmp_searching.specs.Sources.{steps_name};
 
 use crate::sources::Exploring;
 use fmp_files::{Failure, Outside, write_file};
 use fmp_trace::read_steps;
+use itoa::Buffer;
 use std::alloc::{AllocError, Global};
 
 /// The name of the files of steps: the one that was asked for, or that of the configuration.
-pub fn out_name(alloc: Global, exploring: &Exploring<'_>) -> Result<String, AllocError> {
+pub fn out_name(alloc: Global, exploring: &Exploring<'_>) -> Result<String, AllocError>
+    ensures { IfOk result (λ name. string_bytes name ≡ spec.out_name exploring.now.cfg.now
+        (option_map (λ n. n.now) exploring.now.out)) }
+{
     match exploring.out {
         Some(name) => String::from_str(alloc, name),
-        None => {
-            let stem = exploring.cfg.strip_suffix(".cfg").unwrap_or(exploring.cfg);
-            format!(in alloc; "{stem}.found")
-        }
+        None => found_name(alloc, exploring.cfg),
     }
 }
 
+/// The name of the files of steps of a configuration, where none is asked for.
+#[tactic(auto, unfolding(crate::specs::Words::before))]
+fn found_name(alloc: Global, cfg: &str) -> Result<String, AllocError>
+    ensures { IfOk result (λ name. string_bytes name ≡ spec.stem cfg.now ++ codes ".found") }
+{
+    let stem = cfg.strip_suffix(".cfg").unwrap_or(cfg);
+    let mut name = String::from_str(alloc, stem)?;
+    name.push_str(".found")?;
+    Ok(name)
+}
+
+/// Adds the name of the file of steps of this number.
+fn add_steps_name(
+    alloc: Global,
+    names: &mut Vec<String>,
+    out: &str,
+    number: usize,
+) -> Result<(), AllocError>
+    ensures { OnOk result (map string_bytes names.new.items
+        ≡ map string_bytes names.old.items ++ steps_name out.now number ∷ []) }
+{
+    names.push(steps_name_of(alloc, out, number)?)?;
+    Ok(())
+}
+
 /// The names of this many files of steps.
-pub fn steps_names(alloc: Global, out: &str, count: usize) -> Result<Vec<String>, AllocError> {
+pub fn steps_names(alloc: Global, out: &str, count: usize) -> Result<Vec<String>, AllocError>
+    ensures { IfOk result (λ names. map string_bytes names.items ≡ spec.steps_names out.now count) }
+{
     let mut names = Vec::new(alloc);
     for i in 0..count {
-        let number = i.saturating_add(1);
-        names.push(format!(in alloc; "{out}.{number}")?)?;
+        add_steps_name(alloc, &mut names, out, i + 1)?;
     }
     Ok(names)
+}
+
+/// The name of the file of steps of this number.
+#[tactic(auto, unfolding(crate::specs::Sources::steps_name))]
+pub fn steps_name_of(alloc: Global, out: &str, number: usize) -> Result<String, AllocError>
+    ensures { IfOk result (λ name. string_bytes name ≡ steps_name out.now number) }
+{
+    let mut name = String::from_str(alloc, out)?;
+    name.push_str(".")?;
+    name.push_str(Buffer::new().format(number as u64))?;
+    Ok(name)
 }
 
 /// Whether a text is a number from 1 on, without zeros in front.
@@ -58,7 +102,12 @@ pub fn is_report_of_steps<O: Outside>(
 }
 
 /// Whether a file is one of those that are read.
-pub fn is_read<O: Outside>(outside: &O, name: &str, exploring: &Exploring<'_>) -> bool {
+pub fn is_read<O: Outside>(outside: &O, name: &str, exploring: &Exploring<'_>) -> bool
+    ensures cfg { name.now ≡ exploring.now.cfg.now → IsTrue result }
+    ensures src { name.now ≡ exploring.now.src.now → IsTrue result }
+    ensures expect { IfSome exploring.now.expect (λ read. name.now ≡ read.now → IsTrue result) }
+    ensures apart { result ≡ false → spec.IsApart exploring.now name.now }
+{
     if let Some(expect) = exploring.expect
         && outside.is_one_file(name, expect)
     {
@@ -67,14 +116,47 @@ pub fn is_read<O: Outside>(outside: &O, name: &str, exploring: &Exploring<'_>) -
     outside.is_one_file(name, exploring.cfg) || outside.is_one_file(name, exploring.src)
 }
 
+/// Whether the file at a place among these is one of those that are read.
+fn is_read_at<O: Outside>(
+    outside: &O,
+    names: &[String],
+    place: usize,
+    exploring: &Exploring<'_>,
+) -> bool
+    requires { place < length names.now }
+    ensures { result ≡ false →
+        IfSome (slice_get names.now place) (λ name. spec.IsApart exploring.now (string_bytes name)) }
+{
+    is_read(outside, names[place].as_str(), exploring)
+}
+
 /// Whether one of these files is one of those that are read.
-pub fn is_over_input<O: Outside>(outside: &O, names: &[String], exploring: &Exploring<'_>) -> bool {
-    for name in names {
-        if is_read(outside, name.as_str(), exploring) {
+pub fn is_over_input<O: Outside>(outside: &O, names: &[String], exploring: &Exploring<'_>) -> bool
+    ensures { result ≡ false → AllByRecursion (spec.IsApart exploring.now) (map string_bytes names.now) }
+{
+    for i in 0..names.len() {
+        if is_read_at(outside, names, i, exploring) {
             return true;
         }
     }
     false
+}
+
+/// Writes the steps text at a place to the file of the name at this place.
+fn write_at<O: Outside>(
+    alloc: Global,
+    outside: &mut O,
+    names: &[String],
+    texts: &[Vec<u8>],
+    place: usize,
+) -> Result<(), Failure>
+    requires names { place < length names.now }
+    requires texts { place < length texts.now }
+    ensures quiet { PrintsNothing (O.done outside.old) (O.done outside.new) }
+    ensures written { OnOk result (IfSome (slice_get names.now place) (λ name. IfSome (slice_get texts.now place)
+        (λ text. Does (O.done outside.old) (wrote (string_bytes name) text.items ∷ []) (O.done outside.new)))) }
+{
+    write_file(alloc, outside, names[place].as_str(), &texts[place])
 }
 
 /// Writes steps texts to the files of these names, up to the first that cannot be written.
@@ -84,10 +166,13 @@ pub fn write_steps<O: Outside>(
     names: &[String],
     texts: &[Vec<u8>],
 ) -> Result<(), Failure>
-    ensures { PrintsNothing (O.done outside.old) (O.done outside.new) }
+    ensures quiet { PrintsNothing (O.done outside.old) (O.done outside.new) }
+    ensures written { OnOk result (Does (O.done outside.old)
+        (spec.files_written (map string_bytes names.now) (map (λ text. text.items) texts.now)) (O.done outside.new)) }
 {
-    for (name, text) in names.iter().zip(texts) {
-        write_file(alloc, outside, name.as_str(), text)?;
+    let count = names.len().min(texts.len());
+    for i in 0..count {
+        write_at(alloc, outside, names, texts, i)?;
     }
     Ok(())
 }
@@ -99,7 +184,9 @@ fn is_steps<O: Outside>(
     name: &str,
     exploring: &Exploring<'_>,
     processors: u8,
-) -> bool {
+) -> bool
+    ensures { IsTrue result → spec.IsApart exploring.now name.now }
+{
     if is_read(outside, name, exploring) {
         return false;
     }
@@ -109,9 +196,20 @@ fn is_steps<O: Outside>(
     }
 }
 
-/// Removes a file of steps of an earlier search, or says that it cannot be removed.
-fn remove<O: Outside>(outside: &mut O, name: &str)
-    ensures { PrintsNothing (O.done outside.old) (O.done outside.new) }
+/// Removes the file of steps of this number, of an earlier search with more than this many, or says that it cannot be
+/// removed.
+fn remove<O: Outside>(
+    outside: &mut O,
+    out: &str,
+    count: usize,
+    number: usize,
+    name: &str,
+    exploring: &Exploring<'_>,
+)
+    requires later { count < number }
+    requires name { name.now ≡ steps_name out.now number }
+    requires apart { spec.IsApart exploring.now name.now }
+    ensures { spec.RemovesSteps exploring.now out.now count (O.done outside.old) (O.done outside.new) }
 {
     match outside.remove(name) {
         Ok(_) => {}
@@ -131,15 +229,14 @@ pub fn remove_earlier<O: Outside>(
     exploring: &Exploring<'_>,
     processors: u8,
 ) -> Result<(), AllocError>
-    ensures { PrintsNothing (O.done outside.old) (O.done outside.new) }
+    ensures { spec.RemovesSteps exploring.now out.now count (O.done outside.old) (O.done outside.new) }
 {
     for i in count..usize::MAX {
-        let number = i.saturating_add(1);
-        let name = format!(in alloc; "{out}.{number}")?;
+        let name = steps_name_of(alloc, out, i + 1)?;
         if !is_steps(alloc, outside, name.as_str(), exploring, processors) {
             return Ok(());
         }
-        remove(outside, name.as_str());
+        remove(outside, out, count, i + 1, name.as_str(), exploring);
     }
     Ok(())
 }

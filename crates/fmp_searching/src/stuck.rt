@@ -1,6 +1,11 @@
 //! What is seen of a task that can never go on, after the events that lead there.
-ghost use Rattle.std.specs.Prelude.{◌≡◌, IfSome};
+ghost use Rattle.std.specs.Prelude.{◌≡◌, ◌≤◌, ◌<◌, ◌^◌, [], IfOk, IfSome, length};
 ghost use Rattle.fmp_base.specs.States.{task_at};
+ghost use Rattle.fmp_base.specs.Steps.{step};
+ghost use Rattle.fmp_instructions.specs.Machine.{code_meaning};
+ghost use Rattle.fmp_kernel.specs.KernelViews.{view_after};
+ghost use Rattle.fmp_searching.specs.Fresh.{HasSeen};
+ghost use Rattle.fmp_searching.specs.Stuck.{IsHeldUp};
 
 use crate::fresh::fresh_kernel;
 use fmp_base::arguments::numbered;
@@ -107,7 +112,9 @@ fn held_up_in<B: Body<Ctx = MachineContext>>(
 
 /// Takes an event, unless as many are taken as a kernel takes.
 fn advance(kernel: &mut Kernel<Vm<'_>>, e: Event) -> Effect
-    ensures { kernel.new.body ≡ kernel.old.body }
+    ensures body { kernel.new.body ≡ kernel.old.body }
+    ensures taken { kernel.old.taken < 2 ^ 20 → kernel.new ≡ view_after kernel.old (step kernel.old.system
+        (code_meaning kernel.old.body) kernel.old.bound kernel.old.world e) }
 {
     if kernel.taken() >= TAKEN_MOST {
         return Effect::Nothing;
@@ -116,24 +123,28 @@ fn advance(kernel: &mut Kernel<Vm<'_>>, e: Event) -> Effect
 }
 
 /// Takes these events, as many as a kernel takes.
-fn advance_all(kernel: &mut Kernel<Vm<'_>>, events: &[Event])
-    ensures { kernel.new.body ≡ kernel.old.body }
+fn advance_all(kernel: &mut Kernel<Vm<'_>>, image: &Image, n: u64, events: &[Event])
+    requires { HasSeen image.now n [] kernel.old }
+    ensures body { kernel.new.body ≡ image.now.code }
+    ensures seen { length events.now ≤ 2 ^ 20 → HasSeen image.now n events.now kernel.new }
 {
     for e in events {
         let _effect = advance(kernel, *e);
     }
 }
 
-/// How a task stands that can never go on after events on the kernel of an image.
+/// How a task stands that can never go on after events with this bound on the kernel of an image.
 fn held_up_on<'a>(
     kernel: &mut Kernel<Vm<'a>>,
     image: &'a Image,
+    n: u64,
     events: &[Event],
     task: u8,
 ) -> Option<HeldUp>
-    requires { kernel.old.body ≡ image.now.code }
+    requires { HasSeen image.now n [] kernel.old }
+    ensures { IfSome result (IsHeldUp image.now n events.now task) }
 {
-    advance_all(kernel, events);
+    advance_all(kernel, image, n, events);
     held_up_in(kernel, &image.vm(), task)
 }
 
@@ -145,9 +156,11 @@ pub fn held_up(
     n: u64,
     events: &[Event],
     task: u8,
-) -> Result<Option<HeldUp>, AllocError> {
+) -> Result<Option<HeldUp>, AllocError>
+    ensures { IfOk result (λ held. IfSome held (IsHeldUp image.now n events.now task)) }
+{
     let mut kernel = fresh_kernel(alloc, image, n)?;
-    let held = held_up_on(&mut kernel, image, events, task);
+    let held = held_up_on(&mut kernel, image, n, events, task);
     drop(kernel);
     Ok(held)
 }

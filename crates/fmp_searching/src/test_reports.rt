@@ -1,8 +1,11 @@
 //! A search as a report in the XML of JUnit: a suite with a test for each sentence of the file, and one with a test for
 //! each other thing that was asked.
-ghost use Rattle.std.specs.Prelude.{◌≡◌, ◌++◌, IfOk, map};
+ghost use Rattle.std.specs.Prelude.{◌≡◌, ◌+◌, ◌++◌, ◌<◌, ◌^◌, [], ◌∷◌, IfOk, OnOk, length, map, nat_lt};
+ghost use Rattle.std.specs.Prelude.{if◌then◌else◌};
 ghost use Rattle.fmp_json.specs.Junit.{report_text};
+ghost use Rattle.fmp_searching.specs.Sources.{source_tables};
 ghost use Rattle.fmp_searching.specs.Tests as spec;
+ghost use Rattle.fmp_searching.specs.declared.seen.SeenKind.TheVariants as kind;
 
 use crate::judging::{AskedTest, JudgedTest, Searched, cases_of, judged};
 use crate::parts::{add_monitors, add_nevers, deadlock_part};
@@ -12,11 +15,11 @@ use fmp_explore::Monitor;
 use fmp_json::{TestCase, TestSuite, append_report};
 use std::alloc::{AllocError, Global};
 
-/// The line of this number of a text, from 1, without its line feed.
+/// The line of this number of a text, from 1, without the blanks at its end.
 pub fn line_at(text: &[u8], number: usize) -> &[u8] {
     let mut lines = text.split(|byte| *byte == b'\n');
     match lines.nth(number.saturating_sub(1)) {
-        Some(line) => line,
+        Some(line) => line.trim_ascii_end(),
         None => &[],
     }
 }
@@ -28,7 +31,9 @@ fn add_sentence(
     sources: &ExploredSources<'_>,
     kind: SeenKind,
     line: usize,
-) -> Result<(), AllocError> {
+) -> Result<(), AllocError>
+    ensures { OnOk result (map (λ t. t.kind) asked.new.items ≡ map (λ t. t.kind) asked.old.items ++ kind ∷ []) }
+{
     asked.push(AskedTest {
         kind,
         name: String::from_utf8_lossy(alloc, line_at(sources.sentences.text, line))?,
@@ -37,38 +42,90 @@ fn add_sentence(
     Ok(())
 }
 
-/// Adds the sentences of the file about calls that stand after a line and before another one.
-fn add_placed(
+/// Whether a line comes after one, and before another if there is one.
+fn is_between(after: usize, before: Option<usize>, line: usize) -> bool
+    ensures { result ≡ spec.is_between after before line }
+{
+    match before {
+        Some(before) => line > after && line < before,
+        None => line > after,
+    }
+}
+
+/// Adds the sentence about calls at a place, if it stands after a line, and before another one if there is one.
+fn add_call_sentence(
     alloc: Global,
     asked: &mut Vec<AskedTest>,
     sources: &ExploredSources<'_>,
-    (after, before): (usize, usize),
-) -> Result<(), AllocError> {
-    for (place, never) in sources.sentences.placed.iter().enumerate() {
-        if never.line > after && never.line < before {
-            let kind = SeenKind::Placed(place);
-            add_sentence(alloc, asked, sources, kind, never.line)?;
-        }
+    after: usize,
+    before: Option<usize>,
+    place: usize,
+    line: usize,
+) -> Result<(), AllocError>
+    ensures { OnOk result (map (λ t. t.kind) asked.new.items ≡ map (λ t. t.kind) asked.old.items
+        ++ (if spec.is_between after before line then kind.CallSentence place ∷ [] else [])) }
+{
+    if is_between(after, before, line) {
+        add_sentence(alloc, asked, sources, SeenKind::CallSentence(place), line)
+    } else {
+        Ok(())
+    }
+}
+
+/// Adds the sentences of the file about calls that stand after a line, and before another one if there is one.
+#[tactic(auto, using(crate::proofs::SeenLists::calls_between_at))]
+fn add_call_sentences(
+    alloc: Global,
+    asked: &mut Vec<AskedTest>,
+    sources: &ExploredSources<'_>,
+    after: usize,
+    before: Option<usize>,
+) -> Result<(), AllocError>
+    ensures { OnOk result (map (λ t. t.kind) asked.new.items ≡ map (λ t. t.kind) asked.old.items
+        ++ spec.calls_between after before 0 sources.now.sentences.call_sentences.now) }
+{
+    let calls = sources.sentences.call_sentences;
+    for place in 0..calls.len() {
+        add_call_sentence(
+            alloc,
+            asked,
+            sources,
+            after,
+            before,
+            place,
+            calls[place].line,
+        )?;
     }
     Ok(())
 }
 
-/// The sentences of the file.
+/// The sentences of the file, in the order of their lines.
+#[tactic(auto, using(crate::proofs::SeenLists::sentence_kinds_at))]
 fn asked_sentences(
     alloc: Global,
     sources: &ExploredSources<'_>,
-) -> Result<Vec<AskedTest>, AllocError> {
+) -> Result<Vec<AskedTest>, AllocError>
+    requires { sources.now.sentences.sections + length sources.now.sentences.expected.now < 2 ^ 64 }
+    ensures { IfOk result (λ asked. map (λ t. t.kind) asked.items
+        ≡ spec.sentence_kinds sources.now.sentences.call_sentences.now sources.now.sentences.sections 0
+        sources.now.sentences.expected.now) }
+{
+    let (sections, expected) = (sources.sentences.sections, sources.sentences.expected);
     let mut asked = Vec::new(alloc);
-    let mut place = sources.sentences.sections;
     let mut last: usize = 0;
-    for said in sources.sentences.expected {
-        add_placed(alloc, &mut asked, sources, (last, said.line))?;
-        let kind = SeenKind::Sentence(place);
-        add_sentence(alloc, &mut asked, sources, kind, said.line)?;
-        place = place.saturating_add(1);
-        last = said.line;
+    for i in 0..expected.len() {
+        let line = expected[i].line;
+        add_call_sentences(alloc, &mut asked, sources, last, Some(line))?;
+        add_sentence(
+            alloc,
+            &mut asked,
+            sources,
+            SeenKind::Sentence(sections + i),
+            line,
+        )?;
+        last = line;
     }
-    add_placed(alloc, &mut asked, sources, (last, usize::MAX))?;
+    add_call_sentences(alloc, &mut asked, sources, last, None)?;
     Ok(asked)
 }
 
@@ -78,7 +135,9 @@ fn add_asked(
     asked: &mut Vec<AskedTest>,
     kind: SeenKind,
     name: &[u8],
-) -> Result<(), AllocError> {
+) -> Result<(), AllocError>
+    ensures { OnOk result (map (λ t. t.kind) asked.new.items ≡ map (λ t. t.kind) asked.old.items ++ kind ∷ []) }
+{
     let name = String::from_utf8_lossy(alloc, name)?;
     asked.push(AskedTest {
         kind,
@@ -105,7 +164,10 @@ fn add_asked_nevers(
     alloc: Global,
     asked: &mut Vec<AskedTest>,
     sources: &ExploredSources<'_>,
-) -> Result<(), AllocError> {
+) -> Result<(), AllocError>
+    ensures { OnOk result (map (λ t. t.kind) asked.new.items ≡ map (λ t. t.kind) asked.old.items
+        ++ spec.never_kinds (source_tables sources.now)) }
+{
     let mut parts = Vec::new(alloc);
     let at_calls = sources.sentences.nevers_at;
     add_nevers(alloc, &sources.claim, at_calls, &mut parts)?;
@@ -115,14 +177,20 @@ fn add_asked_nevers(
     add_asked(alloc, asked, SeenKind::Never, &joined(alloc, &parts)?)
 }
 
-/// Adds the section at a place, which this monitor watches.
+/// Adds the section at a place, which this monitor watches, if the monitor there is one of a section.
 fn add_asked_section(
     alloc: Global,
     asked: &mut Vec<AskedTest>,
     sources: &ExploredSources<'_>,
     place: usize,
     monitor: Monitor,
-) -> Result<(), AllocError> {
+) -> Result<(), AllocError>
+    ensures { OnOk result (map (λ t. t.kind) asked.new.items ≡ map (λ t. t.kind) asked.old.items
+        ++ (if nat_lt place sources.now.sentences.sections then kind.Alone place ∷ [] else [])) }
+{
+    if place >= sources.sentences.sections {
+        return Ok(());
+    }
     let mut parts = Vec::new(alloc);
     add_monitors(alloc, sources.claim.configured, &[monitor], &mut parts)?;
     add_asked(
@@ -134,36 +202,49 @@ fn add_asked_section(
 }
 
 /// Adds the sections.
+#[tactic(auto, using(crate::proofs::SeenLists::section_kinds_at))]
 fn add_asked_sections(
     alloc: Global,
     asked: &mut Vec<AskedTest>,
     sources: &ExploredSources<'_>,
-) -> Result<(), AllocError> {
-    let mut place: usize = 0;
-    for monitor in &sources.claim.question.monitors {
-        if place < sources.sentences.sections {
-            add_asked_section(alloc, asked, sources, place, *monitor)?;
-        }
-        place = place.saturating_add(1);
+) -> Result<(), AllocError>
+    ensures { OnOk result (map (λ t. t.kind) asked.new.items ≡ map (λ t. t.kind) asked.old.items
+        ++ spec.section_kinds sources.now.sentences.sections 0 sources.now.claim.question.now.monitors.items) }
+{
+    let monitors = &sources.claim.question.monitors;
+    for place in 0..monitors.len() {
+        add_asked_section(alloc, asked, sources, place, monitors[place])?;
     }
     Ok(())
 }
 
-/// What is asked beside the sentences of the file.
-fn asked_others(
+/// Adds what is always asked.
+fn add_asked_last(
     alloc: Global,
+    asked: &mut Vec<AskedTest>,
     sources: &ExploredSources<'_>,
-) -> Result<Vec<AskedTest>, AllocError> {
+) -> Result<(), AllocError>
+    ensures { OnOk result (map (λ t. t.kind) asked.new.items ≡ map (λ t. t.kind) asked.old.items
+        ++ spec.last_kinds) }
+{
+    let claim = &sources.claim;
+    let deadlock = deadlock_part(alloc, claim.image.system(), claim.question)?;
+    add_asked(alloc, asked, SeenKind::Deadlock, &deadlock)?;
+    add_asked(alloc, asked, SeenKind::Fault, b"no fault")?;
+    let endless = b"no body that goes on for ever without a call";
+    add_asked(alloc, asked, SeenKind::Endless, endless)?;
+    add_asked(alloc, asked, SeenKind::Stuck, b"no stuck task")
+}
+
+/// What is asked beside the sentences of the file.
+fn asked_others(alloc: Global, sources: &ExploredSources<'_>) -> Result<Vec<AskedTest>, AllocError>
+    ensures { IfOk result (λ asked.
+        map (λ t. t.kind) asked.items ≡ spec.other_kinds (source_tables sources.now)) }
+{
     let mut asked = Vec::new(alloc);
     add_asked_nevers(alloc, &mut asked, sources)?;
     add_asked_sections(alloc, &mut asked, sources)?;
-    let claim = &sources.claim;
-    let deadlock = deadlock_part(alloc, claim.image.system(), claim.question)?;
-    add_asked(alloc, &mut asked, SeenKind::Deadlock, &deadlock)?;
-    add_asked(alloc, &mut asked, SeenKind::Fault, b"no fault")?;
-    let endless = b"no body that goes on for ever without a call";
-    add_asked(alloc, &mut asked, SeenKind::Endless, endless)?;
-    add_asked(alloc, &mut asked, SeenKind::Stuck, b"no stuck task")?;
+    add_asked_last(alloc, &mut asked, sources)?;
     Ok(asked)
 }
 
@@ -174,8 +255,9 @@ fn judge_all(
     searched: Searched<'_>,
     asked: &[AskedTest],
 ) -> Result<Vec<JudgedTest>, AllocError>
-    ensures { IfOk result (λ tests. spec.AreJudged sources.now.named.strict searched.entry.question.now
+    ensures judged { IfOk result (λ tests. spec.AreJudged sources.now.named.strict searched.entry.question.now
         searched.entry.report.now searched.entry.seen.now tests.items) }
+    ensures kinds { IfOk result (λ tests. map (λ t. t.kind) tests.items ≡ map (λ t. t.kind) asked.now) }
 {
     let mut tests = Vec::new(alloc);
     for one in asked {
@@ -228,8 +310,10 @@ fn plain_report(
     sources: &ExploredSources<'_>,
     searched: Searched<'_>,
 ) -> Result<Vec<u8>, AllocError>
-    ensures { IfOk result (λ out. spec.IsTestReport sources.now.named.strict searched.entry.question.now
-        searched.entry.report.now searched.entry.seen.now out.items) }
+    requires file { sources.now.sentences.file.now ≡ [] }
+    requires question { searched.question.now ≡ sources.now.claim.question.now }
+    ensures { IfOk result (λ out. spec.IsTestReport (source_tables sources.now) searched.entry.report.now
+        searched.entry.seen.now out.items) }
 {
     let asked = asked_others(alloc, sources)?;
     let tests = judge_all(alloc, sources, searched, &asked)?;
@@ -259,8 +343,11 @@ fn report_with_file(
     sources: &ExploredSources<'_>,
     searched: Searched<'_>,
 ) -> Result<Vec<u8>, AllocError>
-    ensures { IfOk result (λ out. spec.IsTestReport sources.now.named.strict searched.entry.question.now
-        searched.entry.report.now searched.entry.seen.now out.items) }
+    requires file { 0 < length sources.now.sentences.file.now }
+    requires places { sources.now.sentences.sections + length sources.now.sentences.expected.now < 2 ^ 64 }
+    requires question { searched.question.now ≡ sources.now.claim.question.now }
+    ensures { IfOk result (λ out. spec.IsTestReport (source_tables sources.now) searched.entry.report.now
+        searched.entry.seen.now out.items) }
 {
     let asked = asked_sentences(alloc, sources)?;
     let sentences = judge_all(alloc, sources, searched, &asked)?;
@@ -275,8 +362,10 @@ pub fn search_report(
     sources: &ExploredSources<'_>,
     searched: Searched<'_>,
 ) -> Result<Vec<u8>, AllocError>
-    ensures { IfOk result (λ out. spec.IsTestReport sources.now.named.strict searched.entry.question.now
-        searched.entry.report.now searched.entry.seen.now out.items) }
+    requires places { sources.now.sentences.sections + length sources.now.sentences.expected.now < 2 ^ 64 }
+    requires question { searched.question.now ≡ sources.now.claim.question.now }
+    ensures { IfOk result (λ out. spec.IsTestReport (source_tables sources.now) searched.entry.report.now
+        searched.entry.seen.now out.items) }
 {
     if sources.sentences.file.is_empty() {
         plain_report(alloc, sources, searched)

@@ -1,11 +1,16 @@
 //! Sentences that say nothing of a search: what they speak of never came.
-ghost use Rattle.std.specs.Prelude.{◌≡◌, ◌&&◌};
+ghost use Rattle.std.specs.Prelude.{◌≡◌, ◌++◌, ◌&&◌, OnOk, codes};
+ghost use Rattle.std.specs.Fmt.{signed_decimal};
+ghost use Rattle.fmp_searching.specs.Extent as extent;
+ghost use Rattle.fmp_searching.specs.Lines.{numbered};
+ghost use Rattle.fmp_searching.specs.Sources.{source_tables};
 ghost use Rattle.fmp_searching.specs.Unsaid as spec;
 
-use crate::seen::say_sentence;
-use crate::sources::{ExploredSources, say, say_made};
+use crate::claiming::append_value;
+use crate::seen::{say_sentence, value_of};
+use crate::sources::{ExploredSources, say};
 use fmp_explore::{Ending, Monitor, Question, Report};
-use fmp_monitors::{ExpectedDeed, Happening, Sentence, has_premise};
+use fmp_monitors::{Sentence, has_premise};
 use fmp_schedules::MonitorSubject;
 use std::alloc::{AllocError, Global};
 
@@ -57,56 +62,135 @@ pub fn counts_unsaid(strict: bool, question: &Question, report: &Report) -> bool
     strict && has_unsaid(question, report)
 }
 
-/// The value of a happening that somebody puts it.
-fn value_of(happening: &Happening) -> i32 {
-    match happening.deed {
-        ExpectedDeed::Put(value) => value,
-        _ => 0,
+/// Appends a section as the command line has it.
+fn say_option(out: &mut Vec<u8>, enters: i32, leaves: i32) -> Result<(), AllocError>
+    ensures { OnOk result (out.new.items ≡ out.old.items
+        ++ (codes "--alone " ++ (signed_decimal enters ++ (codes "," ++ signed_decimal leaves)))) }
+{
+    say(out, "--alone ")?;
+    append_value(enters, out)?;
+    say(out, ",")?;
+    append_value(leaves, out)
+}
+
+/// Appends a value between these texts.
+fn say_put(out: &mut Vec<u8>, head: &str, value: i32, tail: &str) -> Result<(), AllocError>
+    ensures { OnOk result (out.new.items
+        ≡ out.old.items ++ (head.now ++ (signed_decimal value ++ tail.now))) }
+{
+    say(out, head)?;
+    append_value(value, out)?;
+    say(out, tail)
+}
+
+/// Appends a section as the command line has it, and between these texts the value that enters it.
+fn say_section_as(
+    out: &mut Vec<u8>,
+    enters: i32,
+    leaves: i32,
+    head: &str,
+    tail: &str,
+) -> Result<(), AllocError>
+    ensures { OnOk result (out.new.items ≡ out.old.items ++ (codes "--alone " ++ (signed_decimal enters
+        ++ (codes "," ++ (signed_decimal leaves ++ (head.now ++ (signed_decimal enters ++ tail.now))))))) }
+{
+    say_option(out, enters, leaves)?;
+    say_put(out, head, enters, tail)
+}
+
+/// Appends that no task enters a section with these values.
+#[tactic(auto, unfolding(crate::specs::Extent::unentered_text))]
+fn say_unentered(out: &mut Vec<u8>, enters: i32, leaves: i32) -> Result<(), AllocError>
+    ensures { OnOk result (out.new.items ≡ out.old.items ++ extent.unentered_text enters leaves) }
+{
+    let head = ": never happens at all: put(";
+    say_section_as(out, enters, leaves, head, ") by a task\n")
+}
+
+/// Appends that no task enters the section of a sentence, if it is of one.
+fn say_section(out: &mut Vec<u8>, sentence: &Sentence) -> Result<(), AllocError>
+    ensures { OnOk result (out.new.items ≡ out.old.items ++ extent.section_text sentence.now) }
+{
+    match sentence {
+        Sentence::OneAtATime { entering, leaving } => {
+            say_unentered(out, value_of(entering), value_of(leaving))
+        }
+        _ => Ok(()),
     }
 }
 
-/// Appends that no task enters a section.
-fn say_section(
+/// Appends that the sentence at a place says nothing.
+fn say_nothing(
     alloc: Global,
     out: &mut Vec<u8>,
-    entering: &Happening,
-    leaving: &Happening,
-) -> Result<(), AllocError> {
-    let (enters, leaves) = (value_of(entering), value_of(leaving));
-    say_made(
+    sources: &ExploredSources<'_>,
+    place: usize,
+    subject: &MonitorSubject,
+) -> Result<(), AllocError>
+    ensures { OnOk result (out.new.items
+        ≡ out.old.items ++ extent.nothing_text (source_tables sources.now) place subject.now) }
+{
+    let MonitorSubject::Sentence(sentence) = subject else {
+        return Ok(());
+    };
+    let sections = sources.sentences.sections;
+    if place < sections {
+        return say_section(out, sentence);
+    }
+    say_sentence(
+        alloc,
         out,
-        format!(in alloc;
-            "--alone {enters},{leaves}: never happens at all: put({enters}) by a task\n"
-        ),
-    )
+        sources,
+        place - sections,
+        "never happens at all: ",
+    )?;
+    say(out, "\n")
 }
 
-/// Appends that the sentence at a place never says anything, unless it speaks of nothing that comes.
+/// Appends that the sentence of the monitor at a place says nothing, if it does, by whether what it speaks of came.
 fn say_unsaid(
     alloc: Global,
     out: &mut Vec<u8>,
     sources: &ExploredSources<'_>,
     place: usize,
-    sentence: &Sentence,
-) -> Result<(), AllocError> {
-    if !has_premise(sentence) {
-        return Ok(());
+    monitor: &Monitor,
+    came: bool,
+) -> Result<(), AllocError>
+    ensures { OnOk result (out.new.items
+        ≡ out.old.items ++ extent.unsaid_line (source_tables sources.now) place monitor.now came) }
+{
+    if is_unsaid(&monitor.subject, came) {
+        say_nothing(alloc, out, sources, place, &monitor.subject)
+    } else {
+        Ok(())
     }
-    let sections = sources.sentences.sections;
-    if place >= sections {
-        say_sentence(
+}
+
+/// Appends the sentences of these monitors that say nothing.
+#[tactic(auto, using(crate::proofs::SeenLists::numbered_at))]
+fn say_each_unsaid(
+    alloc: Global,
+    out: &mut Vec<u8>,
+    sources: &ExploredSources<'_>,
+    monitors: &[Monitor],
+    premises: &[bool],
+) -> Result<(), AllocError>
+    ensures { OnOk result (out.new.items ≡ out.old.items
+        ++ numbered (λ place m came. extent.unsaid_line (source_tables sources.now) place m came) 0 monitors.now
+        premises.now) }
+{
+    let count = monitors.len().min(premises.len());
+    for place in 0..count {
+        say_unsaid(
             alloc,
             out,
             sources,
-            place - sections,
-            "never happens at all: ",
+            place,
+            &monitors[place],
+            premises[place],
         )?;
-        return say(out, "\n");
     }
-    match sentence {
-        Sentence::OneAtATime { entering, leaving } => say_section(alloc, out, entering, leaving),
-        _ => Ok(()),
-    }
+    Ok(())
 }
 
 /// Appends the sentences of which nothing ever came that they speak of, where every state was examined.
@@ -115,16 +199,18 @@ pub fn say_all_unsaid(
     out: &mut Vec<u8>,
     sources: &ExploredSources<'_>,
     report: &Report,
-) -> Result<(), AllocError> {
+) -> Result<(), AllocError>
+    ensures { OnOk result (out.new.items
+        ≡ out.old.items ++ extent.unsaid_text (source_tables sources.now) report.now) }
+{
     if !is_whole(report.ending) {
         return Ok(());
     }
-    for (place, monitor) in sources.claim.question.monitors.iter().enumerate() {
-        if let MonitorSubject::Sentence(sentence) = &monitor.subject
-            && report.premises.get(place) == Some(&false)
-        {
-            say_unsaid(alloc, out, sources, place, sentence)?;
-        }
-    }
-    Ok(())
+    say_each_unsaid(
+        alloc,
+        out,
+        sources,
+        &sources.claim.question.monitors,
+        &report.premises,
+    )
 }

@@ -1,7 +1,8 @@
 //! What is said of what has the most values in the states of a search that stopped: a field of the states, or what is
 //! kept for a sentence, a section or a limit of an interrupt.
-ghost use Rattle.std.specs.Prelude.{◌≡◌, ◌++◌, ℕ, OnOk};
-ghost use Rattle.fmp_explore.specs.declared.values.Varied.TheVariants as varied;
+ghost use Rattle.std.specs.Prelude.{◌≡◌, ◌++◌, OnOk};
+ghost use Rattle.fmp_searching.specs.Extent.{varied_name};
+ghost use Rattle.fmp_searching.specs.Sources.{source_tables};
 ghost use Rattle.fmp_searching.specs.Varied as spec;
 
 use crate::claiming::{append, append_number};
@@ -113,7 +114,7 @@ fn append_standing_name(
     place: usize,
     out: &mut Vec<u8>,
 ) -> Result<(), AllocError>
-    ensures { OnOk result (out.new.items ≡ out.old.items ++ spec.kept_name sources.now place) }
+    ensures { OnOk result (out.new.items ≡ out.old.items ++ spec.kept_name (source_tables sources.now) place) }
 {
     let Some(monitor) = sources.claim.question.monitors.get(place) else {
         return Ok(());
@@ -134,18 +135,11 @@ pub fn append_varied(
     what: Varied,
     out: &mut Vec<u8>,
 ) -> Result<(), AllocError>
-    ensures { (place : ℕ) → what ≡ varied.Standing place →
-        OnOk result (out.new.items ≡ out.old.items ++ spec.kept_name sources.now place) }
+    ensures { OnOk result (out.new.items ≡ out.old.items ++ varied_name (source_tables sources.now) what) }
 {
     match what {
         Varied::Field(field) => {
-            append_name(
-                alloc,
-                out,
-                sources.claim.image.system(),
-                sources.names,
-                field,
-            )
+            append_name(out, sources.claim.image.system(), sources.names, field)
         }
         Varied::Standing(place) => append_standing_name(alloc, sources, place, out),
     }

@@ -7,5 +7,6 @@ use Rattle.fmp_searching.proofs.claiming.append_nevers_at.Given as goal
 
 abbrev pub invariant-loop-never : goal.invariant-loop-never
 invariant-loop-never l =
-    l.out.items ++ flat_map (λ n. never_at_text (tables_of l.sys) (code_tables l.code) l.lines n) (drop l.never-index l.nevers)
+    l.out.items
+    ++ flat_map (λ n. never_at_text (tables_of l.sys) (code_tables l.code) l.lines n) (drop l.never-index l.nevers)
     ≡ l.initial.out.items ++ flat_map (λ n. never_at_text (tables_of l.sys) (code_tables l.code) l.lines n) l.nevers

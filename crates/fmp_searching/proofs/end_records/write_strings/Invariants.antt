@@ -1,5 +1,5 @@
 use Rattle.std.proofs.Common.{◌≡◌, ◌++◌, drop, map, string_bytes}
-use Rattle.fmp_searching.specs.Records.{string_tokens}
+use Rattle.fmp_searching.specs.Members.{string_tokens}
 use Rattle.fmp_searching.proofs.end_records.write_strings.Given as goal
 
 abbrev pub invariant-loop-string : goal.invariant-loop-string

@@ -1,5 +1,12 @@
-use Rattle.std.proofs.Common.{◌≡◌, []}
+use Rattle.std.proofs.Common.{◌≡◌, ◌++◌, ◌+◌, drop}
+use Rattle.fmp_searching.specs.Findings.{finding_text}
+use Rattle.fmp_searching.specs.Sources.{source_tables}
+use Rattle.fmp_searching.specs.Lines.{numbered}
 use Rattle.fmp_searching.proofs.exploring.findings_text.Given as goal
 
-abbrev pub invariant-loop-finding : goal.invariant-loop-finding
-invariant-loop-finding l = l.finding-index ≡ 0 → l.text.items ≡ []
+abbrev pub invariant-loop-i : goal.invariant-loop-i
+invariant-loop-i l =
+    l.text.items
+    ++ numbered (λ number f x. finding_text (source_tables l.sources) number f x) (l.i + 1)
+    (drop l.i l.findings) (drop l.i l.seen)
+    ≡ numbered (λ number f x. finding_text (source_tables l.sources) number f x) 1 l.findings l.seen

@@ -6,4 +6,4 @@ use Rattle.fmp_searching.proofs.refused.refused_in.Goals as goal
 
 pub refused_calls-requires : goal.refused_calls-requires
 refused_calls-requires c =
-    subst (λ (code : List BodyTables). HasSites code) (sym c.code-2.ensures) (frame_sites _ c.keeps_rules.ensures)
+    subst (λ (code : List BodyTables). HasSites code) (sym c.code.ensures) (frame_sites _ c.keeps_rules.ensures)

@@ -8,8 +8,8 @@ pub question_by-requires : goal.question_by-requires
 question_by-requires g c =
     subst (λ (a : ExploreWords). IsWanted a (Ok c.args.opened.now.wanted.now)) (sym c.requires.0) c.requires
 
-pub returns-in-Ok : goal.returns-in-Ok
-returns-in-Ok g c =
+pub returns-in-Ok-clause-holds : goal.returns-in-Ok-clause-holds
+returns-in-Ok-clause-holds g c =
     let asked = rw c.in-Ok.is at c.in_ok-question.ensures in
     let asks = rw c.requires.0 at asked.1 in
     IfOk-weaker c.explore_question.result _ _
@@ -18,5 +18,18 @@ returns-in-Ok g c =
       are = c.in_ok-lines.ensures;
       question = c.in-Ok.question;
       asks = asks;
-      claimed = claims zero;
+      holds = claims zero;
     }) c.explore_question.ensures.claimed
+
+pub returns-in-Ok-clause-ended : goal.returns-in-Ok-clause-ended
+returns-in-Ok-clause-ended g c =
+    let asked = rw c.in-Ok.is at c.in_ok-question.ensures in
+    let asks = rw c.requires.0 at asked.1 in
+    IfOk-weaker c.explore_question.result _ _
+    (λ status ends told. record {
+      bodies = c.in_ok-lines.lines;
+      are = c.in_ok-lines.ensures;
+      question = c.in-Ok.question;
+      asks = asks;
+      holds = ends told;
+    }) c.explore_question.ensures.ended

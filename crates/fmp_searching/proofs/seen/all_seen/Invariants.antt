@@ -1,11 +1,8 @@
-use Rattle.std.proofs.Common.{◌≡◌, ◌++◌, drop, map, true}
-use Rattle.std.specs.List.{list_all}
-use Rattle.fmp_searching.specs.Seen.{is_fitting}
+use Rattle.std.proofs.Common.{take}
+use Rattle.std.specs.List.{AllZip}
+use Rattle.fmp_searching.specs.Seen.{IsSeen}
+use Rattle.fmp_searching.specs.Sources.{source_tables}
 use Rattle.fmp_searching.proofs.seen.all_seen.Given as goal
 
-abbrev pub invariant-loop-finding : goal.invariant-loop-finding
-invariant-loop-finding l = record {
-  found : map (λ s. s.found) l.all.items ++ map (λ f. f.kind) (drop l.finding-index l.findings)
-      ≡ map (λ f. f.kind) l.findings;
-  broken : list_all (λ s. is_fitting l.sources.sentences.sections s) l.all.items ≡ true;
-}
+abbrev pub invariant-loop-i : goal.invariant-loop-i
+invariant-loop-i l = AllZip (IsSeen (source_tables l.sources)) (take l.i l.findings) l.all.items

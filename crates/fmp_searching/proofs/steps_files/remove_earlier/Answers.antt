@@ -1,5 +1,6 @@
-use Rattle.fmp_searching.proofs.Printing.{quiet_then}
+use Rattle.fmp_searching.proofs.Endings.{removes_then}
 use Rattle.fmp_searching.proofs.steps_files.remove_earlier.Goals as goal
 
 pub loop-i-preserved : goal.loop-i-preserved
-loop-i-preserved g c = quiet_then _ _ _ c.loop-i.invariant c.remove.ensures
+loop-i-preserved g c =
+    removes_then c.args.exploring.now c.args.out.now c.args.count _ _ _ c.loop-i.invariant c.remove.ensures

@@ -1,5 +1,6 @@
-use Rattle.fmp_searching.specs.Claimed.{PrintsNothing}
+use Rattle.fmp_searching.specs.Files.{RemovesSteps}
 use Rattle.fmp_searching.proofs.steps_files.remove_earlier.Given as goal
 
 abbrev pub invariant-loop-i : goal.invariant-loop-i
-invariant-loop-i g l = PrintsNothing (g.O.Outside.done l.initial.outside) (g.O.Outside.done l.outside)
+invariant-loop-i g l =
+    RemovesSteps l.exploring l.out l.count (g.O.Outside.done l.initial.outside) (g.O.Outside.done l.outside)

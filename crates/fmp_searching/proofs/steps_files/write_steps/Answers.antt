@@ -1,16 +1,30 @@
-use Rattle.fmp_searching.proofs.Printing.{quiet_begun, quiet_then, quiet_written}
+use Rattle.std.proofs.Common.{List, arith, string_bytes, subst}
+use Rattle.fmp_files.specs.Deeds.{Deed, Does}
+use Rattle.fmp_searching.proofs.Endings.{written_all, written_step}
+use Rattle.fmp_searching.proofs.Printing.{quiet_then}
 use Rattle.fmp_searching.proofs.steps_files.write_steps.Goals as goal
 
-pub loop-name-preserved : goal.loop-name-preserved
-loop-name-preserved g c =
+pub loop-i-preserved : goal.loop-i-preserved
+loop-i-preserved g c =
     let done = g.O.Outside.done in
-    quiet_then _ _ _ c.loop-name.invariant
-    (quiet_written c.as_str.result.now c.deref.result.now (done c.loop-name.outside) (done c.write_file.new.outside)
-    c.in_ok-write_file.ensures.ok)
+    record {
+      quiet = quiet_then _ _ _ c.loop-i.invariant.quiet c.write_at.ensures.quiet;
+      written =
+          written_step string_bytes (λ text. text.items) c.args.names.now c.args.texts.now c.loop-i.i
+          (done c.args.outside.now) (done c.loop-i.outside) (done c.write_at.new.outside)
+          (omega (arith, c.min-count.ensures, c.loop-i-test.true))
+          (omega (arith, c.min-count.ensures, c.loop-i-test.true))
+          c.loop-i.invariant.written c.in_ok-write_at.ensures.written;
+    }
 
-pub returns-in_err-write_file : goal.returns-in_err-write_file
-returns-in_err-write_file g c =
+pub returns-in_err-write_at-clause-quiet : goal.returns-in_err-write_at-clause-quiet
+returns-in_err-write_at-clause-quiet g c =
+    quiet_then _ _ _ c.loop-i.invariant.quiet c.write_at.ensures.quiet
+
+pub returns-clause-written : goal.returns-clause-written
+returns-clause-written g c =
     let done = g.O.Outside.done in
-    quiet_then _ _ _ c.loop-name.invariant
-    (quiet_begun c.as_str.result.now c.deref.result.now (done c.loop-name.outside) (done c.write_file.new.outside)
-    c.in_err-write_file.ensures.begun)
+    subst (λ (deeds : List Deed). Does (done c.args.outside.now) deeds (done c.loop-i.outside))
+    (written_all string_bytes (λ text. text.items) c.args.names.now c.args.texts.now c.loop-i.i
+    (omega (arith, c.min-count.ensures, c.loop-i-test.false)))
+    c.loop-i.invariant.written

@@ -5,7 +5,7 @@ use Rattle.fmp_kernel.specs.KernelViews.{KernelView}
 use Rattle.fmp_searching.proofs.StuckLemmas.{body_stays}
 use Rattle.fmp_searching.proofs.stuck.advance.Goals as goal
 
-pub returns : goal.returns
-returns c =
+pub returns-clause-body : goal.returns-clause-body
+returns-clause-body c =
     ap (λ (x : KernelView (List BodyTables) MachineContext). x.body) c.step.ensures.state
     ∙ body_stays c.args.kernel.now _

@@ -1,0 +1,12 @@
+use Rattle.std.proofs.Common.{◌++◌, append-nil, sym, ap, ◌∙◌, arith}
+use Rattle.fmp_base.specs.declared.systems.TaskConfig.{TaskConfig}
+use Rattle.fmp_searching.specs.Extent.{unrun_word}
+use Rattle.fmp_searching.proofs.SeenLists.{numbered_end}
+use Rattle.fmp_searching.proofs.covering.say_unrun_tasks.Goals as goal
+
+pub returns : goal.returns
+returns c =
+    let end =
+    numbered_end (λ t (x : TaskConfig) ran. unrun_word x.name ran) c.loop-t.t c.args.tasks.now c.args.ran.now c.loop-t.t
+    (omega (arith, c.min-count.ensures, c.loop-t-test.false)) in
+    sym (append-nil c.loop-t.out.items) ∙ ap (λ r. c.loop-t.out.items ++ r) (sym end) ∙ c.loop-t.invariant

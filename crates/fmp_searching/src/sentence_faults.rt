@@ -1,0 +1,93 @@
+//! What is said of a text of sentences of which one asks for no question.
+ghost use Rattle.std.specs.Prelude.{◌≡◌, IfOk, Ok};
+ghost use Rattle.fmp_base.specs.Systems.{tables_of};
+ghost use Rattle.fmp_expect.specs.CallSentences.{other_sentences_of};
+
+use crate::asking::{CommandMistake, is_end};
+use crate::sites::CallLines;
+use crate::test_reports::line_at;
+use fmp_arguments::flaw_text;
+use fmp_base::System;
+use fmp_expect::{Expected, read_call_sentences, read_other_sentences};
+use fmp_image_bytes::Image;
+use std::alloc::{AllocError, Global};
+
+/// What is said of sentences about calls of which one names a line without any.
+const NO_CALL: &str = "expect: `at` names a line of SRC in which no call stands";
+
+/// What is said of sentences of which one is about the end of a run.
+const NO_END: &str = "expect: `end` is of the end of a run; a search looks at no end";
+
+/// The sentences of a text without flaws that are not about calls, with their lines. `AllocError` if memory runs out.
+pub fn expected_in(
+    alloc: Global,
+    configured: &System,
+    said: &[u8],
+) -> Result<Vec<Expected>, AllocError>
+    ensures { IfOk result (λ all. other_sentences_of (tables_of configured.now) said.now ≡ Ok all.items) }
+{
+    match read_other_sentences(alloc, configured, said) {
+        Ok(expected) => Ok(expected),
+        Err(_) => Err(AllocError),
+    }
+}
+
+/// What is said of the first sentence about the calls of a line in which none stands.
+fn uncalled_text(
+    alloc: Global,
+    configured: &System,
+    text: &[u8],
+    image: &Image,
+    lines: &CallLines,
+) -> Result<String, AllocError> {
+    image.keeps_rules();
+    for never in &read_call_sentences(alloc, configured, text)? {
+        let (line, at) = (never.line, never.at);
+        if lines.calls(alloc, image.code(), at)?.is_empty() {
+            return format!(in alloc;
+                "expect:{line}: `at` names a line of SRC in which no call stands: `{at}`"
+            );
+        }
+    }
+    String::from_str(alloc, NO_CALL)
+}
+
+/// What is said of the first sentence about the end of a run.
+fn end_text(alloc: Global, configured: &System, text: &[u8]) -> Result<String, AllocError> {
+    for said in &expected_in(alloc, configured, text)? {
+        if is_end(&said.sentence) {
+            let line = said.line;
+            return format!(in alloc;
+                "expect:{line}: `end` is of the end of a run; a search looks at no end"
+            );
+        }
+    }
+    String::from_str(alloc, NO_END)
+}
+
+/// What is said of a text of sentences about what is configured, of which one asks for no question about an image,
+/// whose bodies' calls stand in these lines; none where the mistake is one of words. `AllocError` if memory runs out.
+pub fn fault_of_sentences(
+    alloc: Global,
+    configured: &System,
+    text: &[u8],
+    (image, lines): (&Image, &CallLines),
+    mistake: CommandMistake,
+) -> Result<Option<String>, AllocError> {
+    match mistake {
+        CommandMistake::Sentence { line, flaw } => {
+            let said = flaw_text(alloc, configured, line, line_at(text, line), flaw)?;
+            Ok(Some(said))
+        }
+        CommandMistake::SentenceCall => {
+            Ok(Some(uncalled_text(alloc, configured, text, image, lines)?))
+        }
+        CommandMistake::End => Ok(Some(end_text(alloc, configured, text)?)),
+        CommandMistake::Never
+        | CommandMistake::Alone
+        | CommandMistake::Count
+        | CommandMistake::Gap
+        | CommandMistake::Rest
+        | CommandMistake::Call => Ok(None),
+    }
+}
