@@ -93,10 +93,20 @@ plan_text source processors bs =
 abbrev pub shown_byte : ℕ → ℕ
 shown_byte b = if nat_lt b 32 || (b == 127) then 63 else b
 
+-- where a note stands: cfg:LINE: `WORD
+unfoldable pub note_front : (line : ℕ) (word : List ℕ) → List ℕ
+note_front line word = codes "cfg:" ++ (decimal line ++ (codes ": `" ++ map shown_byte word))
+
 abbrev pub note_end : (says why : List ℕ) → List ℕ
 note_end says why = codes "`" ++ (says ++ (why ++ codes "\n"))
 
 -- a line of the list: cfg:LINE: `WORD` and what is said of the word
 unfoldable pub note_text : (line : ℕ) (word says why : List ℕ) → List ℕ
-note_text line word says why =
-    codes "cfg:" ++ (decimal line ++ (codes ": `" ++ (map shown_byte word ++ note_end says why)))
+note_text line word says why = note_front line word ++ note_end says why
+
+-- cfg:LINE: `WORD` is left out since a constant has no value
+unfoldable pub unknown_text : (line : ℕ) (word constant : List ℕ) → List ℕ
+unknown_text line word constant =
+    note_front line word
+    ++ (codes "` is left out: the constant `"
+    ++ (map shown_byte constant ++ codes "` is unknown; `-D` gives it a value\n"))

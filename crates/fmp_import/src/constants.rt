@@ -1,9 +1,11 @@
 //! The constants of a configuration in C.
-ghost use Rattle.std.specs.Prelude.{◌≡◌, [], IfOk, OnErr, bytes_eq, find};
+ghost use Rattle.std.specs.Prelude.{◌≡◌, [], IfOk, OnErr, bytes_eq, find, length, option_map};
+ghost use Rattle.fmp_base.specs.Words as spec_words;
 ghost use Rattle.fmp_base.specs.Names.{name_text};
 ghost use Rattle.fmp_import.specs.Constants as spec;
 ghost use Rattle.fmp_import.specs.Constants.{HasDefined, HasGiven, HasMore};
 
+use crate::directives::enabled_lexemes;
 use crate::lexemes::{Lexeme, LexemeKind, lexemes};
 use crate::reading::SourceReading;
 use crate::text::bytes_of;
@@ -50,6 +52,26 @@ impl Model for Constants {
 /// What `fmp_view export --toppers` writes for the bytes of a stack beside those of the text.
 const STACK_BESIDE: &[u8] = b"FMP_STACK";
 
+/// The value of a limit of priorities.
+fn limit_value(word: &[u8]) -> Option<i64>
+    ensures { result ≡ spec.limit_value word.now }
+{
+    if word == b"TMIN_TPRI".as_slice() {
+        return Some(1);
+    }
+    if word == b"TMAX_TPRI".as_slice() || word == b"TMAX_MPRI".as_slice() {
+        return Some(16);
+    }
+    None
+}
+
+/// The value of a constant of uITRON.
+fn constant_value(word: &[u8]) -> Option<i64>
+    ensures { result ≡ option_map spec_words.constant_value (spec_words.constant_named word.now) }
+{
+    Some(i64::from(find_constant(word)?.value()))
+}
+
 /// The value of a name that is known from the first.
 fn own_value(word: &[u8]) -> Option<i64>
     ensures { result ≡ spec.own_value word.now }
@@ -57,7 +79,7 @@ fn own_value(word: &[u8]) -> Option<i64>
     if word == b"NULL".as_slice() || word == STACK_BESIDE {
         return Some(0);
     }
-    Some(i64::from(find_constant(word)?.value()))
+    limit_value(word).or(constant_value(word))
 }
 
 impl Constants {
@@ -68,6 +90,13 @@ impl Constants {
         Constants {
             definitions: Vec::new(alloc),
         }
+    }
+
+    /// How many definitions there are.
+    pub(crate) fn count(&self) -> usize
+        ensures { result ≡ length self.now }
+    {
+        self.definitions.len()
     }
 
     /// The value of a name.
@@ -116,7 +145,8 @@ impl Constants {
         }
     }
 
-    /// Adds the constant that a line of the preprocessor defines. A macro with parameters is no constant.
+    /// Adds the constant that a line of the preprocessor defines, unless its name is known. A macro with parameters is
+    /// no constant.
     pub(crate) fn define(&mut self, alloc: Global, line: &[u8]) -> Result<Defines, AllocError>
         ensures { HasMore self.old self.new }
     {
@@ -136,14 +166,18 @@ impl Constants {
         {
             return Ok(Defines::NoNumber);
         }
-        self.add(alloc, text, bytes_of(text, name.span), expression)
+        let name = bytes_of(text, name.span);
+        if self.defined(name).is_some() {
+            return Ok(Defines::Constant);
+        }
+        self.add(alloc, text, name, expression)
     }
 
     /// Adds the constants that a header defines; its other lines are skipped.
     pub(crate) fn take_header(&mut self, alloc: Global, text: &[u8]) -> Result<(), AllocError>
         ensures { HasMore self.old self.new }
     {
-        for lexeme in &lexemes(alloc, text)? {
+        for lexeme in &enabled_lexemes(alloc, text)? {
             if lexeme.kind == LexemeKind::Directive {
                 self.define(alloc, bytes_of(text, lexeme.span))?;
             }

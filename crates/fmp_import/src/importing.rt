@@ -5,10 +5,12 @@ ghost use Rattle.fmp_import.specs.Imports as spec;
 ghost use Rattle.fmp_import.specs.Written.{block_view, plan_text};
 
 use crate::constants::Constants;
+use crate::defining::{Source, take_constants};
+use crate::directives::{enabled_lexemes, included_name};
 use crate::lexemes::{LexemeKind, lexemes};
 use crate::plan::{Block, TextSpan};
 use crate::text::bytes_of;
-use crate::walking::{ConfigurationWalk, included_name};
+use crate::walking::ConfigurationWalk;
 use crate::writing::append_plan;
 use fmp_cfgparse::read_cfg;
 use fmp_lex::BuildFault;
@@ -130,9 +132,15 @@ fn drafted(
     alloc: Global,
     text: &[u8],
     headers: &[Header],
-    constants: Constants,
+    mut constants: Constants,
 ) -> Result<Draft, AllocError> {
-    let found = lexemes(alloc, text)?;
+    let found = enabled_lexemes(alloc, text)?;
+    let source = Source {
+        text,
+        lexemes: &found,
+        headers,
+    };
+    take_constants(alloc, source, &mut constants)?;
     let mut walk = ConfigurationWalk::new(alloc, text, &found, headers, constants);
     walk.go()?;
     Ok(Draft {

@@ -42,7 +42,7 @@ fn is_word(byte: u8) -> bool {
 }
 
 /// Where the word ends that goes on at a place.
-fn word_end(text: &[u8], from: usize) -> usize
+pub fn word_end(text: &[u8], from: usize) -> usize
     requires { from ≤ length text.now }
     ensures from { from ≤ result }
     ensures within { result ≤ length text.now }
@@ -143,6 +143,11 @@ fn comment_or_sign(text: &[u8], next: usize) -> TextPiece
     }
 }
 
+/// Whether a line ends at a place.
+fn is_line_end(text: &[u8], at: usize) -> bool {
+    matches!(text.get(at), Some(b'\r' | b'\n'))
+}
+
 /// The piece that begins at a place.
 fn piece_at(text: &[u8], at: usize) -> TextPiece
     requires { at < length text.now }
@@ -152,6 +157,10 @@ fn piece_at(text: &[u8], at: usize) -> TextPiece
     let next = at + 1;
     match text[at] {
         b' ' | b'\t' | b'\r' | b'\n' | 11 | 12 => TextPiece {
+            kind: None,
+            end: next,
+        },
+        b'\\' if is_line_end(text, next) => TextPiece {
             kind: None,
             end: next,
         },

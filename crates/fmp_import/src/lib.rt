@@ -3,6 +3,8 @@
 #![tactic(auto)]
 
 mod constants;
+mod defining;
+mod directives;
 mod importing;
 mod lexemes;
 mod notes;

@@ -12,8 +12,10 @@ use std::alloc::{AllocError, Global};
 pub enum Omission {
     /// Memory ran out.
     Memory,
-    /// What is wrong, and the constant that is unknown, if it is due to one.
-    Left(&'static str, Option<Lexeme>),
+    /// This is wrong.
+    Wrong(&'static str),
+    /// The value of this constant is unknown.
+    Unknown(Lexeme),
 }
 
 impl From<AllocError> for Omission {
@@ -56,7 +58,7 @@ pub struct SourceObject {
     pub changes: Changes,
 }
 
-const WRONG_COUNT: Omission = Omission::Left("the number of its parameters is another one", None);
+const WRONG_COUNT: Omission = Omission::Wrong("the number of its parameters is another one");
 
 /// Reads the parameters of objects.
 #[derive(Clone, Copy)]
@@ -125,8 +127,8 @@ impl Parameters<'_> {
     fn value(&self, field: SourceField, without: &'static str) -> Result<i64, Omission> {
         match value_of(self.alloc, self.reading, self.reading.lexemes_of(field)) {
             Ok(value) => Ok(value),
-            Err(NoValue::Unknown(lexeme)) => Err(Omission::Left(without, Some(lexeme))),
-            Err(NoValue::Form) => Err(Omission::Left(without, None)),
+            Err(NoValue::Unknown(lexeme)) => Err(Omission::Unknown(lexeme)),
+            Err(NoValue::Form) => Err(Omission::Wrong(without)),
             Err(NoValue::Memory) => Err(Omission::Memory),
         }
     }
@@ -141,7 +143,7 @@ impl Parameters<'_> {
     ) -> Result<i32, Omission> {
         match i32::try_from(self.value(field, outside)?) {
             Ok(number) if low <= number && number <= high => Ok(number),
-            _ => Err(Omission::Left(outside, None)),
+            _ => Err(Omission::Wrong(outside)),
         }
     }
 
@@ -149,7 +151,7 @@ impl Parameters<'_> {
     fn name(&self, field: SourceField, without: &'static str) -> Result<PlanItem, Omission> {
         match self.reading.word_of(field) {
             Some(word) if is_name(self.reading.bytes(word)) => Ok(PlanItem::Name(word.span)),
-            _ => Err(Omission::Left(without, None)),
+            _ => Err(Omission::Wrong(without)),
         }
     }
 
@@ -195,30 +197,29 @@ impl Parameters<'_> {
         Ok((bits, others))
     }
 
-    /// An attribute of these constants, or of the last one if it has none of them, and whether it has others.
+    /// An attribute of these known constants, or `none` if it has none of them, and whether it has others.
     fn attribute(
         &self,
         field: SourceField,
-        first: Constant,
-        second: Constant,
-        third: Constant,
+        known: [Constant; 3],
         none: Constant,
     ) -> Result<(PlanItem, bool), Omission> {
+        let [first, second, third] = known;
         let (bits, others) = self.bits(field)?;
-        let known = i64::from(first.value() | second.value() | third.value());
+        let known_bits = i64::from(first.value() | second.value() | third.value());
         let first = set_in(bits, first);
         let second = set_in(bits, second);
         let third = set_in(bits, third);
         Ok((
             joined(first, second, third, none),
-            others || bits & known != bits,
+            others || bits & known_bits != bits,
         ))
     }
 
     /// The attribute of a queue of waiting tasks.
     fn order(&self, field: SourceField) -> Result<(PlanItem, bool), Omission> {
         let fifo = Constant::TaTfifo;
-        self.attribute(field, Constant::TaTpri, fifo, fifo, fifo)
+        self.attribute(field, [Constant::TaTpri, fifo, fifo], fifo)
     }
 
     /// Extended information, and whether it is 0 in the place of something else.
@@ -226,7 +227,7 @@ impl Parameters<'_> {
         match self.ranged(field, -i32::MAX, i32::MAX, "") {
             Ok(number) => Ok((PlanItem::Number(number), false)),
             Err(Omission::Memory) => Err(Omission::Memory),
-            Err(Omission::Left(..)) => Ok((PlanItem::Number(0), true)),
+            Err(Omission::Wrong(_) | Omission::Unknown(_)) => Ok((PlanItem::Number(0), true)),
         }
     }
 
@@ -244,7 +245,7 @@ impl Parameters<'_> {
         };
         let null = Constant::TaNull;
         let subject = self.subject(*name)?;
-        let (attribute, others) = self.attribute(*attribute, Constant::TaAct, null, null, null)?;
+        let (attribute, others) = self.attribute(*attribute, [Constant::TaAct, null, null], null)?;
         let (information, is_zero) = self.information(*information)?;
         let (entry, is_escaped) = self.entry(*entry)?;
         let priority = self.ranged(*priority, 1, 16, "its priority is not 1 to 16")?;
@@ -305,9 +306,7 @@ impl Parameters<'_> {
         let subject = self.subject(*name)?;
         let (attribute, others) = self.attribute(
             *attribute,
-            Constant::TaTpri,
-            Constant::TaWmul,
-            Constant::TaClr,
+            [Constant::TaTpri, Constant::TaWmul, Constant::TaClr],
             Constant::TaTfifo,
         )?;
         let pattern = self.ranged(*pattern, 0, 65535, "its pattern is not 0 to 65535")?;
@@ -353,9 +352,7 @@ impl Parameters<'_> {
         let subject = self.subject(*name)?;
         let (attribute, others) = self.attribute(
             *attribute,
-            Constant::TaTpri,
-            Constant::TaMpri,
-            fifo,
+            [Constant::TaTpri, Constant::TaMpri, fifo],
             fifo,
         )?;
         let most = self.ranged(*most, 1, 16, "its greatest message priority is not 1 to 16")?;
@@ -379,7 +376,7 @@ impl Parameters<'_> {
         };
         let null = Constant::TaNull;
         let subject = self.subject(*name)?;
-        let (attribute, others) = self.attribute(*attribute, null, null, null, null)?;
+        let (attribute, others) = self.attribute(*attribute, [null, null, null], null)?;
         let record = Record {
             api: Api::CreSpn,
             subject,
@@ -398,7 +395,7 @@ impl Parameters<'_> {
         let [name, attribute, information, entry, period, phase] = fields;
         let null = Constant::TaNull;
         let subject = self.subject(name)?;
-        let (attribute, others) = self.attribute(attribute, Constant::TaSta, null, null, null)?;
+        let (attribute, others) = self.attribute(attribute, [Constant::TaSta, null, null], null)?;
         let (information, is_zero) = self.information(information)?;
         let (entry, is_escaped) = self.entry(entry)?;
         let period = self.ranged(period, 1, 1 << 30, "its period is not 1 to 2^30")?;
@@ -448,10 +445,9 @@ impl Parameters<'_> {
                 let fields = [*name, *attribute, *information, *entry, *period, *phase];
                 self.cyclic(fields, true)
             }
-            [_, _, kind, ..] if self.notifies(*kind) => Err(Omission::Left(
-                "it notifies by something else than a handler",
-                None,
-            )),
+            [_, _, kind, ..] if self.notifies(*kind) => {
+                Err(Omission::Wrong("it notifies by something else than a handler"))
+            }
             [name, attribute, information, entry, period, phase] => {
                 let fields = [*name, *attribute, *information, *entry, *period, *phase];
                 self.cyclic(fields, false)
@@ -466,7 +462,7 @@ impl Parameters<'_> {
         };
         let null = Constant::TaNull;
         let number = self.ranged(*number, 1, 32, "its interrupt number is not 1 to 32")?;
-        let (attribute, others) = self.attribute(*attribute, null, null, null, null)?;
+        let (attribute, others) = self.attribute(*attribute, [null, null, null], null)?;
         let (entry, is_escaped) = self.entry(*entry)?;
         let record = Record {
             api: Api::DefInh,
@@ -494,7 +490,7 @@ impl Parameters<'_> {
             Api::CreCyc => self.any_cyclic(fields),
             Api::DefInh => self.interrupt(fields),
             Api::CreMsg | Api::CreShr => {
-                Err(Omission::Left("it is no static API of TOPPERS or uITRON", None))
+                Err(Omission::Wrong("it is no static API of TOPPERS or uITRON"))
             }
         }
     }

@@ -1,8 +1,10 @@
 //! A configuration of C is gone over, statement by statement.
 use crate::constants::{Constants, Defines};
+use crate::defining::header_named;
+use crate::directives::{included_name, leaves_out};
 use crate::importing::Header;
 use crate::lexemes::{Lexeme, LexemeKind};
-use crate::notes::append_note;
+use crate::notes::{append_note, append_unknown};
 use crate::objects::{Changes, Omission, Parameters, SourceObject, is_escaped};
 use crate::plan::{Block, PlanItem, Record, SourceClass};
 use crate::reading::{SourceField, SourceReading};
@@ -193,6 +195,16 @@ impl<'a> ConfigurationWalk<'a> {
         )
     }
 
+    /// Says that an object is left out since it has a constant that is unknown.
+    fn note_unknown(&mut self, at: Lexeme, constant: Lexeme) -> Result<(), AllocError> {
+        append_unknown(
+            at.line,
+            bytes_of(self.text, at.span),
+            bytes_of(self.text, constant.span),
+            &mut self.notes,
+        )
+    }
+
     /// The innermost open class; none where there is none, or where this project has none of its name.
     fn class(&self) -> Option<Scope> {
         for block in self.open.iter().rev() {
@@ -337,13 +349,8 @@ impl<'a> ConfigurationWalk<'a> {
                 None => Ok(()),
             },
             Err(Omission::Memory) => Err(AllocError),
-            Err(Omission::Left(why, unknown)) => {
-                self.note(at, LEFT_OUT, why)?;
-                match unknown {
-                    Some(name) => self.note(name, CHANGED, "no constant of this name is known"),
-                    None => Ok(()),
-                }
-            }
+            Err(Omission::Wrong(why)) => self.note(at, LEFT_OUT, why),
+            Err(Omission::Unknown(constant)) => self.note_unknown(at, constant),
         }
     }
 
@@ -408,6 +415,13 @@ impl<'a> ConfigurationWalk<'a> {
         if let Some(name) = included_name(line) {
             return self.include(at, name);
         }
+        if leaves_out(line) {
+            return self.note(
+                at,
+                LEFT_OUT,
+                "nothing before its `#else` or `#endif` is read",
+            );
+        }
         match self.constants.define(self.alloc, line)? {
             Defines::Constant => Ok(()),
             Defines::NoNumber => self.note(at, LEFT_OUT, "it defines no number"),
@@ -419,14 +433,12 @@ impl<'a> ConfigurationWalk<'a> {
         }
     }
 
-    /// Takes the constants of an included file.
+    /// Takes the name of an included file, whose constants are known.
     fn include(&mut self, at: Lexeme, name: &[u8]) -> Result<(), AllocError> {
-        for header in self.headers {
-            if header.name.as_slice() == name {
-                return self.constants.take_header(self.alloc, &header.text);
-            }
+        match header_named(self.headers, name) {
+            Some(_) => Ok(()),
+            None => self.note(at, LEFT_OUT, "the file is not there"),
         }
-        self.note(at, LEFT_OUT, "the file is not there")
     }
 
     /// Takes a lexeme outside of statements.
@@ -540,15 +552,4 @@ impl<'a> ConfigurationWalk<'a> {
         }
         Ok(())
     }
-}
-
-/// The name of the file that a line of the preprocessor includes, if it stands in quotes.
-pub fn included_name(line: &[u8]) -> Option<&[u8]> {
-    let word = line.strip_prefix(b"#")?.trim_ascii();
-    let name = word
-        .strip_prefix(b"include")?
-        .trim_ascii()
-        .strip_prefix(b"\"")?;
-    let end = name.iter().position(|byte| *byte == b'"')?;
-    Some(&name[..end])
 }

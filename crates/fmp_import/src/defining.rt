@@ -1,0 +1,92 @@
+//! The constants of a configuration and of the files that it includes, in any order.
+ghost use Rattle.fmp_import.specs.Constants.{HasMore};
+
+use crate::constants::Constants;
+use crate::directives::included_name;
+use crate::importing::Header;
+use crate::lexemes::{Lexeme, LexemeKind};
+use crate::text::bytes_of;
+use std::alloc::{AllocError, Global};
+
+/// How often the lines are gone over at most: a constant may name one that is defined after it, and that one another.
+const ROUNDS: usize = 32;
+
+/// A configuration: its text, its lexemes, and the files that it includes.
+#[derive(Clone, Copy)]
+pub struct Source<'a> {
+    pub text: &'a [u8],
+    pub lexemes: &'a [Lexeme],
+    pub headers: &'a [Header],
+}
+
+/// The file of this name.
+pub fn header_named<'a>(headers: &'a [Header], name: &[u8]) -> Option<&'a Header> {
+    headers.iter().find(|header| header.name.as_slice() == name)
+}
+
+/// Adds the constants of the file of this name.
+fn take_file(
+    alloc: Global,
+    headers: &[Header],
+    name: &[u8],
+    constants: &mut Constants,
+) -> Result<(), AllocError>
+    ensures { HasMore constants.old constants.new }
+{
+    match header_named(headers, name) {
+        Some(header) => constants.take_header(alloc, &header.text),
+        None => Ok(()),
+    }
+}
+
+/// Adds the constant of a line of the preprocessor, or those of the file that it includes.
+fn take_line(
+    alloc: Global,
+    headers: &[Header],
+    line: &[u8],
+    constants: &mut Constants,
+) -> Result<(), AllocError>
+    ensures { HasMore constants.old constants.new }
+{
+    if let Some(name) = included_name(line) {
+        return take_file(alloc, headers, name, constants);
+    }
+    constants.define(alloc, line)?;
+    Ok(())
+}
+
+/// Adds the constants that name no unknown one.
+fn take_known(
+    alloc: Global,
+    source: Source<'_>,
+    constants: &mut Constants,
+) -> Result<(), AllocError>
+    ensures { HasMore constants.old constants.new }
+{
+    for lexeme in source.lexemes {
+        if lexeme.kind == LexemeKind::Directive {
+            let line = bytes_of(source.text, lexeme.span);
+            take_line(alloc, source.headers, line, constants)?;
+        }
+    }
+    Ok(())
+}
+
+/// Adds the constants of a configuration and of the files that it includes, also those that name one which is defined
+/// after them.
+pub fn take_constants(
+    alloc: Global,
+    source: Source<'_>,
+    constants: &mut Constants,
+) -> Result<(), AllocError>
+    ensures { HasMore constants.old constants.new }
+{
+    for _round in 0..ROUNDS {
+        let count = constants.count();
+        take_known(alloc, source, constants)?;
+        if constants.count() == count {
+            return Ok(());
+        }
+    }
+    Ok(())
+}
