@@ -99,10 +99,11 @@ CONFIGURATIONS = [
      "`CRE_MTX` is left out on purpose: there are no mutexes; a semaphore with one count excludes too"),
     (ONE + "}\nATT_INI({ 0, 0, h });", 2, 1, 7, "B1",
      "`ATT_INI` is left out on purpose: nothing but handlers and tasks runs"),
-    ("NUM_PRC(01);", 1, 9, 1, "B1", "`01` " + OCTAL),
-    (ONE + "CRE_TSK(T, { 0, 0, m, 1, 0512, NULL }); }", 1, 53, 1, "B1", "`0512` " + OCTAL),
-    (ONE + "CRE_TSK(T, { 0, 0, m, 1, 512U, NULL }); }", 1, 53, 1, "B1", "`512U` " + UNIT),
-    (ONE + "CRE_FLG(F, { TA_WSGL, 0X1F }); }", 1, 50, 1, "B1",
+    ("NUM_PRC(01);", 1, 9, 2, "B1", "`01` " + OCTAL),
+    (ONE + "CRE_TSK(T, { 0, 0, m, 1, 0512, NULL }); }", 1, 53, 4, "B1", "`0512` " + OCTAL),
+    (ONE + "CRE_TSK(T, { 0, 0, m, 1, 512U, NULL }); }", 1, 53, 4, "B1", "`512U` " + UNIT),
+    (ONE + "CRE_SEM(1BUS, { 0, 0, 1 }); }", 1, 36, 4, "B1", "`1BUS` is not a name; a name begins with a letter or `_`"),
+    (ONE + "CRE_FLG(F, { TA_WSGL, 0X1F }); }", 1, 50, 4, "B1",
      "`0X1F` is not a number; a hexadecimal number is `0x` and its digits"),
     (ONE + "CRE_TSK(T, { TA_ACT, 'A', m, 1, 64, NULL }); }", 1, 49, 1, "B1",
      "no token begins with `'`; a character is written as its number"),
@@ -114,9 +115,9 @@ CONFIGURATIONS = [
     ("\ufeffNUM_PRC(1);", 1, 1, 1, "B1", "a byte order mark stands here; save the text without it"),
     ("NUM_PRC(9);", 1, 9, 1, "B5", "the number of processors is 9; it must be 1 to 8"),
     ("NUM_PRC(0);", 1, 9, 1, "B5", "the number of processors is 0; it must be 1 to 8"),
-    ("NUM_PRC(2147483648);", 1, 9, 1, "B5", "`2147483648` " + GREAT),
-    (ONE + "CRE_SHR(W, { 0x100000000 }); }", 1, 41, 1, "B5", "`0x100000000` " + GREAT),
-    (ONE + "CRE_SPN(a_name_of_more_than_31_bytes_is_a_fault, { 0 }); }", 1, 36, 1, "B5", LONG_NAME),
+    ("NUM_PRC(2147483648);", 1, 9, 10, "B5", "`2147483648` " + GREAT),
+    (ONE + "CRE_SHR(W, { 0x100000000 }); }", 1, 41, 11, "B5", "`0x100000000` " + GREAT),
+    (ONE + "CRE_SPN(a_name_of_more_than_31_bytes_is_a_fault, { 0 }); }", 1, 36, 39, "B5", LONG_NAME),
     ("NUM_PRC(1);\nCLASS(TCL_2) { }", 2, 7, 5, "B3",
      "there is no class `TCL_2`: with 1 processor they are `TCL_1` and `TCL_1_ONLY`"),
     ("NUM_PRC(2); CLASS(MAIN) { }", 1, 19, 4, "B3",
@@ -231,7 +232,17 @@ SOURCES = [
     ("task m { put(1);; }", 1, 17, 1, "B1", "expected a statement or `}`, found `;`; there is no empty statement"),
     ("task m { put(*exinf); }", 1, 14, 1, "B1",
      "expected an expression, argument 1 of `put`, found `*`; there are no pointers"),
-    ("task m { dly_tsk(10ms); }", 1, 18, 1, "B1", "`10ms` " + UNIT),
+    ("task m { dly_tsk(10ms); }", 1, 18, 4, "B1", "`10ms` " + UNIT),
+    ("task m { var 2nd; }", 1, 14, 3, "B1", "`2nd` is not a name; a name begins with a letter or `_`"),
+    ("task m { sleep(1); }", 1, 10, 5, "B1", "`sleep` is left out on purpose: `dly_tsk` waits for a number of ticks"),
+    ("task m { exinf = (int)exinf; }", 1, 23, 1, "B1",
+     "expected an operator or `;`, found the name `exinf`; there are no casts: all values are 32-bit numbers"),
+    ("task m { put((uint32_t)1); }", 1, 24, 1, "B1",
+     "expected `)`, since `put` has 1 argument, found the number 1; there are no casts: all values are 32-bit numbers"),
+    ("task m { exinf = NULL; }", 1, 18, 4, "B1",
+     "expected an expression or a service call, found `NULL`; `NULL` is written as 0"),
+    ("task m { put(NULL); }", 1, 14, 4, "B1",
+     "expected an expression, argument 1 of `put`, found `NULL`; `NULL` is written as 0"),
     ("NUM_PRC(1);", 1, 1, 7, "B1",
      "expected `task` or `handler`, found `NUM_PRC`; this is a configuration, which comes first"),
     ("run 1\ntick\n", 1, 1, 3, "B1", "expected `task` or `handler`, found the name `run`; this is a steps text"),
@@ -284,7 +295,7 @@ SOURCES = [
     ("task m { exinf = pol_sem(SEM) == E_OK; }", 1, 30, 1, "B1",
      "expected `;`, found `==`; a service call stands alone, or alone to the right of `=`"),
     ("task m { wup_tks(1); }", 1, 10, 7, "B1", "`wup_tks` is not a service call; did you mean `wup_tsk`?"),
-    ("task m { put(012); }", 1, 14, 1, "B1", "`012` " + OCTAL),
+    ("task m { put(012); }", 1, 14, 3, "B1", "`012` " + OCTAL),
     ("task m { var a[3; }", 1, 17, 1, "B1", "expected `]`, found `;`"),
     ("task m { var a[]; }", 1, 16, 1, "B1", "expected a number, 1 to 63, found `]`"),
     ("task m { var a[3]; put(a[1); }", 1, 27, 1, "B1", "expected an operator or `]`, found `)`"),
@@ -328,9 +339,9 @@ SOURCES = [
     ("task m { put(\u00e9t\u00e9); }", 1, 14, 1, "B1",
      "no token begins with a byte of value 195; names are of ASCII letters"),
     ("task m { put(1); } \u20ac", 1, 20, 1, "B1", "no token begins with a byte of value 226"),
-    ("task m { put(2147483648); }", 1, 14, 1, "B5", "`2147483648` " + GREAT),
-    ("task m { put([41 times: 9]); }", 1, 14, 1, "B5", "a number of 41 characters " + GREAT),
-    ("task a_name_of_more_than_31_bytes_is_a_fault { }", 1, 6, 1, "B5", LONG_NAME),
+    ("task m { put(2147483648); }", 1, 14, 10, "B5", "`2147483648` " + GREAT),
+    ("task m { put([41 times: 9]); }", 1, 14, 41, "B5", "a number of 41 characters " + GREAT),
+    ("task a_name_of_more_than_31_bytes_is_a_fault { }", 1, 6, 39, "B5", LONG_NAME),
     ("task m { put([65 times: (]1[65 times: )]); }", 1, 78, 1, "B5",
      "this opens level 65 of nesting; there are at most 64"),
     ("task m { }\nhandler m { }", 2, 9, 1, "B2", "`m` is the name of a body already, at line 1"),
@@ -346,6 +357,10 @@ SOURCES = [
      "`sem` is neither a variable of this body, an object nor a constant; did you mean `SEM`?"),
     ("task m { act_tsk(SELF); }", 1, 18, 4, "B3",
      "`SELF` is neither a variable of this body, an object nor a constant; did you mean `TSK_SELF`?"),
+    ("task m { tslp_tsk(TMO_FOREVER); }", 1, 19, 11, "B3",
+     "`TMO_FOREVER` is neither a variable of this body, an object nor a constant; did you mean `TMO_FEVR`?"),
+    ("task m { tslp_tsk(TMO_FEVER); }", 1, 19, 9, "B3",
+     "`TMO_FEVER` is neither a variable of this body, an object nor a constant; did you mean `TMO_FEVR`?"),
     ("task m { while (true) { put(1); } }", 1, 17, 4, "B3",
      "`true` is neither a variable of this body, an object nor a constant; 1 is true, and 0 is false"),
     ("task m { put(LF); }", 1, 14, 2, "B3", "`LF` is neither a variable of this body, an object nor a constant"),
@@ -416,6 +431,14 @@ SEVERAL = [
      ("t.cfg", 4, 1, 5, "B1",
       "expected a static API or `}`, found `CLASS`; the class `TCL_1` at line 2 is not closed"),
      ("t.cfg", 5, 14, 1, "B4 E_RSATR", PATTERN)),
+    # So too a class whose heading has no `{`, or is not closed: what stands in it is no fault.
+    ("NUM_PRC(1);\nCLASS(TCL_1)\n    CRE_SEM(S, { 0, 2, 1 });\n    CRE_FLG(F, { 0, 0 });\n}\n"
+     "CLASS(TCL_1) {\nCRE_FLG(G, { 8, 0 });\n}", "task m { put(S); }",
+     ("t.cfg", 3, 5, 7, "B1", "expected `{`, found the static API `CRE_SEM`"),
+     ("t.cfg", 7, 14, 1, "B4 E_RSATR", PATTERN)),
+    ("NUM_PRC(1);\nCLASS(TCL_1 {\nCRE_SEM(S, { 0, 2, 1 });\n}\nCLASS(TCL_1) {\nCRE_FLG(G, { 8, 0 });\n}", BODIES,
+     ("t.cfg", 2, 13, 1, "B1", "expected `)`, found `{`"),
+     ("t.cfg", 6, 14, 1, "B4 E_RSATR", PATTERN)),
     # Statements; `y` has no meaning, and `x` has one in what is left out.
     (OBJECT, "task m {\n    var x = 1;\n    x = x + ;\n    put(x);\n    put(y);\n    wup_tks(1);\n}\n",
      ("t.src", 2, 10, 1, "B1",
@@ -558,7 +581,25 @@ WARNINGS = [
      "task m {\n    loc_spn(L);\n    loc_spn(M);\n    unl_spn(L);\n    loc_spn(M);\n"
      "    if (exinf) { try_spn(L); unl_spn(M); }\n    if (exinf) { loc_spn(L); } else { loc_spn(M); }\n}\n",
      ("t.src", 3, 5, 7, "`loc_spn` answers E_CTX here: the spin lock that line 2 takes is held"),
-     ("t.src", 6, 18, 7, "`try_spn` answers E_CTX here: the spin lock that line 5 takes is held")),
+     ("t.src", 6, 18, 7, "`try_spn` answers E_CTX here: the spin lock that line 5 takes is held"),
+     ("t.src", 8, 1, 1, "the task may end here while the spin lock that line 7 takes is held")),
+    # A lock that one way of an `if` takes: not where that way, or anything after it, gives it back, ends or loops.
+    (WITH_LOCK_AND_BODIES,
+     "task m {\n    if (exinf) { loc_cpu(); }\n    put(1);\n}\n"
+     "task n { if (exinf) { if (exinf == 1) { loc_spn(L); } put(1); } else { put(2); } }\n"
+     "task o { if (exinf) { loc_spn(L); } else { put(1); } unl_spn(L); }\n"
+     "task p { if (exinf) { loc_spn(L); put(1); unl_spn(L); } put(2); }\n"
+     "task q { while (exinf) { if (exinf == 1) { loc_cpu(); } } }\n"
+     "task r { if (exinf) { loc_cpu(); while (1) { put(1); } } }\n"
+     "task s { if (exinf) { loc_cpu(); } while (exinf) { put(1); } }\n"
+     "task t { if (exinf) { dis_dsp(); } put(1); }\n"
+     "task u { var x; if (exinf) { x = loc_spn(L); } put(x); }\n"
+     "task v { if (exinf) { put(1); } else { loc_cpu(); } }\n"
+     "task w { if (exinf) { loc_cpu(); } else { return; } unl_cpu(); }\n"
+     "task x { while (exinf) { loc_cpu(); } }\n",
+     ("t.src", 4, 1, 1, "the task may end here while the CPU is locked by line 2"),
+     ("t.src", 5, 82, 1, "the task may end here while the spin lock that line 5 takes is held"),
+     ("t.src", 13, 53, 1, "the task may end here while the CPU is locked by line 13")),
     (ONE + "CRE_TSK(T, { TA_STA, TMO_FEVR, m, 1, 64, NULL });\nCRE_MBX(X, { TA_TPRI | TA_ACT, 1, NULL });\n"
      "CRE_SEM(S, { TA_NULL, TA_TPRI, 1 });\nCRE_SHR(W, { TA_ACT }); }",
      "task m { var v; rcv_mbx(X, &v); wai_sem(S); sig_sem(S); ld_shr(W, &v); }",
@@ -578,6 +619,16 @@ WARNINGS = [
      ("t.src", 8, 20, 1, "2147483647 + 1 does not fit into 32 bits: this is F_OVF"),
      ("t.src", 10, 19, 1, "65536 * 32768 does not fit into 32 bits: this is F_OVF"),
      ("t.src", 13, 30, 2, CHAIN)),
+    # So too of `==` and `!=`, of which an order is an operand: not in parentheses.
+    (TASK + " }",
+     "task m {\n    var x;\n    if (x == exinf == 1) { put(1); }\n    put(x == 1 != exinf);\n"
+     "    put((x == 1) == exinf);\n    put(x < 3 == exinf);\n    put(exinf == x < 3);\n"
+     "    put(x < 3 == exinf < 3);\n    put(x == 1 && exinf == 1);\n    put((x < 3) == (exinf < 3));\n}\n",
+     ("t.src", 3, 20, 2, CHAIN),
+     ("t.src", 4, 16, 2, CHAIN),
+     ("t.src", 6, 15, 2, CHAIN),
+     ("t.src", 7, 15, 2, CHAIN),
+     ("t.src", 8, 15, 2, CHAIN)),
     # Comparisons as operands of `&`, `|` and `^`: not in parentheses.
     (TASK + " }",
      "task m {\n    var x;\n    if (x & 1 == 1) { put(1); }\n    if ((x & 1) == 1) { put(1); }\n"

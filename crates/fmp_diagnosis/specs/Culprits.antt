@@ -1,6 +1,7 @@
 -- Where a fault is shown: at its place, or at the tokens beside it that are to be changed.
-use Rattle.std.specs.Prelude.{◌≡◌, ℕ, ◌-◌, ◌==◌, ◌&&◌, if◌then◌else◌, nat_le, Bool, true, false, List, length, min}
-use Rattle.std.specs.Prelude.{option_map, slice_get, slice_range, Option, Some, None}
+use Rattle.std.specs.Prelude.{◌≡◌, ℕ, ◌+◌, ◌-◌, ◌==◌, ◌&&◌, ◌||◌, if◌then◌else◌, nat_le, Bool, true, false, not, List}
+use Rattle.std.specs.Prelude.{length, max, min, option_map, position, slice_get, slice_range, Option, Some, None}
+use Rattle.std.specs.Char.{is_ascii_alphanumeric}
 use Rattle.std.specs.Option.{unwrap_or}
 use Rattle.fmp_base.specs.declared.codes.Er.{Er}
 use Rattle.fmp_lex.specs.declared.fault.FaultKind.{FaultKind}
@@ -31,12 +32,27 @@ joined None to = None
 abbrev pub behind : TokenPosition → TokenPosition
 behind p = record { line = p.line; start = p.end; end = p.end }
 
+-- neither a letter, a digit nor `_`
+abbrev pub ends_word : ℕ → Bool
+ends_word b = not (is_ascii_alphanumeric b || (b == 95))
+
+-- how many bytes of a word or a number stand at the head of these
+abbrev pub word_length : List ℕ → ℕ
+word_length bytes = unwrap_or (position (λ b. ends_word b) bytes) (length bytes)
+
+-- from a place on, up to the end of the word or the number that begins there
+abbrev pub whole : List ℕ → TokenPosition → TokenPosition
+whole text p =
+    let rest = slice_range text (min p.start (length text)) (length text) in
+    record { line = p.line; start = p.start; end = max p.end (min (p.start + word_length rest) 4294967295) }
+
 -- where a fault is shown of which token i of a text is the place, if not there
-abbrev pub aimed : List Token → (i : ℕ) → Aim → Option TokenPosition
-aimed ts i aim.Here = None
-aimed ts i aim.Before = position_at ts (i - 1)
-aimed ts i aim.Behind = option_map behind (position_at ts (i - 1))
-aimed ts i (aim.Tokens first last) = joined (position_at ts first) (position_at ts last)
+abbrev pub aimed : (text : List ℕ) → TokenPosition → List Token → (i : ℕ) → Aim → Option TokenPosition
+aimed text p ts i aim.Here = None
+aimed text p ts i aim.Whole = Some (whole text p)
+aimed text p ts i aim.Before = position_at ts (i - 1)
+aimed text p ts i aim.Behind = option_map behind (position_at ts (i - 1))
+aimed text p ts i (aim.Tokens first last) = joined (position_at ts first) (position_at ts last)
 
 -- a fault that may stand at the word of a static API
 abbrev pub is_in_api : FaultKind → Bool
@@ -51,10 +67,17 @@ abbrev pub is_syntax : FaultKind → Bool
 is_syntax fault.Syntax = true
 is_syntax _ = false
 
+-- a fault that a word or a number may have which is no token
+abbrev pub is_of_word : FaultKind → Bool
+is_of_word fault.Syntax = true
+is_of_word fault.Limit = true
+is_of_word _ = false
+
 -- A fault of syntax is shown at its place, or at the token before it, or after that; one at the word of a static API
--- at its place or at later tokens; any other at its place.
+-- at its place or at later tokens; any other at its place. A word or a number that is no token is shown whole.
 abbrev pub fits : FaultKind → (i : ℕ) → Aim → Bool
 fits kind i aim.Here = true
+fits kind i aim.Whole = is_of_word kind
 fits kind i aim.Before = is_syntax kind
 fits kind i aim.Behind = is_syntax kind
 fits kind i (aim.Tokens first last) = is_in_api kind && nat_le i first
@@ -67,4 +90,4 @@ pub record IsCulprit (text : List ℕ) (position : TokenPosition) (kind : FaultK
   pub has_before : HasTokens (slice_range text 0 (min position.start (length text))) before
   pub has_tokens : HasTokens text tokens
   pub fits : fits kind (length before) aim ≡ true
-  pub is : c ≡ unwrap_or (aimed tokens (length before) aim) position
+  pub is : c ≡ unwrap_or (aimed text position tokens (length before) aim) position

@@ -8,8 +8,9 @@ use crate::around::{Around, around_position, list_of};
 use crate::fields::Field;
 use crate::refusals::field_refused;
 use crate::syntax::{is_due_to_word_before, wants_semicolon};
+use crate::words::word_length;
 use fmp_lex::laws::a_text_has_one_cut;
-use fmp_lex::{Api, FaultKind, TextFile, TokenPosition, Tokens};
+use fmp_lex::{Api, FaultKind, TextFile, TokenKind, TokenPosition, Tokens};
 use std::alloc::{AllocError, Global};
 
 /// Where a fault is shown.
@@ -17,6 +18,8 @@ use std::alloc::{AllocError, Global};
 pub enum Aim {
     /// At its place.
     Here,
+    /// There, up to the end of a word or a number that is no token.
+    Whole,
     /// At the token before its place.
     Before,
     /// After that token, where something is missing.
@@ -55,13 +58,35 @@ fn behind(tokens: &Tokens<'_>, at: usize) -> Option<TokenPosition>
     })
 }
 
+/// From a place of a text on, up to the end of the word or the number that begins there.
+fn whole(text: &[u8], position: TokenPosition) -> TokenPosition
+    ensures { result ≡ spec.whole text.now position }
+{
+    let at = (position.start as usize).min(text.len());
+    let length = word_length(&text[at..]);
+    let end = (position.start as usize)
+        .saturating_add(length)
+        .min(u32::MAX as usize);
+    TokenPosition {
+        end: position.end.max(end as u32),
+        ..position
+    }
+}
+
 impl Aim {
-    /// Where it leads from the token at a place; nowhere if there is no such token.
-    fn position(self, tokens: &Tokens<'_>, at: usize) -> Option<TokenPosition>
-        ensures { result ≡ spec.aimed tokens.now at self }
+    /// Where it leads from the token at a place of a text; nowhere if there is no such token.
+    fn position(
+        self,
+        text: &[u8],
+        here: TokenPosition,
+        tokens: &Tokens<'_>,
+        at: usize,
+    ) -> Option<TokenPosition>
+        ensures { result ≡ spec.aimed text.now here tokens.now at self }
     {
         match self {
             Aim::Here => None,
+            Aim::Whole => Some(whole(text, here)),
             Aim::Before => tokens.position(at.saturating_sub(1)),
             Aim::Behind => behind(tokens, at.saturating_sub(1)),
             Aim::Tokens(first, last) => joined(tokens, first, last),
@@ -112,10 +137,18 @@ fn aim_in_api(around: &Around<'_>, kind: FaultKind) -> Aim
     }
 }
 
+/// Whether what stands at the place is no token.
+fn is_no_token(around: &Around<'_>) -> bool {
+    matches!(around.here(), Some(TokenKind::Bad(_)))
+}
+
 /// Where a fault of syntax is shown.
 fn aim_of_syntax(alloc: Global, file: TextFile, around: &Around<'_>) -> Result<Aim, AllocError>
     ensures { IfOk result (λ aim. spec.fits FaultKind.Syntax (length around.now.before.tokens) aim ≡ true) }
 {
+    if is_no_token(around) {
+        return Ok(Aim::Whole);
+    }
     if is_due_to_word_before(file, around) {
         return Ok(Aim::Before);
     }
@@ -136,6 +169,7 @@ fn aim_of(
 {
     match kind {
         FaultKind::Syntax => aim_of_syntax(alloc, file, around),
+        FaultKind::Limit if is_no_token(around) => Ok(Aim::Whole),
         FaultKind::Limit | FaultKind::Shape => Ok(Aim::Here),
         _ => Ok(aim_in_api(around, kind)),
     }
@@ -162,7 +196,8 @@ pub(crate) fn culprit_around(
         aim => {
             let list = list_of(alloc, text)?;
             let at = around.before.tokens.len();
-            Ok(aim.position(&list.tokens, at).unwrap_or(position))
+            let shown = aim.position(text, position, &list.tokens, at);
+            Ok(shown.unwrap_or(position))
         }
     }
 }

@@ -4,6 +4,7 @@ ghost use Rattle.fmp_diagnosis.specs.Words.{MaySay};
 
 use crate::around::{Around, last_body, line_of, name_at};
 use crate::expected_statement::is_outside;
+use crate::left_out::is_type;
 use crate::words::{Word, say};
 use fmp_base::Name;
 use fmp_lex::{Keyword, Symbol, TextFile, TokenKind, Tokens};
@@ -271,8 +272,16 @@ fn said_of_expression(before: TokenKind, here: TokenKind, expected: &[u8]) -> &'
     }
 }
 
-/// What is said of a value after `return` in its line, and of statements without braces after a condition or `else`;
-/// of anything else what is said of expressions.
+/// Whether the parenthesis before the place closes a type of C.
+fn has_type_before(around: &Around<'_>) -> bool {
+    match (around.back(3), around.back(2)) {
+        (Some(TokenKind::Symbol(Symbol::LeftParen)), Some(TokenKind::Name(name))) => is_type(&name),
+        _ => false,
+    }
+}
+
+/// What is said of a value after `return` in its line, of statements without braces after a condition or `else`, and
+/// of casts and `NULL`; of anything else what is said of expressions.
 fn said_of_statement(around: &Around<'_>, expected: &[u8]) -> &'static str {
     match (around.back(1), around.here()) {
         (_, None) => "",
@@ -282,6 +291,11 @@ fn said_of_statement(around: &Around<'_>, expected: &[u8]) -> &'static str {
             if expected.starts_with(b"`{`") => {
             "; the statements of `if`, `else` and `while` stand in braces"
         }
+        (Some(TokenKind::Symbol(Symbol::RightParen)), Some(kind))
+            if begins_value(kind) && has_type_before(around) => {
+            "; there are no casts: all values are 32-bit numbers"
+        }
+        (_, Some(TokenKind::Keyword(Keyword::Null))) => "; `NULL` is written as 0",
         (Some(before), Some(here)) => said_of_expression(before, here, expected),
         _ => "",
     }

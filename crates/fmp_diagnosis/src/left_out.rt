@@ -27,6 +27,7 @@ enum LeftOut {
     CountedSuspensions,
     LocksOfHandlers,
     Printing,
+    Delays,
     Loops,
     Choices,
     Jumps,
@@ -34,7 +35,7 @@ enum LeftOut {
 }
 
 /// All of it.
-const LEFT_OUT: [LeftOut; 21] = [
+const LEFT_OUT: [LeftOut; 22] = [
     LeftOut::Alarms,
     LeftOut::Mutexes,
     LeftOut::MessageBuffers,
@@ -52,6 +53,7 @@ const LEFT_OUT: [LeftOut; 21] = [
     LeftOut::CountedSuspensions,
     LeftOut::LocksOfHandlers,
     LeftOut::Printing,
+    LeftOut::Delays,
     LeftOut::Loops,
     LeftOut::Choices,
     LeftOut::Jumps,
@@ -59,7 +61,7 @@ const LEFT_OUT: [LeftOut; 21] = [
 ];
 
 /// The words of each, in order.
-static WORDS: [&[&str]; 21] = [
+static WORDS: [&[&str]; 22] = [
     &["CRE_ALM", "sta_alm", "stp_alm", "ista_alm", "istp_alm"],
     &["CRE_MTX", "loc_mtx", "ploc_mtx", "tloc_mtx", "unl_mtx"],
     &[
@@ -98,6 +100,7 @@ static WORDS: [&[&str]; 21] = [
     &[
         "syslog", "printf", "fprintf", "print", "println", "puts", "putchar",
     ],
+    &["sleep", "usleep", "msleep", "nanosleep", "vTaskDelay"],
     &["for", "foreach", "do", "loop", "until", "repeat"],
     &["switch", "case", "elif", "elseif", "elsif"],
     &["goto"],
@@ -111,7 +114,7 @@ static WORDS: [&[&str]; 21] = [
 ];
 
 /// What there is in the place of each, in order.
-static SAID: [&str; 21] = [
+static SAID: [&str; 22] = [
     "there are no alarm handlers",
     "there are no mutexes; a semaphore with one count excludes too",
     "there are no message buffers",
@@ -129,6 +132,7 @@ static SAID: [&str; 21] = [
     "a suspension is ended by `rsm_tsk`",
     "no handler locks the CPU",
     "`put` prints a number, and nothing prints a text",
+    "`dly_tsk` waits for a number of ticks",
     "the only loop is `while`",
     "the only choice is `if`, with or without `else`",
     "the only jumps are `break`, `continue` and `return`",
@@ -152,6 +156,11 @@ impl LeftOut {
     fn has(self, word: &[u8]) -> bool {
         self.words().iter().any(|one| one.as_bytes() == word)
     }
+}
+
+/// Whether a name is a type of C.
+pub fn is_type(name: &Name) -> bool {
+    LeftOut::Types.has(name.as_bytes())
 }
 
 /// Why a name is no word of the texts, where it is left out on purpose.

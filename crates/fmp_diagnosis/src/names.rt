@@ -360,6 +360,14 @@ fn whole_of(known: &[Name], name: &Name) -> Option<Name> {
     None
 }
 
+/// The constant that other kernels write so.
+fn constant_written(name: &Name) -> Option<Name> {
+    match name.as_bytes() {
+        b"TMO_FOREVER" => Name::new(b"TMO_FEVR"),
+        _ => None,
+    }
+}
+
 /// Whether a name is that of a truth value of another language.
 fn is_truth(name: &Name) -> bool {
     ["true", "false", "TRUE", "FALSE"]
@@ -367,14 +375,15 @@ fn is_truth(name: &Name) -> bool {
         .any(|text| text.as_bytes() == name.as_bytes())
 }
 
-/// Asks which known name was meant: one that resembles a name, or else the first one of which it is the last part.
+/// Asks which known name was meant: one that resembles a name, or that other kernels write so, or else the first one of
+/// which it is the last part.
 fn ask_for(alloc: Global, name: &Name, known: &[Name], out: &mut Vec<u8>) -> Result<(), AllocError>
     ensures { OnOk result (MaySay out.old.items out.new.items) }
 {
     if name_meant(alloc, name, known)?.is_some() {
         return say_nearest(alloc, name, known, out);
     }
-    match whole_of(known, name) {
+    match constant_written(name).or(whole_of(known, name)) {
         Some(whole) => ask_whether(&whole, out),
         None => Ok(()),
     }

@@ -8,7 +8,9 @@ use crate::foreign::say_foreign;
 use crate::habits::{said_of_declaration, say_habit};
 use crate::known::{apis, keywords, say_nearest, say_unknown_of, services};
 use crate::left_out::{say_left_out, why_left_out};
-use crate::words::{BYTE_ORDER_MARK, Word, counted, say, say_quoted, say_text, say_token};
+use crate::words::{
+    BYTE_ORDER_MARK, Word, counted, say, say_quoted, say_text, say_token, word_length,
+};
 use crate::{expected_api, expected_statement};
 use fmp_base::Name;
 use fmp_lex::{Keyword, LexFault, Symbol, TextFile, TokenKind, Tokens};
@@ -20,14 +22,6 @@ const SHOWN_MAX: usize = 40;
 /// What is said after a number that is too great.
 const TOO_GREAT: &str =
     " is too great: a number is at most 2147483647, with at most 8 hexadecimal digits";
-
-/// How many bytes of a word or a number stand at the head of these.
-fn word_length(bytes: &[u8]) -> usize {
-    bytes
-        .iter()
-        .position(|b| !(b.is_ascii_alphanumeric() || *b == b'_'))
-        .unwrap_or(bytes.len())
-}
 
 /// The first of these bytes, a space if there is none.
 fn first_of(bytes: &[u8]) -> u8 {
@@ -60,19 +54,41 @@ fn in_place_of(file: TextFile, bytes: &[u8]) -> &'static str {
     }
 }
 
+/// Says why a word that begins with a digit is no number, or no name where a name is expected.
+fn say_digits(word: &[u8], expected: &[u8], out: &mut Vec<u8>) -> Result<(), AllocError>
+    ensures { OnOk result (IsSaid out.old.items out.new.items) }
+{
+    if expected.starts_with(b"a name for ") || expected.starts_with(b"the name of ") {
+        let why = Word::Text(" is not a name; a name begins with a letter or `_`");
+        return say_quoted(word, &[why], out);
+    }
+    let words = [
+        Word::Text(" is not a number"),
+        Word::Text(why_no_number(word)),
+    ];
+    say_quoted(word, &words, out)
+}
+
+/// Whether a text in UTF-16 begins with these bytes.
+fn is_utf16(bytes: &[u8]) -> bool {
+    bytes.starts_with(&[0xFF, 0xFE]) || bytes.starts_with(&[0xFE, 0xFF])
+}
+
 /// Says why no token begins at the place.
-fn say_no_token(file: TextFile, around: &Around<'_>, out: &mut Vec<u8>) -> Result<(), AllocError>
+fn say_no_token(
+    alloc: Global,
+    file: TextFile,
+    around: &Around<'_>,
+    out: &mut Vec<u8>,
+) -> Result<(), AllocError>
     ensures { OnOk result (IsSaid out.old.items out.new.items) }
 {
     let bytes = around.bytes;
     let first = first_of(bytes);
     if first.is_ascii_digit() {
-        let number = &bytes[..word_length(bytes).min(bytes.len())];
-        let words = [
-            Word::Text(" is not a number"),
-            Word::Text(why_no_number(number)),
-        ];
-        return say_quoted(number, &words, out);
+        let word = &bytes[..word_length(bytes).min(bytes.len())];
+        let expected = expected_behind(alloc, file, &around.before.tokens)?;
+        return say_digits(word, &expected, out);
     }
     if first == b'/' {
         return say_text("the comment that begins here is not closed", out);
@@ -82,6 +98,9 @@ fn say_no_token(file: TextFile, around: &Around<'_>, out: &mut Vec<u8>) -> Resul
             "a byte order mark stands here; save the text without it",
             out,
         );
+    }
+    if is_utf16(bytes) {
+        return say_text("this is a text in UTF-16; save it as UTF-8", out);
     }
     if first.is_ascii_graphic() {
         say_text("no token begins with ", out)?;
@@ -449,7 +468,7 @@ pub fn say_syntax(
     ensures { OnOk result (IsSaid out.old.items out.new.items) }
 {
     match (around.here(), file) {
-        (Some(TokenKind::Bad(LexFault::Syntax)), _) => say_no_token(file, around, out),
+        (Some(TokenKind::Bad(LexFault::Syntax)), _) => say_no_token(alloc, file, around, out),
         (Some(TokenKind::Bad(LexFault::Limit)), _) => say_too_great(around.bytes, out),
         _ => say_in_text(alloc, file, around, out),
     }

@@ -1,5 +1,6 @@
 //! Sentences are put together of words.
-ghost use Rattle.std.specs.Prelude.{◌≡◌, ◌<◌, ◌++◌, length, OnOk};
+ghost use Rattle.std.specs.Prelude.{◌≡◌, ◌<◌, ◌++◌, length, position, OnOk};
+ghost use Rattle.fmp_diagnosis.specs.Culprits as culprits;
 ghost use Rattle.fmp_diagnosis.specs.Words as spec;
 ghost use Rattle.fmp_base.specs.Names.{name_text};
 ghost use Rattle.fmp_diagnosis.specs.Nearest.{question};
@@ -12,6 +13,27 @@ use std::alloc::AllocError;
 
 /// The bytes of a byte order mark, which editors may put in front of a text.
 pub const BYTE_ORDER_MARK: [u8; 3] = [0xEF, 0xBB, 0xBF];
+
+/// Whether a byte ends a word or a number.
+fn ends_word(byte: u8) -> bool
+    ensures { result ≡ culprits.ends_word byte }
+{
+    !(byte.is_ascii_alphanumeric() || byte == b'_')
+}
+
+/// Where the word or the number ends that these bytes begin with, if they go on after it.
+fn word_end(bytes: &[u8]) -> Option<usize>
+    ensures { result ≡ position (λ byte. culprits.ends_word byte) bytes.now }
+{
+    bytes.iter().position(|byte| ends_word(*byte))
+}
+
+/// How many bytes of a word or a number stand at the head of these.
+pub(crate) fn word_length(bytes: &[u8]) -> usize
+    ensures { result ≡ culprits.word_length bytes.now }
+{
+    word_end(bytes).unwrap_or(bytes.len())
+}
 
 /// A piece of a sentence.
 #[derive(Clone, Copy)]

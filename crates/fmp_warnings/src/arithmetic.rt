@@ -80,7 +80,7 @@ fn is_factor(symbol: Symbol) -> bool {
     matches!(symbol, Symbol::Star | Symbol::Slash | Symbol::Percent)
 }
 
-/// How many parentheses and brackets of an operand of an order are open after a symbol, where this many were open
+/// How many parentheses and brackets of an operand of a comparison are open after a symbol, where this many were open
 /// before it; none where the operand ends there.
 fn depth_behind(depth: usize, symbol: Symbol) -> Option<usize> {
     match symbol {
@@ -89,23 +89,6 @@ fn depth_behind(depth: usize, symbol: Symbol) -> Option<usize> {
         _ if depth > 0 || is_arithmetic(symbol) => Some(depth),
         _ => None,
     }
-}
-
-/// The place of the order whose left operand has the order at a place as its outermost operator, if there is one.
-fn chained_at(tokens: &Tokens<'_>, at: usize) -> Option<usize> {
-    if !is_order(symbol_at(tokens, at)?) {
-        return None;
-    }
-    let mut depth = 0;
-    for place in at.saturating_add(1)..tokens.len() {
-        if let Some(TokenKind::Symbol(symbol)) = tokens.kind(place) {
-            if depth == 0 && is_order(symbol) {
-                return Some(place);
-            }
-            depth = depth_behind(depth, symbol)?;
-        }
-    }
-    None
 }
 
 /// Whether a symbol compares its operands.
@@ -154,6 +137,37 @@ fn symbol_before(tokens: &Tokens<'_>, at: usize) -> Option<Symbol> {
         }
     }
     None
+}
+
+/// The place of the comparison that ends the right operand of the comparison at a place, if one does.
+fn comparison_behind(tokens: &Tokens<'_>, at: usize) -> Option<usize> {
+    let mut depth = 0;
+    for place in at.saturating_add(1)..tokens.len() {
+        if let Some(symbol) = symbol_at(tokens, place) {
+            if depth == 0 && is_comparison(symbol) {
+                return Some(place);
+            }
+            depth = depth_behind(depth, symbol)?;
+        }
+    }
+    None
+}
+
+/// The place of the comparison that compares the outcome of another one, where they stand side by side and the first
+/// one is at this place: the second one, or an `==` or `!=` before an order, which binds tighter. None if the first one
+/// is itself the second one of two.
+fn chained_at(tokens: &Tokens<'_>, at: usize) -> Option<usize> {
+    let first = symbol_at(tokens, at)?;
+    if !is_comparison(first) {
+        return None;
+    }
+    let next = comparison_behind(tokens, at)?;
+    match (is_order(first), is_order(symbol_at(tokens, next)?)) {
+        (true, true) | (false, false) => Some(next),
+        _ if symbol_before(tokens, at).is_some_and(is_comparison) => None,
+        (true, false) => Some(next),
+        (false, true) => Some(at),
+    }
 }
 
 /// Whether the comparison at a place is an operand of `&`, `|` or `^`.

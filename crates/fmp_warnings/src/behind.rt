@@ -14,6 +14,8 @@ struct Behind {
     is_for: bool,
     /// Whether more follows its block, up to a semicolon, as in `do { } while (1);`.
     is_do: bool,
+    /// Whether it is a class, which ends with its `}` even if its heading has no `{`.
+    is_class: bool,
     parens: usize,
     /// How many blocks of it are open.
     blocks: usize,
@@ -32,6 +34,7 @@ impl Behind {
             from,
             is_for: is_word(word, b"for"),
             is_do: is_word(word, b"do"),
+            is_class: file == TextFile::Configuration && begins_unit(word, file),
             parens: 0,
             blocks: 0,
             closed: None,
@@ -39,11 +42,11 @@ impl Behind {
         }
     }
 
-    /// Whether the word at a place begins another construct: a body or a class, or outside blocks a static API.
+    /// Whether the word at a place begins another construct: a body or a class, or outside classes a static API.
     fn is_next(&self, text: &[u8], at: usize) -> bool {
         let word = word_at(text, at);
-        at > self.from
-            && (begins_unit(word, self.file) || self.blocks == 0 && find_api(word).is_some())
+        let is_outside = self.blocks == 0 && !self.is_class;
+        at > self.from && (begins_unit(word, self.file) || is_outside && find_api(word).is_some())
     }
 
     /// A block of the construct opens. After a list of values a semicolon follows, as after the condition of `do`.
@@ -53,10 +56,14 @@ impl Behind {
         self.parens = 0;
     }
 
-    /// A block closes before this place: the construct ends where that is none of its own.
+    /// A block closes before this place: the construct ends where that is none of its own, and a class with it.
     fn close(&mut self, at: usize) -> Option<usize> {
         if self.blocks == 0 {
-            return Some(at);
+            return Some(if self.is_class {
+                at.saturating_add(1)
+            } else {
+                at
+            });
         }
         self.blocks = self.blocks.saturating_sub(1);
         if self.blocks == 0 && !self.is_do {
@@ -65,8 +72,12 @@ impl Behind {
         None
     }
 
-    /// A semicolon stands at this place.
-    fn semicolon(&self, at: usize) -> Option<usize> {
+    /// A semicolon stands at this place. In a class it ends a static API, whose parentheses end with it.
+    fn semicolon(&mut self, at: usize) -> Option<usize> {
+        if self.is_class {
+            self.parens = 0;
+            return None;
+        }
         if self.blocks == 0 && !(self.is_for && self.parens > 0) {
             return Some(at.saturating_add(1));
         }

@@ -1,5 +1,5 @@
-//! What is legal in two texts but usually a mistake. And what is shown of the texts of a system and of the steps of a
-//! run: their faults, or these warnings.
+//! What is legal in two texts but usually a mistake; and what is shown of the texts of a system and of the steps of a
+//! run, their faults or these warnings.
 #![tactic(auto)]
 
 mod arithmetic;

@@ -53,7 +53,7 @@ enum Flaw {
     Barred(Service),
     /// The task ends, and has not given it back.
     Kept,
-    /// The task ends, and an `if` before gives it back on some of its ways alone.
+    /// The task ends, and an `if` before takes it, or gives it back, on some of its ways alone.
     MayBeKept,
 }
 
@@ -90,9 +90,13 @@ struct HeldWalk {
     in_task: bool,
     /// How many blocks are open.
     depth: usize,
+    /// For each of the last 64 open blocks a bit, the lowest one for the innermost: whether an `if` or `else` has it.
+    choices: u64,
+    /// Whether the next block is that of an `if` or `else`.
+    chooses: bool,
     held: Option<Held>,
     open_if: Option<OpenIf>,
-    /// What may be held, since an `if` gives it back on some of its ways alone.
+    /// What may be held, since an `if` takes it, or gives it back, on some of its ways alone.
     kept: Option<Held>,
 }
 
@@ -102,22 +106,33 @@ impl HeldWalk {
         HeldWalk {
             in_task: false,
             depth: 0,
+            choices: 0,
+            chooses: false,
             held: None,
             open_if: None,
             kept: None,
         }
     }
 
-    /// The walk after the end of a block. What was taken in the block is known no more.
+    /// The walk after the beginning of a block.
+    fn in_block(self) -> HeldWalk {
+        HeldWalk {
+            depth: self.depth.saturating_add(1),
+            choices: self.choices.wrapping_mul(2) | u64::from(self.chooses),
+            chooses: false,
+            ..self
+        }
+    }
+
+    /// The walk after the end of a block. What was taken in the block is certain no more.
     fn behind_block(self) -> HeldWalk {
         let depth = self.depth.saturating_sub(1);
-        match self.held {
-            Some(held) if held.depth > depth => HeldWalk {
-                depth,
-                held: None,
-                ..self
-            },
-            _ => HeldWalk { depth, ..self },
+        let held = self.held.filter(|held| held.depth <= depth);
+        HeldWalk {
+            depth,
+            choices: self.choices / 2,
+            held,
+            ..self
         }
     }
 
@@ -137,11 +152,12 @@ impl HeldWalk {
                 in_task: matches!(BodyKind::begun_by(kind), Some(BodyKind::Task)),
                 ..HeldWalk::new()
             },
-            TokenKind::Symbol(Symbol::LeftBrace) => HeldWalk {
-                depth: self.depth.saturating_add(1),
+            TokenKind::Symbol(Symbol::LeftBrace) => self.in_block(),
+            TokenKind::Symbol(Symbol::RightBrace) => self.behind_block(),
+            TokenKind::Keyword(Keyword::If | Keyword::Else) => HeldWalk {
+                chooses: true,
                 ..self
             },
-            TokenKind::Symbol(Symbol::RightBrace) => self.behind_block(),
             _ if gives_back(kind) => HeldWalk { held: None, ..self },
             _ if jumps(kind) => self.behind_jump(),
             _ => self,
@@ -176,13 +192,27 @@ impl HeldWalk {
         }
     }
 
+    /// What may be held after the end of a block, of what is or may be held in it: nothing after that of a loop.
+    fn kept_behind_block(self) -> Option<Held> {
+        let depth = self.depth.saturating_sub(1);
+        let taken = self.held.filter(|held| held.depth > depth);
+        let kept = taken.or(self.kept)?;
+        if kept.depth <= depth {
+            return Some(kept);
+        }
+        (self.choices % 2 == 1 && kept.is_lost()).then_some(Held { depth, ..kept })
+    }
+
     /// The walk at the end of a block; `goes_on` if an `else` follows it.
     fn at_block_end(self, goes_on: bool) -> HeldWalk {
         let depth = self.depth.saturating_sub(1);
-        let kept = self.kept.filter(|kept| kept.depth <= depth);
+        let walk = HeldWalk {
+            kept: self.kept_behind_block(),
+            ..self
+        };
         match self.open_if {
-            Some(open) if open.held.depth == depth => self.after_way(open, goes_on),
-            _ => HeldWalk { kept, ..self },
+            Some(open) if open.held.depth == depth => walk.after_way(open, goes_on),
+            _ => walk,
         }
     }
 
@@ -195,9 +225,10 @@ impl HeldWalk {
                 ..self
             };
         }
+        let left_out = ways.is_left_out().then_some(open.held);
         HeldWalk {
             open_if: None,
-            kept: ways.is_left_out().then_some(open.held),
+            kept: left_out.or(self.kept),
             ..self
         }
     }
@@ -364,8 +395,8 @@ fn say_held(flaw: Flaw, hold: Hold, line: u32, out: &mut Vec<u8>) -> Result<(), 
 /// Warns of the calls of a task text that are E_CTX since the same body has taken a spin lock, locked the CPU or
 /// disabled dispatching, and of the places where a task ends with one of the first two. That is certain: the call that
 /// does so stands before, in the same block or one around it, and none that ends it stands between. And of the end of a
-/// body to which a task may come with a lock, since an `if` gives it back on some of its ways alone, and nothing after
-/// that gives back, jumps or loops. Of an end that a loop may keep the task from nothing is said.
+/// body to which a task may come with a lock, since an `if` takes it, or gives it back, on some of its ways alone, and
+/// nothing after that gives back, jumps or loops. Of an end that a loop may keep the task from nothing is said.
 pub fn warn_of_locks(
     alloc: Global,
     (src, landmarks): (&Tokens<'_>, &Landmarks),
