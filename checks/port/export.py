@@ -259,9 +259,11 @@ class Bench:
         packages = {**os.environ, "PKG_CONFIG_PATH": str(self.prefix / "lib/pkgconfig"), "PATH": path}
         words = ["make", "-s", "-C", folder, f"CC={COMPILER}", f"STEPS={example.with_suffix('.steps')}", "TICKS=20"]
         for program, shadow in (("exported", "SHADOW="), ("exported-shadow", "SHADOW=1")):
-            self.run(*words, program, env=packages)
             trace = self.run(*words, shadow, "run", env=packages)
             compared(f"make {shadow} run", trace, example.with_suffix(".trace").read_text())
+            (folder / program).unlink()
+            self.run(*words, shadow, env=packages)
+            compared(f"what make {shadow} builds", str((folder / program).exists()), "True")
             self.run(*words, shadow, "live", env=packages)
 
 

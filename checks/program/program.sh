@@ -213,6 +213,8 @@ done << 'END'
 sim a.img c.steps --bound 0|--bound <N>|1 to 2^48
 sim a.img c.steps --bound 281474976710657|--bound <N>|1 to 2^48
 sim a.img c.steps --bound 1e6|--bound <N>|1 to 2^48
+sim a.img c.steps --bound -1|--bound <N>|1 to 2^48
+host a.img j --ticks 1 --turns -12|--turns <T>|0 to 2^20
 host a.img j --ticks 1 --turns 1048577|--turns <T>|0 to 2^20
 host a.img j --turns 1 --ticks x|--ticks <K>|0 to 2^20
 host a.img j --turns 1 --ticks 1 --tick-us 0|--tick-us <U>|1 to 1000000

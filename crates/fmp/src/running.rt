@@ -187,6 +187,6 @@ where
     };
     match command(alloc, &texts) {
         Ok(cmd) => run_command(rt, alloc, outside, &cmd),
-        Err(error) => refuse_form(alloc, outside, &error),
+        Err(error) => refuse_form(alloc, outside, &texts, &error),
     }
 }

@@ -6,12 +6,14 @@ pub const MAKEFILE: &[u8] = b"# make                   builds the program `expor
 # make run STEPS=FILE    runs it over a steps text, in virtual time
 # make live              runs it in real time: TICKS ticks of TICK nanoseconds each
 #
-# With SHADOW=1 the program holds the image of its text, which `fmp` builds, and is checked: the first call that the
-# text does not make next ends the run.
+# With SHADOW=1 the program is `exported-shadow`. It holds the image of its text, which `fmp` builds, and is checked:
+# the first call that the text does not make next ends the run.
 CFLAGS = -std=c11 -O2 -Wall -Wextra -Wconversion
 TICK = 1000000
 TICKS = 10000
 PROGRAM = exported$(SHADOW:1=-shadow)
+
+all: $(PROGRAM)
 
 exported: bodies.c main.c bodies.h
 \t$(CC) $(CFLAGS) bodies.c main.c $$(pkg-config --cflags --libs fmp) -o $@
@@ -20,10 +22,10 @@ exported-shadow: bodies.c main.c bodies.h image.h
 \t$(CC) $(CFLAGS) -DFMP_SHADOW bodies.c main.c $$(pkg-config --cflags --libs fmp) -o $@
 
 image.h: system.cfg system.src
-\tfmp build system.cfg system.src system.img
+\tfmp build system.cfg system.src system.img > /dev/null
 \tod -An -v -tx1 system.img | sed 's/ \\([0-9a-f]*\\)/0x\\1,/g' > $@
 
-.PHONY: run live
+.PHONY: all run live
 run: $(PROGRAM)
 \t./$(PROGRAM) system.cfg $(STEPS)
 

@@ -1,4 +1,4 @@
--- The header, and what stands before and behind the bodies in C.
+-- The header, and what stands before and after the bodies in C.
 use Rattle.std.specs.Prelude.{ℕ, ◌+◌, List, [], ◌∷◌, ◌++◌, codes, length, map}
 use Rattle.std.specs.Fmt.{signed_decimal}
 use Rattle.fmp_base.specs.declared.names.Name.{Name}

@@ -27,7 +27,7 @@ class_front target.Fmp1 only = codes "CLASS(TCL_"
 class_front target.Fmp3 true = codes "CLASS(CLS_PRC"
 class_front target.Fmp3 false = codes "CLASS(CLS_ALL_PRC"
 
--- and what stands behind it
+-- and what stands after it
 abbrev pub class_back : Target → (only : Bool) → List ℕ
 class_back target.Fmp1 true = codes "_ONLY) { "
 class_back target.Fmp1 false = codes ") { "

@@ -1,14 +1,16 @@
 -- Names of objects that TOPPERS' headers have.
-use Rattle.std.specs.Prelude.{ℕ, List, [], ◌∷◌, map, Option, Some, None, Bool, true, false}
-use Rattle.std.specs.List.{list_any}
+use Rattle.std.specs.Prelude.{ℕ, List, [], ◌∷◌, map, Option, Some, None, Bool, true, false, ◌||◌, nat_eq}
+use Rattle.std.specs.List.{list_any, starts_with}
 use Rattle.std.specs.Str.{bytes_eq}
 use Rattle.fmp_base.specs.declared.names.Name.{Name}
 use Rattle.fmp_base.specs.Names.{name_text}
 use Rattle.fmp_base.specs.Systems.{SystemTables}
-use Rattle.fmp_toppers.specs.declared.names.TheConstants.{KNOWN}
+use Rattle.fmp_toppers.specs.declared.names.TheConstants.{FAMILIES, KNOWN}
 
+-- the headers have this name, or names that begin like it
 abbrev pub is_known : List ℕ → Bool
-is_known name = list_any (λ word. bytes_eq word.now name) KNOWN
+is_known name =
+    list_any (λ word. bytes_eq word.now name) KNOWN || list_any (λ word. starts_with nat_eq name word.now) FAMILIES
 
 abbrev pub first_if : (known : Bool) → Name → Option Name → Option Name
 first_if true name rest = Some name

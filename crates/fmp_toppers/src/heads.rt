@@ -3,7 +3,7 @@
 /// What stands before the static APIs: what the target does otherwise than the kernel that runs the text.
 pub const CONFIGURATION_HEAD: &[u8] = b"/*
  * Objects for TOPPERS/FMP. A text may use their numbers, so they come first: include the services of the target (its
- * timer, syslog) behind them.
+ * timer, syslog) after them.
  *
  * What TOPPERS/FMP does otherwise than the kernel by which the text was run and explored:
  *

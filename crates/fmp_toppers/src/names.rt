@@ -1,5 +1,6 @@
 //! Names of objects that TOPPERS' headers have.
-ghost use Rattle.std.specs.Prelude.{◌≡◌, map};
+ghost use Rattle.std.specs.Prelude.{◌≡◌, map, nat_eq};
+ghost use Rattle.std.specs.List.{list_any, starts_with};
 ghost use Rattle.fmp_base.specs.Systems.{tables_of};
 ghost use Rattle.fmp_toppers.specs.Names as spec;
 
@@ -7,8 +8,9 @@ use fmp_base::{Name, System};
 use fmp_export::is_among;
 use fmp_scopes::HasName;
 
-/// Types and macros of the headers: the configurator makes each object a macro, so that it cannot have such a name.
-pub const KNOWN: [&str; 71] = [
+/// Types, macros and functions of the headers: the configurator makes each object a macro, so that it cannot have such
+/// a name.
+pub const KNOWN: [&str; 81] = [
     "ALMHDR",
     "ATR",
     "CYCHDR",
@@ -20,6 +22,18 @@ pub const KNOWN: [&str; 71] = [
     "EXCHDR",
     "EXCNO",
     "EXINF",
+    "E_BOVR",
+    "E_CLS",
+    "E_COMM",
+    "E_DLT",
+    "E_MACV",
+    "E_NOEXS",
+    "E_NOID",
+    "E_NOMEM",
+    "E_NORES",
+    "E_OACV",
+    "E_RASTER",
+    "E_WBLK",
     "FALSE",
     "FLGPTN",
     "FN",
@@ -44,6 +58,14 @@ pub const KNOWN: [&str; 71] = [
     "MODE",
     "MPF_T",
     "OVRHDR",
+    "PRC1",
+    "PRC2",
+    "PRC3",
+    "PRC4",
+    "PRC5",
+    "PRC6",
+    "PRC7",
+    "PRC8",
     "PRCTIM",
     "PRI",
     "RELTIM",
@@ -55,32 +77,47 @@ pub const KNOWN: [&str; 71] = [
     "SYSTIM",
     "SYSUTM",
     "TASK",
-    "TA_EDGE",
-    "TA_ENAINT",
-    "TA_NEGEDGE",
-    "TA_NONKERNEL",
-    "TA_POSEDGE",
     "TERRTN",
     "TEXPTN",
     "TEXRTN",
-    "TIPM_ENAALL",
     "TMEHDR",
     "TMO",
-    "TMO_NBLK",
     "TNFY_HANDLER",
     "TRUE",
     "TSK_NONE",
-    "TTS_DMT",
-    "TTS_RDY",
-    "TTS_RUN",
-    "TTS_SUS",
-    "TTS_WAI",
-    "TTS_WAS",
     "T_MSG",
     "T_MSG_PRI",
     "assert",
+    "ext_ker",
+    "sns_ctx",
+    "syslog",
     "throw",
 ];
+
+/// How other names of the headers begin: attributes, classes, limits, counts and states.
+pub const FAMILIES: [&str; 20] = [
+    "CLS_", "SVC_", "TALM_", "TA_", "TBIT_", "TCL_", "TCYC_", "TIPM_", "TKERNEL_", "TMAX_",
+    "TMIN_", "TMO_", "TNUM_", "TOPPERS_", "TOVR_", "TPRI_", "TSPN_", "TTEX_", "TTS_", "TTW_",
+];
+
+/// Whether a name begins with one of these words.
+fn begins_with_any(words: &[&str], name: &[u8]) -> bool
+    ensures { result ≡ list_any (λ word. starts_with nat_eq name.now word.now) words.now }
+{
+    for word in words {
+        if name.starts_with(word.as_bytes()) {
+            return true;
+        }
+    }
+    false
+}
+
+/// Whether the headers have a name.
+fn is_known(name: &[u8]) -> bool
+    ensures { result ≡ spec.is_known name.now }
+{
+    is_among(&KNOWN, name) || begins_with_any(&FAMILIES, name)
+}
 
 /// The first of these names that the headers have.
 fn first_known<T: HasName>(rows: &[T]) -> Option<Name>
@@ -88,7 +125,7 @@ fn first_known<T: HasName>(rows: &[T]) -> Option<Name>
 {
     for place in 0..rows.len() {
         let name = rows[place].name();
-        if is_among(&KNOWN, name.as_bytes()) {
+        if is_known(name.as_bytes()) {
             return Some(*name);
         }
     }
