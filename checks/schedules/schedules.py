@@ -413,7 +413,7 @@ SHOWS = {
 
 def numbers_of(text):
     """The states, events and depth that are printed."""
-    found = re.search(r"^(\d+) states, (\d+) events, (\d+) deep$", text, re.MULTILINE)
+    found = re.search(r"^(\d+) states?, (\d+) events?, (\d+) deep$", text, re.MULTILINE)
     return tuple(map(int, found.groups())) if found else ()
 
 

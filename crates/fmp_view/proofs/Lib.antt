@@ -1,3 +1,4 @@
+pub mod HostDeeds
 pub mod Projects
 pub mod SessionLemmas
 pub mod TargetLemmas

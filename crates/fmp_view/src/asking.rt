@@ -8,9 +8,7 @@ use crate::form::program;
 use crate::importing::Importing;
 use crate::targeting::Targeting;
 use clap::{ArgMatches, Error};
-use fmp_arguments::{
-    EVENTS_MAX, bound_of, entered, flag_of, text_of, word_of, word32_of, word64_of, words_of,
-};
+use fmp_arguments::{bound_of, entered, flag_of, text_of, word_of, word32_of, word64_of, words_of};
 use fmp_looking::{
     CoverageFiles, Drawing, Driving, Format, Running, Testing, TraceFormat, files_of, testing_of,
 };
@@ -190,7 +188,7 @@ fn drawing_of(words: &ArgMatches<'_>) -> Drawing {
     Drawing {
         choice: Choice {
             first: word32_of(words, "from").unwrap_or(0),
-            last: word32_of(words, "to").unwrap_or(EVENTS_MAX),
+            last: word32_of(words, "to").unwrap_or(u32::MAX),
         },
         objects: html || flag_of(words, "objects"),
         html,

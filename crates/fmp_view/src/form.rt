@@ -86,14 +86,14 @@ const SEED: &str = "Order of processors at random by this number, with ticks and
 without it they run in turn, and the clock ticks where all are idle";
 
 /// What the first event of a picture is.
-const FROM: &str = "First event that is drawn, 0 to 2^20; setup is 0";
+const FROM: &str = "First event that is drawn, 0 to 2^31; setup is 0";
 
 /// What the last event of a picture is.
-const TO: &str = "Last event that is drawn, 0 to 2^20; without it the last of the run.
+const TO: &str = "Last event that is drawn, 0 to 2^31; without it the last of the run.
 At most 10,000 events are drawn";
 
 /// What the event of `why` is.
-const AT: &str = "Event after which tasks are looked at, 0 to 2^20; without it the last of the run";
+const AT: &str = "Event after which tasks are looked at, 0 to 2^31; without it the last of the run";
 
 /// What a text of expectations is.
 const EXPECT: &str = "Text of expectations, one a line, with comments from # on:
@@ -164,6 +164,9 @@ const LINE_DIRECTIVES: &str = "Let a debugger show the lines of system.src";
 
 /// Another target.
 const FMP3: &str = "Write them for TOPPERS/FMP3";
+
+/// The greatest number of an event of a run, 2^31: a recording has as many.
+const RUN_EVENTS_MAX: u64 = 1 << 31;
 
 const IMAGE: Argument = Argument(
     "IMAGE",
@@ -281,7 +284,7 @@ static WHY: CommandForm = CommandForm {
         BOUNDED,
         Argument(
             "at",
-            ArgumentKind::Option("K", OptionValue::Number(0, EVENTS_MAX as u64)),
+            ArgumentKind::Option("K", OptionValue::Number(0, RUN_EVENTS_MAX)),
             AT,
         ),
         JSON,
@@ -397,12 +400,12 @@ static TIMELINE: CommandForm = CommandForm {
         ),
         Argument(
             "from",
-            ArgumentKind::Option("K", OptionValue::Default(0, EVENTS_MAX as u64, "0")),
+            ArgumentKind::Option("K", OptionValue::Default(0, RUN_EVENTS_MAX, "0")),
             FROM,
         ),
         Argument(
             "to",
-            ArgumentKind::Option("K", OptionValue::Number(0, EVENTS_MAX as u64)),
+            ArgumentKind::Option("K", OptionValue::Number(0, RUN_EVENTS_MAX)),
             TO,
         ),
         Argument("src", ArgumentKind::TextWithout("SRC", "recording"), PLACED),

@@ -30,15 +30,18 @@ mod targeting;
 mod telling;
 mod testing;
 mod texts;
+mod view_host;
+mod void_options;
 mod word_mistakes;
 
-use fmp_files::{Host, refuse_words, words_of};
+use fmp_files::{refuse_words, words_of};
 use form::program;
 use running::run;
 use std::process::ExitCode;
+use view_host::ViewHost;
 
 fn main(rt: HostRuntime) -> ExitCode {
-    let mut host = Host::new(&rt);
+    let mut host = ViewHost::new(&rt);
     let status = match words_of(&rt) {
         Ok(words) => run(rt.alloc(), &mut host, &rt, &words),
         Err(fault) => refuse_words(&mut host, program(rt.alloc()), fault),

@@ -82,6 +82,9 @@ fn wanted_text(
         LineMistake::Unknown | LineMistake::Alone => {
             format!(in alloc; "nothing stands after `{word}`")
         }
+        LineMistake::Processor if processors == 1 => {
+            format!(in alloc; "`{word}` wants 1, the number of the only processor")
+        }
         LineMistake::Processor => {
             format!(in alloc; "`{word}` wants the number of a processor, 1 to {processors}")
         }

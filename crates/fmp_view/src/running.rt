@@ -11,12 +11,16 @@ use crate::exporting::run_export;
 use crate::importing::run_import;
 use crate::refusing::refuse_form;
 use crate::runs::{is_read, is_this_file, made_of_run, write};
-use crate::settings::{Added, added_to};
+use crate::settings::{Added, added_to, option_over_settings};
 use crate::targeting::run_target;
 use crate::telling::{print_made, print_run};
 use crate::testing::run_test;
 use crate::texts::{run_step, run_texts};
-use crate::word_mistakes::{dump_over_input, no_code, picture_of_nothing, picture_over_input};
+use crate::void_options::void_option;
+use crate::word_mistakes::{
+    dump_over_input, no_code, option_without_use, output_over_settings, picture_of_nothing,
+    picture_over_input,
+};
 use clap::ArgMatches;
 use fmp_arguments::join;
 use fmp_files::{Device, Failure, Outside, end, print, read_file, refuse_mistake};
@@ -364,13 +368,36 @@ where
     }
 }
 
-/// Tells which words settings add, and gives the status.
+/// Tells which words settings add, if they add any, and gives the status.
 fn tell_added<O: Outside>(alloc: Global, outside: &mut O, added: &Added) -> u8 {
+    if added.words.is_empty() {
+        return 0;
+    }
     if added.is_said {
         outside.say(added.line.as_str());
         0
     } else {
         print(alloc, outside, added.line.as_bytes())
+    }
+}
+
+/// Does what the words of a command line ask for, unless a file that it writes is that of the settings that were read,
+/// and gives the status.
+fn carry_out_beside<O: Outside, R: Input + Files + Clock + Threads + Sync>(
+    alloc: Global,
+    outside: &mut O,
+    rt: &R,
+    words: &ArgMatches<'_>,
+    settings: &str,
+) -> u8
+where
+    R::Reader: IsTerminal,
+{
+    match option_over_settings(outside, words, settings) {
+        Some((command, option)) => {
+            refuse_mistake(outside, output_over_settings(alloc, command, option))
+        }
+        None => carry_out(alloc, outside, rt, words),
     }
 }
 
@@ -392,13 +419,13 @@ where
         return Ok(status);
     }
     match parsed(alloc, &words) {
-        Ok(words) => Ok(carry_out(alloc, outside, rt, &words)),
+        Ok(words) => Ok(carry_out_beside(alloc, outside, rt, &words, added.file.as_str())),
         Err(error) => Ok(refuse_form(alloc, outside, &words, &error)),
     }
 }
 
 /// Does what words ask for with those of settings, if there are settings, and gives the status.
-fn run_parsed<O: Outside, R: Input + Files + Clock + Threads + Sync>(
+fn run_with_settings<O: Outside, R: Input + Files + Clock + Threads + Sync>(
     alloc: Global,
     outside: &mut O,
     rt: &R,
@@ -415,6 +442,23 @@ where
             Err(error) => end(outside, &Failure::Memory(error)),
         },
         Err(exit) => end(outside, &exit),
+    }
+}
+
+/// Does what words ask for, unless one of their options says nothing beside another word, and gives the status.
+fn run_parsed<O: Outside, R: Input + Files + Clock + Threads + Sync>(
+    alloc: Global,
+    outside: &mut O,
+    rt: &R,
+    typed: &[String],
+    words: &ArgMatches<'_>,
+) -> u8
+where
+    R::Reader: IsTerminal,
+{
+    match void_option(words) {
+        Some(void) => refuse_mistake(outside, option_without_use(alloc, void)),
+        None => run_with_settings(alloc, outside, rt, typed, words),
     }
 }
 

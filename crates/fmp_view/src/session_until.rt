@@ -7,7 +7,7 @@ use crate::answering::{Answer, Stepping, append_told, take_event};
 use crate::session_files::refused;
 use fmp_arguments::{EVENTS_MAX, flaw_words};
 use fmp_base::Event;
-use fmp_expect::{Checker, ExpectFault, Expected, read_expectations};
+use fmp_expect::{Checker, ExpectFault, ExpectationFlaw, Expected, Expects, read_expectations};
 use fmp_kernel::{Body, Kernel};
 use fmp_monitors::Sentence;
 use fmp_session::{Session, TakenEvent};
@@ -58,9 +58,13 @@ fn most_in(text: &str) -> Option<u32> {
     Some(most)
 }
 
-/// What stands before the last ` within ` of a text, and what stands after it.
+/// What stands before the last word `within` of a text, and what stands after it: nothing where that ends the text.
 fn parts_at_within(text: &[u8]) -> Option<(&str, &str)> {
-    str::from_utf8(text).ok()?.rsplit_once(" within ")
+    let text = str::from_utf8(text).ok()?;
+    match text.strip_suffix(" within") {
+        Some(deed) => Some((deed, "")),
+        None => text.rsplit_once(" within "),
+    }
 }
 
 /// What a session goes on for, as a line says after `until`; none if no number of events stands after `within`.
@@ -266,6 +270,26 @@ fn until_broken(
     Ok(Answer::Told(told_until(alloc, session, stepping, expected, awaited)?))
 }
 
+/// What a session expects, which knows neither bodies of handlers nor the other words of an expectation.
+fn session_expects(expects: Expects) -> Expects {
+    match expects {
+        Expects::ActorOfImage => Expects::Actor,
+        Expects::NeverEndOrBy | Expects::NeverEndByOrAt => Expects::EndOrBy,
+        Expects::NeverEnd | Expects::NeverEndOrAt | Expects::TaskOnly | Expects::TextNeeded => {
+            Expects::End
+        }
+        expects => expects,
+    }
+}
+
+/// The flaw of a line of a session.
+fn session_flaw(flaw: ExpectationFlaw) -> ExpectationFlaw {
+    ExpectationFlaw {
+        expects: session_expects(flaw.expects),
+        left: flaw.left,
+    }
+}
+
 /// Goes on until a deed happens, at most for as many events as may come.
 #[tactic(auto, using(crate::proofs::SessionLemmas::leaves_all))]
 fn until_awaited(
@@ -284,6 +308,7 @@ fn until_awaited(
         Ok(expected) => until_broken(alloc, session, stepping, &expected, awaited),
         Err(ExpectFault::Memory) => Err(AllocError),
         Err(ExpectFault::Line { flaw, .. }) => {
+            let flaw = session_flaw(flaw);
             Ok(Answer::Refused(flaw_words(alloc, sys, &text, flaw)?))
         }
     }

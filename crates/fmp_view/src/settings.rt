@@ -1,11 +1,14 @@
 //! The words that a file of settings beside a system adds to a command line.
-ghost use Rattle.fmp_view.specs.Settings.{status_of};
+ghost use Rattle.std.specs.Prelude.{◌≡◌, IfNone, IfSome, IsTrue};
+ghost use Rattle.clap.specs.Words.{first_of, found_of, rows_of, subcommand_rows_of};
+ghost use Rattle.fmp_view.specs.Settings.{KeepsSettings, status_of};
 
 use crate::form::forms;
 use clap::ArgMatches;
 use clap::parser::ValueSource;
 use fmp_arguments::{
-    CommandForm, KEYS, SETTINGS, added_words, entered, flag_of, refusal_text, used_text, word_of,
+    CommandForm, KEYS, SETTINGS, added_words, entered, flag_of, refusal_text, text_of, used_text,
+    word_of,
 };
 use fmp_files::{Failure, Outside, Reason, read_file};
 use std::alloc::{AllocError, Global};
@@ -90,12 +93,16 @@ impl Reason for SettingsExit {
     }
 }
 
-/// What settings add to a command line: words, the line that tells them, and whether that line is said, since standard
-/// output has steps or objects of JSON.
+/// What settings add to a command line.
 #[derive(Drop)]
 pub struct Added {
+    /// The file of the settings.
+    pub file: String,
+    /// The words that they add; none if they add nothing.
     pub words: Vec<String>,
+    /// The line that tells these words.
     pub line: String,
+    /// Whether that line is said, since standard output has steps or objects of JSON.
     pub is_said: bool,
 }
 
@@ -167,15 +174,15 @@ fn words_in<O: Outside>(
     }
 }
 
-/// The words that the settings beside a system add for the options of these names, and the line that tells them; none
-/// where there are no settings.
-fn words_beside<O: Outside, R: Files>(
+/// What the settings beside a system add for the options of these names; nothing where there are no settings.
+fn added_beside<O: Outside, R: Files>(
     alloc: Global,
     outside: &O,
     rt: &R,
     system: &str,
     names: &[&str],
-) -> Result<Option<(Vec<String>, String)>, SettingsExit> {
+    is_said: bool,
+) -> Result<Option<Added>, SettingsExit> {
     let folder = folder_of(system);
     let file = format!(in alloc; "{folder}{SETTINGS}")?;
     if fs::metadata(rt, file.as_str()).is_err() {
@@ -183,7 +190,12 @@ fn words_beside<O: Outside, R: Files>(
     }
     let words = words_in(alloc, outside, folder, file.as_str(), names)?;
     let line = used_text(alloc, file.as_str(), &words)?;
-    Ok(Some((words, line)))
+    Ok(Some(Added {
+        file,
+        words,
+        line,
+        is_said,
+    }))
 }
 
 /// What settings add to a command that takes them.
@@ -200,20 +212,58 @@ fn added_for<O: Outside, R: Files>(
     let is_said = taker.prints_steps || flag_of(words, "json");
     let names = given(alloc, taker, words)?;
     let system = word_of(words, taker.system);
-    let Some((words, line)) = words_beside(alloc, outside, rt, system, &names)? else {
-        return Ok(None);
-    };
-    if words.is_empty() {
-        return Ok(None);
-    }
-    Ok(Some(Added {
-        words,
-        line,
-        is_said,
-    }))
+    added_beside(alloc, outside, rt, system, &names, is_said)
 }
 
-/// What settings add to a command line, if they add anything.
+/// Whether the option of this name is given and names the file of settings.
+fn is_over_settings<O: Outside>(
+    outside: &O,
+    words: &ArgMatches<'_>,
+    option: &str,
+    settings: &str,
+) -> bool
+    ensures { IfSome (first_of option.now (rows_of (found_of words.now)))
+        (λ name. name ≡ settings.now → IsTrue result) }
+{
+    match text_of(words, option) {
+        Some(name) => outside.is_one_file(name, settings),
+        None => false,
+    }
+}
+
+/// The option of these words that names the file of settings as one to write, if one does.
+fn option_over<O: Outside>(
+    outside: &O,
+    words: &ArgMatches<'_>,
+    settings: &str,
+) -> Option<&'static str>
+    ensures { IfNone result (KeepsSettings (rows_of (found_of words.now)) settings.now) }
+{
+    if is_over_settings(outside, words, "junit", settings) {
+        Some("junit")
+    } else if is_over_settings(outside, words, "lcov", settings) {
+        Some("lcov")
+    } else if is_over_settings(outside, words, "coverage", settings) {
+        Some("coverage")
+    } else {
+        None
+    }
+}
+
+/// The command of a command line and its option that would replace the file of settings that was read, if one would.
+pub fn option_over_settings<'a, O: Outside>(
+    outside: &O,
+    words: &ArgMatches<'a>,
+    settings: &str,
+) -> Option<(&'a str, &'static str)>
+    ensures { IfNone result (IfSome (subcommand_rows_of words.now) (λ p. KeepsSettings p.1 settings.now)) }
+{
+    let (command, words) = entered(words)?;
+    let option = option_over(outside, words, settings)?;
+    Some((command, option))
+}
+
+/// What the settings beside a system add to a command line, if there are settings and the command takes them.
 pub fn added_to<O: Outside, R: Files>(
     alloc: Global,
     outside: &O,

@@ -1,9 +1,11 @@
 //! What is wrong with words that have the form of a command.
 use crate::form::{
-    expect_command, export_command, program, run_command, timeline_command, waves_command,
+    expect_command, export_command, forms, program, run_command, timeline_command, waves_command,
 };
 use crate::import_form::import_command;
+use crate::void_options::VoidOption;
 use clap::Error;
+use fmp_arguments::command_of;
 use fmp_files::{mistake, mistake_of};
 use fmp_searching::said_of_code;
 use std::alloc::{AllocError, Global};
@@ -38,6 +40,34 @@ const OUT_OVER_CONFIGURATION: &str = "the file OUT is one of those that are read
 
 /// The message for a picture that ends before it begins.
 const FROM_AFTER_TO: &str = "--from is later than --to";
+
+/// The error for words that fit the form of the command of this name.
+fn mistake_in(alloc: Global, command: &str, why: &str) -> Result<Error, AllocError> {
+    let name = format!(in alloc; "fmp_view {command}")?;
+    for form in forms() {
+        if form.name == command {
+            return mistake_of(command_of(alloc, form), name.as_str(), why);
+        }
+    }
+    mistake(program(alloc), why)
+}
+
+/// The error for an option that names the file of settings that was read as one to write, which has the status 2.
+pub fn output_over_settings(
+    alloc: Global,
+    command: &str,
+    option: &str,
+) -> Result<Error, AllocError> {
+    let why = format!(in alloc; "the file of --{option} is one of those that are read")?;
+    mistake_in(alloc, command, why.as_str())
+}
+
+/// The error for an option that says nothing beside another word, which has the status 2.
+pub fn option_without_use(alloc: Global, void: VoidOption) -> Result<Error, AllocError> {
+    let (option, shown) = (void.option, void.shown());
+    let why = format!(in alloc; "the argument '--{option}' cannot be used with '{shown}'")?;
+    mistake_in(alloc, void.command, why.as_str())
+}
 
 /// The error for a word that is no code, which has the status 2.
 pub fn no_code(alloc: Global, word: &str) -> Result<Error, AllocError> {

@@ -5,7 +5,7 @@ returns-in-Explore g c = λ rows asks zero.
     record {
       exploring = c.in-Explore.exploring;
       is = rw c.in-Explore.is at asks;
-      holds = c.run_explore.ensures zero;
+      holds = c.run_explore.ensures.holds zero;
     }
 
 pub returns-in-Look : goal.returns-in-Look
