@@ -8,7 +8,7 @@
 # `help` prints this.
 #
 # `quick` builds optimized programs and the library for C below quick/, in minutes and with no proof: they say
-# `proved=no`. What stands there is built again only where its sources changed. JOBS are built at once, with up to 2 GB
+# `proved=no`. What stands there is built again only where its sources changed. JOBS are built at once, with up to 3 GB
 # of memory each.
 #
 # `install` copies the proved programs, their manual pages, their completions and the reference below PREFIX, and says

@@ -1,4 +1,4 @@
-//! The forms that other programs read: objects of JSON, one in a line, and reports of tests in the XML of JUnit.
+//! Objects of JSON, one in a line, and reports of tests in the XML of JUnit, as other programs read them.
 #![tactic(auto)]
 
 mod junit;

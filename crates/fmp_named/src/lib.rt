@@ -1,4 +1,4 @@
-//! Runs in the names of their objects: the lines of a trace, and the states at the end, as text and as JSON.
+//! The lines of a trace, and the states at the end, with the names of objects in place of numbers, as text and as JSON.
 #![tactic(auto)]
 
 mod lines;
