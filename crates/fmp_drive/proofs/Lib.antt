@@ -1,1 +1,2 @@
 pub mod DriveLemmas
+pub mod PlanLemmas

@@ -1,5 +1,10 @@
 //! What a drive tries next.
-ghost use Rattle.std.specs.Prelude.{◌≤◌, length};
+ghost use Rattle.std.specs.Prelude.{◌≡◌, ◌+◌, ◌%◌, ◌<◌, ◌≤◌, ℕ, IfOk, None, false, get_or, length};
+ghost use Rattle.std.specs.List.{list_any, range_with_len};
+ghost use Rattle.fmp_base.specs.declared.events.Event.TheVariants as event;
+ghost use Rattle.fmp_drive.specs.declared.plan.Wish.TheVariants as kind;
+ghost use Rattle.fmp_drive.specs.Plans as spec;
+ghost use Rattle.fmp_drive.specs.Plans.{IsFirstPlan, waits_after_all};
 
 use crate::limits::note_waits;
 use fmp_base::{Event, Line, StateWord, System};
@@ -20,9 +25,26 @@ pub enum Wish {
     Interrupt(u8),
 }
 
+/// Whether a task in this state waits.
+fn is_waiting(word: StateWord) -> bool
+    ensures { result ≡ spec.is_waiting word }
+{
+    matches!(word, StateWord::Waiting | StateWord::WaitingSuspended)
+}
+
+/// Whether the wait that the task at a place began last ends by the clock.
+fn is_ending(ending: &[bool], task: usize) -> bool
+    ensures { result ≡ get_or ending.now task false }
+{
+    match ending.get(task) {
+        Some(ends) => *ends,
+        None => false,
+    }
+}
+
 impl Wish {
     /// The processor that is tried first.
-    pub fn first(self) -> u8
+    pub(crate) fn first(self) -> u8
         ensures { 1 ≤ result }
     {
         match self {
@@ -48,7 +70,9 @@ pub struct Plan {
 impl Plan {
     /// The processors in turn; with a seed at random, and the clock and the interrupts between. `AllocError` if memory
     /// runs out.
-    pub fn new(alloc: Global, sys: &System, seed: Option<u64>) -> Result<Plan, AllocError> {
+    pub fn new(alloc: Global, sys: &System, seed: Option<u64>) -> Result<Plan, AllocError>
+        ensures { IfOk result (IsFirstPlan (length sys.now.tasks.items) seed) }
+    {
         let random = match seed {
             Some(seed) => Some(Pcg32::seed_from_u64(seed)),
             None => None,
@@ -62,7 +86,10 @@ impl Plan {
     }
 
     /// What is tried first now.
-    pub fn wish(&mut self) -> Wish {
+    pub(crate) fn wish(&mut self) -> Wish
+        ensures turn { self.old.random ≡ None → result ≡ kind.Run self.old.turn }
+        ensures ending { self.new.ending ≡ self.old.ending }
+    {
         let Some(random) = &mut self.random else {
             return Wish::Run(self.turn);
         };
@@ -77,18 +104,29 @@ impl Plan {
 
     /// Whether the clock can change something: a task waits with a time limit, a cyclic handler is started, or
     /// interrupts come at random, and may start one.
-    pub fn is_due<B: Body>(&self, kernel: &Kernel<B>, tasks: u8) -> bool
+    pub(crate) fn is_due<B: Body>(&self, kernel: &Kernel<B>, tasks: u8) -> bool
         requires { tasks ≤ length kernel.now.system.tasks }
+        ensures { result ≡ spec.is_due self.now kernel.now.world.state tasks }
     {
-        if self.stirred || kernel.tables().has_started_cyclic() {
-            return true;
-        }
-        for t in 0..tasks {
-            let waits = matches!(
-                kernel.state(t).word,
-                StateWord::Waiting | StateWord::WaitingSuspended
-            );
-            if waits && self.ending.get(usize::from(t)) == Some(&true) {
+        self.stirred || kernel.tables().has_started_cyclic() || self.any_is_timed(kernel, tasks)
+    }
+
+    /// Whether a task waits, and its wait ends by the clock.
+    fn is_timed<B: Body>(&self, kernel: &Kernel<B>, task: u8) -> bool
+        requires { task < length kernel.now.system.tasks }
+        ensures { result ≡ spec.is_timed self.now.ending.items kernel.now.world.state task }
+    {
+        is_waiting(kernel.state(task).word) && is_ending(&self.ending, usize::from(task))
+    }
+
+    /// Whether one of this many tasks waits for the clock.
+    fn any_is_timed<B: Body>(&self, kernel: &Kernel<B>, tasks: u8) -> bool
+        requires { tasks ≤ length kernel.now.system.tasks }
+        ensures { result ≡ list_any (spec.is_timed self.now.ending.items kernel.now.world.state)
+            (range_with_len 0 tasks) }
+    {
+        for task in 0..tasks {
+            if self.is_timed(kernel, task) {
                 return true;
             }
         }
@@ -97,8 +135,10 @@ impl Plan {
 
     /// An event has been taken, and these are the lines of the last one that was done: the processor after it is the
     /// next.
-    pub fn done(&mut self, e: Event, lines: &[Line], processors: u8)
+    pub(crate) fn done(&mut self, e: Event, lines: &[Line], processors: u8)
         requires { 1 ≤ processors }
+        ensures turn { (p : ℕ) → e ≡ event.Run p → self.new.turn ≡ p % processors + 1 }
+        ensures ending { self.new.ending.items ≡ waits_after_all self.old.ending.items lines.now }
     {
         if let Event::Run(number) = e {
             self.turn = number % processors + 1;

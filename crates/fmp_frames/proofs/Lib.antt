@@ -5,4 +5,6 @@ pub mod EachLemmas
 pub mod FrameLemmas
 pub mod HeardLemmas
 pub mod MadeLemmas
+pub mod SeenLemmas
 pub mod SiteLemmas
+pub mod ToldLemmas

@@ -1,10 +1,16 @@
 -- Two runs side by side.
-use Rattle.std.specs.Prelude.{◌≡◌, ℕ, ◌+◌, ◌-◌, ◌<◌, zero, suc, List, [], ◌∷◌, ◌++◌, Option, Some, None, Bool, true}
+use Rattle.std.specs.Prelude.{◌≡◌, ℕ, ◌+◌, ◌-◌, ◌<◌, ◌^◌, zero, suc, List, [], ◌∷◌, ◌++◌, Option, Some, None, Bool, true}
 use Rattle.std.specs.Prelude.{false, if◌then◌else◌, bytes_eq, codes, length, map, max, nat_eq, slice_get}
 use Rattle.fmp_base.specs.declared.events.TaskState.{TaskState}
 use Rattle.fmp_base.specs.declared.states.TaskBlock.{TaskBlock}
 use Rattle.fmp_base.specs.Systems.{SystemTables, tables_of}
-use Rattle.fmp_frames.specs.Frames.{FrameTable}
+use Rattle.fmp_base.specs.declared.events.Line.{Line}
+use Rattle.fmp_base.specs.Meanings.{Meaning}
+use Rattle.fmp_base.specs.Steps.{Reaction}
+use Rattle.fmp_frames.specs.Frames.{FrameTable, frames_of_each}
+use Rattle.fmp_frames.specs.Shown.{frame_now, number_after}
+use Rattle.fmp_kernel.specs.KernelViews.{KernelView}
+use Rattle.fmp_named.specs.Lines.{named_lines}
 use Rattle.fmp_named.specs.States.{named_state}
 use Rattle.fmp_frames.specs.declared.comparing.ToldRun.{ToldRun}
 
@@ -16,6 +22,29 @@ pub record AreStates (x : ToldRun) (f : FrameTable) : Type 0 where
 -- what a run tells of setup and of each event: the lines of each number
 abbrev pub events_of : ToldRun → List (List ℕ)
 events_of x = map (λ text. text.items) x.texts.items
+
+-- what the event of a number tells: these lines; one that kept a place tells nothing
+abbrev pub told_at : SystemTables → (number : ℕ) → (kept : Option ℕ) → List Line → List (List ℕ)
+told_at sys n None lines = named_lines sys n lines ∷ []
+told_at sys n (Some p) lines = []
+
+-- what frames tell, where the first event that is done has this number
+abbrev pub told_from : SystemTables → (number : ℕ) → List FrameTable → List (List ℕ)
+told_from sys n [] = []
+told_from sys n (f ∷ fs) = told_at sys n f.kept f.lines ++ told_from sys (number_after n f.kept) fs
+
+-- what a run tells of setup, which is event 0, and of each event of what came after it
+abbrev pub run_told : {B C X : Type 0} → SystemTables → (B → Meaning C) → (KernelView B C → X → Reaction C)
+    → KernelView B C → List X → List (List ℕ)
+run_told sys meaning reaction k xs =
+    told_from sys 0 (frame_now meaning k ∷ frames_of_each meaning reaction k xs)
+
+-- one frame more is told, and the states are those of it; numbers of events are below 2^32
+pub record IsToldFurther (x : ToldRun) (f : FrameTable) (y : ToldRun) : Type 0 where
+  pub states : AreStates y f
+  pub sys : y.sys ≡ x.sys
+  pub events : length (events_of x) < 2 ^ 32
+      → events_of y ≡ events_of x ++ told_at (tables_of x.sys.now) (length (events_of x)) f.kept f.lines
 
 -- the first place at which two lists differ, which may be the end of one of them; none if they are the same
 abbrev pub IsFirstDifference : {X : Type 0} → List X → List X → Option ℕ → Type 0

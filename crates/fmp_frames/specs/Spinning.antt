@@ -1,5 +1,5 @@
 -- What the actors of processors spin for: what their next runs would come to.
-use Rattle.std.specs.Prelude.{ℕ, List, Option, Some, None, Bool, length}
+use Rattle.std.specs.Prelude.{ℕ, List, Option, Some, None, length}
 use Rattle.fmp_base.specs.declared.calls.Call.{Call}
 use Rattle.fmp_base.specs.declared.states.Processor.{Processor}
 use Rattle.fmp_base.specs.Meanings.{Meaning, World}

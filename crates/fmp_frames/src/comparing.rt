@@ -1,10 +1,13 @@
 //! Two runs of a system side by side: the first event in which they differ.
 ghost use Rattle.std.specs.Bool.{Decides};
-ghost use Rattle.std.specs.Prelude.{◌≡◌, ◌+◌, ◌-◌, ◌++◌, ◌≤◌, ◌^◌, IfOk, OnOk, length, option_map, slice_get};
+ghost use Rattle.std.specs.Prelude.{◌≡◌, ◌+◌, ◌-◌, ◌∷◌, [], ◌++◌, ◌<◌, ◌≤◌, ◌^◌, IfOk, OnOk, length, min, option_map};
+ghost use Rattle.std.specs.Prelude.{slice_get};
+ghost use Rattle.fmp_base.specs.Systems.{tables_of};
 ghost use Rattle.fmp_frames.specs.Frames.{table_of};
 ghost use Rattle.fmp_frames.specs.Compares as spec;
-ghost use Rattle.fmp_frames.specs.Compares.{AreStates, IsFirstDifference, events_of};
+ghost use Rattle.fmp_frames.specs.Compares.{AreStates, IsFirstDifference, IsToldFurther, events_of, run_told};
 ghost use Rattle.fmp_frames.specs.Shown.{WasShown};
+ghost use Rattle.fmp_named.specs.Lines.{named_lines};
 
 use crate::frame::{Frame, last_frame};
 use crate::showing::{Viewer, show_all};
@@ -27,23 +30,30 @@ pub struct ToldRun<'a> {
     blocks: Vec<TaskBlock>,
 }
 
+/// The number of an event, which is below 2^32: for a greater number, the greatest one.
+fn event_number(number: usize) -> u32
+    ensures { result ≡ min number (2 ^ 32 - 1) }
+{
+    u32::try_from(number).unwrap_or(u32::MAX)
+}
+
 /// The lines of a frame, which has this number.
-fn text_of(
-    alloc: Global,
-    sys: &System,
-    number: usize,
-    frame: &Frame,
-) -> Result<Vec<u8>, AllocError> {
-    let number = u32::try_from(number).unwrap_or(u32::MAX);
+fn text_of(alloc: Global, sys: &System, number: usize, frame: &Frame) -> Result<Vec<u8>, AllocError>
+    ensures { IfOk result (λ text. text.items
+        ≡ named_lines (tables_of sys.now) (min number (2 ^ 32 - 1)) frame.now.lines.items) }
+{
     let mut text = Vec::new(alloc);
-    append_lines(sys, number, &frame.lines, &mut text)?;
+    append_lines(sys, event_number(number), &frame.lines, &mut text)?;
     Ok(text)
 }
 
 impl<'a> ToldRun<'a> {
     /// A system after setup. `AllocError` if memory runs out.
     fn new(alloc: Global, sys: &'a System, setup: &Frame) -> Result<ToldRun<'a>, AllocError>
-        ensures { IfOk result (λ made. AreStates made (table_of setup.now)) }
+        ensures states { IfOk result (λ made. AreStates made (table_of setup.now)) }
+        ensures sys { IfOk result (λ made. made.sys ≡ sys.entry) }
+        ensures events { IfOk result (λ made. events_of made
+            ≡ named_lines (tables_of sys.now) 0 setup.now.lines.items ∷ []) }
     {
         let mut texts = Vec::new(alloc);
         texts.push(text_of(alloc, sys, 0, setup)?)?;
@@ -54,17 +64,32 @@ impl<'a> ToldRun<'a> {
             blocks: Vec::from_slice(alloc, &setup.blocks)?,
         })
     }
+
+    /// Adds the lines of a frame, unless its event kept a place.
+    #[tactic(auto, using(crate::proofs::FrameLemmas::map_push))]
+    fn tell(&mut self, alloc: Global, frame: &Frame) -> Result<(), AllocError>
+        ensures sys { self.new.sys ≡ self.old.sys }
+        ensures events { OnOk result (length (events_of self.old) < 2 ^ 32 → events_of self.new
+            ≡ events_of self.old ++ spec.told_at (tables_of self.old.sys.now) (length (events_of self.old))
+            frame.now.kept frame.now.lines.items) }
+    {
+        match frame.kept {
+            Some(_) => Ok(()),
+            None => {
+                let text = text_of(alloc, self.sys, self.texts.len(), frame)?;
+                self.texts.push(text)?;
+                Ok(())
+            }
+        }
+    }
 }
 
 impl Viewer for ToldRun<'_> {
-    ghost shown = { λ x f y. AreStates y f };
+    ghost shown = { λ x f y. IsToldFurther x f y };
 
-    /// One event more: the states are those of the frame.
+    /// One event more: what it tells, and the states of the frame.
     fn show(&mut self, alloc: Global, frame: &Frame) -> Result<(), AllocError> {
-        if frame.kept.is_none() {
-            let text = text_of(alloc, self.sys, self.texts.len(), frame)?;
-            self.texts.push(text)?;
-        }
+        self.tell(alloc, frame)?;
         self.states = Vec::from_slice(alloc, &frame.states)?;
         self.blocks = Vec::from_slice(alloc, &frame.blocks)?;
         Ok(())
@@ -80,8 +105,10 @@ pub fn told_on<'a, B: Body, T: Coming<B>>(
     events: &[T],
 ) -> Result<ToldRun<'a>, AllocError>
     requires few { kernel.old.taken + length events.now ≤ 2 ^ 31 }
-    ensures { IfOk result (λ told. WasShown (λ x f. AreStates x f)
+    ensures shown { IfOk result (λ told. WasShown (λ x f. AreStates x f)
         ⟦<ToldRun<'a> as Viewer>⟧.shown B.meaning T.reaction kernel.old events.now told) }
+    ensures events { IfOk result (λ told.
+        events_of told ≡ run_told (tables_of sys.now) B.meaning T.reaction kernel.old events.now) }
 {
     let setup = last_frame(alloc, kernel)?;
     let mut told = ToldRun::new(alloc, sys, &setup)?;
