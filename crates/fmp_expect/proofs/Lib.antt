@@ -6,4 +6,7 @@ pub mod CallSentenceLemmas
 pub mod Rows
 pub mod Splitting
 pub mod Steps
+mod ReadBack
+mod WrittenLines
+mod WrittenNumbers
 pub mod Tests

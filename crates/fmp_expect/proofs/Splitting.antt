@@ -1,5 +1,5 @@
 -- The lines of a text, and the words of a line.
-use Rattle.std.proofs.Common.{◌≡◌, ◌∙◌, ℕ, suc, ◌+◌, ◌-◌, ◌≤◌, List, [], ◌∷◌, Option, Some, None, Bool, true, false}
+use Rattle.std.proofs.Common.{◌≡◌, ◌∙◌, ℕ, suc, zero, ◌+◌, ◌-◌, ◌<◌, ◌≤◌, get_or, inl, inr, List, [], ◌∷◌, Option, Some, None, Bool, true, false}
 use Rattle.std.proofs.Common.{not, cond, nat_eq, nat_lt, length, take, drop, position, length-drop, refl, ap, sym}
 use Rattle.std.proofs.Common.{arith}
 use Rattle.std.specs.List.{before_first, filter, onto_first, position_or_len, slice_split}
@@ -8,6 +8,7 @@ use Rattle.std.proofs.lemmas.Bool.{ltb-true, ltb-false}
 use Rattle.std.proofs.lemmas.List.{take_all}
 use Rattle.std.proofs.lemmas.List.Splits.{slice_split_first}
 use Rattle.fmp_base.specs.Systems.{SystemTables}
+use Rattle.fmp_expect.specs.CallSentences.{IsCut}
 use Rattle.fmp_expect.specs.Grammar.{expectations_from, in_front, line_meaning}
 use Rattle.fmp_expect.specs.Words.{is_blank, is_word, lines_of, words_of}
 
@@ -82,3 +83,26 @@ before_none p xs e = sym (take_all (position_or_len p xs) xs (some_or_none p xs 
 -- what is left of a text from a place on, to its end
 pub rest_whole : (text : List ℕ) (k : ℕ) → take (length text - k) (drop k text) ≡ drop k text
 rest_whole text k = ap (λ n. take n (drop k text)) (sym (length-drop k text)) ∙ take-length (drop k text)
+
+-- ---- a line of a text
+
+next_line : (line : List ℕ) (lines : List (List ℕ)) (left : ℕ) → 0 < left
+    → get_or (line ∷ lines) left [] ≡ get_or lines (left - 1) []
+next_line line lines zero h = absurd (omega (arith, h))
+next_line line lines (suc left) h = ap (λ n. get_or lines n []) (omega arith)
+
+pub no_line : (left : ℕ) → get_or (lines_of []) left [] ≡ []
+no_line zero = refl
+no_line (suc left) = refl
+
+pub first_is : (text line rest : List ℕ) → IsCut text line rest → get_or (lines_of text) 0 [] ≡ line
+first_is text line rest (inl e) = ap (λ lines. get_or lines 0 []) e
+first_is text line rest (inr (none, e)) = ap (λ lines. get_or lines 0 []) e
+
+-- the lines after the first are those of the rest
+pub next_is : (text line rest : List ℕ) (left : ℕ) → IsCut text line rest → 0 < left
+    → get_or (lines_of text) left [] ≡ get_or (lines_of rest) (left - 1) []
+next_is text line rest left (inl e) h = ap (λ lines. get_or lines left []) e ∙ next_line line (lines_of rest) left h
+next_is text line rest left (inr (none, e)) h =
+    ap (λ lines. get_or lines left []) e ∙ next_line line [] left h
+    ∙ sym (ap (λ t. get_or (lines_of t) (left - 1) []) none ∙ no_line (left - 1))

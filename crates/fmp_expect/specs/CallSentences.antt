@@ -8,7 +8,7 @@ use Rattle.fmp_expect.specs.declared.expectation.Expected.{Expected}
 use Rattle.fmp_expect.specs.declared.fault.ExpectFault.{ExpectFault}
 use Rattle.fmp_expect.specs.declared.call_sentences.CallSentence.{CallSentence}
 use Rattle.fmp_expect.specs.Grammar.{expectations_from}
-use Rattle.fmp_expect.specs.Parts.{begins, behind_first, code_named, is_found, task_named}
+use Rattle.fmp_expect.specs.Parts.{begins, after_first, code_named, is_found, task_named}
 use Rattle.fmp_expect.specs.Words.{before_comment, lines_of, number_of, words_of}
 
 -- the number of a line, if it is the only word
@@ -19,7 +19,7 @@ only_number (w ∷ v ∷ ws) = None
 
 -- what stands after the code: `at` and the number of a line
 abbrev pub line_after_at : List (List ℕ) → Option ℕ
-line_after_at ws = if begins (codes "at") ws then only_number (behind_first ws) else None
+line_after_at ws = if begins (codes "at") ws then only_number (after_first ws) else None
 
 abbrev pub never_at : (line : ℕ) → Er → (by at : Option ℕ) → Option CallSentence
 never_at n code by None = None
@@ -39,7 +39,7 @@ by_said sys n code (w ∷ ws) = task_said n code (task_named sys w) ws
 abbrev pub code_said : SystemTables → (line : ℕ) → Option Er → List (List ℕ) → Option CallSentence
 code_said sys n None ws = None
 code_said sys n (Some code) ws =
-    if begins (codes "by") ws then by_said sys n code (behind_first ws) else never_at n code None (line_after_at ws)
+    if begins (codes "by") ws then by_said sys n code (after_first ws) else never_at n code None (line_after_at ws)
 
 -- `never` was read in line n
 abbrev pub answer_said : SystemTables → (line : ℕ) → List (List ℕ) → Option CallSentence
@@ -48,7 +48,7 @@ answer_said sys n (w ∷ ws) = code_said sys n (code_named w) ws
 
 -- the sentence of the words of line n, if it is about calls
 abbrev pub call_sentence_said : SystemTables → (line : ℕ) → List (List ℕ) → Option CallSentence
-call_sentence_said sys n ws = if begins (codes "never") ws then answer_said sys n (behind_first ws) else None
+call_sentence_said sys n ws = if begins (codes "never") ws then answer_said sys n (after_first ws) else None
 
 -- the same of a line
 abbrev pub call_sentence_of : SystemTables → (n : ℕ) → (line : List ℕ) → Option CallSentence
@@ -79,5 +79,5 @@ abbrev pub other_sentences_of : SystemTables → (text : List ℕ) → Result (L
 other_sentences_of sys text = other_sentences_from sys 1 (lines_of text)
 
 -- a text begins with this line, and this stands after it; where that is nothing, the line may be the last one
-abbrev pub IsCut : (text line behind : List ℕ) → Type 0
-IsCut text line behind = (lines_of text ≡ line ∷ lines_of behind) ⊎ ((behind ≡ []) × (lines_of text ≡ line ∷ []))
+abbrev pub IsCut : (text line rest : List ℕ) → Type 0
+IsCut text line rest = (lines_of text ≡ line ∷ lines_of rest) ⊎ ((rest ≡ []) × (lines_of text ≡ line ∷ []))

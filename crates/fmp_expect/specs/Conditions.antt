@@ -26,7 +26,7 @@ use Rattle.fmp_monitors.specs.declared.condition.TestedFact.TheVariants as fact
 use Rattle.fmp_expect.specs.declared.fault.Expects.{Expects}
 use Rattle.fmp_expect.specs.declared.fault.Expects.TheVariants as expects
 use Rattle.fmp_expect.specs.declared.fault.ExpectationFlaw.{ExpectationFlaw}
-use Rattle.fmp_expect.specs.Parts.{Read, and_then, begins, behind_first, behind_word, flaw_at, found_or, number_in, or_else}
+use Rattle.fmp_expect.specs.Parts.{Read, and_then, begins, after_first, after_word, flaw_at, found_or, number_in, or_else}
 use Rattle.fmp_expect.specs.Parts.{read, state_of, task_of}
 use Rattle.fmp_expect.specs.Words.{signed_number}
 
@@ -84,7 +84,7 @@ priority_of sys ws = and_then (task_of sys ws) (λ t. read (measure.Priority t.v
 
 -- what is measured, by a name or `priority` and a task
 abbrev pub measure_of : SystemTables → List (List ℕ) → Result (Read Measure) ExpectationFlaw
-measure_of sys ws = if begins (codes "priority") ws then priority_of sys (behind_first ws) else object_of sys ws
+measure_of sys ws = if begins (codes "priority") ws then priority_of sys (after_first ws) else object_of sys ws
 
 abbrev pub comparison_of : SystemTables → List (List ℕ) → Result (Read TestedFact) ExpectationFlaw
 comparison_of sys ws =
@@ -97,27 +97,27 @@ comparison_of sys ws =
 abbrev pub is_of : SystemTables → List (List ℕ) → Result (Read TestedFact) ExpectationFlaw
 is_of sys ws =
     and_then (task_of sys ws) (λ t.
-    and_then (state_of (behind_first t.rest)) (λ s.
+    and_then (state_of (after_first t.rest)) (λ s.
     read (fact.Is t.value s.value) s.rest))
 
 -- `nobody`, or a task
 abbrev pub who_of : SystemTables → List (List ℕ) → Result (Read (Option ℕ)) ExpectationFlaw
 who_of sys ws =
-    if begins (codes "nobody") ws then read None (behind_first ws)
+    if begins (codes "nobody") ws then read None (after_first ws)
     else and_then (task_of sys ws) (λ t. read (Some t.value) t.rest)
 
 -- a second word `runs` was seen
 abbrev pub on_of : SystemTables → List (List ℕ) → Result (Read TestedFact) ExpectationFlaw
 on_of sys ws =
     and_then (who_of sys ws) (λ who.
-    and_then (behind_word expects.On (codes "on") (behind_first who.rest)) (λ rest.
+    and_then (after_word expects.On (codes "on") (after_first who.rest)) (λ rest.
     and_then (number_in expects.Processor 1 sys.processors rest) (λ p.
     read (fact.Runs (p.value - 1) who.value) p.rest)))
 
 abbrev pub fact_of : SystemTables → List (List ℕ) → Result (Read TestedFact) ExpectationFlaw
 fact_of sys ws =
-    if begins (codes "is") (behind_first ws) then is_of sys ws
-    else if begins (codes "runs") (behind_first ws) then on_of sys ws
+    if begins (codes "is") (after_first ws) then is_of sys ws
+    else if begins (codes "runs") (after_first ws) then on_of sys ws
     else comparison_of sys ws
 
 abbrev pub test_with : (negated alternative : Bool) → Result (Read TestedFact) ExpectationFlaw
@@ -127,7 +127,7 @@ test_with negated alternative r =
 
 abbrev pub test_of : SystemTables → (alternative : Bool) → List (List ℕ) → Result (Read ConditionTest) ExpectationFlaw
 test_of sys alternative ws =
-    if begins (codes "not") ws then test_with true alternative (fact_of sys (behind_first ws))
+    if begins (codes "not") ws then test_with true alternative (fact_of sys (after_first ws))
     else test_with false alternative (fact_of sys ws)
 
 abbrev pub in_front : ConditionTest → Result (List ConditionTest) ExpectationFlaw
@@ -135,11 +135,11 @@ abbrev pub in_front : ConditionTest → Result (List ConditionTest) ExpectationF
 in_front t (Ok ts) = Ok (t ∷ ts)
 in_front t (Err e) = Err e
 
--- the tests behind one, where this says which are read of words that begin an alternative or not
-abbrev pub tests_behind : (Bool → List (List ℕ) → Result (List ConditionTest) ExpectationFlaw) → List (List ℕ)
+-- the tests after one, where this says which are read of words that begin an alternative or not
+abbrev pub next_tests : (Bool → List (List ℕ) → Result (List ConditionTest) ExpectationFlaw) → List (List ℕ)
     → Result (List ConditionTest) ExpectationFlaw
-tests_behind more [] = Ok []
-tests_behind more (w ∷ ws) =
+next_tests more [] = Ok []
+next_tests more (w ∷ ws) =
     if bytes_eq w (codes "and") then more false ws
     else if bytes_eq w (codes "or") then more true ws
     else Err (flaw_at expects.AndOr (w ∷ ws))
@@ -149,9 +149,9 @@ unfoldable pub tests_of : SystemTables → (room : ℕ) → (alternative : Bool)
     → Result (List ConditionTest) ExpectationFlaw
 tests_of sys zero alternative ws = Err (flaw_at expects.FewerTests ws)
 tests_of sys (suc room) alternative ws =
-    and_then (test_of sys alternative ws) (λ t. in_front t.value (tests_behind (tests_of sys room) t.rest))
+    and_then (test_of sys alternative ws) (λ t. in_front t.value (next_tests (tests_of sys room) t.rest))
 
--- what stands behind the last test of a condition
+-- what stands after the last test of a condition
 abbrev pub no_test : ConditionTest
 no_test =
     record {

@@ -7,3 +7,4 @@ pub mod Meaning
 pub mod Watches
 pub mod Runs
 pub mod Judges
+pub mod Written

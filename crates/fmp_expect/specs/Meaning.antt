@@ -58,11 +58,11 @@ first_broken (x ∷ xs) told states n =
 abbrev pub empty_lines : List Expected → List Told → List ℕ
 empty_lines xs told = map (λ x. x.line) (filter (λ x. is_empty_claim x.sentence (seen_in told)) xs)
 
--- the lines of event n behind others, the last line first
+-- the lines of event n after others, the last line first
 abbrev pub with_lines : ℕ → List Line → List Told → List Told
 with_lines n [] told = told
 with_lines n (l ∷ ls) told = with_lines n ls (record { event = n; seen = OfLine l } ∷ told)
 
--- the state after event n behind others
+-- the state after event n after others
 abbrev pub with_state : ℕ → KernelState → List Told → List Told
 with_state n s told = record { event = n; seen = OfState s } ∷ told

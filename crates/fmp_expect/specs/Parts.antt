@@ -23,7 +23,7 @@ use Rattle.fmp_expect.specs.declared.fault.ExpectationFlaw.{ExpectationFlaw}
 use Rattle.fmp_expect.specs.declared.named.TheConstants.{CODES, STATES}
 use Rattle.fmp_expect.specs.Words.{before_comment, number_of, put_value, words_of}
 
--- what is read of the first words, and the words behind it
+-- what is read of the first words, and the words after them
 pub record Read (A : Type 0) : Type 0 where
   pub value : A
   pub rest : List (List ℕ)
@@ -46,18 +46,18 @@ abbrev pub faulty_word : (line : List ℕ) → ExpectationFlaw → Option (List 
 faulty_word line f =
     let ws = words_of (before_comment line) in slice_get ws (length ws - f.left)
 
--- a value that was found in the first of words, with those behind it; or a flaw
-abbrev pub found_or : {A : Type 0} → Expects → (words behind : List (List ℕ)) → Option A
+-- a value that was found in the first of words, with those after it; or a flaw
+abbrev pub found_or : {A : Type 0} → Expects → (words rest : List (List ℕ)) → Option A
     → Result (Read A) ExpectationFlaw
-found_or e ws behind None = Err (flaw_at e ws)
-found_or e ws behind (Some x) = read x behind
+found_or e ws rest None = Err (flaw_at e ws)
+found_or e ws rest (Some x) = read x rest
 
--- the words behind the first, if the first is this word
-abbrev pub behind_word : Expects → List ℕ → List (List ℕ) → Result (List (List ℕ)) ExpectationFlaw
-behind_word e word [] = Err (flaw_at e [])
-behind_word e word (w ∷ ws) = if bytes_eq w word then Ok ws else Err (flaw_at e (w ∷ ws))
+-- the words after the first, if the first is this word
+abbrev pub after_word : Expects → List ℕ → List (List ℕ) → Result (List (List ℕ)) ExpectationFlaw
+after_word e word [] = Err (flaw_at e [])
+after_word e word (w ∷ ws) = if bytes_eq w word then Ok ws else Err (flaw_at e (w ∷ ws))
 
--- a sentence with no words behind it
+-- a sentence with no words after it
 abbrev pub whole : Expects → Sentence → List (List ℕ) → Result Sentence ExpectationFlaw
 whole e x [] = Ok x
 whole e x (w ∷ ws) = Err (flaw_at e (w ∷ ws))
@@ -114,10 +114,10 @@ abbrev pub interrupt_named : SystemTables → List ℕ → Option ℕ
 interrupt_named sys w = or_else (number_of 1 32 w) (number_of_handler w sys.interrupts)
 
 -- what may stand where an interrupt is told: by `named`, where bodies of handlers have names, by `numbered`, where they
--- have numbers alone, and by `none`, where there is no handler
-abbrev pub expected_by : List InterruptConfig → (named numbered none : Expects) → Expects
-expected_by [] named numbered none = none
-expected_by (i ∷ is) named numbered none = if list_any (λ i. is_name i.entry) (i ∷ is) then named else numbered
+-- have numbers alone, and by `absent`, where there is no handler
+abbrev pub expected_by : List InterruptConfig → (named numbered absent : Expects) → Expects
+expected_by [] named numbered absent = absent
+expected_by (i ∷ is) named numbered absent = if list_any (λ i. is_name i.entry) (i ∷ is) then named else numbered
 
 -- what may stand after `int`
 abbrev pub interrupt_expected : SystemTables → Expects
@@ -171,9 +171,9 @@ abbrev pub begins : List ℕ → List (List ℕ) → Bool
 begins word [] = false
 begins word (w ∷ ws) = bytes_eq w word
 
-abbrev pub behind_first : List (List ℕ) → List (List ℕ)
-behind_first [] = []
-behind_first (w ∷ ws) = ws
+abbrev pub after_first : List (List ℕ) → List (List ℕ)
+after_first [] = []
+after_first (w ∷ ws) = ws
 
 abbrev pub is_found : {A : Type 0} → Option A → Bool
 is_found None = false

@@ -1,13 +1,22 @@
 -- The lines, words and numbers of a text of expectations.
 use Rattle.std.specs.Prelude.{ℕ, List, [], ◌∷◌, Option, Some, None, Bool, true, false, ◌||◌, ◌&&◌, if◌then◌else◌}
 use Rattle.std.specs.Prelude.{nat_eq, nat_le, min, ℤ, pos, neg_ℤ, filter, length, take, get_or, ◌-◌, codes, option_map}
-use Rattle.std.specs.List.{slice_split, before_first}
+use Rattle.std.specs.Char.{is_ascii_whitespace}
+use Rattle.std.specs.List.{before_first, slice_split, suffix_len}
 use Rattle.std.specs.Str.{all_ascii_digits}
 use Rattle.std.specs.Str.Parse.{digits_value}
 
 -- the lines of a text: the parts between its line feeds
 abbrev pub lines_of : List ℕ → List (List ℕ)
 lines_of text = slice_split (λ b. nat_eq b 10) text
+
+-- a line without the white space at its end
+abbrev pub without_end : List ℕ → List ℕ
+without_end line = take (length line - suffix_len is_ascii_whitespace line) line
+
+-- the line of this number of a text, from 1, without the white space at its end; empty where there is no such line
+abbrev pub line_at : (text : List ℕ) → (number : ℕ) → List ℕ
+line_at text number = without_end (get_or (lines_of text) (number - 1) [])
 
 -- what stands before the first #
 abbrev pub before_comment : List ℕ → List ℕ
@@ -49,11 +58,11 @@ in_range low high (Some n) = if nat_le low n && nat_le n high then Some n else N
 abbrev pub number_of : (low high : ℕ) → List ℕ → Option ℕ
 number_of low high text = in_range low high (numeral_value text)
 
--- the number of 32 bits that a text spells, with a minus in front if it is negative
+-- the number of 32 bits that a text spells, with a minus in front just if it is negative
 abbrev pub signed_number : List ℕ → Option ℤ
 signed_number [] = None
 signed_number (b ∷ bs) =
-    if nat_eq b 45 then option_map (λ n. neg_ℤ (pos n)) (number_of 0 2147483648 bs)
+    if nat_eq b 45 then option_map (λ n. neg_ℤ (pos n)) (number_of 1 2147483648 bs)
     else option_map (λ n. pos n) (number_of 0 2147483647 (b ∷ bs))
 
 -- what is left, where the bytes before it were the same
@@ -61,11 +70,11 @@ abbrev pub if_same : Bool → Option (List ℕ) → Option (List ℕ)
 if_same true rest = rest
 if_same false rest = None
 
--- what stands behind a front of a text, if the text begins with it
-abbrev pub behind : (front text : List ℕ) → Option (List ℕ)
-behind [] text = Some text
-behind (c ∷ cs) [] = None
-behind (c ∷ cs) (b ∷ bs) = if_same (nat_eq b c) (behind cs bs)
+-- what stands after a front of a text, if the text begins with it
+abbrev pub after_front : (front text : List ℕ) → Option (List ℕ)
+after_front [] text = Some text
+after_front (c ∷ cs) [] = None
+after_front (c ∷ cs) (b ∷ bs) = if_same (nat_eq b c) (after_front cs bs)
 
 -- what stands before the last byte of a text, if that is a closing parenthesis
 abbrev pub before_close : List ℕ → Option (List ℕ)
@@ -81,4 +90,4 @@ value_in_rest (Some rest) = value_before_close (before_close rest)
 
 -- the value V of a word `put(V)`
 abbrev pub put_value : List ℕ → Option ℤ
-put_value word = value_in_rest (behind (codes "put(") word)
+put_value word = value_in_rest (after_front (codes "put(") word)

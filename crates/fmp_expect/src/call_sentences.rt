@@ -10,7 +10,7 @@ use crate::expectation::Expected;
 use crate::fault::ExpectFault;
 use crate::named::{code_named, task_named};
 use crate::numbers::number_in;
-use crate::parts::{begins, behind_first};
+use crate::parts::{after_first, begins};
 use crate::reading::read_line;
 use crate::words::{before_comment, first_line, next_word};
 use fmp_base::{Er, System};
@@ -44,7 +44,7 @@ fn line_after_at(line: &[u8]) -> Option<u32>
     ensures { result ≡ spec.line_after_at (words_of line.now) }
 {
     if begins(b"at", line) {
-        only_number(behind_first(line))
+        only_number(after_first(line))
     } else {
         None
     }
@@ -77,7 +77,7 @@ fn code_said(sys: &System, number: usize, code: Er, line: &[u8]) -> Option<CallS
     ensures { result ≡ spec.code_said (tables_of sys.now) number (Some code) (words_of line.now) }
 {
     if begins(b"by", line) {
-        by_said(sys, number, code, behind_first(line))
+        by_said(sys, number, code, after_first(line))
     } else {
         never_at(number, code, None, line)
     }
@@ -98,7 +98,7 @@ fn call_sentence_of(sys: &System, number: usize, line: &[u8]) -> Option<CallSent
 {
     let text = before_comment(line);
     if begins(b"never", text) {
-        answer_said(sys, number, behind_first(text))
+        answer_said(sys, number, after_first(text))
     } else {
         None
     }
@@ -127,9 +127,9 @@ pub fn read_call_sentences(
     let mut rest = text;
     let mut number = 1;
     while !rest.is_empty() {
-        let (line, behind) = first_line(rest);
+        let (line, after) = first_line(rest);
         add(&mut all, call_sentence_of(sys, number, line))?;
-        rest = behind;
+        rest = after;
         number += 1;
     }
     Ok(all)
@@ -159,11 +159,11 @@ pub fn read_other_sentences(
     let mut rest = text;
     let mut number = 1;
     while !rest.is_empty() {
-        let (line, behind) = first_line(rest);
+        let (line, after) = first_line(rest);
         if let Err(fault) = read_line(sys, number, without_call_sentence(sys, line), &mut all) {
             return Err(fault);
         }
-        rest = behind;
+        rest = after;
         number += 1;
     }
     Ok(all)

@@ -11,7 +11,7 @@ ghost use Rattle.fmp_expect.specs.Words.{words_of};
 use crate::fault::{ExpectationFlaw, Expects};
 use crate::numbers::signed_in;
 use crate::parts::{
-    begins, behind_first, behind_word, flaw_at, found_or, is_this, ranged_in, state_in, task_in,
+    after_first, after_word, begins, flaw_at, found_or, is_this, ranged_in, state_in, task_in,
 };
 use crate::words::next_word;
 use fmp_base::{
@@ -147,7 +147,7 @@ fn measure_in<'a>(sys: &System, line: &'a [u8]) -> Result<(Measure, &'a [u8]), E
     ensures fault { IfErr result (λ e. spec.measure_of (tables_of sys.now) (words_of line.now) ≡ Err e) }
 {
     if begins(b"priority", line) {
-        priority_in(sys, behind_first(line))
+        priority_in(sys, after_first(line))
     } else {
         object_in(sys, line)
     }
@@ -179,7 +179,7 @@ fn is_in<'a>(sys: &System, line: &'a [u8]) -> Result<(TestedFact, &'a [u8]), Exp
     ensures fault { IfErr result (λ e. spec.is_of (tables_of sys.now) (words_of line.now) ≡ Err e) }
 {
     let (task, rest) = task_in(sys, line)?;
-    let (word, rest) = state_in(behind_first(rest))?;
+    let (word, rest) = state_in(after_first(rest))?;
     Ok((TestedFact::Is { task, word }, rest))
 }
 
@@ -190,7 +190,7 @@ fn who_in<'a>(sys: &System, line: &'a [u8]) -> Result<(Option<usize>, &'a [u8]),
     ensures fault { IfErr result (λ e. spec.who_of (tables_of sys.now) (words_of line.now) ≡ Err e) }
 {
     if begins(b"nobody", line) {
-        Ok((None, behind_first(line)))
+        Ok((None, after_first(line)))
     } else {
         let (task, rest) = task_in(sys, line)?;
         Ok((Some(task), rest))
@@ -204,7 +204,7 @@ fn on_in<'a>(sys: &System, line: &'a [u8]) -> Result<(TestedFact, &'a [u8]), Exp
     ensures fault { IfErr result (λ e. spec.on_of (tables_of sys.now) (words_of line.now) ≡ Err e) }
 {
     let (task, rest) = who_in(sys, line)?;
-    let rest = behind_word(Expects::On, b"on", behind_first(rest))?;
+    let rest = after_word(Expects::On, b"on", after_first(rest))?;
     let count = u32::from(sys.processors);
     let (number, rest) = ranged_in(Expects::Processor, 1, count, rest)?;
     let fact = TestedFact::Runs {
@@ -219,10 +219,10 @@ fn fact_in<'a>(sys: &System, line: &'a [u8]) -> Result<(TestedFact, &'a [u8]), E
         ≡ Ok (record { value = r.0; rest = words_of r.1.now })) }
     ensures fault { IfErr result (λ e. spec.fact_of (tables_of sys.now) (words_of line.now) ≡ Err e) }
 {
-    let behind = behind_first(line);
-    if begins(b"is", behind) {
+    let rest = after_first(line);
+    if begins(b"is", rest) {
         is_in(sys, line)
-    } else if begins(b"runs", behind) {
+    } else if begins(b"runs", rest) {
         on_in(sys, line)
     } else {
         comparison_in(sys, line)
@@ -261,7 +261,7 @@ fn test_in<'a>(
     ensures fault { IfErr result (λ e. spec.test_of (tables_of sys.now) alternative (words_of line.now) ≡ Err e) }
 {
     if begins(b"not", line) {
-        tested_in(sys, true, alternative, behind_first(line))
+        tested_in(sys, true, alternative, after_first(line))
     } else {
         tested_in(sys, false, alternative, line)
     }
@@ -270,10 +270,10 @@ fn test_in<'a>(
 /// What stands between two tests, and whether an alternative begins after it; none at the end of the line.
 fn joint_in(line: &[u8]) -> Result<Option<(bool, &[u8])>, ExpectationFlaw>
     ensures joint { IfOk result (λ joint. (more : Bool → List (List ℕ) → Result (List ConditionTest) ExpectationFlaw)
-        → MatchOption joint (spec.tests_behind more (words_of line.now) ≡ Ok [])
-        (λ next. spec.tests_behind more (words_of line.now) ≡ more next.0 (words_of next.1.now))) }
+        → MatchOption joint (spec.next_tests more (words_of line.now) ≡ Ok [])
+        (λ next. spec.next_tests more (words_of line.now) ≡ more next.0 (words_of next.1.now))) }
     ensures fault { IfErr result (λ e. (more : Bool → List (List ℕ) → Result (List ConditionTest) ExpectationFlaw)
-        → spec.tests_behind more (words_of line.now) ≡ Err e) }
+        → spec.next_tests more (words_of line.now) ≡ Err e) }
 {
     match next_word(line) {
         Some((word, rest)) => {
@@ -336,9 +336,9 @@ pub fn condition_in(sys: &System, line: &[u8]) -> Result<Condition, ExpectationF
     let mut rest = line;
     let mut alternative = true;
     while condition.count < MAX_TESTS {
-        let (test, behind) = test_in(sys, alternative, rest)?;
+        let (test, after) = test_in(sys, alternative, rest)?;
         condition = with_test(condition, test);
-        match joint_in(behind)? {
+        match joint_in(after)? {
             Some((next, words)) => {
                 alternative = next;
                 rest = words;

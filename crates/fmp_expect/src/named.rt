@@ -80,9 +80,9 @@ pub fn task_named(sys: &System, word: &[u8]) -> Option<usize>
 }
 
 /// What stands after this front of a word, if it begins with it.
-fn text_behind<'a>(front: &[u8], text: &'a [u8]) -> Option<&'a [u8]>
-    ensures { MatchOption result (words.behind front.now text.now ≡ None)
-        (λ rest. words.behind front.now text.now ≡ Some rest.now) }
+fn text_after<'a>(front: &[u8], text: &'a [u8]) -> Option<&'a [u8]>
+    ensures { MatchOption result (words.after_front front.now text.now ≡ None)
+        (λ rest. words.after_front front.now text.now ≡ Some rest.now) }
 {
     text.strip_prefix(front)
 }
@@ -102,7 +102,7 @@ fn before_close(text: &[u8]) -> Option<&[u8]>
 fn put_value(word: &[u8]) -> Option<i32>
     ensures { result ≡ words.put_value word.now }
 {
-    let rest = text_behind(b"put(", word)?;
+    let rest = text_after(b"put(", word)?;
     let inner = before_close(rest)?;
     signed_in(inner)
 }
@@ -215,12 +215,12 @@ fn expected_by(
     interrupts: &[InterruptConfig],
     named: Expects,
     numbered: Expects,
-    none: Expects,
+    absent: Expects,
 ) -> Expects
-    ensures { result ≡ spec.expected_by interrupts.now named numbered none }
+    ensures { result ≡ spec.expected_by interrupts.now named numbered absent }
 {
     if interrupts.is_empty() {
-        none
+        absent
     } else if have_names(interrupts) {
         named
     } else {

@@ -42,14 +42,14 @@ pub fn number_in(low: u32, high: u32, text: &[u8]) -> Option<u32>
     }
 }
 
-/// The number that a text spells, with a minus in front if it is negative.
+/// The number that a text spells, with a minus in front just if it is negative.
 pub fn signed_in(text: &[u8]) -> Option<i32>
     ensures { result ≡ signed_number text.now }
 {
     match text {
         [] => None,
         [b'-', digits @ ..] => {
-            let number = number_in(0, 1 << 31, digits)?;
+            let number = number_in(1, 1 << 31, digits)?;
             Some((0 - i64::from(number)) as i32)
         }
         _ => {

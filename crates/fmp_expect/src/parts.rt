@@ -130,14 +130,14 @@ pub fn ranged_in(
 }
 
 /// What stands after the first word of a line, if it is this one.
-pub fn behind_word<'a>(
+pub fn after_word<'a>(
     expects: Expects,
     word: &[u8],
     line: &'a [u8],
 ) -> Result<&'a [u8], ExpectationFlaw>
-    ensures read { IfOk result (λ rest. spec.behind_word expects word.now (words_of line.now)
+    ensures read { IfOk result (λ rest. spec.after_word expects word.now (words_of line.now)
         ≡ Ok (words_of rest.now)) }
-    ensures fault { IfErr result (λ e. spec.behind_word expects word.now (words_of line.now) ≡ Err e) }
+    ensures fault { IfErr result (λ e. spec.after_word expects word.now (words_of line.now) ≡ Err e) }
 {
     match next_word(line) {
         Some((first, rest)) if first == word => Ok(rest),
@@ -204,8 +204,8 @@ pub fn begins(word: &[u8], line: &[u8]) -> bool
 }
 
 /// What stands after the first word of a line.
-pub fn behind_first(line: &[u8]) -> &[u8]
-    ensures { words_of result.now ≡ spec.behind_first (words_of line.now) }
+pub fn after_first(line: &[u8]) -> &[u8]
+    ensures { words_of result.now ≡ spec.after_first (words_of line.now) }
 {
     match next_word(line) {
         Some((_, rest)) => rest,

@@ -5,7 +5,7 @@ ghost use Rattle.fmp_expect.specs.declared.expectation.Expected.{Expected};
 ghost use Rattle.fmp_expect.specs.declared.fault.ExpectFault.{ExpectFault};
 ghost use Rattle.fmp_expect.specs.declared.fault.ExpectFault.TheVariants.{Memory};
 ghost use Rattle.fmp_expect.specs.Grammar as spec;
-ghost use Rattle.fmp_expect.specs.Grammar.{IsFaultOf, behind_all, expectations_of, in_front, one_more};
+ghost use Rattle.fmp_expect.specs.Grammar.{IsFaultOf, after_all, expectations_of, in_front, one_more};
 ghost use Rattle.fmp_expect.specs.Words.{words_of};
 
 use crate::expectation::Expected;
@@ -48,7 +48,7 @@ fn expected_at(sys: &System, number: usize, line: &[u8]) -> Result<Option<Expect
 /// Adds an expectation, if there is one.
 fn add(all: &mut Vec<Expected>, said: Option<Expected>) -> Result<(), ExpectFault>
     ensures added { OnOk result ((rest : Result (List Expected) ExpectFault)
-        → behind_all all.new.items rest ≡ behind_all all.old.items (one_more said rest)) }
+        → after_all all.new.items rest ≡ after_all all.old.items (one_more said rest)) }
     ensures fault { IfErr result (λ fault. fault ≡ Memory) }
 {
     match said {
@@ -64,10 +64,10 @@ pub fn read_line(
     line: &[u8],
     all: &mut Vec<Expected>,
 ) -> Result<(), ExpectFault>
-    ensures said { OnOk result ((rest : Result (List Expected) ExpectFault) → behind_all all.new.items rest
-        ≡ behind_all all.old.items (in_front number (spec.line_meaning (tables_of sys.now) line.now) rest)) }
+    ensures said { OnOk result ((rest : Result (List Expected) ExpectFault) → after_all all.new.items rest
+        ≡ after_all all.old.items (in_front number (spec.line_meaning (tables_of sys.now) line.now) rest)) }
     ensures fault { IfErr result (λ fault. (rest : Result (List Expected) ExpectFault) → IsFaultOf fault
-        (behind_all all.old.items (in_front number (spec.line_meaning (tables_of sys.now) line.now) rest))) }
+        (after_all all.old.items (in_front number (spec.line_meaning (tables_of sys.now) line.now) rest))) }
 {
     match expected_at(sys, number, line) {
         Ok(said) => add(all, said),
@@ -89,11 +89,11 @@ pub fn read_expectations(
     let mut rest = text;
     let mut number = 1;
     while !rest.is_empty() {
-        let (line, behind) = first_line(rest);
+        let (line, after) = first_line(rest);
         if let Err(fault) = read_line(sys, number, line, &mut all) {
             return Err(fault);
         }
-        rest = behind;
+        rest = after;
         number += 1;
     }
     Ok(all)

@@ -3,13 +3,13 @@ ghost use Rattle.std.specs.Prelude.{◌≡◌, ◌-◌, IfOk, IfErr, Ok, Err};
 ghost use Rattle.fmp_base.specs.Systems.{tables_of};
 ghost use Rattle.fmp_expect.specs.declared.fault.Expects.TheVariants.{Line};
 ghost use Rattle.fmp_expect.specs.Grammar as spec;
-ghost use Rattle.fmp_expect.specs.Parts.{number_in, behind_first as after_first};
+ghost use Rattle.fmp_expect.specs.Parts.{number_in, after_first as words_after_first};
 ghost use Rattle.fmp_expect.specs.Words.{words_of};
 
 use crate::conditions::condition_in;
 use crate::fault::{ExpectationFlaw, Expects};
 use crate::parts::{
-    actor_in, begins, begins_actor, begins_deed, behind_first, behind_word, flaw_at, happening_in,
+    actor_in, after_first, after_word, begins, begins_actor, begins_deed, flaw_at, happening_in,
     interrupt_number_in, is_this, ranged_in, state_in, task_in, whole,
 };
 use crate::words::next_word;
@@ -19,8 +19,8 @@ use fmp_monitors::{
 };
 
 /// What may stand after the happening that ends a sentence, which is of this actor if it is some.
-fn end_behind(by: Option<ExpectedActor>) -> Expects
-    ensures { result ≡ spec.end_behind by }
+fn end_after(by: Option<ExpectedActor>) -> Expects
+    ensures { result ≡ spec.end_after by }
 {
     match by {
         Some(_) => Expects::End,
@@ -29,8 +29,8 @@ fn end_behind(by: Option<ExpectedActor>) -> Expects
 }
 
 /// What may stand after the second happening of `between`.
-fn one_behind(by: Option<ExpectedActor>) -> Expects
-    ensures { result ≡ spec.one_behind by }
+fn one_after(by: Option<ExpectedActor>) -> Expects
+    ensures { result ≡ spec.one_after by }
 {
     match by {
         Some(_) => Expects::One,
@@ -63,9 +63,9 @@ fn at_ended(line: &[u8], rest: &[u8]) -> ExpectationFlaw
 /// The flaw of what begins with `at` after an answer.
 fn at_read(line: &[u8]) -> ExpectationFlaw
     ensures { result ≡ spec.at_read (words_of line.now)
-        (number_in Line 1 2147483647 (after_first (words_of line.now))) }
+        (number_in Line 1 2147483647 (words_after_first (words_of line.now))) }
 {
-    match ranged_in(Expects::Line, 1, 2147483647, behind_first(line)) {
+    match ranged_in(Expects::Line, 1, 2147483647, after_first(line)) {
         Ok((_, rest)) => at_ended(line, rest),
         Err(flaw) => flaw,
     }
@@ -96,8 +96,8 @@ fn until_end(by: Option<ExpectedActor>) -> Expects
 }
 
 /// What may stand after the first happening of `between`.
-fn and_behind(by: Option<ExpectedActor>) -> Expects
-    ensures { result ≡ spec.and_behind by }
+fn and_after(by: Option<ExpectedActor>) -> Expects
+    ensures { result ≡ spec.and_after by }
 {
     match by {
         Some(_) => Expects::And,
@@ -130,7 +130,7 @@ fn closing_in(
         opening,
         closing: Some(closing),
     };
-    whole(end_behind(closing.by), sentence, rest)
+    whole(end_after(closing.by), sentence, rest)
 }
 
 /// What stands after the opening of `after`.
@@ -172,19 +172,15 @@ fn until_in(sys: &System, second: Happening, line: &[u8]) -> Result<Sentence, Ex
 {
     let (first, rest) = happening_in(sys, line)?;
     whole(
-        end_behind(first.by),
+        end_after(first.by),
         Sentence::Before { first, second },
         rest,
     )
 }
 
 /// What stands after the happening of `never`.
-fn never_behind(
-    sys: &System,
-    happening: Happening,
-    line: &[u8],
-) -> Result<Sentence, ExpectationFlaw>
-    ensures { result ≡ spec.never_behind (tables_of sys.now) happening (words_of line.now) }
+fn never_rest(sys: &System, happening: Happening, line: &[u8]) -> Result<Sentence, ExpectationFlaw>
+    ensures { result ≡ spec.never_rest (tables_of sys.now) happening (words_of line.now) }
 {
     match next_word(line) {
         Some((word, rest)) => {
@@ -206,7 +202,7 @@ fn never_in(sys: &System, line: &[u8]) -> Result<Sentence, ExpectationFlaw>
     ensures { result ≡ spec.never_of (tables_of sys.now) (words_of line.now) }
 {
     let (happening, rest) = happening_in(sys, line)?;
-    never_behind(sys, happening, rest)
+    never_rest(sys, happening, rest)
 }
 
 /// The interrupt of a number, or of the name of its handler's body.
@@ -244,7 +240,7 @@ fn trigger_in<'a>(
     ensures fault { IfErr result (λ e. spec.trigger_of (tables_of sys.now) (words_of line.now) ≡ Err e) }
 {
     if begins(b"int", line) {
-        interrupt_in(sys, behind_first(line))
+        interrupt_in(sys, after_first(line))
     } else if begins_deed(line) {
         happens_in(sys, line)
     } else {
@@ -258,7 +254,7 @@ fn trigger_end(trigger: ExpectedTrigger) -> Expects
 {
     match trigger {
         ExpectedTrigger::Interrupt(_) => Expects::End,
-        ExpectedTrigger::Happens(happening) => end_behind(happening.by),
+        ExpectedTrigger::Happens(happening) => end_after(happening.by),
     }
 }
 
@@ -271,8 +267,8 @@ fn of_in(
 ) -> Result<Sentence, ExpectationFlaw>
     ensures { result ≡ spec.of_of (tables_of sys.now) response ticks (words_of line.now) }
 {
-    let rest = behind_word(Expects::Ticks, b"ticks", line)?;
-    let rest = behind_word(Expects::Of, b"of", rest)?;
+    let rest = after_word(Expects::Ticks, b"ticks", line)?;
+    let rest = after_word(Expects::Of, b"of", rest)?;
     let (trigger, rest) = trigger_in(sys, rest)?;
     let within = Sentence::Within {
         response,
@@ -298,8 +294,8 @@ fn runs_in(sys: &System, line: &[u8]) -> Result<Sentence, ExpectationFlaw>
     ensures { result ≡ spec.runs_of (tables_of sys.now) (words_of line.now) }
 {
     let (actor, rest) = actor_in(sys, line)?;
-    let rest = behind_word(Expects::Runs, b"runs", rest)?;
-    let rest = behind_word(Expects::Within, b"within", rest)?;
+    let rest = after_word(Expects::Runs, b"runs", rest)?;
+    let rest = after_word(Expects::Within, b"within", rest)?;
     within_in(sys, ExpectedResponse::Runs(actor), rest)
 }
 
@@ -307,21 +303,21 @@ fn runs_in(sys: &System, line: &[u8]) -> Result<Sentence, ExpectationFlaw>
 fn before_in(sys: &System, first: Happening, line: &[u8]) -> Result<Sentence, ExpectationFlaw>
     ensures { result ≡ spec.before_of (tables_of sys.now) first (words_of line.now) }
 {
-    let rest = behind_word(before_end(first.by), b"before", line)?;
+    let rest = after_word(before_end(first.by), b"before", line)?;
     let (second, rest) = happening_in(sys, rest)?;
     whole(
-        end_behind(second.by),
+        end_after(second.by),
         Sentence::Before { first, second },
         rest,
     )
 }
 
 /// What stands after a happening that begins a sentence.
-fn order_behind(sys: &System, first: Happening, line: &[u8]) -> Result<Sentence, ExpectationFlaw>
-    ensures { result ≡ spec.order_behind (tables_of sys.now) first (words_of line.now) }
+fn order_rest(sys: &System, first: Happening, line: &[u8]) -> Result<Sentence, ExpectationFlaw>
+    ensures { result ≡ spec.order_rest (tables_of sys.now) first (words_of line.now) }
 {
     if begins(b"within", line) {
-        within_in(sys, ExpectedResponse::Happens(first), behind_first(line))
+        within_in(sys, ExpectedResponse::Happens(first), after_first(line))
     } else {
         before_in(sys, first, line)
     }
@@ -331,7 +327,7 @@ fn order_in(sys: &System, line: &[u8]) -> Result<Sentence, ExpectationFlaw>
     ensures { result ≡ spec.order_of (tables_of sys.now) (words_of line.now) }
 {
     let (first, rest) = happening_in(sys, line)?;
-    order_behind(sys, first, rest)
+    order_rest(sys, first, rest)
 }
 
 /// What stands after the happenings of `between`.
@@ -342,10 +338,10 @@ fn alone_in(
 ) -> Result<Sentence, ExpectationFlaw>
     ensures { result ≡ spec.alone_of entering leaving (words_of line.now) }
 {
-    let rest = behind_word(one_behind(leaving.by), b"one", line)?;
-    let rest = behind_word(Expects::At, b"at", rest)?;
-    let rest = behind_word(Expects::A, b"a", rest)?;
-    let rest = behind_word(Expects::Time, b"time", rest)?;
+    let rest = after_word(one_after(leaving.by), b"one", line)?;
+    let rest = after_word(Expects::At, b"at", rest)?;
+    let rest = after_word(Expects::A, b"a", rest)?;
+    let rest = after_word(Expects::Time, b"time", rest)?;
     whole(
         Expects::End,
         Sentence::OneAtATime { entering, leaving },
@@ -357,7 +353,7 @@ fn between_in(sys: &System, line: &[u8]) -> Result<Sentence, ExpectationFlaw>
     ensures { result ≡ spec.between_of (tables_of sys.now) (words_of line.now) }
 {
     let (entering, rest) = happening_in(sys, line)?;
-    let rest = behind_word(and_behind(entering.by), b"and", rest)?;
+    let rest = after_word(and_after(entering.by), b"and", rest)?;
     let (leaving, rest) = happening_in(sys, rest)?;
     alone_in(entering, leaving, rest)
 }
@@ -366,7 +362,7 @@ fn rests_in(sys: &System, line: &[u8]) -> Result<Sentence, ExpectationFlaw>
     ensures { result ≡ spec.rests_of (tables_of sys.now) (words_of line.now) }
 {
     let (task, rest) = task_in(sys, line)?;
-    whole(Expects::End, Sentence::Rests(task), behind_first(rest))
+    whole(Expects::End, Sentence::Rests(task), after_first(rest))
 }
 
 fn always_in(sys: &System, line: &[u8]) -> Result<Sentence, ExpectationFlaw>
@@ -389,7 +385,7 @@ fn no_sentence(sys: &System, line: &[u8]) -> ExpectationFlaw
     ensures { result ≡ spec.no_sentence (tables_of sys.now) (words_of line.now) }
 {
     if begins_actor(sys, line) {
-        flaw_at(Expects::RunsOrRests, behind_first(line))
+        flaw_at(Expects::RunsOrRests, after_first(line))
     } else {
         flaw_at(Expects::Sentence, line)
     }
@@ -399,15 +395,15 @@ fn no_sentence(sys: &System, line: &[u8]) -> ExpectationFlaw
 fn told_by_first(sys: &System, line: &[u8]) -> Result<Sentence, ExpectationFlaw>
     ensures { result ≡ spec.told_by_first (tables_of sys.now) (words_of line.now) }
 {
-    let behind = behind_first(line);
+    let rest = after_first(line);
     if begins(b"never", line) {
-        never_in(sys, behind)
+        never_in(sys, rest)
     } else if begins(b"always", line) {
-        always_in(sys, behind)
+        always_in(sys, rest)
     } else if begins(b"between", line) {
-        between_in(sys, behind)
+        between_in(sys, rest)
     } else if begins(b"end", line) {
-        end_in(sys, behind)
+        end_in(sys, rest)
     } else if begins_deed(line) {
         order_in(sys, line)
     } else {
@@ -419,10 +415,10 @@ fn told_by_first(sys: &System, line: &[u8]) -> Result<Sentence, ExpectationFlaw>
 pub fn sentence_in(sys: &System, line: &[u8]) -> Result<Sentence, ExpectationFlaw>
     ensures { result ≡ spec.sentence_of (tables_of sys.now) (words_of line.now) }
 {
-    let behind = behind_first(line);
-    if begins(b"runs", behind) {
+    let rest = after_first(line);
+    if begins(b"runs", rest) {
         runs_in(sys, line)
-    } else if begins(b"rests", behind) {
+    } else if begins(b"rests", rest) {
         rests_in(sys, line)
     } else {
         told_by_first(sys, line)

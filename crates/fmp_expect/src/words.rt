@@ -45,6 +45,31 @@ pub fn first_line(text: &[u8]) -> (&[u8], &[u8])
     }
 }
 
+/// A line without the white space at its end.
+fn without_end(line: &[u8]) -> &[u8]
+    ensures { result.now ≡ spec.without_end line.now }
+{
+    line.trim_ascii_end()
+}
+
+/// The line of this number of a text, from 1, without the white space at its end; empty where there is no such line.
+#[tactic(auto, using(crate::proofs::Splitting::first_is, crate::proofs::Splitting::next_is, crate::proofs::Splitting::no_line))]
+pub fn line_at(text: &[u8], number: usize) -> &[u8]
+    ensures { result.now ≡ spec.line_at text.now number }
+{
+    let mut rest = text;
+    let mut left = number.saturating_sub(1);
+    while !rest.is_empty() {
+        let (line, after) = first_line(rest);
+        if left == 0 {
+            return without_end(line);
+        }
+        left -= 1;
+        rest = after;
+    }
+    &[]
+}
+
 /// What stands before the comment of a line.
 pub fn before_comment(line: &[u8]) -> &[u8]
     ensures { result.now ≡ spec.before_comment line.now }
@@ -85,11 +110,11 @@ pub fn next_word(line: &[u8]) -> Option<(&[u8], &[u8])>
 {
     let mut rest = line;
     while !rest.is_empty() {
-        let (part, behind) = first_part(rest);
+        let (part, after) = first_part(rest);
         if is_word(part) {
-            return Some((part, behind));
+            return Some((part, after));
         }
-        rest = behind;
+        rest = after;
     }
     None
 }
@@ -100,9 +125,9 @@ pub fn word_count(line: &[u8]) -> usize
 {
     let mut count = 0;
     let mut rest = line;
-    while let Some((_, behind)) = next_word(rest) {
+    while let Some((_, after)) = next_word(rest) {
         count += 1;
-        rest = behind;
+        rest = after;
     }
     count
 }
@@ -113,12 +138,12 @@ pub fn word_at(line: &[u8], place: usize) -> Option<&[u8]>
 {
     let mut rest = line;
     let mut left = place;
-    while let Some((word, behind)) = next_word(rest) {
+    while let Some((word, after)) = next_word(rest) {
         if left == 0 {
             return Some(word);
         }
         left -= 1;
-        rest = behind;
+        rest = after;
     }
     None
 }

@@ -2,7 +2,7 @@ use Rattle.std.proofs.Common.{◌∙◌, ◌+◌, List, Result, ap, subst, sym}
 use Rattle.fmp_base.specs.Systems.{tables_of}
 use Rattle.fmp_expect.specs.declared.expectation.Expected.{Expected}
 use Rattle.fmp_expect.specs.declared.fault.ExpectFault.{ExpectFault}
-use Rattle.fmp_expect.specs.Grammar.{IsFaultOf, behind_all, in_front, line_meaning}
+use Rattle.fmp_expect.specs.Grammar.{IsFaultOf, after_all, in_front, line_meaning}
 use Rattle.fmp_expect.specs.CallSentences.{other_sentences_from}
 use Rattle.fmp_expect.specs.Words.{lines_of}
 use Rattle.fmp_expect.proofs.CallSentenceLemmas.{other_sentences_next}
@@ -16,9 +16,9 @@ returns-in-Err-clause-fault c =
     let cut = c.first_line in
     let more = other_sentences_from sys (n + 1) (lines_of cut.result.1.now) in
     subst (λ (r : Result (List Expected) ExpectFault). IsFaultOf c.in-Err.fault r)
-    (ap (λ line. behind_all all (in_front n (line_meaning sys line) more)) c.without_call_sentence.ensures
+    (ap (λ line. after_all all (in_front n (line_meaning sys line) more)) c.without_call_sentence.ensures
     ∙ sym
-    (ap (behind_all all)
+    (ap (after_all all)
     (other_sentences_next sys n c.loop-rest.rest.now cut.result.0.now cut.result.1.now cut.ensures.cut))
     ∙ c.loop-rest.invariant.said)
     (c.in-Err.ensures.fault more)

@@ -1,6 +1,6 @@
 use Rattle.std.proofs.Common.{◌≡◌, ◌+◌, ◌≤◌, length}
 use Rattle.fmp_base.specs.Systems.{tables_of}
-use Rattle.fmp_expect.specs.Grammar.{behind_all}
+use Rattle.fmp_expect.specs.Grammar.{after_all}
 use Rattle.fmp_expect.specs.CallSentences.{other_sentences_from, other_sentences_of}
 use Rattle.fmp_expect.specs.Words.{lines_of}
 use Rattle.fmp_expect.proofs.call_sentences.read_other_sentences.Given as goal
@@ -9,7 +9,7 @@ use Rattle.fmp_expect.proofs.call_sentences.read_other_sentences.Given as goal
 abbrev pub invariant-loop-rest : goal.invariant-loop-rest
 invariant-loop-rest l = record {
   counted : l.number + length l.rest ≤ length l.text + 1;
-  said : behind_all l.all.items (other_sentences_from (tables_of l.sys) l.number (lines_of l.rest))
+  said : after_all l.all.items (other_sentences_from (tables_of l.sys) l.number (lines_of l.rest))
       ≡ other_sentences_of (tables_of l.sys) l.text;
 }
 

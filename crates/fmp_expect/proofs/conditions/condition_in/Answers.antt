@@ -5,10 +5,10 @@ use Rattle.fmp_base.specs.Systems.{SystemTables, tables_of}
 use Rattle.fmp_monitors.specs.declared.condition.Condition.{Condition}
 use Rattle.fmp_monitors.specs.declared.condition.ConditionTest.{ConditionTest}
 use Rattle.fmp_expect.specs.declared.fault.ExpectationFlaw.{ExpectationFlaw}
-use Rattle.fmp_expect.specs.Conditions.{condition_of, condition_with, tests_behind, tests_of}
+use Rattle.fmp_expect.specs.Conditions.{condition_of, condition_with, next_tests, tests_of}
 use Rattle.fmp_expect.specs.Parts.{and_then}
 use Rattle.fmp_expect.specs.Words.{words_of}
-use Rattle.fmp_expect.proofs.Tests.{Tests, full, joint_fault, last_test, next_test, none_behind, test_fault}
+use Rattle.fmp_expect.proofs.Tests.{Tests, full, joint_fault, last_test, next_test, after_none, test_fault}
 use Rattle.fmp_expect.proofs.conditions.condition_in.Goals as goal
 
 fits : (ts : List ConditionTest) (x : Condition) → x ≡ condition_with ts → x.count < 8 → length ts < 8
@@ -39,7 +39,7 @@ pub loop-condition-init : goal.loop-condition-init
 loop-condition-init c = (
   [],
   c.no_condition-condition.ensures,
-  record { room = 8; long = omega arith; is = none_behind _ },
+  record { room = 8; long = omega arith; is = after_none _ },
 )
 
 pub returns-in_err-test : goal.returns-in_err-test
@@ -53,29 +53,29 @@ pub returns-in_err-next : goal.returns-in_err-next
 returns-in_err-next c =
     let p = err_from_is_err_and c.from_residual-in_err-next.result c.from_residual-in_err-next.ensures.1 in
     let i = c.loop-condition.invariant in
-    rw (p.1, p.2) (fault _ _ _ (joint_fault _ i.0 _ _ _ i.2 c.in_ok-test.test (words_of c.in_ok-test.behind.now)
+    rw (p.1, p.2) (fault _ _ _ (joint_fault _ i.0 _ _ _ i.2 c.in_ok-test.test (words_of c.in_ok-test.after.now)
     (fits i.0 _ i.1 c.loop-condition-test.true) c.in_ok-test.ensures.read _ c.in_err-next.ensures.fault))
 
 pub loop-condition-preserved : goal.loop-condition-preserved
 loop-condition-preserved c =
     let i = c.loop-condition.invariant in
-    let rest = words_of c.in_ok-test.behind.now in (
+    let rest = words_of c.in_ok-test.after.now in (
       i.0 ++ c.in_ok-test.test ∷ [],
       c.with_test-condition.ensures i.0 i.1,
       next_test _ i.0 _ _ _ i.2 c.in_ok-test.test rest (fits i.0 _ i.1 c.loop-condition-test.true)
           c.in_ok-test.ensures.read c.in-Some.next (words_of c.in-Some.words.now)
-          (λ m. joined c.in_ok-next.field-0 _ (tests_behind m rest ≡ Ok [])
-          (λ next. tests_behind m rest ≡ m next.0 (words_of next.1.now)) c.in-Some.is (c.in_ok-next.ensures.joint m)),
+          (λ m. joined c.in_ok-next.field-0 _ (next_tests m rest ≡ Ok [])
+          (λ next. next_tests m rest ≡ m next.0 (words_of next.1.now)) c.in-Some.is (c.in_ok-next.ensures.joint m)),
     )
 
 pub returns-in-None : goal.returns-in-None
 returns-in-None c =
     let i = c.loop-condition.invariant in
-    let rest = words_of c.in_ok-test.behind.now in
+    let rest = words_of c.in_ok-test.after.now in
     ap (λ (x : Condition). Ok x) (c.with_test-condition.ensures i.0 i.1)
     ∙ done _ _ _ (last_test _ i.0 _ _ _ i.2 c.in_ok-test.test rest (fits i.0 _ i.1 c.loop-condition-test.true)
-    c.in_ok-test.ensures.read (λ m. ended c.in_ok-next.field-0 (tests_behind m rest ≡ Ok [])
-    (λ next. tests_behind m rest ≡ m next.0 (words_of next.1.now)) c.in-None.is (c.in_ok-next.ensures.joint m)))
+    c.in_ok-test.ensures.read (λ m. ended c.in_ok-next.field-0 (next_tests m rest ≡ Ok [])
+    (λ next. next_tests m rest ≡ m next.0 (words_of next.1.now)) c.in-None.is (c.in_ok-next.ensures.joint m)))
 
 pub returns : goal.returns
 returns c =

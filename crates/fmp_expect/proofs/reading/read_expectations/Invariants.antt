@@ -1,6 +1,6 @@
 use Rattle.std.proofs.Common.{◌≡◌, ◌+◌, ◌≤◌, length}
 use Rattle.fmp_base.specs.Systems.{tables_of}
-use Rattle.fmp_expect.specs.Grammar.{behind_all, expectations_from, expectations_of}
+use Rattle.fmp_expect.specs.Grammar.{after_all, expectations_from, expectations_of}
 use Rattle.fmp_expect.specs.Words.{lines_of}
 use Rattle.fmp_expect.proofs.reading.read_expectations.Given as goal
 
@@ -8,7 +8,7 @@ use Rattle.fmp_expect.proofs.reading.read_expectations.Given as goal
 abbrev pub invariant-loop-rest : goal.invariant-loop-rest
 invariant-loop-rest l = record {
   counted : l.number + length l.rest ≤ length l.text + 1;
-  said : behind_all l.all.items (expectations_from (tables_of l.sys) l.number (lines_of l.rest))
+  said : after_all l.all.items (expectations_from (tables_of l.sys) l.number (lines_of l.rest))
       ≡ expectations_of (tables_of l.sys) l.text;
 }
 
