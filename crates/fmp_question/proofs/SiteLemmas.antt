@@ -21,8 +21,8 @@ use Rattle.fmp_question.specs.declared.site.CallSite.{CallSite}
 use Rattle.fmp_question.specs.declared.question.NeverAt.{NeverAt}
 use Rattle.fmp_question.specs.declared.question.Question.{Question}
 use Rattle.fmp_question.specs.Forbidden.{forbids, has_code, is_same_code}
-use Rattle.fmp_question.specs.Sites.{forbids_there, has_body, is_bad, is_behind, is_caller_behind, is_handler_behind}
-use Rattle.fmp_question.specs.Sites.{is_of, is_of_caller, is_task_behind, tells_there}
+use Rattle.fmp_question.specs.Sites.{forbids_there, has_body, is_bad, is_after, is_caller_after, is_handler_after}
+use Rattle.fmp_question.specs.Sites.{is_of, is_of_caller, is_task_after, tells_there}
 use Rattle.fmp_instructions.specs.declared.instructions.MachineContext.{MachineContext}
 use Rattle.fmp_instructions.specs.Instructions.{BodyTables}
 use Rattle.fmp_live.specs.LiveLocals.{LiveTable, table_at}
@@ -72,14 +72,14 @@ module _ (sys : SystemTables) (q : Question) (w : World MachineContext) where
 
 module _ (sys : SystemTables) (v w : World MachineContext) (alike : Alike sys v w) where
   module _ (site : CallSite) where
-    behind-if : (t : ℕ) (asleep : Bool) → is_dormant (task_at v.state.tasks t).phase ≡ asleep
-        → (not asleep && (has_body site (slice_get sys.tasks t) && is_behind site (context_at v.contexts.tasks t)))
-        ≡ (not asleep && (has_body site (slice_get sys.tasks t) && is_behind site (context_at w.contexts.tasks t)))
-    behind-if t true is = refl
-    behind-if t false is =
+    after-if : (t : ℕ) (asleep : Bool) → is_dormant (task_at v.state.tasks t).phase ≡ asleep
+        → (not asleep && (has_body site (slice_get sys.tasks t) && is_after site (context_at v.contexts.tasks t)))
+        ≡ (not asleep && (has_body site (slice_get sys.tasks t) && is_after site (context_at w.contexts.tasks t)))
+    after-if t true is = refl
+    after-if t false is =
         let on : is_off (task_at v.state.tasks t) ≡ false =
         ap (λ (b : Bool). b && is_none (task_at v.state.tasks t).deadline) is in
-        ap (λ (x : Option (Held MachineContext)). has_body site (slice_get sys.tasks t) && is_behind site x)
+        ap (λ (x : Option (Held MachineContext)). has_body site (slice_get sys.tasks t) && is_after site x)
         (alike.contexts.tasks t on)
 
     same-asleep : (t : ℕ) → is_dormant (task_at v.state.tasks t).phase ≡ is_dormant (task_at w.state.tasks t).phase
@@ -87,23 +87,23 @@ module _ (sys : SystemTables) (v w : World MachineContext) (alike : Alike sys v 
         let same = blocks-at v.state.clock w.state.clock v.state.tasks w.state.tasks alike.states.tasks t in
         ap (λ (x : TaskBlock). is_dormant x.phase) same.rest
 
-    task-behind : (t : ℕ) → is_task_behind sys v site t ≡ is_task_behind sys w site t
-    task-behind t =
-        behind-if t (is_dormant (task_at v.state.tasks t).phase) refl
+    task-after : (t : ℕ) → is_task_after sys v site t ≡ is_task_after sys w site t
+    task-after t =
+        after-if t (is_dormant (task_at v.state.tasks t).phase) refl
         ∙ ap (λ (b : Bool). not b
-        && (has_body site (slice_get sys.tasks t) && is_behind site (context_at w.contexts.tasks t))) (same-asleep t)
+        && (has_body site (slice_get sys.tasks t) && is_after site (context_at w.contexts.tasks t))) (same-asleep t)
 
-    caller-behind : (p : ℕ) (who : Caller) → is_caller_behind sys v site p who ≡ is_caller_behind sys w site p who
-    caller-behind p (caller.Task t) = task-behind t
-    caller-behind p (caller.Handler h) =
-        ap (λ hs. is_handler_behind site (context_at hs p)) alike.contexts.handlers
+    caller-after : (p : ℕ) (who : Caller) → is_caller_after sys v site p who ≡ is_caller_after sys w site p who
+    caller-after p (caller.Task t) = task-after t
+    caller-after p (caller.Handler h) =
+        ap (λ hs. is_handler_after site (context_at hs p)) alike.contexts.handlers
 
   told-there : (never : NeverAt) (l : Line) → tells_there sys v never l ≡ tells_there sys w never l
   unfolding tells_there
   told-there never (line.Call p who made reply) =
-      ap (λ (b : Bool). (has_code never.code reply && is_of_caller never.by who) && b) (caller-behind never.site p who)
+      ap (λ (b : Bool). (has_code never.code reply && is_of_caller never.by who) && b) (caller-after never.site p who)
   told-there never (line.Gets p t reply) =
-      ap (λ (b : Bool). (is_same_code reply.code never.code && is_of never.by t) && b) (task-behind never.site t)
+      ap (λ (b : Bool). (is_same_code reply.code never.code && is_of never.by t) && b) (task-after never.site t)
   told-there never (line.Tick clock) = refl
   told-there never (line.Int i) = refl
   told-there never (line.End p who) = refl
@@ -119,18 +119,18 @@ module _ (sys : SystemTables) (v w : World MachineContext) (alike : Alike sys v 
 
 -- ---- and in worlds that are alike but for dead locals
 
-behind-zeroed : (site : CallSite) (t : LiveTable) (held : Option (Held MachineContext))
-    → is_behind site (zeroed_task t held) ≡ is_behind site held
-behind-zeroed site t None = refl
-behind-zeroed site t (Some (Goes c)) = refl
-behind-zeroed site t (Some (Awaits c)) = refl
+after-zeroed : (site : CallSite) (t : LiveTable) (held : Option (Held MachineContext))
+    → is_after site (zeroed_task t held) ≡ is_after site held
+after-zeroed site t None = refl
+after-zeroed site t (Some (Goes c)) = refl
+after-zeroed site t (Some (Awaits c)) = refl
 
 handler-zeroed : (site : CallSite) (tables : List LiveTable) (h : Option (HandlerContext (Held MachineContext)))
-    → is_handler_behind site (zeroed_handler tables h) ≡ is_handler_behind site h
+    → is_handler_after site (zeroed_handler tables h) ≡ is_handler_after site h
 handler-zeroed site tables None = refl
 handler-zeroed site tables (Some h) =
     ap (λ (b : Bool). nat_eq h.body site.body && b)
-    (behind-zeroed site (table_at tables h.body) (Some h.context))
+    (after-zeroed site (table_at tables h.body) (Some h.context))
 
 handler_at : (tables : List LiveTable) (hs : List (Option (HandlerContext (Held MachineContext)))) (p : ℕ)
     → context_at (map (zeroed_handler tables) hs) p ≡ zeroed_handler tables (context_at hs p)
@@ -142,19 +142,19 @@ module _ (sys : SystemTables) (tables : List LiveTable) (w : World MachineContex
   abbrev dead_as_0 : World MachineContext
   dead_as_0 = zeroed sys tables w
 
-  task_behind-zeroed : (site : CallSite) (t : ℕ) → is_task_behind sys dead_as_0 site t ≡ is_task_behind sys w site t
-  task_behind-zeroed site t =
+  task_after-zeroed : (site : CallSite) (t : ℕ) → is_task_after sys dead_as_0 site t ≡ is_task_after sys w site t
+  task_after-zeroed site t =
       ap
       (λ (b : Bool). not (is_dormant (task_at w.state.tasks t).phase) && (has_body site (slice_get sys.tasks t) && b))
-      (ap (λ (c : Option (Held MachineContext)). is_behind site c)
+      (ap (λ (c : Option (Held MachineContext)). is_after site c)
       (context_at-each (λ u. zeroed_task (table_at tables (task_body sys u))) (λ u. refl) w.contexts.tasks t)
-      ∙ behind-zeroed site (table_at tables (task_body sys t)) (context_at w.contexts.tasks t))
+      ∙ after-zeroed site (table_at tables (task_body sys t)) (context_at w.contexts.tasks t))
 
-  caller_behind-zeroed : (site : CallSite) (p : ℕ) (who : Caller)
-      → is_caller_behind sys dead_as_0 site p who ≡ is_caller_behind sys w site p who
-  caller_behind-zeroed site p (caller.Task t) = task_behind-zeroed site t
-  caller_behind-zeroed site p (caller.Handler h) =
-      ap (λ (x : Option (HandlerContext (Held MachineContext))). is_handler_behind site x)
+  caller_after-zeroed : (site : CallSite) (p : ℕ) (who : Caller)
+      → is_caller_after sys dead_as_0 site p who ≡ is_caller_after sys w site p who
+  caller_after-zeroed site p (caller.Task t) = task_after-zeroed site t
+  caller_after-zeroed site p (caller.Handler h) =
+      ap (λ (x : Option (HandlerContext (Held MachineContext))). is_handler_after site x)
       (handler_at tables w.contexts.handlers p)
       ∙ handler-zeroed site tables (context_at w.contexts.handlers p)
 
@@ -162,9 +162,9 @@ module _ (sys : SystemTables) (tables : List LiveTable) (w : World MachineContex
   unfolding tells_there
   told-zeroed never (line.Call p who made reply) =
       ap (λ (b : Bool). (has_code never.code reply && is_of_caller never.by who) && b)
-      (caller_behind-zeroed never.site p who)
+      (caller_after-zeroed never.site p who)
   told-zeroed never (line.Gets p t reply) =
-      ap (λ (b : Bool). (is_same_code reply.code never.code && is_of never.by t) && b) (task_behind-zeroed never.site t)
+      ap (λ (b : Bool). (is_same_code reply.code never.code && is_of never.by t) && b) (task_after-zeroed never.site t)
   told-zeroed never (line.Tick clock) = refl
   told-zeroed never (line.Int i) = refl
   told-zeroed never (line.End p who) = refl

@@ -1,10 +1,11 @@
 -- The parts of a deadlock.
-use Rattle.std.proofs.Common.{◌≡◌, ℕ, ◌+◌, ◌↔◌, List, Option, Some, None, Bool, true, IsTrue, subst, arith}
+use Rattle.std.proofs.Common.{◌≡◌, ℕ, ◌+◌, ◌↔◌, List, Option, Some, None, Bool, true, IsTrue, subst, ap, ◌∙◌, arith}
 use Rattle.fmp_base.specs.declared.events.Event.{Event}
 use Rattle.fmp_base.specs.Meanings.{Meaning, World}
 use Rattle.fmp_base.specs.States.{KernelState}
 use Rattle.fmp_base.specs.Systems.{SystemTables}
-use Rattle.fmp_drive.specs.Driving.{AllStand, TakesFirst}
+use Rattle.fmp_base.specs.Steps.{IsTaken, Nothing}
+use Rattle.fmp_drive.specs.Driving.{AllStand, TakesFirst, reaction}
 use Rattle.fmp_drive.specs.declared.trying.EventSource.{EventSource}
 use Rattle.fmp_drive.specs.declared.trying.EventSource.TheVariants.{Interrupt, Processor}
 use Rattle.fmp_kernel.specs.KernelViews.{KernelView}
@@ -12,6 +13,20 @@ use Rattle.fmp_schedules.specs.Deadlocks.{IsDeadlock}
 use Rattle.fmp_question.specs.Standing.{NoneDoes, StandsStill}
 
 module _ {B C : Type 0} (meaning : B → Meaning C) where
+  -- an event that is taken does something
+  taken_does : (before after : KernelView B C) (source : EventSource) (end : ℕ) (e : Event)
+      → TakesFirst meaning before after source 1 end (Some e) → AllStand meaning before source 1 end → ⊥
+  taken_does before after source end e t none =
+      let first = t.1 in
+      let still : reaction meaning before e ≡ Nothing =
+      ap (reaction meaning before) first.event ∙ none first.number first.first_on first.in_front in
+      subst IsTaken still t.0.taken
+
+  pub some_taken : (before after : KernelView B C) (source : EventSource) (end : ℕ) (o : Option Event) (e : Event)
+      → Some e ≡ o → TakesFirst meaning before after source 1 end o → AllStand meaning before source 1 end → ⊥
+  some_taken before after source end None e h t none = absurd (cc)
+  some_taken before after source end (Some f) e h t none = taken_does before after source end f t none
+
   -- where no event is taken, none does anything
   pub none_taken : (before after : KernelView B C) (source : EventSource) (end : ℕ) (o : Option Event) → None ≡ o
       → TakesFirst meaning before after source 1 end o → (after ≡ before) × AllStand meaning before source 1 end
@@ -41,6 +56,13 @@ module _ {B C : Type 0} (meaning : B → Meaning C) where
         handlers = still.handlers;
         stuck = still.stuck;
       }
+
+-- in a deadlock no event does anything
+pub none_in_deadlock : {B C : Type 0} (meaning : B → Meaning C) (k : KernelView B C) (rest : List Bool)
+    (processors : ℕ) (interrupts : Bool) → processors ≡ k.system.processors
+    → IsDeadlock k.system (meaning k.body) k.bound k.world rest interrupts → NoneDoes meaning k processors interrupts
+none_in_deadlock meaning k rest processors interrupts count d =
+    record { runs = λ p low high. d.runs p low (omega (arith, count, high)); requests = d.requests }
 
 -- a deadlock stands still
 pub still_of_deadlock : {C : Type 0} (sys : SystemTables) (M : Meaning C) (n : ℕ) (w : World C) (rest : List Bool)

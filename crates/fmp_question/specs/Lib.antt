@@ -1,4 +1,4 @@
-pub mod Behind
+pub mod Beginning
 pub mod Endless
 pub mod Forbidden
 pub mod Sites

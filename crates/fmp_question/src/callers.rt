@@ -23,7 +23,8 @@ fn pc_of(held: &Held<MachineContext>) -> u16
     }
 }
 
-/// The place of the last call of a body of which this is kept, 0 if nothing is. A call leaves its body right after it.
+/// The place before the next instruction of a body of which this is kept, 0 if nothing is. Where the body stands after
+/// a call, that is the call.
 pub fn last_call(held: Option<Held<MachineContext>>) -> u16
     ensures { result ≡ spec.last_call held }
 {
@@ -35,14 +36,14 @@ pub fn last_call(held: Option<Held<MachineContext>>) -> u16
 
 /// Whether the next instruction of a body is the one after a call.
 fn is_next(site: CallSite, held: &Held<MachineContext>) -> bool
-    ensures { result ≡ spec.is_behind site (Some held.now) }
+    ensures { result ≡ spec.is_after site (Some held.now) }
 {
     u32::from(pc_of(held)) == u32::from(site.pc) + 1
 }
 
 /// The same of what is kept of a body, if anything is.
-fn is_behind(site: CallSite, held: Option<Held<MachineContext>>) -> bool
-    ensures { result ≡ spec.is_behind site held }
+fn is_after(site: CallSite, held: Option<Held<MachineContext>>) -> bool
+    ensures { result ≡ spec.is_after site held }
 {
     match held {
         Some(held) => is_next(site, &held),
@@ -91,15 +92,15 @@ pub fn is_started(tables: &KernelState, t: u8) -> bool
 }
 
 /// Whether a task is started, and stands after a call.
-fn is_task_behind(kernel: &Kernel<Vm<'_>>, sys: &System, site: CallSite, t: u8) -> bool
-    ensures { result ≡ spec.is_task_behind (tables_of sys.now) kernel.now.world site t }
+fn is_task_after(kernel: &Kernel<Vm<'_>>, sys: &System, site: CallSite, t: u8) -> bool
+    ensures { result ≡ spec.is_task_after (tables_of sys.now) kernel.now.world site t }
 {
-    is_started(kernel.tables(), t) && has_body(sys, site, t) && is_behind(site, kernel.held(t))
+    is_started(kernel.tables(), t) && has_body(sys, site, t) && is_after(site, kernel.held(t))
 }
 
 /// Whether what is kept of a handler stands after a call.
-fn is_handler_behind(site: CallSite, held: Option<HandlerContext<Held<MachineContext>>>) -> bool
-    ensures { result ≡ spec.is_handler_behind site held }
+fn is_handler_after(site: CallSite, held: Option<HandlerContext<Held<MachineContext>>>) -> bool
+    ensures { result ≡ spec.is_handler_after site held }
 {
     match held {
         Some(held) => held.body == site.body && is_next(site, &held.context),
@@ -108,18 +109,18 @@ fn is_handler_behind(site: CallSite, held: Option<HandlerContext<Held<MachineCon
 }
 
 /// Whether the caller on a processor stands after a call.
-fn is_caller_behind(
+fn is_caller_after(
     kernel: &Kernel<Vm<'_>>,
     sys: &System,
     site: CallSite,
     p: u8,
     caller: Caller,
 ) -> bool
-    ensures { result ≡ spec.is_caller_behind (tables_of sys.now) kernel.now.world site p caller }
+    ensures { result ≡ spec.is_caller_after (tables_of sys.now) kernel.now.world site p caller }
 {
     match caller {
-        Caller::Task(t) => is_task_behind(kernel, sys, site, t),
-        Caller::Handler(_) => is_handler_behind(site, kernel.held_handler(p)),
+        Caller::Task(t) => is_task_after(kernel, sys, site, t),
+        Caller::Handler(_) => is_handler_after(site, kernel.held_handler(p)),
     }
 }
 
@@ -157,12 +158,12 @@ pub fn tells_there(kernel: &Kernel<Vm<'_>>, sys: &System, never: NeverAt, line: 
         } => {
             is_same_code(reply.code, never.code)
                 && is_of_caller(never.by, *caller)
-                && is_caller_behind(kernel, sys, never.site, *processor, *caller)
+                && is_caller_after(kernel, sys, never.site, *processor, *caller)
         }
         Line::Gets { task, reply, .. } => {
             is_same_code(reply.code, never.code)
                 && is_of(never.by, *task)
-                && is_task_behind(kernel, sys, never.site, *task)
+                && is_task_after(kernel, sys, never.site, *task)
         }
         _ => false,
     }

@@ -7,7 +7,7 @@ ghost use Rattle.fmp_question.specs.Forbidden.{forbids, is_answered as answers, 
 ghost use Rattle.fmp_question.specs.Forbidden.{is_put as prints, is_same_code as same_code};
 ghost use Rattle.fmp_question.specs.Forbidden.{is_same_fault as same_fault};
 ghost use Rattle.fmp_question.specs.Forbidden.{tells as names};
-ghost use Rattle.fmp_question.specs.Behind.{CanBegin};
+ghost use Rattle.fmp_question.specs.Beginning.{CanBegin};
 
 use crate::site::CallSite;
 use fmp_base::{Call, Er, Event, Fault, Line};

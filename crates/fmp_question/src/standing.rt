@@ -107,7 +107,8 @@ pub fn stands_still<B: Body>(kernel: &Kernel<B>, question: &Question) -> bool
 /// it is taken.
 fn all_stand<B: Body>(kernel: &mut Kernel<B>, source: EventSource, end: u8) -> bool
     requires { kernel.old.taken < 2 ^ 20 }
-    ensures { IsTrue result → (kernel.new ≡ kernel.old) × AllStand B.meaning kernel.old source 1 end }
+    ensures stand { IsTrue result ↔ AllStand B.meaning kernel.old source 1 end }
+    ensures same { IsTrue result → kernel.new ≡ kernel.old }
 {
     match first_taken(kernel, source, 1, end) {
         Some(_) => false,
@@ -119,7 +120,7 @@ fn all_stand<B: Body>(kernel: &mut Kernel<B>, source: EventSource, end: u8) -> b
 fn none_does<B: Body>(kernel: &mut Kernel<B>, processors: u8, interrupts: bool) -> bool
     requires few { kernel.old.taken < 2 ^ 20 }
     requires processors { processors ≤ 8 }
-    ensures { IsTrue result → NoneDoes B.meaning kernel.old processors interrupts }
+    ensures { IsTrue result ↔ NoneDoes B.meaning kernel.old processors interrupts }
 {
     if !all_stand(kernel, EventSource::Processor, processors + 1) {
         return false;
@@ -141,7 +142,7 @@ pub fn processor_count<B: Body>(kernel: &Kernel<B>) -> u8
 /// Whether a kernel is a deadlock, where one more interrupt may come or may not.
 pub fn is_deadlock<B: Body>(kernel: &mut Kernel<B>, question: &Question, interrupts: bool) -> bool
     requires few { kernel.old.taken < 2 ^ 20 }
-    ensures { IsTrue result → IsDeadlock kernel.old.system (B.meaning kernel.old.body) kernel.old.bound
+    ensures { IsTrue result ↔ IsDeadlock kernel.old.system (B.meaning kernel.old.body) kernel.old.bound
         kernel.old.world question.now.rest.items interrupts }
 {
     let processors = processor_count(kernel);

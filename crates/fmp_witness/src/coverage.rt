@@ -1,4 +1,7 @@
 //! What a search has ever done: calls that were made, tasks and handlers that ran, and how full the queues became.
+ghost use Rattle.std.specs.Prelude.{◌≡◌, ◌++◌, IfOk, OnOk};
+ghost use Rattle.fmp_witness.specs.Calls as spec;
+
 use fmp_base::{Caller, Er, Handler, Line};
 use fmp_code::{Code, Instruction};
 use fmp_fields::low_byte;
@@ -64,7 +67,9 @@ fn unanswered(alloc: Global, code: &Code) -> Result<Vec<Vec<u16>>, AllocError> {
 }
 
 /// The bit of a code; 0 for one that no call answers.
-fn bit_of(code: Er) -> u16 {
+fn bit_of(code: Er) -> u16
+    ensures { result ≡ spec.bit_of code }
+{
     match code {
         Er::Ok => 1,
         Er::Par => 2,
@@ -77,6 +82,27 @@ fn bit_of(code: Er) -> u16 {
         Er::Tmout => 256,
         Er::Sys | Er::Nospt | Er::Rsatr => 0,
     }
+}
+
+/// Adds a code, if it is one of these bits.
+fn add_answer(answers: &mut Vec<Er>, bits: u16, code: Er) -> Result<(), AllocError>
+    ensures { OnOk result (answers.new.items ≡ answers.old.items ++ spec.answer_in bits code) }
+{
+    if bits & bit_of(code) == 0 {
+        return Ok(());
+    }
+    answers.push(code)?;
+    Ok(())
+}
+
+/// Adds those of these codes that are among these bits.
+fn add_answers(answers: &mut Vec<Er>, bits: u16, codes: &[Er]) -> Result<(), AllocError>
+    ensures { OnOk result (answers.new.items ≡ answers.old.items ++ spec.answers_in bits codes.now) }
+{
+    for code in codes {
+        add_answer(answers, bits, *code)?;
+    }
+    Ok(())
 }
 
 /// Sets the marks that are set in another list.
@@ -298,25 +324,37 @@ impl Coverage {
         self.peaks.note_messages(tables);
     }
 
-    /// The answers that the call at a place ever got, in a fixed order. `AllocError` if memory runs out.
-    pub fn answers(&self, alloc: Global, site: CallSite) -> Result<Vec<Er>, AllocError> {
-        let bits = match self.calls.answers.get(usize::from(site.body)) {
-            Some(body) => body.get(usize::from(site.pc)).copied().unwrap_or(0),
+    /// The bits of the codes that the call at a place ever got.
+    fn bits(&self, site: CallSite) -> u16
+        ensures { result ≡ spec.bits_at self.now site }
+    {
+        match self.calls.answers.get(usize::from(site.body)) {
+            Some(body) => match body.get(usize::from(site.pc)) {
+                Some(bits) => *bits,
+                None => 0,
+            },
             None => 0,
-        };
-        let mut answers = Vec::new(alloc);
-        for code in ANSWERS {
-            if bits & bit_of(code) != 0 {
-                answers.push(code)?;
-            }
         }
+    }
+
+    /// The answers that the call at a place ever got, in a fixed order. `AllocError` if memory runs out.
+    pub fn answers(&self, alloc: Global, site: CallSite) -> Result<Vec<Er>, AllocError>
+        ensures { IfOk result (λ answers. answers.items ≡ spec.answers_at self.now site) }
+    {
+        let mut answers = Vec::new(alloc);
+        add_answers(&mut answers, self.bits(site), &ANSWERS)?;
         Ok(answers)
     }
 
     /// Whether the call at a place was made.
-    pub fn was_made(&self, site: CallSite) -> bool {
+    pub fn was_made(&self, site: CallSite) -> bool
+        ensures { result ≡ spec.was_made self.now site }
+    {
         match self.calls.made.get(usize::from(site.body)) {
-            Some(body) => body.get(usize::from(site.pc)) == Some(&true),
+            Some(body) => match body.get(usize::from(site.pc)) {
+                Some(made) => *made,
+                None => false,
+            },
             None => false,
         }
     }

@@ -14,4 +14,4 @@ returns c = λ yes.
     s.question.now.rest.items b)
     c.may_interrupt-interrupts.ensures.may
     (deadlock_there i s.n c.args.steps.now c.args.kernel.now c.requires s.question.now.rest.items _
-    (c.is_deadlock.ensures yes))
+    (c.is_deadlock.ensures.0 yes))
