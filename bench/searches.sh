@@ -11,6 +11,11 @@
 # times and memory. For the columns of SPIN it wants spin and a C compiler: it installs spin by apt-get where it may,
 # and leaves the columns empty where there is none.
 #
+# A second table tells what threads give, in seconds of the clock: for each system that one of its rows names, and for
+# one, two and four jobs, where the machine has as many processors. Its last column is for as many searches with one job
+# side by side: how many times the work of one they do in its time. Jobs can hardly give more than that. On a busy
+# machine this table tells little.
+#
 # The systems stand in bench/searches and in checks/schedules/systems, and the models, *.pml, in bench/searches. In a
 # model a transition is a service call or an access of a shared word, with the local work in front of it, as an event
 # is. SPIN searches the whole space, on past what it finds, without its partial-order reduction, which leaves out no
@@ -53,6 +58,18 @@ motor|--ticks idle --ints 3||
 pipe|--ticks idle --ints 4||
 '
 
+# A row of the second table: the system; the options of the search.
+beside='
+phil7|
+motor|--ticks idle --ints 3
+'
+
+# is_named SYSTEM: whether its rows are printed.
+is_named() { [ "$named" = '  ' ] || [[ $named == *" $1 "* ]]; }
+
+# place_of SYSTEM: where it stands, without the endings of its files.
+place_of() { if [ -e "$here/$1.cfg" ]; then echo "$here/$1"; else echo "$root/checks/schedules/systems/$1"; fi; }
+
 # least COMMAND..: runs it; its output is in the file `out`, and the least seconds and the kilobytes are in `spent`.
 least() {
     local least_seconds='' seconds kilobytes
@@ -75,8 +92,8 @@ base=${spent#* }
 
 # searched SYSTEM OPTION..: the states of a search, its seconds and its bytes a state.
 searched() {
-    local place=$here/$1
-    [ -e "$place.cfg" ] || place=$root/checks/schedules/systems/$1
+    local place
+    place=$(place_of "$1")
     shift
     least "$view" explore "$place.cfg" "$place.src" --all --out found "$@"
     awk -v spent="$spent" -v base="$base" -v most="$most" '
@@ -114,7 +131,7 @@ echo '| System | States | SPIN | Seconds | SPIN | Times SPIN | Bytes a state | S
 echo '|---|---|---|---|---|---|---|---|'
 while IFS='|' read -r system options model defines; do
     [ -n "$system" ] || continue
-    [ "$named" = '  ' ] || [[ $named == *" $system "* ]] || continue
+    is_named "$system" || continue
     # shellcheck disable=SC2086 # words of the command lines
     IFS='|' read -r states seconds bytes < <(searched "$system" $options)
     their_states='' their_seconds='' their_bytes='' times=''
@@ -126,3 +143,42 @@ while IFS='|' read -r system options model defines; do
     echo "| $system${options:+, \`$options\`} | $states | $their_states | $seconds | $their_seconds | $times |" \
         "$bytes | $their_bytes |"
 done <<< "$rows"
+
+# clocked COUNT JOBS SYSTEM OPTION..: the least seconds of the clock of this many searches side by side, each with this
+# many jobs.
+clocked() {
+    local count=$1 jobs=$2 place begun ended seconds least=''
+    place=$(place_of "$3")
+    shift 3
+    for _ in $(seq "$runs"); do
+        begun=$(date +%s%N)
+        for k in $(seq "$count"); do
+            (ulimit -t "$most" && exec "$view" explore "$place.cfg" "$place.src" --all --jobs "$jobs" --out "found$k" \
+                "$@" > /dev/null 2>&1) &
+        done
+        wait
+        ended=$(date +%s%N)
+        seconds=$(awk "BEGIN { printf \"%.2f\", ($ended - $begun) / 1000000000 }")
+        if [ -z "$least" ] || awk "BEGIN { exit !($seconds < $least) }"; then least=$seconds; fi
+    done
+    echo "$least"
+}
+
+echo
+echo '| System | Jobs | Seconds | Times one job | Side by side |'
+echo '|---|---|---|---|---|'
+while IFS='|' read -r system options; do
+    { [ -n "$system" ] && is_named "$system"; } || continue
+    # shellcheck disable=SC2086
+    alone=$(clocked 1 1 "$system" $options)
+    echo "| $system${options:+, \`$options\`} | 1 | $alone | | |"
+    for jobs in 2 4; do
+        [ "$jobs" -le "$(nproc)" ] || continue
+        # shellcheck disable=SC2086
+        seconds=$(clocked 1 "$jobs" "$system" $options)
+        # shellcheck disable=SC2086
+        together=$(clocked "$jobs" 1 "$system" $options)
+        awk -v jobs="$jobs" -v s="$seconds" -v one="$alone" -v all="$together" \
+            'BEGIN { printf "| | %d | %.2f | %.1f | %.1f |\n", jobs, s, one / s, jobs * one / all }'
+    done
+done <<< "$beside"

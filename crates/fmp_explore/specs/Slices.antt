@@ -1,5 +1,6 @@
 -- Slices of a search: states of it that were examined in a search of their own.
-use Rattle.std.specs.Prelude.{ℕ, ◌≡◌, ◌<◌, ◌≤◌, List, Some, true, length, slice_get}
+use Rattle.std.specs.declared.alloc.AllocError.{AllocError}
+use Rattle.std.specs.Prelude.{ℕ, ◌≡◌, ◌-◌, ◌<◌, ◌≤◌, All, IfOk, List, Result, Some, true, length, slice_get}
 use Rattle.fmp_explore.specs.declared.searches.Search.{Search}
 use Rattle.fmp_explore.specs.declared.slices.Slice.{Slice}
 use Rattle.fmp_explore.specs.Searching.{Grows, IsSearch, IsSearching, rows_of}
@@ -13,27 +14,54 @@ pub record IsSliceOf (asked : Asked) (whole s : Search) : Type 0 where
   pub fields : s.rows.fields.items ≡ whole.rows.fields.items
   pub first : s.rows.first.items ≡ whole.rows.first.items
 
--- the state of a row was examined
-pub record HasExaminedRow (asked : Asked) (old new : Search) (row : List ℕ) : Type 0 where
-  pub grows : Grows old new
-  pub examined : new.sure ≡ true → IsExamined asked (rows_of new) row
-
 -- the states of the whole search from a place on, up to another one, are examined in a search
 abbrev pub AreExamined : Asked → (whole : Search) → (first end : ℕ) → Search → Type 0
 AreExamined asked whole first end s =
     s.sure ≡ true → (k : ℕ) (row : List ℕ) → first ≤ k → k < end → slice_get whole.seen.rows k ≡ Some row →
     IsExamined asked (rows_of s) row
 
--- they were examined
-pub record HasExaminedRows (asked : Asked) (whole : Search) (first end : ℕ) (old new : Search) : Type 0 where
-  pub grows : Grows old new
-  pub each : AreExamined asked whole first end new
+-- the states of the whole search from a place on, up to another one, are the first ones of a search
+abbrev pub AreFirst : (whole : Search) → (first end : ℕ) → Search → Type 0
+AreFirst whole first end s =
+    s.sure ≡ true → (k : ℕ) (row : List ℕ) → first ≤ k → k < end → slice_get whole.seen.rows k ≡ Some row →
+    slice_get s.seen.rows (k - first) ≡ Some row
 
--- a slice of the whole search
+-- their rows were taken
+pub record HasTaken (whole : Search) (first end : ℕ) (old new : Search) : Type 0 where
+  pub grows : Grows old new
+  pub each : AreFirst whole first end new
+
+-- states of the whole search that are handed to a search of their own
+pub record IsTaken (asked : Asked) (whole : Search) (slice : Slice) : Type 0 where
+  pub same : IsSliceOf asked whole slice.search
+  pub within : slice.span.end ≤ length whole.seen.rows
+  pub each : AreFirst whole slice.span.first slice.span.end slice.search
+
+-- the first states of a search were examined, this many
+pub record HasExaminedFirst (asked : Asked) (count : ℕ) (old new : Search) : Type 0 where
+  pub survey : IsSearch asked new
+  pub grows : Grows old new
+  pub each :
+      new.sure ≡ true → (k : ℕ) (row : List ℕ) → k < count → slice_get old.seen.rows k ≡ Some row →
+      IsExamined asked (rows_of new) row
+
+-- a slice of the whole search: its states are examined
 pub record IsSlice (asked : Asked) (whole : Search) (slice : Slice) : Type 0 where
   pub same : IsSliceOf asked whole slice.search
   pub within : slice.span.end ≤ length whole.seen.rows
   pub each : AreExamined asked whole slice.span.first slice.span.end slice.search
+
+-- so it is of each of these for which there was memory
+abbrev pub AreSlices : Asked → (whole : Search) → List (Result Slice AllocError) → Type 0
+AreSlices asked whole slices = All (λ s. IfOk s (IsSlice asked whole)) slices
+
+-- states of the whole search are handed over in each of these for which there was memory
+abbrev pub AreTakenOver : Asked → (whole : Search) → List (Result Slice AllocError) → Type 0
+AreTakenOver asked whole slices = All (λ s. IfOk s (IsTaken asked whole)) slices
+
+-- in each of these for which there was memory, states can be examined
+abbrev pub AreReady : Asked → List (Result Slice AllocError) → Type 0
+AreReady asked slices = All (λ s. IfOk s (λ slice. IsSearch asked slice.search)) slices
 
 -- a row is one of these
 pub record IsAmong (rows : List (List ℕ)) (row : List ℕ) : Type 0 where

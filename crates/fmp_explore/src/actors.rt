@@ -1,4 +1,7 @@
 //! Which tasks act in states, or in those that can be reached from them.
+ghost use Rattle.std.specs.Prelude.{◌≡◌, ◌+◌, ◌/◌, [], ◌++◌, OnOk, slice_get, unwrap_or};
+ghost use Rattle.fmp_explore.specs.Noted.{place_in};
+
 use std::alloc::{AllocError, Global};
 
 /// For each state a bit for each task, and one more.
@@ -11,7 +14,10 @@ pub struct ActorBits {
 
 impl ActorBits {
     /// No state, in a system of this many tasks.
-    pub fn new(alloc: Global, tasks: usize) -> ActorBits {
+    pub fn new(alloc: Global, tasks: usize) -> ActorBits
+        ensures bytes { result.bytes.items ≡ [] }
+        ensures width { result.width ≡ tasks / 8 + 1 }
+    {
         ActorBits {
             bytes: Vec::new(alloc),
             width: tasks / 8 + 1,
@@ -19,12 +25,17 @@ impl ActorBits {
     }
 
     /// Forgets all states.
-    pub fn clear(&mut self, alloc: Global) {
+    pub fn clear(&mut self, alloc: Global)
+        ensures bytes { self.new.bytes.items ≡ [] }
+        ensures width { self.new.width ≡ self.old.width }
+    {
         self.bytes = Vec::new(alloc);
     }
 
     /// How many bytes the bits of a state take.
-    pub fn width(&self) -> usize {
+    pub fn width(&self) -> usize
+        ensures { result ≡ self.now.width }
+    {
         self.width
     }
 
@@ -37,17 +48,24 @@ impl ActorBits {
     }
 
     /// Adds the states of others. `AllocError` if memory runs out.
-    pub fn join(&mut self, other: &ActorBits) -> Result<(), AllocError> {
+    pub fn join(&mut self, other: &ActorBits) -> Result<(), AllocError>
+        ensures bytes { OnOk result (self.new.bytes.items ≡ self.old.bytes.items ++ other.now.bytes.items) }
+        ensures width { self.new.width ≡ self.old.width }
+    {
         self.bytes.extend_from_slice(&other.bytes)
     }
 
     /// Where a byte of a state stands.
-    fn place(&self, state: u32, byte: usize) -> usize {
+    fn place(&self, state: u32, byte: usize) -> usize
+        ensures { result ≡ place_in self.now.width state byte }
+    {
         (state as usize).wrapping_mul(self.width).wrapping_add(byte)
     }
 
     /// The bits in a byte of a state; none if there is no such byte.
-    pub fn bits(&self, state: u32, byte: usize) -> u8 {
+    pub fn bits(&self, state: u32, byte: usize) -> u8
+        ensures { result ≡ unwrap_or (slice_get self.now.bytes.items (place_in self.now.width state byte)) 0 }
+    {
         match self.bytes.get(self.place(state, byte)) {
             Some(bits) => *bits,
             None => 0,

@@ -2,15 +2,17 @@
 ghost use Rattle.std.specs.Prelude.{All, IfOk, ⊤};
 ghost use Rattle.std.specs.Thread.{IsSync};
 ghost use Rattle.fmp_explore.specs.Searching.{IsSearch};
-ghost use Rattle.fmp_explore.specs.Slices.{IsSlice};
+ghost use Rattle.fmp_explore.specs.Slices.{AreReady, AreSlices, AreTakenOver, IsSlice, IsTaken};
+ghost use Rattle.fmp_explore.specs.declared.searches.Search.{Search};
+ghost use Rattle.fmp_explore.specs.declared.slices.Slice.{Slice};
 ghost use Rattle.fmp_witness.specs.Asked.{asked_of};
 
 use crate::searches::Search;
-use crate::slices::{Slice, Span};
+use crate::slices::{Slice, Span, examined};
 use fmp_witness::SearchSubject;
 use std::alloc::{AllocError, Global};
-use std::thread;
 use std::thread::Threads;
+use std::{mem, thread};
 
 /// Who examines slices of a search beside one another.
 pub trait Crew {
@@ -20,9 +22,9 @@ pub trait Crew {
     /// How many slices are examined at once; less than two if none are.
     fn jobs(&self) -> usize;
 
-    /// Slices of a search, in order, that together are its states of this span: those that were examined before memory
-    /// ran out. `AllocError` if it ran out for all of them.
-    fn slices(
+    /// Hands over the states of a span of a search, in slices, in order. `AllocError` if memory ran out for all of
+    /// them.
+    fn hand_over(
         &self,
         alloc: Global,
         subject: &SearchSubject<'_>,
@@ -31,7 +33,23 @@ pub trait Crew {
     ) -> Result<Vec<Result<Slice, AllocError>>, AllocError>
         requires crew { can_work self.now }
         requires whole { IsSearch (asked_of subject.now) whole.now }
-        ensures { IfOk result (λ slices. All (λ s. IfOk s (IsSlice (asked_of subject.now) whole.now)) slices.items) };
+        ensures { IfOk result (λ slices. AreTakenOver (asked_of subject.now) whole.now slices.items) };
+
+    /// Examines slices beside one another, and does something else beside them. `AllocError` if memory ran out for all
+    /// of them.
+    fn examine_beside<B, G: FnMut() -> B>(
+        &self,
+        alloc: Global,
+        subject: &SearchSubject<'_>,
+        taken: Vec<Result<Slice, AllocError>>,
+        beside: &mut G,
+    ) -> (Result<Vec<Result<Slice, AllocError>>, AllocError>, B)
+        requires crew { can_work self.now }
+        requires taken { AreReady (asked_of subject.now) taken.items }
+        requires beside { G.pre beside.old }
+        ensures slices { (whole : Search) → AreTakenOver (asked_of subject.now) whole taken.items →
+            IfOk result.0 (λ slices. AreSlices (asked_of subject.now) whole slices.items) }
+        ensures beside { G.step beside.old result.1 beside.new };
 }
 
 /// Nobody: a search examines its states itself.
@@ -45,7 +63,7 @@ impl Crew for Alone {
         1
     }
 
-    fn slices(
+    fn hand_over(
         &self,
         alloc: Global,
         _subject: &SearchSubject<'_>,
@@ -54,21 +72,36 @@ impl Crew for Alone {
     ) -> Result<Vec<Result<Slice, AllocError>>, AllocError> {
         Ok(Vec::new(alloc))
     }
+
+    fn examine_beside<B, G: FnMut() -> B>(
+        &self,
+        alloc: Global,
+        _subject: &SearchSubject<'_>,
+        _taken: Vec<Result<Slice, AllocError>>,
+        beside: &mut G,
+    ) -> (Result<Vec<Result<Slice, AllocError>>, AllocError>, B) {
+        (Ok(Vec::new(alloc)), beside())
+    }
 }
 
-/// As many threads as there are slices at once.
+/// How many states are entered in about the time in which one is examined.
+const ENTERED_MEANWHILE: usize = 8;
+
+/// Threads, this many with the one that searches.
 #[derive(Clone, Copy)]
 pub struct Workers<'r, R> {
     pub rt: &'r R,
     pub jobs: usize,
 }
 
-/// The part of this number of a span, of as many as there are jobs.
+/// The part of this number of a span, of as many as there are jobs. The last part is smaller than the others, since the
+/// thread that examines it enters a round of slices first.
 fn part(span: Span, jobs: usize, k: usize) -> Span {
     if jobs == 0 {
         return span;
     }
-    let size = span.len() as usize / jobs + 1;
+    let count = span.len() as usize;
+    let size = count.saturating_add(count / ENTERED_MEANWHILE) / jobs + 1;
     let first = (span.first as usize)
         .saturating_add(k.saturating_mul(size))
         .min(span.end as usize);
@@ -86,7 +119,7 @@ impl<R: Threads + Sync> Crew for Workers<'_, R> {
         self.jobs
     }
 
-    fn slices(
+    fn hand_over(
         &self,
         alloc: Global,
         subject: &SearchSubject<'_>,
@@ -94,10 +127,51 @@ impl<R: Threads + Sync> Crew for Workers<'_, R> {
         span: Span,
     ) -> Result<Vec<Result<Slice, AllocError>>, AllocError> {
         let jobs = self.jobs;
-        let examine = |k: usize| -> Result<Slice, AllocError>
+        let take = |k: usize| -> Result<Slice, AllocError>
             requires { IsSearch (asked_of subject.now) whole.now }
-            ensures { IfOk result (IsSlice (asked_of subject.entry.now) whole.entry.now) }
-        { whole.slice(alloc, subject, part(span, jobs, k)) };
-        thread::map_indices(self.rt, alloc, jobs, &examine)
+            ensures { IfOk result (IsTaken (asked_of subject.entry.now) whole.entry.now) }
+        { whole.hand_over(alloc, subject, part(span, jobs, k)) };
+        thread::map_indices(self.rt, alloc, jobs, &take)
     }
+
+    fn examine_beside<B, G: FnMut() -> B>(
+        &self,
+        alloc: Global,
+        subject: &SearchSubject<'_>,
+        taken: Vec<Result<Slice, AllocError>>,
+        beside: &mut G,
+    ) -> (Result<Vec<Result<Slice, AllocError>>, AllocError>, B) {
+        if taken.is_empty() {
+            return (Ok(taken), beside());
+        }
+        let rt = self.rt;
+        let mut taken = taken;
+        let taken = &mut taken;
+        let mut examine = || -> Result<Vec<Result<Slice, AllocError>>, AllocError>
+            requires { IsSync R.row × AreReady (asked_of subject.now) taken.now.items }
+            ensures { (whole : Search) → AreTakenOver (asked_of subject.entry.now) whole taken.entry.now.items →
+                IfOk result (λ slices. AreSlices (asked_of subject.entry.now) whole slices.items) }
+        { examine_all(alloc, rt, subject, mem::replace(taken, Vec::new(alloc))) };
+        thread::join_mut(rt, &mut examine, beside)
+    }
+}
+
+/// Slices whose states are examined, each in a thread of its own where one can be made.
+fn examine_all<R: Threads + Sync>(
+    alloc: Global,
+    rt: &R,
+    subject: &SearchSubject<'_>,
+    taken: Vec<Result<Slice, AllocError>>,
+) -> Result<Vec<Result<Slice, AllocError>>, AllocError>
+    requires { AreReady (asked_of subject.now) taken.items }
+    ensures { (whole : Search) → AreTakenOver (asked_of subject.now) whole taken.items →
+        IfOk result (λ slices. AreSlices (asked_of subject.now) whole slices.items) }
+{
+    let examine = |slice: Result<Slice, AllocError>| -> Result<Slice, AllocError>
+        requires { IfOk slice (λ s. IsSearch (asked_of subject.now) s.search) }
+        ensures { (whole : Search) → IfOk slice (IsTaken (asked_of subject.entry.now) whole) →
+            IfOk result (IsSlice (asked_of subject.entry.now) whole) }
+    { examined(alloc, subject, slice) };
+    let made = thread::map_vec(rt, taken, &examine)?;
+    Ok(made)
 }

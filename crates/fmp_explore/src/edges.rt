@@ -1,5 +1,7 @@
 //! The events between the states of a search, and who acted by them. They tell where to look for a task that can never
 //! go on: nothing is claimed of them.
+ghost use Rattle.std.specs.Prelude.{◌≡◌, [], false, true};
+
 use crate::actors::ActorBits;
 use crate::spreading::spread;
 use crate::targets::{EnteredStates, TargetList, at, low_word};
@@ -37,7 +39,13 @@ fn terminated(call: Call, reply: Option<Reply>) -> Option<u8> {
 
 impl Edges {
     /// No state was examined, in a system of this many tasks.
-    pub fn new(alloc: Global, tasks: usize) -> Edges {
+    pub fn new(alloc: Global, tasks: usize) -> Edges
+        ensures targets { result.targets.count ≡ 0 }
+        ensures ends { result.ends.items ≡ [] }
+        ensures waiting { result.waiting.items ≡ [] }
+        ensures tasks { result.tasks ≡ tasks }
+        ensures lost { result.lost ≡ false }
+    {
         Edges {
             targets: TargetList::new(alloc),
             actors: ActorBits::new(alloc, tasks),
@@ -49,17 +57,27 @@ impl Edges {
     }
 
     /// Whether some of the events are missing, since memory ran out.
-    pub fn is_lost(&self) -> bool {
+    pub fn is_lost(&self) -> bool
+        ensures { result ≡ self.now.lost }
+    {
         self.lost
     }
 
     /// How many states were examined, if none of their events is missing.
-    pub fn len(&self) -> u32 {
+    pub fn len(&self) -> u32
+        ensures { result ≡ self.now.targets.count }
+    {
         self.targets.len()
     }
 
     /// Gives up: all is forgotten, and nothing more is noted.
-    pub fn give_up(&mut self, alloc: Global) {
+    pub fn give_up(&mut self, alloc: Global)
+        ensures targets { self.new.targets.count ≡ 0 }
+        ensures ends { self.new.ends.items ≡ [] }
+        ensures waiting { self.new.waiting.items ≡ [] }
+        ensures tasks { self.new.tasks ≡ self.old.tasks }
+        ensures lost { self.new.lost ≡ true }
+    {
         self.lost = true;
         self.targets = TargetList::new(alloc);
         self.actors.clear(alloc);
@@ -175,7 +193,9 @@ impl Edges {
     }
 
     /// The states that can go on only by an interrupt, though a task that may not rest waits.
-    pub fn waiting(&self) -> &[u32] {
+    pub fn waiting(&self) -> &[u32]
+        ensures { result.now ≡ self.now.waiting.items }
+    {
         &self.waiting
     }
 
@@ -188,7 +208,7 @@ impl Edges {
         for state in &self.ends {
             self.actors.set(*state, self.tasks);
         }
-        spread(alloc, &self.targets, seen, &mut self.actors)
+        spread(alloc, &self.targets, seen, &mut self.actors, self.tasks)
     }
 
     /// A bit for each task: whether there is a state from which it acts in no state, and from which no end can be
@@ -206,7 +226,8 @@ impl Edges {
         self.actors.has(state, usize::from(t))
     }
 
-    /// Whether a deadlock can be reached from a state, or one in which an event was left out, as `spread` noted.
+    /// Whether a deadlock can be reached from a state, or one in which an event was left out, as `spread` noted: this
+    /// may be missing where each task acts in the state or in one that can be reached from it.
     pub fn ends_from(&self, state: u32) -> bool {
         self.actors.has(state, self.tasks)
     }

@@ -1,12 +1,14 @@
 //! What a search notes on its way: candidates for findings, and what was ever done.
-ghost use Rattle.std.specs.Prelude.{◌≡◌, IfOk};
+ghost use Rattle.std.specs.Prelude.{◌≡◌, ◌&&◌, [], IfOk, false, length, nat_le, not};
 ghost use Rattle.std.specs.List.{list_any};
 ghost use Rattle.fmp_schedules.specs.Schedules.{is_any_broken};
 ghost use Rattle.fmp_schedules.specs.Monitors.{is_any_broken_in, is_broken, is_broken_in};
 ghost use Rattle.fmp_question.specs.Sites.{is_bad as is_bad_line};
+ghost use Rattle.fmp_explore.specs.Noted.{events_to, goes_on_beside};
 
 use crate::outlooks::Outlooks;
-use fmp_base::{Event, Line};
+use crate::stretching::task_site;
+use fmp_base::{Event, Line, System};
 use fmp_code::Vm;
 use fmp_kernel::Kernel;
 use fmp_monitors::{has_premise, is_premise};
@@ -51,8 +53,6 @@ pub struct Notes {
     pub coverage: Coverage,
     /// For each monitor of the question, whether what its sentence speaks of has come.
     premises: Vec<bool>,
-    /// The last call of each task in the state that is examined: where it waits, the one in which it does.
-    pub sites: Vec<CallSite>,
     /// How many events did something.
     pub events: u64,
 }
@@ -68,7 +68,12 @@ pub struct PathEnd<'a> {
 
 impl<'a> PathEnd<'a> {
     /// The list, where these states were seen. Where none was, no events lead to the state.
-    pub fn among(self, seen: &'a Seen) -> Path<'a> {
+    pub fn among(self, seen: &'a Seen) -> Path<'a>
+        ensures after { result.end.after.now ≡ self.entry.after.now }
+        ensures state { result.end.state ≡ self.entry.state }
+        ensures last { result.end.last ≡ self.entry.last }
+        ensures seen { result.seen.now ≡ seen.now }
+    {
         Path { end: self, seen }
     }
 }
@@ -82,7 +87,10 @@ pub struct Path<'a> {
 
 impl Path<'_> {
     /// The events. `AllocError` if memory runs out.
-    pub fn events(&self, alloc: Global) -> Result<Vec<Event>, AllocError> {
+    pub fn events(&self, alloc: Global) -> Result<Vec<Event>, AllocError>
+        ensures { IfOk result (λ events. events.items
+            ≡ events_to self.now.seen.now.links self.now.end.after.now self.now.end.state self.now.end.last) }
+    {
         let mut events = Vec::from_slice(alloc, self.end.after)?;
         events.extend_from_slice(&self.seen.path(alloc, self.end.state)?)?;
         if let Some(e) = self.end.last {
@@ -94,7 +102,9 @@ impl Path<'_> {
 
 /// Whether a search goes on beside a finding where only the first is asked for: a body that goes on for ever hides
 /// nothing else.
-pub fn is_beside(found: &Finding) -> bool {
+pub fn is_beside(found: &Finding) -> bool
+    ensures { result ≡ goes_on_beside found.now.kind }
+{
     matches!(found.kind, FindingKind::Endless(_))
 }
 
@@ -170,30 +180,51 @@ fn tells_premise(monitor: &Monitor, lines: &[Line]) -> bool {
     }
 }
 
+/// The call to which a line belongs that a kernel has just told: that of the stretch, or where a wait ends that of the
+/// task that waited.
+fn site_of(
+    kernel: &Kernel<Vm<'_>>,
+    sys: &System,
+    line: &Line,
+    made: Option<CallSite>,
+) -> Option<CallSite> {
+    match line {
+        Line::Gets { task, .. } => task_site(kernel, sys, *task),
+        _ => made,
+    }
+}
+
 impl Notes {
     /// Nothing is noted yet, and nothing can be covered.
-    pub fn new(alloc: Global) -> Notes {
+    pub fn new(alloc: Global) -> Notes
+        ensures candidates { result.candidates.items ≡ [] }
+        ensures known { result.outlooks.known.items ≡ [] }
+        ensures unknown { result.outlooks.unknown.items ≡ [] }
+        ensures changed { result.outlooks.changed ≡ false }
+        ensures premises { result.premises.items ≡ [] }
+        ensures events { result.events ≡ 0 }
+    {
         Notes {
             candidates: Vec::new(alloc),
             outlooks: Outlooks::new(alloc),
             coverage: Coverage::nothing(alloc),
             premises: Vec::new(alloc),
-            sites: Vec::new(alloc),
             events: 0,
         }
     }
 
-    /// Nothing is noted yet of the system of a kernel but what is known of bodies that may go on for ever. `AllocError`
-    /// if memory runs out.
-    pub fn again(
-        &self,
-        alloc: Global,
-        subject: &SearchSubject<'_>,
-        kernel: &Kernel<Vm<'_>>,
-    ) -> Result<Notes, AllocError> {
+    /// Nothing is noted yet but what is known of bodies that may go on for ever, and nothing can be covered.
+    /// `AllocError` if memory runs out.
+    pub fn again(&self, alloc: Global) -> Result<Notes, AllocError>
+        ensures candidates { IfOk result (λ notes. notes.candidates.items ≡ []) }
+        ensures known { IfOk result (λ notes. notes.outlooks.known.items ≡ self.now.outlooks.known.items) }
+        ensures unknown { IfOk result (λ notes. notes.outlooks.unknown.items ≡ self.now.outlooks.unknown.items) }
+        ensures changed { IfOk result (λ notes. notes.outlooks.changed ≡ false) }
+        ensures premises { IfOk result (λ notes. notes.premises.items ≡ []) }
+        ensures events { IfOk result (λ notes. notes.events ≡ 0) }
+    {
         let mut notes = Notes::new(alloc);
         notes.outlooks = self.outlooks.again(alloc)?;
-        notes.cover(alloc, subject, kernel)?;
         Ok(notes)
     }
 
@@ -239,12 +270,16 @@ impl Notes {
     }
 
     /// What was ever done, which is forgotten.
-    pub fn take_coverage(&mut self, alloc: Global) -> Coverage {
+    pub fn take_coverage(&mut self, alloc: Global) -> Coverage
+        ensures { result ≡ self.old.coverage }
+    {
         mem::replace(&mut self.coverage, Coverage::nothing(alloc))
     }
 
     /// For each monitor, whether what its sentence speaks of has come, which is forgotten.
-    pub fn take_premises(&mut self, alloc: Global) -> Vec<bool> {
+    pub fn take_premises(&mut self, alloc: Global) -> Vec<bool>
+        ensures { result.items ≡ self.old.premises.items }
+    {
         mem::replace(&mut self.premises, Vec::new(alloc))
     }
 
@@ -258,13 +293,18 @@ impl Notes {
     }
 
     /// Whether a candidate has at most this many steps, and the search does not go on beside it.
-    pub fn has_within(&self, depth: usize) -> bool {
+    pub fn has_within(&self, depth: usize) -> bool
+        ensures { result ≡ list_any (λ known. nat_le (length known.finding.steps.items) depth
+            && not (goes_on_beside known.finding.kind)) self.now.candidates.items }
+    {
         self.candidates.iter().any(|known| known.finding.steps.len() <= depth
             && !is_beside(&known.finding))
     }
 
     /// Whether anything beside which the search does not go on is noted.
-    pub fn has_any(&self) -> bool {
+    pub fn has_any(&self) -> bool
+        ensures { result ≡ list_any (λ known. not (goes_on_beside known.finding.kind)) self.now.candidates.items }
+    {
         self.candidates
             .iter()
             .any(|known| !is_beside(&known.finding))
@@ -305,14 +345,6 @@ impl Notes {
         self.note(alloc, path, kind, site, None)
     }
 
-    /// The call to which a line belongs: that of the stretch, or where a wait ends that of the task that waited.
-    fn site_of(&self, line: &Line, made: Option<CallSite>) -> Option<CallSite> {
-        match line {
-            Line::Gets { task, .. } => self.sites.get(usize::from(*task)).copied(),
-            _ => made,
-        }
-    }
-
     /// Notes a line that a kernel has just told at this place, by an event that made this call, if it made one, or by
     /// setup: whether it must never be told.
     fn note_line(
@@ -328,7 +360,7 @@ impl Notes {
         ensures { IfOk result (λ found. found ≡ is_bad_line subject.now.image.now.system subject.now.question.now
             kernel.now.world line.now) }
     {
-        let site = self.site_of(line, made);
+        let site = site_of(kernel, subject.image.system(), line, made);
         self.coverage.note_line(line, site);
         let bad = is_bad(kernel, subject.image.system(), subject.question, line);
         if bad {

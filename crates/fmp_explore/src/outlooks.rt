@@ -1,5 +1,5 @@
 //! Which bodies go on for ever, as far as that was looked at: what is known of the contexts that were broken last.
-ghost use Rattle.std.specs.Prelude.{◌<◌, ◌≡◌, length};
+ghost use Rattle.std.specs.Prelude.{◌<◌, ◌≡◌, [], IfOk, false, length};
 ghost use Rattle.fmp_code.specs.Vms.{IsContext};
 
 use fmp_code::{MachineContext, Vm};
@@ -37,7 +37,11 @@ fn is_of(known: &Known, actor: &Actor<MachineContext>) -> bool {
 
 impl Outlooks {
     /// Nothing is known.
-    pub fn new(alloc: Global) -> Outlooks {
+    pub fn new(alloc: Global) -> Outlooks
+        ensures known { result.known.items ≡ [] }
+        ensures unknown { result.unknown.items ≡ [] }
+        ensures changed { result.changed ≡ false }
+    {
         Outlooks {
             known: Vec::new(alloc),
             next: 0,
@@ -47,7 +51,11 @@ impl Outlooks {
     }
 
     /// The same is known, and nothing was remembered since. `AllocError` if memory runs out.
-    pub fn again(&self, alloc: Global) -> Result<Outlooks, AllocError> {
+    pub fn again(&self, alloc: Global) -> Result<Outlooks, AllocError>
+        ensures known { IfOk result (λ again. again.known.items ≡ self.now.known.items) }
+        ensures unknown { IfOk result (λ again. again.unknown.items ≡ self.now.unknown.items) }
+        ensures changed { IfOk result (λ again. again.changed ≡ false) }
+    {
         Ok(Outlooks {
             known: Vec::from_slice(alloc, &self.known)?,
             next: self.next,

@@ -1,18 +1,20 @@
-//! How a search goes on: it examines the next state, or a round of slices of the next states.
-ghost use Rattle.std.specs.Prelude.{◌≡◌, ◌+◌, ◌<◌, ◌≤◌, All, IfOk, OnOk, length};
-ghost use Rattle.fmp_explore.specs.Searching.{IsKernelOf, IsSearching};
-ghost use Rattle.fmp_explore.specs.Slices.{IsInRound, IsSlice};
+//! How a search goes on: it examines the next state; or it enters a round of slices, while threads examine those of the
+//! next round.
+ghost use Rattle.std.specs.Prelude.{◌≡◌, ◌+◌, ◌<◌, ◌≤◌, [], IfOk, OnOk, length};
+ghost use Rattle.fmp_explore.specs.Searching.{IsKernelOf, IsSearch, IsSearching};
+ghost use Rattle.fmp_explore.specs.Slices.{AreReady, AreSlices, AreTakenOver, IsInRound, IsSlice, IsTaken};
 ghost use Rattle.fmp_explore.specs.declared.searches.Search.{Search};
-ghost use Rattle.fmp_witness.specs.Asked.{asked_of};
+ghost use Rattle.fmp_witness.specs.Asked.{Asked, asked_of};
 
 use crate::crew::Crew;
 use crate::searches::Search;
 use crate::searching::SearchWatcher;
-use crate::slices::{Slice, Span};
+use crate::slices::{Slice, Span, examined};
 use fmp_code::Vm;
 use fmp_kernel::Kernel;
 use fmp_witness::SearchSubject;
 use std::alloc::{AllocError, Global};
+use std::mem;
 
 /// How many states there are when it is told first how far the search has come.
 const TOLD_FIRST: usize = 1 << 14;
@@ -30,10 +32,14 @@ const PAUSE_LEAST: u32 = 1 << 11;
 const PAUSE_MOST: u32 = 1 << 16;
 
 /// How far a search has come.
-#[derive(Clone, Copy)]
+#[derive(Drop)]
 pub struct Progress {
     /// The place of the state that is examined next.
     pub next: u32,
+    /// The slices of the next states, which are examined and not entered yet.
+    pub pending: Vec<Result<Slice, AllocError>>,
+    /// The place after the states of these slices.
+    pending_end: u32,
     /// How many states there were when it was told last how far the search has come.
     told: usize,
     /// The place from which on slices are made.
@@ -44,11 +50,14 @@ pub struct Progress {
 
 impl Progress {
     /// No state is examined.
-    pub fn new() -> Progress
-        ensures { result.next ≡ 0 }
+    pub fn new(alloc: Global) -> Progress
+        ensures next { result.next ≡ 0 }
+        ensures pending { result.pending.items ≡ [] }
     {
         Progress {
             next: 0,
+            pending: Vec::new(alloc),
+            pending_end: 0,
             told: TOLD_FIRST / 2,
             slices: 0,
             pause: PAUSE_LEAST,
@@ -69,6 +78,29 @@ impl Progress {
     {
         self.pause = PAUSE_LEAST;
     }
+
+    /// Takes the slices that are not entered yet.
+    fn take_pending(&mut self, alloc: Global) -> Vec<Result<Slice, AllocError>>
+        ensures next { self.new.next ≡ self.old.next }
+        ensures pending { result.items ≡ self.old.pending.items }
+    {
+        mem::replace(&mut self.pending, Vec::new(alloc))
+    }
+
+    /// These slices, of the states of a span, are entered next, if all before them were entered.
+    fn put_pending(&mut self, alloc: Global, slices: Vec<Result<Slice, AllocError>>, span: Span)
+        ensures next { self.new.next ≡ self.old.next }
+        ensures pending { (asked : Asked) (whole : Search) → AreSlices asked whole slices.items →
+            AreSlices asked whole self.new.pending.items }
+    {
+        if span.first == self.next {
+            self.pending = slices;
+            self.pending_end = span.end;
+        } else {
+            self.pending = Vec::new(alloc);
+            self.pending_end = self.next;
+        }
+    }
 }
 
 /// The place after this one, if there is one; else this one.
@@ -76,6 +108,29 @@ fn place_after(place: u32) -> u32
     ensures { result ≤ place + 1 }
 {
     place.saturating_add(1)
+}
+
+/// Takes the last of the states that are handed over. `AllocError` if there was no memory for them, or there are none.
+fn take_last(taken: &mut Vec<Result<Slice, AllocError>>) -> Result<Slice, AllocError>
+    ensures taken { (asked : Asked) (whole : Search) → AreTakenOver asked whole taken.old.items →
+        AreTakenOver asked whole taken.new.items }
+    ensures last { (asked : Asked) (whole : Search) → AreTakenOver asked whole taken.old.items →
+        IfOk result (IsTaken asked whole) }
+{
+    taken.pop().unwrap_or(Err(AllocError))
+}
+
+/// Slices, and one more. `AllocError` if memory ran out for all of them, or runs out.
+fn with_last(
+    slices: Result<Vec<Result<Slice, AllocError>>, AllocError>,
+    last: Result<Slice, AllocError>,
+) -> Result<Vec<Result<Slice, AllocError>>, AllocError>
+    ensures { (asked : Asked) (whole : Search) → IfOk slices (λ made. AreSlices asked whole made.items) →
+        IfOk last (IsSlice asked whole) → IfOk result (λ made. AreSlices asked whole made.items) }
+{
+    let mut slices = slices?;
+    slices.push(last)?;
+    Ok(slices)
 }
 
 impl Search {
@@ -91,19 +146,24 @@ impl Search {
         most
     }
 
-    /// The states of the next round; none if there are not enough of them.
+    /// The states of the next round; none if there are not enough of them. Where no slices are pending, half of the
+    /// states are left for the round that is examined while this one is entered.
     fn next_span(&self, subject: &SearchSubject<'_>, jobs: usize, progress: &Progress) -> Span {
-        let first = progress.next;
+        let first = progress.next.max(progress.pending_end);
         let none = Span { first, end: first };
         if jobs < 2 || first < progress.slices {
             return none;
         }
+        let least = jobs.saturating_mul(SLICE_LEAST);
         let left = self.seen.len().saturating_sub(first as usize);
         let mut count = left.min(jobs.saturating_mul(SLICE_MOST));
+        if progress.pending.is_empty() && left >= least.saturating_mul(2) {
+            count = count.min(left / 2);
+        }
         if !subject.question.all && self.notes.has_any() {
             count = self.same_depth(first, count);
         }
-        if count < jobs.saturating_mul(SLICE_LEAST) {
+        if count < least {
             return none;
         }
         let end = (first as usize)
@@ -126,7 +186,9 @@ impl Search {
         requires there { progress.old.next < length self.old.seen.rows }
         requires top { IsKernelOf (asked_of subject.now) top.old }
         requires work { IsKernelOf (asked_of subject.now) work.old }
+        requires pending { AreSlices (asked_of subject.now) self.old progress.old.pending.items }
         ensures searching { OnOk result (IsSearching (asked_of subject.now) progress.new.next self.new) }
+        ensures pending { OnOk result (AreSlices (asked_of subject.now) self.new progress.new.pending.items) }
         ensures top { IsKernelOf (asked_of subject.now) top.new }
         ensures work { IsKernelOf (asked_of subject.now) work.new }
     {
@@ -188,7 +250,7 @@ impl Search {
         watcher: &mut W,
         progress: &mut Progress,
     ) -> Result<(), AllocError>
-        ensures { (whole : Search) → All (λ s. IfOk s (IsSlice (asked_of subject.now) whole)) slices.now →
+        ensures { (whole : Search) → AreSlices (asked_of subject.now) whole slices.now →
             IsInRound (asked_of subject.now) whole progress.old.next self.old →
             OnOk result (IsInRound (asked_of subject.now) whole progress.new.next self.new) }
     {
@@ -202,7 +264,102 @@ impl Search {
         Ok(())
     }
 
-    /// Examines the states of a round as slices. Those that cannot be entered are left.
+    /// Enters slices, and then examines states that are handed over: their slice then.
+    fn enter_first<W: SearchWatcher>(
+        &mut self,
+        alloc: Global,
+        subject: &SearchSubject<'_>,
+        pending: &[Result<Slice, AllocError>],
+        own: Result<Slice, AllocError>,
+        watcher: &mut W,
+        progress: &mut Progress,
+    ) -> Result<Result<Slice, AllocError>, AllocError>
+        requires own { IfOk own (λ slice. IsSearch (asked_of subject.now) slice.search) }
+        ensures entered { (whole : Search) → AreSlices (asked_of subject.now) whole pending.now →
+            IsInRound (asked_of subject.now) whole progress.old.next self.old →
+            OnOk result (IsInRound (asked_of subject.now) whole progress.new.next self.new) }
+        ensures own { (whole : Search) → IfOk own (IsTaken (asked_of subject.now) whole) →
+            IfOk result (λ made. IfOk made (IsSlice (asked_of subject.now) whole)) }
+    {
+        self.enter_all(alloc, subject, pending, watcher, progress)?;
+        Ok(examined(alloc, subject, own))
+    }
+
+    /// Enters slices, and then examines the states of one that is handed over, while the crew examines the others. Gives
+    /// the slices of the others, `AllocError` if memory ran out for all of them, and the slice of that one; `AllocError`
+    /// if memory ran out while slices were entered.
+    fn enter_with_crew<W: SearchWatcher, C: Crew>(
+        &mut self,
+        alloc: Global,
+        crew: &C,
+        subject: &SearchSubject<'_>,
+        pending: &[Result<Slice, AllocError>],
+        taken: Vec<Result<Slice, AllocError>>,
+        own: &mut Result<Slice, AllocError>,
+        watcher: &mut W,
+        progress: &mut Progress,
+    ) -> (
+        Result<Vec<Result<Slice, AllocError>>, AllocError>,
+        Result<Result<Slice, AllocError>, AllocError>,
+    )
+        requires crew { C.can_work crew.now }
+        requires taken { AreReady (asked_of subject.now) taken.items }
+        requires own { IfOk own.old (λ slice. IsSearch (asked_of subject.now) slice.search) }
+        ensures entered { (whole : Search) → AreSlices (asked_of subject.now) whole pending.now →
+            IsInRound (asked_of subject.now) whole progress.old.next self.old →
+            OnOk result.1 (IsInRound (asked_of subject.now) whole progress.new.next self.new) }
+        ensures slices { (whole : Search) → AreTakenOver (asked_of subject.now) whole taken.items →
+            IfOk result.0 (λ slices. AreSlices (asked_of subject.now) whole slices.items) }
+        ensures own { (whole : Search) → IfOk own.old (IsTaken (asked_of subject.now) whole) →
+            IfOk result.1 (λ made. IfOk made (IsSlice (asked_of subject.now) whole)) }
+    {
+        let survey = self;
+        let mut enter = || -> Result<Result<Slice, AllocError>, AllocError>
+            requires { IfOk own.now (λ slice. IsSearch (asked_of subject.now) slice.search) }
+            ensures entered { (whole : Search) → AreSlices (asked_of subject.entry.now) whole pending.entry.now →
+                IsInRound (asked_of subject.entry.now) whole progress.entry.now.next survey.entry.now →
+                OnOk result (IsInRound (asked_of subject.entry.now) whole progress.exit.now.next survey.exit.now) }
+            ensures own { (whole : Search) → IfOk own.entry.now (IsTaken (asked_of subject.entry.now) whole) →
+                IfOk result (λ made. IfOk made (IsSlice (asked_of subject.entry.now) whole)) }
+        {
+            let own = mem::replace(own, Err(AllocError));
+            survey.enter_first(alloc, subject, pending, own, watcher, progress)
+        };
+        crew.examine_beside(alloc, subject, taken, &mut enter)
+    }
+
+    /// Enters slices, and examines the last of those of the next round, while the crew examines the others. Gives all
+    /// slices of that round, in order.
+    fn enter_beside<W: SearchWatcher, C: Crew>(
+        &mut self,
+        alloc: Global,
+        crew: &C,
+        subject: &SearchSubject<'_>,
+        pending: &[Result<Slice, AllocError>],
+        taken: Vec<Result<Slice, AllocError>>,
+        last: Result<Slice, AllocError>,
+        watcher: &mut W,
+        progress: &mut Progress,
+    ) -> Result<Vec<Result<Slice, AllocError>>, AllocError>
+        requires crew { C.can_work crew.now }
+        requires taken { AreReady (asked_of subject.now) taken.items }
+        requires last { IfOk last (λ slice. IsSearch (asked_of subject.now) slice.search) }
+        ensures entered { (whole : Search) → AreSlices (asked_of subject.now) whole pending.now →
+            IsInRound (asked_of subject.now) whole progress.old.next self.old →
+            OnOk result (IsInRound (asked_of subject.now) whole progress.new.next self.new) }
+        ensures slices { (whole : Search) → AreTakenOver (asked_of subject.now) whole taken.items →
+            IfOk last (IsTaken (asked_of subject.now) whole) →
+            IfOk result (λ slices. AreSlices (asked_of subject.now) whole slices.items) }
+    {
+        let mut own = last;
+        let (slices, made) = self.enter_with_crew(
+            alloc, crew, subject, pending, taken, &mut own, watcher, progress,
+        );
+        with_last(slices, made?)
+    }
+
+    /// Enters the slices that are pending, while the states of a span are examined in others. Those that cannot be
+    /// entered are left.
     fn go_on_beside<W: SearchWatcher, C: Crew>(
         &mut self,
         alloc: Global,
@@ -214,14 +371,46 @@ impl Search {
     ) -> Result<(), AllocError>
         requires searching { IsSearching (asked_of subject.now) progress.old.next self.old }
         requires there { progress.old.next < length self.old.seen.rows }
+        requires pending { AreSlices (asked_of subject.now) self.old progress.old.pending.items }
         requires crew { C.can_work crew.now }
-        ensures { OnOk result (IsSearching (asked_of subject.now) progress.new.next self.new) }
+        ensures searching { OnOk result (IsSearching (asked_of subject.now) progress.new.next self.new) }
+        ensures pending { OnOk result (AreSlices (asked_of subject.now) self.new progress.new.pending.items) }
     {
-        let slices = crew.slices(alloc, subject, self, span)?;
-        self.enter_all(alloc, subject, &slices, watcher, progress)
+        let mut taken = crew.hand_over(alloc, subject, self, span)?;
+        let last = take_last(&mut taken);
+        let pending = progress.take_pending(alloc);
+        let slices = self.enter_beside(
+            alloc, crew, subject, &pending, taken, last, watcher, progress,
+        )?;
+        progress.put_pending(alloc, slices, span);
+        Ok(())
     }
 
-    /// Examines the next state, or the states of the next round.
+    /// Enters the slices that are pending. Those that cannot be entered are left.
+    fn enter_pending<W: SearchWatcher>(
+        &mut self,
+        alloc: Global,
+        subject: &SearchSubject<'_>,
+        watcher: &mut W,
+        progress: &mut Progress,
+    ) -> Result<(), AllocError>
+        requires searching { IsSearching (asked_of subject.now) progress.old.next self.old }
+        requires there { progress.old.next < length self.old.seen.rows }
+        requires pending { AreSlices (asked_of subject.now) self.old progress.old.pending.items }
+        ensures searching { OnOk result (IsSearching (asked_of subject.now) progress.new.next self.new) }
+        ensures pending { OnOk result (AreSlices (asked_of subject.now) self.new progress.new.pending.items) }
+    {
+        let pending = progress.take_pending(alloc);
+        self.enter_all(alloc, subject, &pending, watcher, progress)?;
+        let none = Span {
+            first: progress.next,
+            end: progress.next,
+        };
+        progress.put_pending(alloc, Vec::new(alloc), none);
+        Ok(())
+    }
+
+    /// Examines the next state, or enters the next states and examines others beside that.
     pub fn advance<'a, W: SearchWatcher, C: Crew>(
         &mut self,
         alloc: Global,
@@ -234,16 +423,21 @@ impl Search {
     ) -> Result<(), AllocError>
         requires searching { IsSearching (asked_of subject.now) progress.old.next self.old }
         requires there { progress.old.next < length self.old.seen.rows }
+        requires pending { AreSlices (asked_of subject.now) self.old progress.old.pending.items }
         requires crew { C.can_work crew.now }
         requires top { IsKernelOf (asked_of subject.now) top.old }
         requires work { IsKernelOf (asked_of subject.now) work.old }
         ensures searching { OnOk result (IsSearching (asked_of subject.now) progress.new.next self.new) }
+        ensures pending { OnOk result (AreSlices (asked_of subject.now) self.new progress.new.pending.items) }
         ensures top { IsKernelOf (asked_of subject.now) top.new }
         ensures work { IsKernelOf (asked_of subject.now) work.new }
     {
         let span = self.next_span(subject, crew.jobs(), progress);
         if span.first < span.end {
             return self.go_on_beside(alloc, crew, subject, span, watcher, progress);
+        }
+        if !progress.pending.is_empty() {
+            return self.enter_pending(alloc, subject, watcher, progress);
         }
         self.go_on(alloc, subject, top, work, watcher, progress)
     }

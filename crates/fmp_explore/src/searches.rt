@@ -1,5 +1,5 @@
 //! What a search keeps: the states that it has seen, and what it has noted on its way.
-ghost use Rattle.std.specs.Prelude.{◌≡◌, List, IfOk, OnOk, false, true};
+ghost use Rattle.std.specs.Prelude.{◌≡◌, ◌-◌, List, IfOk, None, OnOk, false, length, true};
 ghost use Rattle.std.specs.List.{list_all, list_any};
 ghost use Rattle.fmp_base.specs.Meanings.{World};
 ghost use Rattle.fmp_instructions.specs.Instructions.{BodyTables};
@@ -25,6 +25,7 @@ ghost use Rattle.fmp_explore.specs.Searching.{
   came_on,
   watched_in,
 };
+ghost use Rattle.fmp_explore.specs.Noted.{depth_at, events_to};
 ghost use Rattle.fmp_witness.specs.Asked.{asked_of};
 
 use crate::edges::Edges;
@@ -100,12 +101,16 @@ impl Search {
     }
 
     /// What was ever done, which it forgets.
-    pub fn take_coverage(&mut self, alloc: Global) -> Coverage {
+    pub fn take_coverage(&mut self, alloc: Global) -> Coverage
+        ensures { result ≡ self.old.notes.coverage }
+    {
         self.notes.take_coverage(alloc)
     }
 
     /// For each monitor, whether what its sentence speaks of ever came, which it forgets.
-    pub fn take_premises(&mut self, alloc: Global) -> Vec<bool> {
+    pub fn take_premises(&mut self, alloc: Global) -> Vec<bool>
+        ensures { result.items ≡ self.old.notes.premises.items }
+    {
         self.notes.take_premises(alloc)
     }
 
@@ -120,7 +125,10 @@ impl Search {
         alloc: Global,
         question: &Question,
         state: u32,
-    ) -> Result<Vec<Event>, AllocError> {
+    ) -> Result<Vec<Event>, AllocError>
+        ensures { IfOk result (λ events. events.items
+            ≡ events_to self.now.seen.links question.now.after.items state None) }
+    {
         let end = PathEnd {
             after: &question.after,
             state,
@@ -130,7 +138,9 @@ impl Search {
     }
 
     /// How many events lead to a state from the one in which the search began.
-    pub fn depth_of(&self, state: u32) -> u32 {
+    pub fn depth_of(&self, state: u32) -> u32
+        ensures { result ≡ depth_at self.now.seen.links state }
+    {
         match self.seen.link(state) {
             Some(link) => link.depth,
             None => 0,
@@ -138,7 +148,9 @@ impl Search {
     }
 
     /// How many events lead to the state that was reached last.
-    pub fn depth(&self) -> u32 {
+    pub fn depth(&self) -> u32
+        ensures { result ≡ depth_at self.now.seen.links (length self.now.seen.links - 1) }
+    {
         match self.seen.last() {
             Some(link) => link.depth,
             None => 0,

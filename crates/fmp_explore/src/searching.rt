@@ -4,6 +4,7 @@ ghost use Rattle.std.specs.Prelude.{length, true};
 ghost use Rattle.fmp_base.specs.Steps.{Nothing};
 ghost use Rattle.fmp_base.specs.Meanings.{World};
 ghost use Rattle.fmp_instructions.specs.declared.instructions.MachineContext.{MachineContext};
+ghost use Rattle.fmp_explore.specs.Noted.{told_at};
 ghost use Rattle.fmp_explore.specs.Searching.{
   AreMarks,
   CanStep,
@@ -33,7 +34,7 @@ ghost use Rattle.fmp_witness.specs.Asked.{asked_of};
 use crate::crew::Crew;
 use crate::rounds::Progress;
 use crate::searches::Search;
-use crate::stretching::{Ahead, task_sites};
+use crate::stretching::Ahead;
 use crate::trying::{Attempt, ExaminedState, StateMarks};
 use fmp_base::{Effect, Event};
 use fmp_code::Vm;
@@ -300,7 +301,6 @@ impl Search {
             idle: true,
             interrupted: false,
         };
-        task_sites(from, subject.image.system(), &mut self.notes.sites)?;
         self.edges.begin_state(alloc, self.seen.len());
         let mut next = 0;
         for _try in 0..end {
@@ -580,7 +580,9 @@ impl Search {
 
     /// Tells how far the search has come, if there are twice as many states as when that was told last. Gives how many
     /// there were when it was told last.
-    pub fn tell<W: SearchWatcher>(&self, watcher: &mut W, told: usize, examined: usize) -> usize {
+    pub fn tell<W: SearchWatcher>(&self, watcher: &mut W, told: usize, examined: usize) -> usize
+        ensures { result ≡ told_at told (length self.now.seen.rows) }
+    {
         if self.seen.len() < told.saturating_mul(2) {
             return told;
         }
@@ -605,7 +607,7 @@ impl Search {
         requires work { IsKernelOf (asked_of subject.now) work.old }
         ensures { IfOk result (HasEnded (asked_of subject.now) self.new) }
     {
-        let mut progress = Progress::new();
+        let mut progress = Progress::new(alloc);
         for _turn in 0..u32::MAX {
             if progress.next as usize >= self.seen.len() {
                 return Ok(self.last_ending());

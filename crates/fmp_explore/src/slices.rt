@@ -1,8 +1,10 @@
-//! Slices: states that a search keeps and has not examined yet, examined by a search of their own. What that finds is
-//! the same wherever it runs, so slices can be examined beside one another.
+//! Slices: states that a search keeps and has not examined yet, handed to a search of their own that examines them.
+//! What that finds is the same wherever it runs, so slices can be examined beside one another, and beside the search
+//! itself.
 ghost use Rattle.std.specs.Prelude.{◌≡◌, ◌-◌, ◌≤◌, IfOk, OnOk, Some, length, slice_get, true};
-ghost use Rattle.fmp_explore.specs.Searching.{Grows, IsKernelOf, IsSearch};
-ghost use Rattle.fmp_explore.specs.Slices.{HasExaminedRow, HasExaminedRows, HasKeptRow, IsSlice, IsSliceOf};
+ghost use Rattle.fmp_explore.specs.Searching.{Grows, HasExamined, IsKernelOf, IsSearch, Stays};
+ghost use Rattle.fmp_explore.specs.Slices.{HasExaminedFirst, HasKeptRow, HasTaken, IsSlice, IsSliceOf, IsTaken};
+ghost use Rattle.fmp_explore.specs.declared.searches.Search.{Search};
 ghost use Rattle.fmp_witness.specs.Asked.{asked_of};
 
 use crate::edges::Edges;
@@ -33,7 +35,7 @@ impl Span {
     }
 }
 
-/// States of another search, the whole one, and the search in which they were examined. They are its first states.
+/// States of another search, the whole one, and the search to which they are handed. They are its first states.
 #[derive(Drop)]
 pub struct Slice {
     pub span: Span,
@@ -41,21 +43,15 @@ pub struct Slice {
 }
 
 impl Search {
-    /// A search with no state yet that keeps rows as this one does, of the system of a kernel. `AllocError` if memory
-    /// runs out.
-    fn again(
-        &self,
-        alloc: Global,
-        subject: &SearchSubject<'_>,
-        kernel: &Kernel<Vm<'_>>,
-    ) -> Result<Search, AllocError>
+    /// A search with no state yet that keeps rows as this one does. `AllocError` if memory runs out.
+    fn again(&self, alloc: Global, subject: &SearchSubject<'_>) -> Result<Search, AllocError>
         requires { IsSearch (asked_of subject.now) self.now }
         ensures { IfOk result (IsSliceOf (asked_of subject.now) self.now) }
     {
         let rows = self.rows.again(alloc, subject)?;
         let tries = Vec::from_slice(alloc, &self.tries)?;
         let seen = Seen::new(alloc, subject.question.states)?;
-        let notes = self.notes.again(alloc, subject, kernel)?;
+        let notes = self.notes.again(alloc)?;
         Ok(Search {
             rows,
             tries,
@@ -102,17 +98,6 @@ impl Search {
         Ok(())
     }
 
-    /// Keeps the rows of states of another search. `AllocError` if memory runs out.
-    #[tactic(auto, using(crate::proofs::SearchStepLemmas::same_grows))]
-    fn take_rows(&mut self, alloc: Global, whole: &Search, span: Span) -> Result<(), AllocError>
-        ensures { OnOk result (Grows self.old self.new) }
-    {
-        for place in span.first..span.end {
-            self.take_row(alloc, whole, place)?;
-        }
-        Ok(())
-    }
-
     /// Whether the state at a place has this row.
     pub fn has_at(&self, place: u32, row: &[u8]) -> bool
         ensures { result ≡ true → slice_get self.now.seen.rows place ≡ Some row.now }
@@ -123,49 +108,27 @@ impl Search {
         is_same(self.seen.row(place), row)
     }
 
-    /// Examines the state at a place, if it has this row.
-    fn examine_row<'a>(
-        &mut self,
-        alloc: Global,
-        subject: &SearchSubject<'a>,
-        top: &mut Kernel<Vm<'a>>,
-        work: &mut Kernel<Vm<'a>>,
-        row: &[u8],
-        k: u32,
-    ) -> Result<(), AllocError>
-        requires survey { IsSearch (asked_of subject.now) self.old }
-        requires top { IsKernelOf (asked_of subject.now) top.old }
-        requires work { IsKernelOf (asked_of subject.now) work.old }
-        ensures examined { OnOk result (HasExaminedRow (asked_of subject.now) self.old self.new row.now) }
-        ensures top { IsKernelOf (asked_of subject.now) top.new }
-        ensures work { IsKernelOf (asked_of subject.now) work.new }
+    /// Looks whether the state at a place has this row. If not, nothing is sure.
+    #[tactic(auto, using(crate::proofs::SearchStepLemmas::same_grows))]
+    fn check_row(&mut self, alloc: Global, k: u32, row: &[u8])
+        ensures grows { Grows self.old self.new }
+        ensures there { self.new.sure ≡ true → slice_get self.new.seen.rows k ≡ Some row.now }
     {
-        if !self.has_at(k, row) {
-            self.sure = false;
-            self.edges.give_up(alloc);
-            return Ok(());
+        if self.has_at(k, row) {
+            return;
         }
-        self.examine(alloc, subject, top, work, k)
+        self.sure = false;
+        self.edges.give_up(alloc);
     }
 
-    /// Examines its first states, which are those of another search at these places.
-    fn examine_rows<'a>(
-        &mut self,
-        alloc: Global,
-        subject: &SearchSubject<'a>,
-        top: &mut Kernel<Vm<'a>>,
-        work: &mut Kernel<Vm<'a>>,
-        whole: &Search,
-        span: Span,
-    ) -> Result<(), AllocError>
-        requires survey { IsSearch (asked_of subject.now) self.old }
-        requires top { IsKernelOf (asked_of subject.now) top.old }
-        requires work { IsKernelOf (asked_of subject.now) work.old }
-        ensures { OnOk result (HasExaminedRows (asked_of subject.now) whole.now span.first span.end self.old self.new) }
+    /// Keeps the rows of states of another search as those of its first states. `AllocError` if memory runs out.
+    fn take_rows(&mut self, alloc: Global, whole: &Search, span: Span) -> Result<(), AllocError>
+        ensures { OnOk result (HasTaken whole.now span.first span.end self.old self.new) }
     {
         for place in span.first..span.end {
+            self.take_row(alloc, whole, place)?;
             let row = whole.seen.row(place);
-            self.examine_row(alloc, subject, top, work, row, place - span.first)?;
+            self.check_row(alloc, place - span.first, row);
         }
         Ok(())
     }
@@ -181,61 +144,143 @@ impl Search {
         }
     }
 
-    /// Examines states of this search in a search of their own, with a kernel that is put into each of them and one on
-    /// which events are tried.
-    fn slice_on<'a>(
-        &self,
-        alloc: Global,
-        subject: &SearchSubject<'a>,
-        top: &mut Kernel<Vm<'a>>,
-        work: &mut Kernel<Vm<'a>>,
-        span: Span,
-    ) -> Result<Slice, AllocError>
-        requires survey { IsSearch (asked_of subject.now) self.now }
-        requires top { IsKernelOf (asked_of subject.now) top.old }
-        requires work { IsKernelOf (asked_of subject.now) work.old }
-        ensures { IfOk result (IsSlice (asked_of subject.now) self.now) }
-    {
-        let span = self.within(span);
-        let mut search = self.again(alloc, subject, top)?;
-        search.take_rows(alloc, self, span)?;
-        search.examine_rows(alloc, subject, top, work, self, span)?;
-        Ok(Slice { span, search })
-    }
-
-    /// The same, with a kernel of its own on which events are tried.
-    #[tactic(none)]
-    fn slice_with<'a>(
-        &self,
-        alloc: Global,
-        subject: &SearchSubject<'a>,
-        top: &mut Kernel<Vm<'a>>,
-        span: Span,
-    ) -> Result<Slice, AllocError>
-        requires survey { IsSearch (asked_of subject.now) self.now }
-        requires top { IsKernelOf (asked_of subject.now) top.old }
-        ensures { IfOk result (IsSlice (asked_of subject.now) self.now) }
-    {
-        let mut work = kernel_of(alloc, subject.image, subject.n)?;
-        let slice = self.slice_on(alloc, subject, top, &mut work, span);
-        drop(work);
-        slice
-    }
-
-    /// The same, with both kernels of its own. `AllocError` if memory runs out.
-    #[tactic(none)]
-    pub fn slice(
+    /// Hands states of this search to a search of their own. `AllocError` if memory runs out.
+    pub fn hand_over(
         &self,
         alloc: Global,
         subject: &SearchSubject<'_>,
         span: Span,
     ) -> Result<Slice, AllocError>
         requires { IsSearch (asked_of subject.now) self.now }
-        ensures { IfOk result (IsSlice (asked_of subject.now) self.now) }
+        ensures { IfOk result (IsTaken (asked_of subject.now) self.now) }
+    {
+        let span = self.within(span);
+        let mut search = self.again(alloc, subject)?;
+        search.take_rows(alloc, self, span)?;
+        Ok(Slice { span, search })
+    }
+
+    /// Makes room for what is done in the system of a kernel. `AllocError` if memory runs out.
+    fn cover(
+        &mut self,
+        alloc: Global,
+        subject: &SearchSubject<'_>,
+        kernel: &Kernel<Vm<'_>>,
+    ) -> Result<(), AllocError>
+        ensures { OnOk result (Stays self.old self.new) }
+    {
+        self.notes.cover(alloc, subject, kernel)
+    }
+
+    /// Examines the state at a place, if there is one. If not, nothing is sure.
+    fn examine_there<'a>(
+        &mut self,
+        alloc: Global,
+        subject: &SearchSubject<'a>,
+        top: &mut Kernel<Vm<'a>>,
+        work: &mut Kernel<Vm<'a>>,
+        k: u32,
+    ) -> Result<(), AllocError>
+        requires survey { IsSearch (asked_of subject.now) self.old }
+        requires top { IsKernelOf (asked_of subject.now) top.old }
+        requires work { IsKernelOf (asked_of subject.now) work.old }
+        ensures examined { OnOk result (HasExamined (asked_of subject.now) self.old self.new k) }
+        ensures top { IsKernelOf (asked_of subject.now) top.new }
+        ensures work { IsKernelOf (asked_of subject.now) work.new }
+    {
+        if k as usize >= self.seen.len() {
+            self.sure = false;
+            self.edges.give_up(alloc);
+            return Ok(());
+        }
+        self.examine(alloc, subject, top, work, k)
+    }
+
+    /// Examines the first states, this many.
+    fn examine_first<'a>(
+        &mut self,
+        alloc: Global,
+        subject: &SearchSubject<'a>,
+        top: &mut Kernel<Vm<'a>>,
+        work: &mut Kernel<Vm<'a>>,
+        count: u32,
+    ) -> Result<(), AllocError>
+        requires survey { IsSearch (asked_of subject.now) self.old }
+        requires top { IsKernelOf (asked_of subject.now) top.old }
+        requires work { IsKernelOf (asked_of subject.now) work.old }
+        ensures { OnOk result (HasExaminedFirst (asked_of subject.now) count self.old self.new) }
+    {
+        for k in 0..count {
+            self.examine_there(alloc, subject, top, work, k)?;
+        }
+        Ok(())
+    }
+}
+
+impl Slice {
+    /// Examines its states, with a kernel that is put into each of them and one on which events are tried.
+    fn examine_on<'a>(
+        &mut self,
+        alloc: Global,
+        subject: &SearchSubject<'a>,
+        top: &mut Kernel<Vm<'a>>,
+        work: &mut Kernel<Vm<'a>>,
+    ) -> Result<(), AllocError>
+        requires survey { IsSearch (asked_of subject.now) self.old.search }
+        requires top { IsKernelOf (asked_of subject.now) top.old }
+        requires work { IsKernelOf (asked_of subject.now) work.old }
+        ensures { (whole : Search) → IsTaken (asked_of subject.now) whole self.old →
+            OnOk result (IsSlice (asked_of subject.now) whole self.new) }
+    {
+        self.search.cover(alloc, subject, top)?;
+        let count = self.span.len();
+        self.search.examine_first(alloc, subject, top, work, count)
+    }
+
+    /// The same, with a kernel of its own on which events are tried.
+    #[tactic(none)]
+    fn examine_with<'a>(
+        &mut self,
+        alloc: Global,
+        subject: &SearchSubject<'a>,
+        top: &mut Kernel<Vm<'a>>,
+    ) -> Result<(), AllocError>
+        requires survey { IsSearch (asked_of subject.now) self.old.search }
+        requires top { IsKernelOf (asked_of subject.now) top.old }
+        ensures { (whole : Search) → IsTaken (asked_of subject.now) whole self.old →
+            OnOk result (IsSlice (asked_of subject.now) whole self.new) }
+    {
+        let mut work = kernel_of(alloc, subject.image, subject.n)?;
+        let done = self.examine_on(alloc, subject, top, &mut work);
+        drop(work);
+        done
+    }
+
+    /// The same, with both kernels of its own. `AllocError` if memory runs out.
+    #[tactic(none)]
+    fn examine(&mut self, alloc: Global, subject: &SearchSubject<'_>) -> Result<(), AllocError>
+        requires { IsSearch (asked_of subject.now) self.old.search }
+        ensures { (whole : Search) → IsTaken (asked_of subject.now) whole self.old →
+            OnOk result (IsSlice (asked_of subject.now) whole self.new) }
     {
         let mut top = kernel_of(alloc, subject.image, subject.n)?;
-        let slice = self.slice_with(alloc, subject, &mut top, span);
+        let done = self.examine_with(alloc, subject, &mut top);
         drop(top);
-        slice
+        done
     }
+}
+
+/// A slice whose states are examined, of one for which there was memory. `AllocError` if memory runs out, or did.
+pub fn examined(
+    alloc: Global,
+    subject: &SearchSubject<'_>,
+    taken: Result<Slice, AllocError>,
+) -> Result<Slice, AllocError>
+    requires { IfOk taken (λ slice. IsSearch (asked_of subject.now) slice.search) }
+    ensures { (whole : Search) → IfOk taken (IsTaken (asked_of subject.now) whole) →
+        IfOk result (IsSlice (asked_of subject.now) whole) }
+{
+    let mut slice = taken?;
+    slice.examine(alloc, subject)?;
+    Ok(slice)
 }

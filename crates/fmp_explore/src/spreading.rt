@@ -1,6 +1,6 @@
 //! What can be reached from each state: its bits are spread to each state from which events lead to it.
 use crate::actors::ActorBits;
-use crate::targets::{TargetList, TargetVisitor, at};
+use crate::targets::{TargetList, TargetPlace, TargetVisitor, at};
 use fmp_visited::Seen;
 use std::alloc::{AllocError, Global};
 
@@ -8,20 +8,23 @@ use std::alloc::{AllocError, Global};
 /// except where long paths lead back to earlier states again and again.
 const SWEEPS: usize = 16;
 
+/// Few states are less than one in this many. What is kept of each of them takes 16 bytes.
+const FEW: u32 = 8;
+
 /// A sweep, in which each state takes the bits of its targets in one byte.
 #[derive(Drop)]
 struct Sweep<'a> {
     bits: &'a mut ActorBits,
     byte: usize,
-    /// The bits that some state has.
-    all: u8,
+    /// A state that has all of these bits needs no more.
+    needed: u8,
     /// Whether one was new to a state.
     changed: bool,
 }
 
 impl TargetVisitor for Sweep<'_> {
     fn skips(&self, source: u32) -> bool {
-        self.bits.bits(source, self.byte) == self.all
+        self.bits.bits(source, self.byte) & self.needed == self.needed
     }
 
     fn visit(&mut self, source: u32, target: u32) {
@@ -178,46 +181,94 @@ fn spread_each(
     Ok(())
 }
 
-/// Makes a sweep over a byte, of which some states have these bits: whether a bit was new to a state.
-fn sweep_once(
+impl Sweep<'_> {
+    /// Goes over all states: whether a bit was new to one.
+    fn go_over(&mut self, targets: &TargetList, seen: &Seen) -> bool {
+        self.changed = false;
+        targets.visit_back(seen, self);
+        self.changed
+    }
+
+    /// Goes over the states at these places until no bit is new to one: whether that came.
+    fn settles(&mut self, targets: &TargetList, seen: &Seen, places: &[TargetPlace]) -> bool {
+        for _sweep in 0..SWEEPS {
+            self.changed = false;
+            targets.visit_at(seen, places, self);
+            if !self.changed {
+                return true;
+            }
+        }
+        false
+    }
+
+    /// Whether few of this many states need more.
+    fn is_near(&self, states: u32) -> bool {
+        let mut count: u32 = 0;
+        for state in 0..states {
+            if !self.skips(state) {
+                count = count.saturating_add(1);
+            }
+        }
+        count < states / FEW
+    }
+}
+
+/// The bits of a byte that a state needs, where some state has these. The last bit, at this place, says that an end can
+/// be reached. It is asked only of a state that lacks another bit, and from such a state none can be reached that has all
+/// others: so a state that has all others needs no more. Where a task acts in no state, or there are more bytes, a state
+/// needs all.
+fn needed_of(all: u8, bits: &ActorBits, last: usize) -> u8 {
+    let others = (1_u8 << (last % 8)).wrapping_sub(1);
+    if bits.width() == 1 && all & others == others {
+        others
+    } else {
+        all
+    }
+}
+
+/// Makes sweeps over a byte until one changes nothing: whether that came. Once few states need more, the sweeps go over
+/// these alone. The first state has all bits from the start, since every state can be reached from it.
+fn has_swept(
+    alloc: Global,
     targets: &TargetList,
     seen: &Seen,
     bits: &mut ActorBits,
     byte: usize,
-    all: u8,
+    last: usize,
 ) -> bool {
+    let all = bits.bits_of_some(targets.len(), byte);
+    bits.set_all(0, byte, all);
+    let needed = needed_of(all, bits, last);
     let mut sweep = Sweep {
         bits,
         byte,
-        all,
+        needed,
         changed: false,
     };
-    targets.visit_back(seen, &mut sweep);
-    sweep.changed
-}
-
-/// Makes sweeps over a byte until one changes nothing: whether that came. The first state has all bits from the start,
-/// since every state can be reached from it.
-fn has_swept(targets: &TargetList, seen: &Seen, bits: &mut ActorBits, byte: usize) -> bool {
-    let all = bits.bits_of_some(targets.len(), byte);
-    bits.set_all(0, byte, all);
     for _sweep in 0..SWEEPS {
-        if !sweep_once(targets, seen, bits, byte, all) {
+        if !sweep.go_over(targets, seen) {
             return true;
+        }
+        if sweep.is_near(targets.len())
+            && let Ok(places) = targets.places(alloc, seen, &sweep)
+        {
+            return sweep.settles(targets, seen, &places);
         }
     }
     false
 }
 
-/// Gives each state the bits of those that can be reached from it. `AllocError` if memory runs out.
+/// Gives each state the bits of those that can be reached from it. The last bit, at this place, may be missing in
+/// states that have all others. `AllocError` if memory runs out.
 pub fn spread(
     alloc: Global,
     targets: &TargetList,
     seen: &Seen,
     bits: &mut ActorBits,
+    last: usize,
 ) -> Result<(), AllocError> {
     for byte in 0..bits.width() {
-        if !has_swept(targets, seen, bits, byte) {
+        if !has_swept(alloc, targets, seen, bits, byte, last) {
             spread_each(alloc, targets, seen, bits, byte)?;
         }
     }

@@ -1,13 +1,14 @@
 //! Where bodies stand: the call that the next stretch of a processor makes, who makes it, and the calls in which tasks
 //! wait.
-ghost use Rattle.std.specs.Prelude.{◌≡◌};
+ghost use Rattle.std.specs.Prelude.{◌≡◌, slice_get};
+ghost use Rattle.std.specs.Option.{option_map};
+ghost use Rattle.fmp_base.specs.Meanings.{context_at};
+ghost use Rattle.fmp_explore.specs.Stretching.{body_in, call_in, last_site};
 
 use fmp_base::{Event, Stretch, System};
 use fmp_code::MachineContext;
-use fmp_fields::low_byte;
 use fmp_kernel::{Actor, Body, Kernel};
 use fmp_question::{CallSite, Outlook, body_of, last_call};
-use std::alloc::AllocError;
 
 /// How the stretch of an event ends.
 #[derive(Clone, Copy)]
@@ -24,7 +25,9 @@ pub enum NextStretch {
 
 impl NextStretch {
     /// The call that the stretch makes, if it makes one.
-    pub fn call(self) -> Option<CallSite> {
+    pub fn call(self) -> Option<CallSite>
+        ensures { result ≡ call_in self }
+    {
         match self {
             NextStretch::Calls(site) => Some(site),
             _ => None,
@@ -32,7 +35,9 @@ impl NextStretch {
     }
 
     /// The head of the body that makes the stretch, if there is one.
-    pub fn body(self) -> Option<CallSite> {
+    pub fn body(self) -> Option<CallSite>
+        ensures { result ≡ body_in self }
+    {
         match self {
             NextStretch::Calls(site) | NextStretch::Ends(site) | NextStretch::Keeps(site) => {
                 Some(CallSite {
@@ -108,20 +113,19 @@ pub fn next_stretch<B: Body<Ctx = MachineContext>>(
     }
 }
 
-/// Writes the last call of each task's body into the place of what is there. Where a task waits, that is the call in
-/// which it waits. `AllocError` if memory runs out.
-pub fn task_sites<B: Body<Ctx = MachineContext>>(
+/// The last call of the body of the task at a place, if there is one. Where the task waits, or has just got the reply for
+/// which it waited, that is the call in which it waits or waited.
+pub fn task_site<B: Body<Ctx = MachineContext>>(
     kernel: &Kernel<B>,
     sys: &System,
-    sites: &mut Vec<CallSite>,
-) -> Result<(), AllocError> {
-    sites.clear();
-    for (t, config) in sys.tasks.iter().enumerate() {
-        let pc = last_call(kernel.held(low_byte(t)));
-        sites.push(CallSite {
-            body: body_of(config.entry),
-            pc,
-        })?;
-    }
-    Ok(())
+    t: u8,
+) -> Option<CallSite>
+    ensures { result ≡ option_map (λ config. last_site config (context_at kernel.now.world.contexts.tasks t))
+        (slice_get sys.now.tasks.items t) }
+{
+    let config = sys.tasks.get(usize::from(t))?;
+    Some(CallSite {
+        body: body_of(config.entry),
+        pc: last_call(kernel.held(t)),
+    })
 }

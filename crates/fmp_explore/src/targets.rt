@@ -1,6 +1,8 @@
 //! The states to which the events of states lead, in few bytes. A state that an event reached first is not written,
 //! since its link names its source. Another one is written by how far it lies before the first state that was new when
 //! its source was begun: mostly one or two bytes. The bytes are read in either direction.
+ghost use Rattle.std.specs.Prelude.{◌≡◌, ◌-◌, ◌%◌, ◌^◌, [], slice_get, unwrap_or};
+
 use fmp_visited::Seen;
 use std::alloc::{AllocError, Global};
 
@@ -46,13 +48,25 @@ struct Cursor {
     kept: u32,
 }
 
+/// A state, and the place after its targets.
+#[derive(Clone, Copy)]
+pub struct TargetPlace {
+    source: u32,
+    kept: u32,
+    place: usize,
+}
+
 /// A place below 2^32 as a number of 32 bits; of a greater one its last 32 bits.
-pub fn low_word(place: usize) -> u32 {
+pub fn low_word(place: usize) -> u32
+    ensures { result ≡ place % 2 ^ 32 }
+{
     (place % 4_294_967_296) as u32
 }
 
 /// The number at a place; 0 if there is none.
-pub fn at(list: &[u32], place: u32) -> u32 {
+pub fn at(list: &[u32], place: u32) -> u32
+    ensures { result ≡ unwrap_or (slice_get list.now place) 0 }
+{
     match list.get(place as usize) {
         Some(number) => *number,
         None => 0,
@@ -69,7 +83,11 @@ fn source_of(seen: &Seen, state: u32) -> u32 {
 
 impl TargetList {
     /// No state.
-    pub fn new(alloc: Global) -> TargetList {
+    pub fn new(alloc: Global) -> TargetList
+        ensures bytes { result.bytes.items ≡ [] }
+        ensures count { result.count ≡ 0 }
+        ensures base { result.base ≡ 0 }
+    {
         TargetList {
             bytes: Vec::new(alloc),
             count: 0,
@@ -78,12 +96,16 @@ impl TargetList {
     }
 
     /// How many states there are.
-    pub fn len(&self) -> u32 {
+    pub fn len(&self) -> u32
+        ensures { result ≡ self.now.count }
+    {
         self.count
     }
 
     /// The last state.
-    pub fn last(&self) -> u32 {
+    pub fn last(&self) -> u32
+        ensures { result ≡ self.now.count - 1 }
+    {
         self.count.saturating_sub(1)
     }
 
@@ -269,20 +291,74 @@ impl TargetList {
         }
     }
 
-    /// Tells of each event between different states, from the last source to the first, where these states were seen.
-    pub fn visit_back<V: TargetVisitor>(&self, seen: &Seen, visitor: &mut V) {
-        let mut cursor = Cursor {
+    /// Tells of each event from a state to another one. The cursor stands after its targets, and then before them.
+    fn visit_one<V: TargetVisitor>(
+        &self,
+        seen: &Seen,
+        source: u32,
+        cursor: &mut Cursor,
+        visitor: &mut V,
+    ) {
+        self.visit_first(seen, source, cursor, visitor);
+        self.visit_written(source, cursor, visitor);
+    }
+
+    /// The place after the targets of the last state, where these states were seen.
+    fn end(&self, seen: &Seen) -> Cursor {
+        Cursor {
             place: self.bytes.len(),
             kept: low_word(seen.len()),
-        };
+        }
+    }
+
+    /// Tells of each event between different states, from the last source to the first, where these states were seen.
+    pub fn visit_back<V: TargetVisitor>(&self, seen: &Seen, visitor: &mut V) {
+        let mut cursor = self.end(seen);
         for turn in 0..self.count {
             let source = self.count.saturating_sub(turn).saturating_sub(1);
             if visitor.skips(source) {
                 self.skip_first(seen, source, &mut cursor);
                 self.skip_written(&mut cursor);
             } else {
-                self.visit_first(seen, source, &mut cursor, visitor);
-                self.visit_written(source, &mut cursor, visitor);
+                self.visit_one(seen, source, &mut cursor, visitor);
+            }
+        }
+    }
+
+    /// The places of the targets of the states that a visitor does not skip, from the last state to the first.
+    /// `AllocError` if memory runs out.
+    pub fn places<V: TargetVisitor>(
+        &self,
+        alloc: Global,
+        seen: &Seen,
+        visitor: &V,
+    ) -> Result<Vec<TargetPlace>, AllocError> {
+        let mut places = Vec::new(alloc);
+        let mut cursor = self.end(seen);
+        for turn in 0..self.count {
+            let source = self.count.saturating_sub(turn).saturating_sub(1);
+            if !visitor.skips(source) {
+                places.push(TargetPlace {
+                    source,
+                    kept: cursor.kept,
+                    place: cursor.place,
+                })?;
+            }
+            self.skip_first(seen, source, &mut cursor);
+            self.skip_written(&mut cursor);
+        }
+        Ok(places)
+    }
+
+    /// Tells of each event from the states at these places to another one, in their order.
+    pub fn visit_at<V: TargetVisitor>(&self, seen: &Seen, places: &[TargetPlace], visitor: &mut V) {
+        for at in places {
+            if !visitor.skips(at.source) {
+                let mut cursor = Cursor {
+                    place: at.place,
+                    kept: at.kept,
+                };
+                self.visit_one(seen, at.source, &mut cursor, visitor);
             }
         }
     }

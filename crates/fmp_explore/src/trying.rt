@@ -1,5 +1,5 @@
 //! The events that are tried in each state, and what they did there.
-ghost use Rattle.std.specs.Prelude.{◌≡◌, ◌<◌, is_some, true};
+ghost use Rattle.std.specs.Prelude.{◌≡◌, ◌+◌, ◌<◌, None, Some, is_some, min, true};
 ghost use Rattle.fmp_explore.specs.Searching.{came_on, marked};
 
 use crate::notes::PathEnd;
@@ -23,7 +23,11 @@ pub struct ExaminedState {
 
 impl ExaminedState {
     /// The events that lead to it.
-    pub fn end<'a>(&self, question: &'a Question) -> PathEnd<'a> {
+    pub fn end<'a>(&self, question: &'a Question) -> PathEnd<'a>
+        ensures after { result.after.now ≡ question.now.after.items }
+        ensures state { result.state ≡ self.now.state }
+        ensures last { result.last ≡ None }
+    {
         PathEnd {
             after: &question.after,
             state: self.state,
@@ -41,7 +45,14 @@ pub struct Attempt<'a> {
 
 impl<'a> Attempt<'a> {
     /// How the state is reached to which the event leads.
-    pub fn link(&self, kept: bool) -> StateLink {
+    pub fn link(&self, kept: bool) -> StateLink
+        ensures { result ≡ record {
+          parent = self.now.at.now.state;
+          event = self.now.event;
+          kept = kept;
+          depth = min (self.now.at.now.depth + 1) 4294967295;
+        } }
+    {
         StateLink {
             parent: self.at.state,
             event: self.event,
@@ -51,7 +62,11 @@ impl<'a> Attempt<'a> {
     }
 
     /// The events that lead to the state, with this one.
-    pub fn end<'q>(&self, question: &'q Question) -> PathEnd<'q> {
+    pub fn end<'q>(&self, question: &'q Question) -> PathEnd<'q>
+        ensures after { result.after.now ≡ question.now.after.items }
+        ensures state { result.state ≡ self.now.at.now.state }
+        ensures last { result.last ≡ Some self.now.event }
+    {
         PathEnd {
             after: &question.after,
             state: self.at.state,

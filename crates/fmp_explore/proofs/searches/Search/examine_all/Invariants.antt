@@ -1,4 +1,5 @@
 use Rattle.fmp_explore.specs.Searching.{IsKernelOf, IsSearching}
+use Rattle.fmp_explore.specs.Slices.{AreSlices}
 use Rattle.fmp_explore.proofs.searches.Search.examine_all.Given as goal
 use Rattle.fmp_witness.specs.Asked.{asked_of}
 
@@ -6,6 +7,7 @@ abbrev pub invariant-loop-turn : goal.invariant-loop-turn
 invariant-loop-turn g l =
     record {
       searching : IsSearching (asked_of l.subject) l.progress.next l.self;
+      pending : AreSlices (asked_of l.subject) l.self l.progress.pending.items;
       top : IsKernelOf (asked_of l.subject) l.top;
       work : IsKernelOf (asked_of l.subject) l.work;
     }

@@ -1,5 +1,6 @@
 use Rattle.std.proofs.Common.{◌+◌}
 use Rattle.fmp_explore.proofs.SearchLemmas.{fewer_examined, one_examined}
+use Rattle.fmp_explore.proofs.SliceLemmas.{slices_stay}
 use Rattle.fmp_explore.proofs.searches.Search.go_on.Goals as goal
 use Rattle.fmp_witness.specs.Asked.{asked_of}
 
@@ -14,3 +15,8 @@ returns-clause-searching g c =
     c.place_after-progress.ensures
     (one_examined asked next c.args.self.now c.examine.new.self c.requires.searching
     c.requires.there c.in_ok-examine.ensures.examined)
+
+pub returns-clause-pending : goal.returns-clause-pending
+returns-clause-pending g c =
+    slices_stay (asked_of c.args.subject.now) c.args.self.now c.examine.new.self
+    c.in_ok-examine.ensures.examined.grows c.args.progress.now.pending.items c.requires.pending

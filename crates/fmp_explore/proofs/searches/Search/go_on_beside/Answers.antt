@@ -1,18 +1,57 @@
-use Rattle.std.proofs.Common.{arith}
-use Rattle.std.proofs.lemmas.Result.{IfOk-weaker}
+use Rattle.std.proofs.Common.{ℕ, arith, subst, sym}
+use Rattle.fmp_explore.specs.Slices.{IsInRound}
 use Rattle.fmp_explore.proofs.SearchStepLemmas.{same_grows}
+use Rattle.fmp_explore.proofs.SliceLemmas.{slice_ready, slices_stay, taken_ready}
 use Rattle.fmp_explore.proofs.searches.Search.go_on_beside.Goals as goal
+use Rattle.fmp_witness.specs.Asked.{asked_of}
 
-pub slices-requires-clause-whole : goal.slices-requires-clause-whole
-slices-requires-clause-whole g c = c.requires.searching.begun.survey
+pub hand_over-requires-clause-whole : goal.hand_over-requires-clause-whole
+hand_over-requires-clause-whole g c = c.requires.searching.begun.survey
 
-pub returns : goal.returns
-returns g c =
+pub enter_beside-requires-clause-taken : goal.enter_beside-requires-clause-taken
+enter_beside-requires-clause-taken g c =
+    let asked = asked_of c.args.subject.now in
+    let a = c.args.self.now in
+    taken_ready asked a c.take_last-last.new.taken.items (c.take_last-last.ensures.taken asked a c.in_ok-taken.ensures)
+
+pub enter_beside-requires-clause-last : goal.enter_beside-requires-clause-last
+enter_beside-requires-clause-last g c =
+    let asked = asked_of c.args.subject.now in
+    let a = c.args.self.now in
+    slice_ready asked a c.take_last-last.result (c.take_last-last.ensures.last asked a c.in_ok-taken.ensures)
+
+pub returns-clause-searching : goal.returns-clause-searching
+returns-clause-searching g c =
+    let asked = asked_of c.args.subject.now in
+    let a = c.args.self.now in
+    let same = c.take_pending-pending.ensures.next in
     let round =
-    c.enter_all.ensures c.args.self.now (rw c.deref.ensures.value c.in_ok-slices.ensures)
+    c.in_ok-slices.ensures.entered a
+    (rw c.deref.ensures.value (rw c.take_pending-pending.ensures.pending c.requires.pending))
+    (subst (λ (k : ℕ). IsInRound asked a k a) (sym same)
     (record {
-      grows = same_grows c.args.self.now;
+      grows = same_grows a;
       within = omega (arith, c.requires.there);
       searching = c.requires.searching;
-    }) in
-    IfOk-weaker c.enter_all.result _ _ (λ _ h. h.searching) round
+    })) in
+    rw c.put_pending.ensures.next round.searching
+
+pub returns-clause-pending : goal.returns-clause-pending
+returns-clause-pending g c =
+    let asked = asked_of c.args.subject.now in
+    let a = c.args.self.now in
+    let b = c.enter_beside.new.self in
+    let same = c.take_pending-pending.ensures.next in
+    let round =
+    c.in_ok-slices.ensures.entered a
+    (rw c.deref.ensures.value (rw c.take_pending-pending.ensures.pending c.requires.pending))
+    (subst (λ (k : ℕ). IsInRound asked a k a) (sym same)
+    (record {
+      grows = same_grows a;
+      within = omega (arith, c.requires.there);
+      searching = c.requires.searching;
+    })) in
+    c.put_pending.ensures.pending asked b
+    (slices_stay asked a b round.grows c.in_ok-slices.slices.items
+    (c.in_ok-slices.ensures.slices a (c.take_last-last.ensures.taken asked a c.in_ok-taken.ensures)
+    (c.take_last-last.ensures.last asked a c.in_ok-taken.ensures)))
