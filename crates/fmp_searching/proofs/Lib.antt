@@ -9,3 +9,5 @@ pub mod SameKinds
 pub mod SeenLists
 pub mod StuckLemmas
 pub mod UnsaidLists
+mod Worded
+mod FindingTexts

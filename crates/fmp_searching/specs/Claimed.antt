@@ -24,7 +24,7 @@ use Rattle.fmp_trace.specs.Steps.{steps_text}
 use Rattle.fmp_explore.specs.declared.exploring.Report.{Report}
 use Rattle.fmp_explore.specs.Searching.{NothingIsFound}
 use Rattle.fmp_searching.specs.Claims.{ClaimTables, ending_text, is_done, status_of}
-use Rattle.fmp_searching.specs.Extent.{IsExtent}
+use Rattle.fmp_searching.specs.Extent.{extent_text}
 use Rattle.fmp_searching.specs.Files.{IsApart, RemovesSteps, files_written, out_name, report_written, steps_names}
 use Rattle.fmp_searching.specs.Findings.{finding_text}
 use Rattle.fmp_searching.specs.Lines.{numbered}
@@ -45,13 +45,11 @@ use Rattle.fmp_searching.specs.Explored.{IsExploring}
 
 -- what is printed of a report: first its findings, then what is claimed of this question or why the search ended, and
 -- what the search saw
-pub record IsReportText (s : SourceTables) (r : Report) (seen : List Seen) (text : List ℕ) : Type 0 where
-  pub extent : List ℕ
-  pub is_extent : IsExtent s r extent
-  pub is :
-      text
-      ≡ numbered (λ number f x. finding_text s number f x) 1 r.findings.items seen
-      ++ (ending_text s.claim r ++ extent)
+abbrev pub IsReportText : SourceTables → Report → List Seen → (text : List ℕ) → Type 0
+IsReportText s r seen text =
+    text
+    ≡ numbered (λ number f x. finding_text s number f x) 1 r.findings.items seen
+    ++ (ending_text s.claim r ++ extent_text s r)
 
 -- a search found nothing, has looked for stuck tasks too, and claims what holds; where it is strict, each sentence says
 -- something

@@ -14,7 +14,6 @@ use Rattle.fmp_explore.specs.declared.values.Variety.{Variety}
 use Rattle.fmp_frames.specs.CallPositions.{position_of}
 use Rattle.fmp_frames.specs.RefusalLines.{refused_text}
 use Rattle.fmp_frames.specs.Refusals.{Refused, refused_calls}
-use Rattle.fmp_frames.specs.declared.answers.SiteAnswer.{SiteAnswer}
 use Rattle.fmp_frames.specs.declared.call_positions.CallPosition.{CallPosition}
 use Rattle.fmp_monitors.specs.declared.happening.ExpectedDeed.{ExpectedDeed}
 use Rattle.fmp_monitors.specs.declared.happening.ExpectedDeed.TheVariants as deed
@@ -29,11 +28,11 @@ use Rattle.fmp_searching.specs.Answers.{answers_text}
 use Rattle.fmp_searching.specs.FieldNames.{field_name}
 use Rattle.fmp_searching.specs.Fields.{counts_queued}
 use Rattle.fmp_searching.specs.Lines.{numbered}
+use Rattle.fmp_searching.specs.Made.{AnsweredCall, answered_calls, answers_of_calls, unmade_calls}
 use Rattle.fmp_searching.specs.Sentences.{sentence_text}
 use Rattle.fmp_searching.specs.Sources.{SourceTables}
 use Rattle.fmp_searching.specs.Unsaid.{is_unsaid, is_whole}
 use Rattle.fmp_searching.specs.Varied.{kept_name}
-use Rattle.fmp_searching.specs.declared.answers.Answered.{Answered}
 
 -- ---- sentences that say nothing
 
@@ -121,7 +120,7 @@ unmade_text s whole sites =
     then flat_map (λ site. unmade_line s site) sites
     else (if nat_eq (length sites) 0 then [] else count_line (length sites))
 
-abbrev pub asked_answers : SourceTables → List Answered → List ℕ
+abbrev pub asked_answers : SourceTables → List AnsweredCall → List ℕ
 asked_answers s calls = if s.answers then answers_text s.src calls else []
 
 abbrev pub refused_line : SourceTables → Refused → List ℕ
@@ -188,7 +187,7 @@ values_text s vs = flat_map (λ v. varied_line s (most_values vs) v) vs
 
 -- ---- all
 
-abbrev pub coverage_text : SourceTables → Report → List CallSite → List Answered → List Refused → List ℕ
+abbrev pub coverage_text : SourceTables → Report → List CallSite → List AnsweredCall → List Refused → List ℕ
 coverage_text s r unmade answered refused =
     unmade_text s (is_whole r.ending) unmade
     ++ (asked_answers s answered
@@ -197,17 +196,15 @@ coverage_text s r unmade answered refused =
     ++ (counts_text s.claim.image.system r ++ lengths_text s.claim.image.system r))))
 
 -- what falls out of a search: the calls that were not made, answered or refused are those of its states
-pub record IsCoverage (s : SourceTables) (r : Report) (text : List ℕ) : Type 0 where
-  pub unmade : List CallSite
-  pub answered : List Answered
-  pub answers : List SiteAnswer
-  pub is : text ≡ coverage_text s r unmade answered (refused_calls s.claim.image.code answers)
+abbrev pub covered_text : SourceTables → Report → List ℕ
+covered_text s r =
+    let code = s.claim.image.code in
+    coverage_text s r (unmade_calls r.coverage code) (answered_calls r.coverage code s.positions)
+    (refused_calls code (answers_of_calls r.coverage code))
 
-pub record IsExtent (s : SourceTables) (r : Report) (text : List ℕ) : Type 0 where
-  pub coverage : List ℕ
-  pub is_coverage : IsCoverage s r coverage
-  pub is :
-      text
-      ≡ unsaid_text s r
-      ++ (waits_line r.waits
-      ++ (extent_line r.states r.events r.depth ++ (coverage ++ values_text s r.varieties.items)))
+-- what is printed below the end of a search
+abbrev pub extent_text : SourceTables → Report → List ℕ
+extent_text s r =
+    unsaid_text s r
+    ++ (waits_line r.waits
+    ++ (extent_line r.states r.events r.depth ++ (covered_text s r ++ values_text s r.varieties.items)))

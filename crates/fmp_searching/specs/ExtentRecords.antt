@@ -12,7 +12,6 @@ use Rattle.fmp_explore.specs.declared.values.Variety.{Variety}
 use Rattle.fmp_frames.specs.CallPositions.{position_of}
 use Rattle.fmp_frames.specs.RefusalLines.{refused_record}
 use Rattle.fmp_frames.specs.Refusals.{Refused, refused_calls}
-use Rattle.fmp_frames.specs.declared.answers.SiteAnswer.{SiteAnswer}
 use Rattle.fmp_json.specs.Members.{list_begin, list_end, number_member, object_line, text_member}
 use Rattle.fmp_monitors.specs.declared.sentence.Sentence.{Sentence}
 use Rattle.fmp_question.specs.declared.site.CallSite.{CallSite}
@@ -21,11 +20,11 @@ use Rattle.fmp_schedules.specs.declared.monitor.MonitorSubject.{MonitorSubject}
 use Rattle.fmp_schedules.specs.declared.monitor.MonitorSubject.TheVariants as subject
 use Rattle.fmp_searching.specs.Extent.{is_varied, most_values, varied_name, words_of}
 use Rattle.fmp_searching.specs.Lines.{numbered}
+use Rattle.fmp_searching.specs.Made.{AnsweredCall, answered_calls, answers_of_calls, unmade_calls}
 use Rattle.fmp_searching.specs.Members.{call_position, number_or_none, position_members, string_tokens}
 use Rattle.fmp_searching.specs.Sources.{SourceTables}
 use Rattle.fmp_searching.specs.Unsaid.{is_unsaid, is_whole}
 use Rattle.fmp_searching.specs.Varied.{line_at}
-use Rattle.fmp_searching.specs.declared.answers.Answered.{Answered}
 use Rattle.json.specs.Token.{Token}
 
 -- the sentence at a place, which says nothing
@@ -59,15 +58,15 @@ abbrev pub code_tokens : List Er → List Token
 code_tokens answers = string_tokens (map (λ c. code_name c) answers)
 
 -- the codes that a call got
-abbrev pub answered_record : Answered → List ℕ
+abbrev pub answered_record : AnsweredCall → List ℕ
 answered_record call =
     object_line
     (text_member (codes "what") (codes "answers")
     ++ (number_member (codes "line") call.line
     ++ (number_member (codes "column") call.column
-    ++ (list_begin (codes "answers") ++ (code_tokens call.answers.items ++ list_end)))))
+    ++ (list_begin (codes "answers") ++ (code_tokens call.answers ++ list_end)))))
 
-abbrev pub asked_records : SourceTables → List Answered → List ℕ
+abbrev pub asked_records : SourceTables → List AnsweredCall → List ℕ
 asked_records s calls = if s.answers then flat_map (λ call. answered_record call) calls else []
 
 -- a call that is refused
@@ -108,7 +107,7 @@ varied_record s most v =
 abbrev pub varied_records : SourceTables → List Variety → List ℕ
 varied_records s vs = flat_map (λ v. varied_record s (most_values vs) v) vs
 
-abbrev pub coverage_records : SourceTables → Report → List CallSite → List Answered → List Refused → List ℕ
+abbrev pub coverage_records : SourceTables → Report → List CallSite → List AnsweredCall → List Refused → List ℕ
 coverage_records s r unmade answered refused =
     unsaid_records s r
     ++ (flat_map (λ site. unmade_record s site) unmade
@@ -118,8 +117,8 @@ coverage_records s r unmade answered refused =
     ++ (peak_records s.claim.image.system r ++ varied_records s r.varieties.items)))))
 
 -- what falls out of a search: the calls that were not made, answered or refused are those of its states
-pub record AreCoverageRecords (s : SourceTables) (r : Report) (text : List ℕ) : Type 0 where
-  pub unmade : List CallSite
-  pub answered : List Answered
-  pub answers : List SiteAnswer
-  pub is : text ≡ coverage_records s r unmade answered (refused_calls s.claim.image.code answers)
+abbrev pub covered_records : SourceTables → Report → List ℕ
+covered_records s r =
+    let code = s.claim.image.code in
+    coverage_records s r (unmade_calls r.coverage code) (answered_calls r.coverage code s.positions)
+    (refused_calls code (answers_of_calls r.coverage code))

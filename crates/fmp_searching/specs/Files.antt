@@ -27,6 +27,10 @@ pub record IsApart (e : Exploring) (name : List ℕ) : Type 0 where
   pub src : name ≢ e.src.now
   pub expect : IfSome e.expect (λ read. name ≢ read.now)
 
+-- the file of the report, if one is asked for, is none of the files that are read
+abbrev pub IsReportApart : Exploring → Type 0
+IsReportApart e = IfSome e.junit (λ name. IsApart e name.now)
+
 -- each of these files was written, with its text
 abbrev pub files_written : (names texts : List (List ℕ)) → List Deed
 files_written [] texts = []

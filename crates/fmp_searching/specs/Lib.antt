@@ -11,10 +11,13 @@ pub mod Findings
 pub mod Fresh
 pub mod Limits
 pub mod Lines
+pub mod Made
+pub mod Mistakes
 pub mod Members
 pub mod Parts
 pub mod Questions
 pub mod Records
+pub mod Said
 pub mod Seen
 pub mod Sentences
 pub mod Sites

@@ -9,7 +9,7 @@ use Rattle.fmp_question.specs.declared.question.Question.{Question}
 use Rattle.fmp_question.specs.declared.site.CallSite.{CallSite}
 use Rattle.fmp_witness.specs.declared.finding.Finding.{Finding}
 use Rattle.fmp_searching.specs.Claims.{ClaimTables, claim_text, end_text, status_of, unlooked_text}
-use Rattle.fmp_searching.specs.ExtentRecords.{AreCoverageRecords}
+use Rattle.fmp_searching.specs.ExtentRecords.{covered_records}
 use Rattle.fmp_searching.specs.Findings.{head_line}
 use Rattle.fmp_searching.specs.Lines.{numbered}
 use Rattle.fmp_searching.specs.Members.{call_position, number_or_none, position_members, string_tokens}
@@ -120,9 +120,8 @@ end_record s r =
     (stop_line s.claim.question r) (map (λ part. utf8_lossy part) (claim_parts s.claim)) r
 
 -- what is printed of a report: a line for each finding, then what falls out of the search, and how it ended
-pub record IsReportRecords (s : SourceTables) (r : Report) (seen : List Seen) (text : List ℕ) : Type 0 where
-  pub between : List ℕ
-  pub is_between : AreCoverageRecords s r between
-  pub is :
-      text
-      ≡ numbered (λ number f x. finding_record s number f x) 1 r.findings.items seen ++ (between ++ end_record s r)
+abbrev pub IsReportRecords : SourceTables → Report → List Seen → (text : List ℕ) → Type 0
+IsReportRecords s r seen text =
+    text
+    ≡ numbered (λ number f x. finding_record s number f x) 1 r.findings.items seen
+    ++ (covered_records s r ++ end_record s r)

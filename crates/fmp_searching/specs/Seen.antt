@@ -12,18 +12,25 @@ use Rattle.fmp_expect.specs.declared.call_sentences.CallSentence.{CallSentence}
 use Rattle.fmp_question.specs.Forbidden.{is_same_code, tells}
 use Rattle.fmp_question.specs.declared.question.NeverAt.{NeverAt}
 use Rattle.fmp_question.specs.declared.site.CallSite.{CallSite}
-use Rattle.fmp_replay.specs.Replays.{replay}
+use Rattle.fmp_base.specs.Systems.{SystemTables}
+use Rattle.fmp_replay.specs.Replays.{done_count, replay}
 use Rattle.fmp_witness.specs.declared.finding.Finding.{Finding}
 use Rattle.fmp_witness.specs.declared.finding.FindingKind.{FindingKind}
 use Rattle.fmp_witness.specs.declared.finding.FindingKind.TheVariants as finding
+use Rattle.fmp_witness.specs.declared.finding.Left.{Left}
+use Rattle.fmp_witness.specs.declared.started.Started.{Started}
 use Rattle.fmp_searching.specs.Claims.{ClaimTables}
+use Rattle.fmp_searching.specs.Said.{first_broken, left_text}
 use Rattle.fmp_searching.specs.Sites.{line_of}
 use Rattle.fmp_searching.specs.Sources.{SourceTables}
+use Rattle.fmp_searching.specs.Stuck.{IsHeldUp, stuck_text}
 use Rattle.fmp_searching.specs.declared.call_sentences.Answer.{Answer}
 use Rattle.fmp_searching.specs.declared.seen.Broken.{Broken}
 use Rattle.fmp_searching.specs.declared.seen.Seen.{Seen}
 use Rattle.fmp_searching.specs.declared.seen.SeenKind.{SeenKind}
 use Rattle.fmp_searching.specs.declared.seen.SeenKind.TheVariants as kind
+use Rattle.fmp_searching.specs.declared.stuck.HeldUp.{HeldUp}
+use Rattle.fmp_searching.specs.declared.stuck.Spun.{Spun}
 
 abbrev pub is_same : SeenKind → SeenKind → Bool
 is_same kind.Never kind.Never = true
@@ -175,11 +182,54 @@ pub record IsBroken (s : SourceTables) (f : Finding) (told : List Line) (b : Bro
   pub kind : b.kind ≡ kind_of s f told
   pub sentences : b.sentences.items ≡ broken_sentences s f told
 
--- the same by the lines that its last step told
-pub record IsBrokenBy (s : SourceTables) (f : Finding) (b : Broken) : Type 0 where
-  pub told : List Line
-  pub are_told : AreTold s.claim f told
-  pub is : IsBroken s f told b
+-- ---- what is said of a finding
+
+-- the steps of a finding leave this, or it is not known
+pub record IsShown (c : ClaimTables) (f : Finding) (left : Left) : Type 0 where
+  pub lines : AreTold c f left.lines.items
+  pub number : (left.lines.items ≡ []) ⊎ (left.number ≡ done_count c.image c.bound f.steps.items)
+
+abbrev pub is_stuck : FindingKind → Bool
+is_stuck (finding.Stuck t) = true
+is_stuck _ = false
+
+-- the call and the text of a finding whose last step told these lines: the text tells the number of that step in the
+-- trace, the tasks that are started then, and the first sentence about calls that is broken
+pub record IsLeftSaid (s : SourceTables) (f : Finding) (told : List Line) (site : Option CallSite) (text : List ℕ) :
+    Type 0 where
+  pub call : site ≡ f.site
+  pub number : ℕ
+  pub counted : (told ≡ []) ⊎ (number ≡ done_count s.claim.image s.claim.bound f.steps.items)
+  pub started : List Started
+  pub is : text ≡ left_text s f.kind number told started ++ first_broken s (broken_sentences s f told)
+
+-- the call by which a task spins, or else its last one
+abbrev pub held_site : Option Spun → (last : Option CallSite) → Option CallSite
+held_site None last = last
+held_site (Some spun) last = Some spun.site
+
+abbrev pub held_lock : Option Spun → Option ℕ
+held_lock None = None
+held_lock (Some spun) = Some spun.lock
+
+abbrev pub held_text : SystemTables → (t : ℕ) → HeldUp → List ℕ
+held_text sys t held = stuck_text sys t held.block (held_lock held.spun)
+
+-- the call and the text of a finding that is the stuck task t, which stands so after its steps
+pub record IsHeldSaid (s : SourceTables) (f : Finding) (t : ℕ) (site : Option CallSite) (text : List ℕ) : Type 0 where
+  pub held : HeldUp
+  pub stands : IsHeldUp s.claim.image s.claim.bound f.steps.items t held
+  pub call : site ≡ held_site held.spun f.site
+  pub is : text ≡ held_text s.claim.image.system t held
+
+-- the same, or nothing where there is no such task
+abbrev pub IsStuckSaid : SourceTables → Finding → (t : ℕ) → Option CallSite → List ℕ → Type 0
+IsStuckSaid s f t site text = ((site ≡ None) × (text ≡ [])) ⊎ IsHeldSaid s f t site text
+
+-- the call and the text of a finding of this kind
+abbrev pub IsSaid : SourceTables → Finding → FindingKind → (told : List Line) → Option CallSite → List ℕ → Type 0
+IsSaid s f (finding.Stuck t) told site text = IsStuckSaid s f t site text
+IsSaid s f _ told site text = IsLeftSaid s f told site text
 
 -- what is seen of a finding
 pub record IsSeen (s : SourceTables) (f : Finding) (x : Seen) : Type 0 where
@@ -189,6 +239,7 @@ pub record IsSeen (s : SourceTables) (f : Finding) (x : Seen) : Type 0 where
   pub are_told : AreTold s.claim f told
   pub kind : x.kind ≡ kind_of s f told
   pub sentences : x.call_sentences.items ≡ broken_sentences s f told
+  pub said : IsSaid s f f.kind told x.site x.text.items
 
 -- what is seen of findings, in order
 pub record AreSeen (s : SourceTables) (findings : List Finding) (seen : List Seen) : Type 0 where

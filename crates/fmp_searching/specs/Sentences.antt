@@ -1,17 +1,14 @@
 -- Sentences, as a claim writes them.
-use Rattle.std.specs.Prelude.{ℕ, ℤ, List, [], ◌++◌, Bool, true, false, Option, Some, None, option_map}
-use Rattle.std.specs.Prelude.{length, slice_get, ◌+◌, codes, decimal, drop, find, nat_eq, nat_lt, option_and_then}
+use Rattle.std.specs.Prelude.{ℕ, ℤ, List, [], ◌++◌, Bool, true, false, Option, Some, None}
+use Rattle.std.specs.Prelude.{is_some, length, not, ◌&&◌, ◌+◌, codes, decimal, drop, nat_lt}
 use Rattle.std.specs.Prelude.{if◌then◌else◌}
 use Rattle.std.specs.Fmt.{signed_decimal}
 use Rattle.std.specs.List.{flat_map}
 use Rattle.fmp_base.specs.Codes.{code_name}
-use Rattle.fmp_base.specs.Names.{name_text}
 use Rattle.fmp_base.specs.Systems.{SystemTables}
 use Rattle.fmp_base.specs.Texts.{fault_text, task_name, word_text}
-use Rattle.fmp_base.specs.declared.names.Name.{Name}
-use Rattle.fmp_base.specs.declared.systems.Entry.{Entry}
-use Rattle.fmp_base.specs.declared.systems.Entry.TheVariants as entry
-use Rattle.fmp_expect.specs.Parts.{interrupt_named}
+use Rattle.fmp_expect.specs.Written.{actor_text, begins_alternative, handler_name, interrupt_by, measure_name}
+use Rattle.fmp_expect.specs.Written.{named_text}
 use Rattle.fmp_monitors.specs.declared.condition.Condition.{Condition}
 use Rattle.fmp_monitors.specs.declared.condition.ConditionTest.{ConditionTest}
 use Rattle.fmp_monitors.specs.declared.condition.Measure.{Measure}
@@ -21,7 +18,6 @@ use Rattle.fmp_monitors.specs.declared.condition.Relation.TheVariants as relatio
 use Rattle.fmp_monitors.specs.declared.condition.TestedFact.{TestedFact}
 use Rattle.fmp_monitors.specs.declared.condition.TestedFact.TheVariants as fact
 use Rattle.fmp_monitors.specs.declared.happening.ExpectedActor.{ExpectedActor}
-use Rattle.fmp_monitors.specs.declared.happening.ExpectedActor.TheVariants as actor
 use Rattle.fmp_monitors.specs.declared.happening.ExpectedDeed.{ExpectedDeed}
 use Rattle.fmp_monitors.specs.declared.happening.ExpectedDeed.TheVariants as deed
 use Rattle.fmp_monitors.specs.declared.happening.ExpectedResponse.{ExpectedResponse}
@@ -36,31 +32,10 @@ use Rattle.fmp_schedules.specs.declared.monitor.Monitor.{Monitor}
 use Rattle.fmp_schedules.specs.declared.monitor.MonitorSubject.{MonitorSubject}
 use Rattle.fmp_schedules.specs.declared.monitor.MonitorSubject.TheVariants as subject
 
--- a name, of an object that is there
-abbrev pub named_text : Option Name → List ℕ
-named_text None = []
-named_text (Some name) = name_text name
-
 unfoldable pub deed_text : ExpectedDeed → List ℕ
 deed_text (deed.Answer code) = code_name code
 deed_text (deed.Put value) = codes "put(" ++ (signed_decimal value ++ codes ")")
 deed_text (deed.Stop fault) = fault_text fault
-
--- the name of the body of the handler of interrupt n, where a configuration names it
-abbrev pub name_of : Entry → Option Name
-name_of (entry.Named name) = Some name
-name_of (entry.Body k) = None
-
-abbrev pub handler_name : SystemTables → (n : ℕ) → Option Name
-handler_name sys n = option_and_then (λ x. name_of x.entry) (find (λ x. nat_eq x.number n) sys.interrupts)
-
-abbrev pub actor_name : SystemTables → ExpectedActor → Option Name
-actor_name sys (actor.Task t) = option_map (λ c. c.name) (slice_get sys.tasks t)
-actor_name sys (actor.Cyclic h) = option_map (λ c. c.name) (slice_get sys.cyclics h)
-actor_name sys (actor.Interrupt i) = handler_name sys (i + 1)
-
-abbrev pub actor_text : SystemTables → ExpectedActor → List ℕ
-actor_text sys who = named_text (actor_name sys who)
 
 unfoldable pub by_text : SystemTables → Option ExpectedActor → List ℕ
 by_text sys None = []
@@ -72,17 +47,6 @@ happening_text sys h = deed_text h.deed ++ by_text sys h.by
 unfoldable pub response_text : SystemTables → ExpectedResponse → List ℕ
 response_text sys (response.Runs who) = actor_text sys who ++ codes " runs"
 response_text sys (response.Happens h) = happening_text sys h
-
--- a number is this one
-abbrev pub is_number : Option ℕ → (n : ℕ) → Bool
-is_number None n = false
-is_number (Some m) n = nat_eq m n
-
--- interrupt n by this name, if a sentence that has the name speaks of just this interrupt; else by its number
-abbrev pub interrupt_by : SystemTables → (n : ℕ) → Option Name → List ℕ
-interrupt_by sys n None = decimal n
-interrupt_by sys n (Some name) =
-    if is_number (interrupt_named sys (name_text name)) n then name_text name else decimal n
 
 unfoldable pub trigger_text : SystemTables → ExpectedTrigger → List ℕ
 trigger_text sys (trigger.Interrupt i) = codes "int " ++ interrupt_by sys (i + 1) (handler_name sys (i + 1))
@@ -113,14 +77,6 @@ abbrev pub section_text : SystemTables → (enters leaves : Happening) → Optio
 section_text sys enters leaves (Some a) (Some b) = alone_text a b
 section_text sys enters leaves (Some a) None = between_text sys enters leaves
 section_text sys enters leaves None b = between_text sys enters leaves
-
-abbrev pub measure_name : SystemTables → Measure → Option Name
-measure_name sys (measure.SharedWord i) = option_map (λ c. c.name) (slice_get sys.shared_words i)
-measure_name sys (measure.Count i) = option_map (λ c. c.name) (slice_get sys.semaphores i)
-measure_name sys (measure.Pattern i) = option_map (λ c. c.name) (slice_get sys.flags i)
-measure_name sys (measure.Words i) = option_map (λ c. c.name) (slice_get sys.data_queues i)
-measure_name sys (measure.Messages i) = option_map (λ c. c.name) (slice_get sys.mailboxes i)
-measure_name sys (measure.Priority t) = option_map (λ c. c.name) (slice_get sys.tasks t)
 
 abbrev pub measure_word : Measure → List ℕ
 measure_word (measure.Priority t) = codes "priority "
@@ -190,6 +146,14 @@ sentence_text sys (sentence.OneAtATime a b) = section_text sys a b (put_of a.dee
 sentence_text sys (sentence.Always c) = always_text sys c
 sentence_text sys (sentence.Rests t) = []
 sentence_text sys (sentence.End w t) = []
+
+-- a sentence is printed in its words: not in an option, and not elsewhere
+abbrev pub is_worded : Sentence → Bool
+is_worded (sentence.OneAtATime a b) = not (is_some (put_of a.deed a.by) && is_some (put_of b.deed b.by))
+is_worded (sentence.Always c) = begins_alternative (tests_of c)
+is_worded (sentence.Rests t) = false
+is_worded (sentence.End w t) = false
+is_worded _ = true
 
 -- what a monitor watches, if it is a sentence
 abbrev pub subject_text : SystemTables → MonitorSubject → List ℕ

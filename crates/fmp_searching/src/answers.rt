@@ -1,12 +1,10 @@
 //! The answers that calls got in some schedule, as they are printed.
-ghost use Rattle.std.specs.Prelude.{◌≡◌, ◌++◌, OnOk, codes, decimal};
+ghost use Rattle.std.specs.Prelude.{◌≡◌, ◌++◌, OnOk, codes, decimal, map};
 ghost use Rattle.std.specs.List.{flat_map};
 ghost use Rattle.fmp_searching.specs.Answers as spec;
+ghost use Rattle.fmp_searching.specs.Made.{answered_call};
 
 use fmp_base::Er;
-use fmp_code::Code;
-use fmp_explore::Coverage;
-use fmp_frames::{CallPosition, CallPositions};
 use itoa::Buffer;
 use std::alloc::{AllocError, Global};
 
@@ -19,28 +17,6 @@ pub struct Answered {
     pub column: usize,
     /// The codes, each once; none if the call was never answered.
     pub answers: Vec<Er>,
-}
-
-/// The calls of this code that were made, in the order of the text, with the answers that they got. `AllocError` if
-/// memory runs out.
-pub fn answered_calls(
-    alloc: Global,
-    code: &Code,
-    positions: &CallPositions,
-    coverage: &Coverage,
-) -> Result<Vec<Answered>, AllocError> {
-    let mut calls = Vec::new(alloc);
-    for site in &coverage.made(alloc, code)? {
-        if let Some(CallPosition { line, column }) = positions.position(code, site.body, site.pc) {
-            let answers = coverage.answers(alloc, *site)?;
-            calls.push(Answered {
-                line,
-                column,
-                answers,
-            })?;
-        }
-    }
-    Ok(calls)
 }
 
 fn append(text: &[u8], out: &mut Vec<u8>) -> Result<(), AllocError>
@@ -89,7 +65,7 @@ fn append_number(number: u64, out: &mut Vec<u8>) -> Result<(), AllocError>
 /// Appends where a call stands in a file.
 #[tactic(auto, unfolding(crate::specs::Answers::position_text))]
 fn append_position(src: &[u8], call: &Answered, out: &mut Vec<u8>) -> Result<(), AllocError>
-    ensures { OnOk result (out.new.items ≡ out.old.items ++ spec.position_text src.now call.now) }
+    ensures { OnOk result (out.new.items ≡ out.old.items ++ spec.position_text src.now (answered_call call.now)) }
 {
     append(src, out)?;
     append_number(u64::from(call.line), out)?;
@@ -99,7 +75,7 @@ fn append_position(src: &[u8], call: &Answered, out: &mut Vec<u8>) -> Result<(),
 /// Appends where a call stands in this file, and what it got.
 #[tactic(auto, unfolding(crate::specs::Answers::answered_text))]
 fn append_answered(src: &[u8], call: &Answered, out: &mut Vec<u8>) -> Result<(), AllocError>
-    ensures { OnOk result (out.new.items ≡ out.old.items ++ spec.answered_text src.now call.now) }
+    ensures { OnOk result (out.new.items ≡ out.old.items ++ spec.answered_text src.now (answered_call call.now)) }
 {
     append(b"answers at ", out)?;
     append_position(src, call, out)?;
@@ -110,7 +86,7 @@ fn append_answered(src: &[u8], call: &Answered, out: &mut Vec<u8>) -> Result<(),
 
 /// Appends a line for each call: where it stands in this file, and what it got. `AllocError` if memory runs out.
 pub fn append_answers(src: &[u8], calls: &[Answered], out: &mut Vec<u8>) -> Result<(), AllocError>
-    ensures { OnOk result (out.new.items ≡ out.old.items ++ spec.answers_text src.now calls.now) }
+    ensures { OnOk result (out.new.items ≡ out.old.items ++ spec.answers_text src.now (map answered_call calls.now)) }
 {
     for call in calls {
         append_answered(src, call, out)?;

@@ -1,12 +1,15 @@
 //! Which sentences of a file about calls a finding breaks.
-ghost use Rattle.std.specs.Prelude.{◌≡◌, IfOk, Some, option_and_then, option_map, take};
+ghost use Rattle.std.specs.Prelude.{◌≡◌, ◌++◌, IfOk, OnOk, Some, option_and_then, option_map, slice_get, take};
+ghost use Rattle.fmp_base.specs.Systems.{tables_of};
 ghost use Rattle.fmp_question.specs.Forbidden.{is_same_code as same_code};
 ghost use Rattle.fmp_searching.specs.Claims.{claim_tables};
+ghost use Rattle.fmp_searching.specs.Said as said;
 ghost use Rattle.fmp_searching.specs.Seen as spec;
 ghost use Rattle.fmp_searching.specs.Sources.{source_tables};
 
-use crate::sources::{ExploredSources, say, say_made};
-use fmp_base::{Caller, Er, Line};
+use crate::claiming::append_number;
+use crate::sources::{ExploredSources, say};
+use fmp_base::{Caller, Er, Line, System};
 use fmp_expect::CallSentence;
 use fmp_explore::{CallSite, Finding, FindingKind, NeverAt};
 use fmp_named::append_task;
@@ -196,22 +199,51 @@ pub fn is_forbidden(sources: &ExploredSources<'_>, finding: &Finding, told: &[Li
     }
 }
 
-/// Appends the sentence at a place, with its line in the file.
+/// Appends whose answers are meant, if some task's are.
+fn say_by(out: &mut Vec<u8>, sys: &System, by: Option<usize>) -> Result<(), AllocError>
+    ensures { OnOk result (out.new.items ≡ out.old.items ++ said.by_text (tables_of sys.now) by) }
+{
+    match by {
+        Some(task) => {
+            say(out, " by ")?;
+            append_task(sys, task, out)
+        }
+        None => Ok(()),
+    }
+}
+
+/// Appends a sentence about calls, with its line in the file.
+#[tactic(auto, unfolding(crate::specs::Said::never_text))]
+fn say_never(
+    out: &mut Vec<u8>,
+    sources: &ExploredSources<'_>,
+    never: &CallSentence,
+) -> Result<(), AllocError>
+    ensures { OnOk result (out.new.items
+        ≡ out.old.items ++ said.never_text (source_tables sources.now) never.now) }
+{
+    say(out, ": ")?;
+    say(out, sources.sentences.file)?;
+    say(out, ":")?;
+    append_number(never.line as u64, out)?;
+    say(out, ": never ")?;
+    say(out, never.code.name())?;
+    say_by(out, sources.claim.image.system(), never.by)?;
+    say(out, " at ")?;
+    append_number(u64::from(never.at), out)
+}
+
+/// Appends the sentence at a place among those about calls, with its line in the file.
 pub fn say_call_sentence(
-    alloc: Global,
     out: &mut Vec<u8>,
     sources: &ExploredSources<'_>,
     place: usize,
-) -> Result<(), AllocError> {
-    let Some(never) = sources.sentences.call_sentences.get(place) else {
-        return Ok(());
-    };
-    let (file, line, at) = (sources.sentences.file, never.line, never.at);
-    say_made(out, format!(in alloc; ": {file}:{line}: never "))?;
-    say(out, never.code.name())?;
-    if let Some(task) = never.by {
-        say(out, " by ")?;
-        append_task(sources.claim.image.system(), task, out)?;
+) -> Result<(), AllocError>
+    ensures { OnOk result (out.new.items ≡ out.old.items ++ said.call_sentence_text (source_tables sources.now)
+        (slice_get sources.now.sentences.call_sentences.now place)) }
+{
+    match sources.sentences.call_sentences.get(place) {
+        Some(never) => say_never(out, sources, never),
+        None => Ok(()),
     }
-    say_made(out, format!(in alloc; " at {at}"))
 }

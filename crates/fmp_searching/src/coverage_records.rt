@@ -8,12 +8,14 @@ ghost use Rattle.fmp_json.specs.Members.{finished, list_begin, list_end};
 ghost use Rattle.fmp_searching.specs.Extent.{words_of};
 ghost use Rattle.fmp_searching.specs.ExtentRecords as spec;
 ghost use Rattle.fmp_searching.specs.Lines.{numbered};
+ghost use Rattle.fmp_searching.specs.Made.{answered_call};
 ghost use Rattle.fmp_searching.specs.Sources.{source_tables};
 
-use crate::answers::{Answered, answered_calls};
+use crate::answers::Answered;
 use crate::covering::{is_varied, most_values};
+use crate::made::{SeenCalls, seen_calls};
 use crate::records::{call_position, write_number, write_position};
-use crate::refused::{answers_of, refused_in};
+use crate::refused::refused_in;
 use crate::sentences::append_sentence;
 use crate::sources::ExploredSources;
 use crate::unsaid::{is_unsaid, is_whole};
@@ -94,7 +96,7 @@ fn write_answers(writer: &mut Writer, call: &Answered) -> Result<(), AllocError>
 
 /// Appends the codes that a call got.
 fn append_answered(alloc: Global, out: &mut Vec<u8>, call: &Answered) -> Result<(), AllocError>
-    ensures { OnOk result (out.new.items ≡ out.old.items ++ spec.answered_record call.now) }
+    ensures { OnOk result (out.new.items ≡ out.old.items ++ spec.answered_record (answered_call call.now)) }
 {
     let mut writer = begin(alloc)?;
     text_member(&mut writer, "what", "answers")?;
@@ -111,7 +113,7 @@ fn append_all_answered(
     calls: &[Answered],
 ) -> Result<(), AllocError>
     ensures { OnOk result (out.new.items
-        ≡ out.old.items ++ flat_map (λ call. spec.answered_record call) calls.now) }
+        ≡ out.old.items ++ flat_map (λ call. spec.answered_record call) (map answered_call calls.now)) }
 {
     for call in calls {
         append_answered(alloc, out, call)?;
@@ -127,7 +129,7 @@ fn append_answers(
     calls: &[Answered],
 ) -> Result<(), AllocError>
     ensures { OnOk result (out.new.items
-        ≡ out.old.items ++ spec.asked_records (source_tables sources.now) calls.now) }
+        ≡ out.old.items ++ spec.asked_records (source_tables sources.now) (map answered_call calls.now)) }
 {
     if sources.named.answers {
         append_all_answered(alloc, out, calls)
@@ -546,7 +548,7 @@ fn append_varieties(
 }
 
 /// Appends what falls out of a search, in whose states these calls were never made, got these codes, and answers.
-fn append_coverage(
+fn append_records(
     alloc: Global,
     out: &mut Vec<u8>,
     sources: &ExploredSources<'_>,
@@ -556,7 +558,7 @@ fn append_coverage(
     answers: &[SiteAnswer],
 ) -> Result<(), AllocError>
     ensures { OnOk result (out.new.items ≡ out.old.items ++ spec.coverage_records (source_tables sources.now)
-        report.now unmade.now answered.now
+        report.now unmade.now (map answered_call answered.now)
         (refused_calls (source_tables sources.now).claim.image.code answers.now)) }
 {
     let sys = sources.claim.image.system();
@@ -569,20 +571,27 @@ fn append_coverage(
     append_varieties(alloc, out, sources, &report.varieties)
 }
 
-/// The same as a text.
-fn records_of(
+/// Appends what falls out of a search, which saw this of the calls.
+fn append_coverage(
     alloc: Global,
+    out: &mut Vec<u8>,
     sources: &ExploredSources<'_>,
     report: &Report,
-    unmade: &[CallSite],
-    answered: &[Answered],
-    answers: &[SiteAnswer],
-) -> Result<Vec<u8>, AllocError>
-    ensures { IfOk result (λ text. spec.AreCoverageRecords (source_tables sources.now) report.now text.items) }
+    calls: &SeenCalls,
+) -> Result<(), AllocError>
+    ensures { OnOk result (out.new.items ≡ out.old.items ++ spec.coverage_records (source_tables sources.now)
+        report.now calls.now.unmade.items (map answered_call calls.now.answered.items)
+        (refused_calls (source_tables sources.now).claim.image.code calls.now.answers.items)) }
 {
-    let mut out = Vec::new(alloc);
-    append_coverage(alloc, &mut out, sources, report, unmade, answered, answers)?;
-    Ok(out)
+    append_records(
+        alloc,
+        out,
+        sources,
+        report,
+        &calls.unmade,
+        &calls.answered,
+        &calls.answers,
+    )
 }
 
 /// What falls out of a search, as objects of JSON, one in a line. `AllocError` if memory runs out.
@@ -591,11 +600,10 @@ pub fn coverage_records(
     sources: &ExploredSources<'_>,
     report: &Report,
 ) -> Result<Vec<u8>, AllocError>
-    ensures { IfOk result (λ text. spec.AreCoverageRecords (source_tables sources.now) report.now text.items) }
+    ensures { IfOk result (λ text. text.items ≡ spec.covered_records (source_tables sources.now) report.now) }
 {
-    let (image, coverage) = (sources.claim.image, &report.coverage);
-    let unmade = coverage.never_made(alloc, image.code())?;
-    let answered = answered_calls(alloc, image.code(), sources.positions, coverage)?;
-    let answers = answers_of(alloc, image.code(), coverage)?;
-    records_of(alloc, sources, report, &unmade, &answered, &answers)
+    let calls = seen_calls(alloc, sources, &report.coverage)?;
+    let mut out = Vec::new(alloc);
+    append_coverage(alloc, &mut out, sources, report, &calls)?;
+    Ok(out)
 }

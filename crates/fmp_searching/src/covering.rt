@@ -1,16 +1,18 @@
 //! What a search saw: how far it went, what was never made or run, the greatest counts and lengths, and the answers.
-ghost use Rattle.std.specs.Prelude.{◌≡◌, ◌++◌, IfOk, OnOk, codes, decimal};
+ghost use Rattle.std.specs.Prelude.{◌≡◌, ◌++◌, IfOk, OnOk, codes, decimal, map};
 ghost use Rattle.std.specs.List.{flat_map};
 ghost use Rattle.fmp_base.specs.Systems.{tables_of};
 ghost use Rattle.fmp_frames.specs.Refusals.{refused_calls};
 ghost use Rattle.fmp_searching.specs.Extent as spec;
 ghost use Rattle.fmp_searching.specs.Lines.{numbered};
+ghost use Rattle.fmp_searching.specs.Made.{answered_call};
 ghost use Rattle.fmp_searching.specs.Sources.{source_tables};
 
-use crate::answers::{Answered, answered_calls, append_answers};
+use crate::answers::{Answered, append_answers};
 use crate::claiming::append_number;
+use crate::made::{SeenCalls, seen_calls};
 use crate::naming::is_queue;
-use crate::refused::{answers_of, say_refused};
+use crate::refused::say_refused;
 use crate::sources::{ExploredSources, say, say_call};
 use crate::unsaid::is_whole;
 use crate::varied::append_varied;
@@ -153,7 +155,7 @@ fn say_answers(
     calls: &[Answered],
 ) -> Result<(), AllocError>
     ensures { OnOk result (out.new.items
-        ≡ out.old.items ++ spec.asked_answers (source_tables sources.now) calls.now) }
+        ≡ out.old.items ++ spec.asked_answers (source_tables sources.now) (map answered_call calls.now)) }
 {
     if sources.named.answers {
         append_answers(sources.named.src.as_bytes(), calls, out)
@@ -381,58 +383,41 @@ fn say_refused_and_rows(
     say_rows_of(alloc, out, sources, report)
 }
 
-/// The same after the codes that calls got.
+/// Appends the codes that calls got, if they are asked for, the calls that are refused, and who never ran, and the
+/// greatest counts and lengths.
 fn say_answers_and_rows(
     alloc: Global,
     out: &mut Vec<u8>,
     sources: &ExploredSources<'_>,
     report: &Report,
-    answered: &[Answered],
-    answers: &[SiteAnswer],
+    calls: &SeenCalls,
 ) -> Result<(), AllocError>
     ensures { OnOk result (out.new.items ≡ out.old.items
-        ++ (spec.asked_answers (source_tables sources.now) answered.now
+        ++ (spec.asked_answers (source_tables sources.now) (map answered_call calls.now.answered.items)
         ++ (flat_map (λ x. spec.refused_line (source_tables sources.now) x)
-        (refused_calls (source_tables sources.now).claim.image.code answers.now)
+        (refused_calls (source_tables sources.now).claim.image.code calls.now.answers.items)
         ++ (spec.unrun_text (source_tables sources.now).claim.image.system report.now
         ++ (spec.counts_text (source_tables sources.now).claim.image.system report.now
         ++ spec.lengths_text (source_tables sources.now).claim.image.system report.now))))) }
 {
-    say_answers(out, sources, answered)?;
-    say_refused_and_rows(alloc, out, sources, report, answers)
+    say_answers(out, sources, &calls.answered)?;
+    say_refused_and_rows(alloc, out, sources, report, &calls.answers)
 }
 
-/// Appends what falls out of a search, in whose states these calls were never made, got these codes, and answers.
+/// Appends what falls out of a search, which saw this of the calls.
 fn say_coverage(
     alloc: Global,
     out: &mut Vec<u8>,
     sources: &ExploredSources<'_>,
     report: &Report,
-    unmade: &[CallSite],
-    answered: &[Answered],
-    answers: &[SiteAnswer],
+    calls: &SeenCalls,
 ) -> Result<(), AllocError>
     ensures { OnOk result (out.new.items ≡ out.old.items ++ spec.coverage_text (source_tables sources.now) report.now
-        unmade.now answered.now (refused_calls (source_tables sources.now).claim.image.code answers.now)) }
+        calls.now.unmade.items (map answered_call calls.now.answered.items)
+        (refused_calls (source_tables sources.now).claim.image.code calls.now.answers.items)) }
 {
-    say_unmade(out, sources, is_whole(report.ending), unmade)?;
-    say_answers_and_rows(alloc, out, sources, report, answered, answers)
-}
-
-/// The same as a text.
-fn coverage_of(
-    alloc: Global,
-    sources: &ExploredSources<'_>,
-    report: &Report,
-    unmade: &[CallSite],
-    answered: &[Answered],
-    answers: &[SiteAnswer],
-) -> Result<Vec<u8>, AllocError>
-    ensures { IfOk result (λ text. spec.IsCoverage (source_tables sources.now) report.now text.items) }
-{
-    let mut out = Vec::new(alloc);
-    say_coverage(alloc, &mut out, sources, report, unmade, answered, answers)?;
-    Ok(out)
+    say_unmade(out, sources, is_whole(report.ending), &calls.unmade)?;
+    say_answers_and_rows(alloc, out, sources, report, calls)
 }
 
 /// What falls out of a search.
@@ -441,13 +426,12 @@ pub fn coverage_text(
     sources: &ExploredSources<'_>,
     report: &Report,
 ) -> Result<Vec<u8>, AllocError>
-    ensures { IfOk result (λ text. spec.IsCoverage (source_tables sources.now) report.now text.items) }
+    ensures { IfOk result (λ text. text.items ≡ spec.covered_text (source_tables sources.now) report.now) }
 {
-    let (image, coverage) = (sources.claim.image, &report.coverage);
-    let unmade = coverage.never_made(alloc, image.code())?;
-    let answered = answered_calls(alloc, image.code(), sources.positions, coverage)?;
-    let answers = answers_of(alloc, image.code(), coverage)?;
-    coverage_of(alloc, sources, report, &unmade, &answered, &answers)
+    let calls = seen_calls(alloc, sources, &report.coverage)?;
+    let mut out = Vec::new(alloc);
+    say_coverage(alloc, &mut out, sources, report, &calls)?;
+    Ok(out)
 }
 
 /// What is said of how a field gets fewer values.

@@ -1,7 +1,10 @@
 //! What an exploration is of, as the words of `explore` say it, and what is wrong with words that ask for none.
-ghost use Rattle.std.specs.Prelude.{◌≡◌, codes};
+ghost use Rattle.std.specs.Prelude.{◌≡◌, bytes_eq, codes};
+ghost use Rattle.std.specs.List.{list_any};
+ghost use Rattle.fmp_base.specs.Names.{name_text};
 ghost use Rattle.clap.specs.Words.{first_of, found_of, rows_of};
 ghost use Rattle.fmp_searching.specs.Explored.{IsAsked, IsExploring, IsForm, ticks_by};
+ghost use Rattle.fmp_searching.specs.Mistakes as spec;
 
 use crate::asking::{CommandMistake, ExploreWords};
 use crate::explore_form::explore_command;
@@ -118,10 +121,19 @@ fn wrong_words(alloc: Global, why: &str) -> Result<Error, AllocError> {
     mistake_of(explore_command(alloc), "fmp_view explore", why)
 }
 
+/// Whether a word says nothing of what must never happen.
+fn is_wrong_never(word: &str) -> bool
+    ensures { result ≡ spec.is_wrong_never word.now }
+{
+    never_named(word).is_none() && never_at_named(word).is_none()
+}
+
 /// The first of these words that says nothing of what must never happen.
-fn wrong_never<'m>(words: &[&'m str]) -> &'m str {
+fn wrong_never<'m>(words: &[&'m str]) -> &'m str
+    ensures { result.now ≡ spec.first_word spec.is_wrong_never words.now }
+{
     for word in words {
-        if never_named(word).is_none() && never_at_named(word).is_none() {
+        if is_wrong_never(word) {
             return word;
         }
     }
@@ -153,13 +165,28 @@ fn said_of_gaps(alloc: Global, words: &[&str]) -> Result<String, AllocError> {
     String::from_str(alloc, NO_GAP)
 }
 
+/// Whether a word is the name of one of these tasks.
+fn is_task(tasks: &[TaskConfig], word: &str) -> bool
+    ensures { result ≡ list_any (λ t. bytes_eq (name_text t.name) word.now) tasks.now }
+{
+    tasks
+        .iter()
+        .any(|task| task.name.as_bytes() == word.as_bytes())
+}
+
+/// Whether a word is the name of none of these tasks.
+fn is_wrong_task(tasks: &[TaskConfig], word: &str) -> bool
+    ensures { result ≡ spec.is_wrong_task tasks.now word.now }
+{
+    !is_task(tasks, word)
+}
+
 /// The first of these words that is the name of no task.
-fn wrong_task<'m>(words: &[&'m str], tasks: &[TaskConfig]) -> &'m str {
+fn wrong_task<'m>(words: &[&'m str], tasks: &[TaskConfig]) -> &'m str
+    ensures { result.now ≡ spec.first_word (spec.is_wrong_task tasks.now) words.now }
+{
     for word in words {
-        if !tasks
-            .iter()
-            .any(|task| task.name.as_bytes() == word.as_bytes())
-        {
+        if is_wrong_task(tasks, word) {
             return word;
         }
     }

@@ -3,7 +3,7 @@ ghost use Rattle.std.specs.Prelude.{◌≡◌, ◌+◌, ◌++◌, ◌<◌, ◌^�
 ghost use Rattle.fmp_explore.specs.Searching.{NothingIsFound};
 ghost use Rattle.fmp_witness.specs.Findings.{IsFound};
 ghost use Rattle.fmp_searching.specs.Claimed.{IsExplored, IsReportIn, IsReportText, Tells, text_of};
-ghost use Rattle.fmp_searching.specs.Extent.{IsCoverage, IsExtent, extent_line, unsaid_text, values_text, waits_line};
+ghost use Rattle.fmp_searching.specs.Extent.{covered_text, extent_line, extent_text, values_text, waits_line};
 ghost use Rattle.fmp_searching.specs.Findings.{finding_text};
 ghost use Rattle.fmp_searching.specs.Lines.{numbered};
 ghost use Rattle.fmp_searching.specs.Records.{IsReportRecords};
@@ -63,12 +63,12 @@ fn append_coverage(
     out: &mut Vec<u8>,
     sources: &ExploredSources<'_>,
     report: &Report,
-    coverage: &[u8],
 ) -> Result<(), AllocError>
-    ensures { OnOk result (out.new.items ≡ out.old.items
-        ++ (coverage.now ++ values_text (source_tables sources.now) report.now.varieties.items)) }
+    ensures { OnOk result (out.new.items ≡ out.old.items ++ (covered_text (source_tables sources.now) report.now
+        ++ values_text (source_tables sources.now) report.now.varieties.items)) }
 {
-    out.extend_from_slice(coverage)?;
+    let coverage = coverage_text(alloc, sources, report)?;
+    out.extend_from_slice(&coverage)?;
     say_varieties(alloc, out, sources, &report.varieties)
 }
 
@@ -78,58 +78,28 @@ fn append_reach(
     out: &mut Vec<u8>,
     sources: &ExploredSources<'_>,
     report: &Report,
-    coverage: &[u8],
 ) -> Result<(), AllocError>
     ensures { OnOk result (out.new.items ≡ out.old.items ++ (waits_line report.now.waits
         ++ (extent_line report.now.states report.now.events report.now.depth
-        ++ (coverage.now ++ values_text (source_tables sources.now) report.now.varieties.items)))) }
+        ++ (covered_text (source_tables sources.now) report.now
+        ++ values_text (source_tables sources.now) report.now.varieties.items)))) }
 {
     say_extent(out, report)?;
-    append_coverage(alloc, out, sources, report, coverage)
+    append_coverage(alloc, out, sources, report)
 }
 
-/// Appends the sentences that say nothing, and the same.
+/// Appends what is printed below the end of a search: the sentences that say nothing, how far it went, and what falls
+/// out of it.
 fn append_extent(
     alloc: Global,
     out: &mut Vec<u8>,
     sources: &ExploredSources<'_>,
     report: &Report,
-    coverage: &[u8],
 ) -> Result<(), AllocError>
-    ensures { OnOk result (out.new.items ≡ out.old.items ++ (unsaid_text (source_tables sources.now) report.now
-        ++ (waits_line report.now.waits ++ (extent_line report.now.states report.now.events report.now.depth
-        ++ (coverage.now ++ values_text (source_tables sources.now) report.now.varieties.items))))) }
+    ensures { OnOk result (out.new.items ≡ out.old.items ++ extent_text (source_tables sources.now) report.now) }
 {
     say_all_unsaid(alloc, out, sources, report)?;
-    append_reach(alloc, out, sources, report, coverage)
-}
-
-/// What is printed after the end of a search out of which this falls.
-fn extent_by(
-    alloc: Global,
-    sources: &ExploredSources<'_>,
-    report: &Report,
-    coverage: &[u8],
-) -> Result<Vec<u8>, AllocError>
-    requires { IsCoverage (source_tables sources.now) report.now coverage.now }
-    ensures { IfOk result (λ text. IsExtent (source_tables sources.now) report.now text.items) }
-{
-    let mut text = Vec::new(alloc);
-    append_extent(alloc, &mut text, sources, report, coverage)?;
-    Ok(text)
-}
-
-/// What is printed after the end of a search: the sentences that say nothing, how far it went, and what falls out of
-/// it.
-fn extent_text(
-    alloc: Global,
-    sources: &ExploredSources<'_>,
-    report: &Report,
-) -> Result<Vec<u8>, AllocError>
-    ensures { IfOk result (λ text. IsExtent (source_tables sources.now) report.now text.items) }
-{
-    let coverage = coverage_text(alloc, sources, report)?;
-    extent_by(alloc, sources, report, &coverage)
+    append_reach(alloc, out, sources, report)
 }
 
 /// What is printed of a report: its findings, what is claimed or why the search ended, and what the search saw.
@@ -143,8 +113,7 @@ fn report_text(
 {
     let mut text = findings_text(alloc, sources, &report.findings, seen)?;
     append_ending(alloc, &sources.claim, report, &mut text)?;
-    let extent = extent_text(alloc, sources, report)?;
-    text.extend_from_slice(&extent)?;
+    append_extent(alloc, &mut text, sources, report)?;
     Ok(text)
 }
 
@@ -158,8 +127,8 @@ fn report_records(
     ensures { IfOk result (λ text. IsReportRecords (source_tables sources.now) report.now seen.now text.items) }
 {
     let mut text = found_records(alloc, sources, &report.findings, seen)?;
-    let between = coverage_records(alloc, sources, report)?;
-    text.extend_from_slice(&between)?;
+    let coverage = coverage_records(alloc, sources, report)?;
+    text.extend_from_slice(&coverage)?;
     let end = end_record(alloc, sources, report)?;
     text.extend_from_slice(&end)?;
     Ok(text)

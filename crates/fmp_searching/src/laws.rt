@@ -1,19 +1,26 @@
 //! Laws on what two texts mean, each the contract of a function that does nothing.
-ghost use Rattle.std.specs.Prelude.{◌≤◌, ℕ, Bool, List};
+ghost use Rattle.std.specs.Prelude.{◌≡◌, ◌≤◌, ℕ, Bool, List, Ok, Some, true};
 ghost use Rattle.fmp_base.specs.declared.events.Event.{Event};
 ghost use Rattle.fmp_base.specs.declared.events.Line.{Line};
 ghost use Rattle.fmp_base.specs.Meanings.{World};
+ghost use Rattle.fmp_base.specs.Systems.{SystemTables};
 ghost use Rattle.fmp_codegen.specs.Tie.{CodeTied};
+ghost use Rattle.fmp_expect.specs.Grammar.{line_meaning};
+ghost use Rattle.fmp_expect.specs.Written.{AreWords, IsWritable, sentence_words};
 ghost use Rattle.fmp_image.specs.Building.{Builds};
 ghost use Rattle.fmp_image_bytes.specs.Images.{ImageTables};
 ghost use Rattle.fmp_instructions.specs.Machine.{code_meaning};
 ghost use Rattle.fmp_instructions.specs.declared.instructions.MachineContext.{MachineContext};
+ghost use Rattle.fmp_monitors.specs.declared.sentence.Sentence.{Sentence};
 ghost use Rattle.fmp_schedules.specs.Beside.{DoesBeside, HoldsThereAtAll};
 ghost use Rattle.fmp_schedules.specs.Completed.{HoldsAtAll, IsCompleted};
 ghost use Rattle.fmp_schedules.specs.Schedules.{Holds, HoldsThere, IsSchedule, Rules};
 ghost use Rattle.fmp_tasklang.specs.Texts.{text_meaning};
+ghost use Rattle.fmp_searching.specs.Extent.{words_of};
+ghost use Rattle.fmp_searching.specs.Sentences.{is_worded};
 ghost use Rattle.fmp_searching.specs.TextSchedules.{NeverTold};
 
+use fmp_expect::sentences_are_read_as_written;
 use fmp_image::laws::{built_image_does_text, built_image_prints_text};
 
 /// Where something holds along all schedules of the image of two texts, it holds of the texts: along each schedule they
@@ -50,4 +57,13 @@ pub fn texts_hold()
         (text_meaning i.system b.tasks.bodies) turns forbidden es }
 {
     built_image_does_text();
+}
+
+/// A sentence that a claim or a finding prints in its words is read as that sentence, if its names are found and are
+/// words, and its numbers are in range.
+pub fn printed_sentences_are_read_back()
+    ensures { (sys : SystemTables) (e : Sentence) → is_worded e ≡ true → IsWritable sys e
+        → AreWords (sentence_words sys e) → line_meaning sys (words_of sys e) ≡ Some (Ok e) }
+{
+    sentences_are_read_as_written();
 }

@@ -6,30 +6,9 @@ ghost use Rattle.fmp_searching.specs.Extent as spec;
 ghost use Rattle.fmp_searching.specs.Sources.{source_tables};
 
 use crate::sources::ExploredSources;
-use fmp_code::Code;
-use fmp_explore::Coverage;
-use fmp_frames::{CallSite, LineForm, RefusedCall, SiteAnswer, append_refused, refused_calls};
+use fmp_frames::{LineForm, RefusedCall, SiteAnswer, append_refused, refused_calls};
 use fmp_image_bytes::Image;
 use std::alloc::{AllocError, Global};
-
-/// The answers that calls ever got. `AllocError` if memory runs out.
-pub fn answers_of(
-    alloc: Global,
-    code: &Code,
-    coverage: &Coverage,
-) -> Result<Vec<SiteAnswer>, AllocError> {
-    let mut answers = Vec::new(alloc);
-    for made in &coverage.made(alloc, code)? {
-        let (body, pc) = (made.body, made.pc);
-        for answer in &coverage.answers(alloc, *made)? {
-            answers.push(SiteAnswer {
-                site: CallSite { body, pc },
-                code: *answer,
-            })?;
-        }
-    }
-    Ok(answers)
-}
 
 /// The calls that are refused, where calls got these answers: always, or by a code that says that they are used
 /// wrongly. `AllocError` if memory runs out.

@@ -1,5 +1,6 @@
 //! The command `explore`: it explores the schedules of two texts, and writes the steps of what it finds.
-ghost use Rattle.std.specs.Prelude.{◌≡◌, ◌⊎◌, ◌+◌, ◌<◌, ◌^◌, [], IfOk, Ok, if◌then◌else◌, false, length, map, nat_eq};
+ghost use Rattle.std.specs.Prelude.{◌≡◌, ◌⊎◌, ◌+◌, ◌<◌, ◌^◌, [], IfNone, IfOk, Ok, if◌then◌else◌, false, length, map};
+ghost use Rattle.std.specs.Prelude.{nat_eq};
 ghost use Rattle.std.specs.Prelude.{option_map, string_bytes, true};
 ghost use Rattle.std.specs.List.{AllByRecursion};
 ghost use Rattle.fmp_base.specs.Systems.{tables_of};
@@ -11,7 +12,9 @@ ghost use Rattle.fmp_searching.specs.Claims.{claim_tables};
 ghost use Rattle.fmp_searching.specs.Claimed.{EndsOfFiles, Gives, HasClaimed, HasEnded, HasShown, HoldsOfFiles};
 ghost use Rattle.fmp_frames.specs.CallPositions.{AreCallsOf};
 ghost use Rattle.fmp_searching.specs.Claimed.{OfImage, OfQuestion, OfTexts, PrintsNothing, PrintsOnly, sources_of};
-ghost use Rattle.fmp_searching.specs.Files.{IsApart, RemovesSteps, files_written, is_refusal, report_written};
+ghost use Rattle.fmp_searching.specs.Files.{IsApart, IsReportApart, RemovesSteps, files_written, is_refusal};
+ghost use Rattle.fmp_searching.specs.Files.{report_written};
+ghost use Rattle.fmp_searching.specs.Mistakes.{is_of_sentence};
 ghost use Rattle.fmp_searching.specs.Sources.{source_tables};
 
 use crate::asking::{CommandMistake, ExploreChoices, question_by, wanted_by};
@@ -322,7 +325,9 @@ fn refuse_question<O: Outside>(
     of: (&Image, &CallLines),
     mistake: CommandMistake,
 ) -> Result<u8, AllocError>
-    ensures { IfOk result (λ status. is_refusal status ≡ true) }
+    ensures refusal { IfOk result (λ status. is_refusal status ≡ true) }
+    ensures sentence { is_of_sentence mistake ≡ true → IfOk result (λ status. status ≡ 1) }
+    ensures words { is_of_sentence mistake ≡ false → IfOk result (λ status. (status ≡ 2) ⊎ (status ≡ 3)) }
 {
     match fault_of_sentences(alloc, configured, opened.said, of, mistake)? {
         Some(text) => Ok(refuse_sentence(outside, &text)),
@@ -489,7 +494,9 @@ fn explore_files<O: Outside, R: Clock + Threads + Sync>(
 }
 
 /// Whether the file of a report is one of those that are read.
-fn is_report_read<O: Outside>(outside: &O, exploring: &Exploring<'_>) -> bool {
+fn is_report_read<O: Outside>(outside: &O, exploring: &Exploring<'_>) -> bool
+    ensures { result ≡ false → IsReportApart exploring.now }
+{
     match exploring.junit {
         Some(name) => is_read(outside, name, exploring),
         None => false,
@@ -501,7 +508,9 @@ fn report_mistake<O: Outside>(
     alloc: Global,
     outside: &O,
     exploring: &Exploring<'_>,
-) -> Option<Result<Error, AllocError>> {
+) -> Option<Result<Error, AllocError>>
+    ensures { IfNone result (IsReportApart exploring.now) }
+{
     if is_report_read(outside, exploring) {
         return Some(report_over_input(alloc));
     }
@@ -524,6 +533,7 @@ pub fn run_explore<O: Outside, R: Clock + Threads + Sync>(
     ensures holds { result ≡ 0 → HoldsOfFiles (O.files outside.old) exploring.now (O.done outside.new) }
     ensures ended { is_refusal result ≡ false →
         EndsOfFiles (O.files outside.old) exploring.now result (O.done outside.new) }
+    ensures apart { is_refusal result ≡ false → IsReportApart exploring.now }
 {
     if let Some(mistake) = report_mistake(alloc, outside, exploring) {
         return refuse_mistake(outside, mistake);

@@ -1,22 +1,17 @@
 //! What is seen after the steps of a finding, and the call to which it belongs.
-ghost use Rattle.std.specs.Prelude.{◌≡◌, ◌<◌, ◌++◌, IfOk, IfSome, OnOk, Some, length, option_map, slice_get, true};
-ghost use Rattle.fmp_base.specs.Systems.{tables_of};
-ghost use Rattle.fmp_searching.specs.Extent.{said_text, value_of, words_of};
+ghost use Rattle.std.specs.Prelude.{◌≡◌, ◌<◌, ◌++◌, IfOk, IfSome, OnOk, false, length, option_map, slice_get, true};
+ghost use Rattle.fmp_searching.specs.Claims.{claim_tables};
+ghost use Rattle.fmp_searching.specs.Said.{first_broken, left_text};
 ghost use Rattle.fmp_searching.specs.Seen as spec;
 ghost use Rattle.fmp_searching.specs.Sources.{source_tables};
 
 use crate::call_sentences::{broken_by, is_forbidden, say_call_sentence};
-use crate::claiming::append_number;
-use crate::sentences::append_sentence;
-use crate::sources::{ExploredSources, say, say_made, say_position};
+use crate::left::say_left;
+use crate::sources::ExploredSources;
 use crate::stuck::{HeldUp, held_up};
 use crate::stuck_words::append_stuck;
-use fmp_base::{Line, System};
-use fmp_expect::Expected;
-use fmp_explore::{CallSite, Finding, FindingKind, Left, SentenceBreach, Started, left_by};
-use fmp_monitors::{ExpectedDeed, Happening, Sentence, Standing};
-use fmp_schedules::MonitorSubject;
-use fmp_trace::print;
+use fmp_base::Line;
+use fmp_explore::{CallSite, Finding, FindingKind, Left, left_by};
 use std::alloc::{AllocError, Global};
 
 /// What a finding breaks.
@@ -53,204 +48,6 @@ pub struct Seen {
     pub site: Option<CallSite>,
     /// What is said of it, without that call.
     pub text: Vec<u8>,
-}
-
-/// Appends a line of the trace, without its line feed.
-fn say_line(
-    out: &mut Vec<u8>,
-    sys: &System,
-    number: u32,
-    lines: &[Line],
-    place: usize,
-) -> Result<(), AllocError> {
-    if let Some(line) = lines.get(place) {
-        print(sys, number, &[*line], out)?;
-        let _feed = out.pop();
-    }
-    Ok(())
-}
-
-/// Appends a task that is started, with the call in which it waits.
-fn say_started(
-    out: &mut Vec<u8>,
-    sources: &ExploredSources<'_>,
-    started: Started,
-) -> Result<(), AllocError> {
-    let claim = &sources.claim;
-    if let Some(config) = claim.image.system().tasks.get(usize::from(started.task)) {
-        out.extend_from_slice(config.name.as_bytes())?;
-    }
-    if let Some(site) = started.waits {
-        say(out, " (")?;
-        say_position(out, sources, claim.lines.line(claim.image.code(), site))?;
-        say(out, ")")?;
-    }
-    Ok(())
-}
-
-/// Appends the tasks of a deadlock.
-fn say_deadlock(
-    out: &mut Vec<u8>,
-    sources: &ExploredSources<'_>,
-    started: &[Started],
-) -> Result<(), AllocError> {
-    for (i, task) in started.iter().enumerate() {
-        say(out, if i == 0 { "deadlock of " } else { ", " })?;
-        say_started(out, sources, *task)?;
-    }
-    Ok(())
-}
-
-/// Appends the name of a task.
-fn say_task(out: &mut Vec<u8>, sources: &ExploredSources<'_>, task: u8) -> Result<(), AllocError> {
-    match sources.claim.image.system().tasks.get(usize::from(task)) {
-        Some(config) => out.extend_from_slice(config.name.as_bytes()),
-        None => Ok(()),
-    }
-}
-
-/// The value of a happening that somebody puts it.
-pub fn value_of(happening: &Happening) -> i32
-    ensures { result ≡ value_of happening.now.deed }
-{
-    match happening.deed {
-        ExpectedDeed::Put(value) => value,
-        _ => 0,
-    }
-}
-
-/// Appends who is in the section that a task entered.
-fn say_holder(
-    alloc: Global,
-    out: &mut Vec<u8>,
-    sources: &ExploredSources<'_>,
-    subject: &MonitorSubject,
-    standing: Standing,
-) -> Result<(), AllocError> {
-    let MonitorSubject::Sentence(Sentence::OneAtATime { entering, leaving }) = subject else {
-        return Ok(());
-    };
-    let Standing::Inside(holder) = standing else {
-        return Ok(());
-    };
-    say(out, ": while ")?;
-    say_task(out, sources, holder)?;
-    let (enters, leaves) = (value_of(entering), value_of(leaving));
-    say_made(
-        out,
-        format!(in alloc; " is between put({enters}) and put({leaves})"),
-    )
-}
-
-/// A sentence without the comma and the blank after it.
-fn words_of(alloc: Global, sys: &System, sentence: &Sentence) -> Result<Vec<u8>, AllocError>
-    ensures { IfOk result (λ text. text.items ≡ words_of (tables_of sys.now) sentence.now) }
-{
-    let mut text = Vec::new(alloc);
-    append_sentence(alloc, sys, sentence, &mut text)?;
-    text.truncate(text.len().saturating_sub(2));
-    Ok(text)
-}
-
-/// Appends a sentence of the file with its line, after what is said of it.
-fn say_expected(
-    alloc: Global,
-    out: &mut Vec<u8>,
-    sources: &ExploredSources<'_>,
-    said: &Expected,
-    of: &str,
-) -> Result<(), AllocError>
-    ensures { OnOk result (out.new.items
-        ≡ out.old.items ++ said_text (source_tables sources.now) of.now (Some said.now)) }
-{
-    let words = words_of(alloc, sources.claim.configured, &said.sentence)?;
-    say(out, sources.sentences.file)?;
-    say(out, ":")?;
-    append_number(said.line as u64, out)?;
-    say(out, ": ")?;
-    say(out, of)?;
-    out.extend_from_slice(&words)
-}
-
-/// Appends a sentence of the file, at this place among them, with its line, and what is said of it.
-pub fn say_sentence(
-    alloc: Global,
-    out: &mut Vec<u8>,
-    sources: &ExploredSources<'_>,
-    place: usize,
-    of: &str,
-) -> Result<(), AllocError>
-    ensures { OnOk result (out.new.items ≡ out.old.items
-        ++ said_text (source_tables sources.now) of.now (slice_get sources.now.sentences.expected.now place)) }
-{
-    match sources.sentences.expected.get(place) {
-        Some(said) => say_expected(alloc, out, sources, said, of),
-        None => Ok(()),
-    }
-}
-
-/// Appends a sentence of the file that a line broke, and who was inside, if that is what it is about.
-fn say_broken(
-    alloc: Global,
-    out: &mut Vec<u8>,
-    sources: &ExploredSources<'_>,
-    place: usize,
-    standing: Standing,
-) -> Result<(), AllocError> {
-    say(out, ": ")?;
-    say_sentence(alloc, out, sources, place, "")?;
-    if let Standing::Inside(holder) = standing {
-        say(out, ": while ")?;
-        say_task(out, sources, holder)?;
-        say(out, " is inside")?;
-    }
-    Ok(())
-}
-
-/// Appends which sentence a line broke, and how.
-fn say_breach(
-    alloc: Global,
-    out: &mut Vec<u8>,
-    sources: &ExploredSources<'_>,
-    breached: SentenceBreach,
-) -> Result<(), AllocError> {
-    let (place, sections) = (breached.monitor, sources.sentences.sections);
-    let standing = breached.breach.standing;
-    if place >= sections {
-        return say_broken(alloc, out, sources, place - sections, standing);
-    }
-    match sources.claim.question.monitors.get(place) {
-        Some(monitor) => say_holder(alloc, out, sources, &monitor.subject, standing),
-        None => Ok(()),
-    }
-}
-
-/// Appends what the steps of a finding leave.
-fn say_left(
-    alloc: Global,
-    out: &mut Vec<u8>,
-    sources: &ExploredSources<'_>,
-    kind: FindingKind,
-    left: &Left,
-) -> Result<(), AllocError> {
-    let sys = sources.claim.image.system();
-    match kind {
-        FindingKind::Line(place) => say_line(out, sys, left.number, &left.lines, place),
-        FindingKind::Deadlock => say_deadlock(out, sources, &left.started),
-        FindingKind::Endless(p) => say_made(
-            out,
-            format!(in alloc; "processor {p} goes on for ever without a call"),
-        ),
-        FindingKind::Breach(breached) => {
-            say_line(out, sys, left.number, &left.lines, breached.breach.place)?;
-            say_breach(alloc, out, sources, breached)
-        }
-        FindingKind::State(place) => {
-            let place = place.saturating_sub(sources.sentences.sections);
-            say_sentence(alloc, out, sources, place, "")
-        }
-        FindingKind::Stuck(_) => Ok(()),
-    }
 }
 
 /// What is broken where the sentence at a place is, of which the first are those of sections.
@@ -335,50 +132,70 @@ fn broken_of(
     Ok(Broken { sentences, kind })
 }
 
-/// Appends what the steps of a finding leave, and says what it breaks.
-fn say_left_kind(
-    alloc: Global,
+/// Appends the first of these sentences about calls, which a finding breaks, with its line in the file.
+fn say_first_broken(
     out: &mut Vec<u8>,
     sources: &ExploredSources<'_>,
-    finding: &Finding,
-    left: &Left,
-) -> Result<Broken, AllocError>
-    ensures { IfOk result (spec.IsBroken (source_tables sources.now) finding.now left.now.lines.items) }
+    broken: &[usize],
+) -> Result<(), AllocError>
+    ensures { OnOk result (out.new.items
+        ≡ out.old.items ++ first_broken (source_tables sources.now) broken.now) }
 {
-    say_left(alloc, out, sources, finding.kind, left)?;
-    let broken = broken_of(alloc, sources, finding, &left.lines)?;
-    if let Some(place) = broken.sentences.first().copied() {
-        say_call_sentence(alloc, out, sources, place)?;
+    match broken {
+        [] => Ok(()),
+        [place, ..] => say_call_sentence(out, sources, *place),
     }
-    Ok(broken)
 }
 
-/// The same, if the steps of a finding leave something.
-fn say_what_is_left(
+/// What is said of what the steps of a finding leave, which breaks these sentences about calls.
+fn left_said(
     alloc: Global,
-    out: &mut Vec<u8>,
+    sources: &ExploredSources<'_>,
+    kind: FindingKind,
+    left: &Left,
+    broken: &[usize],
+) -> Result<Vec<u8>, AllocError>
+    ensures { IfOk result (λ text. text.items ≡ left_text (source_tables sources.now) kind left.now.number
+        left.now.lines.items left.now.started.items ++ first_broken (source_tables sources.now) broken.now) }
+{
+    let mut text = Vec::new(alloc);
+    say_left(alloc, &mut text, sources, kind, left)?;
+    say_first_broken(&mut text, sources, broken)?;
+    Ok(text)
+}
+
+/// What the steps of a finding leave; nothing where that is not known.
+fn shown_left(
+    alloc: Global,
     sources: &ExploredSources<'_>,
     finding: &Finding,
-) -> Result<Broken, AllocError>
-    ensures { IfOk result (λ broken. spec.IsBrokenBy (source_tables sources.now) finding.now broken) }
+) -> Result<Left, AllocError>
+    ensures { IfOk result (spec.IsShown (claim_tables sources.now.claim) finding.now) }
 {
     let claim = &sources.claim;
     match left_by(alloc, claim.image, claim.bound, &finding.steps)? {
-        Some(left) => say_left_kind(alloc, out, sources, finding, &left),
-        None => broken_of(alloc, sources, finding, &[]),
+        Some(left) => Ok(left),
+        None => Ok(Left {
+            number: 0,
+            lines: Vec::new(alloc),
+            started: Vec::new(alloc),
+        }),
     }
 }
 
-/// What the steps of a finding leave, if it is no stuck task.
-fn seen_left(
+/// What is seen of a finding, whose steps leave this.
+fn seen_of_left(
     alloc: Global,
     sources: &ExploredSources<'_>,
     finding: &Finding,
+    left: &Left,
 ) -> Result<Seen, AllocError>
+    requires shown { spec.IsShown (claim_tables sources.now.claim) finding.now left.now }
+    requires others { spec.is_stuck finding.now.kind ≡ false }
     ensures { IfOk result (spec.IsSeen (source_tables sources.now) finding.now) }
 {
-    let mut text = Vec::new(alloc);
-    let broken = say_what_is_left(alloc, &mut text, sources, finding)?;
+    let broken = broken_of(alloc, sources, finding, &left.lines)?;
+    let text = left_said(alloc, sources, finding.kind, left, &broken.sentences)?;
     Ok(Seen {
         found: finding.kind,
         kind: broken.kind,
@@ -388,8 +205,23 @@ fn seen_left(
     })
 }
 
+/// What is seen of a finding that is no stuck task.
+fn seen_left(
+    alloc: Global,
+    sources: &ExploredSources<'_>,
+    finding: &Finding,
+) -> Result<Seen, AllocError>
+    requires { spec.is_stuck finding.now.kind ≡ false }
+    ensures { IfOk result (spec.IsSeen (source_tables sources.now) finding.now) }
+{
+    let left = shown_left(alloc, sources, finding)?;
+    seen_of_left(alloc, sources, finding, &left)
+}
+
 /// The call to which a stuck task belongs: the one by which it spins, or else its last one.
-fn held_site(finding: &Finding, held: &HeldUp) -> Option<CallSite> {
+fn held_site(finding: &Finding, held: &HeldUp) -> Option<CallSite>
+    ensures { result ≡ spec.held_site held.now.spun finding.now.site }
+{
     match held.spun {
         Some(spun) => Some(spun.site),
         None => finding.site,
@@ -402,7 +234,10 @@ fn stuck_text(
     sources: &ExploredSources<'_>,
     held: &HeldUp,
     task: u8,
-) -> Result<Vec<u8>, AllocError> {
+) -> Result<Vec<u8>, AllocError>
+    ensures { IfOk result (λ text. text.items
+        ≡ spec.held_text (source_tables sources.now).claim.image.system task held.now) }
+{
     let lock = match held.spun {
         Some(spun) => Some(spun.lock),
         None => None,
@@ -419,7 +254,9 @@ fn stuck_call(
     sources: &ExploredSources<'_>,
     finding: &Finding,
     task: u8,
-) -> Result<(Option<CallSite>, Vec<u8>), AllocError> {
+) -> Result<(Option<CallSite>, Vec<u8>), AllocError>
+    ensures { IfOk result (λ said. spec.IsStuckSaid (source_tables sources.now) finding.now task said.0 said.1.items) }
+{
     let claim = &sources.claim;
     match held_up(alloc, claim.image, claim.bound, &finding.steps, task)? {
         Some(held) => Ok((
@@ -430,17 +267,16 @@ fn stuck_call(
     }
 }
 
-/// What is seen after the steps of a finding. `AllocError` if memory runs out.
-pub fn seen_of(
+/// What is seen of a finding that is a stuck task.
+fn seen_stuck(
     alloc: Global,
     sources: &ExploredSources<'_>,
     finding: &Finding,
+    task: u8,
 ) -> Result<Seen, AllocError>
+    requires { finding.now.kind ≡ FindingKind.Stuck task }
     ensures { IfOk result (spec.IsSeen (source_tables sources.now) finding.now) }
 {
-    let FindingKind::Stuck(task) = finding.kind else {
-        return seen_left(alloc, sources, finding);
-    };
     let (site, text) = stuck_call(alloc, sources, finding, task)?;
     Ok(Seen {
         found: FindingKind::Stuck(task),
@@ -449,6 +285,24 @@ pub fn seen_of(
         site,
         text,
     })
+}
+
+/// What is seen after the steps of a finding. `AllocError` if memory runs out.
+pub fn seen_of(
+    alloc: Global,
+    sources: &ExploredSources<'_>,
+    finding: &Finding,
+) -> Result<Seen, AllocError>
+    ensures { IfOk result (spec.IsSeen (source_tables sources.now) finding.now) }
+{
+    match finding.kind {
+        FindingKind::Stuck(task) => seen_stuck(alloc, sources, finding, task),
+        FindingKind::Line(_)
+        | FindingKind::Deadlock
+        | FindingKind::Endless(_)
+        | FindingKind::Breach(_)
+        | FindingKind::State(_) => seen_left(alloc, sources, finding),
+    }
 }
 
 /// What is seen of the finding at a place among these.

@@ -1,14 +1,14 @@
 //! What is said of a text of sentences of which one asks for no question.
-ghost use Rattle.std.specs.Prelude.{◌≡◌, IfOk, Ok};
+ghost use Rattle.std.specs.Prelude.{◌≡◌, IfOk, Ok, is_some};
 ghost use Rattle.fmp_base.specs.Systems.{tables_of};
 ghost use Rattle.fmp_expect.specs.CallSentences.{other_sentences_of};
+ghost use Rattle.fmp_searching.specs.Mistakes.{is_of_sentence};
 
 use crate::asking::{CommandMistake, is_end};
 use crate::sites::CallLines;
-use crate::test_reports::line_at;
 use fmp_arguments::flaw_text;
 use fmp_base::System;
-use fmp_expect::{Expected, read_call_sentences, read_other_sentences};
+use fmp_expect::{Expected, line_at, read_call_sentences, read_other_sentences};
 use fmp_image_bytes::Image;
 use std::alloc::{AllocError, Global};
 
@@ -71,9 +71,12 @@ pub fn fault_of_sentences(
     alloc: Global,
     configured: &System,
     text: &[u8],
-    (image, lines): (&Image, &CallLines),
+    of: (&Image, &CallLines),
     mistake: CommandMistake,
-) -> Result<Option<String>, AllocError> {
+) -> Result<Option<String>, AllocError>
+    ensures { IfOk result (λ text. is_some text ≡ is_of_sentence mistake) }
+{
+    let (image, lines) = of;
     match mistake {
         CommandMistake::Sentence { line, flaw } => {
             let said = flaw_text(alloc, configured, line, line_at(text, line), flaw)?;

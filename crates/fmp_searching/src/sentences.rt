@@ -3,6 +3,7 @@ ghost use Rattle.std.specs.Prelude.{◌≡◌, [], ◌+◌, ◌++◌, IfOk, OnOk
 ghost use Rattle.std.specs.List.{flat_map};
 ghost use Rattle.fmp_base.specs.Systems.{tables_of};
 ghost use Rattle.fmp_monitors.specs.Conditions.{tests_of};
+ghost use Rattle.fmp_expect.specs.Written as written;
 ghost use Rattle.fmp_searching.specs.Sentences as spec;
 
 use crate::claiming::{append, append_number, append_value, append_where};
@@ -19,7 +20,7 @@ use std::alloc::{AllocError, Global};
 
 /// Appends a name, if there is one.
 fn append_named(name: Option<Name>, out: &mut Vec<u8>) -> Result<(), AllocError>
-    ensures { OnOk result (out.new.items ≡ out.old.items ++ spec.named_text name) }
+    ensures { OnOk result (out.new.items ≡ out.old.items ++ written.named_text name) }
 {
     match name {
         Some(name) => append(name.as_bytes(), out),
@@ -45,7 +46,7 @@ fn append_deed(deed: ExpectedDeed, out: &mut Vec<u8>) -> Result<(), AllocError>
 
 /// The name of an actor, if it is there.
 fn actor_name(sys: &System, actor: ExpectedActor) -> Option<Name>
-    ensures { result ≡ spec.actor_name (tables_of sys.now) actor }
+    ensures { result ≡ written.actor_name (tables_of sys.now) actor }
 {
     match actor {
         ExpectedActor::Task(task) => Some(sys.tasks.get(task)?.name),
@@ -99,7 +100,7 @@ fn append_response(
 
 /// The name of the body of a handler, where a configuration names it.
 fn name_of(entry: Entry) -> Option<Name>
-    ensures { result ≡ spec.name_of entry }
+    ensures { result ≡ written.name_of entry }
 {
     match entry {
         Entry::Named(name) => Some(name),
@@ -119,7 +120,7 @@ fn interrupt_among(interrupts: &[InterruptConfig], number: u16) -> Option<Interr
 
 /// The name of the body of the handler of an interrupt, where a configuration names it.
 fn handler_name(sys: &System, number: u16) -> Option<Name>
-    ensures { result ≡ spec.handler_name (tables_of sys.now) number }
+    ensures { result ≡ written.handler_name (tables_of sys.now) number }
 {
     match interrupt_among(&sys.interrupts, number) {
         Some(interrupt) => name_of(interrupt.entry),
@@ -129,7 +130,7 @@ fn handler_name(sys: &System, number: u16) -> Option<Name>
 
 /// Whether a number is this one.
 fn is_number(found: Option<u8>, number: u16) -> bool
-    ensures { result ≡ spec.is_number found number }
+    ensures { result ≡ written.is_number found number }
 {
     match found {
         Some(other) => u16::from(other) == number,
@@ -146,7 +147,7 @@ fn append_by_name(
     out: &mut Vec<u8>,
 ) -> Result<(), AllocError>
     ensures { OnOk result (out.new.items
-        ≡ out.old.items ++ spec.interrupt_by (tables_of sys.now) number (Some name)) }
+        ≡ out.old.items ++ written.interrupt_by (tables_of sys.now) number (Some name)) }
 {
     if is_number(interrupt_named(sys, name.as_bytes()), number) {
         append(name.as_bytes(), out)
@@ -162,7 +163,7 @@ fn append_interrupt(
     name: Option<Name>,
     out: &mut Vec<u8>,
 ) -> Result<(), AllocError>
-    ensures { OnOk result (out.new.items ≡ out.old.items ++ spec.interrupt_by (tables_of sys.now) number name) }
+    ensures { OnOk result (out.new.items ≡ out.old.items ++ written.interrupt_by (tables_of sys.now) number name) }
 {
     match name {
         Some(name) => append_by_name(sys, number, name, out),
@@ -267,7 +268,7 @@ fn append_section(
 
 /// The name of the object of a measure, if it is there.
 fn measure_name(sys: &System, measure: Measure) -> Option<Name>
-    ensures { result ≡ spec.measure_name (tables_of sys.now) measure }
+    ensures { result ≡ written.measure_name (tables_of sys.now) measure }
 {
     match measure {
         Measure::SharedWord(place) => Some(sys.shared_words.get(place)?.name),

@@ -120,11 +120,6 @@ pub fn say(out: &mut Vec<u8>, text: &str) -> Result<(), AllocError>
     out.extend_from_slice(text.as_bytes())
 }
 
-/// Appends a text that was made.
-pub fn say_made(out: &mut Vec<u8>, text: Result<String, AllocError>) -> Result<(), AllocError> {
-    say(out, text?.as_str())
-}
-
 /// Appends where a call stands in a file, after the name of that.
 fn say_column(out: &mut Vec<u8>, position: Option<CallPosition>) -> Result<(), AllocError>
     ensures { OnOk result (out.new.items ≡ out.old.items ++ column_text position) }

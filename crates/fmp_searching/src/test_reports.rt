@@ -11,18 +11,10 @@ use crate::judging::{AskedTest, JudgedTest, Searched, cases_of, judged};
 use crate::parts::{add_monitors, add_nevers, deadlock_part};
 use crate::seen::SeenKind;
 use crate::sources::ExploredSources;
+use fmp_expect::line_at;
 use fmp_explore::Monitor;
 use fmp_json::{TestCase, TestSuite, append_report};
 use std::alloc::{AllocError, Global};
-
-/// The line of this number of a text, from 1, without the blanks at its end.
-pub fn line_at(text: &[u8], number: usize) -> &[u8] {
-    let mut lines = text.split(|byte| *byte == b'\n');
-    match lines.nth(number.saturating_sub(1)) {
-        Some(line) => line.trim_ascii_end(),
-        None => &[],
-    }
-}
 
 /// Adds the sentence of the file that stands in the line of this number.
 fn add_sentence(

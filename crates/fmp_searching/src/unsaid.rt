@@ -7,7 +7,7 @@ ghost use Rattle.fmp_searching.specs.Sources.{source_tables};
 ghost use Rattle.fmp_searching.specs.Unsaid as spec;
 
 use crate::claiming::append_value;
-use crate::seen::{say_sentence, value_of};
+use crate::left::{say_sentence, value_of};
 use crate::sources::{ExploredSources, say};
 use fmp_explore::{Ending, Monitor, Question, Report};
 use fmp_monitors::{Sentence, has_premise};

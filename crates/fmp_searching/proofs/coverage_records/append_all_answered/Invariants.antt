@@ -1,9 +1,10 @@
-use Rattle.std.proofs.Common.{◌≡◌, ◌++◌, drop}
+use Rattle.std.proofs.Common.{◌≡◌, ◌++◌, drop, map}
 use Rattle.std.specs.List.{flat_map}
 use Rattle.fmp_searching.specs.ExtentRecords.{answered_record}
+use Rattle.fmp_searching.specs.Made.{answered_call}
 use Rattle.fmp_searching.proofs.coverage_records.append_all_answered.Given as goal
 
 abbrev pub invariant-loop-call : goal.invariant-loop-call
 invariant-loop-call l =
-    l.out.items ++ flat_map (λ call. answered_record call) (drop l.call-index l.calls)
-    ≡ l.initial.out.items ++ flat_map (λ call. answered_record call) l.calls
+    l.out.items ++ flat_map (λ call. answered_record call) (map answered_call (drop l.call-index l.calls))
+    ≡ l.initial.out.items ++ flat_map (λ call. answered_record call) (map answered_call l.calls)
