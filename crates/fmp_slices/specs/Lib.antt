@@ -4,3 +4,5 @@ pub mod Escaped
 pub mod Labels
 pub mod Resources
 pub mod StandardLog
+pub mod Traces
+pub mod Tracks

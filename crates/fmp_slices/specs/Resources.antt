@@ -1,15 +1,30 @@
 -- The resources of a system.
-use Rattle.std.specs.Prelude.{ℕ, zero, suc, ◌+◌, List, [], ◌∷◌, ◌++◌, Option, None, Some, codes, decimal}
+use Rattle.std.specs.Prelude.{ℕ, zero, suc, ◌+◌, List, [], ◌∷◌, ◌++◌, Option, None, Some, codes, decimal, min}
 use Rattle.std.specs.Str.Lossy.{utf8_lossy}
 use Rattle.json.specs.Token.{Token, begin_object, end_object, key, string}
 use Rattle.fmp_base.specs.declared.names.Name.{Name}
+use Rattle.fmp_base.specs.declared.states.Caller.{Caller}
+use Rattle.fmp_base.specs.declared.states.Caller.TheVariants as caller
+use Rattle.fmp_base.specs.declared.states.Handler.{Handler}
+use Rattle.fmp_base.specs.declared.states.Handler.TheVariants as handler
 use Rattle.fmp_base.specs.declared.systems.CyclicConfig.{CyclicConfig}
 use Rattle.fmp_base.specs.declared.systems.InterruptConfig.{InterruptConfig}
 use Rattle.fmp_base.specs.declared.systems.TaskConfig.{TaskConfig}
 use Rattle.fmp_base.specs.Names.{name_text}
 use Rattle.fmp_base.specs.Systems.{SystemTables}
+use Rattle.fmp_base.specs.Texts.{caller_name}
 use Rattle.fmp_json.specs.Members.{list_begin, list_end, number_member, text_member}
 use Rattle.fmp_slices.specs.Labels.{entry_name}
+
+-- the name that a handler has as an object: of an interrupt its number
+abbrev pub handler_object : SystemTables → Handler → List ℕ
+handler_object sys (handler.Interrupt i) = codes "INT_" ++ decimal (min (i + 1) 255)
+handler_object sys (handler.Cyclic c) = caller_name sys (caller.Handler (handler.Cyclic c))
+
+-- the name that an actor has as an object
+abbrev pub actor_object : SystemTables → Caller → List ℕ
+actor_object sys (caller.Task t) = caller_name sys (caller.Task t)
+actor_object sys (caller.Handler h) = handler_object sys h
 
 -- a resource of a name, a type and a number begins
 abbrev pub resource_begin : (name kind : List ℕ) → ℕ → List Token

@@ -1,6 +1,6 @@
 //! When the events of a run came.
-ghost use Rattle.std.specs.Prelude.{◌≡◌, ◌∷◌, IfOk, [], get_or};
-ghost use Rattle.fmp_slices.specs.Clocks.{later as spec_later, times_from};
+ghost use Rattle.std.specs.Prelude.{◌≡◌, ◌∷◌, IfOk, []};
+ghost use Rattle.fmp_slices.specs.Clocks.{later as spec_later, time_at, times_from};
 
 use std::alloc::{AllocError, Global};
 
@@ -50,7 +50,7 @@ impl Clock {
 
     /// When this event came.
     pub fn at(&self, event: u32) -> u64
-        ensures { result ≡ get_or self.now.times.items event event }
+        ensures { result ≡ time_at self.now.times.items event }
     {
         match self.times.get(event as usize) {
             Some(time) => *time,

@@ -1,4 +1,8 @@
 //! Arrows from who acted to the task on which it acted.
+ghost use Rattle.std.specs.Prelude.{◌≡◌, ◌++◌, OnOk};
+ghost use Rattle.fmp_base.specs.Systems.{tables_of};
+ghost use Rattle.fmp_slices.specs.Traces as spec;
+
 use crate::clock::Clock;
 use crate::entries::{append_flow_end, append_flow_start};
 use crate::lanes::{lane_of, task_lane};
@@ -7,7 +11,9 @@ use fmp_timeline::{ActorLink, Bond};
 use std::alloc::{AllocError, Global};
 
 /// What an arrow says.
-fn bond_word(bond: Bond) -> &'static str {
+fn bond_word(bond: Bond) -> &'static str
+    ensures { result.now ≡ spec.bond_word bond }
+{
     match bond {
         Bond::Starts => "starts",
         Bond::Releases => "releases",
@@ -18,7 +24,9 @@ fn bond_word(bond: Bond) -> &'static str {
 
 /// When the arrow of an event leaves: a microsecond before the event, but no earlier than the event before it. There
 /// the slice of the actor lasts.
-fn leaves_at(clock: &Clock, event: u32) -> u64 {
+fn leaves_at(clock: &Clock, event: u32) -> u64
+    ensures { result ≡ spec.leaves_at clock.now.times.items event }
+{
     let before = clock.at(event.saturating_sub(1));
     clock.at(event).saturating_sub(1).max(before)
 }
@@ -31,7 +39,10 @@ fn append_link(
     number: u64,
     link: &ActorLink,
     out: &mut Vec<u8>,
-) -> Result<(), AllocError> {
+) -> Result<(), AllocError>
+    ensures { OnOk result (out.new.items
+        ≡ out.old.items ++ spec.link_text (tables_of sys.now) clock.now.times.items number link.now) }
+{
     let Some(lane) = lane_of(sys, link.from) else {
         return Ok(());
     };
@@ -54,11 +65,14 @@ pub fn append_links(
     clock: &Clock,
     links: &[ActorLink],
     out: &mut Vec<u8>,
-) -> Result<(), AllocError> {
-    let mut number = 0u64;
+) -> Result<(), AllocError>
+    ensures { OnOk result (out.new.items ≡ out.old.items
+        ++ spec.texts_from (spec.link_text (tables_of sys.now) clock.now.times.items) 1 links.now) }
+{
+    let mut number = 1u64;
     for link in links {
-        number = number.saturating_add(1);
         append_link(alloc, sys, clock, number, link, out)?;
+        number = number.saturating_add(1);
     }
     Ok(())
 }

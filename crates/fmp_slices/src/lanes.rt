@@ -1,4 +1,8 @@
 //! The tracks of a trace: a processor, a task, the ticks and the interrupts have one each.
+ghost use Rattle.std.specs.Prelude.{◌≡◌};
+ghost use Rattle.fmp_base.specs.Systems.{tables_of};
+ghost use Rattle.fmp_slices.specs.Tracks as spec;
+
 use crate::labels::interrupt_at;
 use fmp_base::{Caller, Handler, System};
 
@@ -27,7 +31,9 @@ pub const INTERRUPTS: Lane = Lane {
 };
 
 /// The track of the processor at a place.
-pub fn processor_lane(place: u8) -> Lane {
+pub fn processor_lane(place: u8) -> Lane
+    ensures { result ≡ spec.processor_lane place }
+{
     Lane {
         group: PROCESSORS,
         number: u64::from(place) + 1,
@@ -35,7 +41,9 @@ pub fn processor_lane(place: u8) -> Lane {
 }
 
 /// The track of the task at a place.
-pub fn task_lane(place: u8) -> Lane {
+pub fn task_lane(place: u8) -> Lane
+    ensures { result ≡ spec.task_lane place }
+{
     Lane {
         group: TASKS,
         number: u64::from(place) + 1,
@@ -43,7 +51,9 @@ pub fn task_lane(place: u8) -> Lane {
 }
 
 /// The place of the processor of a handler.
-fn handler_processor(sys: &System, handler: Handler) -> Option<u8> {
+fn handler_processor(sys: &System, handler: Handler) -> Option<u8>
+    ensures { result ≡ spec.handler_processor (tables_of sys.now) handler }
+{
     match handler {
         Handler::Cyclic(place) => Some(sys.cyclics.get(usize::from(place))?.processor),
         Handler::Interrupt(place) => Some(interrupt_at(sys, place)?.processor),
@@ -51,7 +61,9 @@ fn handler_processor(sys: &System, handler: Handler) -> Option<u8> {
 }
 
 /// The track on which a task or a handler acts: a handler on that of its processor.
-pub fn lane_of(sys: &System, actor: Caller) -> Option<Lane> {
+pub fn lane_of(sys: &System, actor: Caller) -> Option<Lane>
+    ensures { result ≡ spec.lane_of (tables_of sys.now) actor }
+{
     match actor {
         Caller::Task(task) => Some(task_lane(task)),
         Caller::Handler(handler) => Some(processor_lane(handler_processor(sys, handler)?)),

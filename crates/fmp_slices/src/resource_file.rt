@@ -22,7 +22,9 @@ fn append_interrupt(number: u8, out: &mut Vec<u8>) -> Result<(), AllocError>
 }
 
 /// Appends the name that a handler has as an object: of an interrupt `INT_` and its number.
-pub fn append_handler(sys: &System, handler: Handler, out: &mut Vec<u8>) -> Result<(), AllocError> {
+pub fn append_handler(sys: &System, handler: Handler, out: &mut Vec<u8>) -> Result<(), AllocError>
+    ensures { OnOk result (out.new.items ≡ out.old.items ++ spec.handler_object (tables_of sys.now) handler) }
+{
     match handler {
         Handler::Interrupt(place) => append_interrupt(place.saturating_add(1), out),
         Handler::Cyclic(_) => append_caller(sys, Caller::Handler(handler), out),
@@ -30,7 +32,9 @@ pub fn append_handler(sys: &System, handler: Handler, out: &mut Vec<u8>) -> Resu
 }
 
 /// Appends the name that a task or a handler has as an object.
-pub fn append_object(sys: &System, actor: Caller, out: &mut Vec<u8>) -> Result<(), AllocError> {
+pub fn append_object(sys: &System, actor: Caller, out: &mut Vec<u8>) -> Result<(), AllocError>
+    ensures { OnOk result (out.new.items ≡ out.old.items ++ spec.actor_object (tables_of sys.now) actor) }
+{
     match actor {
         Caller::Task(_) => append_caller(sys, actor, out),
         Caller::Handler(handler) => append_handler(sys, handler, out),

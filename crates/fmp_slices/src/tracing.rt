@@ -1,4 +1,8 @@
 //! A run in the Trace Event Format, as JSON.
+ghost use Rattle.std.specs.Prelude.{◌≡◌, ◌+◌, ◌++◌, IfOk, OnOk, Some, decimal, true};
+ghost use Rattle.fmp_slices.specs.Clocks.{time_at};
+ghost use Rattle.fmp_slices.specs.Traces as spec;
+
 use crate::clock::Clock;
 use crate::entries::{append_instant, append_slice, append_title};
 use crate::flows::append_links;
@@ -24,7 +28,9 @@ struct SliceSource<'a> {
 }
 
 /// Words and a number after them, from 1.
-fn numbered(alloc: Global, words: &[u8], place: u8) -> Result<Vec<u8>, AllocError> {
+fn numbered(alloc: Global, words: &[u8], place: u8) -> Result<Vec<u8>, AllocError>
+    ensures { IfOk result (λ text. text.items ≡ words.now ++ decimal (place + 1)) }
+{
     let mut text = Vec::from_slice(alloc, words)?;
     append(
         Buffer::new().format(u32::from(place) + 1).as_bytes(),
@@ -35,7 +41,10 @@ fn numbered(alloc: Global, words: &[u8], place: u8) -> Result<Vec<u8>, AllocErro
 
 impl SliceSource<'_> {
     /// When a state begins and ends: that of the end of the run lasts a microsecond after the last event.
-    fn span<S>(self, stay: &Stay<S>) -> (u64, u64) {
+    fn span<S>(self, stay: &Stay<S>) -> (u64, u64)
+        ensures from { result.0 ≡ time_at (spec.source_of self.entry).times stay.now.from }
+        ensures to { result.1 ≡ spec.ends_at (spec.source_of self.entry) stay.now.to }
+    {
         let from = self.clock.at(stay.from);
         let to = match stay.to {
             Some(event) => self.clock.at(event),
@@ -53,10 +62,19 @@ impl SliceSource<'_> {
         self.append_group(EVENTS, b"events", out)?;
         self.append_track(TICKS, b"ticks", out)?;
         self.append_track(INTERRUPTS, b"interrupts", out)?;
+        self.append_processor_titles(out)?;
+        self.append_task_titles(out)
+    }
+
+    fn append_processor_titles(self, out: &mut Vec<u8>) -> Result<(), AllocError> {
         for place in 0..self.sys.processors {
             let name = numbered(self.alloc, b"processor ", place)?;
             self.append_track(processor_lane(place), &name, out)?;
         }
+        Ok(())
+    }
+
+    fn append_task_titles(self, out: &mut Vec<u8>) -> Result<(), AllocError> {
         for place in 0..self.sys.tasks.len().min(255) as u8 {
             let name = self.sys.tasks[usize::from(place)].name;
             self.append_track(task_lane(place), name.as_bytes(), out)?;
@@ -64,12 +82,16 @@ impl SliceSource<'_> {
         Ok(())
     }
 
-    fn append_group(self, group: u64, name: &[u8], out: &mut Vec<u8>) -> Result<(), AllocError> {
+    fn append_group(self, group: u64, name: &[u8], out: &mut Vec<u8>) -> Result<(), AllocError>
+        ensures { OnOk result (out.new.items ≡ out.old.items ++ spec.group_title group name.now) }
+    {
         let lane = Lane { group, number: 0 };
         append_title(self.alloc, lane, "process_name", name, out)
     }
 
-    fn append_track(self, lane: Lane, name: &[u8], out: &mut Vec<u8>) -> Result<(), AllocError> {
+    fn append_track(self, lane: Lane, name: &[u8], out: &mut Vec<u8>) -> Result<(), AllocError>
+        ensures { OnOk result (out.new.items ≡ out.old.items ++ spec.track_title lane name.now) }
+    {
         append_title(self.alloc, lane, "thread_name", name, out)
     }
 
@@ -79,7 +101,10 @@ impl SliceSource<'_> {
         lane: Lane,
         stay: &Stay<Occupant>,
         out: &mut Vec<u8>,
-    ) -> Result<(), AllocError> {
+    ) -> Result<(), AllocError>
+        ensures { OnOk result (out.new.items
+            ≡ out.old.items ++ spec.turn_text (spec.source_of self.entry) lane stay.now) }
+    {
         let Some(actor) = stay.state.actor() else {
             return Ok(());
         };
@@ -96,8 +121,8 @@ impl SliceSource<'_> {
         track: &Track<Occupant>,
         out: &mut Vec<u8>,
     ) -> Result<(), AllocError> {
-        for stay in track.places(0, u32::MAX) {
-            if let Some(stay) = track.stay(stay) {
+        for number in 0..track.len() {
+            if let Some(stay) = track.stay(number) {
                 self.append_turn(processor_lane(place), &stay, out)?;
             }
         }
@@ -110,7 +135,10 @@ impl SliceSource<'_> {
         lane: Lane,
         stay: &Stay<TaskShown>,
         out: &mut Vec<u8>,
-    ) -> Result<(), AllocError> {
+    ) -> Result<(), AllocError>
+        ensures { OnOk result (out.new.items
+            ≡ out.old.items ++ spec.task_text (spec.source_of self.entry) lane stay.now) }
+    {
         let mut name = Vec::new(self.alloc);
         append_state(self.sys, self.bodies, stay.state, &mut name)?;
         let (from, to) = self.span(stay);
@@ -124,8 +152,8 @@ impl SliceSource<'_> {
         track: &Track<TaskShown>,
         out: &mut Vec<u8>,
     ) -> Result<(), AllocError> {
-        for stay in track.places(0, u32::MAX) {
-            if let Some(stay) = track.stay(stay) {
+        for number in 0..track.len() {
+            if let Some(stay) = track.stay(number) {
                 self.append_stay(task_lane(place), &stay, out)?;
             }
         }
@@ -134,29 +162,46 @@ impl SliceSource<'_> {
 
     /// The slices of all processors, and of all tasks.
     fn append_slices(self, out: &mut Vec<u8>) -> Result<(), AllocError> {
+        self.append_processors(out)?;
+        self.append_tasks(out)
+    }
+
+    fn append_processors(self, out: &mut Vec<u8>) -> Result<(), AllocError> {
         for place in 0..self.run.occupants.len().min(255) as u8 {
             self.append_processor(place, &self.run.occupants[usize::from(place)], out)?;
         }
+        Ok(())
+    }
+
+    fn append_tasks(self, out: &mut Vec<u8>) -> Result<(), AllocError> {
         for place in 0..self.run.tasks.len().min(255) as u8 {
             self.append_task(place, &self.run.tasks[usize::from(place)], out)?;
         }
         Ok(())
     }
 
-    fn append_tick(self, time: u64, clock: u32, out: &mut Vec<u8>) -> Result<(), AllocError> {
+    fn append_tick(self, time: u64, clock: u32, out: &mut Vec<u8>) -> Result<(), AllocError>
+        ensures { OnOk result (out.new.items ≡ out.old.items ++ spec.tick_text true time clock) }
+    {
         let mut name = Vec::from_slice(self.alloc, b"tick ")?;
         append(Buffer::new().format(clock).as_bytes(), &mut name)?;
         append_instant(self.alloc, TICKS, time, &name, out)
     }
 
-    fn append_interrupt(self, time: u64, place: u8, out: &mut Vec<u8>) -> Result<(), AllocError> {
+    fn append_interrupt(self, time: u64, place: u8, out: &mut Vec<u8>) -> Result<(), AllocError>
+        ensures { OnOk result (out.new.items
+            ≡ out.old.items ++ spec.interrupt_text (spec.source_of self.entry) time (Some place)) }
+    {
         let mut name = Vec::new(self.alloc);
         append_body(self.sys, self.bodies, Handler::Interrupt(place), &mut name)?;
         append_instant(self.alloc, INTERRUPTS, time, &name, out)
     }
 
     /// The tick or the interrupt of an event, if it is one.
-    fn append_note(self, event: u32, note: &Note, out: &mut Vec<u8>) -> Result<(), AllocError> {
+    fn append_note(self, event: u32, note: &Note, out: &mut Vec<u8>) -> Result<(), AllocError>
+        ensures { OnOk result (out.new.items
+            ≡ out.old.items ++ spec.note_text (spec.source_of self.entry) event note.now) }
+    {
         let time = self.clock.at(event);
         if note.ticks {
             self.append_tick(time, note.clock, out)?;
@@ -167,7 +212,9 @@ impl SliceSource<'_> {
         }
     }
 
-    fn append_notes(self, out: &mut Vec<u8>) -> Result<(), AllocError> {
+    fn append_notes(self, out: &mut Vec<u8>) -> Result<(), AllocError>
+        ensures { OnOk result (out.new.items ≡ out.old.items ++ spec.notes_text (spec.source_of self.entry)) }
+    {
         let mut event = 0u32;
         for note in &self.run.notes {
             self.append_note(event, note, out)?;

@@ -1,0 +1,4 @@
+mod Columns
+mod Points
+mod Recordings
+mod Stays

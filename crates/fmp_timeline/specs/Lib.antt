@@ -1,4 +1,11 @@
+pub mod Canvases
+pub mod Events
 pub mod Lanes
+pub mod Lengths
 pub mod Looks
 pub mod Marks
+pub mod Names
+pub mod Pages
+pub mod Recordings
 pub mod Shown
+pub mod Tracks

@@ -4,12 +4,15 @@ use Rattle.std.specs.Prelude.{slice_get, length, map}
 use Rattle.std.specs.List.{range_with_len}
 use Rattle.fmp_base.specs.declared.events.StateWord.TheVariants as word
 use Rattle.fmp_base.specs.declared.events.TaskState.{TaskState}
+use Rattle.fmp_base.specs.declared.states.Caller.{Caller}
+use Rattle.fmp_base.specs.declared.states.Caller.TheVariants as caller
 use Rattle.fmp_base.specs.declared.states.Handler.{Handler}
 use Rattle.fmp_base.specs.declared.states.Phase.{Phase}
 use Rattle.fmp_base.specs.declared.states.Phase.TheVariants as phase
 use Rattle.fmp_base.specs.declared.states.Processor.{Processor}
 use Rattle.fmp_base.specs.declared.states.TaskBlock.{TaskBlock}
 use Rattle.fmp_base.specs.declared.states.WaitCause.{WaitCause}
+use Rattle.fmp_timeline.specs.declared.states.Occupant.{Occupant}
 use Rattle.fmp_timeline.specs.declared.states.TaskShown.{TaskShown}
 
 -- what a task waits for
@@ -69,3 +72,13 @@ tasks_shown states blocks xs =
 -- a processor runs this handler
 abbrev pub IsRunning : Handler → Processor → Type 0
 IsRunning handler x = x.handler ≡ Some handler
+
+-- a handler goes on before the task that it has interrupted
+abbrev pub actor_by : Option Handler → Option ℕ → Option Caller
+actor_by (Some h) task = Some (caller.Handler h)
+actor_by None (Some t) = Some (caller.Task t)
+actor_by None None = None
+
+-- which actor goes on when its processor does
+abbrev pub actor_of : Occupant → Option Caller
+actor_of o = actor_by o.handler o.task

@@ -41,7 +41,9 @@ pub enum Sign {
 
 impl Sign {
     /// Whether the mark stands where the task was before the event, not where it is after it.
-    pub fn stands_before(self) -> bool {
+    pub fn stands_before(self) -> bool
+        ensures { result ≡ spec.stands_before self }
+    {
         matches!(
             self,
             Sign::Polled | Sign::Refused(_) | Sign::Faulted(_) | Sign::Ended | Sign::Terminated
@@ -49,7 +51,9 @@ impl Sign {
     }
 
     /// Whether something went wrong.
-    pub fn is_wrong(self) -> bool {
+    pub fn is_wrong(self) -> bool
+        ensures { result ≡ spec.is_wrong self }
+    {
         matches!(self, Sign::Refused(_) | Sign::Faulted(_))
     }
 }
@@ -132,7 +136,9 @@ pub struct Migration {
 }
 
 /// The one whose call, end or fault an event is.
-pub fn actor_of(lines: &[Line]) -> Option<Caller> {
+pub fn actor_of(lines: &[Line]) -> Option<Caller>
+    ensures { result ≡ spec.actor_of lines.now }
+{
     match lines.first()? {
         Line::Call { caller, .. } | Line::End { caller, .. } | Line::Fault { caller, .. } => {
             Some(*caller)
@@ -142,7 +148,9 @@ pub fn actor_of(lines: &[Line]) -> Option<Caller> {
 }
 
 /// The task that a call names by this number, where 0 is the caller.
-pub fn task_named(number: i32, caller: Caller) -> Option<u8> {
+pub fn task_named(number: i32, caller: Caller) -> Option<u8>
+    ensures { result ≡ spec.task_named number caller }
+{
     match (number, caller) {
         (0, Caller::Task(task)) => Some(task),
         _ => u8::try_from(number.checked_sub(1)?).ok(),
@@ -150,7 +158,9 @@ pub fn task_named(number: i32, caller: Caller) -> Option<u8> {
 }
 
 /// What an accepted call does to a task, if it names one to do something to.
-pub fn bond_of(call: Call) -> Option<(i32, Bond)> {
+pub fn bond_of(call: Call) -> Option<(i32, Bond)>
+    ensures { result ≡ spec.bond_of call }
+{
     let bond = match call.service().action()? {
         Action::Activates => Bond::Starts,
         Action::WakesUp => Bond::Releases,
@@ -163,7 +173,9 @@ pub fn bond_of(call: Call) -> Option<(i32, Bond)> {
 }
 
 /// Whether one of these lines says that this task starts or is released.
-pub fn moves(lines: &[Line], place: u8) -> bool {
+pub fn moves(lines: &[Line], place: u8) -> bool
+    ensures { result ≡ spec.moves place lines.now }
+{
     for line in lines {
         if let Line::Starts { task, .. } | Line::Gets { task, .. } = line
             && *task == place
@@ -175,7 +187,9 @@ pub fn moves(lines: &[Line], place: u8) -> bool {
 }
 
 /// Whether one of these lines says that a wait ended.
-pub fn ends_wait(lines: &[Line]) -> bool {
+pub fn ends_wait(lines: &[Line]) -> bool
+    ensures { result ≡ spec.ends_wait lines.now }
+{
     for line in lines {
         if matches!(line, Line::Gets { .. }) {
             return true;
@@ -185,7 +199,9 @@ pub fn ends_wait(lines: &[Line]) -> bool {
 }
 
 /// The mark of a code that a call answers at once.
-pub fn answer_sign(code: Er) -> Option<Sign> {
+pub fn answer_sign(code: Er) -> Option<Sign>
+    ensures { result ≡ spec.answer_sign code }
+{
     match code {
         Er::Ok => None,
         Er::Tmout | Er::Rlwai => Some(Sign::Polled),
@@ -194,7 +210,9 @@ pub fn answer_sign(code: Er) -> Option<Sign> {
 }
 
 /// The mark of a code that a released task gets.
-fn release_sign(code: Er) -> Sign {
+fn release_sign(code: Er) -> Sign
+    ensures { result ≡ spec.release_sign code }
+{
     match code {
         Er::Ok => Sign::Released,
         Er::Tmout => Sign::TimedOut,
@@ -203,7 +221,9 @@ fn release_sign(code: Er) -> Sign {
 }
 
 /// The mark of a line, and in whose lane it stands; a call has its marks beside these.
-pub fn line_sign(line: Line) -> Option<(Caller, Sign)> {
+pub fn line_sign(line: Line) -> Option<(Caller, Sign)>
+    ensures { result ≡ spec.line_sign line }
+{
     match line {
         Line::Int(place) => Some((Caller::Handler(Handler::Interrupt(place)), Sign::Requested)),
         Line::Call {
@@ -223,7 +243,9 @@ pub fn line_sign(line: Line) -> Option<(Caller, Sign)> {
 }
 
 /// The link of a line to a task that the actor starts or releases.
-pub fn line_link(line: Line, event: u32, actor: Option<Caller>) -> Option<ActorLink> {
+pub fn line_link(line: Line, event: u32, actor: Option<Caller>) -> Option<ActorLink>
+    ensures { result ≡ spec.line_link line event actor }
+{
     let (task, bond) = match line {
         Line::Starts { task, .. } => (task, Bond::Starts),
         Line::Gets { task, .. } => (task, Bond::Releases),

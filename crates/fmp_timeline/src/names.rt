@@ -1,4 +1,10 @@
 //! The names that a picture has for tasks, handlers, objects and calls.
+ghost use Rattle.std.specs.Prelude.{◌≡◌, false, option_map};
+ghost use Rattle.fmp_base.specs.Systems.{tables_of};
+ghost use Rattle.fmp_named.specs.Names.{name_at};
+ghost use Rattle.fmp_timeline.specs.Canvases.{Adds};
+ghost use Rattle.fmp_timeline.specs.Names as spec;
+
 use crate::canvas::Canvas;
 use fmp_base::{Call, Handler, Name, ObjectKind, Reply, System, WaitCause};
 use std::alloc::Global;
@@ -17,29 +23,26 @@ pub enum ArgumentTopic {
 }
 
 /// The name of what a topic is, if there is one.
-fn name_of(sys: &System, topic: ArgumentTopic) -> Option<&Name> {
+fn name_of(sys: &System, topic: ArgumentTopic) -> Option<&Name>
+    ensures { option_map (λ name. name.now) result
+        ≡ name_at (tables_of sys.now) (spec.kind_of topic) (spec.place_of topic) }
+{
     match topic {
         ArgumentTopic::Task(place) => Some(&sys.tasks.get(usize::from(place))?.name),
         ArgumentTopic::SharedWord(place) => Some(&sys.shared_words.get(usize::from(place))?.name),
         ArgumentTopic::SpinLock(place) => Some(&sys.spin_locks.get(usize::from(place))?.name),
         ArgumentTopic::Cyclic(place) => Some(&sys.cyclics.get(usize::from(place))?.name),
-        _ => object_name(sys, topic),
-    }
-}
-
-/// The name of an object that tasks wait for, if a topic is one and it exists.
-fn object_name(sys: &System, topic: ArgumentTopic) -> Option<&Name> {
-    match topic {
         ArgumentTopic::Semaphore(place) => Some(&sys.semaphores.get(usize::from(place))?.name),
         ArgumentTopic::Flag(place) => Some(&sys.flags.get(usize::from(place))?.name),
         ArgumentTopic::DataQueue(place) => Some(&sys.data_queues.get(usize::from(place))?.name),
         ArgumentTopic::Mailbox(place) => Some(&sys.mailboxes.get(usize::from(place))?.name),
-        _ => None,
     }
 }
 
 /// The bytes of the name of what a topic is; none if there is nothing.
-pub fn bytes_of(sys: &System, topic: ArgumentTopic) -> &[u8] {
+pub fn bytes_of(sys: &System, topic: ArgumentTopic) -> &[u8]
+    ensures { result.now ≡ spec.topic_text (tables_of sys.now) topic }
+{
     match name_of(sys, topic) {
         Some(name) => name.as_bytes(),
         None => &[],
@@ -47,12 +50,16 @@ pub fn bytes_of(sys: &System, topic: ArgumentTopic) -> &[u8] {
 }
 
 /// The bytes of the name of the task at a place.
-pub fn task_bytes(sys: &System, place: u8) -> &[u8] {
+pub fn task_bytes(sys: &System, place: u8) -> &[u8]
+    ensures { result.now ≡ spec.topic_text (tables_of sys.now) (ArgumentTopic.Task place) }
+{
     bytes_of(sys, ArgumentTopic::Task(place))
 }
 
 /// Appends the name of a handler: of an interrupt these words and its number.
-pub fn append_handler(sys: &System, handler: Handler, words: &str, out: &mut Canvas) {
+pub fn append_handler(sys: &System, handler: Handler, words: &str, out: &mut Canvas)
+    ensures { Adds out.old out.new (spec.handler_text (tables_of sys.now) handler words.now) }
+{
     match handler {
         Handler::Cyclic(place) => out.plain(bytes_of(sys, ArgumentTopic::Cyclic(place))),
         Handler::Interrupt(place) => out.numbered(words, u32::from(place).saturating_add(1), ""),
@@ -60,7 +67,10 @@ pub fn append_handler(sys: &System, handler: Handler, words: &str, out: &mut Can
 }
 
 /// The name of a handler as a text.
-pub fn handler_text(alloc: Global, sys: &System, handler: Handler, words: &str) -> Canvas {
+pub fn handler_text(alloc: Global, sys: &System, handler: Handler, words: &str) -> Canvas
+    ensures { result.is_cut ≡ false
+        → result.bytes.items ≡ spec.handler_text (tables_of sys.now) handler words.now }
+{
     let mut text = Canvas::new(alloc);
     append_handler(sys, handler, words, &mut text);
     text
@@ -136,7 +146,9 @@ pub fn append_call(sys: &System, call: Call, out: &mut Canvas) {
 }
 
 /// Appends the value that a call gives.
-pub fn append_value(reply: Option<Reply>, out: &mut Canvas) {
+pub fn append_value(reply: Option<Reply>, out: &mut Canvas)
+    ensures { Adds out.old out.new (spec.value_text reply) }
+{
     if let Some(reply) = reply
         && let Some(value) = reply.value
     {
@@ -146,7 +158,10 @@ pub fn append_value(reply: Option<Reply>, out: &mut Canvas) {
 }
 
 /// What a task waits for: an arrow where it sends or receives, and a name.
-pub fn wait_name(sys: &System, cause: WaitCause) -> (&'static str, &[u8]) {
+pub fn wait_name(sys: &System, cause: WaitCause) -> (&'static str, &[u8])
+    ensures arrow { result.0.now ≡ spec.wait_arrow cause }
+    ensures name { result.1.now ≡ spec.wait_text (tables_of sys.now) cause }
+{
     match cause {
         WaitCause::Sleep => ("", b"sleep"),
         WaitCause::Delay => ("", b"delay"),

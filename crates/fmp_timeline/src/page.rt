@@ -1,4 +1,9 @@
 //! The places of a picture's parts: how wide a column is, how many panels there are, and where an event stands.
+ghost use Rattle.std.specs.Prelude.{◌≡◌, ◌+◌, min, nat_lt};
+ghost use Rattle.fmp_timeline.specs.Events.{last_event};
+ghost use Rattle.fmp_timeline.specs.Lengths.{pixels};
+ghost use Rattle.fmp_timeline.specs.Pages as spec;
+
 use crate::font::{number_width, width};
 use crate::lengths::{Tenths, px};
 use crate::run::Run;
@@ -118,7 +123,10 @@ fn heading_width(last: u32) -> u32 {
 
 impl PicturePage {
     /// The measures for what is chosen of a run.
-    pub fn new(sys: &System, run: &Run, choice: Choice) -> PicturePage {
+    pub fn new(sys: &System, run: &Run, choice: Choice) -> PicturePage
+        ensures first { result.first ≡ min choice.first (last_event run.now) }
+        ensures last { result.last ≡ spec.last_drawn (last_event run.now) result.first choice.last }
+    {
         let end = run.next_event().saturating_sub(1);
         let first = choice.first.min(end);
         let last = choice
@@ -155,25 +163,33 @@ impl PicturePage {
     }
 
     /// The first event of a panel.
-    pub fn panel_start(&self, panel: u32) -> u32 {
+    pub fn panel_start(&self, panel: u32) -> u32
+        ensures { result ≡ spec.panel_start self.now panel }
+    {
         self.first
             .saturating_add(self.per_panel.saturating_mul(panel))
     }
 
     /// The last event of the panel that begins with this one.
-    pub fn panel_end(&self, first: u32) -> u32 {
+    pub fn panel_end(&self, first: u32) -> u32
+        ensures { result ≡ spec.panel_end self.now first }
+    {
         first
             .saturating_add(self.per_panel.saturating_sub(1))
             .min(self.last)
     }
 
     /// Where the lanes begin.
-    pub fn left(&self) -> Tenths {
+    pub fn left(&self) -> Tenths
+        ensures { result ≡ pixels self.now.gutter }
+    {
         px(self.gutter)
     }
 
     /// Where the events of a panel begin.
-    pub fn start(&self) -> Tenths {
+    pub fn start(&self) -> Tenths
+        ensures { result ≡ pixels (self.now.gutter + self.now.lead) }
+    {
         px(self.gutter) + px(self.lead)
     }
 }
@@ -188,22 +204,31 @@ pub struct PanelSpan {
 
 impl PanelSpan {
     /// Whether an event is one of the panel.
-    pub fn has(&self, event: u32) -> bool {
+    pub fn has(&self, event: u32) -> bool
+        ensures { result ≡ spec.has self.now event }
+    {
         self.first <= event && event <= self.last
     }
 
     /// Where an event stands.
-    pub fn x(&self, event: u32) -> Tenths {
+    #[tactic(auto, using(crate::proofs::Columns::capped_pixels))]
+    pub fn x(&self, event: u32) -> Tenths
+        ensures { result ≡ spec.x_of self.now event }
+    {
         self.page.start() + px(self.page.column).times(event.saturating_sub(self.first))
     }
 
     /// Where the panel ends.
-    pub fn end(&self) -> Tenths {
+    pub fn end(&self) -> Tenths
+        ensures { result ≡ spec.end_of self.now }
+    {
         self.x(self.last.saturating_add(1))
     }
 
     /// Where the box of a state begins: in the lead, if it began before the panel.
-    pub fn box_left<S>(&self, stay: &Stay<S>) -> Tenths {
+    pub fn box_left<S>(&self, stay: &Stay<S>) -> Tenths
+        ensures { result ≡ spec.left_of self.now stay.now.from }
+    {
         if stay.from < self.first {
             return self.page.left();
         }
@@ -211,7 +236,9 @@ impl PanelSpan {
     }
 
     /// Where the box of a state ends.
-    pub fn box_right<S>(&self, stay: &Stay<S>) -> Tenths {
+    pub fn box_right<S>(&self, stay: &Stay<S>) -> Tenths
+        ensures { result ≡ spec.right_of self.now stay.now.to }
+    {
         match stay.to {
             Some(to) if to <= self.last => self.x(to),
             _ => self.end(),
@@ -219,7 +246,9 @@ impl PanelSpan {
     }
 
     /// Whether the columns are so narrow that single marks and calls are left out.
-    pub fn is_narrow(&self) -> bool {
+    pub fn is_narrow(&self) -> bool
+        ensures { result ≡ nat_lt self.now.page.column 6 }
+    {
         self.page.column < 6
     }
 }

@@ -1,4 +1,7 @@
 //! A run as it is drawn: the states of its lanes over its events, and what its events did.
+ghost use Rattle.std.specs.Prelude.{◌≡◌, option_map, slice_get};
+ghost use Rattle.fmp_timeline.specs.Events as events;
+
 use crate::marks::{
     ActorLink, Bond, CallMade, EventMark, Migration, Sign, actor_of, bond_of, ends_wait, line_link,
     line_sign, moves, task_named,
@@ -60,11 +63,26 @@ pub struct Run {
 }
 
 /// The place of a task or handler among all.
-fn place_of(caller: Caller) -> usize {
+fn place_of(caller: Caller) -> usize
+    ensures { result ≡ events.place_of caller }
+{
     match caller {
         Caller::Task(task) => usize::from(task),
         Caller::Handler(Handler::Cyclic(cyclic)) => PLACES + usize::from(cyclic),
         Caller::Handler(Handler::Interrupt(place)) => 2 * PLACES + usize::from(place),
+    }
+}
+
+/// The place of the processor that a task is assigned to after the last event.
+pub fn processor_in(tasks: &[Track<TaskShown>], task: u8) -> Option<u8>
+    ensures { result ≡ events.processor_of (slice_get tasks.now task) }
+{
+    match tasks.get(usize::from(task)) {
+        Some(track) => match track.last() {
+            Some(shown) => Some(shown.processor),
+            None => None,
+        },
+        None => None,
     }
 }
 
@@ -134,17 +152,24 @@ impl Run {
     }
 
     /// The number of the next event; setup has 0.
-    pub fn next_event(&self) -> u32 {
+    pub fn next_event(&self) -> u32
+        ensures { result ≡ events.next_event self.now }
+    {
         u32::try_from(self.notes.len()).unwrap_or(u32::MAX)
     }
 
     /// What a task or a handler did, and what came to it.
-    pub fn deeds_of(&self, caller: Caller) -> Option<&Deeds> {
+    pub fn deeds_of(&self, caller: Caller) -> Option<&Deeds>
+        ensures { option_map (λ deeds. deeds.now) result
+            ≡ slice_get self.now.deeds.items (events.place_of caller) }
+    {
         self.deeds.get(place_of(caller))
     }
 
     /// The states of a handler.
-    pub fn handling(&self, handler: Handler) -> Option<&Track<Handling>> {
+    pub fn handling(&self, handler: Handler) -> Option<&Track<Handling>>
+        ensures { option_map (λ track. track.now) result ≡ events.handling self.now handler }
+    {
         match handler {
             Handler::Cyclic(place) => self.cyclics.get(usize::from(place)),
             Handler::Interrupt(place) => self.interrupts.get(usize::from(place)),
@@ -164,7 +189,11 @@ impl Run {
         places.len() > 1 || track.at(span.first) != Some(idle)
     }
 
-    fn mark(&mut self, event: u32, at: Caller, sign: Sign) -> Result<(), AllocError> {
+    fn mark(&mut self, event: u32, at: Caller, sign: Sign) -> Result<(), AllocError>
+        ensures notes { self.new.notes ≡ self.old.notes }
+        ensures text { self.new.text ≡ self.old.text }
+        ensures tasks { self.new.tasks ≡ self.old.tasks }
+    {
         if let Some(deeds) = self.deeds.get_mut(place_of(at)) {
             deeds.marks.push(EventMark { event, sign })?;
         }
@@ -187,7 +216,11 @@ impl Run {
 
     /// The actor of the processor at this place kept its place after the last event; of several times there is one
     /// mark.
-    pub fn keep_place(&mut self, processor: u8) -> Result<(), AllocError> {
+    pub fn keep_place(&mut self, processor: u8) -> Result<(), AllocError>
+        ensures notes { self.new.notes ≡ self.old.notes }
+        ensures text { self.new.text ≡ self.old.text }
+        ensures tasks { self.new.tasks ≡ self.old.tasks }
+    {
         let event = self.next_event().saturating_sub(1);
         if let Some(track) = self.occupants.get(usize::from(processor))
             && let Some(occupant) = track.last()
@@ -200,7 +233,11 @@ impl Run {
     }
 
     /// The marks and the links of the lines.
-    pub fn take_lines(&mut self, event: u32, lines: &[Line]) -> Result<(), AllocError> {
+    pub fn take_lines(&mut self, event: u32, lines: &[Line]) -> Result<(), AllocError>
+        ensures notes { self.new.notes ≡ self.old.notes }
+        ensures text { self.new.text ≡ self.old.text }
+        ensures tasks { self.new.tasks ≡ self.old.tasks }
+    {
         let actor = actor_of(lines);
         for line in lines {
             if let Some((at, sign)) = line_sign(*line) {
@@ -232,8 +269,10 @@ impl Run {
     }
 
     /// The place of the processor that a task is assigned to after the last event.
-    pub fn processor_of(&self, task: u8) -> Option<u8> {
-        Some(self.tasks.get(usize::from(task))?.last()?.processor)
+    pub fn processor_of(&self, task: u8) -> Option<u8>
+        ensures { result ≡ events.processor_of (slice_get self.now.tasks.items task) }
+    {
+        processor_in(&self.tasks, task)
     }
 
     /// Whether a task is assigned to another processor than before.
@@ -254,7 +293,11 @@ impl Run {
         caller: Caller,
         call: Call,
         moment: &Moment<'_>,
-    ) -> Result<(), AllocError> {
+    ) -> Result<(), AllocError>
+        ensures notes { self.new.notes ≡ self.old.notes }
+        ensures text { self.new.text ≡ self.old.text }
+        ensures tasks { self.new.tasks ≡ self.old.tasks }
+    {
         let Some((number, bond)) = bond_of(call) else {
             return Ok(());
         };
@@ -282,7 +325,11 @@ impl Run {
     }
 
     /// The call of an event.
-    pub fn take_call(&mut self, event: u32, moment: &Moment<'_>) -> Result<(), AllocError> {
+    pub fn take_call(&mut self, event: u32, moment: &Moment<'_>) -> Result<(), AllocError>
+        ensures notes { self.new.notes ≡ self.old.notes }
+        ensures text { self.new.text ≡ self.old.text }
+        ensures tasks { self.new.tasks ≡ self.old.tasks }
+    {
         let Some(
             Line::Call {
                 caller,

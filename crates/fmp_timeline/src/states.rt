@@ -65,7 +65,9 @@ pub struct Occupant {
 
 impl Occupant {
     /// The actor that goes on when the processor does.
-    pub fn actor(self) -> Option<Caller> {
+    pub fn actor(self) -> Option<Caller>
+        ensures { result ≡ spec.actor_of self }
+    {
         match (self.handler, self.task) {
             (Some(handler), _) => Some(Caller::Handler(handler)),
             (None, Some(task)) => Some(Caller::Task(task)),
