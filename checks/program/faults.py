@@ -574,9 +574,11 @@ WARNINGS = [
     (TASK + " }",
      "task m {\n    var i;\n    var a[2];\n    while (1) { }\n    while (i < 3) { i = i + 1; }\n"
      "    while (i == 0) { put(i); }\n    while (exinf) {\n        while (i < 9) { exinf = 1; }\n    }\n"
-     "    while (1) { if (i) { break; } }\n    while (1) { if (i) { return; } }\n    while (a[0]) { a[1] = 0; }\n}\n",
+     "    while (1) { if (i) { break; } }\n    while (1) { if (i) { return; } }\n    while (a[0]) { a[1] = 0; }\n"
+     "    while (0) { }\n    while (1) { i = 1 / i; }\n    while (1) { i = i / 2; }\n}\n",
      ("t.src", 4, 5, 5, ENDLESS),
-     ("t.src", 8, 9, 5, ENDLESS)),
+     ("t.src", 8, 9, 5, ENDLESS),
+     ("t.src", 15, 5, 5, ENDLESS)),
     (WITH_LOCKS,
      "task m {\n    loc_spn(L);\n    loc_spn(M);\n    unl_spn(L);\n    loc_spn(M);\n"
      "    if (exinf) { try_spn(L); unl_spn(M); }\n    if (exinf) { loc_spn(L); } else { loc_spn(M); }\n}\n",
@@ -612,13 +614,15 @@ WARNINGS = [
     (TASK + " }",
      "task m {\n    var x;\n    x = x / 0;\n    x = x % TA_NULL + 1;\n    put(1 < x < 3);\n    put(1 < x && x < 3);\n"
      "    put((1 < x) < 3);\n    put(2147483647 + 1);\n    put(x - 2147483647 + 1);\n    put(x + 65536 * 32768);\n"
-     "    put(65536 * 32767);\n    put(1 + 2147483647 / 2);\n    put(0 <= x + (x < 3) * 2 >= x);\n}\n",
+     "    put(65536 * 32767);\n    put(1 + 2147483647 / 2);\n    put(0 <= x + (x < 3) * 2 >= x);\n"
+     "    put(1 || 1 / 0);\n    x = 0 && x / 0;\n    put(0 || 1 / 0);\n}\n",
      ("t.src", 3, 13, 1, DIVISION),
      ("t.src", 4, 13, 7, DIVISION),
      ("t.src", 5, 15, 1, CHAIN),
      ("t.src", 8, 20, 1, "2147483647 + 1 does not fit into 32 bits: this is F_OVF"),
      ("t.src", 10, 19, 1, "65536 * 32768 does not fit into 32 bits: this is F_OVF"),
-     ("t.src", 13, 30, 2, CHAIN)),
+     ("t.src", 13, 30, 2, CHAIN),
+     ("t.src", 16, 18, 1, DIVISION)),
     # So too of `==` and `!=`, of which an order is an operand: not in parentheses.
     (TASK + " }",
      "task m {\n    var x;\n    if (x == exinf == 1) { put(1); }\n    put(x == 1 != exinf);\n"
@@ -676,13 +680,12 @@ WARNINGS = [
      "task m {\n    var x;\n    x = loc_spn(L);\n    if (x != E_OK) { return; }\n    unl_spn(L);\n    dis_dsp();\n"
      "    if (exinf) { ena_dsp(); }\n    wai_sem(S);\n    sig_sem(S);\n    dis_dsp();\n    pol_sem(S);\n}\n"),
     (WITH_LOCK_AND_SEM, "task m { wai_sem(S); sig_sem(S); loc_spn(L); while (1) { put(1); } }"),
-    # Bits that nothing sets: all of them for TWF_ORW, some of them for TWF_ANDW.
+    # Bits that nothing sets: all of them for TWF_ORW, some of them for TWF_ANDW. `pol_flg` does not wait.
     (TASK + "\nCRE_FLG(F, { 0, 1 }); CRE_FLG(G, { 0, 0 }); }",
      "task m {\n    var v;\n    set_flg(F, 2);\n    wai_flg(F, 7, TWF_ANDW, &v);\n    wai_flg(F, 7, TWF_ORW, &v);\n"
      "    wai_flg(F, 3, TWF_ANDW, &v);\n    pol_flg(F, 12, TWF_ORW, &v);\n    set_flg(G, v);\n"
      "    wai_flg(G, 8, TWF_ORW, &v);\n}\n",
-     ("t.src", 4, 16, 1, "nothing sets the bits 0x4 of `F`, for which `wai_flg` waits"),
-     ("t.src", 7, 16, 2, "nothing sets the bits 0xc of `F`, for which `pol_flg` waits")),
+     ("t.src", 4, 16, 1, "nothing sets the bits 0x4 of `F`, for which `wai_flg` waits")),
     # Sleeps that nothing ends.
     (ONE + "CRE_TSK(T, { TA_ACT, 0, m, 1, 64, NULL });\nCRE_TSK(U, { TA_ACT, 0, n, 1, 64, NULL }); }",
      "task m { slp_tsk(); }\ntask n { slp_tsk(); wup_tsk(U); tslp_tsk(1); }",

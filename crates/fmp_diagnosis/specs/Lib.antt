@@ -6,5 +6,6 @@ pub mod Nearest
 pub mod Records
 pub mod Reports
 pub mod StepFindings
+pub mod Tokens
 pub mod Topics
 pub mod Words

@@ -1,16 +1,28 @@
 //! The static API that begins at a token: where its fields stand, and their values.
+ghost use Rattle.std.specs.Prelude.{◌≡◌, ◌↔◌, ◌<◌, ◌^◌, IsTrue, Some, IfSome};
+ghost use Rattle.fmp_diagnosis.specs.Tokens as spec;
+
 use crate::around::name_at;
 use crate::fields::{Field, fields_of};
 use fmp_base::Name;
 use fmp_lex::{Api, Symbol, TokenKind, Tokens};
 
 /// Whether this symbol stands at a place.
-pub fn is_symbol(tokens: &Tokens<'_>, at: usize, symbol: Symbol) -> bool {
-    matches!(tokens.kind(at), Some(TokenKind::Symbol(found)) if found == symbol)
+pub fn is_symbol(tokens: &Tokens<'_>, at: usize, symbol: Symbol) -> bool
+    ensures is { IsTrue result ↔ spec.kind_at tokens.now at ≡ Some (TokenKind.Symbol symbol) }
+    ensures few { IsTrue result → at < 2 ^ 32 }
+{
+    match tokens.kind(at) {
+        Some(TokenKind::Symbol(found)) => found == symbol,
+        _ => false,
+    }
 }
 
 /// The static API whose word stands at a place.
-pub fn api_at(tokens: &Tokens<'_>, at: usize) -> Option<Api> {
+pub fn api_at(tokens: &Tokens<'_>, at: usize) -> Option<Api>
+    ensures value { result ≡ spec.api_at tokens.now at }
+    ensures few { IfSome result (λ _. at < 2 ^ 32) }
+{
     match tokens.kind(at) {
         Some(TokenKind::Api(api)) => Some(api),
         _ => None,
@@ -151,7 +163,9 @@ pub fn entry_of(tokens: &Tokens<'_>, at: usize, api: Api) -> Option<Name> {
 }
 
 /// The name that the API at a place gives to its object, if it gives one.
-pub fn object_name(tokens: &Tokens<'_>, at: usize) -> Option<Name> {
+pub fn object_name(tokens: &Tokens<'_>, at: usize) -> Option<Name>
+    ensures { result ≡ spec.object_name tokens.now at }
+{
     api_at(tokens, at)?;
     name_at(tokens, at.saturating_add(2))
 }

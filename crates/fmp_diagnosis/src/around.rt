@@ -1,6 +1,8 @@
 //! The tokens of a text before a place, and those from it on.
-ghost use Rattle.std.specs.Prelude.{◌≡◌, ◌-◌, length, min, slice_range, IfOk};
+ghost use Rattle.std.specs.Prelude.{◌≡◌, ◌-◌, ◌<◌, ◌^◌, length, min, option_map, slice_get, slice_range, IfOk, IfSome};
+ghost use Rattle.std.specs.List.{list_any};
 ghost use Rattle.fmp_diagnosis.specs.Culprits.{HasTokens};
+ghost use Rattle.fmp_diagnosis.specs.Tokens as spec;
 
 use fmp_base::Name;
 use fmp_lex::{Keyword, TokenKind, TokenList, TokenPosition, Tokens, tokens};
@@ -50,7 +52,9 @@ pub fn around_position<'a>(
 
 impl<'a> Around<'a> {
     /// The token at the place.
-    pub fn here(&self) -> Option<TokenKind> {
+    pub fn here(&self) -> Option<TokenKind>
+        ensures { result ≡ spec.kind_at self.now.rest.tokens 0 }
+    {
         self.rest.tokens.kind(0)
     }
 
@@ -80,17 +84,23 @@ impl<'a> Around<'a> {
 }
 
 /// Whether a body begins with this token.
-pub fn begins_body(kind: TokenKind) -> bool {
+pub fn begins_body(kind: TokenKind) -> bool
+    ensures { result ≡ spec.begins_body kind }
+{
     matches!(kind, TokenKind::Keyword(Keyword::Task | Keyword::Handler))
 }
 
 /// Whether a body begins at a place.
-pub fn begins_body_at(tokens: &Tokens<'_>, at: usize) -> bool {
+pub fn begins_body_at(tokens: &Tokens<'_>, at: usize) -> bool
+    ensures { result ≡ spec.begins_body_at tokens.now at }
+{
     tokens.kind(at).is_some_and(begins_body)
 }
 
-/// The place of the word with which the last body begins.
-pub fn last_body(tokens: &Tokens<'_>) -> usize {
+/// The place of the word with which the last body begins; 0 if there is none.
+pub fn last_body(tokens: &Tokens<'_>) -> usize
+    ensures { result ≡ spec.last_body tokens.now (length tokens.now) }
+{
     let mut found = 0;
     for at in 0..tokens.len() {
         if begins_body_at(tokens, at) {
@@ -101,7 +111,10 @@ pub fn last_body(tokens: &Tokens<'_>) -> usize {
 }
 
 /// The name at a place.
-pub fn name_at(tokens: &Tokens<'_>, at: usize) -> Option<Name> {
+pub fn name_at(tokens: &Tokens<'_>, at: usize) -> Option<Name>
+    ensures value { result ≡ spec.name_at tokens.now at }
+    ensures few { IfSome result (λ _. at < 2 ^ 32) }
+{
     match tokens.kind(at) {
         Some(TokenKind::Name(name)) => Some(name),
         _ => None,
@@ -109,16 +122,22 @@ pub fn name_at(tokens: &Tokens<'_>, at: usize) -> Option<Name> {
 }
 
 /// The line of the token at a place, from 1.
-pub fn line_of(tokens: &Tokens<'_>, at: usize) -> Option<u32> {
+pub fn line_of(tokens: &Tokens<'_>, at: usize) -> Option<u32>
+    ensures { result ≡ option_map (λ t. t.line) (slice_get tokens.now at) }
+{
     Some(tokens.position(at)?.line)
 }
 
 /// Whether two names have the same letters.
-pub fn is_same(a: &Name, b: &Name) -> bool {
+pub fn is_same(a: &Name, b: &Name) -> bool
+    ensures { result ≡ spec.is_same a.now b.now }
+{
     a.as_bytes() == b.as_bytes()
 }
 
 /// Whether one of these names has the same letters as a name.
-pub fn is_among(names: &[Name], name: &Name) -> bool {
+pub fn is_among(names: &[Name], name: &Name) -> bool
+    ensures { result ≡ list_any (λ one. spec.is_same one name.now) names.now }
+{
     names.iter().any(|one| is_same(one, name))
 }

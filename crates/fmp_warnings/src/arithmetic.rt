@@ -226,9 +226,24 @@ fn divides_by_zero(tokens: &Tokens<'_>, at: usize) -> bool {
         && number_at(tokens, at.saturating_add(1)) == Some(0)
 }
 
+/// Whether the operand at a place, of one token, is never worked out: `1 ||` or `0 &&` stands before it.
+fn is_passed_over(tokens: &Tokens<'_>, at: usize) -> bool {
+    let number = number_at(tokens, at.saturating_sub(2));
+    let decides = match symbol_at(tokens, at.saturating_sub(1)) {
+        Some(Symbol::OrOr) => number.is_some_and(|number| number != 0),
+        Some(Symbol::AndAnd) => number == Some(0),
+        _ => false,
+    };
+    decides
+        && matches!(
+            symbol_at(tokens, at.saturating_sub(3)),
+            Some(Symbol::Assign | Symbol::LeftParen | Symbol::Comma)
+        )
+}
+
 /// What is wrong with the operator at a place, and where that is shown.
 fn flaw_at(tokens: &Tokens<'_>, at: usize) -> Option<(usize, Flaw)> {
-    if divides_by_zero(tokens, at) {
+    if divides_by_zero(tokens, at) && !is_passed_over(tokens, at.saturating_sub(1)) {
         return Some((at.saturating_add(1), Flaw::Division));
     }
     if let Some(place) = chained_at(tokens, at) {
@@ -236,6 +251,9 @@ fn flaw_at(tokens: &Tokens<'_>, at: usize) -> Option<(usize, Flaw)> {
     }
     if is_mixed(tokens, at) {
         return Some((at, Flaw::Mixed));
+    }
+    if is_passed_over(tokens, at.saturating_sub(1)) {
+        return None;
     }
     Some((at, overflow_at(tokens, at)?))
 }

@@ -6,7 +6,6 @@ use crate::found::FoundWarnings;
 use crate::landmarks::Landmarks;
 use crate::objects::NamedObjects;
 use crate::walk::{WalkedArgument, lone_argument};
-use crate::wanted::waits_for_bits;
 use fmp_base::{Name, Service};
 use fmp_diagnosis::apis::is_symbol;
 use fmp_diagnosis::around::name_at;
@@ -60,13 +59,13 @@ fn missed_of(awaited: i64, set: i64, waits_for_all: bool) -> Option<i64> {
     }
 }
 
-/// The bits for which the call at a place waits, and which nothing sets. Nothing is said of an eventflag that no call
-/// sets, and of bits that are no number.
+/// The bits for which the call at a place waits, and which nothing sets. `pol_flg` does not wait. Nothing is said of an
+/// eventflag that no call sets, and of bits that are no number.
 fn missed_at(objects: &NamedObjects, tokens: &Tokens<'_>, at: usize) -> Option<MissedBits> {
     let TokenKind::Service(service) = tokens.kind(at)? else {
         return None;
     };
-    if !waits_for_bits(service) {
+    if !matches!(service, Service::WaiFlg | Service::TwaiFlg) {
         return None;
     }
     let flag = first_name(tokens, at)?;

@@ -53,8 +53,25 @@ fn begins_statement(tokens: &Tokens<'_>, at: usize) -> bool {
     }
 }
 
-/// Whether the token at a place of a loop's block may end the loop: a call, a jump out of it, or an assignment to one
-/// of the names of its condition.
+/// Whether the token at a place divides by what may be 0: a fault would end the loop.
+fn may_divide_by_zero(tokens: &Tokens<'_>, at: usize) -> bool {
+    let divides = is_symbol(tokens, at, Symbol::Slash) || is_symbol(tokens, at, Symbol::Percent);
+    divides
+        && !matches!(
+            tokens.kind(at.saturating_add(1)),
+            Some(TokenKind::Number(number)) if number > 0
+        )
+}
+
+/// Whether the condition that begins at a place is the number 0: the loop never begins.
+fn is_never(tokens: &Tokens<'_>, begin: usize) -> bool {
+    let first = begin.saturating_add(1);
+    tokens.kind(first) == Some(TokenKind::Number(0))
+        && is_symbol(tokens, first.saturating_add(1), Symbol::RightParen)
+}
+
+/// Whether the token at a place of a loop may end the loop: a call, a jump out of it, an assignment to one of the names
+/// of its condition, or a division by what may be 0.
 fn may_end(tokens: &Tokens<'_>, at: usize, condition: &IndexSet<ObjectName>) -> bool {
     match tokens.kind(at) {
         Some(TokenKind::Service(_)) => true,
@@ -62,7 +79,7 @@ fn may_end(tokens: &Tokens<'_>, at: usize, condition: &IndexSet<ObjectName>) -> 
         Some(TokenKind::Name(name)) => {
             begins_statement(tokens, at) && condition.contains(&ObjectName { name })
         }
-        _ => false,
+        _ => may_divide_by_zero(tokens, at),
     }
 }
 
@@ -72,10 +89,13 @@ fn is_endless(alloc: Global, tokens: &Tokens<'_>, at: usize) -> Result<bool, All
         return Ok(false);
     }
     let begin = at.saturating_add(1);
+    if is_never(tokens, begin) {
+        return Ok(false);
+    }
     let block = behind_group(tokens, begin, Symbol::LeftParen, Symbol::RightParen);
     let end = behind_group(tokens, block, Symbol::LeftBrace, Symbol::RightBrace);
     let condition = names_in(alloc, tokens, begin, block)?;
-    for place in block..end {
+    for place in begin..end {
         if may_end(tokens, place, &condition) {
             return Ok(false);
         }
