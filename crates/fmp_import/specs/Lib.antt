@@ -1,3 +1,4 @@
 pub mod Written
 pub mod Constants
+pub mod Values
 pub mod Imports

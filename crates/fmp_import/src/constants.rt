@@ -1,25 +1,27 @@
 //! The constants of a configuration in C.
-ghost use Rattle.std.specs.Prelude.{◌≡◌, [], IfOk, OnErr, bytes_eq, find, length, option_map};
+ghost use Rattle.std.specs.Prelude.{◌≡◌, [], IfOk, OnErr, length, option_copied, option_map};
 ghost use Rattle.fmp_base.specs.Words as spec_words;
-ghost use Rattle.fmp_base.specs.Names.{name_text};
 ghost use Rattle.fmp_import.specs.Constants as spec;
 ghost use Rattle.fmp_import.specs.Constants.{HasDefined, HasGiven, HasMore};
 
 use crate::directives::enabled_lexemes;
 use crate::lexemes::{Lexeme, LexemeKind, lexemes};
 use crate::reading::SourceReading;
+use crate::terms::{NoValue, Term};
 use crate::text::bytes_of;
-use crate::values::{NoValue, value_of};
+use crate::values::{Meaning, meaning_of};
 use fmp_base::Name;
 use fmp_base::words::find_constant;
 use std::alloc::{AllocError, Global};
 use std::marker::Model;
 
-/// The value of a name.
-#[derive(Clone, Copy)]
+/// What stands for a name.
+#[derive(Drop)]
 pub struct Definition {
     name: Name,
     value: i64,
+    /// The terms that replace the name, where one of their operators stands outside of parentheses.
+    terms: Vec<Term>,
 }
 
 /// What a line of the preprocessor defines.
@@ -27,6 +29,8 @@ pub struct Definition {
 pub enum Defines {
     /// A constant, which is known from now on.
     Constant,
+    /// A name for which something else stands already.
+    Other,
     /// A name that has no number.
     NoNumber,
     /// Nothing.
@@ -109,25 +113,36 @@ impl Constants {
         }
     }
 
+    /// The terms that replace a name. None if its value does.
+    pub(crate) fn terms_named(&self, word: &[u8]) -> &[Term]
+        ensures { result.now ≡ spec.terms_named self.now word.now }
+    {
+        match self.defined(word) {
+            Some(definition) => definition.terms.as_slice(),
+            None => &[],
+        }
+    }
+
     /// The first definition of a name.
-    fn defined(&self, word: &[u8]) -> Option<Definition>
-        ensures { result ≡ find (λ d. bytes_eq (name_text d.name) word.now) self.now }
+    fn defined(&self, word: &[u8]) -> Option<&Definition>
+        ensures { option_copied result ≡ spec.defined self.now word.now }
     {
         self.definitions
             .iter()
-            .copied()
             .find(|definition| definition.name.as_bytes() == word)
     }
 
-    /// Adds a constant of this name with the value of an expression.
+    /// Adds a constant of this name with the value of an expression, if that has one.
     fn add(
         &mut self,
         alloc: Global,
         text: &[u8],
         word: &[u8],
         expression: &[Lexeme],
-    ) -> Result<Defines, AllocError>
-        ensures defined { IfOk result (λ defines. HasDefined self.old self.new word.now defines) }
+    ) -> Result<bool, AllocError>
+        ensures defined { IfOk result (λ added. HasDefined self.old self.new word.now added) }
+        ensures given { IfOk result (λ added. HasGiven self.old self.new added) }
+        ensures more { HasMore self.old self.new }
         ensures kept { OnErr result (self.new ≡ self.old) }
     {
         let reading = SourceReading {
@@ -135,18 +150,41 @@ impl Constants {
             lexemes: expression,
             constants: self,
         };
-        match (Name::new(word), value_of(alloc, reading, expression)) {
+        match (Name::new(word), meaning_of(alloc, reading, expression)) {
             (_, Err(NoValue::Memory)) => Err(AllocError),
-            (Some(name), Ok(value)) => {
-                self.definitions.push(Definition { name, value })?;
-                Ok(Defines::Constant)
+            (Some(name), Ok(Meaning { value, terms })) => {
+                self.definitions.push(Definition { name, value, terms })?;
+                Ok(true)
             }
-            _ => Ok(Defines::NoNumber),
+            _ => Ok(false),
         }
     }
 
-    /// Adds the constant that a line of the preprocessor defines, unless its name is known. A macro with parameters is
-    /// no constant.
+    /// What a line defines whose name is known: nothing new if the same expression stands for it already.
+    fn known(
+        &self,
+        alloc: Global,
+        text: &[u8],
+        known: &Definition,
+        expression: &[Lexeme],
+    ) -> Result<Defines, AllocError> {
+        let reading = SourceReading {
+            text,
+            lexemes: expression,
+            constants: self,
+        };
+        match meaning_of(alloc, reading, expression) {
+            Err(NoValue::Memory) => Err(AllocError),
+            Ok(Meaning { value, terms })
+                if value == known.value && terms.as_slice() == known.terms.as_slice() => {
+                Ok(Defines::Constant)
+            }
+            _ => Ok(Defines::Other),
+        }
+    }
+
+    /// Adds the constant that a line of the preprocessor defines, unless something stands for its name already. A macro
+    /// with parameters is no constant.
     pub(crate) fn define(&mut self, alloc: Global, line: &[u8]) -> Result<Defines, AllocError>
         ensures { HasMore self.old self.new }
     {
@@ -167,10 +205,17 @@ impl Constants {
             return Ok(Defines::NoNumber);
         }
         let name = bytes_of(text, name.span);
-        if self.defined(name).is_some() {
-            return Ok(Defines::Constant);
+        match self.defined(name) {
+            Some(known) => self.known(alloc, text, known, expression),
+            None => {
+                let added = self.add(alloc, text, name, expression)?;
+                Ok(if added {
+                    Defines::Constant
+                } else {
+                    Defines::NoNumber
+                })
+            }
         }
-        self.add(alloc, text, name, expression)
     }
 
     /// Adds the constants that a header defines; its other lines are skipped.
@@ -191,17 +236,16 @@ impl Constants {
         ensures kept { OnErr result (self.new ≡ self.old) }
     {
         let found = lexemes(alloc, text)?;
-        let defines = match found.as_slice() {
+        match found.as_slice() {
             [name] if name.kind == LexemeKind::Word => {
                 let one = lexemes(alloc, b"1")?;
-                self.add(alloc, b"1", bytes_of(text, name.span), &one)?
+                self.add(alloc, b"1", bytes_of(text, name.span), &one)
             }
             [name, equal, value @ ..]
                 if name.kind == LexemeKind::Word && equal.kind == LexemeKind::Sign(b'=') => {
-                self.add(alloc, text, bytes_of(text, name.span), value)?
+                self.add(alloc, text, bytes_of(text, name.span), value)
             }
-            _ => Defines::Nothing,
-        };
-        Ok(defines == Defines::Constant)
+            _ => Ok(false),
+        }
     }
 }

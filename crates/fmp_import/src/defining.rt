@@ -1,7 +1,7 @@
 //! The constants of a configuration and of the files that it includes, in any order.
 ghost use Rattle.fmp_import.specs.Constants.{HasMore};
 
-use crate::constants::Constants;
+use crate::constants::{Constants, Defines};
 use crate::directives::included_name;
 use crate::importing::Header;
 use crate::lexemes::{Lexeme, LexemeKind};
@@ -89,4 +89,27 @@ pub fn take_constants(
         }
     }
     Ok(())
+}
+
+/// Why a lexeme of an included file is left out, if the list is to say it: it may give a constant another value.
+pub fn why_skipped(
+    alloc: Global,
+    header: &[u8],
+    lexeme: Lexeme,
+    constants: &mut Constants,
+) -> Result<Option<&'static str>, AllocError>
+    ensures { HasMore constants.old constants.new }
+{
+    match lexeme.kind {
+        LexemeKind::DisabledDirective => Ok(Some(
+            "it stands in the included file, after an `#if 0`, and its condition is not read",
+        )),
+        LexemeKind::Directive => match constants.define(alloc, bytes_of(header, lexeme.span))? {
+            Defines::Other => Ok(Some(
+                "it stands in the included file, and another definition of its name counts",
+            )),
+            _ => Ok(None),
+        },
+        _ => Ok(None),
+    }
 }

@@ -1,5 +1,7 @@
 //! Lines of the preprocessor: which file one includes, and which lines others leave out.
-use crate::lexemes::{Lexeme, LexemeKind, lexemes, word_end};
+ghost use Rattle.std.specs.Prelude.{◌≡◌, None, Some, IfSome};
+
+use crate::lexemes::{Lexeme, LexemeKind, after_blanks, lexemes, word_end};
 use crate::text::bytes_of;
 use std::alloc::{AllocError, Global};
 
@@ -10,44 +12,39 @@ enum Condition {
     Never,
     /// Another `#if`, `#ifdef` or `#ifndef`.
     Begins,
-    /// `#else` or `#elif`.
+    /// `#else`.
     Otherwise,
+    /// `#elif`.
+    OtherwiseIf,
     /// `#endif`.
     Ends,
 }
 
 /// The name of the file that a line includes, if it stands in quotes.
 pub fn included_name(line: &[u8]) -> Option<&[u8]> {
-    let word = line.strip_prefix(b"#")?.trim_ascii();
-    let name = word
-        .strip_prefix(b"include")?
-        .trim_ascii()
-        .strip_prefix(b"\"")?;
+    let word = after_blanks(line.strip_prefix(b"#")?);
+    let name = after_blanks(word.strip_prefix(b"include")?).strip_prefix(b"\"")?;
     let end = name.iter().position(|byte| *byte == b'"')?;
     Some(&name[..end])
 }
 
-/// Whether what stands after `#if` is 0, with or without a comment.
+/// Whether what stands after `#if` is 0.
 fn is_zero(condition: &[u8]) -> bool {
-    match condition.trim_ascii().strip_prefix(b"0") {
-        Some(rest) => rest.is_empty() || is_comment(rest.trim_ascii()),
+    match after_blanks(condition).strip_prefix(b"0") {
+        Some(rest) => after_blanks(rest).is_empty(),
         None => false,
     }
 }
 
-/// Whether a comment begins here.
-fn is_comment(text: &[u8]) -> bool {
-    text.starts_with(b"//") || text.starts_with(b"/*")
-}
-
 /// What a line says of those after it, if it says anything of them.
 fn condition_of(line: &[u8]) -> Option<Condition> {
-    let text = line.strip_prefix(b"#")?.trim_ascii();
+    let text = after_blanks(line.strip_prefix(b"#")?);
     let end = word_end(text, 0);
     match &text[..end] {
         b"if" if is_zero(&text[end..]) => Some(Condition::Never),
         b"if" | b"ifdef" | b"ifndef" => Some(Condition::Begins),
-        b"else" | b"elif" => Some(Condition::Otherwise),
+        b"else" => Some(Condition::Otherwise),
+        b"elif" => Some(Condition::OtherwiseIf),
         b"endif" => Some(Condition::Ends),
         _ => None,
     }
@@ -59,7 +56,10 @@ pub fn leaves_out(line: &[u8]) -> bool {
 }
 
 /// How many conditions are open from the first one on that leaves lines out, after a line that has this one.
-fn depth_after(depth: usize, condition: Option<Condition>) -> usize {
+fn depth_after(depth: usize, condition: Option<Condition>) -> usize
+    ensures otherwise_if { condition ≡ Some Condition.OtherwiseIf → result ≡ depth }
+    ensures other { condition ≡ None → result ≡ depth }
+{
     match (depth, condition) {
         (0, Some(Condition::Never)) => 1,
         (0, _) | (1, Some(Condition::Otherwise)) => 0,
@@ -69,17 +69,40 @@ fn depth_after(depth: usize, condition: Option<Condition>) -> usize {
     }
 }
 
+/// What a lexeme says of those after it, if it says anything of them.
+fn condition_at(text: &[u8], lexeme: Lexeme) -> Option<Condition> {
+    match lexeme.kind {
+        LexemeKind::Directive => condition_of(bytes_of(text, lexeme.span)),
+        _ => None,
+    }
+}
+
+/// The lexeme as it is read where this many conditions are open from the first one on that leaves lines out, if it is:
+/// an `#elif` of that condition is kept for the list of what was left out.
+fn enabled(depth: usize, condition: Option<Condition>, lexeme: Lexeme) -> Option<Lexeme>
+    ensures read { depth ≡ 0 → result ≡ Some lexeme }
+    ensures span { IfSome result (λ read. read.span ≡ lexeme.span) }
+{
+    match (depth, condition) {
+        (0, _) => Some(lexeme),
+        (1, Some(Condition::OtherwiseIf)) => Some(Lexeme {
+            kind: LexemeKind::DisabledDirective,
+            ..lexeme
+        }),
+        _ => None,
+    }
+}
+
 /// The lexemes of a text without those after `#if 0` up to its `#else` or `#endif`.
 pub fn enabled_lexemes(alloc: Global, text: &[u8]) -> Result<Vec<Lexeme>, AllocError> {
     let mut found = Vec::new(alloc);
     let mut depth = 0;
     for lexeme in &lexemes(alloc, text)? {
-        if depth == 0 {
-            found.push(*lexeme)?;
+        let condition = condition_at(text, *lexeme);
+        if let Some(read) = enabled(depth, condition, *lexeme) {
+            found.push(read)?;
         }
-        if lexeme.kind == LexemeKind::Directive {
-            depth = depth_after(depth, condition_of(bytes_of(text, lexeme.span)));
-        }
+        depth = depth_after(depth, condition);
     }
     Ok(found)
 }

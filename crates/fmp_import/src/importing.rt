@@ -143,6 +143,9 @@ fn drafted(
     take_constants(alloc, source, &mut constants)?;
     let mut walk = ConfigurationWalk::new(alloc, text, &found, headers, constants);
     walk.go()?;
+    if walk.has_taken()? {
+        walk.go_again()?;
+    }
     Ok(Draft {
         blocks: walk.blocks,
         notes: walk.notes,

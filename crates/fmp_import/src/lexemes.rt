@@ -1,5 +1,5 @@
 //! The text of a configuration in C is cut into lexemes.
-ghost use Rattle.std.specs.Prelude.{◌<◌, ◌≤◌, IfSome, length};
+ghost use Rattle.std.specs.Prelude.{◌≡◌, ◌<◌, ◌≤◌, IfSome, length};
 
 use crate::plan::TextSpan;
 use std::alloc::{AllocError, Global};
@@ -13,10 +13,14 @@ pub enum LexemeKind {
     Number,
     /// A line of the preprocessor.
     Directive,
+    /// An `#elif` after an `#if 0`.
+    DisabledDirective,
     /// A text or a character in quotes.
     Quoted,
     /// The `/*` of a comment that does not end.
     OpenComment,
+    /// `<<` or `>>`, by its byte.
+    Shift(u8),
     /// Any other byte.
     Sign(u8),
 }
@@ -86,7 +90,8 @@ fn comment_end(text: &[u8], from: usize) -> Option<usize>
     None
 }
 
-/// Where what is quoted ends that goes on at a place: after the quote, or where its line ends.
+/// Where what is quoted ends that goes on at a place: after the quote, or where its line ends. A `\` before its line
+/// feed joins the next line to it.
 fn quote_end(text: &[u8], from: usize, quote: u8) -> usize
     requires { from ≤ length text.now }
     ensures from { from ≤ result }
@@ -94,13 +99,13 @@ fn quote_end(text: &[u8], from: usize, quote: u8) -> usize
 {
     let mut escaped = false;
     for i in from..text.len() {
-        if text[i] == b'\n' {
+        if text[i] == b'\n' && !escaped {
             return i;
         }
         if text[i] == quote && !escaped {
             return i + 1;
         }
-        escaped = text[i] == b'\\' && !escaped;
+        escaped = (text[i] == b'\\' && !escaped) || (text[i] == b'\r' && escaped);
     }
     text.len()
 }
@@ -143,6 +148,76 @@ fn comment_or_sign(text: &[u8], next: usize) -> TextPiece
     }
 }
 
+/// Where the line goes on after a `\` before a place: after the line feed, if the line ends there.
+fn joined_end(text: &[u8], next: usize) -> usize
+    requires { next ≤ length text.now }
+    ensures from { next ≤ result }
+    ensures within { result ≤ length text.now }
+{
+    match &text[next..] {
+        [b'\n', ..] => next + 1,
+        [b'\r', b'\n', ..] => next + 2,
+        _ => next,
+    }
+}
+
+/// Where the part of a line of the preprocessor ends that begins at a place: a byte, a comment, what is quoted, or a
+/// `\` with the line feed after it. None where the line ends: at its line feed, and at a comment that does not end.
+fn directive_part_end(text: &[u8], at: usize) -> Option<usize>
+    requires { at < length text.now }
+    ensures { IfSome result (λ end. (at < end) × (end ≤ length text.now)) }
+{
+    let next = at + 1;
+    match text[at] {
+        b'\n' => None,
+        b'\\' => Some(joined_end(text, next)),
+        quote @ (b'"' | b'\'') => Some(quote_end(text, next, quote)),
+        b'/' => {
+            let TextPiece { kind, end } = comment_or_sign(text, next);
+            if matches!(kind, Some(LexemeKind::OpenComment)) {
+                None
+            } else {
+                Some(end)
+            }
+        }
+        _ => Some(next),
+    }
+}
+
+/// Where the line of the preprocessor ends that goes on at a place. A comment in it may go on over lines.
+fn directive_end(text: &[u8], from: usize) -> usize
+    requires { from ≤ length text.now }
+    ensures from { from ≤ result }
+    ensures within { result ≤ length text.now }
+{
+    let mut at = from;
+    'parts: while at < text.len() {
+        match directive_part_end(text, at) {
+            Some(end) => at = end,
+            None => return at,
+        }
+    }
+    at
+}
+
+/// The `<<` or `>>` whose first byte stands before a place, or that byte where it stands alone.
+fn shift_or_sign(text: &[u8], next: usize, byte: u8) -> TextPiece
+    requires { next ≤ length text.now }
+    ensures next { next ≤ result.end }
+    ensures within { result.end ≤ length text.now }
+{
+    if next < text.len() && text[next] == byte {
+        return TextPiece {
+            kind: Some(LexemeKind::Shift(byte)),
+            end: next + 1,
+        };
+    }
+    TextPiece {
+        kind: Some(LexemeKind::Sign(byte)),
+        end: next,
+    }
+}
+
 /// Whether a line ends at a place.
 fn is_line_end(text: &[u8], at: usize) -> bool {
     matches!(text.get(at), Some(b'\r' | b'\n'))
@@ -166,13 +241,14 @@ fn piece_at(text: &[u8], at: usize) -> TextPiece
         },
         b'#' => TextPiece {
             kind: Some(LexemeKind::Directive),
-            end: line_end(text, next),
+            end: directive_end(text, next),
         },
         quote @ (b'"' | b'\'') => TextPiece {
             kind: Some(LexemeKind::Quoted),
             end: quote_end(text, next, quote),
         },
         b'/' => comment_or_sign(text, next),
+        byte @ (b'<' | b'>') => shift_or_sign(text, next, byte),
         byte if is_word(byte) => TextPiece {
             kind: Some(word_kind(byte)),
             end: word_end(text, next),
@@ -202,6 +278,36 @@ fn span_of(kind: LexemeKind, start: usize, end: usize) -> TextSpan {
         },
         _ => TextSpan { start, end },
     }
+}
+
+/// What stands after the spaces and comments at the start of a text.
+pub fn after_blanks(text: &[u8]) -> &[u8] {
+    let mut at = 0;
+    'blanks: while at < text.len() {
+        let TextPiece { kind, end } = piece_at(text, at);
+        if kind.is_some() {
+            break;
+        }
+        at = end;
+    }
+    &text[at..]
+}
+
+/// The first line of a part of a text.
+pub fn first_line(text: &[u8], span: TextSpan) -> TextSpan
+    ensures start { result.start ≡ span.start }
+    ensures within { result.end ≤ span.end }
+{
+    let end = span.end.min(text.len());
+    for i in span.start..end {
+        if is_line_end(text, i) {
+            return TextSpan {
+                start: span.start,
+                end: i,
+            };
+        }
+    }
+    span
 }
 
 /// How many lines end in these bytes.

@@ -2,7 +2,8 @@
 use crate::lexemes::{Lexeme, LexemeKind};
 use crate::plan::{PlanItem, Record};
 use crate::reading::{SourceField, SourceReading};
-use crate::values::{NoValue, value_of};
+use crate::terms::NoValue;
+use crate::values::value_of;
 use fmp_base::Name;
 use fmp_base::words::{Api, Constant, find_api, find_constant, find_keyword, find_service};
 use std::alloc::{AllocError, Global};
@@ -58,6 +59,11 @@ pub struct SourceObject {
     pub changes: Changes,
 }
 
+/// An expression is of no form that is read, or its value does not fit.
+const NOT_READ: Omission = Omission::Wrong(
+    "one of its values is an expression that is not read here",
+);
+
 const WRONG_COUNT: Omission = Omission::Wrong("the number of its parameters is another one");
 
 /// Reads the parameters of objects.
@@ -102,14 +108,6 @@ fn is_reserved(word: &[u8]) -> bool {
         || find_keyword(word).is_some()
 }
 
-/// Whether this is a word of this project with `_` after it.
-pub fn is_escaped(word: &[u8]) -> bool {
-    match word.strip_suffix(b"_") {
-        Some(front) => is_reserved(front),
-        None => false,
-    }
-}
-
 /// Whether the texts may give this name to an object or to a body.
 fn is_name(word: &[u8]) -> bool {
     !word.is_empty() && word.len() <= Name::MAX && !is_reserved(word)
@@ -124,11 +122,11 @@ impl Parameters<'_> {
     }
 
     /// The value of a parameter.
-    fn value(&self, field: SourceField, without: &'static str) -> Result<i64, Omission> {
+    fn value(&self, field: SourceField) -> Result<i64, Omission> {
         match value_of(self.alloc, self.reading, self.reading.lexemes_of(field)) {
             Ok(value) => Ok(value),
             Err(NoValue::Unknown(lexeme)) => Err(Omission::Unknown(lexeme)),
-            Err(NoValue::Form) => Err(Omission::Wrong(without)),
+            Err(NoValue::Form) => Err(NOT_READ),
             Err(NoValue::Memory) => Err(Omission::Memory),
         }
     }
@@ -141,7 +139,7 @@ impl Parameters<'_> {
         high: i32,
         outside: &'static str,
     ) -> Result<i32, Omission> {
-        match i32::try_from(self.value(field, outside)?) {
+        match i32::try_from(self.value(field)?) {
             Ok(number) if low <= number && number <= high => Ok(number),
             _ => Err(Omission::Wrong(outside)),
         }
@@ -180,6 +178,15 @@ impl Parameters<'_> {
 
     /// The bits of an attribute that are known, and whether there are others.
     fn bits(&self, field: SourceField) -> Result<(i64, bool), Omission> {
+        match self.value(field) {
+            Ok(value) => Ok((value, false)),
+            Err(Omission::Unknown(_)) => self.known_bits(field),
+            Err(omission) => Err(omission),
+        }
+    }
+
+    /// The bits of the words and numbers of an attribute that are known, and whether there are others.
+    fn known_bits(&self, field: SourceField) -> Result<(i64, bool), Omission> {
         let mut bits = 0;
         let mut others = false;
         for lexeme in self.reading.lexemes_of(field) {

@@ -1,37 +1,95 @@
-//! The values of expressions of C, as far as configurations have them: numbers, constants, `|`, `+`, `-`, `*`,
-//! parentheses and casts.
-ghost use Rattle.std.specs.Prelude.{◌<◌, ◌≤◌, length};
+//! The values of expressions of C, as far as configurations have them: numbers, constants, `|`, `&`, `<<`, `>>`, `+`,
+//! `-`, `*`, `/`, `%`, parentheses and casts.
+ghost use Rattle.std.specs.Prelude.{◌≡◌, ◌^◌, pos, IfSome};
+ghost use Rattle.fmp_import.specs.Values.{IsValue, whole_value};
 
-use crate::lexemes::{Lexeme, LexemeKind};
+use crate::lexemes::Lexeme;
 use crate::reading::SourceReading;
-use std::alloc::{AllocFailed, Global};
+use crate::terms::{NoValue, Term, terms_of};
+use std::alloc::Global;
 
-/// Why an expression has no value.
+/// An operator that is applied here to numbers that are not negative alone: C gives others by their types.
 #[derive(Clone, Copy)]
-pub enum NoValue {
-    /// This name is unknown.
-    Unknown(Lexeme),
-    /// It is not of the form that is read here, or its value is out of range.
-    Form,
-    /// Memory ran out.
-    Memory,
-}
-
-impl<T: Drop> From<AllocFailed<T>> for NoValue {
-    fn from(_error: AllocFailed<T>) -> Self {
-        NoValue::Memory
-    }
+enum WholeOperator {
+    And,
+    ShiftLeft,
+    ShiftRight,
+    Divide,
+    Remainder,
 }
 
 /// An operator that waits for what stands after it.
-#[derive(Clone, Copy, PartialEq, Eq)]
+#[derive(Clone, Copy)]
 enum PendingOperator {
     Open,
     Or,
     Add,
     Subtract,
     Multiply,
+    Whole(WholeOperator),
     Negate,
+}
+
+impl WholeOperator {
+    /// How tightly it binds.
+    fn binding(self) -> u8 {
+        match self {
+            WholeOperator::And => 2,
+            WholeOperator::ShiftLeft | WholeOperator::ShiftRight => 3,
+            WholeOperator::Divide | WholeOperator::Remainder => 5,
+        }
+    }
+
+    /// What it gives of two numbers. None if C does not say, as for a shift by 32 bits or a division by 0.
+    fn value(self, left: u64, right: u64) -> Option<u64>
+        ensures { IfSome result (λ value. value ≡ whole_value self left right) }
+    {
+        match self {
+            WholeOperator::And => Some(left & right),
+            WholeOperator::ShiftLeft => left.checked_mul(power(right)?),
+            WholeOperator::ShiftRight => left.checked_div(power(right)?),
+            WholeOperator::Divide => left.checked_div(right),
+            WholeOperator::Remainder => left.checked_rem(right),
+        }
+    }
+
+    /// What it gives of two numbers, if these are not negative and that fits 32 bits.
+    fn applied(self, left: i64, right: i64) -> Option<i64>
+        ensures { IfSome result (IsValue (PendingOperator.Whole self) left right) }
+    {
+        let first = natural_of(left)?;
+        let second = natural_of(right)?;
+        fitting(self.value(first, second)?)
+    }
+}
+
+/// The number by which a shift by fewer than 32 bits multiplies.
+fn power(bits: u64) -> Option<u64>
+    ensures { IfSome result (λ value. value ≡ 2 ^ bits) }
+{
+    if bits < 32 {
+        2_u64.checked_pow(bits as u32)
+    } else {
+        None
+    }
+}
+
+/// A number that is not negative.
+fn natural_of(number: i64) -> Option<u64>
+    ensures { IfSome result (λ natural. number ≡ pos natural) }
+{
+    u64::try_from(number).ok()
+}
+
+/// A number that fits 32 bits.
+fn fitting(number: u64) -> Option<i64>
+    ensures { IfSome result (λ fitting. fitting ≡ pos number) }
+{
+    if number < 1 << 32 {
+        Some(number as i64)
+    } else {
+        None
+    }
 }
 
 impl PendingOperator {
@@ -40,10 +98,41 @@ impl PendingOperator {
         match self {
             PendingOperator::Open => 0,
             PendingOperator::Or => 1,
-            PendingOperator::Add | PendingOperator::Subtract => 2,
-            PendingOperator::Multiply => 3,
-            PendingOperator::Negate => 4,
+            PendingOperator::Whole(operator) => operator.binding(),
+            PendingOperator::Add | PendingOperator::Subtract => 4,
+            PendingOperator::Multiply => 5,
+            PendingOperator::Negate => 6,
         }
+    }
+
+    /// What it gives of two numbers, of which a sign has 0 as its left one.
+    fn applied(self, left: i64, right: i64) -> Option<i64>
+        ensures { IfSome result (IsValue self left right) }
+    {
+        match self {
+            PendingOperator::Open => None,
+            PendingOperator::Or => Some(left | right),
+            PendingOperator::Add => left.checked_add(right),
+            PendingOperator::Subtract | PendingOperator::Negate => left.checked_sub(right),
+            PendingOperator::Multiply => left.checked_mul(right),
+            PendingOperator::Whole(operator) => operator.applied(left, right),
+        }
+    }
+}
+
+/// The operator of a term between two operands.
+fn operator_of(term: Term) -> Option<PendingOperator> {
+    match term {
+        Term::Sign(b'|') => Some(PendingOperator::Or),
+        Term::Sign(b'&') => Some(PendingOperator::Whole(WholeOperator::And)),
+        Term::Shift(b'<') => Some(PendingOperator::Whole(WholeOperator::ShiftLeft)),
+        Term::Shift(_) => Some(PendingOperator::Whole(WholeOperator::ShiftRight)),
+        Term::Sign(b'+') => Some(PendingOperator::Add),
+        Term::Sign(b'-') => Some(PendingOperator::Subtract),
+        Term::Sign(b'*') => Some(PendingOperator::Multiply),
+        Term::Sign(b'/') => Some(PendingOperator::Whole(WholeOperator::Divide)),
+        Term::Sign(b'%') => Some(PendingOperator::Whole(WholeOperator::Remainder)),
+        _ => None,
     }
 }
 
@@ -54,114 +143,23 @@ struct Calculation {
     operators: Vec<PendingOperator>,
     /// Whether an operand comes next.
     wants: bool,
-}
-
-/// The types of C that a cast may name.
-static TYPES: [&[u8]; 18] = [
-    b"void",
-    b"char",
-    b"short",
-    b"int",
-    b"long",
-    b"unsigned",
-    b"signed",
-    b"VP",
-    b"VP_INT",
-    b"EXINF",
-    b"INT",
-    b"UINT",
-    b"ID",
-    b"PRI",
-    b"ATR",
-    b"SIZE",
-    b"RELTIM",
-    b"FLGPTN",
-];
-
-/// Whether a word is a type.
-fn is_type(word: &[u8]) -> bool {
-    word.ends_with(b"_t") || TYPES.iter().any(|name| *name == word)
-}
-
-/// The value of a digit.
-fn digit(byte: u8) -> Option<i64> {
-    match byte {
-        b'0'..=b'9' => Some(i64::from(byte - b'0')),
-        b'a'..=b'f' => Some(i64::from(byte - b'a' + 10)),
-        b'A'..=b'F' => Some(i64::from(byte - b'A' + 10)),
-        _ => None,
-    }
-}
-
-/// The value of digits, if it fits.
-fn digits_value(digits: &[u8], base: i64) -> Option<i64> {
-    if digits.is_empty() {
-        return None;
-    }
-    let mut value: i64 = 0;
-    for byte in digits {
-        let one = digit(*byte)?;
-        if one >= base {
-            return None;
-        }
-        value = value.checked_mul(base)?.checked_add(one)?;
-    }
-    Some(value)
-}
-
-/// Whether a byte stands in the suffix of a number.
-fn is_suffix(byte: u8) -> bool {
-    matches!(byte, b'u' | b'U' | b'l' | b'L')
-}
-
-/// Where the suffix of a number begins.
-fn suffix_start(number: &[u8]) -> usize
-    ensures { result ≤ length number.now }
-{
-    for i in 0..number.len() {
-        if is_suffix(number[i]) {
-            return i;
-        }
-    }
-    number.len()
-}
-
-/// The value of the digits of a number of C.
-fn unsigned_value(number: &[u8]) -> Option<i64> {
-    match number {
-        [b'0', b'x' | b'X', digits @ ..] => digits_value(digits, 16),
-        [b'0', _, ..] => digits_value(number, 8),
-        _ => digits_value(number, 10),
-    }
-}
-
-/// The value of a number of C.
-fn number_value(number: &[u8]) -> Option<i64> {
-    let end = suffix_start(number);
-    for i in end..number.len() {
-        if !is_suffix(number[i]) {
-            return None;
-        }
-    }
-    unsigned_value(&number[..end])
-}
-
-/// Where the cast ends whose parenthesis stands here, if it is one.
-fn cast_end(reading: SourceReading<'_>, lexemes: &[Lexeme], at: usize) -> Option<usize>
-    requires { at < length lexemes.now }
-{
-    for i in at + 1..lexemes.len() {
-        match lexemes[i].kind {
-            LexemeKind::Word if is_type(reading.bytes(lexemes[i])) => {}
-            LexemeKind::Sign(b'*') if i > at + 1 => {}
-            LexemeKind::Sign(b')') if i > at + 1 => return Some(i + 1),
-            _ => return None,
-        }
-    }
-    None
+    /// How many parentheses are open.
+    depth: usize,
+    /// Whether an operator stood outside of parentheses.
+    is_loose: bool,
 }
 
 impl Calculation {
+    fn new(alloc: Global) -> Calculation {
+        Calculation {
+            values: Vec::new(alloc),
+            operators: Vec::new(alloc),
+            wants: true,
+            depth: 0,
+            is_loose: false,
+        }
+    }
+
     /// Applies an operator to the last values.
     fn apply(&mut self, operator: PendingOperator) -> Result<(), NoValue> {
         let right = self.values.pop().ok_or(NoValue::Form)?;
@@ -169,14 +167,8 @@ impl Calculation {
             PendingOperator::Negate => 0,
             _ => self.values.pop().ok_or(NoValue::Form)?,
         };
-        let value = match operator {
-            PendingOperator::Open => None,
-            PendingOperator::Or => Some(left | right),
-            PendingOperator::Add => left.checked_add(right),
-            PendingOperator::Subtract | PendingOperator::Negate => left.checked_sub(right),
-            PendingOperator::Multiply => left.checked_mul(right),
-        };
-        self.values.push(value.ok_or(NoValue::Form)?)?;
+        let value = operator.applied(left, right).ok_or(NoValue::Form)?;
+        self.values.push(value)?;
         Ok(())
     }
 
@@ -204,72 +196,58 @@ impl Calculation {
         self.reduce(operator.binding())?;
         self.operators.push(operator)?;
         self.wants = true;
+        self.is_loose = self.is_loose || self.depth == 0;
+        Ok(())
+    }
+
+    /// Begins what stands in parentheses.
+    fn open(&mut self) -> Result<(), NoValue> {
+        self.operators.push(PendingOperator::Open)?;
+        self.depth = self.depth.saturating_add(1);
         Ok(())
     }
 
     /// Ends what stands in parentheses.
     fn close(&mut self) -> Result<(), NoValue> {
         self.reduce(1)?;
+        self.depth = self.depth.saturating_sub(1);
         match self.operators.pop() {
             Some(PendingOperator::Open) => Ok(()),
             _ => Err(NoValue::Form),
         }
     }
 
-    /// Takes the operand that begins here, and says where the next lexeme is.
-    fn operand(
-        &mut self,
-        reading: SourceReading<'_>,
-        lexemes: &[Lexeme],
-        at: usize,
-    ) -> Result<usize, NoValue>
-        requires { at < length lexemes.now }
-    {
-        let lexeme = lexemes[at];
-        let bytes = reading.bytes(lexeme);
-        match lexeme.kind {
-            LexemeKind::Number => self.take_value(number_value(bytes).ok_or(NoValue::Form)?)?,
-            LexemeKind::Word => match reading.constants.value_named(bytes) {
-                Some(value) => self.take_value(value)?,
-                None => return Err(NoValue::Unknown(lexeme)),
-            },
-            LexemeKind::Sign(b'(') => match cast_end(reading, lexemes, at) {
-                Some(end) => return Ok(end),
-                None => self.operators.push(PendingOperator::Open)?,
-            },
-            LexemeKind::Sign(b'-') => self.operators.push(PendingOperator::Negate)?,
-            LexemeKind::Sign(b'+') => {}
+    /// Takes a term where an operand begins.
+    fn operand(&mut self, term: Term) -> Result<(), NoValue> {
+        match term {
+            Term::Number(value) => self.take_value(value)?,
+            Term::Sign(b'(') => self.open()?,
+            Term::Sign(b'-') => self.operators.push(PendingOperator::Negate)?,
+            Term::Sign(b'+') => {}
             _ => return Err(NoValue::Form),
         }
-        Ok(at + 1)
+        Ok(())
     }
 
-    /// Takes a lexeme after an operand.
-    fn operator(&mut self, lexeme: Lexeme) -> Result<(), NoValue> {
-        match lexeme.kind {
-            LexemeKind::Sign(b'|') => self.take_operator(PendingOperator::Or),
-            LexemeKind::Sign(b'+') => self.take_operator(PendingOperator::Add),
-            LexemeKind::Sign(b'-') => self.take_operator(PendingOperator::Subtract),
-            LexemeKind::Sign(b'*') => self.take_operator(PendingOperator::Multiply),
-            LexemeKind::Sign(b')') => self.close(),
+    /// Takes a term after an operand.
+    fn operator(&mut self, term: Term) -> Result<(), NoValue> {
+        match (term, operator_of(term)) {
+            (Term::Sign(b')'), _) => self.close(),
+            (_, Some(operator)) => self.take_operator(operator),
             _ => Err(NoValue::Form),
         }
     }
 
-    /// Takes the lexeme at a place, and says where the next one is.
-    fn take(
-        &mut self,
-        reading: SourceReading<'_>,
-        lexemes: &[Lexeme],
-        at: usize,
-    ) -> Result<usize, NoValue>
-        requires { at < length lexemes.now }
-    {
-        if self.wants {
-            return self.operand(reading, lexemes, at);
+    /// The value of terms.
+    fn value(&mut self, terms: &[Term]) -> Result<i64, NoValue> {
+        for term in terms {
+            if self.wants {
+                self.operand(*term)?;
+            } else {
+                self.operator(*term)?;
+            }
         }
-        self.operator(lexemes[at])?;
-        Ok(at + 1)
+        self.end()
     }
 
     /// The value of what was taken.
@@ -288,16 +266,29 @@ pub fn value_of(
     reading: SourceReading<'_>,
     lexemes: &[Lexeme],
 ) -> Result<i64, NoValue> {
-    let mut calculation = Calculation {
-        values: Vec::new(alloc),
-        operators: Vec::new(alloc),
-        wants: true,
-    };
-    let mut next = 0;
-    for at in 0..lexemes.len() {
-        if at >= next {
-            next = calculation.take(reading, lexemes, at)?;
-        }
+    let terms = terms_of(alloc, reading, lexemes)?;
+    Calculation::new(alloc).value(&terms)
+}
+
+/// What stands for a name: a value, and the terms where an operator of theirs stands outside of parentheses. Operators
+/// beside the name may bind more tightly than that one.
+#[derive(Drop)]
+pub struct Meaning {
+    pub value: i64,
+    pub terms: Vec<Term>,
+}
+
+/// What an expression means.
+pub fn meaning_of(
+    alloc: Global,
+    reading: SourceReading<'_>,
+    lexemes: &[Lexeme],
+) -> Result<Meaning, NoValue> {
+    let mut terms = terms_of(alloc, reading, lexemes)?;
+    let mut calculation = Calculation::new(alloc);
+    let value = calculation.value(&terms)?;
+    if !calculation.is_loose {
+        terms.clear();
     }
-    calculation.end()
+    Ok(Meaning { value, terms })
 }

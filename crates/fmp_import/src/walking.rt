@@ -1,25 +1,21 @@
 //! A configuration of C is gone over, statement by statement.
 use crate::constants::{Constants, Defines};
-use crate::defining::header_named;
-use crate::directives::{included_name, leaves_out};
+use crate::defining::{header_named, why_skipped};
+use crate::directives::{enabled_lexemes, included_name, leaves_out};
 use crate::importing::Header;
-use crate::lexemes::{Lexeme, LexemeKind};
+use crate::lexemes::{Lexeme, LexemeKind, first_line};
 use crate::notes::{append_note, append_unknown};
-use crate::objects::{Changes, Omission, Parameters, SourceObject, is_escaped};
+use crate::objects::{Changes, Omission, Parameters, SourceObject};
 use crate::plan::{Block, PlanItem, Record, SourceClass};
 use crate::reading::{SourceField, SourceReading};
+use crate::same_names::{is_same, is_taken};
+use crate::source_words::{OUTSIDE, class_named, why_left_out};
 use crate::text::bytes_of;
 use fmp_base::words::{Api, find_api};
 use std::alloc::{AllocError, Global};
 
 /// The greatest number of objects of a kind.
 const MOST: usize = 255;
-
-/// The class of objects that stand outside of one.
-const OUTSIDE: SourceClass = SourceClass {
-    processor: 1,
-    only: false,
-};
 
 const LEFT_OUT: &str = " is left out: ";
 
@@ -56,7 +52,7 @@ pub struct ConfigurationWalk<'a> {
     pub notes: Vec<u8>,
     /// The open blocks.
     open: Vec<OpenBlock>,
-    /// Whether a body whose name is a word of this project gets `_` at its end: no word of the source is such a name.
+    /// Whether a body whose name is a word of this project gets `_` at its end.
     escapes: bool,
     /// The word of the open statement.
     word: Option<Lexeme>,
@@ -72,80 +68,6 @@ pub struct ConfigurationWalk<'a> {
     fields: Vec<SourceField>,
     /// Whether an object outside of a class was told.
     told_outside: bool,
-}
-
-/// Why a static API is left out.
-fn why_left_out(word: &[u8]) -> &'static str {
-    match word {
-        b"INCLUDE" => "files of the target are not read",
-        b"CRE_ALM" => "there are no alarm handlers",
-        b"CRE_MTX" => "there are no mutexes; a semaphore with one count excludes too",
-        b"CRE_PDQ" => "there are no priority data queues",
-        b"CRE_MBF" => "there are no message buffers",
-        b"CRE_POR" => "there are no rendezvous",
-        b"CRE_MPF" | b"CRE_MPL" => "there are no memory pools",
-        b"DEF_TEX" => "there are no task exceptions",
-        b"DEF_OVR" => "there are no overrun handlers",
-        b"DEF_SVC" => "there are no service call routines",
-        b"DEF_EXC" => "there are no CPU exceptions",
-        b"CFG_INT" => "interrupts have no levels, and are always enabled",
-        b"ATT_ISR" | b"CRE_ISR" => "an interrupt has one handler, which `DEF_INH` defines",
-        b"ATT_INI" | b"ATT_TER" => "nothing but handlers and tasks runs",
-        b"DEF_ICS" => "handlers need no stack of their own",
-        b"NUM_PRC" => "the classes say how many processors there are",
-        _ => "it is no static API of this project",
-    }
-}
-
-/// The class of this name.
-fn class_named(name: &[u8]) -> Option<SourceClass> {
-    let (digit, only) = match name {
-        [b'T', b'C', b'L', b'_', digit] => (digit, false),
-        [b'T', b'C', b'L', b'_', digit, b'_', b'O', b'N', b'L', b'Y'] => (digit, true),
-        [b'C', b'L', b'S', b'_', b'P', b'R', b'C', digit] => (digit, true),
-        [
-            b'C',
-            b'L',
-            b'S',
-            b'_',
-            b'A',
-            b'L',
-            b'L',
-            b'_',
-            b'P',
-            b'R',
-            b'C',
-            digit,
-        ] => (digit, false),
-        _ => return None,
-    };
-    match *digit {
-        b'1'..=b'8' => Some(SourceClass {
-            processor: *digit - b'0',
-            only,
-        }),
-        _ => None,
-    }
-}
-
-/// Whether a word of a text is one of this project with `_` after it.
-fn has_escaped(text: &[u8], lexemes: &[Lexeme]) -> bool {
-    for lexeme in lexemes {
-        if lexeme.kind == LexemeKind::Word && is_escaped(bytes_of(text, lexeme.span)) {
-            return true;
-        }
-    }
-    false
-}
-
-/// Whether two static APIs define the same: objects of one name, or handlers of one interrupt.
-fn is_same(text: &[u8], one: PlanItem, other: PlanItem) -> bool {
-    match (one, other) {
-        (PlanItem::Name(one), PlanItem::Name(other)) => bytes_of(text, one)
-            == bytes_of(text, other),
-        (PlanItem::Number(one), PlanItem::Number(other)) => one == other,
-        _ => false,
-    }
 }
 
 impl<'a> ConfigurationWalk<'a> {
@@ -166,7 +88,7 @@ impl<'a> ConfigurationWalk<'a> {
             blocks: Vec::new(alloc),
             notes: Vec::new(alloc),
             open: Vec::new(alloc),
-            escapes: !has_escaped(text, lexemes),
+            escapes: true,
             word: None,
             depth: 0,
             braces: 0,
@@ -416,29 +338,42 @@ impl<'a> ConfigurationWalk<'a> {
             return self.include(at, name);
         }
         if leaves_out(line) {
-            return self.note(
-                at,
-                LEFT_OUT,
-                "nothing before its `#else` or `#endif` is read",
-            );
+            return self.note_line(at, "nothing before its `#else` or `#endif` is read");
         }
         match self.constants.define(self.alloc, line)? {
             Defines::Constant => Ok(()),
-            Defines::NoNumber => self.note(at, LEFT_OUT, "it defines no number"),
-            Defines::Nothing => self.note(
+            Defines::Other => self.note_line(at, "another definition of its name counts"),
+            Defines::NoNumber => self.note_line(at, "it defines no number that is known here"),
+            Defines::Nothing => self.note_line(
                 at,
-                LEFT_OUT,
                 "only `#define`, and `#include` of a file in quotes, are read",
             ),
         }
     }
 
+    /// Says that a line of the preprocessor is left out.
+    fn note_line(&mut self, at: Lexeme, why: &str) -> Result<(), AllocError> {
+        let span = first_line(self.text, at.span);
+        self.note(Lexeme { span, ..at }, LEFT_OUT, why)
+    }
+
     /// Takes the name of an included file, whose constants are known.
     fn include(&mut self, at: Lexeme, name: &[u8]) -> Result<(), AllocError> {
         match header_named(self.headers, name) {
-            Some(_) => Ok(()),
-            None => self.note(at, LEFT_OUT, "the file is not there"),
+            Some(header) => self.note_header(at.line, &header.text),
+            None => self.note_line(at, "the file is not there"),
         }
+    }
+
+    /// Says which lines of an included file are left out though they may give constants.
+    fn note_header(&mut self, line: usize, header: &[u8]) -> Result<(), AllocError> {
+        for lexeme in &enabled_lexemes(self.alloc, header)? {
+            if let Some(why) = why_skipped(self.alloc, header, *lexeme, &mut self.constants)? {
+                let shown = bytes_of(header, first_line(header, lexeme.span));
+                append_note(line, shown, LEFT_OUT, why, &mut self.notes)?;
+            }
+        }
+        Ok(())
     }
 
     /// Takes a lexeme outside of statements.
@@ -523,11 +458,49 @@ impl<'a> ConfigurationWalk<'a> {
     fn take(&mut self, place: usize, lexeme: Lexeme) -> Result<(), AllocError> {
         match (lexeme.kind, self.word) {
             (LexemeKind::Directive, _) => self.directive(lexeme),
+            (LexemeKind::DisabledDirective, _) => self.note_line(
+                lexeme,
+                "neither its condition nor anything before its `#else` or `#endif` is read",
+            ),
             (LexemeKind::OpenComment, _) => self.note(lexeme, CHANGED, "no `*/` ends this comment"),
             (_, None) => self.begin(lexeme),
             (_, Some(word)) if self.depth == 0 => self.go_outside(word, place, lexeme),
             (kind, Some(word)) => self.go_on(word, place, kind),
         }
+    }
+
+    /// What stands after the attributes of the objects, with the names of their bodies.
+    fn items(&self) -> Result<Vec<PlanItem>, AllocError> {
+        let mut items = Vec::new(self.alloc);
+        for block in &self.blocks {
+            for record in &block.records {
+                items.extend_from_slice(&record.rest)?;
+            }
+        }
+        Ok(items)
+    }
+
+    /// Whether a body that got `_` at the end of its name has the name of another one.
+    pub fn has_taken(&self) -> Result<bool, AllocError> {
+        let items = self.items()?;
+        for item in &items {
+            if let PlanItem::Escaped(word) = *item
+                && is_taken(self.text, word, &items)
+            {
+                return Ok(true);
+            }
+        }
+        Ok(false)
+    }
+
+    /// Goes over all lexemes again, and leaves out bodies whose names are words of this project.
+    pub fn go_again(&mut self) -> Result<(), AllocError> {
+        self.escapes = false;
+        self.told_outside = false;
+        self.blocks.clear();
+        self.notes.clear();
+        self.open.clear();
+        self.go()
     }
 
     /// Goes over all lexemes.
