@@ -41,7 +41,7 @@ abbrev pub nevers_of : List BodyTables → List (List CallPosition) → CallSent
 nevers_of code bodies p = map (λ s. never_of p s) (calls_in code bodies p.at)
 
 abbrev pub nevers_in : List BodyTables → List (List CallPosition) → List CallSentence → List CallNever
-nevers_in code bodies placed = flat_map (λ p. nevers_of code bodies p) placed
+nevers_in code bodies sentences = flat_map (λ p. nevers_of code bodies p) sentences
 
 -- the line of the first sentence that a line breaks, which was just told: it tells that a call gets the answer
 abbrev pub first_told : SystemTables → List CallNever → World MachineContext → Line → Option ℕ
@@ -63,7 +63,7 @@ breaks_by j k l = first_told j.system j.nevers k.world l
 -- the sentences of a text for this system, whose image has bodies of this text
 pub record AreSentencesOf (i : ImageTables) (sys : SystemTables) (src text : List ℕ) (s : RunSentences) : Type 0 where
   pub read : other_sentences_of sys text ≡ Ok s.expected.items
-  pub placed : s.placed.items ≡ call_sentences_of sys text
+  pub of_calls : s.of_calls.items ≡ call_sentences_of sys text
   pub bodies : List (List CallPosition)
   pub calls : AreCallsOf src bodies
   pub nevers : s.nevers.items ≡ nevers_in i.code bodies (call_sentences_of sys text)

@@ -44,9 +44,9 @@ judged_by reaction k xs one =
     }
 
 -- how a run does by one sentence about calls, where this is the judge by what such sentences say of calls
-abbrev pub placed_by : KernelView (List BodyTables) MachineContext → (judge : List CallNever → JudgeTables)
+abbrev pub judged_by_call : KernelView (List BodyTables) MachineContext → (judge : List CallNever → JudgeTables)
     → List Event → List CallNever → CallSentence → Judgement
-placed_by k judge es nevers p =
+judged_by_call k judge es nevers p =
     record {
       line = p.line;
       broken =
@@ -59,7 +59,7 @@ abbrev pub judged_by_each : KernelView (List BodyTables) MachineContext → (jud
     → List Event → RunSentences → List Judgement
 judged_by_each k judge es s =
     map (judged_by (reaction_of code_meaning) k es) s.expected.items
-    ++ map (placed_by k judge es s.nevers.items) s.placed.items
+    ++ map (judged_by_call k judge es s.nevers.items) s.of_calls.items
 
 -- what is broken, if it stands in this line
 abbrev pub broken_in : (line : ℕ) → Option BrokenExpectation → Option BrokenExpectation
@@ -72,7 +72,7 @@ tested_by broken n = record { line = n; broken = broken_in n broken; is_empty = 
 
 -- the lines of expectations, and then those of sentences about calls
 abbrev pub lines_of : List Expected → List CallSentence → List ℕ
-lines_of expected placed = map (λ x. x.line) expected ++ map (λ p. p.line) placed
+lines_of expected sentences = map (λ x. x.line) expected ++ map (λ s. s.line) sentences
 
 -- the same of a text
 pub record AreLinesOf (sys : SystemTables) (text lines : List ℕ) : Type 0 where

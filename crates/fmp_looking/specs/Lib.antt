@@ -17,10 +17,10 @@ pub mod Marks
 pub mod NamedSystems
 pub mod Observed
 pub mod OpenSystems
-pub mod PlacedRuns
-pub mod PlacedVerdicts
+pub mod PositionedRuns
 pub mod Rates
 pub mod Refused
+pub mod SourceVerdicts
 pub mod Tables
 pub mod TestFiles
 pub mod TestRecords

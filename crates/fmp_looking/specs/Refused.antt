@@ -18,7 +18,7 @@ abbrev pub refused_in : ImageTables → (n : ℕ) → List Event → List Refuse
 refused_in i n es =
     refused_calls i.code (answers_in code_meaning (kernel_after i n []) es (length i.system.tasks))
 
--- a line of this form for each call that is refused, where the calls of bodies stand at these places of a file
+-- a line of this form for each call that is refused, where the calls of bodies stand at these positions of a file
 abbrev pub refused_lines : LineForm → (file : List ℕ) → List BodyTables → List (List CallPosition) → List Refused
     → List ℕ
 refused_lines form file code bodies rs =

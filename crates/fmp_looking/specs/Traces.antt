@@ -44,7 +44,7 @@ abbrev pub number_after : ℕ → Option ℕ → ℕ
 number_after n None = min (n + 1) (2 ^ 32 - 1)
 number_after n (Some p) = n
 
--- a tracer of this system, with these places of calls, has the lines of setup, and the states after it
+-- a tracer of this system, with these positions of calls, has the lines of setup, and the states after it
 pub record IsBegun (form : Form) (sys : SystemTables) (positions : List (Option CallPosition)) (x : Tracer)
     (f : FrameTable) : Type 0 where
   pub form_is : x.printing.form ≡ form
@@ -70,8 +70,8 @@ pub record Traces (x : Tracer) (f : FrameTable) (y : Tracer) : Type 0 where
 abbrev pub end_text : Tracer → List ℕ
 end_text x = states_text x.printing.form (tables_of x.printing.sys.now) x.states.items x.blocks.items
 
--- what is printed of a run of a kernel: the lines of setup, those of what comes to it, with the places of its calls, of
--- which the first is that of event 1, and the states at the end
+-- what is printed of a run of a kernel: the lines of setup, those of what comes to it, with the positions of its calls,
+-- of which the first is that of event 1, and the states at the end
 pub record IsTrace {B C X : Type 0} (form : Form) (sys : SystemTables) (positions : List (Option CallPosition))
     (meaning : B → Meaning C)
     (reaction : KernelView B C → X → Reaction C) (k : KernelView B C) (xs : List X) (out : List ℕ) : Type 0 where
@@ -80,7 +80,7 @@ pub record IsTrace {B C X : Type 0} (form : Form) (sys : SystemTables) (position
   pub whole : out ≡ last.out.items ++ end_text last
 
 -- for each event of a run of an image that is done where the call stands that it makes in this text of its bodies
-pub record ArePlaced (src : List ℕ) (i : ImageTables) (n : ℕ) (es : List Event) (made : List (Option CallPosition))
+pub record ArePositions (src : List ℕ) (i : ImageTables) (n : ℕ) (es : List Event) (made : List (Option CallPosition))
     : Type 0 where
   pub bodies : List (List CallPosition)
   pub calls : AreCallsOf src bodies
@@ -89,6 +89,6 @@ pub record ArePlaced (src : List ℕ) (i : ImageTables) (n : ℕ) (es : List Eve
 -- the same where they are shown: in lines if that is asked for, in objects of JSON always
 abbrev pub AreShown : Form → (asked : Bool) → (src : List ℕ) → ImageTables → (n : ℕ) → List Event
     → List (Option CallPosition) → Type 0
-AreShown form.Json asked src i n es made = ArePlaced src i n es made
-AreShown form.Text true src i n es made = ArePlaced src i n es made
+AreShown form.Json asked src i n es made = ArePositions src i n es made
+AreShown form.Text true src i n es made = ArePositions src i n es made
 AreShown form.Text false src i n es made = made ≡ []

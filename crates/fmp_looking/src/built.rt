@@ -14,8 +14,8 @@ use crate::covering::{run_coverage, run_tracefile};
 use crate::driving::driven;
 use crate::open_image::OpenImage;
 use crate::opening::events_of;
-use crate::placing::placed;
 use crate::refused::NamedText;
+use crate::run_positions::positions_by_text;
 use crate::tracing::trace_of;
 use crate::why::why_of;
 use fmp_arguments::kept_events;
@@ -90,7 +90,7 @@ fn built(alloc: Global, cfg: &[u8], src: &[u8]) -> Result<Image, NoTrace>
     }
 }
 
-/// The trace of a run of an image over events, whose calls stand at these places. `AllocError` if memory runs out.
+/// The trace of a run of an image over events, whose calls stand at these positions. `AllocError` if memory runs out.
 fn image_trace(
     alloc: Global,
     form: Form,
@@ -174,10 +174,10 @@ fn shown_positions(
     ensures { IfOk result (λ made. AreShown run.form run.positions src.now image.now bound events.now made.items) }
 {
     match run.form {
-        Form::Json => placed(alloc, image, src, events, bound),
+        Form::Json => positions_by_text(alloc, image, src, events, bound),
         Form::Text => {
             if run.positions {
-                placed(alloc, image, src, events, bound)
+                positions_by_text(alloc, image, src, events, bound)
             } else {
                 Ok(Vec::new(alloc))
             }

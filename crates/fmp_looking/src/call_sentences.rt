@@ -9,7 +9,7 @@ ghost use Rattle.fmp_looking.specs.CallSentences as spec;
 ghost use Rattle.fmp_looking.specs.CallSentences.{AreSentencesOf};
 
 use crate::exit::{ViewExit, memory};
-use crate::expecting::unplaced_expected;
+use crate::expecting::other_expected;
 use fmp_base::{Line, System};
 use fmp_code::{Code, Vm};
 use fmp_expect::{CallSentence, Expected, LineJudge, read_call_sentences};
@@ -33,7 +33,7 @@ pub struct RunSentences {
     /// Those that are not about the calls of a line.
     pub expected: Vec<Expected>,
     /// Those that are.
-    pub placed: Vec<CallSentence>,
+    pub of_calls: Vec<CallSentence>,
     /// What the latter say of each call.
     pub nevers: Vec<CallNever>,
 }
@@ -155,41 +155,41 @@ fn calls_in(
 }
 
 /// What a sentence says of a call.
-fn never_of(placed: CallSentence, site: CallSite) -> CallNever
-    ensures { result ≡ spec.never_of placed site }
+fn never_of(sentence: CallSentence, site: CallSite) -> CallNever
+    ensures { result ≡ spec.never_of sentence site }
 {
     CallNever {
-        line: placed.line,
+        line: sentence.line,
         never: NeverAt {
-            code: placed.code,
+            code: sentence.code,
             site: QuestionSite {
                 body: site.body,
                 pc: site.pc,
             },
-            by: placed.by,
+            by: sentence.by,
         },
     }
 }
 
 /// Adds what a sentence says of each of these calls.
 fn add_calls(
-    placed: CallSentence,
+    sentence: CallSentence,
     sites: &[CallSite],
     nevers: &mut Vec<CallNever>,
 ) -> Result<(), AllocError>
-    ensures { OnOk result (nevers.new.items ≡ nevers.old.items ++ map (λ s. spec.never_of placed s) sites.now) }
+    ensures { OnOk result (nevers.new.items ≡ nevers.old.items ++ map (λ s. spec.never_of sentence s) sites.now) }
 {
     for site in sites {
-        nevers.push(never_of(placed, *site))?;
+        nevers.push(never_of(sentence, *site))?;
     }
     Ok(())
 }
 
 /// What is said of a sentence about a line without a call.
-fn uncalled(alloc: Global, placed: CallSentence) -> ViewExit {
+fn uncalled(alloc: Global, sentence: CallSentence) -> ViewExit {
     match format!(in alloc;
         "expect:{}: `at` names a line of SRC in which no call stands: `{}`",
-        placed.line, placed.at
+        sentence.line, sentence.at
     ) {
         Ok(text) => ViewExit::Expect(text),
         Err(error) => memory(error),
@@ -201,18 +201,18 @@ fn add_sentence(
     alloc: Global,
     code: &Code,
     positions: &CallPositions,
-    placed: CallSentence,
+    sentence: CallSentence,
     nevers: &mut Vec<CallNever>,
 ) -> Result<(), ViewExit>
     requires { HasSites (code_tables code.now) }
     ensures { OnOk result (nevers.new.items
-        ≡ nevers.old.items ++ spec.nevers_of (code_tables code.now) positions.now placed) }
+        ≡ nevers.old.items ++ spec.nevers_of (code_tables code.now) positions.now sentence) }
 {
-    let sites = calls_in(alloc, code, positions, placed.at).map_err(|error| memory(error))?;
+    let sites = calls_in(alloc, code, positions, sentence.at).map_err(|error| memory(error))?;
     if sites.is_empty() {
-        return Err(uncalled(alloc, placed));
+        return Err(uncalled(alloc, sentence));
     }
-    add_calls(placed, &sites, nevers).map_err(|error| memory(error))
+    add_calls(sentence, &sites, nevers).map_err(|error| memory(error))
 }
 
 /// What sentences say of the calls of a code.
@@ -220,35 +220,39 @@ fn nevers_in(
     alloc: Global,
     code: &Code,
     positions: &CallPositions,
-    placed: &[CallSentence],
+    sentences: &[CallSentence],
 ) -> Result<Vec<CallNever>, ViewExit>
     requires { HasSites (code_tables code.now) }
-    ensures { IfOk result (λ nevers. nevers.items ≡ spec.nevers_in (code_tables code.now) positions.now placed.now) }
+    ensures { IfOk result (λ nevers. nevers.items ≡ spec.nevers_in (code_tables code.now) positions.now sentences.now) }
 {
     let mut nevers = Vec::new(alloc);
-    for one in placed {
+    for one in sentences {
         add_sentence(alloc, code, positions, *one, &mut nevers)?;
     }
     Ok(nevers)
 }
 
-/// What sentences say of the calls of an image, whose calls stand at these places. The reasons to give nothing are a
+/// What sentences say of the calls of an image, whose calls stand at these positions. The reasons to give nothing are a
 /// line in which no call stands, and that memory runs out.
 pub fn nevers_of(
     alloc: Global,
     image: &Image,
     positions: &CallPositions,
-    placed: &[CallSentence],
+    sentences: &[CallSentence],
 ) -> Result<Vec<CallNever>, ViewExit>
-    ensures { IfOk result (λ nevers. nevers.items ≡ spec.nevers_in image.now.code positions.now placed.now) }
+    ensures { IfOk result (λ nevers. nevers.items ≡ spec.nevers_in image.now.code positions.now sentences.now) }
 {
     image.keeps_rules();
-    nevers_in(alloc, image.code(), positions, placed)
+    nevers_in(alloc, image.code(), positions, sentences)
 }
 
 /// The sentences about calls of a text for a system.
-pub fn placed_in(alloc: Global, sys: &System, text: &[u8]) -> Result<Vec<CallSentence>, ViewExit>
-    ensures { IfOk result (λ placed. placed.items ≡ call_sentences_of (tables_of sys.now) text.now) }
+pub fn call_sentences_in(
+    alloc: Global,
+    sys: &System,
+    text: &[u8],
+) -> Result<Vec<CallSentence>, ViewExit>
+    ensures { IfOk result (λ said. said.items ≡ call_sentences_of (tables_of sys.now) text.now) }
 {
     read_call_sentences(alloc, sys, text).map_err(|error| memory(error))
 }
@@ -264,13 +268,13 @@ pub fn sentences_of(
 ) -> Result<RunSentences, ViewExit>
     ensures { IfOk result (AreSentencesOf image.now (tables_of sys.now) src.now text.now) }
 {
-    let expected = unplaced_expected(alloc, sys, text)?;
-    let placed = placed_in(alloc, sys, text)?;
+    let expected = other_expected(alloc, sys, text)?;
+    let of_calls = call_sentences_in(alloc, sys, text)?;
     let positions = CallPositions::new(alloc, src).map_err(|error| memory(error))?;
-    let nevers = nevers_of(alloc, image, &positions, &placed)?;
+    let nevers = nevers_of(alloc, image, &positions, &of_calls)?;
     Ok(RunSentences {
         expected,
-        placed,
+        of_calls,
         nevers,
     })
 }

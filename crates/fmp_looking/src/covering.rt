@@ -1,7 +1,7 @@
 //! The coverage of the text of its bodies by runs of an image: as a table, and as a tracefile of lcov.
 ghost use Rattle.std.specs.Prelude.{◌≡◌, ◌≤◌, ◌++◌, ◌∷◌, ◌^◌, [], IfOk, OnOk, length};
 ghost use Rattle.fmp_looking.specs.Covered.{IsCoverage, IsLcov, IsSeen, seen_of};
-ghost use Rattle.fmp_looking.specs.PlacedRuns.{calls_in, positions_in, start_of, steps_in};
+ghost use Rattle.fmp_looking.specs.PositionedRuns.{calls_in, positions_in, start_of, steps_in};
 ghost use Rattle.fmp_looking.specs.Ways.{IsWithSteps};
 
 use crate::branches::add_branch_steps;
@@ -9,8 +9,8 @@ use crate::coverage::{counts_in, text_lines};
 use crate::lcov::tracefile;
 use crate::marks::marks_of;
 use crate::observing::{CallSeen, calls_seen};
-use crate::placing::{PlacedRun, positions_over};
 use crate::refused::NamedText;
+use crate::run_positions::{PositionedRun, positions_over};
 use crate::tables::{branch_counts, coverage_table};
 use crate::ways::BranchWays;
 use fmp_base::Event;
@@ -44,7 +44,7 @@ pub struct RunsSeen {
 fn calls_on<'a>(
     alloc: Global,
     kernel: &mut Kernel<Vm<'a>>,
-    run: PlacedRun<'a>,
+    run: PositionedRun<'a>,
     calls: Vec<CallSeen>,
 ) -> Result<Vec<CallSeen>, AllocError>
     requires kernel { kernel.old ≡ start_of run }
@@ -62,7 +62,7 @@ fn calls_on<'a>(
 #[tactic(none)]
 fn calls_over(
     alloc: Global,
-    run: PlacedRun<'_>,
+    run: PositionedRun<'_>,
     calls: Vec<CallSeen>,
 ) -> Result<Vec<CallSeen>, AllocError>
     requires few { length run.events.now ≤ 2 ^ 20 }
@@ -76,7 +76,7 @@ fn calls_over(
 
 /// Adds the ways that branches went in a run.
 #[tactic(none)]
-fn add_steps(alloc: Global, run: PlacedRun<'_>, ways: &mut BranchWays) -> Result<(), AllocError>
+fn add_steps(alloc: Global, run: PositionedRun<'_>, ways: &mut BranchWays) -> Result<(), AllocError>
     requires few { length run.events.now ≤ 2 ^ 20 }
     ensures { OnOk result (IsWithSteps 1 ways.old (steps_in run.entry) ways.new) }
 {
@@ -89,7 +89,7 @@ fn add_steps(alloc: Global, run: PlacedRun<'_>, ways: &mut BranchWays) -> Result
 /// Adds where the calls of a run stand.
 fn add_made(
     alloc: Global,
-    run: PlacedRun<'_>,
+    run: PositionedRun<'_>,
     made: &mut Vec<Option<CallPosition>>,
 ) -> Result<(), AllocError>
     requires few { length run.events.now ≤ 2 ^ 20 }
@@ -115,7 +115,7 @@ impl Sightings {
         }
     }
 
-    /// What is seen in a run of an image too, whose calls stand at these places. `AllocError` if memory runs out.
+    /// What is seen in a run of an image too, whose calls stand at these positions. `AllocError` if memory runs out.
     pub fn with_run(
         self,
         alloc: Global,
@@ -133,7 +133,7 @@ impl Sightings {
             calls,
             mut ways,
         } = self;
-        let run = PlacedRun {
+        let run = PositionedRun {
             image,
             bound: n,
             positions,
@@ -166,7 +166,7 @@ impl RunsSeen {
     ghost use Rattle.std.specs.Prelude.{◌≡◌, IfOk};
     ghost use Rattle.fmp_looking.specs.Covered.{IsTable, IsTracefile, seen_at, seen_of};
 
-    /// What is seen in runs of an image whose calls stand at these places.
+    /// What is seen in runs of an image whose calls stand at these positions.
     pub fn new(positions: CallPositions, sightings: Sightings) -> RunsSeen
         ensures { seen_of result ≡ seen_at positions sightings }
     {

@@ -246,11 +246,7 @@ pub fn expected_of(alloc: Global, sys: &System, text: &[u8]) -> Result<Vec<Expec
 
 /// The expectations of a text for a system that are not about the calls of a line. The reason to give none is the first
 /// faulty line of the text, or that memory runs out.
-pub fn unplaced_expected(
-    alloc: Global,
-    sys: &System,
-    text: &[u8],
-) -> Result<Vec<Expected>, ViewExit>
+pub fn other_expected(alloc: Global, sys: &System, text: &[u8]) -> Result<Vec<Expected>, ViewExit>
     ensures { IfOk result (λ xs. other_sentences_of (tables_of sys.now) text.now ≡ Ok xs.items) }
 {
     match read_other_sentences(alloc, sys, text) {

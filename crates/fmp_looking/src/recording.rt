@@ -2,7 +2,7 @@
 ghost use Rattle.std.specs.Prelude.{◌≡◌, IfOk, OnOk};
 ghost use Rattle.fmp_timeline.specs.Shown as spec;
 
-use crate::placing::{position_at, with_position};
+use crate::run_positions::{position_at, with_position};
 use fmp_base::System;
 use fmp_frames::{CallPosition, Frame, IdleTurn, Viewer};
 use fmp_timeline::{Moment, Run, TaskShown, tasks_shown};

@@ -11,7 +11,7 @@ use crate::exit::{ViewExit, memory};
 use crate::kinds::exit_over;
 use crate::open_image::OpenImage;
 use crate::opening::{StepsRun, events_for, image_of};
-use crate::placing::{PlacedRun, positions_for};
+use crate::run_positions::{PositionedRun, positions_for};
 use crate::tracing::line_form;
 use fmp_base::Event;
 use fmp_code::Vm;
@@ -120,7 +120,7 @@ fn file_of<'a>(source: Option<NamedText<'a>>) -> &'a [u8] {
     }
 }
 
-/// A line of this form for each call that is refused, where the calls of bodies stand at these places of a file.
+/// A line of this form for each call that is refused, where the calls of bodies stand at these positions of a file.
 pub fn lines_of(
     alloc: Global,
     form: LineForm,
@@ -141,12 +141,12 @@ pub fn lines_of(
     Ok(out)
 }
 
-/// The lines of the calls that are refused in a run, where calls of bodies stand at its places of a file.
+/// The lines of the calls that are refused in a run, where calls of bodies stand at its positions of a file.
 fn lines_on(
     alloc: Global,
     form: LineForm,
     file: &[u8],
-    run: PlacedRun<'_>,
+    run: PositionedRun<'_>,
 ) -> Result<Vec<u8>, AllocError>
     requires few { length run.events.now ≤ 2 ^ 20 }
     ensures { IfOk result (λ out. out.items ≡ refused_lines form file.now run.entry.image.now.code
@@ -171,7 +171,7 @@ fn lines_over(
     let image = opened.image;
     let events = events_for(alloc, image, steps)?;
     let positions = positions_in(alloc, image, source)?;
-    let run = PlacedRun {
+    let run = PositionedRun {
         image,
         bound: opened.bound,
         positions: &positions,
@@ -181,7 +181,7 @@ fn lines_over(
 }
 
 /// A line for each call that is refused in a run. Calls are told by where they stand in the task text of the image if
-/// it is given, which must have as many bodies as the image, each with as many calls; else by body and place.
+/// it is given, which must have as many bodies as the image, each with as many calls; else by body and position.
 pub fn refused_in_run(
     alloc: Global,
     form: Form,

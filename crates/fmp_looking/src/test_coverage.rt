@@ -6,7 +6,7 @@ use crate::call_sentences::CallJudge;
 use crate::coverage_files::write_coverage_files;
 use crate::covering::RunsSeen;
 use crate::exit::{ViewExit, memory};
-use crate::expecting::unplaced_expected;
+use crate::expecting::other_expected;
 use crate::open_image::OpenImage;
 use crate::refused::NamedText;
 use crate::reporting::plan_of;
@@ -42,7 +42,7 @@ fn seen_by<R: Threads + Sync>(
     ensures { IfOk result (λ seen. AreTrialsSeen texts.entry.src.now test.now.image.now test.now.testing.bound
         runs (seen_of seen)) }
 {
-    let expected = unplaced_expected(alloc, test.configured, texts.expectations)?;
+    let expected = other_expected(alloc, test.configured, texts.expectations)?;
     let judge = CallJudge::none(test.image);
     let trials = Trials {
         opened: OpenImage {

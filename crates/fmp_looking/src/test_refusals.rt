@@ -6,7 +6,7 @@ ghost use Rattle.fmp_looking.specs.TestRefusals.{AreAnswersOf, AreRefusedLines, 
 
 use crate::call_sentences::CallJudge;
 use crate::exit::{ViewExit, memory};
-use crate::expecting::unplaced_expected;
+use crate::expecting::other_expected;
 use crate::open_image::OpenImage;
 use crate::refused::{NamedText, answers_over, lines_of, refused_among};
 use crate::reporting::plan_of;
@@ -136,7 +136,7 @@ pub fn test_refusals(
     ensures { IfOk result (λ out. AreRefusedLines (spec.form_of test.now.testing.json) test.now.testing.src.now
         texts.entry.src.now test.now.image.now test.now.testing.bound runs out.items) }
 {
-    let expected = unplaced_expected(alloc, test.configured, texts.expectations)?;
+    let expected = other_expected(alloc, test.configured, texts.expectations)?;
     let judge = CallJudge::none(test.image);
     let trials = Trials {
         opened: OpenImage {

@@ -3,9 +3,9 @@ ghost use Rattle.std.specs.Prelude.{◌≡◌, ◌++◌, IfOk, OnOk, false, map,
 ghost use Rattle.fmp_base.specs.Systems.{tables_of};
 ghost use Rattle.fmp_looking.specs.Judgements as spec;
 
-use crate::call_sentences::placed_in;
+use crate::call_sentences::call_sentences_in;
 use crate::exit::{ViewExit, memory};
-use crate::expecting::{Expectations, line_of, unplaced_expected};
+use crate::expecting::{Expectations, line_of, other_expected};
 use crate::judged_cases::{JudgedCase, report_of};
 use crate::judging::Judgement;
 use crate::reporting::FailedTest;
@@ -110,13 +110,13 @@ fn cases_of(
 fn lines_of(
     alloc: Global,
     expected: &[Expected],
-    placed: &[CallSentence],
+    sentences: &[CallSentence],
 ) -> Result<Vec<usize>, AllocError>
-    ensures { IfOk result (λ lines. lines.items ≡ spec.lines_of expected.now placed.now) }
+    ensures { IfOk result (λ lines. lines.items ≡ spec.lines_of expected.now sentences.now) }
 {
     let mut lines = Vec::new(alloc);
     add_expected(&mut lines, expected)?;
-    add_placed(&mut lines, placed)?;
+    add_call_sentences(&mut lines, sentences)?;
     Ok(lines)
 }
 
@@ -131,10 +131,10 @@ fn add_expected(lines: &mut Vec<usize>, expected: &[Expected]) -> Result<(), All
 }
 
 /// Adds the lines of sentences about calls.
-fn add_placed(lines: &mut Vec<usize>, placed: &[CallSentence]) -> Result<(), AllocError>
-    ensures { OnOk result (lines.new.items ≡ lines.old.items ++ map (λ p. p.line) placed.now) }
+fn add_call_sentences(lines: &mut Vec<usize>, sentences: &[CallSentence]) -> Result<(), AllocError>
+    ensures { OnOk result (lines.new.items ≡ lines.old.items ++ map (λ p. p.line) sentences.now) }
 {
-    for one in placed {
+    for one in sentences {
         lines.push(one.line)?;
     }
     Ok(())
@@ -158,9 +158,9 @@ fn report_with(
 fn lines_in(alloc: Global, sys: &System, text: &[u8]) -> Result<Vec<usize>, ViewExit>
     ensures { IfOk result (λ lines. spec.AreLinesOf (tables_of sys.now) text.now lines.items) }
 {
-    let expected = unplaced_expected(alloc, sys, text)?;
-    let placed = placed_in(alloc, sys, text)?;
-    lines_of(alloc, &expected, &placed).map_err(|error| memory(error))
+    let expected = other_expected(alloc, sys, text)?;
+    let sentences = call_sentences_in(alloc, sys, text)?;
+    lines_of(alloc, &expected, &sentences).map_err(|error| memory(error))
 }
 
 /// A report of random runs of a system that were judged by the expectations of a text, of which this one fails, if one

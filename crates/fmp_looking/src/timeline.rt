@@ -138,8 +138,8 @@ fn run_with<O: Opened, T: Coming<O::Bodies>>(
     run
 }
 
-/// A run of a system, with its objects or without. The calls of its events stand at these places, from the first event
-/// on, as far as they are known.
+/// A run of a system, with its objects or without. The calls of its events stand at these positions, from the first
+/// event on, as far as they are known.
 pub fn run_of<O: Opened, T: Coming<O::Bodies>>(
     alloc: Global,
     opened: &O,

@@ -58,7 +58,7 @@ fn number_after(number: u32, kept: Option<u8>) -> u32
     }
 }
 
-/// Where the call of the event of this number stands, by the places from the first event on.
+/// Where the call of the event of this number stands, by the positions from the first event on.
 fn position_of(positions: &[Option<CallPosition>], number: u32) -> Option<CallPosition>
     ensures { result ≡ get_or positions.now (number - 1) None }
 {
@@ -160,8 +160,8 @@ fn trace_on<B: Body, T: Coming<B>>(
     tracer.finish(alloc)
 }
 
-/// The trace of a run of a system. The calls of its events stand at these places, from the first event on; it shows no
-/// place after the last one. `AllocError` if memory runs out.
+/// The trace of a run of a system. The calls of its events stand at these positions, from the first event on; it shows
+/// no place after the last one. `AllocError` if memory runs out.
 #[tactic(none)]
 pub fn trace_of<O: Opened, T: Coming<O::Bodies>>(
     alloc: Global,

@@ -93,7 +93,7 @@ pub fn shortened_trial_of(
     trial
 }
 
-/// What is seen in the random runs of these seeds, on the kernels of an image whose calls stand at these places.
+/// What is seen in the random runs of these seeds, on the kernels of an image whose calls stand at these positions.
 fn seen_on<'a>(
     alloc: Global,
     bench: &mut ImageBench<'a>,
@@ -118,8 +118,8 @@ fn seen_on<'a>(
     Ok(seen)
 }
 
-/// What is seen in the random runs of these seeds of an image whose calls stand at these places. `AllocError` if memory
-/// runs out.
+/// What is seen in the random runs of these seeds of an image whose calls stand at these positions. `AllocError` if
+/// memory runs out.
 pub fn sightings_of(
     alloc: Global,
     trials: &Trials<'_>,

@@ -161,7 +161,7 @@ pub fn failed_trial_beside<R: Threads + Sync>(
     }
 }
 
-/// What is seen in the random runs of each part of these seeds of an image, whose calls stand at these places. Each
+/// What is seen in the random runs of each part of these seeds of an image, whose calls stand at these positions. Each
 /// part is made by a thread.
 fn parts_seen<R: Threads + Sync>(
     alloc: Global,
@@ -219,7 +219,7 @@ fn all_seen(alloc: Global, parts: &[Result<Sightings, AllocError>]) -> Result<Si
     Ok(seen)
 }
 
-/// What is seen in the random runs of these seeds of an image, whose calls stand at these places, where this many
+/// What is seen in the random runs of these seeds of an image, whose calls stand at these positions, where this many
 /// threads make them.
 fn sightings_beside<R: Threads + Sync>(
     alloc: Global,

@@ -5,8 +5,8 @@ use crate::runs::{is_read, is_this_file, made_of_run, write};
 use crate::word_mistakes::report_over_input;
 use fmp_files::{Outside, end, print, read_file, refuse_mistake};
 use fmp_looking::{
-    Expectations, Judged, JudgementForm, PlacedExpectations, StepsRun, ViewExit, placed_failure,
-    placed_judgements,
+    Expectations, Judged, JudgementForm, SourceExpectations, StepsRun, ViewExit, source_failure,
+    source_judgements,
 };
 use fmp_searching::read_both;
 use fmp_warnings::Form;
@@ -23,14 +23,14 @@ fn expectations_of<'a>(expecting: Expecting<'a>, text: &'a [u8]) -> Expectations
 
 /// What is in the files of a run over a steps text, and of the text of its bodies.
 #[derive(Drop)]
-struct PlacedFiles {
+struct SourceFiles {
     image: Vec<u8>,
     steps: Vec<u8>,
     src: Vec<u8>,
     bound: u64,
 }
 
-impl PlacedFiles {
+impl SourceFiles {
     /// The run, as its files have it.
     fn run(&self) -> StepsRun<'_> {
         StepsRun {
@@ -41,8 +41,8 @@ impl PlacedFiles {
     }
 
     /// What is expected of the run, with the text of its bodies.
-    fn expected<'a>(&'a self, expectations: Expectations<'a>) -> PlacedExpectations<'a> {
-        PlacedExpectations {
+    fn expected<'a>(&'a self, expectations: Expectations<'a>) -> SourceExpectations<'a> {
+        SourceExpectations {
             expectations,
             src: &self.src,
         }
@@ -50,12 +50,12 @@ impl PlacedFiles {
 }
 
 /// The files of a run, if the text of its bodies is given; a recording has none.
-fn placed_files<O: Outside>(
+fn source_files<O: Outside>(
     alloc: Global,
     outside: &O,
     run: RunFiles<'_>,
     src: Option<&str>,
-) -> Result<Option<PlacedFiles>, ViewExit> {
+) -> Result<Option<SourceFiles>, ViewExit> {
     let (
         Some(src),
         RunFiles::Steps {
@@ -69,7 +69,7 @@ fn placed_files<O: Outside>(
     };
     let (image, steps) = read_both(alloc, outside, image, steps)?;
     let src = read_file(alloc, outside, src, None)?;
-    Ok(Some(PlacedFiles {
+    Ok(Some(SourceFiles {
         image,
         steps,
         src,
@@ -86,8 +86,8 @@ fn failure_of<O: Outside>(
 ) -> Result<Option<Vec<u8>>, ViewExit> {
     let text = read_file(alloc, outside, expecting.name, None)?;
     let expectations = expectations_of(expecting, &text);
-    match placed_files(alloc, outside, run, expecting.src)? {
-        Some(files) => placed_failure(alloc, files.run(), &files.expected(expectations)),
+    match source_files(alloc, outside, run, expecting.src)? {
+        Some(files) => source_failure(alloc, files.run(), &files.expected(expectations)),
         None => made_of_run(alloc, outside, run, &expectations),
     }
 }
@@ -102,9 +102,9 @@ fn judged_of<O: Outside>(
 ) -> Result<Vec<u8>, ViewExit> {
     let text = read_file(alloc, outside, expecting.name, None)?;
     let expectations = expectations_of(expecting, &text);
-    match placed_files(alloc, outside, run, expecting.src)? {
+    match source_files(alloc, outside, run, expecting.src)? {
         Some(files) => {
-            placed_judgements(alloc, files.run(), &files.expected(expectations), form)
+            source_judgements(alloc, files.run(), &files.expected(expectations), form)
         }
         None => made_of_run(alloc, outside, run, &Judged { expectations, form }),
     }

@@ -5,5 +5,5 @@ use Rattle.fmp_looking.proofs.call_sentences.nevers_in.Given as goal
 
 abbrev pub invariant-loop-one : goal.invariant-loop-one
 invariant-loop-one l =
-    l.nevers.items ++ nevers_in (code_tables l.code) l.positions (drop l.one-index l.placed)
-    ≡ nevers_in (code_tables l.code) l.positions l.placed
+    l.nevers.items ++ nevers_in (code_tables l.code) l.positions (drop l.one-index l.sentences)
+    ≡ nevers_in (code_tables l.code) l.positions l.sentences

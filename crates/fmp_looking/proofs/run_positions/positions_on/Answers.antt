@@ -6,7 +6,7 @@ use Rattle.fmp_instructions.specs.Machine.{code_meaning}
 use Rattle.fmp_kernel.specs.KernelViews.{KernelView}
 use Rattle.fmp_frames.specs.Made.{positions_made}
 use Rattle.fmp_looking.proofs.Fresh.{room_of_steps}
-use Rattle.fmp_looking.proofs.placing.positions_on.Goals as goal
+use Rattle.fmp_looking.proofs.run_positions.positions_on.Goals as goal
 
 pub positions_made-requires : goal.positions_made-requires
 positions_made-requires c = record { few = rw c.requires.kernel (room_of_steps 0 _ refl c.requires.few) }

@@ -5,7 +5,7 @@ use Rattle.fmp_instructions.specs.Machine.{code_meaning}
 use Rattle.fmp_kernel.specs.Comings.{reaction_of}
 use Rattle.fmp_looking.specs.CallSentences.{JudgeTables, breaks_by, judge_of}
 use Rattle.fmp_looking.proofs.Fresh.{room_of_steps}
-use Rattle.fmp_looking.proofs.placed_expecting.judged_on.Goals as goal
+use Rattle.fmp_looking.proofs.source_expecting.judged_on.Goals as goal
 
 pub returns-in_err-kernel : goal.returns-in_err-kernel
 returns-in_err-kernel c = rw ((err_from_is_err_and c.from_residual.result c.from_residual.ensures.1).1) tt

@@ -1,6 +1,6 @@
 use Rattle.std.proofs.Common.{◌≡◌, ◌++◌, drop, nat_eq}
 use Rattle.std.specs.Prelude.{filter}
-use Rattle.fmp_looking.proofs.placed_expecting.nevers_at.Given as goal
+use Rattle.fmp_looking.proofs.source_expecting.nevers_at.Given as goal
 
 abbrev pub invariant-loop-never : goal.invariant-loop-never
 invariant-loop-never l =

@@ -1,7 +1,7 @@
 //! Where the calls of a run stand in the text of its bodies.
 ghost use Rattle.std.specs.Prelude.{◌≡◌, ◌≤◌, ◌^◌, IfOk, length};
-ghost use Rattle.fmp_looking.specs.PlacedRuns.{positions_in, start_of};
-ghost use Rattle.fmp_looking.specs.Traces.{ArePlaced};
+ghost use Rattle.fmp_looking.specs.PositionedRuns.{positions_in, start_of};
+ghost use Rattle.fmp_looking.specs.Traces.{ArePositions};
 
 use crate::exit::{ViewExit, memory};
 use crate::kinds::exit_over;
@@ -15,9 +15,9 @@ use fmp_kernel::Kernel;
 use fmp_replay::kernel_of;
 use std::alloc::{AllocError, Global};
 
-/// A run of an image from setup on, whose calls stand at these places of a text of its bodies.
+/// A run of an image from setup on, whose calls stand at these positions of a text of its bodies.
 #[derive(Clone, Copy)]
-pub struct PlacedRun<'a> {
+pub struct PositionedRun<'a> {
     pub image: &'a Image,
     /// The bound of a stretch.
     pub bound: u64,
@@ -30,7 +30,7 @@ pub struct PlacedRun<'a> {
 fn positions_on<'a>(
     alloc: Global,
     kernel: &mut Kernel<Vm<'a>>,
-    run: PlacedRun<'a>,
+    run: PositionedRun<'a>,
 ) -> Result<Vec<Option<CallPosition>>, AllocError>
     requires kernel { kernel.old ≡ start_of run }
     requires few { length run.events.now ≤ 2 ^ 20 }
@@ -48,7 +48,7 @@ fn positions_on<'a>(
 #[tactic(none)]
 pub fn positions_over(
     alloc: Global,
-    run: PlacedRun<'_>,
+    run: PositionedRun<'_>,
 ) -> Result<Vec<Option<CallPosition>>, AllocError>
     requires few { length run.events.now ≤ 2 ^ 20 }
     ensures { IfOk result (λ made. made.items ≡ positions_in run.entry) }
@@ -61,7 +61,7 @@ pub fn positions_over(
 
 /// The same, in this text of the bodies of the image.
 #[tactic(none)]
-pub fn placed(
+pub fn positions_by_text(
     alloc: Global,
     image: &Image,
     src: &[u8],
@@ -69,10 +69,10 @@ pub fn placed(
     n: u64,
 ) -> Result<Vec<Option<CallPosition>>, AllocError>
     requires few { length events.now ≤ 2 ^ 20 }
-    ensures { IfOk result (λ made. ArePlaced src.now image.now n events.now made.items) }
+    ensures { IfOk result (λ made. ArePositions src.now image.now n events.now made.items) }
 {
     let positions = CallPositions::new(alloc, src)?;
-    let run = PlacedRun {
+    let run = PositionedRun {
         image,
         bound: n,
         positions: &positions,
@@ -81,7 +81,7 @@ pub fn placed(
     positions_over(alloc, run)
 }
 
-/// Where the call of the event of this number stands, by the places from the first event on.
+/// Where the call of the event of this number stands, by the positions from the first event on.
 pub fn position_at(positions: &[Option<CallPosition>], event: u32) -> Option<CallPosition> {
     let index = (event as usize).checked_sub(1)?;
     *positions.get(index)?
@@ -128,7 +128,7 @@ pub fn positions_for(alloc: Global, image: &Image, src: &[u8]) -> Result<CallPos
 }
 
 /// Where the calls of a run of an image over a steps text stand in this text of its bodies.
-fn placed_over(
+fn positions_over_steps(
     alloc: Global,
     opened: &OpenImage<'_>,
     steps: &[u8],
@@ -137,7 +137,7 @@ fn placed_over(
     let image = opened.image;
     let events = events_for(alloc, image, steps)?;
     let positions = positions_for(alloc, image, src)?;
-    let run = PlacedRun {
+    let run = PositionedRun {
         image,
         bound: opened.bound,
         positions: &positions,
@@ -156,9 +156,9 @@ pub fn positions_of_run(
     match image_of(alloc, run.image) {
         Ok(image) => {
             let opened = OpenImage::new(&image, run.bound);
-            let placed = placed_over(alloc, &opened, run.steps, src);
+            let made = positions_over_steps(alloc, &opened, run.steps, src);
             drop(image);
-            placed
+            made
         }
         Err(fault) => Err(exit_over(alloc, fault, run.image)),
     }

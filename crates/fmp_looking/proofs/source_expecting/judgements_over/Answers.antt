@@ -1,4 +1,4 @@
-use Rattle.fmp_looking.proofs.placed_expecting.judgements_over.Goals as goal
+use Rattle.fmp_looking.proofs.source_expecting.judgements_over.Goals as goal
 
 pub returns-in-Ok : goal.returns-in-Ok
 returns-in-Ok c =

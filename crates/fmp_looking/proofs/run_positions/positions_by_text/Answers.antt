@@ -1,5 +1,5 @@
 use Rattle.std.proofs.lemmas.Result.{IfOk-weaker, err_from_is_err_and}
-use Rattle.fmp_looking.proofs.placing.placed.Goals as goal
+use Rattle.fmp_looking.proofs.run_positions.positions_by_text.Goals as goal
 
 pub returns-in_err-positions : goal.returns-in_err-positions
 returns-in_err-positions c = rw ((err_from_is_err_and c.from_residual.result c.from_residual.ensures.1).1) tt

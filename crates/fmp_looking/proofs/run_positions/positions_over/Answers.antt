@@ -1,5 +1,5 @@
 use Rattle.std.proofs.lemmas.Result.{err_from_is_err_and}
-use Rattle.fmp_looking.proofs.placing.positions_over.Goals as goal
+use Rattle.fmp_looking.proofs.run_positions.positions_over.Goals as goal
 
 pub returns-in_err-kernel : goal.returns-in_err-kernel
 returns-in_err-kernel c = rw ((err_from_is_err_and c.from_residual.result c.from_residual.ensures.1).1) tt

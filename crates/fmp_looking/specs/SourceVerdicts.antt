@@ -9,7 +9,7 @@ use Rattle.fmp_replay.specs.Replays.{kernel_after}
 use Rattle.fmp_trials.specs.Trials.{broken_by}
 use Rattle.fmp_looking.specs.declared.call_sentences.RunSentences.{RunSentences}
 use Rattle.fmp_looking.specs.declared.judging.JudgementForm.{JudgementForm}
-use Rattle.fmp_looking.specs.declared.placed_expecting.PlacedExpectations.{PlacedExpectations}
+use Rattle.fmp_looking.specs.declared.source_expecting.SourceExpectations.{SourceExpectations}
 use Rattle.fmp_looking.specs.CallSentences.{AreNamedSentences, breaks_by, judge_of}
 use Rattle.fmp_looking.specs.Expects.{empty_claims, fails_text}
 use Rattle.fmp_looking.specs.Judgements.{IsTold, judged_by_each}
@@ -23,17 +23,17 @@ fails_sentences i n es strict s =
     (empty_claims (reaction_of code_meaning) (kernel_after i n []) es s.expected.items)
 
 -- this is whether it fails the sentences of a text
-pub record IsPlacedVerdict (i : ImageTables) (n : ℕ) (es : List Event) (placed : PlacedExpectations) (fails : Bool)
+pub record IsSourceVerdict (i : ImageTables) (n : ℕ) (es : List Event) (sourced : SourceExpectations) (fails : Bool)
     : Type 0 where
   pub sentences : RunSentences
-  pub read : AreNamedSentences i placed.src.now placed.expectations.text.now sentences
-  pub judged : fails ≡ fails_sentences i n es placed.expectations.strict sentences
+  pub read : AreNamedSentences i sourced.src.now sourced.expectations.text.now sentences
+  pub judged : fails ≡ fails_sentences i n es sourced.expectations.strict sentences
 
 -- this tells in a form how it does by each sentence of a text alone
-pub record ArePlacedJudgements (i : ImageTables) (n : ℕ) (es : List Event) (placed : PlacedExpectations)
+pub record AreSourceJudgements (i : ImageTables) (n : ℕ) (es : List Event) (sourced : SourceExpectations)
     (form : JudgementForm) (out : List ℕ) : Type 0 where
   pub sentences : RunSentences
-  pub read : AreNamedSentences i placed.src.now placed.expectations.text.now sentences
+  pub read : AreNamedSentences i sourced.src.now sourced.expectations.text.now sentences
   pub told :
-      IsTold form placed.expectations.name.now placed.expectations.strict
+      IsTold form sourced.expectations.name.now sourced.expectations.strict
       (judged_by_each (kernel_after i n []) (judge_of i) es sentences) out

@@ -10,7 +10,7 @@ ghost use Rattle.fmp_looking.specs.Judgements as spec;
 ghost use Rattle.fmp_looking.specs.CallSentences.{AreNamedSentences, breaks_by, judge_of};
 ghost use Rattle.fmp_looking.specs.Expects.{empty_claims};
 ghost use Rattle.fmp_looking.specs.Looks.{OfImage, OfSteps};
-ghost use Rattle.fmp_looking.specs.PlacedVerdicts.{ArePlacedJudgements, IsPlacedVerdict, fails_sentences};
+ghost use Rattle.fmp_looking.specs.SourceVerdicts.{AreSourceJudgements, IsSourceVerdict, fails_sentences};
 ghost use Rattle.fmp_looking.specs.Tested.{subject_of};
 
 use crate::call_sentences::{CallJudge, CallNever, RunSentences, sentences_of};
@@ -24,14 +24,14 @@ use crate::named_system::named_system;
 use crate::open_image::OpenImage;
 use crate::opened::Opened;
 use crate::opening::{StepsRun, events_for, image_of};
-use crate::placing::positions_for;
+use crate::run_positions::positions_for;
 use fmp_base::Event;
 use fmp_expect::{BrokenExpectation, CallSentence, judge_run};
 use std::alloc::{AllocError, Global};
 
 /// A text of expectations, and the text of the bodies of an image.
 #[derive(Clone, Copy)]
-pub struct PlacedExpectations<'a> {
+pub struct SourceExpectations<'a> {
     pub expectations: Expectations<'a>,
     pub src: &'a [u8],
 }
@@ -117,15 +117,15 @@ fn judgement_of(
     opened: &OpenImage<'_>,
     events: &[Event],
     nevers: &[CallNever],
-    placed: CallSentence,
+    sentence: CallSentence,
 ) -> Result<Judgement, AllocError>
     requires { length events.now ≤ 2 ^ 20 }
-    ensures { IfOk result (λ j. j ≡ spec.placed_by (kernel_after opened.now.image.now opened.now.bound [])
-        (judge_of opened.now.image.now) events.now nevers.now placed) }
+    ensures { IfOk result (λ j. j ≡ spec.judged_by_call (kernel_after opened.now.image.now opened.now.bound [])
+        (judge_of opened.now.image.now) events.now nevers.now sentence) }
 {
-    let nevers = nevers_at(alloc, nevers, placed.line)?;
+    let nevers = nevers_at(alloc, nevers, sentence.line)?;
     Ok(Judgement {
-        line: placed.line,
+        line: sentence.line,
         broken: judged_on(alloc, opened, events, &nevers)?,
         is_empty: false,
     })
@@ -141,11 +141,11 @@ fn add_judgements(
 ) -> Result<(), AllocError>
     requires { length events.now ≤ 2 ^ 20 }
     ensures { OnOk result (all.new.items ≡ all.old.items
-        ++ map (spec.placed_by (kernel_after opened.now.image.now opened.now.bound [])
-        (judge_of opened.now.image.now) events.now sentences.now.nevers.items) sentences.now.placed.items) }
+        ++ map (spec.judged_by_call (kernel_after opened.now.image.now opened.now.bound [])
+        (judge_of opened.now.image.now) events.now sentences.now.nevers.items) sentences.now.of_calls.items) }
 {
-    for placed in &sentences.placed {
-        all.push(judgement_of(alloc, opened, events, &sentences.nevers, *placed)?)?;
+    for sentence in &sentences.of_calls {
+        all.push(judgement_of(alloc, opened, events, &sentences.nevers, *sentence)?)?;
     }
     Ok(())
 }
@@ -192,21 +192,21 @@ fn judged_text(
 fn sentences_for(
     alloc: Global,
     opened: &OpenImage<'_>,
-    placed: &PlacedExpectations<'_>,
+    sourced: &SourceExpectations<'_>,
 ) -> Result<RunSentences, ViewExit>
-    ensures { IfOk result (AreNamedSentences opened.now.image.now placed.now.src.now
-        placed.now.expectations.text.now) }
+    ensures { IfOk result (AreNamedSentences opened.now.image.now sourced.now.src.now
+        sourced.now.expectations.text.now) }
 {
-    positions_for(alloc, opened.image, placed.src)?;
-    let configured = named_system(alloc, opened.image.system(), placed.src).map_err(|error| memory(
+    positions_for(alloc, opened.image, sourced.src)?;
+    let configured = named_system(alloc, opened.image.system(), sourced.src).map_err(|error| memory(
         error,
     ))?;
     sentences_of(
         alloc,
         opened.image,
         &configured,
-        placed.src,
-        placed.expectations.text,
+        sourced.src,
+        sourced.expectations.text,
     )
 }
 
@@ -215,14 +215,14 @@ fn failure_over(
     alloc: Global,
     opened: &OpenImage<'_>,
     steps: &[u8],
-    placed: &PlacedExpectations<'_>,
+    sourced: &SourceExpectations<'_>,
 ) -> Result<Option<Vec<u8>>, ViewExit>
     ensures { IfOk result (λ text. OfSteps opened.now.image.now steps.now
-        (λ es. IsPlacedVerdict opened.now.image.now opened.now.bound es placed.now (is_some text))) }
+        (λ es. IsSourceVerdict opened.now.image.now opened.now.bound es sourced.now (is_some text))) }
 {
     let events = events_for(alloc, opened.image, steps)?;
-    let sentences = sentences_for(alloc, opened, placed)?;
-    match failure_of(alloc, opened, &events, &placed.expectations, &sentences) {
+    let sentences = sentences_for(alloc, opened, sourced)?;
+    match failure_of(alloc, opened, &events, &sourced.expectations, &sentences) {
         Ok(text) => Ok(text),
         Err(error) => Err(memory(error)),
     }
@@ -233,16 +233,16 @@ fn judgements_over(
     alloc: Global,
     opened: &OpenImage<'_>,
     steps: &[u8],
-    placed: &PlacedExpectations<'_>,
+    sourced: &SourceExpectations<'_>,
     form: JudgementForm,
 ) -> Result<Vec<u8>, ViewExit>
     ensures { IfOk result (λ out. OfSteps opened.now.image.now steps.now
-        (λ es. ArePlacedJudgements opened.now.image.now opened.now.bound es placed.now form out.items)) }
+        (λ es. AreSourceJudgements opened.now.image.now opened.now.bound es sourced.now form out.items)) }
 {
     let events = events_for(alloc, opened.image, steps)?;
-    let sentences = sentences_for(alloc, opened, placed)?;
+    let sentences = sentences_for(alloc, opened, sourced)?;
     let judged = Judged {
-        expectations: placed.expectations,
+        expectations: sourced.expectations,
         form,
     };
     match judged_text(alloc, opened, &events, &judged, &sentences) {
@@ -254,18 +254,18 @@ fn judgements_over(
 /// What is printed of a run that does not meet a text: the first line that fails, and the event in which it does; or
 /// the lines that say nothing of the run, if these fail too. The text of the bodies must have as many as the image,
 /// each with as many calls.
-pub fn placed_failure(
+pub fn source_failure(
     alloc: Global,
     run: StepsRun<'_>,
-    placed: &PlacedExpectations<'_>,
+    sourced: &SourceExpectations<'_>,
 ) -> Result<Option<Vec<u8>>, ViewExit>
     ensures { IfOk result (λ text. OfImage run.entry.image.now (λ i. OfSteps i run.entry.steps.now
-        (λ es. IsPlacedVerdict i run.entry.bound es placed.now (is_some text)))) }
+        (λ es. IsSourceVerdict i run.entry.bound es sourced.now (is_some text)))) }
 {
     match image_of(alloc, run.image) {
         Ok(image) => {
             let opened = OpenImage::new(&image, run.bound);
-            let failure = failure_over(alloc, &opened, run.steps, placed);
+            let failure = failure_over(alloc, &opened, run.steps, sourced);
             drop(image);
             failure
         }
@@ -275,19 +275,19 @@ pub fn placed_failure(
 
 /// How a run does by each sentence of a text alone, in a form: those about calls come last. The text of the bodies must
 /// have as many as the image, each with as many calls.
-pub fn placed_judgements(
+pub fn source_judgements(
     alloc: Global,
     run: StepsRun<'_>,
-    placed: &PlacedExpectations<'_>,
+    sourced: &SourceExpectations<'_>,
     form: JudgementForm,
 ) -> Result<Vec<u8>, ViewExit>
     ensures { IfOk result (λ out. OfImage run.entry.image.now (λ i. OfSteps i run.entry.steps.now
-        (λ es. ArePlacedJudgements i run.entry.bound es placed.now form out.items))) }
+        (λ es. AreSourceJudgements i run.entry.bound es sourced.now form out.items))) }
 {
     match image_of(alloc, run.image) {
         Ok(image) => {
             let opened = OpenImage::new(&image, run.bound);
-            let told = judgements_over(alloc, &opened, run.steps, placed, form);
+            let told = judgements_over(alloc, &opened, run.steps, sourced, form);
             drop(image);
             told
         }
