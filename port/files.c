@@ -1,8 +1,23 @@
 /* files.c: the files that a command line names. */
 #include "files.h"
 
+#include <fcntl.h>
 #include <stdlib.h>
 #include <sys/stat.h>
+#include <unistd.h>
+
+/* Where standard input, output or errors are closed, the next file that is opened would take their place. So each of
+   these gets a device first that nothing can be written to. */
+static void take_standard(void)
+{
+    int descriptor;
+    do {
+        descriptor = open("/dev/null", O_RDONLY);
+    } while (descriptor >= 0 && descriptor <= STDERR_FILENO);
+    if (descriptor >= 0) {
+        close(descriptor);
+    }
+}
 
 static char *read_all(FILE *file, size_t *length)
 {
@@ -28,6 +43,7 @@ static char *read_all(FILE *file, size_t *length)
 
 char *files_text(const char *path, size_t *length)
 {
+    take_standard();
     FILE *file = fopen(path, "rb");
     char *text = file != NULL ? read_all(file, length) : NULL;
     if (text == NULL) {

@@ -247,6 +247,17 @@ refusals() {
     refused 1 "$said" plain/live-queue wrong.cfg 200000 20 old.calls
     [ "$(cat old.calls)" = old ] || problem="$problem, the recording of another run is gone"
     verdict "a configuration that is refused" "$problem"
+    problem=
+    for command in "plain/queue own.cfg $root/examples/queue.steps closed.calls" \
+        "plain/live-queue own.cfg 200000 20 closed.calls"; do
+        status=0
+        # shellcheck disable=SC2086
+        $command >&- 2> errors || status=$?
+        [ $status = 3 ] || problem="$problem, status $status of $command"
+        [ "$(cat errors)" = "file: -" ] || problem="$problem, $command says: $(head -c 300 errors)"
+        plain/replay own.cfg closed.calls > output 2>> errors || problem="$problem, no replay of what $command did"
+    done
+    verdict "output that is closed" "$problem"
     [ -c /dev/full ] || return 0
     problem=
     for command in "plain/queue own.cfg $root/examples/queue.steps" "plain/live-queue own.cfg 200000 20"; do
