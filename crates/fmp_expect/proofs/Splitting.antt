@@ -1,5 +1,6 @@
 -- The lines of a text, and the words of a line.
-use Rattle.std.proofs.Common.{◌≡◌, ◌∙◌, ℕ, suc, zero, ◌+◌, ◌-◌, ◌<◌, ◌≤◌, get_or, inl, inr, List, [], ◌∷◌, Option, Some, None, Bool, true, false}
+use Rattle.std.proofs.Common.{◌≡◌, ◌∙◌, ℕ, suc, zero, ◌+◌, ◌-◌, ◌<◌, ◌≤◌, get_or, inl, inr, List, [], ◌∷◌, Option}
+use Rattle.std.proofs.Common.{Some, None, Bool, true, false}
 use Rattle.std.proofs.Common.{not, cond, nat_eq, nat_lt, length, take, drop, position, length-drop, refl, ap, sym}
 use Rattle.std.proofs.Common.{arith}
 use Rattle.std.specs.List.{before_first, filter, onto_first, position_or_len, slice_split}

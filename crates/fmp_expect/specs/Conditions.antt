@@ -26,7 +26,8 @@ use Rattle.fmp_monitors.specs.declared.condition.TestedFact.TheVariants as fact
 use Rattle.fmp_expect.specs.declared.fault.Expects.{Expects}
 use Rattle.fmp_expect.specs.declared.fault.Expects.TheVariants as expects
 use Rattle.fmp_expect.specs.declared.fault.ExpectationFlaw.{ExpectationFlaw}
-use Rattle.fmp_expect.specs.Parts.{Read, and_then, begins, after_first, after_word, flaw_at, found_or, number_in, or_else}
+use Rattle.fmp_expect.specs.Parts.{Read, and_then, begins, after_first, after_word, flaw_at, found_or, number_in}
+use Rattle.fmp_expect.specs.Parts.{or_else}
 use Rattle.fmp_expect.specs.Parts.{read, state_of, task_of}
 use Rattle.fmp_expect.specs.Words.{signed_number}
 

@@ -1,6 +1,7 @@
 -- Sentences as they are written: the grammar from the other side. The words of each sentence say it.
 use Rattle.std.specs.Prelude.{ℕ, ◌≡◌, ◌+◌, ◌-◌, ◌<◌, ◌≤◌, ◌^◌, ℤ, pos, negsuc, List, [], ◌∷◌, ◌++◌, length}
-use Rattle.std.specs.Prelude.{Bool, true, false, Option, Some, None, bytes_eq, codes, decimal, find, nat_eq, option_and_then}
+use Rattle.std.specs.Prelude.{Bool, true, false, Option, Some, None, bytes_eq, codes, decimal, find, nat_eq}
+use Rattle.std.specs.Prelude.{option_and_then}
 use Rattle.std.specs.Prelude.{option_map, slice_get, if◌then◌else◌}
 use Rattle.std.specs.Fmt.{signed_decimal}
 use Rattle.std.specs.List.{AllByRecursion}

@@ -285,9 +285,9 @@ impl Search {
         Ok(examined(alloc, subject, own))
     }
 
-    /// Enters slices, and then examines the states of one that is handed over, while the crew examines the others. Gives
-    /// the slices of the others, `AllocError` if memory ran out for all of them, and the slice of that one; `AllocError`
-    /// if memory ran out while slices were entered.
+    /// Enters slices, and then examines the states of one that is handed over, while the crew examines the others.
+    /// Gives the slices of the others, `AllocError` if memory ran out for all of them, and the slice of that one;
+    /// `AllocError` if memory ran out while slices were entered.
     fn enter_with_crew<W: SearchWatcher, C: Crew>(
         &mut self,
         alloc: Global,

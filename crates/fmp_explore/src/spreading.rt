@@ -213,10 +213,10 @@ impl Sweep<'_> {
     }
 }
 
-/// The bits of a byte that a state needs, where some state has these. The last bit, at this place, says that an end can
-/// be reached. It is asked only of a state that lacks another bit, and from such a state none can be reached that has all
-/// others: so a state that has all others needs no more. Where a task acts in no state, or there are more bytes, a state
-/// needs all.
+/// The bits of a byte that a state needs, where some state has these. The last bit, at this place, says that an end
+/// can be reached. It is asked only of a state that lacks another bit, and from such a state none can be reached that
+/// has all others: so a state that has all others needs no more. Where a task acts in no state, or there are more
+/// bytes, a state needs all.
 fn needed_of(all: u8, bits: &ActorBits, last: usize) -> u8 {
     let others = (1_u8 << (last % 8)).wrapping_sub(1);
     if bits.width() == 1 && all & others == others {

@@ -113,8 +113,8 @@ pub fn next_stretch<B: Body<Ctx = MachineContext>>(
     }
 }
 
-/// The last call of the body of the task at a place, if there is one. Where the task waits, or has just got the reply for
-/// which it waited, that is the call in which it waits or waited.
+/// The last call of the body of the task at a place, if there is one. Where the task waits, or has just got the reply
+/// for which it waited, that is the call in which it waits or waited.
 pub fn task_site<B: Body<Ctx = MachineContext>>(
     kernel: &Kernel<B>,
     sys: &System,

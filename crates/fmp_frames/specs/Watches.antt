@@ -35,8 +35,8 @@ told_after n (f ∷ fs) told =
     told_after (number_after n f.kept) fs (told_with f.lines (number_after n f.kept) told)
 
 -- what was told of a run: of setup, which is event 0, and of what came after it
-abbrev pub told_of_run : {B C X : Type 0} → (B → Meaning C) → (KernelView B C → X → Reaction C) → KernelView B C → List X
-    → Told
+abbrev pub told_of_run : {B C X : Type 0} → (B → Meaning C) → (KernelView B C → X → Reaction C) → KernelView B C
+    → List X → Told
 told_of_run meaning reaction k xs = told_after 0 (frames_of_each meaning reaction k xs) (told_with k.lines 0 [])
 
 -- the next run of a processor reaches the bound

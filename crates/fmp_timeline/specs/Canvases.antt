@@ -1,5 +1,6 @@
 -- The text of a picture, or of a label in it.
-use Rattle.std.specs.Prelude.{◌≡◌, ℕ, ◌+◌, ◌==◌, if◌then◌else◌, List, [], ◌∷◌, ◌++◌, Bool, false, codes, decimal, flat_map}
+use Rattle.std.specs.Prelude.{◌≡◌, ℕ, ◌+◌, ◌==◌, if◌then◌else◌, List, [], ◌∷◌, ◌++◌, Bool, false, codes, decimal}
+use Rattle.std.specs.Prelude.{flat_map}
 use Rattle.fmp_timeline.specs.declared.canvas.Canvas.{Canvas}
 
 -- a byte, escaped where it is a mark of SVG
