@@ -5,7 +5,7 @@ use Rattle.fmp_json.specs.declared.junit.TestCase.{TestCase}
 use Rattle.fmp_json.specs.declared.junit.TestSuite.{TestSuite}
 use Rattle.fmp_json.specs.declared.junit.Verdict.{Verdict}
 use Rattle.fmp_json.specs.declared.junit.Verdict.TheVariants as verdict
-use Rattle.fmp_json.specs.Xml.{content, escaped}
+use Rattle.fmp_json.specs.Xml.{content, escaped, fit}
 
 -- a test failed; whether it would pass is not known
 abbrev pub is_failure : Verdict → Bool
@@ -22,16 +22,16 @@ name_text name = codes " " ++ (name ++ codes "=\"")
 
 -- an attribute whose value is a text, and one whose value is a number
 unfoldable pub text_attribute : (name text : List ℕ) → List ℕ
-text_attribute name text = name_text name ++ (escaped text ++ codes "\"")
+text_attribute name text = name_text name ++ (escaped (fit text) ++ codes "\"")
 
 unfoldable pub number_attribute : (name : List ℕ) → ℕ → List ℕ
 number_attribute name n = name_text name ++ (decimal n ++ codes "\"")
 
--- what stands behind the attributes of a test, by its verdict
+-- what stands after the attributes of a test, by its verdict
 unfoldable pub failure_text : (message text : List ℕ) → List ℕ
 failure_text message text =
     codes ">\n      <failure" ++ (text_attribute (codes "message") message
-    ++ (codes ">" ++ (content text ++ codes "</failure>\n    </testcase>\n")))
+    ++ (codes ">" ++ (content (fit text) ++ codes "</failure>\n    </testcase>\n")))
 
 unfoldable pub error_text : (message : List ℕ) → List ℕ
 error_text message =

@@ -1,6 +1,18 @@
 -- Texts as XML has them in a value of an attribute and as the content of an element.
 use Rattle.std.specs.Prelude.{ℕ, Bool, ◌==◌, ◌&&◌, ◌||◌, not, nat_le, nat_lt, if◌then◌else◌, List, [], ◌∷◌, ◌++◌, codes}
 
+-- a byte of a text after these two: U+FFFE and U+FFFF, which XML does not have, become U+FFFD by their last byte
+unfoldable pub fit_byte : (before last byte : ℕ) → ℕ
+fit_byte before last byte = if (before == 239) && ((last == 191) && nat_lt 189 byte) then 189 else byte
+
+-- the rest of a text after these two bytes, and a whole text, so changed
+abbrev pub fit_after : (before last : ℕ) → List ℕ → List ℕ
+fit_after before last [] = []
+fit_after before last (byte ∷ bytes) = fit_byte before last byte ∷ fit_after last byte bytes
+
+abbrev pub fit : List ℕ → List ℕ
+fit text = fit_after 0 0 text
+
 -- a reference for a character that has a meaning of its own in XML; `?` for one that XML does not have
 unfoldable pub escaped_byte : ℕ → List ℕ
 escaped_byte byte =

@@ -179,8 +179,8 @@ fn append_suites(suites: &[TestSuite<'_>], out: &mut Vec<u8>) -> Result<(), Allo
     Ok(())
 }
 
-/// Appends a report of suites. If memory runs out, the text has an unfinished end. A control character, which XML does
-/// not have, is written as `?`.
+/// Appends a report of suites. If memory runs out, the text has an unfinished end. Of what XML does not have, a
+/// control character is written as `?`, and U+FFFE and U+FFFF as U+FFFD.
 #[tactic(auto, unfolding(crate::specs::Junit::report_text))]
 pub fn append_report(suites: &[TestSuite<'_>], out: &mut Vec<u8>) -> Result<(), AllocError>
     ensures { OnOk result (out.new.items ≡ out.old.items ++ spec.report_text suites.now) }

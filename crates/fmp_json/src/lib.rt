@@ -1,4 +1,4 @@
-//! Objects of JSON, one in a line, and reports of tests in the XML of JUnit, as other programs read them.
+//! Objects of JSON, one a line, and reports of tests in the XML of JUnit, for other programs.
 #![tactic(auto)]
 
 mod junit;

@@ -32,13 +32,29 @@ fn append_byte(byte: u8, out: &mut Vec<u8>) -> Result<(), AllocError>
     }
 }
 
+/// A byte of a text after these two. The last byte of U+FFFE and of U+FFFF becomes that of U+FFFD.
+#[tactic(auto, unfolding(crate::specs::Xml::fit_byte))]
+fn fit_byte(before: u8, last: u8, byte: u8) -> u8
+    ensures { result ≡ spec.fit_byte before last byte }
+{
+    if before == 0xEF && last == 0xBF && byte >= 0xBE {
+        0xBD
+    } else {
+        byte
+    }
+}
+
 /// Appends a text as a value of an attribute has it.
 fn append_escaped(text: &str, out: &mut Vec<u8>) -> Result<(), AllocError>
-    ensures written { OnOk result (out.new.items ≡ out.old.items ++ spec.escaped text.now) }
-    ensures plain { list_all spec.is_plain (spec.escaped text.now) ≡ true }
+    ensures written { OnOk result (out.new.items ≡ out.old.items ++ spec.escaped (spec.fit text.now)) }
+    ensures plain { list_all spec.is_plain (spec.escaped (spec.fit text.now)) ≡ true }
 {
+    let mut before: u8 = 0;
+    let mut last: u8 = 0;
     for byte in text.as_bytes() {
-        append_byte(*byte, out)?;
+        append_byte(fit_byte(before, last, *byte), out)?;
+        before = last;
+        last = *byte;
     }
     Ok(())
 }
@@ -57,11 +73,15 @@ fn append_content_byte(byte: u8, out: &mut Vec<u8>) -> Result<(), AllocError>
 
 /// Appends a text as the content of an element has it: its lines stay lines.
 pub fn append_content(text: &str, out: &mut Vec<u8>) -> Result<(), AllocError>
-    ensures written { OnOk result (out.new.items ≡ out.old.items ++ spec.content text.now) }
-    ensures plain { list_all spec.is_plain_content (spec.content text.now) ≡ true }
+    ensures written { OnOk result (out.new.items ≡ out.old.items ++ spec.content (spec.fit text.now)) }
+    ensures plain { list_all spec.is_plain_content (spec.content (spec.fit text.now)) ≡ true }
 {
+    let mut before: u8 = 0;
+    let mut last: u8 = 0;
     for byte in text.as_bytes() {
-        append_content_byte(*byte, out)?;
+        append_content_byte(fit_byte(before, last, *byte), out)?;
+        before = last;
+        last = *byte;
     }
     Ok(())
 }

@@ -1,5 +1,13 @@
+pub mod Adding
+pub mod Clashes
 pub mod Digits
 pub mod Feeding
+pub mod Ids
+pub mod Joining
+pub mod LastItem
+pub mod Locations
 pub mod Naming
+pub mod Notices
 pub mod Ranges
 pub mod ReadBack
+pub mod Taking

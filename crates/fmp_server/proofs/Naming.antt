@@ -1,8 +1,8 @@
 -- The places of a text at which a name stands for something, token by token.
 use Rattle.std.proofs.Common.{ℕ, zero, suc, ◌≡◌, ◌<◌, ◌+◌, ◌++◌, Bool, true, false, List, [], ◌∷◌, Option, Some, None}
-use Rattle.std.proofs.Common.{drop, length, slice_get, option_map, refl, ap, sym, ◌∙◌, arith}
+use Rattle.std.proofs.Common.{drop, length, slice_get, take, option_map, refl, ap, sym, ◌∙◌, add-one, arith}
 use Rattle.std.specs.Prelude.{if◌then◌else◌}
-use Rattle.std.proofs.lemmas.List.{append_assoc, drop_more, map-append}
+use Rattle.std.proofs.lemmas.List.{append_assoc, drop_more}
 use Rattle.std.proofs.lemmas.Option.{slice_get-map, get_or_from_slice_get, slice_get_within}
 use Rattle.fmp_lex.specs.declared.position.TokenPosition.{TokenPosition}
 use Rattle.fmp_lex.specs.declared.token.Token.{Token}
@@ -12,7 +12,10 @@ use Rattle.fmp_lex.specs.Reading.{kinds_of}
 use Rattle.fmp_server.specs.declared.roles.NamePosition.{NamePosition}
 use Rattle.fmp_server.specs.declared.roles.Role.{Role}
 use Rattle.fmp_server.specs.declared.roles.RoleWalk.{RoleWalk}
-use Rattle.fmp_server.specs.Roles.{named_positions, positions_of, stands_for, walked}
+use Rattle.fmp_server.specs.Roles.{declares, named_positions, place_of, stands_for, walked, walked_all}
+
+some_same : {A : Type 0} (a b : A) → Some a ≡ Some b → a ≡ b
+some_same a b e = cc e
 
 -- the token at a place, and those after it
 held : (ts : List Token) (i : ℕ) (t : Token) → slice_get ts i ≡ Some t → drop i ts ≡ t ∷ drop (i + 1) ts
@@ -32,9 +35,9 @@ found ts i k e = of_kind (slice_get ts i) k (sym (slice_get-map (λ (t : Token).
 
 here : (w : RoleWalk) (r : Role) (t : Token) (rest : List Token) (b : Bool) → stands_for w r t.kind ≡ b
     → named_positions w r (t ∷ rest)
-    ≡ (if b then position_of t ∷ [] else []) ++ named_positions (walked w t.kind) r rest
+    ≡ (if b then place_of w t ∷ [] else []) ++ named_positions (walked w t.kind) r rest
 here w r t rest b e =
-    ap (λ (b : Bool). (if b then position_of t ∷ [] else []) ++ named_positions (walked w t.kind) r rest) e
+    ap (λ (b : Bool). (if b then place_of w t ∷ [] else []) ++ named_positions (walked w t.kind) r rest) e
 
 -- a token at which the name does not stand for this
 pub passed : (w : RoleWalk) (r : Role) (ts : List Token) (i : ℕ) (k : TokenKind) → slice_get (kinds_of ts) i ≡ Some k
@@ -50,24 +53,24 @@ passed w r ts i k e f =
 pub named : (w : RoleWalk) (r : Role) (ts : List Token) (i : ℕ) (k : TokenKind) (old : List NamePosition)
     (q : NamePosition)
     → slice_get (kinds_of ts) i ≡ Some k → option_map position_of (slice_get ts i) ≡ Some q.position
-    → stands_for w r k ≡ true
-    → positions_of (old ++ q ∷ []) ++ named_positions (walked w k) r (drop (i + 1) ts)
-    ≡ positions_of old ++ named_positions w r (drop i ts)
-named w r ts i k old q e g f =
+    → q.declares ≡ declares w.before → stands_for w r k ≡ true
+    → (old ++ q ∷ []) ++ named_positions (walked w k) r (drop (i + 1) ts) ≡ old ++ named_positions w r (drop i ts)
+named w r ts i k old q e g d f =
     let h = found ts i k e in
     let rest = drop (i + 1) ts in
     let more = named_positions (walked w k) r rest in
-    let before = positions_of old in
     let same : Some (position_of h.0) ≡ Some q.position =
     sym (ap (λ (o : Option Token). option_map position_of o) h.1) ∙ g in
     let position : position_of h.0 ≡ q.position = cc in
-    ap (λ (l : List TokenPosition). l ++ more) (map-append (λ (p : NamePosition). p.position) old (q ∷ []))
-    ∙ append_assoc before (q.position ∷ []) more
-    ∙ ap (λ (l : List TokenPosition). before ++ l)
+    let place : place_of w h.0 ≡ q =
+    ap (λ (p : TokenPosition). record { position = p; declares = declares w.before }) position
+    ∙ ap (λ (b : Bool). record { position = q.position; declares = b }) (sym d) in
+    append_assoc old (q ∷ []) more
+    ∙ ap (λ (l : List NamePosition). old ++ l)
     (sym (ap (λ (l : List Token). named_positions w r l) (held ts i h.0 h.1)
     ∙ here w r h.0 rest true (ap (λ (x : TokenKind). stands_for w r x) h.2 ∙ f)
-    ∙ ap (λ (x : TokenKind). position_of h.0 ∷ named_positions (walked w x) r rest) h.2
-    ∙ ap (λ (p : TokenPosition). p ∷ more) position))
+    ∙ ap (λ (x : TokenKind). place_of w h.0 ∷ named_positions (walked w x) r rest) h.2
+    ∙ ap (λ (p : NamePosition). p ∷ more) place))
 
 -- a token that is of some kind has a place
 pub placed : (ts : List Token) (i : ℕ) (k : TokenKind) → slice_get (kinds_of ts) i ≡ Some k
@@ -84,3 +87,37 @@ pub kind_held : (ts : List Token) (i : ℕ) → i < length ts
 kind_held [] i h = absurd (omega (arith, h))
 kind_held (t ∷ ts) zero h = (refl, (t.kind, refl))
 kind_held (t ∷ ts) (suc i) h = let r = kind_held ts i (omega arith) in (refl, r.1)
+
+-- a token that is the only one
+pub only_kind : (ts : List Token) (k : TokenKind) → slice_get (kinds_of ts) 0 ≡ Some k → length ts ≡ 1
+    → kinds_of ts ≡ k ∷ []
+only_kind [] k e h = absurd (cc e)
+only_kind (t ∷ []) k e h = ap (λ (x : TokenKind). x ∷ []) (some_same t.kind k e)
+only_kind (t ∷ u ∷ us) k e h = absurd (omega (arith, h))
+
+walked_suc : (w : RoleWalk) (ks : List TokenKind) (i : ℕ) (k : TokenKind) → slice_get ks i ≡ Some k
+    → walked (walked_all w (take i ks)) k ≡ walked_all w (take (suc i) ks)
+walked_suc w [] zero k e = absurd (cc e)
+walked_suc w [] (suc i) k e = absurd (cc e)
+walked_suc w (x ∷ ks) zero k e = ap (λ (y : TokenKind). walked w y) (sym (some_same x k e))
+walked_suc w (x ∷ ks) (suc i) k e = walked_suc (walked w x) ks i k e
+
+past_suc : (w : RoleWalk) (ks : List TokenKind) (i : ℕ) → slice_get ks i ≡ None
+    → walked_all w (take i ks) ≡ walked_all w (take (suc i) ks)
+past_suc w [] zero e = refl
+past_suc w [] (suc i) e = refl
+past_suc w (x ∷ ks) zero e = absurd (cc e)
+past_suc w (x ∷ ks) (suc i) e = past_suc (walked w x) ks i e
+
+at_next : (w : RoleWalk) (ks : List TokenKind) (i : ℕ) → walked_all w (take (suc i) ks) ≡ walked_all w (take (i + 1) ks)
+at_next w ks i = ap (λ (n : ℕ). walked_all w (take n ks)) (sym (add-one i))
+
+-- a walk over one token more
+pub walked_more : (w : RoleWalk) (ks : List TokenKind) (i : ℕ) (k : TokenKind) → slice_get ks i ≡ Some k
+    → walked (walked_all w (take i ks)) k ≡ walked_all w (take (i + 1) ks)
+walked_more w ks i k e = walked_suc w ks i k e ∙ at_next w ks i
+
+-- past the last token it stays
+pub walked_past : (w : RoleWalk) (ks : List TokenKind) (i : ℕ) → slice_get ks i ≡ None
+    → walked_all w (take i ks) ≡ walked_all w (take (i + 1) ks)
+walked_past w ks i e = past_suc w ks i e ∙ at_next w ks i

@@ -11,7 +11,7 @@ use Rattle.fmp_server.specs.Positions.{AreRanges, IsRange}
 use Rattle.fmp_server.specs.Roles.{positions_of}
 
 -- one place more
-ranges_more : (text : List ℕ) (ps : List TokenPosition) (rs : List TextRange) (p : TokenPosition) (r : TextRange)
+pub ranges_more : (text : List ℕ) (ps : List TokenPosition) (rs : List TextRange) (p : TokenPosition) (r : TextRange)
     → AreRanges text ps rs → IsRange text (p.line - 1) p.start p.end r
     → AreRanges text (ps ++ p ∷ []) (rs ++ r ∷ [])
 ranges_more text [] rs p r a b = (r, [], ap (λ (l : List TextRange). l ++ r ∷ []) a, b, refl)

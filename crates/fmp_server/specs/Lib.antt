@@ -1,7 +1,13 @@
+pub mod Documents
 pub mod Findings
 pub mod Framing
+pub mod Hovers
 pub mod Laws
 pub mod Messages
+pub mod Navigation
 pub mod Positions
+pub mod Renaming
+pub mod Requests
 pub mod Roles
 pub mod Serving
+pub mod Workspaces

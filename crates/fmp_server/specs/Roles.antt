@@ -1,7 +1,7 @@
 -- What names in the texts stand for. A walk over the tokens of a text follows one name: what stands before the next
 -- token, whether the name is a variable of the body that was begun last, and how many bodies were begun.
-use Rattle.std.specs.Prelude.{◌+◌, ◌==◌, ◌&&◌, ◌||◌, Bool, true, false, if◌then◌else◌, List, [], ◌∷◌, ◌++◌}
-use Rattle.std.specs.Prelude.{codes, map, min}
+use Rattle.std.specs.Prelude.{◌≡◌, ℕ, ◌+◌, ◌≤◌, ◌==◌, ◌&&◌, ◌||◌, Bool, true, false, if◌then◌else◌, List, [], ◌∷◌}
+use Rattle.std.specs.Prelude.{◌++◌, Option, Some, None, codes, map, min, slice_get, take}
 use Rattle.std.specs.Str.{bytes_eq}
 use Rattle.fmp_base.specs.declared.names.Name.{Name}
 use Rattle.fmp_base.specs.Names.{name_text}
@@ -79,6 +79,13 @@ role_behind w _ = other_role w w.file
 abbrev pub role_of : RoleWalk → Role
 role_of w = role_behind w w.before
 
+-- the name, if it is the next token, makes or declares what it stands for
+abbrev pub declares : Before → Bool
+declares before.Object = true
+declares before.Heading = true
+declares before.Variable = true
+declares _ = false
+
 abbrev pub is_heading : Before → Bool
 is_heading before.Heading = true
 is_heading _ = false
@@ -118,11 +125,15 @@ stands_for w r k = is_name k w.name && same_role (role_of w) r
 abbrev pub positions_of : List NamePosition → List TokenPosition
 positions_of ps = map (λ (p : NamePosition). p.position) ps
 
+-- the place of a token, at which the walk stands
+abbrev pub place_of : RoleWalk → Token → NamePosition
+place_of w t = record { position = position_of t; declares = declares w.before }
+
 -- of these tokens, from the walk on, the places of those at which the name stands for this
-abbrev pub named_positions : RoleWalk → Role → List Token → List TokenPosition
+abbrev pub named_positions : RoleWalk → Role → List Token → List NamePosition
 named_positions w r [] = []
 named_positions w r (t ∷ ts) =
-    (if stands_for w r t.kind then position_of t ∷ [] else []) ++ named_positions (walked w t.kind) r ts
+    (if stands_for w r t.kind then place_of w t ∷ [] else []) ++ named_positions (walked w t.kind) r ts
 
 -- the beginning of a text
 abbrev pub start_of : TextFile → Name → RoleWalk
@@ -144,5 +155,33 @@ abbrev pub may_stand_in : Named → TextFile → Bool
 may_stand_in n f = may_in n.role n.file f
 
 -- where in a text a name stands for the same
-abbrev pub uses : Named → TextFile → List Token → List TokenPosition
+abbrev pub uses : Named → TextFile → List Token → List NamePosition
 uses n f ts = if may_stand_in n f then named_positions (start_of f n.name) n.role ts else []
+
+-- the walk after these tokens
+abbrev pub walked_all : RoleWalk → List TokenKind → RoleWalk
+walked_all w [] = w
+walked_all w (k ∷ ks) = walked_all (walked w k) ks
+
+-- what the name at a place of the tokens of a text stands for
+abbrev pub named_from : TextFile → List TokenKind → (at : ℕ) → Option TokenKind → Option Named
+named_from f ks at (Some (kind.Name name)) =
+    Some (record { name = name; role = role_of (walked_all (start_of f name) (take at ks)); file = f })
+named_from f ks at _ = None
+
+abbrev pub named_at : TextFile → List TokenKind → (at : ℕ) → Option Named
+named_at f ks at = named_from f ks at (slice_get ks at)
+
+-- a word: neither a symbol nor what is no token
+abbrev pub is_word : TokenKind → Bool
+is_word (kind.Symbol _) = false
+is_word (kind.Bad _) = false
+is_word _ = true
+
+-- the token at this place is a word that has this byte, or ends before it
+pub record IsWordAt (ts : List Token) (offset at : ℕ) : Type 0 where
+  pub token : Token
+  pub token_is : slice_get ts at ≡ Some token
+  pub word : is_word token.kind ≡ true
+  pub begins : token.start ≤ offset
+  pub ends : offset ≤ token.end

@@ -1,4 +1,7 @@
 //! The words that may stand at a position.
+ghost use Rattle.std.specs.Prelude.{◌≡◌, IfOk, OnOk};
+ghost use Rattle.fmp_server.specs.Messages.{Adds, IsAnswered};
+
 use crate::documents::OpenTexts;
 use crate::messages::{RequestId, begin_answer, finish};
 use crate::outline::letters;
@@ -27,7 +30,11 @@ const KEYWORD: u64 = 14;
 const CONSTANT: u64 = 21;
 
 /// Writes a word, of this kind, and what is said of it.
-fn write_item(writer: &mut Writer, word: &str, kind: u64, detail: &str) -> Result<(), AllocError> {
+#[tactic(auto, using(crate::proofs::Adding::adding))]
+fn write_item(writer: &mut Writer, word: &str, kind: u64, detail: &str) -> Result<(), AllocError>
+    ensures before { writer.new.before ≡ writer.old.before }
+    ensures tokens { OnOk result (Adds writer.old.tokens writer.new.tokens) }
+{
     writer.begin_object()?;
     text_member(writer, "label", word)?;
     number_member(writer, "kind", kind)?;
@@ -36,7 +43,11 @@ fn write_item(writer: &mut Writer, word: &str, kind: u64, detail: &str) -> Resul
 }
 
 /// Writes the service calls with their arguments.
-fn write_calls(alloc: Global, writer: &mut Writer) -> Result<(), AllocError> {
+#[tactic(auto, using(crate::proofs::Adding::adding))]
+fn write_calls(alloc: Global, writer: &mut Writer) -> Result<(), AllocError>
+    ensures before { writer.new.before ≡ writer.old.before }
+    ensures tokens { OnOk result (Adds writer.old.tokens writer.new.tokens) }
+{
     for service in &SERVICES {
         let mut call = Vec::new(alloc);
         append_call(*service, &mut call)?;
@@ -73,7 +84,11 @@ fn append_fields(api: Api, out: &mut Vec<u8>) -> Result<(), AllocError> {
 }
 
 /// Writes the static APIs with their fields.
-fn write_apis(alloc: Global, writer: &mut Writer) -> Result<(), AllocError> {
+#[tactic(auto, using(crate::proofs::Adding::adding))]
+fn write_apis(alloc: Global, writer: &mut Writer) -> Result<(), AllocError>
+    ensures before { writer.new.before ≡ writer.old.before }
+    ensures tokens { OnOk result (Adds writer.old.tokens writer.new.tokens) }
+{
     for api in &APIS {
         let mut fields = Vec::new(alloc);
         append_fields(*api, &mut fields)?;
@@ -84,7 +99,11 @@ fn write_apis(alloc: Global, writer: &mut Writer) -> Result<(), AllocError> {
 }
 
 /// Writes the constants with their numbers.
-fn write_constants(alloc: Global, writer: &mut Writer) -> Result<(), AllocError> {
+#[tactic(auto, using(crate::proofs::Adding::adding))]
+fn write_constants(alloc: Global, writer: &mut Writer) -> Result<(), AllocError>
+    ensures before { writer.new.before ≡ writer.old.before }
+    ensures tokens { OnOk result (Adds writer.old.tokens writer.new.tokens) }
+{
     for constant in &CONSTANTS {
         let mut number = Vec::new(alloc);
         append_number(i64::from(constant.value()), &mut number)?;
@@ -103,7 +122,11 @@ fn text_of(keyword: Keyword) -> TextFile {
 }
 
 /// Writes the keywords of a text.
-fn write_keywords(writer: &mut Writer, file: TextFile) -> Result<(), AllocError> {
+#[tactic(auto, using(crate::proofs::Adding::adding))]
+fn write_keywords(writer: &mut Writer, file: TextFile) -> Result<(), AllocError>
+    ensures before { writer.new.before ≡ writer.old.before }
+    ensures tokens { OnOk result (Adds writer.old.tokens writer.new.tokens) }
+{
     for keyword in &KEYWORDS {
         if text_of(*keyword) == file {
             write_item(writer, keyword.name(), KEYWORD, "")?;
@@ -113,7 +136,11 @@ fn write_keywords(writer: &mut Writer, file: TextFile) -> Result<(), AllocError>
 }
 
 /// Writes the objects of a configuration.
-fn write_objects(writer: &mut Writer, tokens: &Tokens<'_>) -> Result<(), AllocError> {
+#[tactic(auto, using(crate::proofs::Adding::adding))]
+fn write_objects(writer: &mut Writer, tokens: &Tokens<'_>) -> Result<(), AllocError>
+    ensures before { writer.new.before ≡ writer.old.before }
+    ensures tokens { OnOk result (Adds writer.old.tokens writer.new.tokens) }
+{
     for at in 0..tokens.len() {
         if let (Some(api), Some(name)) = (api_at(tokens, at), object_name(tokens, at)) {
             write_item(writer, letters(&name), VALUE, object_of(api))?;
@@ -123,7 +150,11 @@ fn write_objects(writer: &mut Writer, tokens: &Tokens<'_>) -> Result<(), AllocEr
 }
 
 /// Writes the bodies of a task text.
-fn write_bodies(writer: &mut Writer, tokens: &Tokens<'_>) -> Result<(), AllocError> {
+#[tactic(auto, using(crate::proofs::Adding::adding))]
+fn write_bodies(writer: &mut Writer, tokens: &Tokens<'_>) -> Result<(), AllocError>
+    ensures before { writer.new.before ≡ writer.old.before }
+    ensures tokens { OnOk result (Adds writer.old.tokens writer.new.tokens) }
+{
     for at in 0..tokens.len() {
         if begins_body_at(tokens, at) {
             if let Some(name) = name_at(tokens, at.saturating_add(1)) {
@@ -155,12 +186,16 @@ fn variables_before(
 }
 
 /// Writes the variables that are known at a byte of a task text.
+#[tactic(auto, using(crate::proofs::Adding::adding))]
 fn write_variables(
     alloc: Global,
     writer: &mut Writer,
     tokens: &Tokens<'_>,
     offset: usize,
-) -> Result<(), AllocError> {
+) -> Result<(), AllocError>
+    ensures before { writer.new.before ≡ writer.old.before }
+    ensures tokens { OnOk result (Adds writer.old.tokens writer.new.tokens) }
+{
     write_item(writer, "exinf", VARIABLE, "the extended information")?;
     let variables = variables_before(alloc, tokens, begun_at(tokens, offset))?;
     for name in &variables {
@@ -170,11 +205,15 @@ fn write_variables(
 }
 
 /// Writes the words of a configuration.
+#[tactic(auto, using(crate::proofs::Adding::adding))]
 fn write_of_configuration(
     alloc: Global,
     writer: &mut Writer,
     open: OpenTexts<'_>,
-) -> Result<(), AllocError> {
+) -> Result<(), AllocError>
+    ensures before { writer.new.before ≡ writer.old.before }
+    ensures tokens { OnOk result (Adds writer.old.tokens writer.new.tokens) }
+{
     write_apis(alloc, writer)?;
     write_constants(alloc, writer)?;
     write_keywords(writer, TextFile::Configuration)?;
@@ -183,12 +222,16 @@ fn write_of_configuration(
 }
 
 /// Writes the words of a task text at a position.
+#[tactic(auto, using(crate::proofs::Adding::adding))]
 fn write_of_source(
     alloc: Global,
     writer: &mut Writer,
     open: OpenTexts<'_>,
     position: Position,
-) -> Result<(), AllocError> {
+) -> Result<(), AllocError>
+    ensures before { writer.new.before ≡ writer.old.before }
+    ensures tokens { OnOk result (Adds writer.old.tokens writer.new.tokens) }
+{
     write_calls(alloc, writer)?;
     write_constants(alloc, writer)?;
     write_keywords(writer, TextFile::Source)?;
@@ -200,12 +243,16 @@ fn write_of_source(
 }
 
 /// Writes the words that the text that is meant may have at a position.
+#[tactic(auto, using(crate::proofs::Adding::adding))]
 fn write_words(
     alloc: Global,
     writer: &mut Writer,
     open: OpenTexts<'_>,
     position: Position,
-) -> Result<(), AllocError> {
+) -> Result<(), AllocError>
+    ensures before { writer.new.before ≡ writer.old.before }
+    ensures tokens { OnOk result (Adds writer.old.tokens writer.new.tokens) }
+{
     match open.file {
         TextFile::Configuration => write_of_configuration(alloc, writer, open),
         TextFile::Source => write_of_source(alloc, writer, open, position),
@@ -213,12 +260,16 @@ fn write_words(
 }
 
 /// Writes these words as a list that is whole.
+#[tactic(auto, using(crate::proofs::Adding::adding))]
 fn write_list(
     alloc: Global,
     writer: &mut Writer,
     open: OpenTexts<'_>,
     position: Position,
-) -> Result<(), AllocError> {
+) -> Result<(), AllocError>
+    ensures before { writer.new.before ≡ writer.old.before }
+    ensures tokens { OnOk result (Adds writer.old.tokens writer.new.tokens) }
+{
     writer.begin_object()?;
     writer.key("isIncomplete")?;
     writer.boolean(false)?;
@@ -235,7 +286,9 @@ pub fn completion(
     open: OpenTexts<'_>,
     id: RequestId<'_>,
     position: Position,
-) -> Result<Vec<u8>, AllocError> {
+) -> Result<Vec<u8>, AllocError>
+    ensures { IfOk result (λ bytes. IsAnswered id.entry bytes.items) }
+{
     let mut writer = begin_answer(alloc, id)?;
     write_list(alloc, &mut writer, open, position)?;
     finish(writer)

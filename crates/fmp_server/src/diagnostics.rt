@@ -1,6 +1,8 @@
 //! What is found in the texts that are open, as diagnostics.
-ghost use Rattle.std.specs.Prelude.{◌≡◌, ◌+◌, ◌-◌, ◌≤◌, IfOk, length, min};
+ghost use Rattle.std.specs.Prelude.{◌≡◌, ◌+◌, ◌-◌, ◌≤◌, ◌∷◌, [], IfOk, OnOk, length, min};
 ghost use Rattle.fmp_server.specs.Findings.{AreFaults, AreFindings, IsMarked, IsTold};
+ghost use Rattle.fmp_server.specs.Messages.{Adds};
+ghost use Rattle.fmp_server.specs.Workspaces.{AreNotifications};
 
 use crate::documents::{Document, OpenTexts};
 use crate::messages::{begin_notification, finish};
@@ -89,7 +91,7 @@ fn told_of(alloc: Global, texts: Texts<'_>, fault: TextsFault) -> Result<ToldFau
     Ok(ToldFault { file, finding })
 }
 
-/// How many constructs of two texts may be left out, after each of which the texts are read anew.
+/// How many constructs of two texts may be left out; after each of them the texts are read again.
 fn rounds_for(texts: Texts<'_>) -> u32 {
     let bytes = texts.cfg.len().saturating_add(texts.src.len()).max(1);
     (READ_MAX / bytes).min(ROUNDS as usize) as u32
@@ -169,19 +171,27 @@ fn marked(text: &[u8], finding: &FaultReport) -> TextRange
 }
 
 /// Writes the code of a fault.
-fn write_code(alloc: Global, writer: &mut Writer, finding: &FaultReport) -> Result<(), AllocError> {
+#[tactic(auto, using(crate::proofs::Adding::adding))]
+fn write_code(alloc: Global, writer: &mut Writer, finding: &FaultReport) -> Result<(), AllocError>
+    ensures before { writer.new.before ≡ writer.old.before }
+    ensures tokens { OnOk result (Adds writer.old.tokens writer.new.tokens) }
+{
     let mut code = String::from_str(alloc, finding.code)?;
     code.push_str(finding.refusal)?;
     text_member(writer, "code", code.as_str())
 }
 
 /// Writes what is said of a finding of this severity.
+#[tactic(auto, using(crate::proofs::Adding::adding))]
 fn write_said(
     alloc: Global,
     writer: &mut Writer,
     severity: u64,
     finding: &FaultReport,
-) -> Result<(), AllocError> {
+) -> Result<(), AllocError>
+    ensures before { writer.new.before ≡ writer.old.before }
+    ensures tokens { OnOk result (Adds writer.old.tokens writer.new.tokens) }
+{
     number_member(writer, "severity", severity)?;
     if severity == ERROR {
         write_code(alloc, writer, finding)?;
@@ -192,13 +202,17 @@ fn write_said(
 }
 
 /// Writes a finding of a text as a diagnostic.
+#[tactic(auto, using(crate::proofs::Adding::adding))]
 fn write_diagnostic(
     alloc: Global,
     writer: &mut Writer,
     text: &[u8],
     severity: u64,
     finding: &FaultReport,
-) -> Result<(), AllocError> {
+) -> Result<(), AllocError>
+    ensures before { writer.new.before ≡ writer.old.before }
+    ensures tokens { OnOk result (Adds writer.old.tokens writer.new.tokens) }
+{
     writer.begin_object()?;
     range_member(writer, "range", marked(text, finding))?;
     write_said(alloc, writer, severity, finding)?;
@@ -206,13 +220,17 @@ fn write_diagnostic(
 }
 
 /// Writes the faults of one text as diagnostics.
+#[tactic(auto, using(crate::proofs::Adding::adding))]
 fn write_faults(
     alloc: Global,
     writer: &mut Writer,
     text: &[u8],
     file: TextFile,
     faults: &[ToldFault],
-) -> Result<(), AllocError> {
+) -> Result<(), AllocError>
+    ensures before { writer.new.before ≡ writer.old.before }
+    ensures tokens { OnOk result (Adds writer.old.tokens writer.new.tokens) }
+{
     for one in faults {
         if one.file == file {
             write_diagnostic(alloc, writer, text, ERROR, &one.finding)?;
@@ -222,13 +240,17 @@ fn write_faults(
 }
 
 /// Writes the warnings of one text as diagnostics.
+#[tactic(auto, using(crate::proofs::Adding::adding))]
 fn write_warnings(
     alloc: Global,
     writer: &mut Writer,
     text: &[u8],
     file: TextFile,
     warnings: &[Warning],
-) -> Result<(), AllocError> {
+) -> Result<(), AllocError>
+    ensures before { writer.new.before ≡ writer.old.before }
+    ensures tokens { OnOk result (Adds writer.old.tokens writer.new.tokens) }
+{
     for one in warnings {
         if one.file == file {
             write_diagnostic(alloc, writer, text, WARNING, &one.finding)?;
@@ -238,13 +260,17 @@ fn write_warnings(
 }
 
 /// Writes what is found in one text as diagnostics.
+#[tactic(auto, using(crate::proofs::Adding::adding))]
 fn write_diagnostics(
     alloc: Global,
     writer: &mut Writer,
     text: &[u8],
     file: TextFile,
     found: &Found,
-) -> Result<(), AllocError> {
+) -> Result<(), AllocError>
+    ensures before { writer.new.before ≡ writer.old.before }
+    ensures tokens { OnOk result (Adds writer.old.tokens writer.new.tokens) }
+{
     begin_list(writer, "diagnostics")?;
     match found {
         Found::Faults(faults) => write_faults(alloc, writer, text, file, faults)?,
@@ -254,13 +280,17 @@ fn write_diagnostics(
 }
 
 /// Writes what is found in the text of a document.
+#[tactic(auto, using(crate::proofs::Adding::adding))]
 fn write_document(
     alloc: Global,
     writer: &mut Writer,
     document: &Document,
     file: TextFile,
     found: &Found,
-) -> Result<(), AllocError> {
+) -> Result<(), AllocError>
+    ensures before { writer.new.before ≡ writer.old.before }
+    ensures tokens { OnOk result (Adds writer.old.tokens writer.new.tokens) }
+{
     writer.begin_object()?;
     text_member(writer, "uri", document.uri.as_str())?;
     write_diagnostics(alloc, writer, document.text.as_bytes(), file, found)?;
@@ -274,14 +304,20 @@ pub fn published(
     document: &Document,
     file: TextFile,
     found: &Found,
-) -> Result<Vec<u8>, AllocError> {
+) -> Result<Vec<u8>, AllocError>
+    ensures { IfOk result (λ bytes. AreNotifications (bytes.items ∷ [])) }
+{
     let mut writer = begin_notification(alloc, "textDocument/publishDiagnostics")?;
     write_document(alloc, &mut writer, document, file, found)?;
     finish(writer)
 }
 
 /// Writes that nothing is found in the document of a URI.
-fn write_nothing(writer: &mut Writer, uri: &str) -> Result<(), AllocError> {
+#[tactic(auto, using(crate::proofs::Adding::adding))]
+fn write_nothing(writer: &mut Writer, uri: &str) -> Result<(), AllocError>
+    ensures before { writer.new.before ≡ writer.old.before }
+    ensures tokens { OnOk result (Adds writer.old.tokens writer.new.tokens) }
+{
     writer.begin_object()?;
     text_member(writer, "uri", uri)?;
     begin_list(writer, "diagnostics")?;
@@ -291,7 +327,9 @@ fn write_nothing(writer: &mut Writer, uri: &str) -> Result<(), AllocError> {
 
 /// The notification that nothing is found in the document of a URI, because it is open no more. `AllocError` if memory
 /// runs out.
-pub fn cleared(alloc: Global, uri: &str) -> Result<Vec<u8>, AllocError> {
+pub fn cleared(alloc: Global, uri: &str) -> Result<Vec<u8>, AllocError>
+    ensures { IfOk result (λ bytes. AreNotifications (bytes.items ∷ [])) }
+{
     let mut writer = begin_notification(alloc, "textDocument/publishDiagnostics")?;
     write_nothing(&mut writer, uri)?;
     finish(writer)

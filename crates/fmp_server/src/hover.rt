@@ -1,4 +1,8 @@
 //! What is said of the word at a position.
+ghost use Rattle.std.specs.Prelude.{◌≡◌, ◌++◌, IfOk, OnOk};
+ghost use Rattle.fmp_server.specs.Hovers.{IsHover, IsHoverAt, IsSaid};
+ghost use Rattle.fmp_server.specs.Messages as message;
+
 use crate::documents::OpenTexts;
 use crate::messages::{RequestId, begin_answer, finish, null_answer};
 use crate::objects::{say_body, say_exinf, say_object, say_variable};
@@ -74,13 +78,24 @@ fn say_word(
     }
 }
 
-/// Writes that this is said of a range.
-fn write_hover(writer: &mut Writer, range: TextRange, said: &str) -> Result<(), AllocError> {
-    writer.begin_object()?;
+/// Writes what is said.
+fn write_contents(writer: &mut Writer, said: &str) -> Result<(), AllocError>
+    ensures before { writer.new.before ≡ writer.old.before }
+    ensures tokens { OnOk result (writer.new.tokens ≡ writer.old.tokens ++ message.contents said.now) }
+{
     begin_member(writer, "contents")?;
     text_member(writer, "kind", "markdown")?;
     text_member(writer, "value", said)?;
-    writer.end_object()?;
+    writer.end_object()
+}
+
+/// Writes that this is said of a range.
+fn write_hover(writer: &mut Writer, range: TextRange, said: &str) -> Result<(), AllocError>
+    ensures before { writer.new.before ≡ writer.old.before }
+    ensures tokens { OnOk result (writer.new.tokens ≡ writer.old.tokens ++ message.hover range said.now) }
+{
+    writer.begin_object()?;
+    write_contents(writer, said)?;
     range_member(writer, "range", range)?;
     writer.end_object()
 }
@@ -91,7 +106,9 @@ fn answer(
     id: RequestId<'_>,
     range: TextRange,
     said: &[u8],
-) -> Result<Vec<u8>, AllocError> {
+) -> Result<Vec<u8>, AllocError>
+    ensures { IfOk result (λ bytes. IsSaid id.entry range bytes.items) }
+{
     let said = String::from_utf8_lossy(alloc, said)?;
     let mut writer = begin_answer(alloc, id)?;
     write_hover(&mut writer, range, said.as_str())?;
@@ -105,7 +122,9 @@ fn answer_at(
     id: RequestId<'_>,
     tokens: &Tokens<'_>,
     at: usize,
-) -> Result<Vec<u8>, AllocError> {
+) -> Result<Vec<u8>, AllocError>
+    ensures { IfOk result (λ bytes. IsHoverAt «open».entry id.entry tokens.now at bytes.items) }
+{
     let mut said = Vec::new(alloc);
     say_word(alloc, open, tokens, at, &mut said)?;
     match tokens.position(at) {
@@ -124,7 +143,9 @@ pub fn hover(
     open: OpenTexts<'_>,
     id: RequestId<'_>,
     position: Position,
-) -> Result<Vec<u8>, AllocError> {
+) -> Result<Vec<u8>, AllocError>
+    ensures { IfOk result (λ bytes. IsHover «open».entry id.entry position bytes.items) }
+{
     let text = open.bytes_of(open.file);
     let list = list_of(alloc, text)?;
     match word_at(&list.tokens, offset_at(text, position)) {

@@ -2,6 +2,7 @@
 //! that answer it.
 #![tactic(auto)]
 
+mod capabilities;
 mod catalogue;
 mod completion;
 mod diagnostics;
@@ -13,8 +14,10 @@ mod messages;
 mod navigation;
 mod objects;
 mod outline;
+mod parameters;
 mod positions;
 mod renaming;
+mod requests;
 mod roles;
 mod sayings;
 mod server;

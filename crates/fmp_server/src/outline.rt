@@ -1,4 +1,7 @@
 //! What a text makes: the objects of a configuration, the bodies of a task text.
+ghost use Rattle.std.specs.Prelude.{◌≡◌, IfOk, OnOk};
+ghost use Rattle.fmp_server.specs.Messages.{Adds, IsAnswered};
+
 use crate::documents::OpenTexts;
 use crate::messages::{RequestId, begin_answer, finish};
 use crate::positions::{TextRange, range_of};
@@ -107,12 +110,16 @@ fn range_between(text: &[u8], first: TokenPosition, last: TokenPosition) -> Text
 }
 
 /// Writes an entry as a symbol.
+#[tactic(auto, using(crate::proofs::Adding::adding))]
 fn write_symbol(
     writer: &mut Writer,
     entry: &OutlineEntry,
     whole: TextRange,
     name: TextRange,
-) -> Result<(), AllocError> {
+) -> Result<(), AllocError>
+    ensures before { writer.new.before ≡ writer.old.before }
+    ensures tokens { OnOk result (Adds writer.old.tokens writer.new.tokens) }
+{
     writer.begin_object()?;
     text_member(writer, "name", letters(&entry.name))?;
     text_member(writer, "detail", entry.what)?;
@@ -123,12 +130,16 @@ fn write_symbol(
 }
 
 /// Writes an entry of a text.
+#[tactic(auto, using(crate::proofs::Adding::adding))]
 fn write_entry(
     writer: &mut Writer,
     text: &[u8],
     tokens: &Tokens<'_>,
     entry: &OutlineEntry,
-) -> Result<(), AllocError> {
+) -> Result<(), AllocError>
+    ensures before { writer.new.before ≡ writer.old.before }
+    ensures tokens { OnOk result (Adds writer.old.tokens writer.new.tokens) }
+{
     let first = tokens.position(entry.first);
     let last = tokens.position(entry.last);
     match (first, last, tokens.position(entry.at)) {
@@ -141,7 +152,11 @@ fn write_entry(
 }
 
 /// Writes what a text makes, as a list.
-fn write_entries(writer: &mut Writer, text: &[u8], tokens: &Tokens<'_>) -> Result<(), AllocError> {
+#[tactic(auto, using(crate::proofs::Adding::adding))]
+fn write_entries(writer: &mut Writer, text: &[u8], tokens: &Tokens<'_>) -> Result<(), AllocError>
+    ensures before { writer.new.before ≡ writer.old.before }
+    ensures tokens { OnOk result (Adds writer.old.tokens writer.new.tokens) }
+{
     writer.begin_array()?;
     for at in 0..tokens.len() {
         if let Some(entry) = entry_at(tokens, at) {
@@ -152,11 +167,9 @@ fn write_entries(writer: &mut Writer, text: &[u8], tokens: &Tokens<'_>) -> Resul
 }
 
 /// The answer with what the text that is meant makes, in order. `AllocError` if memory runs out.
-pub fn outline(
-    alloc: Global,
-    open: OpenTexts<'_>,
-    id: RequestId<'_>,
-) -> Result<Vec<u8>, AllocError> {
+pub fn outline(alloc: Global, open: OpenTexts<'_>, id: RequestId<'_>) -> Result<Vec<u8>, AllocError>
+    ensures { IfOk result (λ bytes. IsAnswered id.entry bytes.items) }
+{
     let text = open.bytes_of(open.file);
     let list = list_of(alloc, text)?;
     let mut writer = begin_answer(alloc, id)?;

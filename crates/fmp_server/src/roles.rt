@@ -1,8 +1,8 @@
 //! What a name in a text stands for, and where else it stands for the same.
-ghost use Rattle.std.specs.Prelude.{◌≡◌, ◌<◌, ◌+◌, ◌++◌, IfOk, OnOk, Some, drop, length, slice_get};
+ghost use Rattle.std.specs.Prelude.{◌≡◌, ◌<◌, ◌+◌, ◌++◌, IfOk, IfSome, IsTrue, OnOk, Some, drop, length, slice_get};
 ghost use Rattle.fmp_lex.specs.Reading.{kinds_of};
 ghost use Rattle.fmp_server.specs.Roles as spec;
-ghost use Rattle.fmp_server.specs.Roles.{named_positions, positions_of, start_of, walked};
+ghost use Rattle.fmp_server.specs.Roles.{IsWordAt, named_positions, start_of, walked};
 
 use fmp_base::Name;
 use fmp_lex::{Api, Keyword, Symbol, TextFile, TokenKind, TokenPosition, Tokens};
@@ -83,7 +83,7 @@ impl Role {
 }
 
 /// Whether two texts of a system are one.
-fn is_same_file(one: TextFile, other: TextFile) -> bool
+pub fn is_same_file(one: TextFile, other: TextFile) -> bool
     ensures { result ≡ spec.same_file one other }
 {
     match (one, other) {
@@ -191,7 +191,9 @@ impl RoleWalk {
     }
 
     /// Whether the name, if it is the next token, makes or declares what it stands for.
-    pub fn declares(&self) -> bool {
+    fn declares(&self) -> bool
+        ensures { result ≡ spec.declares self.now.before }
+    {
         matches!(
             self.before,
             Before::Object | Before::Heading | Before::Variable
@@ -229,23 +231,33 @@ impl RoleWalk {
         }
     }
 
+    /// Whether the token is the name.
+    pub fn is_at(&self, kind: TokenKind) -> bool
+        ensures { result ≡ spec.is_name kind self.now.name }
+    {
+        is_name(kind, self.name)
+    }
+
     /// Whether the token is the name, and stands for this.
     fn stands_for(&self, role: Role, kind: TokenKind) -> bool
         ensures { result ≡ spec.stands_for self.now role kind }
     {
-        is_name(kind, self.name) && self.role().is_same(role)
+        self.is_at(kind) && self.role().is_same(role)
     }
 }
 
 /// What the name at a place of the tokens stands for.
-pub fn named_at(tokens: &Tokens<'_>, file: TextFile, at: usize) -> Option<Named> {
+pub fn named_at(tokens: &Tokens<'_>, file: TextFile, at: usize) -> Option<Named>
+    ensures { result ≡ spec.named_at file (kinds_of tokens.now) at }
+{
     let TokenKind::Name(name) = tokens.kind(at)? else {
         return None;
     };
     let mut walk = RoleWalk::new(file, name);
     for before in 0..at {
-        if let Some(kind) = tokens.kind(before) {
-            walk.take(kind);
+        match tokens.kind(before) {
+            Some(kind) => walk.take(kind),
+            None => {}
         }
     }
     Some(Named {
@@ -277,8 +289,8 @@ fn add_position(
 ) -> Result<(), AllocError>
     requires { slice_get (kinds_of tokens.now) at ≡ Some kind }
     ensures { OnOk result (
-        positions_of positions.new.items ++ named_positions (walked walk.now kind) role (drop (at + 1) tokens.now)
-        ≡ positions_of positions.old.items ++ named_positions walk.now role (drop at tokens.now)) }
+        positions.new.items ++ named_positions (walked walk.now kind) role (drop (at + 1) tokens.now)
+        ≡ positions.old.items ++ named_positions walk.now role (drop at tokens.now)) }
 {
     if !walk.stands_for(role, kind) {
         return Ok(());
@@ -303,8 +315,8 @@ fn take_token(
     positions: &mut Vec<NamePosition>,
 ) -> Result<(), AllocError>
     requires { at < length tokens.now }
-    ensures { OnOk result (positions_of positions.new.items ++ named_positions walk.new role (drop (at + 1) tokens.now)
-        ≡ positions_of positions.old.items ++ named_positions walk.old role (drop at tokens.now)) }
+    ensures { OnOk result (positions.new.items ++ named_positions walk.new role (drop (at + 1) tokens.now)
+        ≡ positions.old.items ++ named_positions walk.old role (drop at tokens.now)) }
 {
     match tokens.kind(at) {
         Some(kind) => {
@@ -323,7 +335,7 @@ fn all_positions(
     start: RoleWalk,
     role: Role,
 ) -> Result<Vec<NamePosition>, AllocError>
-    ensures { IfOk result (λ v. positions_of v.items ≡ named_positions start role tokens.now) }
+    ensures { IfOk result (λ v. v.items ≡ named_positions start role tokens.now) }
 {
     let mut positions = Vec::new(alloc);
     let mut walk = start;
@@ -340,7 +352,7 @@ pub fn positions_in(
     file: TextFile,
     named: Named,
 ) -> Result<Vec<NamePosition>, AllocError>
-    ensures { IfOk result (λ v. positions_of v.items ≡ spec.uses named file tokens.now) }
+    ensures { IfOk result (λ v. v.items ≡ spec.uses named file tokens.now) }
 {
     if !may_stand_in(named, file) {
         return Ok(Vec::new(alloc));
@@ -368,7 +380,9 @@ pub fn begun_at(tokens: &Tokens<'_>, offset: usize) -> usize {
 }
 
 /// Whether a token is a word, and a byte is one of it or that after it.
-fn is_word_at(tokens: &Tokens<'_>, at: usize, offset: usize) -> bool {
+fn is_word_at(tokens: &Tokens<'_>, at: usize, offset: usize) -> bool
+    ensures { IsTrue result → IsWordAt tokens.now offset at }
+{
     if let Some(TokenKind::Symbol(_) | TokenKind::Bad(_)) = tokens.kind(at) {
         return false;
     }
@@ -379,7 +393,9 @@ fn is_word_at(tokens: &Tokens<'_>, at: usize, offset: usize) -> bool {
 }
 
 /// The place among the tokens of the word that has a byte, or ends before it.
-pub fn word_at(tokens: &Tokens<'_>, offset: usize) -> Option<usize> {
+pub fn word_at(tokens: &Tokens<'_>, offset: usize) -> Option<usize>
+    ensures { IfSome result (IsWordAt tokens.now offset) }
+{
     let begun = begun_at(tokens, offset);
     let last = begun.checked_sub(1)?;
     if is_word_at(tokens, last, offset) {

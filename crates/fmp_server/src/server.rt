@@ -1,7 +1,9 @@
 //! The server: from bytes of an editor to those that answer it.
-ghost use Rattle.std.specs.Prelude.{◌≡◌, IfOk, flat_map, map};
+ghost use Rattle.std.specs.Prelude.{◌≡◌, [], IfOk, flat_map, map};
 ghost use Rattle.fmp_server.specs.Framing.{fed, framed as framed_by, fresh};
-ghost use Rattle.fmp_server.specs.Serving.{IsFramed, reading_of};
+ghost use Rattle.fmp_server.specs.declared.workspace.Stage.TheVariants as stage;
+ghost use Rattle.fmp_server.specs.Serving.{IsFramed, IsServed, reading_of};
+ghost use Rattle.fmp_server.specs.Workspaces.{status_of};
 
 use crate::framing::{Framing, append_framed};
 use crate::workspace::Workspace;
@@ -28,7 +30,9 @@ fn framed(alloc: Global, messages: &[Vec<u8>]) -> Result<Vec<u8>, AllocError>
 impl Server {
     /// A server to which nothing has come.
     pub fn new(alloc: Global) -> Server
-        ensures { reading_of result ≡ fresh }
+        ensures reading { reading_of result ≡ fresh }
+        ensures documents { result.workspace.documents.list.items ≡ [] }
+        ensures stage { result.workspace.stage ≡ stage.Fresh }
     {
         Server {
             framing: Framing::new(alloc),
@@ -37,7 +41,9 @@ impl Server {
     }
 
     /// The status of the program, once `exit` has come: 0 if `shutdown` came before it, else 1.
-    pub fn status(&self) -> Option<u8> {
+    pub fn status(&self) -> Option<u8>
+        ensures { result ≡ status_of self.now.workspace.stage }
+    {
         self.workspace.status()
     }
 
@@ -47,6 +53,7 @@ impl Server {
         ensures read { IfOk result (λ _.
             reading_of self.new ≡ (fed (reading_of self.old) bytes.now).0) }
         ensures framed { IfOk result (λ out. IsFramed out.items) }
+        ensures served { IfOk result (λ out. IsServed self.old self.new bytes.now out.items) }
     {
         let messages = self.framing.take(alloc, bytes)?;
         let answers = self.workspace.take(alloc, &messages)?;

@@ -1,20 +1,28 @@
 //! What the server knows, and what it answers to messages.
-use crate::completion::completion;
+ghost use Rattle.std.specs.Prelude.{◌≡◌, ◌≢◌, [], ◌∷◌, ◌++◌, List, ℕ, None, false, IfOk, OnOk, bytes_eq, codes};
+ghost use Rattle.std.specs.Prelude.{map, option_map};
+ghost use Rattle.json.specs.declared.error.Error.TheVariants as json_error;
+ghost use Rattle.json.specs.Value.{value_view};
+ghost use Rattle.fmp_server.specs.declared.messages.Message.{Message};
+ghost use Rattle.fmp_server.specs.declared.messages.Refusal.TheVariants as reason;
+ghost use Rattle.fmp_server.specs.declared.workspace.Stage.TheVariants as stage;
+ghost use Rattle.fmp_server.specs.Documents.{IsOpened, file_of, without};
+ghost use Rattle.fmp_server.specs.Messages as message;
+ghost use Rattle.fmp_server.specs.Messages.{IsMessage, uri_in};
+ghost use Rattle.fmp_server.specs.Requests.{IsRefused, query_of};
+ghost use Rattle.fmp_server.specs.Workspaces as spec;
+ghost use Rattle.fmp_server.specs.Workspaces.{AreTaken, IsAnswerAbout, IsDocumentTaken, IsEdited, IsFirstReply};
+ghost use Rattle.fmp_server.specs.Workspaces.{IsNoticeTaken, IsNotified, IsQueryAnswer, IsRead, IsReply};
+ghost use Rattle.fmp_server.specs.Workspaces.{IsRunningReply, IsStep, IsTaken, Notifies};
+
+use crate::capabilities::initialized;
 use crate::diagnostics::{Found, cleared, findings_of, published};
 use crate::documents::{Documents, OpenTexts};
-use crate::hover::hover;
-use crate::messages::{
-    Message, Refusal, RequestId, begin_answer, finish, message_of, null_answer, position_of,
-    refused, uri_of,
-};
-use crate::navigation::{WantedPositions, positions};
-use crate::outline::outline;
-use crate::positions::Position;
-use crate::renaming::rename;
-use crate::writing::begin_member;
-use fmp_json::{number_member, text_member};
+use crate::messages::{Message, Refusal, RequestId, message_of, null_answer, refused, uri_of};
+use crate::parameters::text_by;
+use crate::requests::{Query, answer_on, query_of, refused_parameters};
 use fmp_lex::TextFile;
-use json::{Error, Scratch, Value, Writer};
+use json::{Error, Scratch, Value};
 use std::alloc::{AllocError, Global};
 
 /// How far the server has come.
@@ -29,17 +37,6 @@ enum Stage {
     Ended(u8),
 }
 
-/// What is asked about a text.
-#[derive(Clone, Copy)]
-enum Query {
-    Outline,
-    Hover,
-    Completion,
-    Definition,
-    References,
-    Rename,
-}
-
 /// What the server knows: the texts that are open, and how far it has come.
 #[derive(Drop)]
 pub struct Workspace {
@@ -47,161 +44,78 @@ pub struct Workspace {
     stage: Stage,
 }
 
-/// What a method asks about a text.
-fn query_of(method: &str) -> Option<Query> {
-    match method {
-        "textDocument/documentSymbol" => Some(Query::Outline),
-        "textDocument/hover" => Some(Query::Hover),
-        "textDocument/completion" => Some(Query::Completion),
-        "textDocument/definition" => Some(Query::Definition),
-        "textDocument/references" => Some(Query::References),
-        "textDocument/rename" => Some(Query::Rename),
-        _ => None,
+/// The answer to a request before `initialize` has come.
+fn first_reply(alloc: Global, id: RequestId<'_>, method: &str) -> Result<Vec<u8>, AllocError>
+    ensures { IfOk result (λ bytes. IsFirstReply (bytes_eq method.now (codes "initialize")) id.entry bytes.items) }
+{
+    if method == "initialize" {
+        initialized(alloc, id)
+    } else {
+        refused(
+            alloc,
+            Some(id),
+            Refusal::NotInitialized,
+            "`initialize` has not come",
+        )
     }
 }
 
-/// What the server provides, beside completion.
-static PROVIDERS: [&str; 5] = [
-    "hoverProvider",
-    "definitionProvider",
-    "referencesProvider",
-    "renameProvider",
-    "documentSymbolProvider",
-];
-
-/// Writes how texts come: whole, when they are opened and at each change.
-fn write_synchronization(writer: &mut Writer) -> Result<(), AllocError> {
-    begin_member(writer, "textDocumentSync")?;
-    writer.key("openClose")?;
-    writer.boolean(true)?;
-    number_member(writer, "change", 1)?;
-    writer.end_object()
-}
-
-/// Writes what the server provides.
-fn write_providers(writer: &mut Writer) -> Result<(), AllocError> {
-    begin_member(writer, "completionProvider")?;
-    writer.end_object()?;
-    for name in &PROVIDERS {
-        writer.key(*name)?;
-        writer.boolean(true)?;
-    }
-    Ok(())
-}
-
-/// Writes what the server can do.
-fn write_capabilities(writer: &mut Writer) -> Result<(), AllocError> {
-    begin_member(writer, "capabilities")?;
-    write_synchronization(writer)?;
-    write_providers(writer)?;
-    writer.end_object()
-}
-
-/// Writes what the server can do, and what it is called.
-fn write_server(writer: &mut Writer) -> Result<(), AllocError> {
-    writer.begin_object()?;
-    write_capabilities(writer)?;
-    begin_member(writer, "serverInfo")?;
-    text_member(writer, "name", "fmp_view lsp")?;
-    writer.end_object()?;
-    writer.end_object()
-}
-
-/// The answer to `initialize`.
-fn initialized(alloc: Global, id: RequestId<'_>) -> Result<Vec<u8>, AllocError> {
-    let mut writer = begin_answer(alloc, id)?;
-    write_server(&mut writer)?;
-    finish(writer)
-}
-
-/// The text of the document that a message opens.
-fn opened_text<'a>(message: &Value<'a>) -> Option<&'a str> {
-    message
-        .get("params")?
-        .get("textDocument")?
-        .get("text")?
-        .as_str()
-}
-
-/// The text that a message changes a document to: that of its last change, if it is whole.
-fn changed_text<'a>(message: &Value<'a>) -> Option<&'a str> {
-    let Value::Array(changes) = message.get("params")?.get("contentChanges")? else {
-        return None;
-    };
-    let change = changes.last()?;
-    if change.get("range").is_some() {
-        return None;
-    }
-    change.get("text")?.as_str()
-}
-
-/// The new name that a message asks for.
-fn new_name_of<'a>(message: &Value<'a>) -> Option<&'a str> {
-    message.get("params")?.get("newName")?.as_str()
-}
-
-/// Which places a message asks for: those of declarations too, if it says so.
-fn wanted_by(message: &Value<'_>) -> WantedPositions {
-    let context = match message.get("params") {
-        Some(params) => params.get("context"),
-        None => None,
-    };
-    let declarations = match context {
-        Some(context) => context.get("includeDeclaration"),
-        None => None,
-    };
-    match declarations {
-        Some(Value::Bool(true)) => WantedPositions::All,
-        _ => WantedPositions::Uses,
-    }
-}
-
-/// The answer to a request about a position.
-fn answer_at(
-    alloc: Global,
-    open: OpenTexts<'_>,
-    id: RequestId<'_>,
-    (query, message): (Query, &Value<'_>),
-    position: Position,
-) -> Result<Vec<u8>, AllocError> {
-    match query {
-        Query::Outline => outline(alloc, open, id),
-        Query::Hover => hover(alloc, open, id, position),
-        Query::Completion => completion(alloc, open, id, position),
-        Query::Definition => positions(alloc, open, id, position, WantedPositions::Declarations),
-        Query::References => positions(alloc, open, id, position, wanted_by(message)),
-        Query::Rename => match new_name_of(message) {
-            Some(name) => rename(alloc, open, id, position, name),
-            None => refused_parameters(alloc, id),
-        },
-    }
-}
-
-/// The answer to a request whose parameters are not those of its method.
-fn refused_parameters(alloc: Global, id: RequestId<'_>) -> Result<Vec<u8>, AllocError> {
+/// The answer to a request after `shutdown`, or to a second `initialize`.
+fn too_late(alloc: Global, id: RequestId<'_>) -> Result<Vec<u8>, AllocError>
+    ensures { IfOk result (λ bytes. IsRefused id.entry reason.NoRequest bytes.items) }
+{
     refused(
         alloc,
         Some(id),
-        Refusal::WrongParameters,
-        "the parameters are not those of the method",
+        Refusal::NoRequest,
+        "the request comes too late",
     )
 }
 
-/// The answer to a request about the texts of a system.
-fn answer_on(
+/// Adds the refusal of what has no id to be answered by.
+fn add_refusal(
     alloc: Global,
-    open: OpenTexts<'_>,
-    id: RequestId<'_>,
-    query: Query,
-    message: &Value<'_>,
-) -> Result<Vec<u8>, AllocError> {
-    if open.of(open.file).is_none() {
-        return null_answer(alloc, id);
+    refusal: Refusal,
+    sentence: &str,
+    out: &mut Vec<Vec<u8>>,
+) -> Result<(), AllocError>
+    ensures { OnOk result (map (λ b. b.items) out.new.items
+        ≡ map (λ b. b.items) out.old.items ++ message.refused None refusal sentence.now ∷ []) }
+{
+    out.push(refused(alloc, None, refusal, sentence)?)?;
+    Ok(())
+}
+
+/// Adds the refusal of bytes that are no JSON. `AllocError` if memory ran out while they were read, or runs out now.
+fn refuse_text(alloc: Global, error: Error, out: &mut Vec<Vec<u8>>) -> Result<(), AllocError>
+    ensures refusal { OnOk result (map (λ b. b.items) out.new.items
+        ≡ map (λ b. b.items) out.old.items ++ message.refused None reason.NoJson (codes "no JSON") ∷ []) }
+    ensures memory { OnOk result (error ≢ json_error.OutOfMemory) }
+{
+    match error {
+        Error::OutOfMemory => Err(AllocError),
+        _ => add_refusal(alloc, Refusal::NoJson, "no JSON", out),
     }
-    match (query, position_of(message)) {
-        (Query::Outline, _) => outline(alloc, open, id),
-        (_, Some(position)) => answer_at(alloc, open, id, (query, message), position),
-        (_, None) => refused_parameters(alloc, id),
+}
+
+/// How far the server has come after a request.
+fn stage_after(stage: Stage, method: &str) -> Stage
+    ensures { result ≡ spec.stage_after stage method.now }
+{
+    match stage {
+        Stage::Fresh if method == "initialize" => Stage::Running,
+        Stage::Running if method == "shutdown" => Stage::ShutDown,
+        _ => stage,
+    }
+}
+
+/// The status of the program if `exit` comes now: 0 if `shutdown` has come, else 1.
+fn exit_status(stage: Stage) -> u8
+    ensures { result ≡ spec.exit_status stage }
+{
+    match stage {
+        Stage::ShutDown => 0,
+        _ => 1,
     }
 }
 
@@ -212,16 +126,24 @@ fn publish_one(
     file: TextFile,
     found: &Found,
     out: &mut Vec<Vec<u8>>,
-) -> Result<(), AllocError> {
-    if let Some(document) = open.of(file) {
-        out.push(published(alloc, document, file, found)?)?;
+) -> Result<(), AllocError>
+    ensures { OnOk result (Notifies (map (λ b. b.items) out.old.items) (map (λ b. b.items) out.new.items)) }
+{
+    match open.of(file) {
+        Some(document) => {
+            out.push(published(alloc, document, file, found)?)?;
+            Ok(())
+        }
+        None => Ok(()),
     }
-    Ok(())
 }
 
 impl Workspace {
     /// Nothing is open, and nothing has come.
-    pub fn new(alloc: Global) -> Workspace {
+    pub fn new(alloc: Global) -> Workspace
+        ensures documents { result.documents.list.items ≡ [] }
+        ensures stage { result.stage ≡ stage.Fresh }
+    {
         Workspace {
             documents: Documents::new(alloc),
             stage: Stage::Fresh,
@@ -229,7 +151,9 @@ impl Workspace {
     }
 
     /// The status of the program, once `exit` has come: 0 if `shutdown` came before it, else 1.
-    pub fn status(&self) -> Option<u8> {
+    pub fn status(&self) -> Option<u8>
+        ensures { result ≡ spec.status_of self.now.stage }
+    {
         match self.stage {
             Stage::Ended(status) => Some(status),
             _ => None,
@@ -237,7 +161,10 @@ impl Workspace {
     }
 
     /// Adds the notifications of what is found in the texts of the system of a URI.
-    fn publish(&self, alloc: Global, uri: &str, out: &mut Vec<Vec<u8>>) -> Result<(), AllocError> {
+    fn publish(&self, alloc: Global, uri: &str, out: &mut Vec<Vec<u8>>) -> Result<(), AllocError>
+        ensures { OnOk result (Notifies (map (λ b. b.items) out.old.items)
+            (map (λ b. b.items) out.new.items)) }
+    {
         let Some(open) = self.documents.texts_of(uri) else {
             return Ok(());
         };
@@ -253,21 +180,48 @@ impl Workspace {
         uri: &str,
         text: &str,
         out: &mut Vec<Vec<u8>>,
-    ) -> Result<(), AllocError> {
+    ) -> Result<(), AllocError>
+        ensures answers { OnOk result (Notifies (map (λ b. b.items) out.old.items)
+            (map (λ b. b.items) out.new.items)) }
+        ensures documents { OnOk result
+            (IsOpened uri.now text.now self.old.documents.list.items self.new.documents.list.items) }
+        ensures stage { self.new.stage ≡ self.old.stage }
+    {
         self.documents.open(alloc, uri, text)?;
         self.publish(alloc, uri, out)
     }
 
     /// Closes the document of a URI.
-    fn close(
-        &mut self,
-        alloc: Global,
-        uri: &str,
-        out: &mut Vec<Vec<u8>>,
-    ) -> Result<(), AllocError> {
+    fn close(&mut self, alloc: Global, uri: &str, out: &mut Vec<Vec<u8>>) -> Result<(), AllocError>
+        ensures answers { OnOk result (Notifies (map (λ b. b.items) out.old.items)
+            (map (λ b. b.items) out.new.items)) }
+        ensures documents { OnOk result
+            (self.new.documents.list.items ≡ without uri.now self.old.documents.list.items) }
+        ensures stage { self.new.stage ≡ self.old.stage }
+    {
         self.documents.close(uri);
         out.push(cleared(alloc, uri)?)?;
         self.publish(alloc, uri, out)
+    }
+
+    /// Gives a document the text that a notification of this method has.
+    fn edit(
+        &mut self,
+        alloc: Global,
+        text: Option<&str>,
+        uri: &str,
+        out: &mut Vec<Vec<u8>>,
+    ) -> Result<(), AllocError>
+        ensures answers { OnOk result (Notifies (map (λ b. b.items) out.old.items)
+            (map (λ b. b.items) out.new.items)) }
+        ensures documents { OnOk result (IsEdited false (option_map (λ s. s.now) text.entry) uri.now
+            self.old.documents.list.items self.new.documents.list.items) }
+        ensures stage { self.new.stage ≡ self.old.stage }
+    {
+        match text {
+            Some(text) => self.open(alloc, uri, text, out),
+            None => Ok(()),
+        }
     }
 
     /// Takes a notification about a document.
@@ -277,19 +231,40 @@ impl Workspace {
         method: &str,
         message: &Value<'_>,
         out: &mut Vec<Vec<u8>>,
-    ) -> Result<(), AllocError> {
+    ) -> Result<(), AllocError>
+        ensures answers { OnOk result (Notifies (map (λ b. b.items) out.old.items)
+            (map (λ b. b.items) out.new.items)) }
+        ensures documents { OnOk result (IsDocumentTaken method.now (value_view message.now)
+            (uri_in (value_view message.now)) self.old.documents.list.items self.new.documents.list.items) }
+        ensures stage { self.new.stage ≡ self.old.stage }
+    {
         let Some(uri) = uri_of(message) else {
             return Ok(());
         };
-        let text = match method {
-            "textDocument/didOpen" => opened_text(message),
-            "textDocument/didChange" => changed_text(message),
-            "textDocument/didClose" => return self.close(alloc, uri, out),
-            _ => None,
-        };
-        match text {
-            Some(text) => self.open(alloc, uri, text, out),
-            None => Ok(()),
+        if method == "textDocument/didClose" {
+            self.close(alloc, uri, out)
+        } else {
+            self.edit(alloc, text_by(method, message), uri, out)
+        }
+    }
+
+    /// Takes a notification other than `exit`.
+    fn take_notice(
+        &mut self,
+        alloc: Global,
+        method: &str,
+        message: &Value<'_>,
+        out: &mut Vec<Vec<u8>>,
+    ) -> Result<(), AllocError>
+        ensures answers { OnOk result (Notifies (map (λ b. b.items) out.old.items)
+            (map (λ b. b.items) out.new.items)) }
+        ensures documents { OnOk result (IsNoticeTaken self.old.stage method.now (value_view message.now)
+            self.old.documents.list.items self.new.documents.list.items) }
+        ensures stage { self.new.stage ≡ self.old.stage }
+    {
+        match self.stage {
+            Stage::Running => self.take_document(alloc, method, message, out),
+            _ => Ok(()),
         }
     }
 
@@ -300,14 +275,36 @@ impl Workspace {
         method: &str,
         message: &Value<'_>,
         out: &mut Vec<Vec<u8>>,
-    ) -> Result<(), AllocError> {
-        match (self.stage, method) {
-            (Stage::ShutDown, "exit") => self.stage = Stage::Ended(0),
-            (_, "exit") => self.stage = Stage::Ended(1),
-            (Stage::Running, _) => self.take_document(alloc, method, message, out)?,
-            _ => {}
+    ) -> Result<(), AllocError>
+        ensures answers { OnOk result (Notifies (map (λ b. b.items) out.old.items)
+            (map (λ b. b.items) out.new.items)) }
+        ensures notified { OnOk result (IsNotified (bytes_eq method.now (codes "exit")) self.old.stage method.now
+            (value_view message.now) self.old.documents.list.items self.new.documents.list.items self.new.stage) }
+    {
+        if method == "exit" {
+            self.stage = Stage::Ended(exit_status(self.stage));
+            Ok(())
+        } else {
+            self.take_notice(alloc, method, message, out)
         }
-        Ok(())
+    }
+
+    /// The answer to what is asked about the document of a URI.
+    fn answer_about(
+        &self,
+        alloc: Global,
+        id: RequestId<'_>,
+        query: Query,
+        uri: &str,
+        message: &Value<'_>,
+    ) -> Result<Vec<u8>, AllocError>
+        ensures { IfOk result (λ bytes. IsAnswerAbout query self.now.documents.list.items id.entry
+            (value_view message.now) uri.now (file_of uri.now) bytes.items) }
+    {
+        match self.documents.texts_of(uri) {
+            Some(open) => answer_on(alloc, open, id, query, message),
+            None => null_answer(alloc, id),
+        }
     }
 
     /// The answer to a request about a document.
@@ -317,52 +314,74 @@ impl Workspace {
         id: RequestId<'_>,
         method: &str,
         message: &Value<'_>,
-    ) -> Result<Vec<u8>, AllocError> {
-        let Some(query) = query_of(method) else {
-            return refused(alloc, Some(id), Refusal::UnknownMethod, "no such method");
-        };
-        let Some(uri) = uri_of(message) else {
-            return refused_parameters(alloc, id);
-        };
-        match self.documents.texts_of(uri) {
-            Some(open) => answer_on(alloc, open, id, query, message),
-            None => null_answer(alloc, id),
+    ) -> Result<Vec<u8>, AllocError>
+        ensures { IfOk result (λ bytes. IsQueryAnswer self.now.documents.list.items id.entry (query_of method.now)
+            (value_view message.now) (uri_in (value_view message.now)) bytes.items) }
+    {
+        match (query_of(method), uri_of(message)) {
+            (None, _) => refused(alloc, Some(id), Refusal::UnknownMethod, "no such method"),
+            (Some(_), None) => refused_parameters(alloc, id),
+            (Some(query), Some(uri)) => self.answer_about(alloc, id, query, uri, message),
+        }
+    }
+
+    /// The answer to a request between `initialize` and `shutdown`.
+    fn running_reply(
+        &self,
+        alloc: Global,
+        id: RequestId<'_>,
+        method: &str,
+        message: &Value<'_>,
+    ) -> Result<Vec<u8>, AllocError>
+        ensures { IfOk result (λ bytes. IsRunningReply (bytes_eq method.now (codes "shutdown"))
+            (bytes_eq method.now (codes "initialize")) self.now.documents.list.items id.entry method.now
+            (value_view message.now) bytes.items) }
+    {
+        if method == "shutdown" {
+            null_answer(alloc, id)
+        } else if method == "initialize" {
+            too_late(alloc, id)
+        } else {
+            self.answer(alloc, id, method, message)
         }
     }
 
     /// The answer to a request.
+    fn reply(
+        &self,
+        alloc: Global,
+        id: RequestId<'_>,
+        method: &str,
+        message: &Value<'_>,
+    ) -> Result<Vec<u8>, AllocError>
+        ensures { IfOk result (λ bytes. IsReply self.now.stage self.now.documents.list.items id.entry method.now
+            (value_view message.now) bytes.items) }
+    {
+        match self.stage {
+            Stage::Fresh => first_reply(alloc, id, method),
+            Stage::Running => self.running_reply(alloc, id, method, message),
+            Stage::ShutDown | Stage::Ended(_) => too_late(alloc, id),
+        }
+    }
+
+    /// Takes a request, and adds its answer.
     fn take_request(
         &mut self,
         alloc: Global,
         id: RequestId<'_>,
         method: &str,
         message: &Value<'_>,
-    ) -> Result<Vec<u8>, AllocError> {
-        match (self.stage, method) {
-            (Stage::Fresh, "initialize") => {
-                self.stage = Stage::Running;
-                initialized(alloc, id)
-            }
-            (Stage::Fresh, _) => refused(
-                alloc,
-                Some(id),
-                Refusal::NotInitialized,
-                "`initialize` has not come",
-            ),
-            (Stage::Running, "shutdown") => {
-                self.stage = Stage::ShutDown;
-                null_answer(alloc, id)
-            }
-            (Stage::Running, method) if method != "initialize" => {
-                self.answer(alloc, id, method, message)
-            }
-            _ => refused(
-                alloc,
-                Some(id),
-                Refusal::NoRequest,
-                "the request comes too late",
-            ),
-        }
+        out: &mut Vec<Vec<u8>>,
+    ) -> Result<(), AllocError>
+        ensures reply { OnOk result ((bytes : List ℕ)
+            × IsReply self.old.stage self.old.documents.list.items id.entry method.now (value_view message.now) bytes
+            × (map (λ b. b.items) out.new.items ≡ map (λ b. b.items) out.old.items ++ bytes ∷ [])) }
+        ensures stage { OnOk result (self.new.stage ≡ spec.stage_after self.old.stage method.now) }
+        ensures documents { self.new.documents ≡ self.old.documents }
+    {
+        out.push(self.reply(alloc, id, method, message)?)?;
+        self.stage = stage_after(self.stage, method);
+        Ok(())
     }
 
     /// Takes a value as a message.
@@ -371,18 +390,34 @@ impl Workspace {
         alloc: Global,
         value: &Value<'_>,
         out: &mut Vec<Vec<u8>>,
-    ) -> Result<(), AllocError> {
+    ) -> Result<(), AllocError>
+        ensures { OnOk result ((message : Message) × (answers : List (List ℕ))
+            × IsMessage (value_view value.now) message
+            × IsTaken message (value_view value.now) self.old self.new answers
+            × (map (λ b. b.items) out.new.items ≡ map (λ b. b.items) out.old.items ++ answers)) }
+    {
         match message_of(value) {
-            Message::Request(id, method) => {
-                out.push(self.take_request(alloc, id, method, value)?)?;
-                Ok(())
-            }
+            Message::Request(id, method) => self.take_request(alloc, id, method, value, out),
             Message::Notification(method) => self.take_notification(alloc, method, value, out),
             Message::Answer => Ok(()),
-            Message::Invalid => {
-                out.push(refused(alloc, None, Refusal::NoRequest, "no message")?)?;
-                Ok(())
-            }
+            Message::Invalid => add_refusal(alloc, Refusal::NoRequest, "no message", out),
+        }
+    }
+
+    /// Takes a message, and adds what answers it.
+    fn read(
+        &mut self,
+        alloc: Global,
+        message: &[u8],
+        out: &mut Vec<Vec<u8>>,
+    ) -> Result<(), AllocError>
+        ensures { OnOk result ((answers : List (List ℕ)) × IsRead message.now self.old self.new answers
+            × (map (λ b. b.items) out.new.items ≡ map (λ b. b.items) out.old.items ++ answers)) }
+    {
+        let mut scratch = Scratch::new(alloc);
+        match Value::from_slice(alloc, message, &mut scratch) {
+            Ok(value) => self.take_value(alloc, &value, out),
+            Err(error) => refuse_text(alloc, error, out),
         }
     }
 
@@ -392,27 +427,22 @@ impl Workspace {
         alloc: Global,
         message: &[u8],
         out: &mut Vec<Vec<u8>>,
-    ) -> Result<(), AllocError> {
-        if self.status().is_some() {
-            return Ok(());
-        }
-        let mut scratch = Scratch::new(alloc);
-        match Value::from_slice(alloc, message, &mut scratch) {
-            Ok(value) => self.take_value(alloc, &value, out),
-            Err(Error::OutOfMemory) => Err(AllocError),
-            Err(_) => {
-                out.push(refused(alloc, None, Refusal::NoJson, "no JSON")?)?;
-                Ok(())
-            }
+    ) -> Result<(), AllocError>
+        ensures { OnOk result ((answers : List (List ℕ))
+            × IsStep message.now self.old.stage self.old self.new answers
+            × (map (λ b. b.items) out.new.items ≡ map (λ b. b.items) out.old.items ++ answers)) }
+    {
+        match self.stage {
+            Stage::Ended(_) => Ok(()),
+            _ => self.read(alloc, message, out),
         }
     }
 
     /// Takes messages, and gives those that answer them, in order. `AllocError` if memory runs out.
-    pub fn take(
-        &mut self,
-        alloc: Global,
-        messages: &[Vec<u8>],
-    ) -> Result<Vec<Vec<u8>>, AllocError> {
+    pub fn take(&mut self, alloc: Global, messages: &[Vec<u8>]) -> Result<Vec<Vec<u8>>, AllocError>
+        ensures { IfOk result (λ out. AreTaken (map (λ m. m.items) messages.now) self.old self.new
+            (map (λ b. b.items) out.items)) }
+    {
         let mut out = Vec::new(alloc);
         for message in messages {
             self.take_message(alloc, message, &mut out)?;

@@ -1,8 +1,8 @@
 use Rattle.std.proofs.Common.{◌≡◌, ◌++◌, drop}
-use Rattle.fmp_server.specs.Roles.{named_positions, positions_of}
+use Rattle.fmp_server.specs.Roles.{named_positions}
 use Rattle.fmp_server.proofs.roles.all_positions.Given as goal
 
 abbrev pub invariant-loop-at : goal.invariant-loop-at
 invariant-loop-at l =
-    positions_of l.positions.items ++ named_positions l.walk l.role (drop l.at l.tokens)
+    l.positions.items ++ named_positions l.walk l.role (drop l.at l.tokens)
     ≡ named_positions l.fn.start l.role l.tokens

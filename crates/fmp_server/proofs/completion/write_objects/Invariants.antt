@@ -1,0 +1,9 @@
+use Rattle.std.proofs.Common.{◌≡◌}
+use Rattle.fmp_server.specs.Messages.{Adds}
+use Rattle.fmp_server.proofs.completion.write_objects.Given as goal
+
+abbrev pub invariant-loop-at : goal.invariant-loop-at
+invariant-loop-at l = record {
+  before : l.writer.before ≡ l.initial.writer.before;
+  tokens : Adds l.initial.writer.tokens l.writer.tokens;
+}
