@@ -1,0 +1,4 @@
+mod Closed
+mod Marks
+mod Products
+mod Stacks

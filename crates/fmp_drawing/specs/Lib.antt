@@ -1,0 +1,14 @@
+pub mod Axes
+pub mod Handlers
+pub mod Lanes
+pub mod Links
+pub mod Overviews
+pub mod Pictures
+pub mod Places
+pub mod Rows
+pub mod Scenes
+pub mod Shapes
+pub mod Tasks
+pub mod Times
+pub mod Titles
+pub mod Waits

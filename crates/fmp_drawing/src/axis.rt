@@ -1,4 +1,8 @@
 //! The axis of a panel: clock and events.
+ghost use Rattle.std.specs.Prelude.{◌≡◌, ◌%◌, ◌==◌, option_map, slice_get, false};
+ghost use Rattle.std.specs.Option.{option_map_or};
+ghost use Rattle.fmp_drawing.specs.Axes as spec;
+
 use crate::scene::Scene;
 use crate::shapes::{Rect, put_plain_box, put_text};
 use crate::times::axis_area;
@@ -10,7 +14,9 @@ use fmp_timeline::{Canvas, Note, PanelSpan, Run, Tenths, number_width, px};
 const SMALL: Tenths = Tenths(90);
 
 /// Events whose number is a multiple of this have a grid line.
-fn step_of(column: u32) -> u32 {
+fn step_of(column: u32) -> u32
+    ensures { result ≡ spec.step_of column }
+{
     match column {
         20.. => 1,
         10..=19 => 5,
@@ -51,7 +57,9 @@ fn put_upright(x: Tenths, (top, bottom): (Tenths, Tenths), out: &mut Canvas) {
 }
 
 /// Whether an event has a grid line.
-fn is_on_grid(span: &PanelSpan, event: u32) -> bool {
+fn is_on_grid(span: &PanelSpan, event: u32) -> bool
+    ensures { result ≡ (event % spec.step_of span.now.page.column == 0) }
+{
     event.checked_rem(step_of(span.page.column)) == Some(0)
 }
 
@@ -73,7 +81,9 @@ fn put_grid(span: &PanelSpan, (top, bottom): (Tenths, Tenths), out: &mut Canvas)
 }
 
 /// Whether an event is a tick.
-fn is_tick(scene: &Scene<'_>, event: u32) -> bool {
+fn is_tick(scene: &Scene<'_>, event: u32) -> bool
+    ensures { result ≡ option_map_or (λ note. note.ticks) (slice_get scene.now.run.now.notes.items event) false }
+{
     match scene.run.notes.get(event as usize) {
         Some(note) => note.ticks,
         None => false,
@@ -104,7 +114,9 @@ fn put_ticks(scene: &Scene<'_>, span: &PanelSpan, ends: (Tenths, Tenths), out: &
 }
 
 /// What the badge of an event shows, if it has one: the clock or an interrupt, as words and a number.
-fn badge_of(note: &Note) -> Option<(&'static str, u32)> {
+fn badge_of(note: &Note) -> Option<(&'static str, u32)>
+    ensures { option_map (λ badge. (badge.0.now, badge.1)) result ≡ spec.badge_of note.now }
+{
     match note.interrupt {
         _ if note.ticks => Some(("", note.clock)),
         Some(place) => Some(("#", u32::from(place).saturating_add(1))),
@@ -131,7 +143,9 @@ fn put_badge(x: Tenths, top: Tenths, text: &Canvas, ticks: bool, out: &mut Canva
 }
 
 /// What the axis shows of the event before this one, if there is one.
-fn note_before<'a>(run: &'a Run, event: u32) -> Option<&'a Note> {
+fn note_before<'a>(run: &'a Run, event: u32) -> Option<&'a Note>
+    ensures { option_map (λ note. note.now) result ≡ spec.note_before run.now event }
+{
     run.notes.get(event.checked_sub(1)? as usize)
 }
 

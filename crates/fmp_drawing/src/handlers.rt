@@ -1,4 +1,7 @@
 //! Lanes of handlers.
+ghost use Rattle.std.specs.Prelude.{◌≡◌, option_map};
+ghost use Rattle.fmp_drawing.specs.Handlers as spec;
+
 use crate::calls::put_calls;
 use crate::rows::{GutterName, NAME, Row, put_name, put_side};
 use crate::scene::TakenPixels;
@@ -48,7 +51,9 @@ fn put_gutter(row: Row<'_>, handler: Handler, name: &Canvas, out: &mut Canvas) {
 }
 
 /// What a handler does, where it does something.
-fn words_of(handling: Handling) -> Option<&'static str> {
+fn words_of(handling: Handling) -> Option<&'static str>
+    ensures { option_map (λ words. words.now) result ≡ spec.words_of handling.runs handling.pends }
+{
     match (handling.runs, handling.pends) {
         (false, false) => None,
         (false, true) => Some(" is pending"),

@@ -1,4 +1,7 @@
 //! Lines from an actor to the task on which it acted, and migrations.
+ghost use Rattle.std.specs.Prelude.{◌≡◌};
+ghost use Rattle.fmp_drawing.specs.Links as spec;
+
 use crate::rows::Panel;
 use crate::strips::Strip;
 use fmp_base::Caller;
@@ -6,7 +9,9 @@ use fmp_timeline::CanvasPiece::{At, Number, Raw};
 use fmp_timeline::{ActorLink, BarLook, Bond, Canvas, Migration, Tenths, px};
 
 /// Where a link ends in the lane of the other.
-fn link_end(bond: Bond, strip: &Strip, down: bool) -> Tenths {
+fn link_end(bond: Bond, strip: &Strip, down: bool) -> Tenths
+    ensures { result ≡ spec.link_end bond strip.now down }
+{
     let edge = match bond {
         Bond::Starts => Tenths(10),
         Bond::Releases => Tenths(70),

@@ -1,4 +1,8 @@
 //! The overview over a long run: what ran most in each part of it, and a link for each panel.
+ghost use Rattle.std.specs.Prelude.{◌≡◌, ◌+◌, ◌*◌, min};
+ghost use Rattle.fmp_drawing.specs.Overviews as spec;
+ghost use Rattle.fmp_timeline.specs.Shown.{actor_of};
+
 use crate::scene::Scene;
 use crate::shapes::{hatch_of, put_label_in, put_line, put_text};
 use fmp_timeline::CanvasPiece::{At, Number, Raw};
@@ -23,14 +27,19 @@ struct Bins {
 }
 
 /// A number times a fraction.
-fn part(number: u32, count: u32, of: u32) -> u32 {
+#[tactic(auto, using(crate::proofs::Products::small_product))]
+fn part(number: u32, count: u32, of: u32) -> u32
+    ensures { result ≡ spec.part number count of }
+{
     let whole = u64::from(number).saturating_mul(u64::from(count));
     let part = whole.checked_div(u64::from(of)).unwrap_or(0);
     u32::try_from(part).unwrap_or(u32::MAX)
 }
 
 impl Bins {
-    fn new(scene: &Scene<'_>) -> Bins {
+    fn new(scene: &Scene<'_>) -> Bins
+        ensures { result ≡ spec.bins_of scene.now.page scene.now.run.now }
+    {
         let page = &scene.page;
         let events = scene.run.next_event();
         let wide = page.wide.saturating_sub(page.gutter).saturating_sub(26);
@@ -43,23 +52,31 @@ impl Bins {
     }
 
     /// The first event of a part.
-    fn start(&self, bin: u32) -> u32 {
+    fn start(&self, bin: u32) -> u32
+        ensures { result ≡ spec.start_of self.now bin }
+    {
         part(self.events, bin, self.bins)
     }
 
     /// Where a part begins.
-    fn x(&self, bin: u32) -> Tenths {
+    fn x(&self, bin: u32) -> Tenths
+        ensures { result ≡ spec.x_at self.now bin self.now.bins }
+    {
         self.left + Tenths(1).times(part(self.wide.saturating_mul(10), bin, self.bins))
     }
 
     /// Where an event stands.
-    fn event_x(&self, event: u32) -> Tenths {
+    fn event_x(&self, event: u32) -> Tenths
+        ensures { result ≡ spec.x_at self.now event self.now.events }
+    {
         self.left + Tenths(1).times(part(self.wide.saturating_mul(10), event, self.events))
     }
 }
 
 /// The kind of what a processor does.
-fn kind_of(occupant: Occupant) -> usize {
+fn kind_of(occupant: Occupant) -> usize
+    ensures { result ≡ spec.kind_of (actor_of occupant) }
+{
     match (occupant.handler, occupant.task) {
         (Some(_), _) => HANDLER,
         (None, Some(task)) => usize::from(task),

@@ -1,5 +1,8 @@
 //! The whole picture.
-ghost use Rattle.std.specs.Prelude.{◌≤◌, IfOk, length};
+ghost use Rattle.std.specs.Prelude.{◌≡◌, ◌^◌, ◌-◌, ◌≤◌, IfOk, OnOk, length, min, slice_get};
+ghost use Rattle.std.specs.Option.{option_map_or};
+ghost use Rattle.fmp_drawing.specs.Pictures as spec;
+ghost use Rattle.fmp_timeline.specs.Canvases.{Adds};
 
 use crate::legend::put_legend;
 use crate::overview::put_overview;
@@ -20,14 +23,18 @@ pub const MOST_BYTES: usize = 40_000_000;
 const BETWEEN: u32 = 24;
 
 /// A number of things.
-fn put_count(count: u32, thing: &str, out: &mut Canvas) {
+fn put_count(count: u32, thing: &str, out: &mut Canvas)
+    ensures { Adds out.old out.new (spec.count_text count thing.now) }
+{
     out.number(count);
     out.raw(thing);
     out.raw(if count == 1 { "" } else { "s" });
 }
 
 /// The clock after an event.
-fn clock_at(run: &Run, event: u32) -> u32 {
+fn clock_at(run: &Run, event: u32) -> u32
+    ensures { result ≡ option_map_or (λ note. note.clock) (slice_get run.now.notes.items event) 0 }
+{
     match run.notes.get(event as usize) {
         Some(note) => note.clock,
         None => 0,
@@ -35,7 +42,9 @@ fn clock_at(run: &Run, event: u32) -> u32 {
 }
 
 /// How many tasks there are.
-fn task_count(scene: &Scene<'_>) -> u32 {
+fn task_count(scene: &Scene<'_>) -> u32
+    ensures { result ≡ min (length scene.now.sys.now.tasks.items) (2 ^ 32 - 1) }
+{
     u32::try_from(scene.sys.tasks.len()).unwrap_or(u32::MAX)
 }
 
@@ -110,7 +119,9 @@ fn put_head(scene: &Scene<'_>, name: &[u8], out: &mut Canvas) {
 }
 
 /// The panel with this number.
-fn span_of(page: PicturePage, panel: u32) -> PanelSpan {
+fn span_of(page: PicturePage, panel: u32) -> PanelSpan
+    ensures { result ≡ spec.span_of page panel }
+{
     let first = page.panel_start(panel);
     PanelSpan {
         page,
@@ -153,9 +164,12 @@ fn put_top(scene: &Scene<'_>, name: &[u8], out: &mut Canvas) -> Result<u32, Allo
 fn put_picture(
     scene: &Scene<'_>,
     name: &[u8],
-    (above, y): (&Canvas, u32),
+    top: (&Canvas, u32),
     out: &mut Canvas,
-) -> Result<(), AllocError> {
+) -> Result<(), AllocError>
+    ensures { OnOk result (spec.EndsPicture out.new) }
+{
+    let (above, y) = top;
     put_root(scene, name, height_of(scene, y)?, out);
     out.join(above);
     put_panels(scene, y, out)?;
@@ -164,7 +178,9 @@ fn put_picture(
 }
 
 /// The picture, or a beginning of it that is too large.
-fn drawn(scene: &Scene<'_>, name: &[u8]) -> Result<Vec<u8>, AllocError> {
+fn drawn(scene: &Scene<'_>, name: &[u8]) -> Result<Vec<u8>, AllocError>
+    ensures { IfOk result (λ picture. spec.IsClosed picture.items) }
+{
     let mut above = Canvas::new(scene.alloc);
     let y = put_top(scene, name, &mut above)?;
     let mut out = Canvas::new(scene.alloc);
@@ -192,7 +208,8 @@ pub fn draw(
     name: &[u8],
     page: PicturePage,
 ) -> Result<Vec<u8>, DrawFault>
-    ensures { IfOk result (λ picture. length picture.items ≤ 40000000) }
+    ensures most { IfOk result (λ picture. length picture.items ≤ 40000000) }
+    ensures closed { IfOk result (λ picture. spec.IsClosed picture.items) }
 {
     draw_timed(alloc, sys, run, name, page, &[])
 }
@@ -207,7 +224,8 @@ pub fn draw_timed(
     page: PicturePage,
     times: &[u64],
 ) -> Result<Vec<u8>, DrawFault>
-    ensures { IfOk result (λ picture. length picture.items ≤ 40000000) }
+    ensures most { IfOk result (λ picture. length picture.items ≤ 40000000) }
+    ensures closed { IfOk result (λ picture. spec.IsClosed picture.items) }
 {
     let scene = Scene::new(alloc, sys, run, page, times)?;
     let picture = drawn(&scene, name)?;

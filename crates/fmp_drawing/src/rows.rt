@@ -1,4 +1,7 @@
 //! A panel and its lanes: where the states of a lane stand, and what is said of it at the left.
+ghost use Rattle.std.specs.Prelude.{◌≡◌};
+ghost use Rattle.fmp_drawing.specs.Rows as spec;
+
 use crate::scene::Scene;
 use crate::shapes::{Rect, put_line, put_text};
 use crate::strips::{Strip, Strips};
@@ -18,7 +21,9 @@ pub struct Panel<'a> {
 
 impl<'a> Panel<'a> {
     /// A lane of the panel.
-    pub fn row(self, strip: &'a Strip) -> Row<'a> {
+    pub fn row(self, strip: &'a Strip) -> Row<'a>
+        ensures { result ≡ record { scene = self.entry.scene; span = self.entry.span; strip = strip.entry } }
+    {
         Row {
             scene: self.scene,
             span: self.span,
@@ -37,7 +42,9 @@ pub struct Row<'a> {
 
 impl Row<'_> {
     /// The box of a state as long as it lasts: lowered and high by this many tenths.
-    pub fn stay_box<S>(self, stay: &Stay<S>, lower: i32, high: i32) -> Rect {
+    pub fn stay_box<S>(self, stay: &Stay<S>, lower: i32, high: i32) -> Rect
+        ensures { result ≡ spec.stay_box self.entry.span.now self.entry.strip.now stay.now lower high }
+    {
         let x = self.span.box_left(stay);
         Rect {
             x,
@@ -48,7 +55,9 @@ impl Row<'_> {
     }
 
     /// Between which places the text of a state can stand: inside of the panel.
-    pub fn text_ends<S>(self, stay: &Stay<S>) -> (Tenths, Tenths) {
+    pub fn text_ends<S>(self, stay: &Stay<S>) -> (Tenths, Tenths)
+        ensures { result ≡ spec.text_ends self.entry.span.now stay.now }
+    {
         let left = self.span.box_left(stay).or_more(self.span.page.start());
         (left, self.span.box_right(stay))
     }

@@ -1,4 +1,8 @@
 //! Shapes that many parts of a picture have: boxes, lines and texts.
+ghost use Rattle.std.specs.Prelude.{◌≡◌, option_map};
+ghost use Rattle.fmp_drawing.specs.Shapes as spec;
+ghost use Rattle.fmp_timeline.specs.declared.canvas.CanvasPiece.TheVariants as piece;
+
 use crate::scene::Scene;
 use fmp_timeline::CanvasPiece::{At, Number, Numbered, Raw};
 use fmp_timeline::{BarLook, Canvas, CanvasPiece, Tenths};
@@ -14,7 +18,9 @@ pub struct Rect {
 
 impl Rect {
     /// The box of a frame: half a pixel less at each side, for its line.
-    pub fn framed(self) -> Rect {
+    pub fn framed(self) -> Rect
+        ensures { result ≡ spec.framed self }
+    {
         Rect {
             x: self.x + Tenths(5),
             wide: self.wide - Tenths(10),
@@ -92,12 +98,16 @@ pub fn put_plate<'a>(
 }
 
 /// The class of a task's colour between two words.
-pub fn colour_class<'a>(before: &'a str, look: BarLook, after: &'a str) -> CanvasPiece<'a> {
+pub fn colour_class<'a>(before: &'a str, look: BarLook, after: &'a str) -> CanvasPiece<'a>
+    ensures { result ≡ piece.Numbered before.entry look.colour after.entry }
+{
     Numbered(before, u32::from(look.colour), after)
 }
 
 /// The number of a task's hatch, and its letter: `w` for white on a dark colour, `b` for black on a light one.
-pub fn hatch_of(look: BarLook) -> Option<(u32, &'static str)> {
+pub fn hatch_of(look: BarLook) -> Option<(u32, &'static str)>
+    ensures { option_map (λ hatch. (hatch.0, hatch.1.now)) result ≡ spec.hatch_of look }
+{
     let letter = if look.colour % 2 == 0 { "w" } else { "b" };
     (look.hatch > 0).then_some((u32::from(look.hatch), letter))
 }

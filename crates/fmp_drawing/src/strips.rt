@@ -1,4 +1,7 @@
 //! Which lanes a panel has, and where they stand.
+ghost use Rattle.std.specs.Prelude.{◌≡◌, ◌++◌, ◌∷◌, IfOk, OnOk, []};
+ghost use Rattle.fmp_drawing.specs.Lanes as spec;
+
 use fmp_base::{Caller, Handler, Lock, StateWord, System};
 use fmp_timeline::{
     ObjectHistory, PanelSpan, Presence, Run, Showing, TaskShown, Tenths, Track, px, showing_of,
@@ -44,7 +47,9 @@ pub struct Strips {
 }
 
 impl Lane {
-    fn height(self) -> u32 {
+    fn height(self) -> u32
+        ensures { result ≡ spec.height_of self }
+    {
         match self {
             Lane::Processor(_) => 28,
             Lane::Lock(_) | Lane::Dispatch(_) => 12,
@@ -55,7 +60,9 @@ impl Lane {
     }
 
     /// The owner of the lane.
-    pub fn actor(self) -> Option<Caller> {
+    pub fn actor(self) -> Option<Caller>
+        ensures { result ≡ spec.actor_of self }
+    {
         match self {
             Lane::Task(task, _) => Some(Caller::Task(task)),
             Lane::Handler(handler) => Some(Caller::Handler(handler)),
@@ -64,19 +71,25 @@ impl Lane {
     }
 
     /// Whether the lane belongs to the head of a processor's group.
-    pub fn is_head(self) -> bool {
+    pub fn is_head(self) -> bool
+        ensures { result ≡ spec.is_head self }
+    {
         matches!(self, Lane::Processor(_) | Lane::Lock(_) | Lane::Dispatch(_))
     }
 }
 
 impl Strip {
     /// The top of the lane, lowered by this many tenths.
-    pub fn y(&self, lower: i32) -> Tenths {
+    pub fn y(&self, lower: i32) -> Tenths
+        ensures { result ≡ spec.y_of self.now lower }
+    {
         px(self.top) + Tenths(lower)
     }
 
     /// The middle of the lane, lowered by this many tenths.
-    pub fn middle(&self, lower: i32) -> Tenths {
+    pub fn middle(&self, lower: i32) -> Tenths
+        ensures { result ≡ spec.middle_of self.now lower }
+    {
         px(self.top) + px(self.height).half() + Tenths(lower)
     }
 }
@@ -196,7 +209,14 @@ fn handles(sys: &System, processor: u8, place: u8) -> bool {
 }
 
 impl Strips {
-    fn add(&mut self, lane: Lane) -> Result<(), AllocError> {
+    #[tactic(auto, using(crate::proofs::Stacks::keeps_added))]
+    fn add(&mut self, lane: Lane) -> Result<(), AllocError>
+        ensures strips { OnOk result (self.new.strips.items
+            ≡ self.old.strips.items ++ spec.strip_at self.old.bottom lane ∷ []) }
+        ensures bottom { OnOk result (self.new.bottom ≡ spec.lower self.old.bottom (spec.height_of lane)) }
+        ensures stack { OnOk result (spec.KeepsStack self.old.strips.items self.old.bottom self.new.strips.items
+            self.new.bottom) }
+    {
         let height = lane.height();
         self.strips.push(Strip {
             lane,
@@ -207,7 +227,10 @@ impl Strips {
         Ok(())
     }
 
-    fn add_head(&mut self, run: &Run, span: &PanelSpan, processor: u8) -> Result<(), AllocError> {
+    fn add_head(&mut self, run: &Run, span: &PanelSpan, processor: u8) -> Result<(), AllocError>
+        ensures { OnOk result (spec.KeepsStack self.old.strips.items self.old.bottom self.new.strips.items
+            self.new.bottom) }
+    {
         let place = usize::from(processor);
         let (first, last) = (span.first, span.last);
         self.add(Lane::Processor(processor))?;
@@ -228,7 +251,10 @@ impl Strips {
         span: &PanelSpan,
         many: bool,
         handler: Handler,
-    ) -> Result<(), AllocError> {
+    ) -> Result<(), AllocError>
+        ensures { OnOk result (spec.KeepsStack self.old.strips.items self.old.bottom self.new.strips.items
+            self.new.bottom) }
+    {
         if many && !run.is_handling(handler, span) {
             return Ok(());
         }
@@ -241,7 +267,10 @@ impl Strips {
         run: &Run,
         span: &PanelSpan,
         processor: u8,
-    ) -> Result<(), AllocError> {
+    ) -> Result<(), AllocError>
+        ensures { OnOk result (spec.KeepsStack self.old.strips.items self.old.bottom self.new.strips.items
+            self.new.bottom) }
+    {
         let many = sys.tasks.len() > MANY_TASKS;
         for place in 0..32u8 {
             if handles(sys, processor, place) {
@@ -257,7 +286,10 @@ impl Strips {
         run: &Run,
         span: &PanelSpan,
         processor: u8,
-    ) -> Result<(), AllocError> {
+    ) -> Result<(), AllocError>
+        ensures { OnOk result (spec.KeepsStack self.old.strips.items self.old.bottom self.new.strips.items
+            self.new.bottom) }
+    {
         let many = sys.tasks.len() > MANY_TASKS;
         for place in 0..sys.cyclics.len().min(255) as u8 {
             if sys.cyclics[usize::from(place)].processor == processor {
@@ -273,8 +305,12 @@ impl Strips {
         run: &Run,
         span: &PanelSpan,
         many: bool,
-        (task, processor): (u8, u8),
-    ) -> Result<(), AllocError> {
+        place: (u8, u8),
+    ) -> Result<(), AllocError>
+        ensures { OnOk result (spec.KeepsStack self.old.strips.items self.old.bottom self.new.strips.items
+            self.new.bottom) }
+    {
+        let (task, processor) = place;
         match showing_of(many, presence_of(run, span, task, processor)) {
             Showing::Lane => self.add(Lane::Task(task, processor))?,
             Showing::Count => self.asleep.push(task)?,
@@ -289,7 +325,10 @@ impl Strips {
         run: &Run,
         span: &PanelSpan,
         processor: u8,
-    ) -> Result<(), AllocError> {
+    ) -> Result<(), AllocError>
+        ensures { OnOk result (spec.KeepsStack self.old.strips.items self.old.bottom self.new.strips.items
+            self.new.bottom) }
+    {
         let many = sys.tasks.len() > MANY_TASKS;
         for priority in 1..=16u8 {
             for task in 0..sys.tasks.len().min(255) as u8 {
@@ -307,7 +346,10 @@ impl Strips {
         object: &ObjectHistory,
         place: usize,
         span: &PanelSpan,
-    ) -> Result<(), AllocError> {
+    ) -> Result<(), AllocError>
+        ensures { OnOk result (spec.KeepsStack self.old.strips.items self.old.bottom self.new.strips.items
+            self.new.bottom) }
+    {
         if is_moving(object, span) {
             return self.add(Lane::Object(place));
         }
@@ -315,7 +357,10 @@ impl Strips {
         Ok(())
     }
 
-    fn add_objects(&mut self, run: &Run, span: &PanelSpan) -> Result<(), AllocError> {
+    fn add_objects(&mut self, run: &Run, span: &PanelSpan) -> Result<(), AllocError>
+        ensures { OnOk result (spec.KeepsStack self.old.strips.items self.old.bottom self.new.strips.items
+            self.new.bottom) }
+    {
         if is_any_moving(&run.objects.all, span) {
             self.add(Lane::ObjectsHead)?;
         }
@@ -325,7 +370,10 @@ impl Strips {
         Ok(())
     }
 
-    fn add_all(&mut self, sys: &System, run: &Run, span: &PanelSpan) -> Result<(), AllocError> {
+    fn add_all(&mut self, sys: &System, run: &Run, span: &PanelSpan) -> Result<(), AllocError>
+        ensures { OnOk result (spec.KeepsStack self.old.strips.items self.old.bottom self.new.strips.items
+            self.new.bottom) }
+    {
         for processor in 0..sys.processors {
             self.add_head(run, span, processor)?;
             self.add_interrupts(sys, run, span, processor)?;
@@ -343,7 +391,9 @@ impl Strips {
         run: &Run,
         span: &PanelSpan,
         top: u32,
-    ) -> Result<Strips, AllocError> {
+    ) -> Result<Strips, AllocError>
+        ensures { IfOk result (λ panel. spec.AreStacked top panel.strips.items panel.bottom) }
+    {
         let mut strips = Strips {
             strips: Vec::new(alloc),
             asleep: Vec::new(alloc),
@@ -355,12 +405,16 @@ impl Strips {
     }
 
     /// Whether something has no lane.
-    pub fn leaves_out(&self) -> bool {
+    pub fn leaves_out(&self) -> bool
+        ensures { result ≡ spec.leaves_out self.now }
+    {
         !self.asleep.is_empty() || !self.still.is_empty()
     }
 
     /// The lower end, with a line for what has no lane.
-    pub fn end(&self) -> u32 {
+    pub fn end(&self) -> u32
+        ensures { result ≡ spec.end_of self.now }
+    {
         if self.leaves_out() {
             return self.bottom.saturating_add(14);
         }

@@ -1,4 +1,8 @@
 //! Lanes of tasks.
+ghost use Rattle.std.specs.Prelude.{◌≡◌, false, slice_get};
+ghost use Rattle.fmp_drawing.specs.Tasks as spec;
+ghost use Rattle.fmp_timeline.specs.Canvases.{Adds};
+
 use crate::calls::put_calls;
 use crate::rows::{GutterName, NAME, Row, put_name, put_side};
 use crate::scene::{Scene, TakenPixels};
@@ -6,7 +10,7 @@ use crate::shapes::{Rect, colour_class, put_box, put_hatch, put_number, put_plai
 use crate::strips::Strip;
 use crate::titles::put_title_with;
 use crate::waits::{LanePart, WaitText, append_wait, put_wait_text};
-use fmp_base::{Caller, StateWord};
+use fmp_base::{Caller, StateWord, TaskConfig};
 use fmp_timeline::CanvasPiece::{At, Label, Number, Raw, Text};
 use fmp_timeline::{
     BarLook, Canvas, SpinSpan, Stay, TaskShown, Tenths, append_handler, deed_words, task_bytes,
@@ -27,16 +31,26 @@ struct TaskRow<'a> {
     taken: &'a [TakenPixels],
 }
 
+/// Appends the priority of a task on its first processor, or where a guest comes from.
+fn append_side(config: &TaskConfig, processor: u8, text: &mut Canvas)
+    ensures { Adds text.old text.new (spec.origin_text config.now processor) }
+{
+    if config.processor == processor {
+        text.numbered("pri ", u32::from(config.priority), "");
+    } else {
+        let home = u32::from(config.processor).saturating_add(1);
+        text.numbered("from p", home, "");
+    }
+}
+
 /// What stands at the right end of the gutter: the priority, or where a guest comes from.
-fn side_text(scene: &Scene<'_>, task: u8, processor: u8) -> Canvas {
+fn side_text(scene: &Scene<'_>, task: u8, processor: u8) -> Canvas
+    ensures { result.is_cut ≡ false
+        → result.bytes.items ≡ spec.side_text (slice_get scene.now.sys.now.tasks.items task) processor }
+{
     let mut text = Canvas::new(scene.alloc);
     if let Some(config) = scene.sys.tasks.get(usize::from(task)) {
-        if config.processor == processor {
-            text.numbered("pri ", u32::from(config.priority), "");
-        } else {
-            let home = u32::from(config.processor).saturating_add(1);
-            text.numbered("from p", home, "");
-        }
+        append_side(config, processor, &mut text);
     }
     text
 }
@@ -81,7 +95,9 @@ fn put_colour(row: Row<'_>, task: u8, home: bool, out: &mut Canvas) {
 }
 
 /// Whether a processor is the first one of a task.
-fn is_home(scene: &Scene<'_>, task: u8, processor: u8) -> bool {
+fn is_home(scene: &Scene<'_>, task: u8, processor: u8) -> bool
+    ensures { result ≡ spec.is_home (slice_get scene.now.sys.now.tasks.items task) processor }
+{
     match scene.sys.tasks.get(usize::from(task)) {
         Some(config) => config.processor == processor,
         None => false,

@@ -1,4 +1,8 @@
 //! The real times of events, where they are known: a row at the axis, and lines in titles.
+ghost use Rattle.std.specs.Prelude.{◌≡◌, ◌-◌, slice_get};
+ghost use Rattle.fmp_drawing.specs.Times as spec;
+ghost use Rattle.fmp_timeline.specs.Canvases.{Adds};
+
 use crate::scene::Scene;
 use crate::shapes::put_text;
 use fmp_timeline::CanvasPiece::{At, Label, Raw};
@@ -11,11 +15,13 @@ const ROW: u32 = 14;
 /// The size of the row's numbers.
 const SMALL: Tenths = Tenths(90);
 
-/// There is no more than one label for this many pixels.
+/// There is at most one label for this many pixels.
 const APART: u32 = 56;
 
 /// Where the axis of a panel begins that begins at this height: below the row of times, if there is one.
-pub fn axis_top(scene: &Scene<'_>, top: u32) -> u32 {
+pub fn axis_top(scene: &Scene<'_>, top: u32) -> u32
+    ensures { result ≡ spec.axis_top scene.now.times.now top }
+{
     if scene.has_times() {
         top.saturating_add(ROW)
     } else {
@@ -24,7 +30,9 @@ pub fn axis_top(scene: &Scene<'_>, top: u32) -> u32 {
 }
 
 /// What an event covers at the axis, above this height and in all: with its time, if it is known.
-pub fn axis_area(scene: &Scene<'_>, top: Tenths) -> (Tenths, Tenths) {
+pub fn axis_area(scene: &Scene<'_>, top: Tenths) -> (Tenths, Tenths)
+    ensures { result ≡ spec.axis_area scene.now.times.now top }
+{
     if scene.has_times() {
         (top - px(ROW), Tenths(300) + px(ROW))
     } else {
@@ -32,20 +40,31 @@ pub fn axis_area(scene: &Scene<'_>, top: Tenths) -> (Tenths, Tenths) {
     }
 }
 
-/// A time in milliseconds, with three decimals.
-fn put_millis(micros: u64, out: &mut Canvas) {
-    let (millis, rest) = (micros / 1000, micros % 1000);
-    out.raw(Buffer::new().format(millis));
-    out.raw(match rest {
+/// The decimal point, with the zeros that make three digits of this number of microseconds.
+fn point_before(micros: u64) -> &'static str
+    ensures { result.now ≡ spec.point_text micros }
+{
+    match micros {
         0..=9 => ".00",
         10..=99 => ".0",
         _ => ".",
-    });
+    }
+}
+
+/// A time in milliseconds, with three decimals.
+fn put_millis(micros: u64, out: &mut Canvas)
+    ensures { Adds out.old out.new (spec.millis_text micros) }
+{
+    let (millis, rest) = (micros / 1000, micros % 1000);
+    out.raw(Buffer::new().format(millis));
+    out.raw(point_before(rest));
     out.raw(Buffer::new().format(rest));
 }
 
 /// From when to when, in milliseconds.
-fn put_period(from: u64, to: u64, out: &mut Canvas) {
+fn put_period(from: u64, to: u64, out: &mut Canvas)
+    ensures { Adds out.old out.new (spec.period_text from to) }
+{
     put_millis(from, out);
     out.raw("–");
     put_millis(to, out);
@@ -53,7 +72,9 @@ fn put_period(from: u64, to: u64, out: &mut Canvas) {
 }
 
 /// When an event came, as a line, if that is known.
-pub fn put_time_line(scene: &Scene<'_>, event: u32, out: &mut Canvas) {
+pub fn put_time_line(scene: &Scene<'_>, event: u32, out: &mut Canvas)
+    ensures { Adds out.old out.new (spec.time_line (slice_get scene.now.times.now event)) }
+{
     if let Some(time) = scene.time_of(event) {
         put_millis(time, out);
         out.raw(" ms\n");
@@ -61,7 +82,9 @@ pub fn put_time_line(scene: &Scene<'_>, event: u32, out: &mut Canvas) {
 }
 
 /// How long a state lasted that began and ended with these events, as a line, if their times are known.
-pub fn put_period_line(scene: &Scene<'_>, from: u32, to: Option<u32>, out: &mut Canvas) {
+pub fn put_period_line(scene: &Scene<'_>, from: u32, to: Option<u32>, out: &mut Canvas)
+    ensures { Adds out.old out.new (spec.period_line scene.now.times.now from to) }
+{
     let Some(to) = to else {
         return put_time_line(scene, from, out);
     };
@@ -72,7 +95,9 @@ pub fn put_period_line(scene: &Scene<'_>, from: u32, to: Option<u32>, out: &mut 
 }
 
 /// When the first and the last event of the picture came, if that is known.
-pub fn put_extent_of_times(scene: &Scene<'_>, out: &mut Canvas) {
+pub fn put_extent_of_times(scene: &Scene<'_>, out: &mut Canvas)
+    ensures { Adds out.old out.new (spec.extent_text scene.now.times.now scene.now.page) }
+{
     if let (Some(from), Some(to)) = (
         scene.time_of(scene.page.first),
         scene.time_of(scene.page.last),

@@ -1,4 +1,7 @@
 //! What a box says when it is pointed at: its state, and the lines of the event that made it.
+ghost use Rattle.std.specs.Prelude.{◌≡◌};
+ghost use Rattle.fmp_drawing.specs.Titles as spec;
+
 use crate::scene::Scene;
 use crate::shapes::{Rect, put_box};
 use crate::times::{put_period_line, put_time_line};
@@ -9,7 +12,9 @@ use fmp_timeline::{Canvas, CanvasPiece, Run, Stay};
 const MOST_LINES: u32 = 12;
 
 /// Where the lines before an event end.
-fn end_before(run: &Run, place: usize) -> usize {
+fn end_before(run: &Run, place: usize) -> usize
+    ensures { result ≡ spec.end_before run.now place }
+{
     if let Some(before) = place.checked_sub(1)
         && let Some(note) = run.notes.get(before)
     {
@@ -19,7 +24,9 @@ fn end_before(run: &Run, place: usize) -> usize {
 }
 
 /// The lines of an event, without the last line feed.
-fn lines_of(run: &Run, event: u32) -> &[u8] {
+fn lines_of(run: &Run, event: u32) -> &[u8]
+    ensures { result.now ≡ spec.lines_of run.now event }
+{
     let place = event as usize;
     match run.notes.get(place) {
         Some(note) => {

@@ -1,4 +1,9 @@
 //! The texts of waits in the lanes of tasks, where they fit.
+ghost use Rattle.std.specs.Prelude.{◌≡◌};
+ghost use Rattle.fmp_base.specs.Systems.{tables_of};
+ghost use Rattle.fmp_drawing.specs.Waits as spec;
+ghost use Rattle.fmp_timeline.specs.Canvases.{Adds};
+
 use crate::rows::Row;
 use crate::scene::{Scene, TakenPixels, fit_left};
 use crate::shapes::put_label;
@@ -18,19 +23,35 @@ pub struct WaitText<'a> {
     pub until: bool,
 }
 
-/// Appends a text of a wait.
-pub fn append_wait(scene: &Scene<'_>, text: WaitText<'_>, label: &mut Canvas) {
+/// Appends a name, or this many letters of it and three dots.
+fn append_letters(name: &[u8], letters: Option<usize>, label: &mut Canvas)
+    ensures { Adds label.old label.new (spec.letters_of name.now letters) }
+{
+    match letters {
+        Some(count) => {
+            label.plain(name.get(..count).unwrap_or(name));
+            label.raw("…");
+        }
+        None => label.plain(name),
+    }
+}
+
+/// Appends what a task waits for.
+fn append_cause(scene: &Scene<'_>, text: WaitText<'_>, label: &mut Canvas)
+    ensures { Adds label.old label.new
+        (spec.cause_text (tables_of scene.now.sys.now) text.entry.shown.now.wait text.entry.letters) }
+{
     if let Some(cause) = text.shown.wait {
         let (arrow, name) = wait_name(scene.sys, cause);
         label.raw(arrow);
-        match text.letters {
-            Some(count) => {
-                label.plain(name.get(..count).unwrap_or(name));
-                label.raw("…");
-            }
-            None => label.plain(name),
-        }
+        append_letters(name, text.letters, label);
     }
+}
+
+/// Appends until when it waits.
+fn append_deadline(text: WaitText<'_>, label: &mut Canvas)
+    ensures { Adds label.old label.new (spec.deadline_text text.entry.until text.entry.shown.now.deadline) }
+{
     if text.until
         && let Some(deadline) = text.shown.deadline
     {
@@ -38,8 +59,18 @@ pub fn append_wait(scene: &Scene<'_>, text: WaitText<'_>, label: &mut Canvas) {
     }
 }
 
+/// Appends a text of a wait.
+pub fn append_wait(scene: &Scene<'_>, text: WaitText<'_>, label: &mut Canvas)
+    ensures { Adds label.old label.new (spec.wait_text (tables_of scene.now.sys.now) text.entry) }
+{
+    append_cause(scene, text, label);
+    append_deadline(text, label);
+}
+
 /// Whether the name in the text of a wait can be cut to this many letters.
-fn can_be_cut(scene: &Scene<'_>, shown: &TaskShown, count: usize) -> bool {
+fn can_be_cut(scene: &Scene<'_>, shown: &TaskShown, count: usize) -> bool
+    ensures { result ≡ spec.can_be_cut (tables_of scene.now.sys.now) shown.now.wait count }
+{
     match shown.wait {
         Some(cause) => {
             let (arrow, name) = wait_name(scene.sys, cause);

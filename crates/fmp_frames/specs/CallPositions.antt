@@ -15,7 +15,7 @@ use Rattle.fmp_lex.specs.Faults.{text_max}
 use Rattle.fmp_frames.specs.declared.call_positions.BodyCalls.{BodyCalls}
 use Rattle.fmp_frames.specs.declared.call_positions.CallPosition.{CallPosition}
 
--- where lines begin in a text, of which the first byte stands at a place: behind each line feed
+-- where lines begin in a text, of which the first byte stands at a place: after each line feed
 abbrev pub begins_behind : (at : ℕ) → (text : List ℕ) → List ℕ
 begins_behind at [] = []
 begins_behind at (b ∷ bs) =

@@ -67,11 +67,11 @@ abbrev pub event_or : Option (List ℕ) → List ℕ
 event_or None = codes "the run has ended\n"
 event_or (Some text) = text
 
--- the event of a number in a run, behind a mark
+-- the event of a number in a run, after a mark
 abbrev pub event_shown : (mark : List ℕ) → ToldRun → (number : ℕ) → List ℕ
 event_shown mark x n = marked mark (event_or (slice_get (events_of x) n))
 
--- so many events of a run from a number on, behind blanks
+-- this many events of a run from a number on, after blanks
 abbrev pub events_shown : ToldRun → (number count : ℕ) → List ℕ
 events_shown x n zero = []
 events_shown x n (suc count) = event_shown (codes "  ") x n ++ events_shown x (n + 1) count
@@ -97,12 +97,12 @@ states_beside a b t (suc count) = beside (state_line a t) (state_line b t) ++ st
 abbrev pub task_count : (a b : ToldRun) → ℕ
 task_count a b = max (length a.states.items) (length b.states.items)
 
--- the event of a number in which two runs differ, behind up to five events before it
+-- the event of a number in which two runs differ, after up to five events before it
 abbrev pub events_beside : (a b : ToldRun) → (number : ℕ) → List ℕ
 events_beside a b n =
     events_shown a (n - 5) (n - (n - 5)) ++ (event_shown (codes "- ") a n ++ event_shown (codes "+ ") b n)
 
--- the same, and behind it the states that differ then, at these ends of the runs
+-- the same, and after it the states that differ then, at these ends of the runs
 abbrev pub difference : (a b : ToldRun) → (number : ℕ) → (end_a end_b : ToldRun) → List ℕ
 difference a b n end_a end_b =
     events_beside a b n

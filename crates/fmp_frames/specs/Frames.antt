@@ -110,7 +110,7 @@ abbrev pub frames : {C : Type 0} → SystemTables → Meaning C → (bound : ℕ
 frames sys M bound w [] = []
 frames sys M bound w (e ∷ es) = framed_on sys M bound w (step sys M bound w e) (λ v. frames sys M bound v es)
 
--- the frame of what came to a kernel and did this, in front of those of what comes behind it
+-- the frame of what came to a kernel and did this, in front of those of what comes after it
 abbrev pub framed : {B C : Type 0} → (B → Meaning C) → KernelView B C → Reaction C → List FrameTable → List FrameTable
 framed meaning k Nothing rest = rest
 framed meaning k (Did d) rest = frame_of k.system (meaning k.body) k.bound d.world d.lines ∷ rest

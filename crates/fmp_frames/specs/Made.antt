@@ -16,7 +16,7 @@ use Rattle.fmp_frames.specs.declared.sites.CallSite.{CallSite}
 use Rattle.fmp_frames.specs.CallPositions.{position_of}
 use Rattle.fmp_frames.specs.Sites.{site}
 
--- the call that ends a stretch of a body: the context is behind it then
+-- the call that ends a stretch of a body: the context is after it then
 abbrev pub ending_site : (body : ℕ) → Ending MachineContext → Option CallSite
 ending_site body (ending.Call c call) = Some (site body (c.pc - 1))
 ending_site body (ending.End c) = None
@@ -46,7 +46,7 @@ module _ {B : Type 0} (meaning : B → Meaning MachineContext) (code : List Body
   abbrev pub event_position : KernelView B MachineContext → Event → Option CallPosition
   event_position k e = site_position code bodies (event_site meaning k e)
 
-  -- what stands for an event that did this, in front of what stands for those behind it
+  -- what stands for an event that did this, in front of what stands for those after it
   abbrev pub in_front : Option CallPosition → Reaction MachineContext → List (Option CallPosition)
       → List (Option CallPosition)
   in_front position Nothing rest = rest

@@ -19,7 +19,7 @@ abbrev pub end_length : LineForm → ℕ
 end_length form.Text = 1
 end_length form.Record = 2
 
--- what stands before the number of a line, before that of a column, and behind that
+-- what stands before the number of a line, before that of a column, and after that
 abbrev pub before_line : LineForm → List ℕ
 before_line form.Text = codes " at "
 before_line form.Record = codes ",\"line\":"

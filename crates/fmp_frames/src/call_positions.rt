@@ -222,7 +222,8 @@ impl CallPositions {
     ghost use Rattle.fmp_instructions.specs.Instructions.{code_tables};
     ghost use Rattle.fmp_frames.specs.CallPositions.{AreCallsOf, fits, position_of};
 
-    /// Those of a text that an image was built of; none of a text that is too long. `AllocError` if memory runs out.
+    /// The positions of the calls of a text that an image was built of; none for a text that is too long. `AllocError`
+    /// if memory runs out.
     pub fn new(alloc: Global, src: &[u8]) -> Result<CallPositions, AllocError>
         ensures { IfOk result (λ positions. AreCallsOf src.now positions) }
     {

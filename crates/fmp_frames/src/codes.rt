@@ -4,12 +4,14 @@ ghost use Rattle.fmp_frames.specs.Values as spec;
 
 use fmp_base::{Er, Handler, Line, Lock, Phase, StateWord, WaitCause};
 
+/// 1 if it holds, else 0.
 pub fn one_if(holds: bool) -> u32
     ensures { result ≡ spec.one_if holds }
 {
     if holds { 1 } else { 0 }
 }
 
+/// The number of a state: 0 DORMANT, 1 READY, 2 RUNNING, 3 WAITING, 4 SUSPENDED, 5 WAITING-SUSPENDED.
 pub fn state_code(word: StateWord) -> u32
     ensures { result ≡ spec.state_code word }
 {
@@ -23,6 +25,7 @@ pub fn state_code(word: StateWord) -> u32
     }
 }
 
+/// The number, from 1, of what stands at a place; 0 if there is none.
 pub fn number_or_zero(place: Option<u8>) -> u32
     ensures { result ≡ spec.number_or_zero place }
 {
@@ -32,6 +35,7 @@ pub fn number_or_zero(place: Option<u8>) -> u32
     }
 }
 
+/// The number of a handler: 0 for none, C for cyclic handler C, 256 and I for the handler of interrupt I.
 pub fn handler_code(handler: Option<Handler>) -> u32
     ensures { result ≡ spec.handler_code handler }
 {
@@ -42,6 +46,7 @@ pub fn handler_code(handler: Option<Handler>) -> u32
     }
 }
 
+/// The number of a lock: 0 for none, 1 for the CPU lock, 256 and L for spin lock L.
 pub fn lock_code(lock: Lock) -> u32
     ensures { result ≡ spec.lock_code lock }
 {
@@ -66,6 +71,8 @@ fn cause_code(cause: WaitCause) -> u32
     }
 }
 
+/// The number of what a task waits for: 0 nothing, 1 a wakeup, 2 the end of a delay, 3 a semaphore, 4 an eventflag,
+/// 5 room in a data queue, 6 a word of a data queue, 7 a message.
 pub fn wait_code(phase: Phase) -> u32
     ensures { result ≡ spec.wait_code phase }
 {
@@ -88,6 +95,7 @@ fn cause_object(cause: WaitCause) -> u32
     }
 }
 
+/// The number of the object that a task waits for; 0 if it waits for none.
 pub fn wait_object(phase: Phase) -> u32
     ensures { result ≡ spec.wait_object phase }
 {
@@ -97,6 +105,7 @@ pub fn wait_object(phase: Phase) -> u32
     }
 }
 
+/// The number for a handler: 2 if it runs on some processor, and 1 more if it is pending.
 pub fn handling(running: usize, is_pending: bool) -> u32
     ensures { result ≡ spec.handling running is_pending }
 {
@@ -112,6 +121,8 @@ fn is_ok(code: Er) -> bool
     }
 }
 
+/// The number for a processor, by a line: 2 if the line tells a fault there, 1 a call there that is answered otherwise
+/// than E_OK, else 0.
 pub fn refused_by(line: Line, place: usize) -> u32
     ensures { result ≡ spec.refused_by place line }
 {

@@ -174,7 +174,7 @@ fn acts_in(lines: &[Line], task: usize) -> usize
     lines.iter().filter(|line| acts(**line, task)).count()
 }
 
-/// The task whose place an event kept, if it ran this processor for that.
+/// The task whose place an event kept, given the place of the processor on which it kept one, if it did.
 pub fn keeper(kept: Option<u8>, processors: &[Processor]) -> Option<u8>
     ensures { result ≡ spec.keeper kept processors.now }
 {
@@ -194,8 +194,8 @@ fn is_keeper(kept: Option<u8>, task: usize) -> bool
     }
 }
 
-/// The counts of a task after an event that told these lines, or kept the place of the first task, from those before it
-/// on.
+/// The counts of a task after one more event, which told these lines or kept the place of the task `kept`, if of one;
+/// tasks were in the states `was` before it and are in those of `is` after it.
 pub fn counted(
     tally: &TaskTally,
     task: usize,
@@ -219,7 +219,7 @@ pub fn counted(
     }
 }
 
-/// After how many events a task spun, after one more that left these processors and what their actors spin for.
+/// After how many events a task spun, with one more event, which left these processors and these spins of their actors.
 pub fn spun(count: u32, task: usize, processors: &[Processor], spins: &[Option<SpinWait>]) -> u32
     ensures { result ≡ spec.spun task processors.now spins.now count }
 {

@@ -167,9 +167,8 @@ fn record_of(
     finish(writer)
 }
 
-/// Appends a line that tells a call that is refused: where it stands in this file, or in the code if that is not known;
-/// which call it is, how often it was refused, and by which codes. A record does not name the file. `AllocError` if
-/// memory runs out.
+/// Appends a line on a refused call: its place in this file, or in the code if that is not known; which call it is; how
+/// often it was refused, and by which codes. A record does not name the file. `AllocError` if memory runs out.
 pub fn append_refused(
     alloc: Global,
     form: LineForm,

@@ -2,6 +2,7 @@
 use itoa::Buffer;
 use std::alloc::AllocError;
 
+/// A text.
 pub fn append(text: &str, out: &mut Vec<u8>) -> Result<(), AllocError> {
     out.extend_from_slice(text.as_bytes())
 }

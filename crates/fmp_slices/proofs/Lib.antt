@@ -1,1 +1,6 @@
+mod Canvases
+mod Drops
 mod Escapes
+mod Fronts
+mod Joined
+mod Kept

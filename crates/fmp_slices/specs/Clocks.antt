@@ -6,7 +6,7 @@ abbrev pub later : ℕ → Option ℕ → ℕ
 later before None = before
 later before (Some time) = max before time
 
--- the times of events behind one at this time
+-- the times of events after one at this time
 abbrev pub times_from : ℕ → List (Option ℕ) → List ℕ
 times_from before [] = []
 times_from before (t ∷ ts) = later before t ∷ times_from (later before t) ts

@@ -1,4 +1,4 @@
--- The entries of a trace, in the Trace Event Format: an object of JSON a line, behind a comma.
+-- The entries of a trace, in the Trace Event Format: an object of JSON a line, after a comma.
 use Rattle.std.specs.Prelude.{ℕ, ◌-◌, List, [], ◌∷◌, ◌++◌, codes}
 use Rattle.std.specs.Str.Lossy.{utf8_lossy}
 use Rattle.json.specs.Token.{Token, begin_object, end_object, key}

@@ -1,7 +1,9 @@
 pub mod Clocks
+pub mod Contents
 pub mod Entries
 pub mod Escaped
 pub mod Labels
+pub mod Pages
 pub mod Resources
 pub mod StandardLog
 pub mod Traces

@@ -1,6 +1,6 @@
-//! Runs for the viewers that people have: slices on tracks, in the Trace Event Format, which `ui.perfetto.dev` and
-//! `chrome://tracing` open, and in the standard log of TraceLogVisualizer with its resource file; and pages for
-//! browsers, with what happened to each task and object, and the states at each event.
+//! Runs as files for the viewers of other projects: slices on tracks, in the Trace Event Format, which
+//! `ui.perfetto.dev` and `chrome://tracing` open, and in the standard log of TraceLogVisualizer with its resource file;
+//! and pages for browsers, with what happened to each task and object, and the states at each event.
 #![tactic(auto)]
 
 mod changes;

@@ -1,6 +1,9 @@
 //! A run in the standard log of TraceLogVisualizer: a line a change, `[time]object.attribute=value` or
 //! `[time]object.behaviour()`.
-ghost use Rattle.std.specs.Prelude.{◌≡◌, ◌++◌, OnOk};
+ghost use Rattle.std.specs.Prelude.{◌≡◌, ◌++◌, IfOk, OnOk};
+ghost use Rattle.fmp_base.specs.Systems.{tables_of};
+ghost use Rattle.fmp_slices.specs.Clocks.{time_at};
+ghost use Rattle.fmp_slices.specs.Resources.{actor_object};
 ghost use Rattle.fmp_slices.specs.StandardLog as spec;
 
 use crate::changes::{ChangeSubject, TrackChange, changes_of};
@@ -54,6 +57,18 @@ fn append_line(
     append(b"\n", out)
 }
 
+/// What a handler does that begins or ends, and the state that it comes into.
+fn handling_words(begins: bool) -> (&'static str, &'static str)
+    ensures event { result.0.now ≡ spec.handling_event begins }
+    ensures state { result.1.now ≡ spec.handling_state begins }
+{
+    if begins {
+        ("enter()", "RUNNING")
+    } else {
+        ("leave()", "DORMANT")
+    }
+}
+
 /// What the lines of a run are made from.
 #[derive(Clone, Copy)]
 struct LineSource<'a> {
@@ -64,7 +79,9 @@ struct LineSource<'a> {
 }
 
 impl LineSource<'_> {
-    fn name_of(self, actor: Caller) -> Result<Vec<u8>, AllocError> {
+    fn name_of(self, actor: Caller) -> Result<Vec<u8>, AllocError>
+        ensures { IfOk result (λ name. name.items ≡ actor_object (tables_of self.entry.sys.now) actor) }
+    {
         let mut name = Vec::new(self.alloc);
         append_object(self.sys, actor, &mut name)?;
         Ok(name)
@@ -82,7 +99,10 @@ impl LineSource<'_> {
         task: u8,
         word: StateWord,
         out: &mut Vec<u8>,
-    ) -> Result<(), AllocError> {
+    ) -> Result<(), AllocError>
+        ensures { OnOk result (out.new.items ≡ out.old.items ++ spec.word_line (tables_of self.entry.sys.now)
+            (time_at self.entry.clock.now.times.items event) task word) }
+    {
         let time = self.clock.at(event);
         let name = self.name_of(Caller::Task(task))?;
         append_line(time, &name, "state=", state_name(word).as_bytes(), out)
@@ -115,14 +135,13 @@ impl LineSource<'_> {
         handler: Handler,
         begins: bool,
         out: &mut Vec<u8>,
-    ) -> Result<(), AllocError> {
+    ) -> Result<(), AllocError>
+        ensures { OnOk result (out.new.items
+            ≡ out.old.items ++ spec.handling_lines (tables_of self.entry.sys.now) time handler begins) }
+    {
         let mut name = Vec::new(self.alloc);
         append_handler(self.sys, handler, &mut name)?;
-        let (what, state) = if begins {
-            ("enter()", "RUNNING")
-        } else {
-            ("leave()", "DORMANT")
-        };
+        let (what, state) = handling_words(begins);
         append_line(time, &name, what, &[], out)?;
         append_line(time, &name, "state=", state.as_bytes(), out)
     }
@@ -154,7 +173,10 @@ impl LineSource<'_> {
         processor: u8,
         actor: Option<Caller>,
         out: &mut Vec<u8>,
-    ) -> Result<(), AllocError> {
+    ) -> Result<(), AllocError>
+        ensures { OnOk result (out.new.items ≡ out.old.items
+            ++ spec.context_line (tables_of self.entry.sys.now) time processor actor) }
+    {
         let mut context = Vec::new(self.alloc);
         append_context(processor, &mut context)?;
         match actor {

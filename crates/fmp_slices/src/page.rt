@@ -1,4 +1,8 @@
 //! The page: its controls, the picture, the data and the script.
+ghost use Rattle.std.specs.Prelude.{IfOk, List, ℕ};
+ghost use Rattle.fmp_slices.specs.Pages as spec;
+ghost use Rattle.fmp_timeline.specs.Canvases.{Adds};
+
 use crate::contents::{PageSource, contents_of};
 use crate::script::SCRIPT;
 use crate::style::STYLE;
@@ -14,7 +18,7 @@ const HEAD: &str = r#"<!DOCTYPE html>
 <meta name="viewport" content="width=device-width">
 <meta http-equiv="Content-Security-Policy"
 content="default-src 'none'; style-src 'unsafe-inline'; script-src 'unsafe-inline'">
-<title>Timeline of "#;
+"#;
 
 /// The controls, before the picture.
 const TOOLS: &str = r#"</style>
@@ -29,17 +33,70 @@ const TOOLS: &str = r#"</style>
 <button type="button" id="larger" aria-label="Zoom in" title="Zoom in (+)">+</button>
 <button type="button" id="whole" title="Whole width; 0 is the first size">Fit width</button>
 </div>
-<main id="view" tabindex="0" aria-label="Picture">
 "#;
 
 /// The lists, between the picture and the data.
-const LISTS: &str = r#"</main>
-<div id="side">
+const LISTS: &str = r#"<div id="side">
 <section id="states" tabindex="0" aria-label="States after the event"></section>
 <section id="story" tabindex="0" aria-label="What happened"><h2>What happened</h2>
 <p>Click a task, a handler, a processor or an object, in the picture or in the list.</p></section>
 </div>
-<script type="application/json" id="run">"#;
+"#;
+
+/// The title of a page with this name.
+fn put_title(name: &[u8], out: &mut Canvas)
+    ensures { Adds out.old out.new (spec.title_text name.now) }
+{
+    out.raw("<title>Timeline of ");
+    out.text(name);
+    out.raw("</title>\n");
+}
+
+/// The style of the page, and its controls.
+fn put_tools(out: &mut Canvas)
+    ensures { (tools : List ℕ) × Adds out.old out.new tools }
+{
+    out.raw("<style>");
+    out.raw(STYLE);
+    out.raw(TOOLS);
+}
+
+fn put_picture(picture: &[u8], out: &mut Canvas)
+    ensures { Adds out.old out.new (spec.view_text picture.now) }
+{
+    out.raw("<main id=\"view\" tabindex=\"0\" aria-label=\"Picture\">\n");
+    out.plain(picture);
+    out.raw("</main>\n");
+}
+
+fn put_data(json: &[u8], out: &mut Canvas)
+    ensures { Adds out.old out.new (spec.data_text json.now) }
+{
+    out.raw("<script type=\"application/json\" id=\"run\">");
+    out.plain(json);
+    out.raw("</script>\n");
+}
+
+fn put_script(out: &mut Canvas)
+    ensures { (script : List ℕ) × Adds out.old out.new script }
+{
+    out.raw("<script>\n");
+    out.raw(SCRIPT);
+    out.raw("</script>\n</body>\n</html>\n");
+}
+
+/// All of the page.
+fn put_page(name: &[u8], picture: &[u8], json: &[u8], out: &mut Canvas)
+    ensures { (page : List ℕ) × spec.IsPage name.now picture.now json.now page × Adds out.old out.new page }
+{
+    out.raw(HEAD);
+    put_title(name, out);
+    put_tools(out);
+    put_picture(picture, out);
+    out.raw(LISTS);
+    put_data(json, out);
+    put_script(out);
+}
 
 /// A page of a run of a system that shows this picture of it, which has these measures: one file of HTML that loads
 /// nothing. The name stands in its title. `AllocError` if memory runs out.
@@ -50,7 +107,10 @@ pub fn page_of(
     name: &[u8],
     page: PicturePage,
     picture: &[u8],
-) -> Result<Vec<u8>, AllocError> {
+) -> Result<Vec<u8>, AllocError>
+    ensures { IfOk result (λ text. (json : List ℕ) × spec.IsPage name.now picture.now json text.items
+        × spec.IsData page run.now json) }
+{
     let contents = contents_of(PageSource {
         alloc,
         sys,
@@ -58,16 +118,6 @@ pub fn page_of(
         page,
     })?;
     let mut out = Canvas::new(alloc);
-    out.raw(HEAD);
-    out.text(name);
-    out.raw("</title>\n<style>");
-    out.raw(STYLE);
-    out.raw(TOOLS);
-    out.plain(picture);
-    out.raw(LISTS);
-    out.plain(&contents);
-    out.raw("</script>\n<script>\n");
-    out.raw(SCRIPT);
-    out.raw("</script>\n</body>\n</html>\n");
+    put_page(name, picture, &contents, &mut out);
     out.finish()
 }

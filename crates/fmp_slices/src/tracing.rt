@@ -1,6 +1,8 @@
 //! A run in the Trace Event Format, as JSON.
-ghost use Rattle.std.specs.Prelude.{◌≡◌, ◌+◌, ◌++◌, IfOk, OnOk, Some, decimal, true};
+ghost use Rattle.std.specs.Prelude.{◌≡◌, ◌+◌, ◌++◌, IfOk, OnOk, Some, codes, decimal, take, true};
+ghost use Rattle.fmp_base.specs.Systems.{tables_of};
 ghost use Rattle.fmp_slices.specs.Clocks.{time_at};
+ghost use Rattle.fmp_slices.specs.Tracks as lanes;
 ghost use Rattle.fmp_slices.specs.Traces as spec;
 
 use crate::clock::Clock;
@@ -39,6 +41,13 @@ fn numbered(alloc: Global, words: &[u8], place: u8) -> Result<Vec<u8>, AllocErro
     Ok(text)
 }
 
+/// Appends the name of the first group.
+fn append_head(out: &mut Vec<u8>) -> Result<(), AllocError>
+    ensures { OnOk result (out.new.items ≡ out.old.items ++ spec.head_text) }
+{
+    append(HEAD, out)
+}
+
 impl SliceSource<'_> {
     /// When a state begins and ends: that of the end of the run lasts a microsecond after the last event.
     fn span<S>(self, stay: &Stay<S>) -> (u64, u64)
@@ -57,7 +66,10 @@ impl SliceSource<'_> {
     }
 
     /// The names of the groups but the first, and of all tracks.
-    fn append_titles(self, out: &mut Vec<u8>) -> Result<(), AllocError> {
+    fn append_titles(self, out: &mut Vec<u8>) -> Result<(), AllocError>
+        ensures { OnOk result (out.new.items
+            ≡ out.old.items ++ spec.titles_text (tables_of self.entry.sys.now)) }
+    {
         self.append_group(TASKS, b"tasks", out)?;
         self.append_group(EVENTS, b"events", out)?;
         self.append_track(TICKS, b"ticks", out)?;
@@ -66,15 +78,28 @@ impl SliceSource<'_> {
         self.append_task_titles(out)
     }
 
-    fn append_processor_titles(self, out: &mut Vec<u8>) -> Result<(), AllocError> {
+    fn append_processor_titles(self, out: &mut Vec<u8>) -> Result<(), AllocError>
+        ensures { OnOk result (out.new.items
+            ≡ out.old.items ++ spec.processor_titles self.entry.sys.now.processors) }
+    {
         for place in 0..self.sys.processors {
-            let name = numbered(self.alloc, b"processor ", place)?;
-            self.append_track(processor_lane(place), &name, out)?;
+            self.append_processor_title(place, out)?;
         }
         Ok(())
     }
 
-    fn append_task_titles(self, out: &mut Vec<u8>) -> Result<(), AllocError> {
+    fn append_processor_title(self, place: u8, out: &mut Vec<u8>) -> Result<(), AllocError>
+        ensures { OnOk result (out.new.items ≡ out.old.items
+            ++ spec.track_title (lanes.processor_lane place) (codes "processor " ++ decimal (place + 1))) }
+    {
+        let name = numbered(self.alloc, b"processor ", place)?;
+        self.append_track(processor_lane(place), &name, out)
+    }
+
+    fn append_task_titles(self, out: &mut Vec<u8>) -> Result<(), AllocError>
+        ensures { OnOk result (out.new.items ≡ out.old.items
+            ++ spec.texts_from spec.task_title 0 (take 255 (tables_of self.entry.sys.now).tasks)) }
+    {
         for place in 0..self.sys.tasks.len().min(255) as u8 {
             let name = self.sys.tasks[usize::from(place)].name;
             self.append_track(task_lane(place), name.as_bytes(), out)?;
@@ -120,11 +145,15 @@ impl SliceSource<'_> {
         place: u8,
         track: &Track<Occupant>,
         out: &mut Vec<u8>,
-    ) -> Result<(), AllocError> {
+    ) -> Result<(), AllocError>
+        ensures { OnOk result (out.new.items
+            ≡ out.old.items ++ spec.turns_text (spec.source_of self.entry) place track.now) }
+    {
         for number in 0..track.len() {
-            if let Some(stay) = track.stay(number) {
-                self.append_turn(processor_lane(place), &stay, out)?;
-            }
+            let Some(stay) = track.stay(number) else {
+                return Ok(());
+            };
+            self.append_turn(processor_lane(place), &stay, out)?;
         }
         Ok(())
     }
@@ -151,29 +180,43 @@ impl SliceSource<'_> {
         place: u8,
         track: &Track<TaskShown>,
         out: &mut Vec<u8>,
-    ) -> Result<(), AllocError> {
+    ) -> Result<(), AllocError>
+        ensures { OnOk result (out.new.items
+            ≡ out.old.items ++ spec.states_text (spec.source_of self.entry) place track.now) }
+    {
         for number in 0..track.len() {
-            if let Some(stay) = track.stay(number) {
-                self.append_stay(task_lane(place), &stay, out)?;
-            }
+            let Some(stay) = track.stay(number) else {
+                return Ok(());
+            };
+            self.append_stay(task_lane(place), &stay, out)?;
         }
         Ok(())
     }
 
     /// The slices of all processors, and of all tasks.
-    fn append_slices(self, out: &mut Vec<u8>) -> Result<(), AllocError> {
+    fn append_slices(self, out: &mut Vec<u8>) -> Result<(), AllocError>
+        ensures { OnOk result (out.new.items ≡ out.old.items ++ spec.slices_text (spec.source_of self.entry)) }
+    {
         self.append_processors(out)?;
         self.append_tasks(out)
     }
 
-    fn append_processors(self, out: &mut Vec<u8>) -> Result<(), AllocError> {
+    fn append_processors(self, out: &mut Vec<u8>) -> Result<(), AllocError>
+        ensures { OnOk result (out.new.items ≡ out.old.items
+            ++ spec.texts_from (spec.turns_text (spec.source_of self.entry)) 0
+            (take 255 self.entry.run.now.occupants.items)) }
+    {
         for place in 0..self.run.occupants.len().min(255) as u8 {
             self.append_processor(place, &self.run.occupants[usize::from(place)], out)?;
         }
         Ok(())
     }
 
-    fn append_tasks(self, out: &mut Vec<u8>) -> Result<(), AllocError> {
+    fn append_tasks(self, out: &mut Vec<u8>) -> Result<(), AllocError>
+        ensures { OnOk result (out.new.items ≡ out.old.items
+            ++ spec.texts_from (spec.states_text (spec.source_of self.entry)) 0
+            (take 255 self.entry.run.now.tasks.items)) }
+    {
         for place in 0..self.run.tasks.len().min(255) as u8 {
             self.append_task(place, &self.run.tasks[usize::from(place)], out)?;
         }
@@ -223,8 +266,10 @@ impl SliceSource<'_> {
         Ok(())
     }
 
-    fn append_all(self, out: &mut Vec<u8>) -> Result<(), AllocError> {
-        append(HEAD, out)?;
+    fn append_all(self, out: &mut Vec<u8>) -> Result<(), AllocError>
+        ensures { OnOk result (out.new.items ≡ out.old.items ++ spec.trace_text (spec.source_of self.entry)) }
+    {
+        append_head(out)?;
         self.append_titles(out)?;
         self.append_slices(out)?;
         self.append_notes(out)?;
@@ -243,7 +288,14 @@ pub fn trace_events(
     bodies: &[Name],
     run: &Run,
     clock: &Clock,
-) -> Result<Vec<u8>, AllocError> {
+) -> Result<Vec<u8>, AllocError>
+    ensures { IfOk result (λ trace. trace.items ≡ spec.trace_text (record {
+      sys = tables_of sys.now;
+      bodies = bodies.now;
+      run = run.now;
+      times = clock.now.times.items;
+    })) }
+{
     let source = SliceSource {
         alloc,
         sys,

@@ -103,7 +103,7 @@ fn accepted(lines: &[Line]) -> Option<(Call, Caller)> {
     }
 }
 
-/// The task whose place in its queue an event takes anew, by a call that sets its priority.
+/// The task that gets a new place in its queue by an event, which calls a service that sets its priority.
 fn replaced_task(lines: &[Line]) -> Option<u8> {
     match accepted(lines)? {
         (Call::ChgPri { task, .. }, caller) => task_named(task, caller),

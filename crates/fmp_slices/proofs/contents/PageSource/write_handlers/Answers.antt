@@ -1,0 +1,8 @@
+use Rattle.fmp_slices.proofs.Kept.{keeps_then, list_kept}
+use Rattle.fmp_slices.proofs.contents.PageSource.write_handlers.Goals as goal
+
+pub returns-clause-tokens : goal.returns-clause-tokens
+returns-clause-tokens c =
+    list_kept c.end_list.result _ _ _ _ _ _ c.in_ok-begin_list.ensures.tokens
+    (keeps_then _ _ _ c.loop-place.invariant.tokens c.loop-config.invariant.tokens)
+    c.end_list.ensures.tokens

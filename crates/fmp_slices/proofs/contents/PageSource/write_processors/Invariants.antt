@@ -1,0 +1,10 @@
+use Rattle.std.proofs.Common.{◌≡◌}
+use Rattle.fmp_slices.specs.Contents.{Keeps}
+use Rattle.fmp_slices.proofs.contents.PageSource.write_processors.Given as goal
+
+abbrev pub invariant-loop-place : goal.invariant-loop-place
+invariant-loop-place l =
+    record {
+      before : l.writer.before ≡ l.initial.writer.before;
+      tokens : Keeps l.initial.writer.tokens l.writer.tokens;
+    }
