@@ -18,12 +18,21 @@ use Rattle.fmp_schedules.specs.declared.monitor.Monitor.{Monitor}
 use Rattle.fmp_visited.specs.declared.link.StateLink.{StateLink}
 use Rattle.fmp_visited.specs.declared.link.RowEntry.{RowEntry}
 use Rattle.fmp_visited.specs.declared.link.RowEntry.TheVariants as entry
+use Rattle.fmp_visited.specs.Rows.{row_of}
 use Rattle.fmp_visited.specs.Seen.{Adds, SeenStates, with_state}
 use Rattle.fmp_base.specs.Systems.{SystemTables}
 use Rattle.fmp_witness.proofs.OverLemmas.{Kernels}
 use Rattle.fmp_explore.proofs.StateLemmas.{element_last, grown}
 use Rattle.fmp_witness.specs.Asked.{Asked}
-use Rattle.fmp_explore.specs.Searching.{IsKernelOf}
+use Rattle.fmp_explore.specs.Searching.{HasTold, IsKernelOf}
+
+-- what is known of the numbers that were taken last stays so
+pub told_rows : (r s : Rows) (row : List ℕ) → s.first.items ≡ r.first.items → s.told.items ≡ r.told.items
+    → s.exact ≡ r.exact → HasTold r row → HasTold s row
+told_rows r s row first told exact has e =
+    has (sym exact ∙ e)
+    ∙ (ap (λ (xs : List ℕ). row_of xs r.told.items) (sym first)
+    ∙ ap (λ (xs : List ℕ). row_of s.first.items xs) (sym told))
 
 -- what becomes of the states where a row is looked up
 adds_at : (old new : SeenStates) (row : List ℕ) (link : StateLink) (x y : RowEntry) → x ≡ y → Adds old new row link x

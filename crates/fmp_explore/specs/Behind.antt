@@ -1,4 +1,4 @@
--- What a search that begins behind events shows.
+-- What a search that begins after events shows.
 use Rattle.std.specs.Prelude.{ℕ, ◌≡◌, List, [], ◌∷◌, false}
 use Rattle.fmp_base.specs.declared.events.Event.{Event}
 use Rattle.fmp_base.specs.Runs.{run}
@@ -10,7 +10,7 @@ use Rattle.fmp_schedules.specs.Schedules.{is_told, reached}
 use Rattle.fmp_schedules.specs.Stuck.{MayFollow, acts}
 use Rattle.fmp_witness.specs.Asked.{Asked, meaning_of}
 
--- where nothing is watched, whatever events follow those behind which a search begins, as the rules let them come, no
+-- where nothing is watched, whatever events follow those after which a search begins, as the rules let them come, no
 -- forbidden line is told
 abbrev pub NoneFollows : Asked → Type 0
 NoneFollows asked =
@@ -30,7 +30,7 @@ NeverActs asked es t =
     (run asked.image.system (meaning_of asked) asked.bound
     (reached asked.image.system (meaning_of asked) asked.bound es) more).events ≡ false
 
--- a question asks whether task t acts behind these events, by the rules of another one without limits of single
+-- a question asks whether task t acts after these events, by the rules of another one without limits of single
 -- interrupts
 pub record IsAbout (q : Question) (es : List Event) (t : ℕ) (about : Question) : Type 0 where
   pub nevers : about.nevers.items ≡ kind.Acts t ∷ []

@@ -1,7 +1,8 @@
 -- What holds of a search under way.
 use Rattle.std.specs.Prelude.{ℕ, ◌≡◌, ◌+◌, ◌<◌, ◌≤◌, ◌^◌, List, [], ◌++◌, Option, Some, None, true, false, count_by}
 use Rattle.std.specs.Prelude.{◌*◌, All, is_some, length}
-use Rattle.std.specs.Prelude.{slice_get}
+use Rattle.std.specs.Prelude.{slice_get, unwrap_or}
+use Rattle.fmp_visited.specs.Rows.{row_of}
 use Rattle.fmp_base.specs.declared.events.Effect.{Effect}
 use Rattle.fmp_base.specs.declared.events.Event.{Event}
 use Rattle.fmp_base.specs.declared.events.Event.TheVariants as event
@@ -89,6 +90,14 @@ rows_of s =
 -- the live locals by which rows are written are those of the image
 abbrev pub HasLive : Asked → Rows → Type 0
 HasLive asked r = AreLiveTables r.outs asked.image.code (live_tables r.live)
+
+-- the numbers that were taken last are those of a row, if the row was found to be the one that is written for them
+abbrev pub HasTold : Rows → (row : List ℕ) → Type 0
+HasTold r row = r.exact ≡ true → row ≡ row_of r.first.items r.told.items
+
+-- the same of the row of the state that is examined
+abbrev pub IsTold : Search → ExaminedState → Type 0
+IsTold s at = HasTold s.rows (unwrap_or (slice_get s.seen.rows at.state) [])
 
 -- the fields, the live locals and the events of a search are those of its image
 pub record IsSearchOf (asked : Asked) (s : Search) : Type 0 where
@@ -189,7 +198,7 @@ pub record HasRequest (asked : Asked) (w : World MachineContext) (a : Watched) :
   pub may : may_still asked.question.interrupts a.came ≡ true
   pub does : reaction_in asked w (event.Int number) ≡ Nothing → ⊥
 
--- what was done in a world is so
+-- these marks tell what was done in a world
 pub record AreMarks (asked : Asked) (w : World MachineContext) (a : Watched) (m : StateMarks) : Type 0 where
   pub idle :
       m.idle ≡ false → none_runs asked.image.system (meaning_of asked) asked.bound w asked.image.system.processors

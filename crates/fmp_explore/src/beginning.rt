@@ -1,4 +1,4 @@
-//! How a search begins: the state behind the events where it does is kept.
+//! How a search begins: the state after the events with which it begins is kept.
 ghost use Rattle.std.specs.Prelude.{◌≡◌, [], OnOk, count_by, false, true};
 ghost use Rattle.std.specs.List.{list_any};
 ghost use Rattle.fmp_replay.specs.Replays.{kernel_after};
@@ -64,7 +64,7 @@ impl Search {
         )
     }
 
-    /// Keeps the first state, that of a kernel which has taken the events behind which the search begins, with its
+    /// Keeps the first state, that of a kernel which has taken the events after which the search begins, with its
     /// monitors. `AllocError` if memory runs out.
     fn keep_first(
         &mut self,
@@ -94,8 +94,8 @@ impl Search {
         self.keep(alloc, subject, kernel, came, monitors, link)
     }
 
-    /// Takes the events behind which the search begins on a kernel that was just set up, and keeps the state after
-    /// them, where the monitors are these at setup. `AllocError` if memory runs out.
+    /// Takes the events after which the search begins on a kernel that was just set up, and keeps the state after them,
+    /// where the monitors are these at setup. `AllocError` if memory runs out.
     fn begin_behind(
         &mut self,
         alloc: Global,
@@ -121,8 +121,8 @@ impl Search {
         self.keep_first(alloc, subject, kernel, monitors)
     }
 
-    /// Keeps the state after the events behind which the search begins, on a kernel that was just set up. `AllocError`
-    /// if memory runs out.
+    /// Keeps the state after the events with which the search begins, on a kernel that was just set up. `AllocError` if
+    /// memory runs out.
     fn begin_on(
         &mut self,
         alloc: Global,
@@ -140,7 +140,7 @@ impl Search {
         self.begin_behind(alloc, subject, kernel, &monitors)
     }
 
-    /// Keeps the state after the events behind which the search begins. `AllocError` if memory runs out.
+    /// Keeps the state after the events with which the search begins. `AllocError` if memory runs out.
     pub fn begin(&mut self, alloc: Global, subject: &SearchSubject<'_>) -> Result<(), AllocError>
         requires { IsFresh (asked_of subject.now) self.old }
         ensures { OnOk result (IsBegun (asked_of subject.now) self.new) }

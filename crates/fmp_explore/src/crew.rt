@@ -14,9 +14,9 @@ use std::alloc::{AllocError, Global};
 use std::thread::Threads;
 use std::{mem, thread};
 
-/// Who examines slices of a search beside one another.
+/// Who examines slices of a search at the same time.
 pub trait Crew {
-    /// What has to be so of one that examines slices: that threads may share its handle.
+    /// What it needs to examine slices: threads may share its handle.
     ghost can_work: { Self → Type 0 };
 
     /// How many slices are examined at once; less than two if none are.
@@ -35,8 +35,8 @@ pub trait Crew {
         requires whole { IsSearch (asked_of subject.now) whole.now }
         ensures { IfOk result (λ slices. AreTakenOver (asked_of subject.now) whole.now slices.items) };
 
-    /// Examines slices beside one another, and does something else beside them. `AllocError` if memory ran out for all
-    /// of them.
+    /// Examines slices at the same time, and does something else meanwhile. `AllocError` if memory ran out for all of
+    /// them.
     fn examine_beside<B, G: FnMut() -> B>(
         &self,
         alloc: Global,
@@ -87,7 +87,7 @@ impl Crew for Alone {
 /// How many states are entered in about the time in which one is examined.
 const ENTERED_MEANWHILE: usize = 8;
 
-/// Threads, this many with the one that searches.
+/// Threads, this many in all, with the one that searches.
 #[derive(Clone, Copy)]
 pub struct Workers<'r, R> {
     pub rt: &'r R,

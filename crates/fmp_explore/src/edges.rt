@@ -1,5 +1,5 @@
 //! The events between the states of a search, and who acted by them. They tell where to look for a task that can never
-//! go on: nothing is claimed of them.
+//! go on; no claim rests on them.
 ghost use Rattle.std.specs.Prelude.{◌≡◌, [], false, true};
 
 use crate::actors::ActorBits;
@@ -70,7 +70,7 @@ impl Edges {
         self.targets.len()
     }
 
-    /// Gives up: all is forgotten, and nothing more is noted.
+    /// Gives up: everything is dropped, and nothing more is noted.
     pub fn give_up(&mut self, alloc: Global)
         ensures targets { self.new.targets.count ≡ 0 }
         ensures ends { self.new.ends.items ≡ [] }
@@ -98,7 +98,7 @@ impl Edges {
         }
     }
 
-    /// An event leads from the state that is examined to one whose row was looked up so.
+    /// An event leads from the state that is examined to the state of this entry of the table.
     pub fn note_entry(&mut self, alloc: Global, entry: RowEntry) {
         if let RowEntry::Known(state) = entry
             && !self.lost
@@ -149,8 +149,8 @@ impl Edges {
         }
     }
 
-    /// The state that is examined is a deadlock, or an event is left out in it: no task is told to be stuck from which
-    /// it can be reached.
+    /// The state that is examined is a deadlock, or an event is left out in it: no task is reported as stuck in a state
+    /// from which this one can be reached.
     pub fn note_end(&mut self, alloc: Global) {
         let state = self.targets.last();
         if self.lost || self.ends.last() == Some(&state) {
@@ -182,7 +182,7 @@ impl Edges {
         Ok(())
     }
 
-    /// The same. Where some of them are missing, all is forgotten.
+    /// Adds the events of a slice. If some of them are missing, all is forgotten.
     pub fn join(&mut self, alloc: Global, other: &Edges, states: EnteredStates<'_>) {
         if self.lost {
             return;

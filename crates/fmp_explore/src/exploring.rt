@@ -26,11 +26,11 @@ use std::thread::Threads;
 #[derive(Clone, Copy)]
 pub enum StuckSearch {
     /// They were looked for: every state was examined, and each task that seemed to be stuck is a finding or is not
-    /// stuck. Where one is enough, those after the first are left.
+    /// stuck. If one is enough, those after the first were not looked at.
     Done,
     /// They were not looked for: some state was not examined, or something else was found and no more was asked for.
     Skipped,
-    /// The search for them stopped at this limit. Those that were found up to there are told.
+    /// The search for them stopped at this limit. Those that were found before are reported.
     Stopped(SearchLimit),
 }
 
@@ -55,7 +55,7 @@ pub struct Report {
     /// Whether in a state that can go on only by an interrupt a task that may not rest waits, and can go on later.
     /// False where stuck tasks were not looked for.
     pub waits: bool,
-    /// What was ever done.
+    /// Which calls were ever made, and which answers and values came up.
     pub coverage: Coverage,
     /// For each monitor of the question, whether what its sentence speaks of ever came, so that it says something.
     pub premises: Vec<bool>,
@@ -311,12 +311,12 @@ fn explore_subject<W: SearchWatcher, C: Crew>(
     }
 }
 
-/// Explores the schedules of an image, in which a stretch of a body takes at most n instructions. Each
-/// finding is so: its events do something, one after the other, and after them it is seen. If the report holds, no
-/// schedule that the question allows tells a forbidden line, gives a call an answer that it must never get, breaks a
-/// sentence, or reaches a deadlock, however long it is. If it does not hold and has no finding, nothing is claimed.
-/// Stuck tasks are looked for only where every state was examined, and no longer than the watcher gives time.
-/// `AllocError` if there is no memory to begin with, or for the findings.
+/// Explores the schedules of an image, in which a stretch of a body takes at most n instructions. Each finding is true:
+/// its events do something, one after the other, and after them it is seen. If the report holds, no schedule that the
+/// question allows tells a forbidden line, gives a call an answer that it must never get, breaks a sentence, or reaches
+/// a deadlock, however long it is. If it does not hold and has no finding, nothing is claimed. Stuck tasks are looked
+/// for only where every state was examined, and no longer than the watcher gives time. `AllocError` if there is no
+/// memory to begin with, or for the findings.
 pub fn explore<W: SearchWatcher>(
     alloc: Global,
     image: &Image,
@@ -336,8 +336,8 @@ pub fn explore<W: SearchWatcher>(
     explore_subject(alloc, &Alone, &subject, watcher)
 }
 
-/// The same, by as many threads as there are jobs, or one after the other where none can be made. What it gives is the
-/// same for each number of jobs, but where its time is over.
+/// As `explore`, by as many threads as there are jobs, or by one if no other can be made. The result is the same for
+/// each number of jobs, unless its time runs out.
 pub fn explore_beside<W: SearchWatcher, R: Threads + Sync>(
     alloc: Global,
     rt: &R,

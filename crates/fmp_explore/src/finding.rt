@@ -1,4 +1,4 @@
-//! Which of the candidates that a search has noted are so, and which of them are told.
+//! Which of the candidates that a search has noted are true, and which of them are reported.
 ghost use Rattle.std.specs.Prelude.{◌≡◌, [], ◌∷◌, ◌++◌, IfOk, IsTrue, OnErr, OnOk};
 ghost use Rattle.fmp_witness.specs.Findings.{IsSo};
 ghost use Rattle.fmp_witness.specs.Asked.{asked_of};
@@ -12,7 +12,7 @@ use fmp_replay::kernel_of;
 use fmp_witness::{Finding, FindingKind, SearchSubject, is_so};
 use std::alloc::{AllocError, Global};
 
-/// Whether each of these events does something, and this is known to be seen after them. No claims nothing.
+/// Whether each of these events does something, and this is known to be seen after them. The answer no claims nothing.
 /// `AllocError` if memory runs out.
 fn is_shown(
     alloc: Global,
@@ -58,7 +58,7 @@ fn add_if_found(
     Ok(())
 }
 
-/// Those of the candidates that are so; of stuck tasks none. `AllocError` if memory runs out.
+/// The candidates that are true; stuck tasks are left out. `AllocError` if memory runs out.
 pub fn confirmed(
     alloc: Global,
     subject: &SearchSubject<'_>,
@@ -158,7 +158,7 @@ pub fn add_stuck<W: SearchWatcher>(
     Ok(())
 }
 
-/// The place of the first of the shortest findings, but for those beside which a search goes on; behind all of them if
+/// The place of the first of the shortest findings, but for those beside which a search goes on; after all of them if
 /// there is no other.
 fn shortest(findings: &[Finding]) -> usize {
     let mut place = findings.len();

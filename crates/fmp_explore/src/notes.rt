@@ -57,7 +57,7 @@ pub struct Notes {
     pub events: u64,
 }
 
-/// Where a list of events ends: with those that lead to a state from those behind which a search begins, or with one
+/// Where a list of events ends: with those that lead to a state from those after which a search begins, or with one
 /// more.
 #[derive(Clone, Copy)]
 pub struct PathEnd<'a> {
@@ -100,7 +100,7 @@ impl Path<'_> {
     }
 }
 
-/// Whether a search goes on beside a finding where only the first is asked for: a body that goes on for ever hides
+/// Whether a search goes on after such a finding though only the first is asked for: a body that goes on for ever hides
 /// nothing else.
 pub fn is_beside(found: &Finding) -> bool
     ensures { result ≡ goes_on_beside found.now.kind }
@@ -213,8 +213,8 @@ impl Notes {
         }
     }
 
-    /// Nothing is noted yet but what is known of bodies that may go on for ever, and nothing can be covered.
-    /// `AllocError` if memory runs out.
+    /// Only what is known of bodies that may go on for ever is noted, and nothing can be covered. `AllocError` if
+    /// memory runs out.
     pub fn again(&self, alloc: Global) -> Result<Notes, AllocError>
         ensures candidates { IfOk result (λ notes. notes.candidates.items ≡ []) }
         ensures known { IfOk result (λ notes. notes.outlooks.known.items ≡ self.now.outlooks.known.items) }
@@ -301,7 +301,7 @@ impl Notes {
             && !is_beside(&known.finding))
     }
 
-    /// Whether anything beside which the search does not go on is noted.
+    /// Whether anything is noted after which the search does not go on.
     pub fn has_any(&self) -> bool
         ensures { result ≡ list_any (λ known. not (goes_on_beside known.finding.kind)) self.now.candidates.items }
     {

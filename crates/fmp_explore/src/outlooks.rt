@@ -1,4 +1,4 @@
-//! Which bodies go on for ever, as far as that was looked at: what is known of the contexts that were broken last.
+//! Which bodies go on for ever, as far as known: what was found of the contexts at which stretches were cut last.
 ghost use Rattle.std.specs.Prelude.{◌<◌, ◌≡◌, [], IfOk, false, length};
 ghost use Rattle.fmp_code.specs.Vms.{IsContext};
 
@@ -50,7 +50,7 @@ impl Outlooks {
         }
     }
 
-    /// The same is known, and nothing was remembered since. `AllocError` if memory runs out.
+    /// A copy that knows the same, and has remembered nothing since. `AllocError` if memory runs out.
     pub fn again(&self, alloc: Global) -> Result<Outlooks, AllocError>
         ensures known { IfOk result (λ again. again.known.items ≡ self.now.known.items) }
         ensures unknown { IfOk result (λ again. again.unknown.items ≡ self.now.unknown.items) }

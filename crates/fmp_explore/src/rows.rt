@@ -1,9 +1,10 @@
 //! Rows of the states of a system.
-ghost use Rattle.std.specs.Prelude.{◌≡◌, ◌+◌, ◌*◌, ◌<◌, ◌^◌, IfOk, OnOk, is_some, length, true};
+ghost use Rattle.std.specs.Prelude.{◌≡◌, ◌+◌, ◌*◌, ◌<◌, ◌^◌, ℕ, List, IfOk, OnOk, is_some, length, true};
 ghost use Rattle.fmp_fields.specs.Fields.{AreAllFields};
 ghost use Rattle.fmp_live.specs.LiveLocals.{AreLiveTables, live_tables};
 ghost use Rattle.fmp_explore.specs.States.{IsRowOf, numbers_in};
-ghost use Rattle.fmp_explore.specs.Searching.{CanStep, HasLive, IsKernelOf, IsStateFor};
+ghost use Rattle.fmp_explore.specs.Searching.{CanStep, HasLive, HasTold, IsKernelOf, IsStateFor};
+ghost use Rattle.fmp_visited.specs.Rows.{row_of};
 ghost use Rattle.fmp_witness.specs.Asked.{asked_of};
 
 use crate::standings::{monitors_told, push_standings};
@@ -15,7 +16,7 @@ use fmp_kernel::{ContextTest, Kernel};
 use fmp_live::{LiveLocals, live_locals};
 use fmp_reachable::soundness::is_sound;
 use fmp_schedules::Monitor;
-use fmp_visited::{pack, unpack};
+use fmp_visited::{pack, unpack_checked};
 use fmp_witness::SearchSubject;
 use std::alloc::{AllocError, Global};
 
@@ -45,9 +46,13 @@ pub struct Rows {
     pub outs: bool,
     /// The live locals of the bodies.
     pub live: LiveLocals,
-    /// The numbers in the first state, and in the one that was looked at last.
+    /// The numbers in the first state, and in that of the kernel that was looked at last.
     pub first: Vec<u32>,
     numbers: Vec<u32>,
+    /// The numbers that were taken from the row of a state.
+    told: Vec<u32>,
+    /// Whether that row is the one that is written for these numbers.
+    exact: bool,
     pub row: Vec<u8>,
     /// The state that was restored last.
     saved: SavedRow,
@@ -60,6 +65,25 @@ fn write_row(numbers: &[u32], first: &[u32], row: &mut Vec<u8>) -> Result<(), Al
     pack(numbers, first, row)
 }
 
+/// Whether two lists of numbers are the same.
+fn are_same(a: &[u32], b: &[u32]) -> bool
+    ensures { result ≡ true → a.now ≡ b.now }
+{
+    a == b
+}
+
+/// Whether these numbers are the ones that were taken from a row, and the row is exact: the one that is written for
+/// them.
+fn tells(exact: bool, told: &[u32], numbers: &[u32]) -> bool
+    ensures { result ≡ true → (first row : List ℕ) → (exact ≡ true → row ≡ row_of first told.now) →
+        IsRowOf first numbers.now row }
+{
+    if !exact {
+        return false;
+    }
+    are_same(told, numbers)
+}
+
 /// How many interrupts came, where their number is limited: that is the first of these numbers.
 fn came_in(numbers: &[u32], limited: bool) -> usize
     ensures { limited ≡ true → result < 256 }
@@ -70,7 +94,7 @@ fn came_in(numbers: &[u32], limited: bool) -> usize
     }
 }
 
-/// The numbers behind as many as there are fields.
+/// The numbers after those of the fields.
 fn behind_fields(numbers: &[u32], fields: usize) -> &[u32] {
     &numbers[fields.min(numbers.len())..]
 }
@@ -92,6 +116,8 @@ impl Rows {
             live: live_in(alloc, outs, subject.image),
             first: Vec::new(alloc),
             numbers: Vec::new(alloc),
+            told: Vec::new(alloc),
+            exact: false,
             row: Vec::new(alloc),
             saved: SavedRow::new(alloc),
         })
@@ -113,6 +139,8 @@ impl Rows {
             live: live_in(alloc, self.outs, subject.image),
             first,
             numbers: Vec::new(alloc),
+            told: Vec::new(alloc),
+            exact: false,
             row: Vec::new(alloc),
             saved: SavedRow::new(alloc),
         })
@@ -133,6 +161,7 @@ impl Rows {
 
     /// Writes the numbers of a kernel's state, where this many interrupts came, with 0 for each dead local, and of its
     /// monitors.
+    #[inline(always)]
     fn write_numbers(
         &mut self,
         kernel: &Kernel<Vm<'_>>,
@@ -143,6 +172,8 @@ impl Rows {
         ensures outs { self.new.outs ≡ self.old.outs }
         ensures live { self.new.live ≡ self.old.live }
         ensures first { self.new.first.items ≡ self.old.first.items }
+        ensures told { self.new.told.items ≡ self.old.told.items }
+        ensures exact { self.new.exact ≡ self.old.exact }
         ensures numbers { OnOk result (self.new.numbers.items ≡ numbers_in kernel.now.system (live_tables self.old.live)
             self.old.fields.items kernel.now.world came monitors.now) }
     {
@@ -170,6 +201,29 @@ impl Rows {
         write_row(&self.numbers, &self.first, &mut self.row)
     }
 
+    /// Whether a kernel's state, where this many interrupts came, with 0 for each dead local and with its monitors, has
+    /// the row from which numbers were taken last: false too where that row is not the one that is written for them.
+    /// `AllocError` if memory runs out.
+    pub fn has_told(
+        &mut self,
+        kernel: &Kernel<Vm<'_>>,
+        came: usize,
+        monitors: &[Monitor],
+    ) -> Result<bool, AllocError>
+        ensures fields { self.new.fields.items ≡ self.old.fields.items }
+        ensures outs { self.new.outs ≡ self.old.outs }
+        ensures live { self.new.live ≡ self.old.live }
+        ensures first { self.new.first.items ≡ self.old.first.items }
+        ensures told { self.new.told.items ≡ self.old.told.items }
+        ensures exact { self.new.exact ≡ self.old.exact }
+        ensures row { IfOk result (λ yes. yes ≡ true → (row : List ℕ) → HasTold self.old row →
+            IsRowOf self.old.first.items (numbers_in kernel.now.system (live_tables self.old.live)
+            self.old.fields.items kernel.now.world came monitors.now) row) }
+    {
+        self.write_numbers(kernel, came, monitors)?;
+        Ok(tells(self.exact, &self.told, &self.numbers))
+    }
+
     /// Takes the numbers of a row, which is that of the state at this place and depth: what is watched there, as they
     /// tell. `AllocError` if memory runs out.
     pub fn examined(
@@ -186,11 +240,12 @@ impl Rows {
         ensures first { self.new.first.items ≡ self.old.first.items }
         ensures state { IfOk result (λ at. at.state ≡ state) }
         ensures told { IfOk result (IsStateFor (asked_of subject.now)) }
+        ensures row { IfOk result (λ _. HasTold self.new row.now) }
     {
-        unpack(row, &self.first, &mut self.numbers)?;
+        self.exact = unpack_checked(row, &self.first, &mut self.told)?;
         let question = subject.question;
-        let came = came_in(&self.numbers, question.interrupts.is_some());
-        let kept = behind_fields(&self.numbers, self.fields.list().len());
+        let came = came_in(&self.told, question.interrupts.is_some());
+        let kept = behind_fields(&self.told, self.fields.list().len());
         let monitors = monitors_told(alloc, &question.monitors, kept)?;
         Ok(ExaminedState {
             state,
@@ -214,10 +269,12 @@ impl Rows {
         ensures outs { self.new.outs ≡ self.old.outs }
         ensures live { self.new.live ≡ self.old.live }
         ensures first { self.new.first.items ≡ self.old.first.items }
+        ensures told { self.new.told.items ≡ self.old.told.items }
+        ensures exact { self.new.exact ≡ self.old.exact }
         ensures over { IsKernelOf (asked_of subject.now) kernel.new }
         ensures restored { IfOk result (λ restored. restored ≡ true → CanStep (asked_of subject.now) kernel.new) }
     {
-        self.saved.fill(&self.fields, &self.numbers)?;
+        self.saved.fill(&self.fields, &self.told)?;
         if !kernel.restore(fallback, self.saved.saved(), &CodeTest) {
             return Ok(false);
         }

@@ -1,5 +1,5 @@
 //! What a search keeps: the states that it has seen, and what it has noted on its way.
-ghost use Rattle.std.specs.Prelude.{◌≡◌, ◌-◌, List, IfOk, None, OnOk, false, length, true};
+ghost use Rattle.std.specs.Prelude.{◌≡◌, ◌-◌, [], List, IfOk, None, OnOk, false, length, true};
 ghost use Rattle.std.specs.List.{list_all, list_any};
 ghost use Rattle.fmp_base.specs.Meanings.{World};
 ghost use Rattle.fmp_instructions.specs.Instructions.{BodyTables};
@@ -54,6 +54,13 @@ fn is_used_up(monitors: &[Monitor], event: Event) -> bool {
     })
 }
 
+/// Whether there are no monitors.
+fn are_none(monitors: &[Monitor]) -> bool
+    ensures { result ≡ true → monitors.now ≡ [] }
+{
+    monitors.is_empty()
+}
+
 /// A search under way.
 #[derive(Drop)]
 pub struct Search {
@@ -63,7 +70,7 @@ pub struct Search {
     pub seen: Seen,
     pub notes: Notes,
     pub edges: Edges,
-    /// Whether a state could not be kept, since as many are as are allowed.
+    /// Whether a state could not be kept, since the greatest number is kept already.
     pub full: bool,
     /// Whether an answer left the local at the out place of its call as it was, where it counts as written.
     pub unwritten: bool,
@@ -119,7 +126,7 @@ impl Search {
         varieties(alloc, &self.seen, &self.rows.first, self.rows.fields.list())
     }
 
-    /// The events that lead to a state, with those behind which the search began. `AllocError` if memory runs out.
+    /// The events that lead to a state, with those after which the search began. `AllocError` if memory runs out.
     pub fn steps_to(
         &self,
         alloc: Global,
@@ -206,6 +213,9 @@ impl Search {
         ensures stays { OnOk result (Stays self.old self.new) }
         ensures clean { OnOk result (self.new.sure ≡ true → is_any_broken monitors.now lines.now ≡ false) }
     {
+        if are_none(monitors) {
+            return Ok(());
+        }
         let path = end.among(&self.seen);
         let found = self
             .notes
@@ -324,6 +334,9 @@ impl Search {
     {
         let before = &attempt.at.monitors;
         self.note_lines(alloc, subject, kernel, attempt, made, before)?;
+        if are_none(before) {
+            return self.keep_next(alloc, subject, kernel, attempt, false, before);
+        }
         let monitors = monitors_after(alloc, before, kernel.lines())?;
         self.keep_next(alloc, subject, kernel, attempt, false, &monitors)
     }
@@ -337,7 +350,7 @@ impl Search {
         }
     }
 
-    /// An event is done, by a stretch that made this call, if it made one. If it leaves more queued than may be, or a
+    /// An event is done, by a stretch that made this call, if it made one. If it leaves more queued than allowed, or a
     /// limit holds it back, it may not come, and is left out.
     fn note_done_within(
         &mut self,

@@ -44,12 +44,13 @@ use fmp_replay::kernel_of;
 use fmp_witness::{FindingKind, SearchSubject};
 use std::alloc::{AllocError, Global};
 
-/// Who is told how far a search has come.
+/// Who is told how far a search has come, and limits its time.
 pub trait SearchWatcher {
     /// There are 2^14 states, or twice as many as when this was told last. The last one is this deep.
     fn grown(&mut self, states: usize, examined: usize, depth: u32);
 
-    /// Whether the search has had its time. It is asked before each state is examined, or before each round of slices.
+    /// Whether the time of the search is over. This is asked before each state is examined, or before each round of
+    /// slices.
     fn is_over(&mut self) -> bool;
 }
 
@@ -60,7 +61,7 @@ pub enum Ending {
     Whole,
     /// Something was found, and no more was asked for.
     Enough,
-    /// As many states were kept as are allowed.
+    /// The greatest number of states was kept.
     States,
     /// The time that is allowed was over.
     Time,
@@ -641,7 +642,7 @@ impl Search {
         ending
     }
 
-    /// The same, with both kernels of its own. `AllocError` if memory runs out.
+    /// Runs the search to its end, with kernels of its own. `AllocError` if memory runs out.
     #[tactic(none)]
     pub fn run<W: SearchWatcher, C: Crew>(
         &mut self,

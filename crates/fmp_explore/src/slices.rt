@@ -1,5 +1,5 @@
-//! Slices: states that a search keeps and has not examined yet, handed to a search of their own that examines them.
-//! What that finds is the same wherever it runs, so slices can be examined beside one another, and beside the search
+//! Slices: states that a search keeps and has not examined yet, handed to a search of their own that examines them. The
+//! result is the same wherever it runs, so slices can be examined at the same time as one another, and as the search
 //! itself.
 ghost use Rattle.std.specs.Prelude.{◌≡◌, ◌-◌, ◌≤◌, IfOk, OnOk, Some, length, slice_get, true};
 ghost use Rattle.fmp_explore.specs.Searching.{Grows, HasExamined, IsKernelOf, IsSearch, Stays};

@@ -1,8 +1,9 @@
 //! How a kernel comes into a state that is examined: it is restored from the state's row, or takes the events that lead
-//! there. Either way it is in the state only where its own row is that of the state.
-ghost use Rattle.std.specs.Prelude.{◌≡◌, ◌<◌, [], IfOk, length, true};
+//! there. Either way it counts as being in the state only if its own row is that of the state.
+ghost use Rattle.std.specs.Prelude.{◌≡◌, ◌<◌, [], IfOk, length, slice_get, true, unwrap_or};
 ghost use Rattle.fmp_replay.specs.Replays.{kernel_after};
-ghost use Rattle.fmp_explore.specs.Searching.{CanStep, HasLive, IsKernelOf, IsStateFor, StandsAt, Stays};
+ghost use Rattle.fmp_explore.specs.Searching.{CanStep, HasLive, HasTold, IsKernelOf, IsStateFor, IsTold};
+ghost use Rattle.fmp_explore.specs.Searching.{StandsAt, Stays};
 ghost use Rattle.fmp_witness.specs.Asked.{asked_of};
 
 use crate::searches::Search;
@@ -74,14 +75,16 @@ impl Search {
         ensures stays { Stays self.old self.new }
         ensures state { IfOk result (λ at. at.state ≡ state) }
         ensures told { IfOk result (IsStateFor (asked_of subject.now)) }
+        ensures row { IfOk result
+            (λ _. HasTold self.new.rows (unwrap_or (slice_get self.new.seen.rows state) [])) }
     {
         let depth = self.depth_of(state);
         self.rows
             .examined(alloc, subject, self.seen.row(state), state, depth)
     }
 
-    /// Whether the row of a kernel that can take an event is that of the state that is examined. `AllocError` if memory
-    /// runs out.
+    /// Whether the row of a kernel that can take an event is that of the state that is examined, whose numbers were
+    /// taken last. `AllocError` if memory runs out.
     fn has_row(
         &mut self,
         subject: &SearchSubject<'_>,
@@ -90,13 +93,14 @@ impl Search {
     ) -> Result<bool, AllocError>
         requires live { HasLive (asked_of subject.now) self.old.rows }
         requires there { at.now.state < length self.old.seen.rows }
+        requires told { IsTold self.old at.now }
         requires state { IsStateFor (asked_of subject.now) at.now }
         requires ready { CanStep (asked_of subject.now) kernel.now }
         ensures stays { Stays self.old self.new }
+        ensures told { IsTold self.new at.now }
         ensures stands { IfOk result (λ yes. yes ≡ true → StandsAt (asked_of subject.now) self.new at.now kernel.now) }
     {
-        self.rows.write(kernel, at.came, &at.monitors)?;
-        Ok(is_same(self.seen.row(at.state), &self.rows.row))
+        self.rows.has_told(kernel, at.came, &at.monitors)
     }
 
     /// Puts a kernel into the state that is examined by the events that lead there: whether it is there. `AllocError`
@@ -110,6 +114,7 @@ impl Search {
     ) -> Result<bool, AllocError>
         requires live { HasLive (asked_of subject.now) self.old.rows }
         requires there { at.now.state < length self.old.seen.rows }
+        requires told { IsTold self.old at.now }
         requires state { IsStateFor (asked_of subject.now) at.now }
         requires over { IsKernelOf (asked_of subject.now) kernel.old }
         ensures stays { Stays self.old self.new }
@@ -133,11 +138,13 @@ impl Search {
     ) -> Result<bool, AllocError>
         requires live { HasLive (asked_of subject.now) self.old.rows }
         requires there { at.now.state < length self.old.seen.rows }
+        requires told { IsTold self.old at.now }
         requires state { IsStateFor (asked_of subject.now) at.now }
         requires other { IsKernelOf (asked_of subject.now) other.now }
         requires over { IsKernelOf (asked_of subject.now) kernel.old }
         ensures stays { Stays self.old self.new }
         ensures over { IsKernelOf (asked_of subject.now) kernel.new }
+        ensures told { IsTold self.new at.now }
         ensures stands { IfOk result (λ yes. yes ≡ true → StandsAt (asked_of subject.now) self.new at.now kernel.new) }
     {
         if !self.rows.restore(subject, other, kernel)? {
@@ -158,6 +165,7 @@ impl Search {
     ) -> Result<bool, AllocError>
         requires live { HasLive (asked_of subject.now) self.old.rows }
         requires there { at.now.state < length self.old.seen.rows }
+        requires told { IsTold self.old at.now }
         requires state { IsStateFor (asked_of subject.now) at.now }
         requires other { IsKernelOf (asked_of subject.now) other.now }
         requires over { IsKernelOf (asked_of subject.now) kernel.old }

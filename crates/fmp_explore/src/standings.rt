@@ -98,7 +98,7 @@ fn monitor_told(monitor: &Monitor, standing: Standing) -> Monitor
     }
 }
 
-/// These monitors, which keep what these numbers say. `AllocError` if memory runs out.
+/// These monitors, each with what these numbers say that it keeps. `AllocError` if memory runs out.
 pub fn monitors_told(
     alloc: Global,
     monitors: &[Monitor],

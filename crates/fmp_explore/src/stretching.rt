@@ -17,7 +17,7 @@ pub enum NextStretch {
     None,
     /// With the call at this place.
     Calls(CallSite),
-    /// The body ends, or stops with a fault, which is at this place or behind it.
+    /// The body ends, or stops with a fault, which is at this place or after it.
     Ends(CallSite),
     /// It reaches the bound, from this place on.
     Keeps(CallSite),

@@ -1,4 +1,4 @@
-//! Tasks that can never go on: where to look for one, and whether it is so.
+//! Tasks that can never go on: where to look for one, and whether it is stuck.
 ghost use Rattle.std.specs.Prelude.{◌≡◌, ◌≢◌, [], ◌∷◌, IfOk, IfSome, IsTrue};
 ghost use Rattle.fmp_base.specs.States.{task_at};
 ghost use Rattle.fmp_instructions.specs.Machine.{code_meaning};
@@ -41,7 +41,7 @@ impl From<AllocError> for SearchLimit {
     }
 }
 
-/// Another watcher, which is asked for the time and is not told how far the search has come.
+/// A watcher that asks another one for the time, and does not tell it how far the search has come.
 #[derive(Drop)]
 struct Quiet<'w, W: SearchWatcher> {
     watcher: &'w mut W,
@@ -72,7 +72,7 @@ pub struct Suspicions {
     pub waits: bool,
 }
 
-/// The place of a field; behind all of them if there is none.
+/// The place of a field; after all of them if there is none.
 fn place_of(fields: &[What], what: What) -> usize {
     for (place, field) in fields.iter().enumerate() {
         if *field == what {
@@ -137,7 +137,7 @@ fn suspect_of(
     Ok(None)
 }
 
-/// Those suspects in order of their states. `AllocError` if memory runs out.
+/// These suspects in order of their states. `AllocError` if memory runs out.
 fn in_order(alloc: Global, suspects: &[Suspect]) -> Result<Vec<Suspect>, AllocError> {
     let mut keys = Vec::new(alloc);
     for (place, suspect) in suspects.iter().enumerate() {
@@ -258,7 +258,7 @@ fn all_rest(alloc: Global, sys: &System) -> Result<Vec<bool>, AllocError> {
     vec![in alloc; true; sys.tasks.len()]
 }
 
-/// What is asked about a task that may be stuck after some events: whether it acts along a schedule behind them, where
+/// What is asked about a task that may be stuck after some events: whether it acts along a schedule after them, where
 /// no single interrupt is limited.
 fn question_of(
     alloc: Global,

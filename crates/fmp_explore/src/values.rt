@@ -1,5 +1,5 @@
-//! The table of values: how many values each field has in some of the states that were seen, and how many what is kept
-//! of each sentence and limit.
+//! The table of values: how many values each field has in some of the states that were seen, and how many values are
+//! kept for each sentence and limit.
 ghost use Rattle.std.specs.Prelude.{◌≤◌};
 
 use fmp_fields::What;
@@ -98,7 +98,7 @@ fn count_in(alloc: Global, sample: &[Vec<u32>], column: Column) -> Result<usize,
     Ok(different(&values))
 }
 
-/// Adds how many values is kept for each monitor: two numbers of each stand after those of this many fields.
+/// Adds how many values are kept for each monitor: its two numbers stand after those of this many fields.
 fn add_standings(
     alloc: Global,
     sample: &[Vec<u32>],
@@ -120,7 +120,7 @@ fn add_standings(
 }
 
 /// How many values each field has in a sample of the states that were seen, in order of the fields, and then how many
-/// what is kept for each monitor, where the first state has these values. `AllocError` if memory runs out.
+/// are kept for each monitor, where the first state has these values. `AllocError` if memory runs out.
 pub fn varieties(
     alloc: Global,
     seen: &Seen,

@@ -119,6 +119,6 @@ abbrev pub number_by : Option Owner → SystemTables → World MachineContext �
 number_by None sys w came what = state_number sys w.state came what
 number_by (Some o) sys w came what = body_number (owned_by w o) what
 
--- the number of a field in a world to which so many interrupts came
+-- the number of a field in a world to which this many interrupts came
 abbrev pub number_of : SystemTables → World MachineContext → (came : ℕ) → What → ℕ
 number_of sys w came what = number_by (owner_of what) sys w came what

@@ -115,7 +115,7 @@ pub fn number_at(values: &[i32; 64], i: u8) -> u32
     }
 }
 
-/// Whether a local is live by a row. One behind its end is.
+/// Whether a local is live by a row. One after its end is.
 fn is_live(row: &[bool], l: u8) -> bool
     ensures { result ≡ get_or row.now l true }
 {

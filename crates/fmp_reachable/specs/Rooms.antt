@@ -40,7 +40,7 @@ pub record HasBodies (sys : SystemTables) (bodies : List BodyTables) : Type 0 wh
       (h : Handler) (start : HandlerStart) → handler_start sys h ≡ Some start →
       IsThere (slice_get bodies start.body)
 
--- A context within the room of a body: it has 64 locals, those behind the body's own are 0, and it has as many operands
+-- A context within the room of a body: it has 64 locals, those after the body's own are 0, and it has as many operands
 -- as the depth table says of its place.
 pub record IsWithin (bodies : List BodyTables) (body : ℕ) (c : MachineContext) : Type 0 where
   pub long : length c.locals ≡ 64

@@ -88,7 +88,7 @@ sizes_of sys =
       pending_interrupts = 32;
     }
 
--- each list has each of its numbers once, and none of those behind it has one of them
+-- each list has each of its numbers once, and none of those after it has one of them
 abbrev pub AreApart : ℕ → List (List ℕ) → Type 0
 AreApart n [] = Unit {0}
 AreApart n (l ∷ ls) = IsOrder n l × ((g : ℕ) → is_in g l ≡ true → is_linked g ls ≡ false) × AreApart n ls

@@ -31,12 +31,12 @@ pub record IsKept (sys : SystemTables) (s : KernelState) : Type 0 where
   pub sizes : sizes s ≡ sizes_of sys
   pub interrupts : length s.pending_interrupts ≡ 32
 
--- a context has 64 locals, and those behind this many are 0
+-- a context has 64 locals, and those after this many are 0
 pub record HasClearLocals (own : ℕ) (c : MachineContext) : Type 0 where
   pub long : length c.locals ≡ 64
   pub clear : (l : ℕ) → own ≤ l → get_or c.locals l (pos 0) ≡ pos 0
 
--- a context is kept, and its locals behind the body's own are 0
+-- a context is kept, and its locals after the body's own are 0
 abbrev pub KeepsOwnLocals : List BodyTables → ℕ → Option MachineContext → Type 0
 KeepsOwnLocals bodies body None = ⊥
 KeepsOwnLocals bodies body (Some c) = HasClearLocals (locals_at bodies body) c

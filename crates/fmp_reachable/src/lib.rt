@@ -1,6 +1,6 @@
 //! What holds of every state that is reached, what a row of numbers tells of it, and what room its bodies have. States
-//! of which a row tells the same are alike. What is kept of a body lies within the room of its code. The worlds of an
-//! image's kernel tell all their fields.
+//! with the same row are alike. What is kept of a body lies within the room of its code. The worlds of an image's
+//! kernel tell all their fields.
 #![tactic(auto)]
 
 pub mod numbers;

@@ -26,7 +26,7 @@ pub fn worlds_are_regular<C>()
         AreWithinCapacity sys (run sys M n (setup sys M).world es).world.state.data_queues }
 {}
 
-/// So is every world of a replay on an image, whose system is in range.
+/// Every world of a replay on an image is regular, and the system of the image is in range.
 pub fn replays_are_regular()
     ensures regular { (i : ImageTables) (n : ℕ) (es : List Event) → IsInRange i.system →
         IsRegularWorld i.system (replay i n es).world }

@@ -13,7 +13,7 @@ use Rattle.fmp_base.specs.Ties.{WorldTied}
 use Rattle.fmp_schedules.specs.Completed.{IsCompleted}
 use Rattle.fmp_schedules.specs.Schedules.{IsSchedule, Rules, lines_after, reached}
 
--- a context has been kept: it stands so many units behind one that is tied to the other's
+-- a context has been kept: it is this many units before one that is tied to the other's
 pub record IsBehind {C D : Type 0} (R : ℕ → C → D → Type 0) (N : Meaning C) (body : ℕ) (d : D) (k : C) : Type 0 where
   pub from : C
   pub tied : R body from d

@@ -1,5 +1,5 @@
-//! Which lists of events a search looks at and tries, what holds along all of them, and what a search has to show for
-//! it.
+//! Which lists of events a search covers, which events it tries, what holds along all of them, and what a search has to
+//! show for it.
 #![tactic(auto)]
 
 mod acting;

@@ -20,7 +20,7 @@ record IsFirstChange (s : ℕ) (f v : List ℕ) : Type 0 where
   changes : changes_of f v ≡ bytes_of (get_or v s 0) ++ changes_of (drop (suc s) f) (drop (suc s) v)
   same : take s v ≡ take s f
 
-shifted : (n s : ℕ) → n / 2 ^ suc s ≡ n / 2 / 2 ^ s
+pub shifted : (n s : ℕ) → n / 2 ^ suc s ≡ n / 2 / 2 ^ s
 shifted n s =
     let next : 1 + s ≡ suc s = omega arith in sym (shr-shr n 1 s ∙ ap (λ (k : ℕ). n / 2 ^ k) next)
 

@@ -1,4 +1,5 @@
 pub mod ChangeLemmas
+pub mod ExactLemmas
 pub mod KeptLemmas
 pub mod LinkLemmas
 pub mod NumberLemmas

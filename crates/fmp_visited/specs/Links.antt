@@ -14,13 +14,13 @@ last_events (suc count) links i =
 unfoldable pub path_of : List StateLink → ℕ → List Event
 path_of links i = option_map_or (λ link. last_events link.depth links i) (slice_get links i) []
 
--- behind these links another may stand: the first has depth 0, and each other one the depth of its parent, which is one
+-- after these links another may stand: the first has depth 0, and each other one the depth of its parent, which is one
 -- of these, and one more
 abbrev pub IsLink : List StateLink → StateLink → Type 0
 IsLink [] link = link.depth ≡ 0
 IsLink (before ∷ more) link =
     IsSomeAnd (slice_get (before ∷ more) link.parent) (λ parent. link.depth ≡ parent.depth + 1)
 
--- each link may stand behind those before it
+-- each link may stand after those before it
 pub record AreLinked (links : List StateLink) : Type 0 where
   pub each : (i : ℕ) (link : StateLink) → slice_get links i ≡ Some link → IsLink (take i links) link

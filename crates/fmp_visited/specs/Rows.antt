@@ -32,7 +32,7 @@ changes_of (f ∷ first) (v ∷ values) = (if nat_eq v f then [] else bytes_of v
 unfoldable pub group_at : (start : ℕ) → List ℕ → List ℕ
 group_at start values = take 8 (drop start values)
 
--- the masks of this many groups from a place on, with the bytes of the values that differ behind each
+-- the masks of this many groups from a place on, with the bytes of the values that differ after each
 abbrev pub groups_from : (count start : ℕ) → (first values : List ℕ) → List ℕ
 groups_from zero start first values = []
 groups_from (suc count) start first values =

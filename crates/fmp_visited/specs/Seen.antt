@@ -14,7 +14,7 @@ pub record SeenStates : Type 0 where
 abbrev pub with_state : SeenStates → List ℕ → StateLink → SeenStates
 with_state seen row link = record seen { rows = seen.rows ++ row ∷ []; links = seen.links ++ link ∷ [] }
 
--- what becomes of the states where a row is looked up: a new one is kept behind the others, if one more may be
+-- what becomes of the states where a row is looked up: a new one is kept after the others, if one more may be
 abbrev pub Adds : (old new : SeenStates) → List ℕ → StateLink → RowEntry → Type 0
 Adds old new row link (New i) = (i ≡ length old.links) × (new ≡ with_state old row link)
 Adds old new row link (Known i) = (new ≡ old) × (slice_get old.rows i ≡ Some row)

@@ -13,4 +13,4 @@ mod unpacking;
 pub use link::{RowEntry, StateLink};
 pub use packing::pack;
 pub use seen::Seen;
-pub use unpacking::unpack;
+pub use unpacking::{unpack, unpack_checked};

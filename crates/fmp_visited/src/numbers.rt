@@ -1,5 +1,5 @@
 //! Numbers in rows: seven bits in a byte, the lowest first.
-ghost use Rattle.std.specs.Prelude.{◌≡◌, ◌+◌, ◌<◌, ◌≤◌, ◌%◌, ◌^◌, ◌++◌, ℕ, List, drop, length, take};
+ghost use Rattle.std.specs.Prelude.{◌≡◌, ◌+◌, ◌<◌, ◌≤◌, ◌%◌, ◌^◌, ◌++◌, ℕ, List, drop, length, take, true};
 ghost use Rattle.fmp_visited.specs.Rows.{bytes_of};
 
 /// How many bytes a number has at most.
@@ -73,18 +73,68 @@ fn number_from(row: &[u8], place: usize) -> (u32, usize)
     (value_of(number), at)
 }
 
-/// The number that begins at a place of a row, and the place after it.
+/// Whether two lists of bytes are the same.
+fn is_same(a: &[u8], b: &[u8]) -> bool
+    ensures { result ≡ true → a.now ≡ b.now }
+{
+    a == b
+}
+
+/// Whether the bytes of a row between two places are those of a number.
+fn has_bytes(row: &[u8], place: usize, end: usize, number: u32) -> bool
+    ensures { result ≡ true → drop place row.now ≡ bytes_of number ++ drop end row.now }
+{
+    if place > end || end > row.len() {
+        return false;
+    }
+    let mut bytes: [u8; LONGEST] = [0; LONGEST];
+    let count = write_bytes(&mut bytes, 0, number);
+    is_same(&row[place..end], &bytes[..count])
+}
+
+/// A number that was read from a row.
+#[derive(Clone, Copy)]
+pub struct NumberRead {
+    /// Its value.
+    pub number: u32,
+    /// The place after it.
+    pub end: usize,
+    /// Whether its bytes are the ones that `write_number` writes for it.
+    pub exact: bool,
+}
+
+/// The number of more than one byte, or of none, that begins at a place of a row.
+#[inline(never)]
+fn long_number_at(row: &[u8], place: usize) -> NumberRead
+    ensures told { (number : ℕ) (rest : List ℕ) → number < 2 ^ 32 → drop place row.now ≡ bytes_of number ++ rest →
+        (result.number ≡ number) × (drop result.end row.now ≡ rest) }
+    ensures exact { result.exact ≡ true → drop place row.now ≡ bytes_of result.number ++ drop result.end row.now }
+{
+    let (number, end) = number_from(row, place);
+    NumberRead {
+        number,
+        end,
+        exact: has_bytes(row, place, end, number),
+    }
+}
+
+/// The number that begins at a place of a row.
 #[inline(always)]
-#[tactic(auto, using(crate::proofs::ReadingLemmas::number_small))]
-pub fn number_at(row: &[u8], place: usize) -> (u32, usize)
-    ensures { (number : ℕ) (rest : List ℕ) → number < 2 ^ 32 → drop place row.now ≡ bytes_of number ++ rest →
-        (result.0 ≡ number) × (drop result.1 row.now ≡ rest) }
+#[tactic(auto, using(crate::proofs::ReadingLemmas::number_small, crate::proofs::ExactLemmas::number_here))]
+pub fn number_at(row: &[u8], place: usize) -> NumberRead
+    ensures told { (number : ℕ) (rest : List ℕ) → number < 2 ^ 32 → drop place row.now ≡ bytes_of number ++ rest →
+        (result.number ≡ number) × (drop result.end row.now ≡ rest) }
+    ensures exact { result.exact ≡ true → drop place row.now ≡ bytes_of result.number ++ drop result.end row.now }
 {
     if place < row.len() {
         let byte = row[place];
         if byte < 128 {
-            return (u32::from(byte), place + 1);
+            return NumberRead {
+                number: u32::from(byte),
+                end: place + 1,
+                exact: true,
+            };
         }
     }
-    number_from(row, place)
+    long_number_at(row, place)
 }

@@ -1,4 +1,4 @@
-//! What a search has ever done: calls that were made, tasks and handlers that ran, and how full the queues became.
+//! What was ever done in a search: calls that were made, tasks and handlers that ran, and how full the queues became.
 ghost use Rattle.std.specs.Prelude.{◌≡◌, ◌++◌, IfOk, OnOk};
 ghost use Rattle.fmp_witness.specs.Calls as spec;
 

@@ -1,4 +1,4 @@
-//! What is found, and whether it is so.
+//! What is found, and whether it is true.
 ghost use Rattle.std.specs.Prelude.{◌≡◌, [], IfOk, IfSome, IsTrue};
 ghost use Rattle.fmp_base.specs.Systems.{tables_of};
 ghost use Rattle.fmp_replay.specs.Replays.{kernel_after};
@@ -224,7 +224,7 @@ fn is_breached<'a>(
 }
 
 /// Whether each of these events does something on the kernel of an image that was just set up, and this is known to be
-/// seen then. No claims nothing: of a task that is stuck it is always the answer.
+/// seen then. The answer no claims nothing; for a stuck task it is always the answer.
 pub fn is_so<'a>(
     kernel: &mut Kernel<Vm<'a>>,
     subject: &SearchSubject<'a>,

@@ -1,5 +1,5 @@
-//! What a search shows for what it says. These are findings and whether they are so when their events are replayed, and
-//! all calls and values that ever came.
+//! What a search shows: its findings, and whether they are so when their events are replayed; and all calls and values
+//! that came up.
 #![tactic(auto)]
 
 mod breaching;

@@ -1,8 +1,9 @@
-use Rattle.std.proofs.Common.{◌+◌, ◌++◌, ◌∙◌, get_or, drop, refl, sym, arith}
+use Rattle.std.proofs.Common.{◌+◌, ◌++◌, ◌∙◌, get_or, drop, refl, rules, sym, arith}
 use Rattle.std.proofs.lemmas.List.{length-set}
 use lib.Count.{count_trailing_zeros}
 use Rattle.fmp_visited.specs.Rows.{changes_of}
 use Rattle.fmp_visited.proofs.ChangeLemmas.{next-change, none-left, unpacking-bytes, unpacking-end, unpacking-more}
+use Rattle.fmp_visited.proofs.ExactLemmas.{and_differs, read-begun, read-more, read-whole}
 use Rattle.fmp_visited.proofs.unpacking.unpack_group.Goals as goal
 
 pub loop-change-init : goal.loop-change-init
@@ -12,6 +13,7 @@ loop-change-init c =
       within = omega arith;
       long = refl;
       told = λ v rest same values mask bytes. record { masks = mask; bytes = bytes; front = refl; back = refl };
+      read = λ yes. read-begun c.args.row.now c.args.values.now c.args.place c.args.mask;
     }
 
 pub loop-change-preserved : goal.loop-change-preserved
@@ -21,8 +23,8 @@ loop-change-preserved c =
     let old = c.args.values.now in
     let s = count_trailing_zeros 8 l.bits in
     let j = l.field + s in
-    let x = c.number_at-value.result in
-    let long = length-set l.values j x.0 in
+    let x = c.number_at-read.result in
+    let long = length-set l.values j x.number in
     record {
       done = omega (arith, l.invariant.done);
       within = omega (arith, long);
@@ -32,9 +34,14 @@ loop-change-preserved c =
           let n =
           next-change l.field s l.bits old v c.requires u.masks c.if-bits-eq0.false refl in
           let got =
-          c.number_at-value.ensures (get_or v j 0) (changes_of (drop (j + 1) old) (drop (j + 1) v) ++ rest)
+          c.number_at-read.ensures.told (get_or v j 0) (changes_of (drop (j + 1) old) (drop (j + 1) v) ++ rest)
           (values j 0 n.in_values) (unpacking-bytes row old v l.values l.field s l.bits l.at rest n u) in
-          unpacking-more row old v l.values l.field s l.bits l.at x.0 x.1 rest l.invariant.long n u got.0 got.1;
+          unpacking-more row old v l.values l.field s l.bits l.at x.number x.end rest l.invariant.long n u got.0
+          got.1;
+      read = λ yes.
+          read-more row old l.values c.args.place c.args.mask l.field s l.bits l.at x.number x.end l.invariant.long
+          c.if-bits-eq0.false (omega arith) refl (omega arith) (and_differs _ x.number (get_or l.values j 0) yes)
+          (c.number_at-read.ensures.exact (search rules)) (l.invariant.read (search rules));
     }
 
 pub returns-then-bits-eq0-clause-told : goal.returns-then-bits-eq0-clause-told
@@ -51,6 +58,18 @@ returns-then-field-values-clause-told c = λ v rest same values mask bytes.
     let s = count_trailing_zeros 8 l.bits in
     let n = next-change l.field s l.bits c.args.values.now v c.requires u.masks c.if-bits-eq0.false refl in
     absurd (omega (arith, n.in_first, l.invariant.long, c.if-field-values.true))
+
+pub returns-then-bits-eq0-clause-exact : goal.returns-then-bits-eq0-clause-exact
+returns-then-bits-eq0-clause-exact c = λ yes.
+    let l = c.loop-change in
+    read-whole c.args.row.now c.args.values.now l.values c.args.place c.args.mask l.field l.bits l.at
+    c.if-bits-eq0.true (l.invariant.read yes)
+
+pub returns-clause-exact : goal.returns-clause-exact
+returns-clause-exact c = λ yes.
+    let l = c.loop-change in
+    read-whole c.args.row.now c.args.values.now l.values c.args.place c.args.mask l.field l.bits l.at
+    (search rules) (l.invariant.read (search rules))
 
 pub returns-clause-told : goal.returns-clause-told
 returns-clause-told c = λ v rest same values mask bytes.

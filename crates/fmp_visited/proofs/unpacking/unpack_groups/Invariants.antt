@@ -1,5 +1,6 @@
-use Rattle.std.proofs.Common.{◌≡◌, List, ℕ, length}
+use Rattle.std.proofs.Common.{◌≡◌, List, ℕ, length, true}
 use Rattle.fmp_visited.specs.Rows.{AreValues, row_of}
+use Rattle.fmp_visited.proofs.ExactLemmas.{AreGroupsRead}
 use Rattle.fmp_visited.proofs.ReadingLemmas.{AreUnpacked}
 use Rattle.fmp_visited.proofs.unpacking.unpack_groups.Given as goal
 
@@ -10,4 +11,5 @@ invariant-loop-group l =
       told :
           (v : List ℕ) → length v ≡ length l.fn.values → AreValues v → l.row ≡ row_of l.fn.values v →
           AreUnpacked l.row l.fn.values v l.values l.group l.at;
+      read : l.exact ≡ true → AreGroupsRead l.row l.fn.values l.values l.group l.at;
     }

@@ -1,6 +1,7 @@
 use Rattle.std.proofs.Common.{◌<◌, length, refl, subst, sym, ℕ}
 use Rattle.std.proofs.lemmas.Result.{IfOk-weaker}
-use Rattle.fmp_explore.specs.Searching.{HasExamined}
+use Rattle.std.specs.Prelude.{[], slice_get, unwrap_or}
+use Rattle.fmp_explore.specs.Searching.{HasExamined, HasTold}
 use Rattle.fmp_explore.proofs.SearchLemmas.{state_examined, state_lost}
 use Rattle.fmp_explore.proofs.SearchStepLemmas.{same_live, stays_on, stays_search}
 use Rattle.fmp_visited.specs.Seen.{SeenStates}
@@ -16,6 +17,12 @@ pub stand_at-requires-clause-there : goal.stand_at-requires-clause-there
 stand_at-requires-clause-there c =
     subst (λ (s : SeenStates). c.in_ok-at.at.state < length s.rows) (sym c.examined.ensures.stays.seen)
     (subst (λ (state : ℕ). state < length c.args.self.now.seen.rows) (sym c.in_ok-at.ensures.state) c.requires.there)
+
+pub stand_at-requires-clause-told : goal.stand_at-requires-clause-told
+stand_at-requires-clause-told c =
+    let s = c.examined.new.self in
+    subst (λ (state : ℕ). HasTold s.rows (unwrap_or (slice_get s.seen.rows state) [])) (sym c.in_ok-at.ensures.state)
+    c.in_ok-at.ensures.row
 
 pub examine_on-requires-clause-survey : goal.examine_on-requires-clause-survey
 examine_on-requires-clause-survey c =

@@ -18,18 +18,15 @@ keep_next-requires-clause-live c =
 
 pub keep_next-requires-clause-held : goal.keep_next-requires-clause-held
 keep_next-requires-clause-held c =
-    let s = c.args.subject.now in
-    subst (λ (ss : List Monitor). AreMonitorsOf s.question.now.monitors.items ss)
-    (sym (c.deref-3.ensures.value ∙ c.in_ok-monitors.ensures
-    ∙ ap (λ (ss : List Monitor). monitors_after ss c.lines.result.now) c.deref-2.ensures.value))
-    (held-after s.question.now.monitors.items c.args.attempt.at.now.monitors.items c.lines.result.now
-    c.requires.attempt.state.held)
+    subst (λ (ss : List Monitor). AreMonitorsOf c.args.subject.now.question.now.monitors.items ss)
+    (sym c.deref-then-are_none.ensures.value) c.requires.attempt.state.held
 
-pub returns : goal.returns
-returns c = λ w done.
+pub returns-then-are_none : goal.returns-then-are_none
+returns-then-are_none c = λ w done.
     let asked = asked_of c.args.subject.now in
     let a = c.args.attempt in
     let at = a.at.now in
+    let none = sym c.deref-2.ensures.value ∙ c.are_none.ensures c.if-are_none.true in
     IfOk-weaker c.keep_next.result _ _
     (λ _ kept. dealt_done asked c.args.self.now c.note_lines.new.self c.keep_next.new.self
     c.args.kernel.now w at.came at.monitors.items a.event c.requires.survey c.in_ok-note_lines.ensures.stays
@@ -39,6 +36,38 @@ returns c = λ w done.
     c.in_ok-note_lines.ensures.written done c.requires.sound.sound
     (subst (λ (ss : List Monitor). HasKept asked c.note_lines.new.self c.keep_next.new.self
     c.args.kernel.now.world (watched_with asked.question (came_on asked.question.interrupts at.came a.event) ss))
-    (c.deref-3.ensures.value ∙ c.in_ok-monitors.ensures
-    ∙ ap (λ (ss : List Monitor). monitors_after ss c.lines.result.now) c.deref-2.ensures.value
-    ∙ ap (λ (ls : List Line). monitors_after at.monitors.items ls) c.lines.ensures) kept)) c.keep_next.ensures
+    (c.deref-then-are_none.ensures.value
+    ∙ (none ∙ sym (ap (λ (ss : List Monitor). monitors_after ss c.args.kernel.now.lines) none))) kept))
+    c.keep_next.ensures
+
+pub keep_next-requires-2-clause-live : goal.keep_next-requires-2-clause-live
+keep_next-requires-2-clause-live c =
+    same_live (asked_of c.args.subject.now) c.args.self.now c.note_lines.new.self c.in_ok-note_lines.ensures.stays.same
+    c.requires.survey.survey.live
+
+pub keep_next-requires-2-clause-held : goal.keep_next-requires-2-clause-held
+keep_next-requires-2-clause-held c =
+    let s = c.args.subject.now in
+    subst (λ (ss : List Monitor). AreMonitorsOf s.question.now.monitors.items ss)
+    (sym (c.deref-4.ensures.value ∙ c.in_ok-monitors.ensures
+    ∙ ap (λ (ss : List Monitor). monitors_after ss c.lines.result.now) c.deref-3.ensures.value))
+    (held-after s.question.now.monitors.items c.args.attempt.at.now.monitors.items c.lines.result.now
+    c.requires.attempt.state.held)
+
+pub returns : goal.returns
+returns c = λ w done.
+    let asked = asked_of c.args.subject.now in
+    let a = c.args.attempt in
+    let at = a.at.now in
+    IfOk-weaker c.keep_next-2.result _ _
+    (λ _ kept. dealt_done asked c.args.self.now c.note_lines.new.self c.keep_next-2.new.self
+    c.args.kernel.now w at.came at.monitors.items a.event c.requires.survey c.in_ok-note_lines.ensures.stays
+    c.in_ok-note_lines.ensures.clean
+    (λ sure. subst (λ (ss : List Monitor). is_any_broken ss c.args.kernel.now.lines ≡ false)
+    c.deref.ensures.value (c.in_ok-note_lines.ensures.alone sure))
+    c.in_ok-note_lines.ensures.written done c.requires.sound.sound
+    (subst (λ (ss : List Monitor). HasKept asked c.note_lines.new.self c.keep_next-2.new.self
+    c.args.kernel.now.world (watched_with asked.question (came_on asked.question.interrupts at.came a.event) ss))
+    (c.deref-4.ensures.value ∙ c.in_ok-monitors.ensures
+    ∙ ap (λ (ss : List Monitor). monitors_after ss c.lines.result.now) c.deref-3.ensures.value
+    ∙ ap (λ (ls : List Line). monitors_after at.monitors.items ls) c.lines.ensures) kept)) c.keep_next-2.ensures

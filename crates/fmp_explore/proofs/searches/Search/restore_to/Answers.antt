@@ -1,5 +1,6 @@
 use Rattle.std.proofs.Common.{refl}
-use Rattle.fmp_explore.proofs.SearchStepLemmas.{live_on, stays_rows}
+use Rattle.std.specs.Prelude.{[], slice_get, unwrap_or}
+use Rattle.fmp_explore.proofs.SearchStepLemmas.{live_on, stays_rows, told_rows}
 use Rattle.fmp_explore.proofs.searches.Search.restore_to.Goals as goal
 use Rattle.fmp_witness.specs.Asked.{asked_of}
 
@@ -47,3 +48,21 @@ returns-in_err-restore-clause-stays c =
       seen = refl;
       sure = λ e. e;
     }
+
+pub has_row-requires-clause-told : goal.has_row-requires-clause-told
+has_row-requires-clause-told c =
+    let a = c.args.self.now in
+    told_rows a.rows c.restore.new.self (unwrap_or (slice_get a.seen.rows c.args.at.now.state) [])
+    c.restore.ensures.first c.restore.ensures.told c.restore.ensures.exact c.requires.told
+
+pub returns-then-not-branch-clause-told : goal.returns-then-not-branch-clause-told
+returns-then-not-branch-clause-told c =
+    let a = c.args.self.now in
+    told_rows a.rows c.restore.new.self (unwrap_or (slice_get a.seen.rows c.args.at.now.state) [])
+    c.restore.ensures.first c.restore.ensures.told c.restore.ensures.exact c.requires.told
+
+pub returns-in_err-restore-clause-told : goal.returns-in_err-restore-clause-told
+returns-in_err-restore-clause-told c =
+    let a = c.args.self.now in
+    told_rows a.rows c.restore.new.self (unwrap_or (slice_get a.seen.rows c.args.at.now.state) [])
+    c.restore.ensures.first c.restore.ensures.told c.restore.ensures.exact c.requires.told

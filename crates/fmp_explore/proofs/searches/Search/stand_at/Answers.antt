@@ -14,6 +14,9 @@ replay_to-requires-clause-there c =
     subst (λ (s : SeenStates). c.args.at.now.state < length s.rows) (sym c.restore_to.ensures.stays.seen)
     c.requires.there
 
+pub replay_to-requires-clause-told : goal.replay_to-requires-clause-told
+replay_to-requires-clause-told c = c.restore_to.ensures.told
+
 pub returns-then-branch-clause-stands : goal.returns-then-branch-clause-stands
 returns-then-branch-clause-stands c = λ _. c.in_ok-restore_to.ensures.stands c.if-branch.true
 
