@@ -114,7 +114,8 @@ fn is_written(kernel: &Kernel<Vm<'_>>, sys: &System, code: &Code, line: &Line) -
     }
 }
 
-/// Whether each line that was just told on a kernel with these bodies does so.
+/// Whether the replies in the lines that were just told on a kernel with these bodies write the out places of their
+/// calls.
 pub fn are_written(kernel: &Kernel<Vm<'_>>, sys: &System, code: &Code) -> bool
     ensures { result ≡ list_all (spec.is_written (tables_of sys.now) (code_tables code.now) kernel.now.world)
         kernel.now.lines }

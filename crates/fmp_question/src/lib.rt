@@ -1,4 +1,4 @@
-//! What is asked about all schedules of a system, and whether a kernel shows it in the state that it is in.
+//! What is asked about all schedules of a system, and whether the present state of a kernel shows it.
 #![tactic(auto)]
 
 mod callers;

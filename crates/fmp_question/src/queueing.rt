@@ -27,7 +27,7 @@ fn are_all_within(most: u8, tables: &KernelState) -> bool
     true
 }
 
-/// Whether no more activations and wakeups of a task are queued on a kernel than a question lets be.
+/// Whether at most as many activations and wakeups of each task are queued on a kernel as a question allows.
 pub fn queues_within<B: Body>(kernel: &Kernel<B>, question: &Question) -> bool
     ensures { result ≡ spec.are_within question.now.queued kernel.now.world.state.tasks }
 {

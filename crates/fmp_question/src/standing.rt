@@ -96,7 +96,7 @@ fn time_stands(tables: &KernelState, question: &Question) -> bool
     is_someone_stuck(tables, question)
 }
 
-/// The same of a kernel.
+/// Whether no time runs on a kernel, though a task that may not wait forever is started.
 pub fn stands_still<B: Body>(kernel: &Kernel<B>, question: &Question) -> bool
     ensures { IsTrue result ↔ StandsStill question.now.rest.items kernel.now.system kernel.now.world.state }
 {

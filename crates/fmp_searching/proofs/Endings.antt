@@ -24,6 +24,16 @@ printing_status bytes can_fail before after status (all_printed prints none) = i
 printing_status bytes can_fail before after status (some_printed can front left whole between prints says three) =
     inr three
 
+-- status 2 after a file was written is the status of what else was done
+pub two_after : (written status result : ℕ) → (written ≡ 0) ⊎ (written ≡ 3)
+    → result ≡ cond (nat_eq written 0) status written → result ≡ 2 → status ≡ 2
+two_after written status result one is two = elim one [
+  | inl none ↦ sym (is ∙ ap (λ (w : ℕ). cond (nat_eq w 0) status w) none) ∙ two
+  | inr three ↦
+      let same : result ≡ 3 = is ∙ ap (λ (w : ℕ). cond (nat_eq w 0) status w) three in
+      absurd (omega (arith, same, two))
+]
+
 -- a status that is no refusal is told after a file was written
 pub told_after : (written status result : ℕ) → (written ≡ 0) ⊎ (written ≡ 3)
     → result ≡ cond (nat_eq written 0) status written → is_refusal result ≡ false → (written ≡ 0) × (result ≡ status)

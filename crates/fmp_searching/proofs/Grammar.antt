@@ -23,12 +23,12 @@ from_decides false P v (Ok x) d h = absurd (true≢false (sym (d.1 h.0)))
 from_decides true P v (Err e) d h = absurd (h (d.0 refl))
 from_decides false P v (Err e) d h = refl
 
-are_digits-Decides : (text : List ℕ) → Decides (are_digits text) (IsNumeral 10 text)
+pub are_digits-Decides : (text : List ℕ) → Decides (are_digits text) (IsNumeral 10 text)
 are_digits-Decides text =
     let own = numerals_by_value (λ ds. all_ascii_digits ds ≡ true) tells_all_ascii_digits in
     Decides-and _ _ (Decides-ltb 0 (length text)) (own.to text, own.from text)
 
-is_value-Decides : (z : ℤ) → Decides (is_value z) (FitsSigned w32 z)
+pub is_value-Decides : (z : ℤ) → Decides (is_value z) (FitsSigned w32 z)
 is_value-Decides (pos n) = let d = Decides-ltb n (2 ^ 31) in (λ e. record { sfits = d.0 e }, λ f. d.1 f.sfits)
 is_value-Decides (negsuc n) = let d = Decides-ltb n (2 ^ 31) in (λ e. record { sfits = d.0 e }, λ f. d.1 f.sfits)
 

@@ -11,3 +11,5 @@ pub mod StuckLemmas
 pub mod UnsaidLists
 mod Worded
 mod FindingTexts
+mod PlainClaims
+mod PrintedNevers

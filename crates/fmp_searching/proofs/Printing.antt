@@ -1,5 +1,5 @@
 -- How printing ends, and what an exploration without findings writes.
-use Rattle.std.proofs.Common.{◌≡◌, ◌∙◌, ◌++◌, ◌||◌, ℕ, Bool, true, false, List, [], ◌∷◌, Option, None, Some}
+use Rattle.std.proofs.Common.{◌≡◌, ◌∙◌, ◌⊎◌, ◌++◌, ◌||◌, ℕ, Bool, true, false, List, [], ◌∷◌, Option, None, Some}
 use Rattle.std.proofs.Common.{Result, Ok, Err, ap, append_assoc, arith, inl, inr, map, refl, take}
 use Rattle.std.specs.List.{list_any}
 use Rattle.fmp_files.specs.Deeds.{Begins, Deed, Does, Says, removal, removed, said, wrote}
@@ -69,3 +69,16 @@ pub quiet_removed : {E : Type 0} (name : List ℕ) (result : Result Bool E) (bef
 quiet_removed name (Ok true) before after h = record { deeds = removed name ∷ []; none = refl; done = h }
 quiet_removed name (Ok false) before after h = record { deeds = []; none = refl; done = h }
 quiet_removed name (Err e) before after h = record { deeds = []; none = refl; done = h }
+
+-- ---- what is refused
+
+pub quietly_refused : {P : Type 0} (before after : Option (List Deed)) → Says before after
+    → PrintsNothing before after ⊎ P
+quietly_refused before after h = inl (quiet_said before after h)
+
+pub quiet_before : {P : Type 0} (a b c : Option (List Deed)) → PrintsNothing a b → PrintsNothing b c ⊎ P
+    → PrintsNothing a c ⊎ P
+quiet_before a b c first h = elim h [ inl quiet ↦ inl (quiet_then a b c first quiet) | inr p ↦ inr p ]
+
+pub or_weaker : {P Q R : Type 0} → (Q → R) → P ⊎ Q → P ⊎ R
+or_weaker f h = elim h [ inl p ↦ inl p | inr q ↦ inr (f q) ]

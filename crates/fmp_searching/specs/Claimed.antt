@@ -105,12 +105,25 @@ pub record PrintsOnly (text : List ℕ) (before after : Option (List Deed)) : Ty
   pub printed : EndsPrinting text can_fail before between status
   pub then : PrintsNothing between after
 
+-- all of a text was printed, and then nothing more
+pub record PrintsAll (text : List ℕ) (before after : Option (List Deed)) : Type 0 where
+  pub between : Option (List Deed)
+  pub printed : Prints before text between
+  pub then : PrintsNothing between after
+
 -- what was printed last is what a search came to, whatever that is
 pub record HasShown (s : SourceTables) (done : Option (List Deed)) : Type 0 where
   pub explored : Explored
   pub is : IsExplored s explored
   pub before : Option (List Deed)
   pub prints : PrintsOnly explored.text.items before done
+
+-- what was printed last is all of what a search came to
+pub record HasShownAll (s : SourceTables) (done : Option (List Deed)) : Type 0 where
+  pub explored : Explored
+  pub is : IsExplored s explored
+  pub before : Option (List Deed)
+  pub prints : PrintsAll explored.text.items before done
 
 -- the last that was done is to print this text
 abbrev pub HasPrinted : (text : List ℕ) → (done : Option (List Deed)) → Type 0

@@ -1,4 +1,4 @@
--- What is printed below the end of a search: what its sentences came to, how far it went, and what falls out of it.
+-- What is printed below the end of a search: what its sentences came to, how far it went, and its by-products.
 use Rattle.std.specs.Prelude.{ℕ, ◌≡◌, ◌-◌, ◌/◌, List, [], ◌++◌, Bool, ◌&&◌, Option, Some, None, codes, decimal}
 use Rattle.std.specs.Prelude.{length, max, nat_eq, nat_le, nat_lt, slice_get, take, ℤ, pos, if◌then◌else◌}
 use Rattle.std.specs.Fmt.{signed_decimal}
@@ -195,7 +195,7 @@ coverage_text s r unmade answered refused =
     ++ (unrun_text s.claim.image.system r
     ++ (counts_text s.claim.image.system r ++ lengths_text s.claim.image.system r))))
 
--- what falls out of a search: the calls that were not made, answered or refused are those of its states
+-- the by-products of a search: the calls that were not made, answered or refused are those of its states
 abbrev pub covered_text : SourceTables → Report → List ℕ
 covered_text s r =
     let code = s.claim.image.code in

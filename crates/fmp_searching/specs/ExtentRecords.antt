@@ -1,4 +1,4 @@
--- What falls out of a search, for other programs: objects of JSON, one in a line.
+-- The by-products of a search, for other programs: objects of JSON, one a line.
 use Rattle.std.specs.Prelude.{ℕ, ◌≡◌, List, [], ◌++◌, Bool, Option, Some, None, codes, map, if◌then◌else◌}
 use Rattle.std.specs.List.{flat_map}
 use Rattle.std.specs.Str.Lossy.{utf8_lossy}
@@ -116,7 +116,7 @@ coverage_records s r unmade answered refused =
     ++ (unrun_records s.claim.image.system r
     ++ (peak_records s.claim.image.system r ++ varied_records s r.varieties.items)))))
 
--- what falls out of a search: the calls that were not made, answered or refused are those of its states
+-- the by-products of a search: the calls that were not made, answered or refused are those of its states
 abbrev pub covered_records : SourceTables → Report → List ℕ
 covered_records s r =
     let code = s.claim.image.code in

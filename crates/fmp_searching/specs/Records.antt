@@ -119,7 +119,7 @@ end_record s r =
     end_line (status_of (s.strict && has_unsaid s.claim.question r) r) (claim_line s.claim r)
     (stop_line s.claim.question r) (map (λ part. utf8_lossy part) (claim_parts s.claim)) r
 
--- what is printed of a report: a line for each finding, then what falls out of the search, and how it ended
+-- what is printed of a report: a line for each finding, then the by-products of the search, and how it ended
 abbrev pub IsReportRecords : SourceTables → Report → List Seen → (text : List ℕ) → Type 0
 IsReportRecords s r seen text =
     text

@@ -241,7 +241,7 @@ pub record IsSeen (s : SourceTables) (f : Finding) (x : Seen) : Type 0 where
   pub sentences : x.call_sentences.items ≡ broken_sentences s f told
   pub said : IsSaid s f f.kind told x.site x.text.items
 
--- what is seen of findings, in order
+-- what is seen of each of these findings, in order
 pub record AreSeen (s : SourceTables) (findings : List Finding) (seen : List Seen) : Type 0 where
   pub found : map (λ x. x.found) seen ≡ map (λ f. f.kind) findings
   pub broken : list_all (λ x. is_fitting s.sections x) seen ≡ true

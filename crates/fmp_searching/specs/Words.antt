@@ -1,8 +1,8 @@
 -- The words in which what must never happen is written.
 use Rattle.std.specs.Prelude.{ℕ, ℤ, pos, negsuc, ◌+◌, ◌-◌, ◌^◌, List, [], ◌∷◌, length, take, drop, Bool, Option, Some}
 use Rattle.std.specs.Prelude.{None, option_and_then, option_map, position, ◌&&◌, nat_eq, nat_lt, bytes_eq, codes}
-use Rattle.std.specs.Prelude.{if◌then◌else◌}
-use Rattle.std.specs.List.{find, starts_with, ends_with}
+use Rattle.std.specs.Prelude.{false, if◌then◌else◌}
+use Rattle.std.specs.List.{find, list_any, starts_with, ends_with}
 use Rattle.std.specs.Ordering.{int_eq}
 use Rattle.std.specs.Option.{option_or}
 use Rattle.std.specs.Str.{all_ascii_digits}
@@ -12,6 +12,7 @@ use Rattle.fmp_base.specs.Texts.{fault_named}
 use Rattle.fmp_base.specs.declared.codes.Er.{Er}
 use Rattle.fmp_searching.specs.declared.words.CodeAt.{CodeAt}
 use Rattle.fmp_searching.specs.declared.words.Section.{Section}
+use Rattle.fmp_question.specs.Forbidden.{is_same_code}
 use Rattle.fmp_question.specs.declared.question.Never.{Never}
 use Rattle.fmp_question.specs.declared.question.Never.TheVariants as never
 use Rattle.fmp_question.specs.declared.question.TheConstants.{ANSWERS}
@@ -67,6 +68,13 @@ never_named word =
     (option_or
     (option_map (λ fault. never.Fault fault) (fault_named word))
     (option_map (λ code. never.Answer code) (code_named word)))
+
+-- what a word can ask for, but for faults: a code that calls answer, or a value from -2^31 to 2^31 - 1
+abbrev pub is_worded_never : Never → Bool
+is_worded_never (never.Answer code) = list_any (λ answer. is_same_code answer code) ANSWERS
+is_worded_never (never.Put value) = is_value value
+is_worded_never (never.Fault fault) = false
+is_worded_never (never.Acts t) = false
 
 abbrev pub code_at : Option Er → Option ℕ → Option CodeAt
 code_at (Some code) (Some line) = Some (record { code = code; line = line; by = None })

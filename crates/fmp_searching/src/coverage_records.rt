@@ -547,7 +547,7 @@ fn append_varieties(
     Ok(())
 }
 
-/// Appends what falls out of a search, in whose states these calls were never made, got these codes, and answers.
+/// Appends the by-products of a search, in whose states these calls were never made, got these codes, and answers.
 fn append_records(
     alloc: Global,
     out: &mut Vec<u8>,
@@ -571,7 +571,7 @@ fn append_records(
     append_varieties(alloc, out, sources, &report.varieties)
 }
 
-/// Appends what falls out of a search, which saw this of the calls.
+/// Appends the by-products of a search, which saw this of the calls.
 fn append_coverage(
     alloc: Global,
     out: &mut Vec<u8>,
@@ -594,7 +594,7 @@ fn append_coverage(
     )
 }
 
-/// What falls out of a search, as objects of JSON, one in a line. `AllocError` if memory runs out.
+/// The by-products of a search, as objects of JSON, one a line. `AllocError` if memory runs out.
 pub fn coverage_records(
     alloc: Global,
     sources: &ExploredSources<'_>,

@@ -404,7 +404,7 @@ fn say_answers_and_rows(
     say_refused_and_rows(alloc, out, sources, report, &calls.answers)
 }
 
-/// Appends what falls out of a search, which saw this of the calls.
+/// Appends the by-products of a search, which saw this of the calls.
 fn say_coverage(
     alloc: Global,
     out: &mut Vec<u8>,
@@ -420,7 +420,7 @@ fn say_coverage(
     say_answers_and_rows(alloc, out, sources, report, calls)
 }
 
-/// What falls out of a search.
+/// The by-products of a search.
 pub fn coverage_text(
     alloc: Global,
     sources: &ExploredSources<'_>,

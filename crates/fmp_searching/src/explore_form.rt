@@ -5,72 +5,72 @@ use fmp_arguments::{
 };
 use std::alloc::Global;
 
-/// What must never happen.
+/// The help on `--never`.
 const NEVER: &str =
     "What must never happen: an answer, as E_QOVR, or E_TMOUT:12 for the calls in line 12 of SRC;
 or a printed value, as 'put(99)'; it may be given again. That a body stops with a fault must
 never happen anyway";
 
-/// Where one task at a time may be.
+/// The help on `--alone`.
 const ALONE: &str =
     "One task at a time may be between 'put(A)' and 'put(B)': A,B are two different values, as 1,2.
 A task is there from its 'put(A)' to its 'put(B)' or its end. It may be given again, at most 4 times";
 
-/// What must hold.
+/// The help on `--expect`.
 const EXPECT: &str =
     "A file of sentences that must hold, a line each, as 'expect' reads them: 'A before B',
 'always X < 5' and others, but for 'end'. 'TASK rests' is as --rest TASK, and
 'never E_TMOUT at 12' as --never E_TMOUT:12";
 
-/// Which task may wait forever.
+/// The help on `--rest`.
 const REST: &str =
     "Name of a task that may wait forever, as servers do: it makes no deadlock, may be stuck, and may go
 on for ever without a call; it may be given again";
 
-/// When the clock may advance.
+/// The help on `--ticks`.
 const TICKS: &str =
     "When the clock may advance: at any time, or only where all processors are idle";
 
-/// The words for when the clock may advance.
+/// The words of `--ticks`.
 const TICKS_WHEN: &[&str] = &["any", "idle"];
 
-/// How many interrupts there may be.
+/// The help on `--ints`.
 const INTS: &str = "How many interrupts there may be, 0 to 255; without it any number";
 
-/// How often a single interrupt may come.
+/// The help on `--int`.
 const INT: &str =
     "At most COUNT of interrupt N may come, as 3:2; it may be given again. N is 1 to 32, and
 COUNT 0 to 2^32 - 1";
 
-/// How soon a single interrupt may come again.
+/// The help on `--gap`.
 const GAP: &str =
     "At least T ticks come between two of interrupt N, as 3:5; it may be given again. N is 1 to 32,
 and T 0 to 2^32 - 1";
 
-/// How much may be queued.
+/// The help on `--queued`.
 const QUEUED: &str =
     "How many activations and how many wakeups of a task may be queued, 0 to 255: events that
 would queue more do not come; without it any number";
 
-/// How many states are kept.
+/// The help on `--states`.
 const STATES: &str = "How many states are kept at most, 1 to 2^31";
 
-/// How long a search takes.
+/// The help on `--time`.
 const TIME: &str = "How many seconds the search takes at most, 1 to 2^31; without it any number";
 
-/// How many threads search.
+/// The help on `--jobs`.
 const JOBS: &str =
     "How many threads search, 1 to 64; what is found and claimed is the same for each number";
 
-/// What counts as a finding.
+/// The help on `--strict`.
 const STRICT: &str = "Count it as a finding where what a sentence speaks of never happens at all";
 
-/// Where a report of tests goes.
+/// The help on `--junit`.
 const JUNIT: &str =
     "Write a report to FILE too, in the XML of JUnit: each sentence is a test, and what else
 is asked";
 
-/// Where the steps of findings go.
+/// The help on `--out`.
 const OUT: &str = "The steps of the findings are written to NAME.1 and on; without it NAME is that
 of CFG, with '.found' in place of '.cfg'";
 

@@ -57,7 +57,7 @@ fn findings_text(
     Ok(text)
 }
 
-/// Appends what falls out of a search, and what has the most values.
+/// Appends the by-products of a search, and what has the most values.
 fn append_coverage(
     alloc: Global,
     out: &mut Vec<u8>,

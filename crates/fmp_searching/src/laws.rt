@@ -1,8 +1,10 @@
 //! Laws on what two texts mean, each the contract of a function that does nothing.
-ghost use Rattle.std.specs.Prelude.{◌≡◌, ◌≤◌, ℕ, Bool, List, Ok, Some, true};
+ghost use Rattle.std.specs.Prelude.{◌≡◌, ◌≤◌, ◌++◌, ℕ, Bool, List, Ok, Some, codes, true};
+ghost use Rattle.fmp_base.specs.Texts.{fault_text};
+ghost use Rattle.fmp_base.specs.declared.bodies.Fault.{Fault};
 ghost use Rattle.fmp_base.specs.declared.events.Event.{Event};
 ghost use Rattle.fmp_base.specs.declared.events.Line.{Line};
-ghost use Rattle.fmp_base.specs.Meanings.{World};
+ghost use Rattle.fmp_base.specs.Meanings.{Meaning, World};
 ghost use Rattle.fmp_base.specs.Systems.{SystemTables};
 ghost use Rattle.fmp_codegen.specs.Tie.{CodeTied};
 ghost use Rattle.fmp_expect.specs.Grammar.{line_meaning};
@@ -12,13 +14,19 @@ ghost use Rattle.fmp_image_bytes.specs.Images.{ImageTables};
 ghost use Rattle.fmp_instructions.specs.Machine.{code_meaning};
 ghost use Rattle.fmp_instructions.specs.declared.instructions.MachineContext.{MachineContext};
 ghost use Rattle.fmp_monitors.specs.declared.sentence.Sentence.{Sentence};
+ghost use Rattle.fmp_question.specs.Rules.{rules_of};
+ghost use Rattle.fmp_question.specs.declared.question.Never.{Never};
+ghost use Rattle.fmp_question.specs.declared.question.Never.TheVariants as never;
+ghost use Rattle.fmp_question.specs.declared.question.Question.{Question};
 ghost use Rattle.fmp_schedules.specs.Beside.{DoesBeside, HoldsThereAtAll};
 ghost use Rattle.fmp_schedules.specs.Completed.{HoldsAtAll, IsCompleted};
 ghost use Rattle.fmp_schedules.specs.Schedules.{Holds, HoldsThere, IsSchedule, Rules};
 ghost use Rattle.fmp_tasklang.specs.Texts.{text_meaning};
+ghost use Rattle.fmp_searching.specs.Claims.{bound_text, faults_text, forbids_fault, lists_text, never_text};
 ghost use Rattle.fmp_searching.specs.Extent.{words_of};
 ghost use Rattle.fmp_searching.specs.Sentences.{is_worded};
 ghost use Rattle.fmp_searching.specs.TextSchedules.{NeverTold};
+ghost use Rattle.fmp_searching.specs.Words.{is_worded_never, never_named};
 
 use fmp_expect::sentences_are_read_as_written;
 use fmp_image::laws::{built_image_does_text, built_image_prints_text};
@@ -67,3 +75,26 @@ pub fn printed_sentences_are_read_back()
 {
     sentences_are_read_as_written();
 }
+
+/// What a claim says never happens is what was asked for. Of an answer or a value, what stands after `never ` is a word
+/// that asks for it. Of faults, a name that stands after `, never ` is a word that asks for the fault, which the
+/// question forbids; where a claim says `, no fault`, its question forbids each.
+pub fn printed_nevers_are_read_back()
+    ensures nevers { (sys : SystemTables) (n : Never) → is_worded_never n ≡ true → (word : List ℕ)
+        × ((never_text sys n ≡ codes "never " ++ (word ++ codes ", ")) × (never_named word ≡ Some n)) }
+    ensures faults { (fault : Fault) → never_named (fault_text fault) ≡ Some (never.Fault fault) }
+    ensures named { (nevers : List Never) (fault : Fault) (front rest : List ℕ) →
+        faults_text nevers ≡ front ++ (codes ", never " ++ (fault_text fault ++ rest)) →
+        forbids_fault nevers fault ≡ true }
+    ensures all { (nevers : List Never) (fault : Fault) → faults_text nevers ≡ codes ", no fault" →
+        forbids_fault nevers fault ≡ true }
+{}
+
+/// Where a claim says `over all lists of events` and names no limit before the bound, each list of events is one of
+/// those that it is over.
+pub fn plain_claims_are_of_all_lists<C>()
+    ensures { (q : Question) (bound : ℕ) →
+        lists_text q bound ≡ codes ": over all lists of events" ++ bound_text bound →
+        (sys : SystemTables) (M : Meaning C) (n : ℕ) (forbidden : Line → Bool) (es : List Event) →
+        IsSchedule (rules_of q) sys M n forbidden es }
+{}

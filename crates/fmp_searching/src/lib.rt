@@ -1,6 +1,6 @@
-//! The command `explore` of the program `fmp_view`: what its words ask of all schedules, the search, what it finds in
-//! the words of the two texts, and the steps of what it found. It also reads two texts, and prints their fault, for the
-//! other commands.
+//! The command `explore` of the program `fmp_view`: what its words ask of all schedules, the search, its findings in
+//! the words of the two texts, and their steps. It also reads two texts, and prints their fault, for the other
+//! commands.
 #![tactic(auto)]
 
 mod answers;

@@ -75,7 +75,8 @@ impl LocalNames {
         Ok(())
     }
 
-    /// Those of a text that an image was built of; none of a text that is too long. `AllocError` if memory runs out.
+    /// The names of the locals of a text that an image was built of; none for a text that is too long. `AllocError` if
+    /// memory runs out.
     pub fn new(alloc: Global, src: &[u8]) -> Result<LocalNames, AllocError> {
         let mut names = LocalNames {
             bodies: Vec::new(alloc),

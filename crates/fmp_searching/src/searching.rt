@@ -9,7 +9,8 @@ ghost use Rattle.fmp_files.specs.Deeds.{Does};
 ghost use Rattle.fmp_files.specs.Prints.{Prints};
 ghost use Rattle.fmp_searching.specs.Questions.{IsWanted};
 ghost use Rattle.fmp_searching.specs.Claims.{claim_tables};
-ghost use Rattle.fmp_searching.specs.Claimed.{EndsOfFiles, Gives, HasClaimed, HasEnded, HasShown, HoldsOfFiles};
+ghost use Rattle.fmp_searching.specs.Claimed.{EndsOfFiles, Gives, HasClaimed, HasEnded, HasShown, HasShownAll};
+ghost use Rattle.fmp_searching.specs.Claimed.{HoldsOfFiles, OfFiles, PrintsAll};
 ghost use Rattle.fmp_frames.specs.CallPositions.{AreCallsOf};
 ghost use Rattle.fmp_searching.specs.Claimed.{OfImage, OfQuestion, OfTexts, PrintsNothing, PrintsOnly, sources_of};
 ghost use Rattle.fmp_searching.specs.Files.{IsApart, IsReportApart, RemovesSteps, files_written, is_refusal};
@@ -170,6 +171,8 @@ fn give<O: Outside>(
     ensures text { PrintsOnly explored.now.text.items (O.done outside.old) (O.done outside.new) }
     ensures printed { result ≡ 0 → explored.now.steps.items ≡ [] →
         Prints (O.done outside.old) explored.now.text.items (O.done outside.new) }
+    ensures mistaken { result ≡ 2 →
+        PrintsAll explored.now.text.items (O.done outside.old) (O.done outside.new) }
     ensures given { is_refusal result ≡ false → (result ≡ explored.now.status)
         × Gives exploring.now out.now explored.now (O.done outside.old) (O.done outside.new) }
 {
@@ -210,6 +213,8 @@ fn explore_sources<O: Outside, R: Clock + Threads + Sync>(
 ) -> Result<u8, AllocError>
     requires { sources.now.sentences.sections + length sources.now.sentences.expected.now < 2 ^ 64 }
     ensures shown { IfOk result (λ _. HasShown (source_tables sources.now) (O.done outside.new)) }
+    ensures mistaken { IfOk result (λ status. status ≡ 2 →
+        HasShownAll (source_tables sources.now) (O.done outside.new)) }
     ensures claimed { IfOk result (λ status. status ≡ 0 →
         HasClaimed (source_tables sources.now) (O.done outside.new)) }
     ensures ended { IfOk result (λ status. is_refusal status ≡ false →
@@ -249,6 +254,8 @@ fn explore_told<O: Outside, R: Clock + Threads + Sync>(
         sources.now.names.now opened.now.said.now opened.now.exploring.now }
     ensures shown { IfOk result (λ _. OfQuestion (claim_tables sources.now.claim) opened.now.src.now
         opened.now.said.now opened.now.exploring.now (λ s. HasShown s (O.done outside.new))) }
+    ensures mistaken { IfOk result (λ status. status ≡ 2 → OfQuestion (claim_tables sources.now.claim)
+        opened.now.src.now opened.now.said.now opened.now.exploring.now (λ s. HasShownAll s (O.done outside.new))) }
     ensures claimed { IfOk result (λ status. status ≡ 0 → OfQuestion (claim_tables sources.now.claim)
         opened.now.src.now opened.now.said.now opened.now.exploring.now (λ s. HasClaimed s (O.done outside.new))) }
     ensures ended { IfOk result (λ status. is_refusal status ≡ false → OfQuestion (claim_tables sources.now.claim)
@@ -269,6 +276,8 @@ fn explore_question<O: Outside, R: Clock + Threads + Sync>(
     requires { IsWanted opened.now.exploring.now.asked (Ok opened.now.wanted.now) }
     ensures shown { IfOk result (λ _. OfQuestion (claim_tables claim.now) opened.now.src.now opened.now.said.now
         opened.now.exploring.now (λ s. HasShown s (O.done outside.new))) }
+    ensures mistaken { IfOk result (λ status. status ≡ 2 → OfQuestion (claim_tables claim.now) opened.now.src.now
+        opened.now.said.now opened.now.exploring.now (λ s. HasShownAll s (O.done outside.new))) }
     ensures claimed { IfOk result (λ status. status ≡ 0 → OfQuestion (claim_tables claim.now) opened.now.src.now
         opened.now.said.now opened.now.exploring.now (λ s. HasClaimed s (O.done outside.new))) }
     ensures ended { IfOk result (λ status. is_refusal status ≡ false → OfQuestion (claim_tables claim.now)
@@ -309,7 +318,8 @@ fn explore_question<O: Outside, R: Clock + Threads + Sync>(
 
 /// Says which line of a text of sentences has a flaw, and gives the status.
 fn refuse_sentence<O: Outside>(outside: &mut O, text: &str) -> u8
-    ensures { result ≡ 1 }
+    ensures status { result ≡ 1 }
+    ensures quiet { PrintsNothing (O.done outside.old) (O.done outside.new) }
 {
     outside.say(format_args!("{text}\n"));
     1
@@ -326,6 +336,7 @@ fn refuse_question<O: Outside>(
     mistake: CommandMistake,
 ) -> Result<u8, AllocError>
     ensures refusal { IfOk result (λ status. is_refusal status ≡ true) }
+    ensures quiet { IfOk result (λ _. PrintsNothing (O.done outside.old) (O.done outside.new)) }
     ensures sentence { is_of_sentence mistake ≡ true → IfOk result (λ status. status ≡ 1) }
     ensures words { is_of_sentence mistake ≡ false → IfOk result (λ status. (status ≡ 2) ⊎ (status ≡ 3)) }
 {
@@ -350,6 +361,9 @@ fn explore_image<O: Outside, R: Clock + Threads + Sync>(
     requires { IsWanted opened.now.exploring.now.asked (Ok opened.now.wanted.now) }
     ensures holds { IfOk result (λ status. status ≡ 0 → OfImage image.now (tables_of configured.now)
         opened.now.src.now opened.now.said.now opened.now.exploring.now (λ s. HasClaimed s (O.done outside.new))) }
+    ensures mistaken { IfOk result (λ status. status ≡ 2 → PrintsNothing (O.done outside.old) (O.done outside.new)
+        ⊎ OfImage image.now (tables_of configured.now) opened.now.src.now opened.now.said.now
+        opened.now.exploring.now (λ s. HasShownAll s (O.done outside.new))) }
     ensures ended { IfOk result (λ status. is_refusal status ≡ false → OfImage image.now (tables_of configured.now)
         opened.now.src.now opened.now.said.now opened.now.exploring.now
         (λ s. HasEnded opened.now.exploring.now s status (O.done outside.new))) }
@@ -384,6 +398,9 @@ fn explore_status<O: Outside, R: Clock + Threads + Sync>(
     requires { IsWanted opened.now.exploring.now.asked (Ok opened.now.wanted.now) }
     ensures holds { result ≡ 0 → OfImage image.now (tables_of configured.now) opened.now.src.now
         opened.now.said.now opened.now.exploring.now (λ s. HasClaimed s (O.done outside.new)) }
+    ensures mistaken { result ≡ 2 → PrintsNothing (O.done outside.old) (O.done outside.new)
+        ⊎ OfImage image.now (tables_of configured.now) opened.now.src.now opened.now.said.now
+        opened.now.exploring.now (λ s. HasShownAll s (O.done outside.new)) }
     ensures ended { is_refusal result ≡ false → OfImage image.now (tables_of configured.now) opened.now.src.now
         opened.now.said.now opened.now.exploring.now
         (λ s. HasEnded opened.now.exploring.now s result (O.done outside.new)) }
@@ -429,6 +446,9 @@ fn explore_system<O: Outside, R: Clock + Threads + Sync>(
     requires described { Describes opened.now.cfg.now configured.now }
     ensures holds { result ≡ 0 → OfTexts opened.now.cfg.now opened.now.src.now opened.now.said.now
         opened.now.exploring.now (λ s. HasClaimed s (O.done outside.new)) }
+    ensures mistaken { result ≡ 2 → PrintsNothing (O.done outside.old) (O.done outside.new)
+        ⊎ OfTexts opened.now.cfg.now opened.now.src.now opened.now.said.now opened.now.exploring.now
+        (λ s. HasShownAll s (O.done outside.new)) }
     ensures ended { is_refusal result ≡ false → OfTexts opened.now.cfg.now opened.now.src.now opened.now.said.now
         opened.now.exploring.now (λ s. HasEnded opened.now.exploring.now s result (O.done outside.new)) }
 {
@@ -452,6 +472,9 @@ fn explore_texts<O: Outside, R: Clock + Threads + Sync>(
     requires { IsWanted opened.now.exploring.now.asked (Ok opened.now.wanted.now) }
     ensures holds { result ≡ 0 → OfTexts opened.now.cfg.now opened.now.src.now opened.now.said.now
         opened.now.exploring.now (λ s. HasClaimed s (O.done outside.new)) }
+    ensures mistaken { result ≡ 2 → PrintsNothing (O.done outside.old) (O.done outside.new)
+        ⊎ OfTexts opened.now.cfg.now opened.now.src.now opened.now.said.now opened.now.exploring.now
+        (λ s. HasShownAll s (O.done outside.new)) }
     ensures ended { is_refusal result ≡ false → OfTexts opened.now.cfg.now opened.now.src.now opened.now.said.now
         opened.now.exploring.now (λ s. HasEnded opened.now.exploring.now s result (O.done outside.new)) }
 {
@@ -475,6 +498,8 @@ fn explore_files<O: Outside, R: Clock + Threads + Sync>(
 ) -> u8
     requires { IsWanted exploring.now.asked (Ok wanted.now) }
     ensures holds { result ≡ 0 → HoldsOfFiles (O.files outside.old) exploring.now (O.done outside.new) }
+    ensures mistaken { result ≡ 2 → PrintsNothing (O.done outside.old) (O.done outside.new)
+        ⊎ OfFiles (O.files outside.old) exploring.now (λ s. HasShownAll s (O.done outside.new)) }
     ensures ended { is_refusal result ≡ false →
         EndsOfFiles (O.files outside.old) exploring.now result (O.done outside.new) }
 {
@@ -522,8 +547,9 @@ fn report_mistake<O: Outside>(
 }
 
 /// Explores the schedules of the texts of two files, or prints their first fault, with status 1. The status is 2 where
-/// the words are mistaken, or a file that is read would be written, and 3 after a failure. This clock tells how long
-/// the search takes.
+/// the words are mistaken, or a file that is read would be written, and 3 after a failure. With status 2 nothing was
+/// printed, or all that a search came to. This clock tells how long the search takes.
+#[tactic(auto, using(crate::proofs::Printing::quietly_refused))]
 pub fn run_explore<O: Outside, R: Clock + Threads + Sync>(
     alloc: Global,
     outside: &mut O,
@@ -531,6 +557,8 @@ pub fn run_explore<O: Outside, R: Clock + Threads + Sync>(
     exploring: &Exploring<'_>,
 ) -> u8
     ensures holds { result ≡ 0 → HoldsOfFiles (O.files outside.old) exploring.now (O.done outside.new) }
+    ensures mistaken { result ≡ 2 → PrintsNothing (O.done outside.old) (O.done outside.new)
+        ⊎ OfFiles (O.files outside.old) exploring.now (λ s. HasShownAll s (O.done outside.new)) }
     ensures ended { is_refusal result ≡ false →
         EndsOfFiles (O.files outside.old) exploring.now result (O.done outside.new) }
     ensures apart { is_refusal result ≡ false → IsReportApart exploring.now }

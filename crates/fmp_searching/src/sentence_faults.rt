@@ -65,8 +65,9 @@ fn end_text(alloc: Global, configured: &System, text: &[u8]) -> Result<String, A
     String::from_str(alloc, NO_END)
 }
 
-/// What is said of a text of sentences about what is configured, of which one asks for no question about an image,
-/// whose bodies' calls stand in these lines; none where the mistake is one of words. `AllocError` if memory runs out.
+/// What is said of a text of sentences of which one asks no question about what is configured and its image, whose
+/// bodies' calls stand in these lines; none if the mistake is in the words of the command. `AllocError` if memory runs
+/// out.
 pub fn fault_of_sentences(
     alloc: Global,
     configured: &System,

@@ -219,7 +219,8 @@ impl CallLines {
     ghost use Rattle.fmp_searching.specs.Sites.{AreBodiesOf, HasSites, calls_in, code_of, line_of, sites_by};
     ghost use Rattle.fmp_searching.specs.Sites.{lines_of};
 
-    /// Those of a text that an image was built of; none of a text that is too long. `AllocError` if memory runs out.
+    /// The lines of the calls of a text that an image was built of; none for a text that is too long. `AllocError` if
+    /// memory runs out.
     pub fn new(alloc: Global, src: &[u8]) -> Result<CallLines, AllocError>
         ensures { IfOk result (λ lines. AreBodiesOf src.now lines) }
     {

@@ -62,8 +62,8 @@ fn append_held_up(
     }
 }
 
-/// Appends that the task at a place, of this block, can never go on: for what it waits, that it is suspended, for which
-/// spin lock it spins, if it does, or that it is ready and others run in its place. `AllocError` if memory runs out.
+/// Appends that the task at a place, of this block, can never go on: what it waits for, that it is suspended, which
+/// spin lock it spins for, or that it is ready and others run in its place. `AllocError` if memory runs out.
 pub fn append_stuck(
     sys: &System,
     task: usize,

@@ -39,7 +39,8 @@ pub fn said_of_code(alloc: Global, why: &str, word: &str) -> Result<String, Allo
     said_of(alloc, why, word, word, &known)
 }
 
-/// Likewise of a word that says nothing of what must never happen.
+/// What is said of a word that does not say what must never happen, where this is why it should. `AllocError` if memory
+/// runs out.
 pub fn said_of_never(alloc: Global, why: &str, word: &str) -> Result<String, AllocError> {
     let mut known = Vec::new(alloc);
     add_deeds(&mut known)?;
@@ -50,7 +51,8 @@ pub fn said_of_never(alloc: Global, why: &str, word: &str) -> Result<String, All
     said_of(alloc, why, word, part, &known)
 }
 
-/// Likewise of a word that is the name of none of these tasks.
+/// What is said of a word that is the name of none of these tasks, where this is why it should be one. `AllocError` if
+/// memory runs out.
 pub fn said_of_task(
     alloc: Global,
     why: &str,

@@ -55,7 +55,7 @@ fn has_unsaid(question: &Question, report: &Report) -> bool
     is_whole(report.ending) && is_one_unsaid(&question.monitors, &report.premises)
 }
 
-/// Whether that counts as a finding, since it is so and the search is strict.
+/// Whether a sentence that says nothing counts as a finding: there is one, and the search is strict.
 pub fn counts_unsaid(strict: bool, question: &Question, report: &Report) -> bool
     ensures { result ≡ (strict && spec.has_unsaid question.now report.now) }
 {

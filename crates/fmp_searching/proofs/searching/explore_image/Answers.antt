@@ -1,4 +1,4 @@
-use Rattle.std.proofs.Common.{Ok, subst, sym}
+use Rattle.std.proofs.Common.{Ok, inr, subst, sym}
 use Rattle.std.proofs.lemmas.Result.{IfOk-weaker}
 use Rattle.fmp_searching.specs.declared.asking.ExploreWords.{ExploreWords}
 use Rattle.fmp_searching.specs.Questions.{IsWanted}
@@ -33,3 +33,16 @@ returns-in-Ok-clause-ended g c =
       asks = asks;
       holds = ends told;
     }) c.explore_question.ensures.ended
+
+pub returns-in-Ok-clause-mistaken : goal.returns-in-Ok-clause-mistaken
+returns-in-Ok-clause-mistaken g c =
+    let asked = rw c.in-Ok.is at c.in_ok-question.ensures in
+    let asks = rw c.requires.0 at asked.1 in
+    IfOk-weaker c.explore_question.result _ _
+    (λ status shown two. inr (record {
+      bodies = c.in_ok-lines.lines;
+      are = c.in_ok-lines.ensures;
+      question = c.in-Ok.question;
+      asks = asks;
+      holds = shown two;
+    })) c.explore_question.ensures.mistaken

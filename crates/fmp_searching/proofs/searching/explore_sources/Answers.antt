@@ -1,7 +1,7 @@
 use Rattle.std.proofs.Common.{◌≡◌, ◌∙◌, ℕ, ap, false, map, subst}
 use Rattle.fmp_searching.specs.Claimed.{text_of}
 use Rattle.fmp_searching.specs.Files.{is_refusal}
-use Rattle.fmp_searching.proofs.Endings.{told_after}
+use Rattle.fmp_searching.proofs.Endings.{told_after, two_after}
 use Rattle.fmp_searching.proofs.Printing.{no_image}
 use Rattle.fmp_searching.proofs.searching.explore_sources.Goals as goal
 
@@ -47,4 +47,16 @@ returns-clause-ended g c = λ told.
       reports = c.write_report-written.ensures.written after.0;
       gives = given.1;
       claimed = returns-clause-claimed g c;
+    }
+
+pub returns-clause-mistaken : goal.returns-clause-mistaken
+returns-clause-mistaken g c = λ two.
+    record {
+      explored = c.in_ok-explored.explored;
+      is = c.in_ok-explored.ensures;
+      before = _;
+      prints =
+          c.give-status.ensures.mistaken
+          (two_after c.write_report-written.result c.give-status.result c.status_after.result
+          c.write_report-written.ensures.status c.status_after.ensures.value two);
     }

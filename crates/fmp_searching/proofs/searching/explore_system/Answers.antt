@@ -1,3 +1,4 @@
+use Rattle.fmp_searching.proofs.Printing.{or_weaker}
 use Rattle.fmp_searching.proofs.searching.explore_system.Goals as goal
 
 pub returns-in-Ok-clause-holds : goal.returns-in-Ok-clause-holds
@@ -19,3 +20,15 @@ returns-in-Ok-clause-ended g c = λ told.
       described = c.requires.described;
       holds = c.explore_status-status.ensures.ended told;
     }
+
+pub returns-in-Ok-clause-mistaken : goal.returns-in-Ok-clause-mistaken
+returns-in-Ok-clause-mistaken g c = λ two.
+    or_weaker
+    (λ h. record {
+      image = c.in-Ok.image;
+      builds = c.in-Ok.ensures.builds;
+      configured = c.args.configured.now;
+      described = c.requires.described;
+      holds = h;
+    })
+    (c.explore_status-status.ensures.mistaken two)

@@ -1,6 +1,6 @@
 use Rattle.std.proofs.Common.{subst}
 use Rattle.std.proofs.lemmas.Result.{IfOk-weaker}
-use Rattle.fmp_searching.specs.Claimed.{HasClaimed, HasEnded, HasShown}
+use Rattle.fmp_searching.specs.Claimed.{HasClaimed, HasEnded, HasShown, HasShownAll}
 use Rattle.fmp_searching.specs.Sources.{SourceTables}
 use Rattle.fmp_searching.proofs.searching.explore_told.Goals as goal
 
@@ -39,3 +39,15 @@ returns-clause-ended g c =
           (g.O.Outside.done c.explore_sources.new.outside))
           c.requires.same (h is);
     }) c.explore_sources.ensures.ended
+
+pub returns-clause-mistaken : goal.returns-clause-mistaken
+returns-clause-mistaken g c =
+    IfOk-weaker c.explore_sources.result _ _
+    (λ status h is. record {
+      positions = c.args.sources.now.positions.now;
+      stand = c.requires.stand;
+      names = c.args.sources.now.names.now;
+      so =
+          subst (λ (s : SourceTables). HasShownAll s (g.O.Outside.done c.explore_sources.new.outside)) c.requires.same
+          (h is);
+    }) c.explore_sources.ensures.mistaken
