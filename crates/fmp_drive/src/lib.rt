@@ -1,4 +1,4 @@
-//! Steps for a system that has none: its processors in turn, and the clock when none of them goes on.
+//! Steps for a system that has none: its processors run in turn, and the clock ticks when none of them can go on.
 #![tactic(auto)]
 
 mod driving;

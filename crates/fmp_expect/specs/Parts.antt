@@ -101,13 +101,17 @@ number_of_handler w is =
     if nat_eq (count_by (λ i. is_named w i.entry) is) 1
     then option_map (λ i. i.number) (find (λ i. is_named w i.entry) is) else None
 
--- the task of a name, or else the cyclic handler, or else the handler with the body of the name, if only one interrupt
--- has it
+-- the number of the interrupt whose handler is the only one with the body of this name: a cyclic handler is one too
+abbrev pub only_handler : SystemTables → (name : List ℕ) → Option ℕ
+only_handler sys w =
+    if list_any (λ c. is_named w c.entry) sys.cyclics then None else number_of_handler w sys.interrupts
+
+-- the task of a name, or else the cyclic handler, or else the interrupt whose handler alone has the body of the name
 abbrev pub actor_named : SystemTables → List ℕ → Option ExpectedActor
 actor_named sys w =
     or_else (option_map (λ t. actor.Task t) (task_named sys w))
     (or_else (option_map (λ c. actor.Cyclic c) (cyclic_named sys w))
-    (option_map (λ n. actor.Interrupt (n - 1)) (number_of_handler w sys.interrupts)))
+    (option_map (λ n. actor.Interrupt (n - 1)) (only_handler sys w)))
 
 -- the interrupt of a word: its number from 1 to 32, or the name of a body that only its handler has
 abbrev pub interrupt_named : SystemTables → List ℕ → Option ℕ

@@ -31,7 +31,7 @@ pub enum Expects {
     /// The number of an interrupt.
     #[error("the number of an interrupt, 1 to 32")]
     Interrupt,
-    /// The number of an interrupt, or the name of a body that only its handler has.
+    /// The number of an interrupt, or the name of a body that no other interrupt has.
     #[error("the number of an interrupt, 1 to 32, or a body that only its handler has")]
     InterruptOrHandler,
     /// The number of an interrupt. An image has no names of bodies.

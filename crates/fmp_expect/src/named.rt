@@ -141,10 +141,10 @@ fn has_name(interrupt: &InterruptConfig) -> bool
 }
 
 /// Whether the body of a handler has this name.
-fn is_named(interrupt: &InterruptConfig, word: &[u8]) -> bool
-    ensures { result ≡ spec.is_named word.now interrupt.now.entry }
+fn is_named(entry: Entry, word: &[u8]) -> bool
+    ensures { result ≡ spec.is_named word.now entry }
 {
-    match interrupt.entry {
+    match entry {
         Entry::Named(name) => name.as_bytes() == word,
         Entry::Body(_) => false,
     }
@@ -154,14 +154,17 @@ fn is_named(interrupt: &InterruptConfig, word: &[u8]) -> bool
 fn count_named(interrupts: &[InterruptConfig], word: &[u8]) -> usize
     ensures { result ≡ count_by (λ i. spec.is_named word.now i.entry) interrupts.now }
 {
-    interrupts.iter().filter(|i| is_named(*i, word)).count()
+    interrupts
+        .iter()
+        .filter(|i| is_named(i.entry, word))
+        .count()
 }
 
 /// The first of these interrupts that has a handler with the body of this name.
 fn first_named(interrupts: &[InterruptConfig], word: &[u8]) -> Option<InterruptConfig>
     ensures { result ≡ find (λ i. spec.is_named word.now i.entry) interrupts.now }
 {
-    interrupts.iter().copied().find(|i| is_named(i, word))
+    interrupts.iter().copied().find(|i| is_named(i.entry, word))
 }
 
 /// The number of the interrupt whose handler has the body of this name, if only one has it.
@@ -177,8 +180,25 @@ fn number_of_handler(interrupts: &[InterruptConfig], word: &[u8]) -> Option<u8>
     }
 }
 
-/// The task of this name, or else the cyclic handler, or else the handler with the body of this name, if only one
-/// interrupt has it.
+/// Whether a cyclic handler has the body of this name.
+fn is_cyclic_body(cyclics: &[CyclicConfig], word: &[u8]) -> bool
+    ensures { result ≡ list_any (λ c. spec.is_named word.now c.entry) cyclics.now }
+{
+    cyclics.iter().any(|cyclic| is_named(cyclic.entry, word))
+}
+
+/// The number of the interrupt whose handler is the only one with the body of this name.
+fn only_handler(sys: &System, word: &[u8]) -> Option<u8>
+    ensures { result ≡ spec.only_handler (tables_of sys.now) word.now }
+{
+    if is_cyclic_body(&sys.cyclics, word) {
+        return None;
+    }
+    number_of_handler(&sys.interrupts, word)
+}
+
+/// The task of this name, or else the cyclic handler, or else the interrupt whose handler alone has the body of this
+/// name.
 pub fn actor_named(sys: &System, word: &[u8]) -> Option<ExpectedActor>
     ensures { result ≡ spec.actor_named (tables_of sys.now) word.now }
 {
@@ -188,13 +208,13 @@ pub fn actor_named(sys: &System, word: &[u8]) -> Option<ExpectedActor>
     if let Some(cyclic) = cyclic_among(&sys.cyclics, word) {
         return Some(ExpectedActor::Cyclic(cyclic));
     }
-    match number_of_handler(&sys.interrupts, word) {
+    match only_handler(sys, word) {
         Some(number) => Some(ExpectedActor::Interrupt(number.saturating_sub(1))),
         None => None,
     }
 }
 
-/// The interrupt of a word: its number from 1 to 32, or the name of a body that only its handler has.
+/// The interrupt of a word: its number from 1 to 32, or the name of a body that no other interrupt has.
 pub fn interrupt_named(sys: &System, word: &[u8]) -> Option<u8>
     ensures { result ≡ spec.interrupt_named (tables_of sys.now) word.now }
 {

@@ -49,6 +49,7 @@ pub fn found_or<'a, A: Copy>(
     }
 }
 
+/// The deed that the first word of a line tells, with what stands after it.
 pub fn deed_in(line: &[u8]) -> Result<(ExpectedDeed, &[u8]), ExpectationFlaw>
     ensures read { IfOk result (λ r. spec.deed_of (words_of line.now)
         ≡ Ok (record { value = r.0; rest = words_of r.1.now })) }
@@ -60,6 +61,7 @@ pub fn deed_in(line: &[u8]) -> Result<(ExpectedDeed, &[u8]), ExpectationFlaw>
     }
 }
 
+/// The actor that the first word of a line names, with what stands after it.
 pub fn actor_in<'a>(
     sys: &System,
     line: &'a [u8],
@@ -75,6 +77,7 @@ pub fn actor_in<'a>(
     }
 }
 
+/// The place of the task that the first word of a line names, with what stands after it.
 pub fn task_in<'a>(sys: &System, line: &'a [u8]) -> Result<(usize, &'a [u8]), ExpectationFlaw>
     ensures read { IfOk result (λ r. spec.task_of (tables_of sys.now) (words_of line.now)
         ≡ Ok (record { value = r.0; rest = words_of r.1.now })) }
@@ -86,7 +89,7 @@ pub fn task_in<'a>(sys: &System, line: &'a [u8]) -> Result<(usize, &'a [u8]), Ex
     }
 }
 
-/// The number of an interrupt, or the name of a body that only its handler has.
+/// The number of an interrupt, or the name of a body that no other interrupt has.
 pub fn interrupt_number_in<'a>(
     sys: &System,
     line: &'a [u8],
@@ -102,6 +105,7 @@ pub fn interrupt_number_in<'a>(
     }
 }
 
+/// The state that the first word of a line names, with what stands after it.
 pub fn state_in(line: &[u8]) -> Result<(StateWord, &[u8]), ExpectationFlaw>
     ensures read { IfOk result (λ r. spec.state_of (words_of line.now)
         ≡ Ok (record { value = r.0; rest = words_of r.1.now })) }
@@ -113,6 +117,7 @@ pub fn state_in(line: &[u8]) -> Result<(StateWord, &[u8]), ExpectationFlaw>
     }
 }
 
+/// The number from `low` to `high` that the first word of a line is, with what stands after it.
 pub fn ranged_in(
     expects: Expects,
     low: u32,
@@ -180,6 +185,7 @@ pub fn by_in<'a>(
     }
 }
 
+/// The happening with which a line begins, with what stands after it.
 pub fn happening_in<'a>(
     sys: &System,
     line: &'a [u8],

@@ -11,6 +11,8 @@ mod NameLemmas
 mod PartLemmas
 mod SeenLemmas
 mod TestAnswers
+mod TestEnds
+mod TestImages
 mod TrialRuns
 mod WayLemmas
 mod WordLemmas

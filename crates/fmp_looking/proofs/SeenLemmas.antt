@@ -3,6 +3,7 @@ use Rattle.std.proofs.Common.{◌≡◌, ◌∙◌, ℕ, ◌+◌, ◌-◌, ◌<�
 use Rattle.std.proofs.Common.{IfOk, ap, append_assoc, arith, count_by, get_or, length, length-append, refl, sym}
 use Rattle.std.proofs.Math.Path.{fun_ext}
 use Rattle.std.proofs.lemmas.List.{append-nil}
+use Rattle.std.specs.List.{AllByRecursion}
 use Rattle.fmp_base.specs.declared.calls.Reply.{Reply}
 use Rattle.fmp_base.specs.declared.codes.Er.{Er}
 use Rattle.fmp_base.specs.declared.events.Effect.{Effect}
@@ -188,50 +189,72 @@ module _ (i : ImageTables) (n : ℕ) where
       none_after (with_runs i n (none_seen positions) runs) (with_runs i n (none_seen positions) runs).gone
       (still_none (none_seen positions) runs none_and_none)
 
+  all_both : (P : List Event → Type 0) (a b : List (List Event)) → AllByRecursion P a → AllByRecursion P b
+      → AllByRecursion P (a ++ b)
+  all_both P [] b h g = g
+  all_both P (es ∷ a) b h g = (h.0, all_both P a b h.1 g)
+
   -- what is seen of some runs, and of others after them, is seen of all
-  pub both_seen : (positions : List (List CallPosition)) (a b : ℕ) (s t : Seen) → AreRunsSeen positions i n a s
-      → AreRunsSeen positions i n b t → AreRunsSeen positions i n (a + b) (both s t)
-  both_seen positions a b s t h g =
-      let all : Seen = with_runs i n (none_seen positions) h.0 in
-      let there : all.positions ≡ positions = positions_stay (none_seen positions) h.0 in (
-        h.0 ++ g.0,
-        length-append h.0 g.0 ∙ ap (λ (x : ℕ). x + length g.0) h.1 ∙ ap (λ (x : ℕ). a + x) g.1,
-        ap (λ (x : Seen). both s x) g.2
-            ∙ sym (runs_after s (none_seen positions) g.0)
-            ∙ ap (λ (x : Seen). with_runs i n x g.0)
-            (ap (λ (x : Seen). both x (none_seen positions)) h.2
-            ∙ ap (λ (p : List (List CallPosition)). both all (none_seen p)) (sym there) ∙ and_none positions h.0)
-            ∙ sym (runs_and_runs (none_seen positions) h.0 g.0),
-      )
+  pub both_seen : (P : List Event → Type 0) (positions : List (List CallPosition)) (a b : ℕ) (s t : Seen)
+      → AreRunsSeen P positions i n a s → AreRunsSeen P positions i n b t
+      → AreRunsSeen P positions i n (a + b) (both s t)
+  both_seen P positions a b s t h g =
+      let all : Seen = with_runs i n (none_seen positions) h.runs in
+      let there : all.positions ≡ positions = positions_stay (none_seen positions) h.runs in
+      record {
+        runs = h.runs ++ g.runs;
+        made = all_both P h.runs g.runs h.made g.made;
+        many =
+            length-append h.runs g.runs
+            ∙ ap (λ (x : ℕ). x + length g.runs) h.many
+            ∙ ap (λ (x : ℕ). a + x) g.many;
+        seen =
+            ap (λ (x : Seen). both s x) g.seen
+            ∙ sym (runs_after s (none_seen positions) g.runs)
+            ∙ ap (λ (x : Seen). with_runs i n x g.runs)
+            (ap (λ (x : Seen). both x (none_seen positions)) h.seen
+            ∙ ap (λ (p : List (List CallPosition)). both all (none_seen p)) (sym there) ∙ and_none positions h.runs)
+            ∙ sym (runs_and_runs (none_seen positions) h.runs g.runs);
+      }
 
   -- before the first part
-  pub before_parts : (positions : List (List CallPosition)) (seeds : Seeds) (parts : ℕ) (s : Seen)
-      → s ≡ none_seen positions → AreRunsSeen positions i n (edge seeds parts 0 - seeds.before) s
-  before_parts positions seeds parts s none = ([], sym (first_edge seeds parts), none)
+  pub before_parts : (P : List Event → Type 0) (positions : List (List CallPosition)) (seeds : Seeds) (parts : ℕ)
+      (s : Seen) → s ≡ none_seen positions → AreRunsSeen P positions i n (edge seeds parts 0 - seeds.before) s
+  before_parts P positions seeds parts s none =
+      record { runs = []; made = tt; many = sym (first_edge seeds parts); seen = none }
 
   -- after one part more
-  pub after_part : (positions : List (List CallPosition)) (seeds : Seeds) (parts k : ℕ) (s t u : Seen)
-      → AreRunsSeen positions i n (edge seeds parts k - seeds.before) s
-      → AreRunsSeen positions i n (edge seeds parts (k + 1) - edge seeds parts k) t → u ≡ both s t
-      → AreRunsSeen positions i n (edge seeds parts (k + 1) - seeds.before) u
-  after_part positions seeds parts k s t u h g is =
+  pub after_part : (P : List Event → Type 0) (positions : List (List CallPosition)) (seeds : Seeds) (parts k : ℕ)
+      (s t u : Seen) → AreRunsSeen P positions i n (edge seeds parts k - seeds.before) s
+      → AreRunsSeen P positions i n (edge seeds parts (k + 1) - edge seeds parts k) t → u ≡ both s t
+      → AreRunsSeen P positions i n (edge seeds parts (k + 1) - seeds.before) u
+  after_part P positions seeds parts k s t u h g is =
       let before : ℕ = edge seeds parts k - seeds.before in
       let more : ℕ = edge seeds parts (k + 1) - edge seeds parts k in
-      let all = both_seen positions before more s t h g in
-      (all.0, all.1 ∙ next_edge seeds parts k, is ∙ all.2)
+      let all = both_seen P positions before more s t h g in
+      record {
+        runs = all.runs;
+        made = all.made;
+        many = all.many ∙ next_edge seeds parts k;
+        seen = is ∙ all.seen;
+      }
 
   -- after the last one
-  pub after_parts : (positions : List (List CallPosition)) (seeds : Seeds) (parts : ℕ) (s : Seen) → 0 < parts
-      → AreRunsSeen positions i n (edge seeds parts parts - seeds.before) s
-      → AreRunsSeen positions i n (seeds.last - seeds.before) s
-  after_parts positions seeds parts s some h = (h.0, h.1 ∙ last_edge seeds parts some, h.2)
+  pub after_parts : (P : List Event → Type 0) (positions : List (List CallPosition)) (seeds : Seeds) (parts : ℕ)
+      (s : Seen) → 0 < parts → AreRunsSeen P positions i n (edge seeds parts parts - seeds.before) s
+      → AreRunsSeen P positions i n (seeds.last - seeds.before) s
+  after_parts P positions seeds parts s some h =
+      record { runs = h.runs; made = h.made; many = h.many ∙ last_edge seeds parts some; seen = h.seen }
 
   -- what is known after one part more, if there was memory for it
-  pub with_part : {E : Type 0} (positions : List (List CallPosition)) (seeds : Seeds) (parts k : ℕ) (s u : Sightings)
-      (part : Result Sightings E) → AreRunsSeen positions i n (edge seeds parts k - seeds.before) (seen_at positions s)
-      → IfOk part (λ t. AreRunsSeen positions i n (edge seeds parts (k + 1) - edge seeds parts k) (seen_at positions t))
-      → IsWithPart s part u → AreRunsSeen positions i n (edge seeds parts (k + 1) - seeds.before) (seen_at positions u)
-  with_part positions seeds parts k s u (Ok t) h g with =
-      after_part positions seeds parts k (seen_at positions s) (seen_at positions t) (seen_at positions u) h g
+  pub with_part : {E : Type 0} (P : List Event → Type 0) (positions : List (List CallPosition)) (seeds : Seeds)
+      (parts k : ℕ) (s u : Sightings) (part : Result Sightings E)
+      → AreRunsSeen P positions i n (edge seeds parts k - seeds.before) (seen_at positions s)
+      → IfOk part
+      (λ t. AreRunsSeen P positions i n (edge seeds parts (k + 1) - edge seeds parts k) (seen_at positions t))
+      → IsWithPart s part u
+      → AreRunsSeen P positions i n (edge seeds parts (k + 1) - seeds.before) (seen_at positions u)
+  with_part P positions seeds parts k s u (Ok t) h g with =
+      after_part P positions seeds parts k (seen_at positions s) (seen_at positions t) (seen_at positions u) h g
       (with positions)
-  with_part positions seeds parts k s u (Err e) h g with = absurd with
+  with_part P positions seeds parts k s u (Err e) h g with = absurd with

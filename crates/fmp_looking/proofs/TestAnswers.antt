@@ -1,13 +1,18 @@
 -- What the calls of runs were answered, one run after the other.
-use Rattle.std.proofs.Common.{◌≡◌, ◌∙◌, ℕ, ◌+◌, List, [], ◌∷◌, ◌++◌, ap, length, refl, sym}
+use Rattle.std.proofs.Common.{◌≡◌, ◌∙◌, ℕ, ◌+◌, List, [], ◌∷◌, ◌++◌, ap, length, refl, subst, sym}
 use Rattle.fmp_base.specs.declared.events.Event.{Event}
 use Rattle.fmp_image_bytes.specs.Images.{ImageTables}
 use Rattle.fmp_instructions.specs.Machine.{code_meaning}
 use Rattle.fmp_frames.specs.declared.answers.SiteAnswer.{SiteAnswer}
 use Rattle.fmp_frames.specs.Answers.{answers_in}
+use Rattle.fmp_expect.specs.declared.expectation.Expected.{Expected}
+use Rattle.fmp_frames.specs.declared.placed_lines.LineForm.{LineForm}
 use Rattle.fmp_replay.specs.Replays.{kernel_after}
-use Rattle.fmp_looking.specs.TestRefusals.{AreAnswersOf, answers_after, with_answers}
-use Rattle.fmp_looking.proofs.TrialRuns.{one_longer}
+use Rattle.fmp_trials.specs.Drawn.{IsWhole}
+use Rattle.fmp_looking.specs.declared.wanted.ImageTest.{ImageTest}
+use Rattle.fmp_looking.specs.Covered.{IsTestRun}
+use Rattle.fmp_looking.specs.TestRefusals.{AreAnswersOf, AreRefusedLines, answers_after, with_answers}
+use Rattle.fmp_looking.proofs.TrialRuns.{all_and, one_longer}
 
 abbrev answers_to : ImageTables → (n : ℕ) → List Event → List SiteAnswer
 answers_to i n es = answers_in code_meaning (kernel_after i n []) es (length i.system.tasks)
@@ -17,19 +22,45 @@ runs_and : (i : ImageTables) (n : ℕ) (known : List SiteAnswer) (runs : List (L
 runs_and i n known [] es = refl
 runs_and i n known (run ∷ runs) es = runs_and i n (with_answers known (answers_to i n run)) runs es
 
--- before any run
-pub none_answered : (i : ImageTables) (n : ℕ) (known : List SiteAnswer) → known ≡ [] → AreAnswersOf i n 0 known
-none_answered i n known none = ([], refl, none)
+module _ (P : List Event → Type 0) where
+  -- before any run
+  pub none_answered : (i : ImageTables) (n : ℕ) (known : List SiteAnswer) → known ≡ [] → AreAnswersOf P i n 0 known
+  none_answered i n known none = record { runs = []; made = tt; many = refl; answers = none }
 
--- after one run more
-pub one_answered : (i : ImageTables) (n count : ℕ) (known more next : List SiteAnswer) (es : List Event)
-    → AreAnswersOf i n count known → more ≡ answers_to i n es → next ≡ with_answers known more
-    → AreAnswersOf i n (count + 1) next
-one_answered i n count known more next es h is so = (
-  h.0 ++ es ∷ [],
-  one_longer h.0 es ∙ ap (λ (k : ℕ). k + 1) h.1,
-  so
-      ∙ ap (λ (a : List SiteAnswer). with_answers known a) is
-      ∙ ap (λ (k : List SiteAnswer). with_answers k (answers_to i n es)) h.2
-      ∙ sym (runs_and i n [] h.0 es),
-)
+  -- after one run more
+  pub one_answered : (i : ImageTables) (n count : ℕ) (known more next : List SiteAnswer) (es : List Event)
+      → AreAnswersOf P i n count known → P es → more ≡ answers_to i n es → next ≡ with_answers known more
+      → AreAnswersOf P i n (count + 1) next
+  one_answered i n count known more next es h made is so =
+      record {
+        runs = h.runs ++ es ∷ [];
+        made = all_and P h.runs es h.made made;
+        many = one_longer h.runs es ∙ ap (λ (k : ℕ). k + 1) h.many;
+        answers =
+            so
+            ∙ ap (λ (a : List SiteAnswer). with_answers known a) is
+            ∙ ap (λ (k : List SiteAnswer). with_answers k (answers_to i n es)) h.answers
+            ∙ sym (runs_and i n [] h.runs es);
+      }
+
+  -- as many as there are to be
+  pub as_many : (i : ImageTables) (n count all : ℕ) (known : List SiteAnswer) → count ≡ all
+      → AreAnswersOf P i n count known → AreAnswersOf P i n all known
+  as_many i n count all known is h =
+      record { runs = h.runs; made = h.made; many = h.many ∙ is; answers = h.answers }
+
+-- the runs of a test, by other names of what is expected and of how many events are asked for
+pub refused_of_test : (t : ImageTest) (form : LineForm) (file src : List ℕ) (count : ℕ) (out : List ℕ)
+    (xs ys : List Expected) (events : ℕ) → xs ≡ ys → events ≡ t.testing.events
+    → AreRefusedLines (λ es. IsWhole code_meaning (kernel_after t.image.now t.testing.bound []) xs events es) form file
+    src t.image.now t.testing.bound count out
+    → AreRefusedLines (IsTestRun t ys) form file src t.image.now t.testing.bound count out
+refused_of_test t form file src count out xs ys events is same h =
+    subst
+    (λ (zs : List Expected).
+    AreRefusedLines (λ es. IsWhole code_meaning (kernel_after t.image.now t.testing.bound []) zs t.testing.events es)
+    form file src t.image.now t.testing.bound count out) is
+    (subst
+    (λ (k : ℕ).
+    AreRefusedLines (λ es. IsWhole code_meaning (kernel_after t.image.now t.testing.bound []) xs k es) form file src
+    t.image.now t.testing.bound count out) same h)

@@ -15,7 +15,7 @@ use Rattle.fmp_looking.specs.declared.commands.DriveEnding.{DriveEnding}
 use Rattle.fmp_looking.specs.declared.driving.Drive.{Drive}
 use Rattle.fmp_looking.specs.declared.refused.NamedText.{NamedText}
 use Rattle.fmp_looking.specs.Covered.{IsCoverage, IsLcov}
-use Rattle.fmp_looking.specs.Drives.{DrivesImage}
+use Rattle.fmp_looking.specs.Drives.{DrivesImage, ending_of}
 use Rattle.fmp_looking.specs.Traces.{AreShown, IsTrace}
 
 -- an image is driven, until as many events are done as a run is to have at most: by these events, and so it ends
@@ -23,8 +23,7 @@ pub record IsDrive (i : ImageTables) (run : Running) (es : List Event) (ending :
   pub drive : Drive
   pub driven : DrivesImage i run.bound (min run.events (2 ^ 20)) drive
   pub events : es ≡ drive.driven.steps.items
-  pub ends :
-      ending ≡ Some (record { stop = drive.driven.stop; next = drive.next; processors = i.system.processors })
+  pub ends : ending ≡ Some (ending_of i drive)
 
 -- what comes in a run: the events of a steps text, or those of a drive where there is none
 abbrev pub AreComing : ImageTables → Running → (steps : Option (Bor (List ℕ))) → List Event → Option DriveEnding

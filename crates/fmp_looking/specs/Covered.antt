@@ -1,7 +1,11 @@
 -- The coverage of the text of its bodies by runs of an image: as a table, and as a tracefile of lcov.
 use Rattle.std.specs.Prelude.{ℕ, ◌≡◌, ◌+◌, ◌-◌, ◌<◌, List, [], ◌∷◌, ◌++◌, Option, Result, Ok, Err, IfOk, length}
 use Rattle.std.specs.Prelude.{map, slice_index_or}
+use Rattle.std.specs.List.{AllByRecursion}
 use Rattle.fmp_base.specs.declared.events.Event.{Event}
+use Rattle.fmp_base.specs.Systems.{tables_of}
+use Rattle.fmp_expect.specs.declared.expectation.Expected.{Expected}
+use Rattle.fmp_expect.specs.CallSentences.{other_sentences_of}
 use Rattle.fmp_looking.specs.declared.marks.Mark.{Mark}
 use Rattle.fmp_looking.specs.declared.observing.CallSeen.{CallSeen}
 use Rattle.fmp_looking.specs.Branches.{branch_steps}
@@ -17,7 +21,11 @@ use Rattle.fmp_replay.specs.Replays.{kernel_after}
 use Rattle.fmp_looking.specs.declared.covering.RunsSeen.{RunsSeen}
 use Rattle.fmp_looking.specs.declared.covering.Sightings.{Sightings}
 use Rattle.fmp_trials.specs.declared.seeds.Seeds.{Seeds}
+use Rattle.fmp_trials.specs.Drawn.{IsWhole}
 use Rattle.fmp_trials.specs.Parts.{edge}
+use Rattle.fmp_looking.specs.declared.trying.Trials.{Trials}
+use Rattle.fmp_looking.specs.declared.wanted.ImageTest.{ImageTest}
+use Rattle.fmp_looking.specs.declared.wanted.TestTexts.{TestTexts}
 use Rattle.fmp_looking.specs.Coverage.{AreLinesOf, count_of, tracefile}
 use Rattle.fmp_looking.specs.Ways.{TimesGone, both_gone, none_gone, times_in, with_steps}
 
@@ -62,10 +70,13 @@ with_runs i n s (es ∷ runs) = with_runs i n (with_run i n s es) runs
 abbrev pub both : Seen → Seen → Seen
 both s t = record t { made = s.made ++ t.made; calls = s.calls ++ t.calls; gone = both_gone s.gone t.gone }
 
--- this was seen of some runs of an image, this many, whose calls stand at these positions
-abbrev pub AreRunsSeen : List (List CallPosition) → ImageTables → (n runs : ℕ) → Seen → Type 0
-AreRunsSeen positions i n count s =
-    (runs : List (List Event)) × (length runs ≡ count) × (s ≡ with_runs i n (none_seen positions) runs)
+-- this was seen of runs of an image, this many, each of which is made so, and whose calls stand at these positions
+pub record AreRunsSeen (IsMade : List Event → Type 0) (positions : List (List CallPosition)) (i : ImageTables)
+    (n count : ℕ) (s : Seen) : Type 0 where
+  pub runs : List (List Event)
+  pub made : AllByRecursion IsMade runs
+  pub many : length runs ≡ count
+  pub seen : s ≡ with_runs i n (none_seen positions) runs
 
 -- what is seen of a part of runs was added
 abbrev pub IsWithPart : {E : Type 0} → (before : Sightings) → Result Sightings E → (after : Sightings) → Type 0
@@ -75,13 +86,13 @@ IsWithPart before (Ok part) after =
 IsWithPart before (Err e) after = ⊥
 
 -- what is seen of each part of seeds, where they are cut into this many
-abbrev pub ArePartsSeen : {E : Type 0} → List (List CallPosition) → ImageTables → (n : ℕ) → Seeds → (parts : ℕ)
-    → List (Result Sightings E) → Type 0
-ArePartsSeen {E} positions i n seeds parts seen =
+abbrev pub ArePartsSeen : {E : Type 0} → (IsMade : List Event → Type 0) → List (List CallPosition) → ImageTables
+    → (n : ℕ) → Seeds → (parts : ℕ) → List (Result Sightings E) → Type 0
+ArePartsSeen {E} IsMade positions i n seeds parts seen =
     (length seen ≡ parts)
     × ((k : ℕ) (d : Result Sightings E) → k < parts
     → IfOk (slice_index_or seen k d)
-    (λ s. AreRunsSeen positions i n (edge seeds parts (k + 1) - edge seeds parts k) (seen_at positions s)))
+    (λ s. AreRunsSeen IsMade positions i n (edge seeds parts (k + 1) - edge seeds parts k) (seen_at positions s)))
 
 -- this was seen of these runs of an image, in this text of its bodies
 pub record IsSeen (src : List ℕ) (i : ImageTables) (n : ℕ) (runs : List (List Event)) (s : Seen) : Type 0 where
@@ -89,9 +100,28 @@ pub record IsSeen (src : List ℕ) (i : ImageTables) (n : ℕ) (runs : List (Lis
   pub none : IsNoneSeen src first
   pub seen : s ≡ with_runs i n first runs
 
--- this was seen of some runs of an image, this many
-abbrev pub AreTrialsSeen : (src : List ℕ) → ImageTables → (n runs : ℕ) → Seen → Type 0
-AreTrialsSeen src i n count s = (runs : List (List Event)) × (length runs ≡ count) × IsSeen src i n runs s
+-- a random run of trials: as many events as are planned, unless it breaks an expectation before
+abbrev pub IsRunOf : Trials → List Event → Type 0
+IsRunOf t es = IsWhole code_meaning (kernel_after t.opened.image.now t.opened.bound []) t.expected.now t.plan.events es
+
+-- this was seen of runs of an image, this many, each of which is made so
+pub record AreTrialsSeen (IsMade : List Event → Type 0) (src : List ℕ) (i : ImageTables) (n count : ℕ) (s : Seen)
+    : Type 0 where
+  pub runs : List (List Event)
+  pub made : AllByRecursion IsMade runs
+  pub many : length runs ≡ count
+  pub seen : IsSeen src i n runs s
+
+-- a random run of a test: as many events as are asked for, unless it breaks one of these expectations before
+abbrev pub IsTestRun : ImageTest → List Expected → List Event → Type 0
+IsTestRun t expected es =
+    IsWhole code_meaning (kernel_after t.image.now t.testing.bound []) expected t.testing.events es
+
+-- this was seen of random runs of a test, this many, which go by the expectations of a text that are not about calls
+pub record IsTestSeen (t : ImageTest) (texts : TestTexts) (count : ℕ) (s : Seen) : Type 0 where
+  pub expected : List Expected
+  pub read : other_sentences_of (tables_of t.configured.now) texts.expectations.now ≡ Ok expected
+  pub seen : AreTrialsSeen (IsTestRun t expected) texts.src.now t.image.now t.testing.bound count s
 
 -- the table of what is seen, of a text in a file
 pub record IsTable (file src : List ℕ) (s : Seen) (out : List ℕ) : Type 0 where

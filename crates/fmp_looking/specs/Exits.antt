@@ -1,6 +1,7 @@
 -- The statuses that the program ends with, and why a recording is not read.
-use Rattle.std.specs.Prelude.{ℕ, List, Bool, codes, nat_eq, if◌then◌else◌}
+use Rattle.std.specs.Prelude.{ℕ, ◌≡◌, List, Bool, codes, nat_eq, if◌then◌else◌}
 use Rattle.std.specs.List.{starts_with}
+use Rattle.fmp_engine.specs.declared.fault.SimFault.{SimFault}
 use Rattle.fmp_engine.specs.declared.fault.SimFault.TheVariants as sim
 use Rattle.fmp_lex.specs.declared.fault.BuildFault.TheVariants as build
 use Rattle.fmp_recording.specs.declared.faults.RecordingFault.{RecordingFault}
@@ -8,6 +9,9 @@ use Rattle.fmp_recording.specs.declared.faults.RecordingFault.TheVariants as rec
 use Rattle.fmp_looking.specs.declared.exit.ViewExit.{ViewExit}
 use Rattle.fmp_looking.specs.declared.exit.ViewExit.TheVariants.{Sim, Misplaced, OtherText, Configuration, Recording}
 use Rattle.fmp_looking.specs.declared.exit.ViewExit.TheVariants.{LastEvents, Picture, Expect, Failed}
+use Rattle.fmp_looking.specs.declared.kinds.Misplaced.TheVariants as misplaced
+use Rattle.fmp_looking.specs.declared.timeline.TimelineFault.{TimelineFault}
+use Rattle.fmp_looking.specs.declared.timeline.TimelineFault.TheVariants as timeline
 
 -- 1 for a fault of what was read, 2 if the run has no such picture, 3 for a failure or if memory ran out
 abbrev pub status_of : ViewExit → ℕ
@@ -32,3 +36,16 @@ has_last_events text = starts_with nat_eq text (codes "dropped ")
 abbrev pub exit_of_recording : RecordingFault → (text : List ℕ) → ViewExit
 exit_of_recording recording.Memory text = Recording recording.Memory
 exit_of_recording fault text = if has_last_events text then LastEvents else Recording fault
+
+-- why nothing of a run is printed or drawn, which has this fault
+abbrev pub exit_of_run : TimelineFault → ViewExit
+exit_of_run (timeline.Sim fault) = Sim fault
+exit_of_run (timeline.NoEvent last) = Picture (timeline.NoEvent last)
+exit_of_run (timeline.TooLarge first last) = Picture (timeline.TooLarge first last)
+
+-- nothing is made of a file since it has this fault; it may be said too of which kind the file is
+abbrev pub IsOver : SimFault → ViewExit → Type 0
+IsOver fault (Sim told) = told ≡ fault
+IsOver fault (Misplaced (misplaced.Image told kind)) = told ≡ fault
+IsOver fault (Misplaced (misplaced.Steps told kind)) = told ≡ fault
+IsOver fault _ = ⊥

@@ -3,6 +3,7 @@ use Rattle.std.specs.Prelude.{ℕ, ◌≡◌, ◌==◌, Bool, true, false, not, 
 use Rattle.std.specs.Prelude.{Ok, Option, Some, None, codes, filter, if◌then◌else◌, is_some, length, map, nat_eq}
 use Rattle.std.specs.Prelude.{string_bytes}
 use Rattle.std.specs.List.{flat_map}
+use Rattle.std.specs.Str.Lossy.{utf8_lossy}
 use Rattle.json.specs.Token.{Token}
 use Rattle.fmp_base.specs.declared.events.Event.{Event}
 use Rattle.fmp_base.specs.Steps.{Reaction}
@@ -32,6 +33,7 @@ use Rattle.fmp_looking.specs.declared.judging.JudgementForm.{JudgementForm}
 use Rattle.fmp_looking.specs.declared.judging.JudgementForm.TheVariants as form
 use Rattle.fmp_looking.specs.CallSentences.{JudgeTables, breaks_by}
 use Rattle.fmp_looking.specs.Expects.{empty_claims}
+use Rattle.fmp_expect.specs.Words.{line_at}
 
 -- how a run does by one expectation alone
 abbrev pub judged_by : {B C X : Type 0} → (KernelView B C → X → Reaction C) → KernelView B C → List X → Expected
@@ -84,12 +86,23 @@ pub record AreLinesOf (sys : SystemTables) (text lines : List ℕ) : Type 0 wher
 abbrev pub fails : (strict : Bool) → Judgement → Bool
 fails strict j = is_some j.broken || (strict && j.is_empty)
 
--- a test as it is counted: its line, whether it failed, and whether that is not known
-abbrev pub counted_test : TestCase → ℕ × Bool × Bool
-counted_test t = (t.line, is_failure t.verdict, is_error t.verdict)
+-- a judgement with the text of its line
+pub record NamedJudgement : Type 0 where
+  pub judgement : Judgement
+  pub name : List ℕ
 
-abbrev pub wanted_test : (strict : Bool) → Judgement → ℕ × Bool × Bool
-wanted_test strict j = (j.line, fails strict j, false)
+abbrev pub named_by : (text : List ℕ) → Judgement → NamedJudgement
+named_by text j = record { judgement = j; name = utf8_lossy (line_at text j.line) }
+
+abbrev pub named_case : JudgedCase → NamedJudgement
+named_case c = record { judgement = c.judgement; name = string_bytes c.name }
+
+-- a test as it is told: its name, its line, whether it failed, and whether that is not known
+abbrev pub told_test : TestCase → List ℕ × ℕ × Bool × Bool
+told_test t = (t.name.now, t.line, is_failure t.verdict, is_error t.verdict)
+
+abbrev pub wanted_test : (strict : Bool) → NamedJudgement → List ℕ × ℕ × Bool × Bool
+wanted_test strict n = (n.name, n.judgement.line, fails strict n.judgement, false)
 
 -- a report in the XML of JUnit: one suite of this name, which has these tests
 pub record IsSuiteReport (name : List ℕ) (tests : List TestCase) (out : List ℕ) : Type 0 where
@@ -99,9 +112,9 @@ pub record IsSuiteReport (name : List ℕ) (tests : List TestCase) (out : List �
   pub text : out ≡ report_text (suite ∷ [])
 
 -- the same with a test for each judgement
-pub record IsReport (name : List ℕ) (strict : Bool) (js : List Judgement) (out : List ℕ) : Type 0 where
+pub record IsReport (name : List ℕ) (strict : Bool) (js : List NamedJudgement) (out : List ℕ) : Type 0 where
   pub tests : List TestCase
-  pub are : map counted_test tests ≡ map (wanted_test strict) js
+  pub are : map told_test tests ≡ map (wanted_test strict) js
   pub report : IsSuiteReport name tests out
 
 -- how a run does by an expectation, in a word
@@ -126,19 +139,13 @@ judgement_members file text j =
 abbrev pub judgement_record : (file text : List ℕ) → Judgement → List ℕ
 judgement_record file text j = object_line (judgement_members file text j)
 
-abbrev pub case_record : (file : List ℕ) → JudgedCase → List ℕ
-case_record file c = judgement_record file (string_bytes c.name) c.judgement
+abbrev pub named_record : (file : List ℕ) → NamedJudgement → List ℕ
+named_record file n = judgement_record file n.name n.judgement
 
--- objects of JSON: one for each judgement
-pub record AreRecords (file : List ℕ) (js : List Judgement) (out : List ℕ) : Type 0 where
-  pub cases : List JudgedCase
-  pub judged : map (λ c. c.judgement) cases ≡ js
-  pub text : out ≡ flat_map (λ c. case_record file c) cases
-
--- judgements told in a form
-abbrev pub IsTold : JudgementForm → (name : List ℕ) → (strict : Bool) → List Judgement → (out : List ℕ) → Type 0
+-- judgements told in a form: as a report of tests, or as an object of JSON for each
+abbrev pub IsTold : JudgementForm → (name : List ℕ) → (strict : Bool) → List NamedJudgement → (out : List ℕ) → Type 0
 IsTold form.Junit name strict js out = IsReport name strict js out
-IsTold form.Records name strict js out = AreRecords name js out
+IsTold form.Records name strict js out = out ≡ flat_map (named_record name) js
 
 -- this tells in a form how a run does by each expectation of a text alone
 pub record AreJudgements {B C X : Type 0} (judged : Judged) (reaction : KernelView B C → X → Reaction C)
@@ -147,11 +154,11 @@ pub record AreJudgements {B C X : Type 0} (judged : Judged) (reaction : KernelVi
   pub read : expectations_of k.system judged.expectations.text.now ≡ Ok expected
   pub told :
       IsTold judged.form judged.expectations.name.now judged.expectations.strict
-      (map (judged_by reaction k xs) expected) out
+      (map (named_by judged.expectations.text.now) (map (judged_by reaction k xs) expected)) out
 
 -- a report of random runs that were judged by a text of expectations: only what one of them breaks fails
 pub record IsTestReport
     (sys : SystemTables) (name text : List ℕ) (broken : Option BrokenExpectation) (out : List ℕ) : Type 0 where
   pub lines : List ℕ
   pub are : AreLinesOf sys text lines
-  pub report : IsReport name false (map (tested_by broken) lines) out
+  pub report : IsReport name false (map (named_by text) (map (tested_by broken) lines)) out

@@ -6,6 +6,7 @@ pub mod CallSentences
 pub mod Called
 pub mod Coverage
 pub mod Covered
+pub mod Differences
 pub mod Drives
 pub mod Exits
 pub mod Expects
@@ -14,6 +15,7 @@ pub mod Judgements
 pub mod Laps
 pub mod Looks
 pub mod Marks
+pub mod Meanings
 pub mod NamedSystems
 pub mod Observed
 pub mod OpenSystems
@@ -22,9 +24,11 @@ pub mod Rates
 pub mod Refused
 pub mod SourceVerdicts
 pub mod Tables
+pub mod TestDeeds
 pub mod TestFiles
 pub mod TestRecords
 pub mod TestRefusals
 pub mod Tested
 pub mod Traces
 pub mod Ways
+pub mod Whys

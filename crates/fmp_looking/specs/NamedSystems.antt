@@ -13,7 +13,7 @@ use Rattle.fmp_lex.specs.declared.token.TokenKind.TheVariants as kind
 use Rattle.fmp_lex.specs.Cutting.{Cuts}
 use Rattle.fmp_lex.specs.Faults.{text_max}
 
--- the name that a token is, if it stands behind one that begins a body
+-- the name that a token is, if it stands after one that begins a body
 abbrev pub name_here : (behind_head : Bool) → TokenKind → List Name
 name_here true (kind.Name name) = name ∷ []
 name_here _ _ = []
@@ -21,7 +21,7 @@ name_here _ _ = []
 abbrev pub name_at : (behind_head : Bool) → List Token → (at : ℕ) → List Name
 name_at h ts i = unwrap_or (option_map (λ t. name_here h t.kind) (slice_get ts i)) []
 
--- the names of the bodies that begin in tokens, behind one that begins a body or not
+-- the names of the bodies that begin in tokens, after one that begins a body or not
 abbrev pub names_behind : (behind_head : Bool) → List Token → List Name
 names_behind h [] = []
 names_behind h (t ∷ ts) = name_here h t.kind ++ names_behind (is_head t.kind) ts

@@ -1,6 +1,6 @@
 -- Whether a run of an image meets a text of which some sentences are about calls, where the text of its bodies is
 -- given.
-use Rattle.std.specs.Prelude.{ℕ, ◌≡◌, List, [], Bool}
+use Rattle.std.specs.Prelude.{ℕ, ◌≡◌, List, [], Bool, map}
 use Rattle.fmp_base.specs.declared.events.Event.{Event}
 use Rattle.fmp_image_bytes.specs.Images.{ImageTables}
 use Rattle.fmp_instructions.specs.Machine.{code_meaning}
@@ -12,7 +12,7 @@ use Rattle.fmp_looking.specs.declared.judging.JudgementForm.{JudgementForm}
 use Rattle.fmp_looking.specs.declared.source_expecting.SourceExpectations.{SourceExpectations}
 use Rattle.fmp_looking.specs.CallSentences.{AreNamedSentences, breaks_by, judge_of}
 use Rattle.fmp_looking.specs.Expects.{empty_claims, fails_text}
-use Rattle.fmp_looking.specs.Judgements.{IsTold, judged_by_each}
+use Rattle.fmp_looking.specs.Judgements.{IsTold, judged_by_each, named_by}
 use Rattle.fmp_looking.specs.Tested.{subject_of}
 
 -- whether the run over these events fails these sentences; strictly, it also fails those that say nothing of it
@@ -36,4 +36,5 @@ pub record AreSourceJudgements (i : ImageTables) (n : ℕ) (es : List Event) (so
   pub read : AreNamedSentences i sourced.src.now sourced.expectations.text.now sentences
   pub told :
       IsTold form sourced.expectations.name.now sourced.expectations.strict
-      (judged_by_each (kernel_after i n []) (judge_of i) es sentences) out
+      (map (named_by sourced.expectations.text.now)
+      (judged_by_each (kernel_after i n []) (judge_of i) es sentences)) out

@@ -1,10 +1,11 @@
 -- What comes of random runs, as an object of JSON.
-use Rattle.std.specs.Prelude.{ℕ, ◌≡◌, List, ◌++◌, Option, Some, None, codes}
+use Rattle.std.specs.Prelude.{ℕ, List, ◌++◌, Option, Some, None, codes}
 use Rattle.std.specs.Str.Lossy.{utf8_lossy}
 use Rattle.json.specs.Token.{Token}
 use Rattle.fmp_json.specs.Members.{number_member, object_line, text_member}
 use Rattle.fmp_trials.specs.declared.testing.FailedTrial.{FailedTrial}
 use Rattle.fmp_looking.specs.declared.reporting.FailedTest.{FailedTest}
+use Rattle.fmp_expect.specs.Words.{line_at}
 
 -- the file by which runs are judged, how many are asked for, and how many are made
 abbrev pub asked_members : (file : List ℕ) → (seeds runs : ℕ) → List Token
@@ -34,8 +35,9 @@ abbrev pub none_record : (file : List ℕ) → (seeds : ℕ) → List ℕ
 none_record file seeds =
     object_line (asked_members file seeds seeds ++ text_member (codes "verdict") (codes "none fails"))
 
--- an object of runs, of which this one fails, if one does, with the text of its expectation, and its steps as printed
-abbrev pub IsTestRecord : (file : List ℕ) → (seeds : ℕ) → Option FailedTest → (out : List ℕ) → Type 0
-IsTestRecord file seeds None out = out ≡ none_record file seeds
-IsTestRecord file seeds (Some f) out =
-    (expectation : List ℕ) × (out ≡ failed_record file seeds f.trial expectation (utf8_lossy f.steps.items))
+-- the object of runs, of which this one fails, if one does, with the line of this text that it fails, and its steps as
+-- printed
+abbrev pub test_record : (file text : List ℕ) → (seeds : ℕ) → Option FailedTest → List ℕ
+test_record file text seeds None = none_record file seeds
+test_record file text seeds (Some f) =
+    failed_record file seeds f.trial (utf8_lossy (line_at text f.trial.run.broken.line)) (utf8_lossy f.steps.items)

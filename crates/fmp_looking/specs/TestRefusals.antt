@@ -1,6 +1,10 @@
 -- The calls that are refused in random runs of an image.
-use Rattle.std.specs.Prelude.{ℕ, ◌≡◌, Bool, true, false, List, [], ◌∷◌, length}
+use Rattle.std.specs.Prelude.{ℕ, ◌≡◌, Bool, true, false, List, [], ◌∷◌, Ok, length}
+use Rattle.std.specs.List.{AllByRecursion}
 use Rattle.fmp_base.specs.declared.events.Event.{Event}
+use Rattle.fmp_base.specs.Systems.{tables_of}
+use Rattle.fmp_expect.specs.declared.expectation.Expected.{Expected}
+use Rattle.fmp_expect.specs.CallSentences.{other_sentences_of}
 use Rattle.fmp_image_bytes.specs.Images.{ImageTables}
 use Rattle.fmp_instructions.specs.Machine.{code_meaning}
 use Rattle.fmp_frames.specs.declared.answers.SiteAnswer.{SiteAnswer}
@@ -10,6 +14,9 @@ use Rattle.fmp_frames.specs.declared.placed_lines.LineForm.TheVariants as form
 use Rattle.fmp_frames.specs.Answers.{answers_in, with_answer}
 use Rattle.fmp_frames.specs.CallPositions.{AreCallsOf}
 use Rattle.fmp_frames.specs.Refusals.{refused_calls}
+use Rattle.fmp_looking.specs.declared.wanted.TestTexts.{TestTexts}
+use Rattle.fmp_looking.specs.declared.wanted.ImageTest.{ImageTest}
+use Rattle.fmp_looking.specs.Covered.{IsTestRun}
 use Rattle.fmp_looking.specs.Refused.{refused_lines}
 use Rattle.fmp_replay.specs.Replays.{kernel_after}
 
@@ -30,17 +37,28 @@ answers_after i n known (es ∷ runs) =
     answers_after i n
     (with_answers known (answers_in code_meaning (kernel_after i n []) es (length i.system.tasks))) runs
 
--- the calls of some runs of an image, this many, were answered this
-abbrev pub AreAnswersOf : ImageTables → (n runs : ℕ) → List SiteAnswer → Type 0
-AreAnswersOf i n count known =
-    (runs : List (List Event)) × (length runs ≡ count) × (known ≡ answers_after i n [] runs)
+-- the calls of runs of an image, this many, each of which is made so, were answered this
+pub record AreAnswersOf (IsMade : List Event → Type 0) (i : ImageTables) (n count : ℕ) (known : List SiteAnswer)
+    : Type 0 where
+  pub runs : List (List Event)
+  pub made : AllByRecursion IsMade runs
+  pub many : length runs ≡ count
+  pub answers : known ≡ answers_after i n [] runs
 
--- a line of this form for each call that is refused in some runs of an image, this many, by where it stands in this
--- text of its bodies in a file
-pub record AreRefusedLines (written : LineForm) (file src : List ℕ) (i : ImageTables) (n runs : ℕ)
-    (out : List ℕ) : Type 0 where
+-- a line of this form for each call that is refused in such runs, by where it stands in this text of its bodies in a
+-- file
+pub record AreRefusedLines (IsMade : List Event → Type 0) (written : LineForm) (file src : List ℕ) (i : ImageTables)
+    (n count : ℕ) (out : List ℕ) : Type 0 where
   pub bodies : List (List CallPosition)
   pub calls : AreCallsOf src bodies
   pub answers : List SiteAnswer
-  pub are : AreAnswersOf i n runs answers
+  pub are : AreAnswersOf IsMade i n count answers
   pub text : out ≡ refused_lines written file i.code bodies (refused_calls i.code answers)
+
+-- the same of random runs of a test, which go by the expectations of a text that are not about calls
+pub record AreTestRefusals (t : ImageTest) (texts : TestTexts) (count : ℕ) (out : List ℕ) : Type 0 where
+  pub expected : List Expected
+  pub read : other_sentences_of (tables_of t.configured.now) texts.expectations.now ≡ Ok expected
+  pub lines :
+      AreRefusedLines (IsTestRun t expected) (form_of t.testing.json) t.testing.src.now texts.src.now t.image.now
+      t.testing.bound count out

@@ -9,7 +9,7 @@ ghost use Rattle.fmp_looking.specs.BuiltRuns.{AreComing, IsDrive, IsRunOf, IsRun
 ghost use Rattle.fmp_looking.specs.Covered.{IsCoverage, IsLcov};
 ghost use Rattle.fmp_looking.specs.Traces.{AreShown, IsTrace};
 
-use crate::commands::{DriveEnding, RunOutput, output_of};
+use crate::commands::{DriveEnding, RunOutput, ending_of, output_of};
 use crate::covering::{run_coverage, run_tracefile};
 use crate::driving::driven;
 use crate::open_image::OpenImage;
@@ -113,12 +113,7 @@ fn driven_events(alloc: Global, image: &Image, run: Running) -> Result<Stepped, 
     ensures few { IfOk result (λ s. length s.events.items ≤ 2 ^ 20) }
 {
     let drive = driven(alloc, image, kept_events(run.events), run.seed, run.bound)?;
-    let next = drive.next;
-    let ending = DriveEnding {
-        stop: drive.driven.stop,
-        next,
-        processors: image.system().processors,
-    };
+    let ending = ending_of(image, &drive);
     Ok(Stepped {
         events: drive.driven.steps,
         ending: Some(ending),

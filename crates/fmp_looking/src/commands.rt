@@ -1,11 +1,17 @@
 //! What each command reads of bytes and makes of them.
-ghost use Rattle.std.specs.Prelude.{◌≡◌, ◌+◌, ◌≤◌, ◌^◌, IfOk, length};
+ghost use Rattle.std.specs.Prelude.{◌≡◌, ◌+◌, ◌≤◌, ◌^◌, IfOk, length, option_map};
+ghost use Rattle.fmp_diagnosis.specs.Topics.{topic_asked as topic_asked_by};
 ghost use Rattle.fmp_frames.specs.Counting.{counts_of, first_counts};
 ghost use Rattle.fmp_frames.specs.Shown.{WasShown};
 ghost use Rattle.fmp_frames.specs.Values.{values_of};
+ghost use Rattle.fmp_trace.specs.Steps.{steps_text};
+ghost use Rattle.fmp_looking.specs.Drives as spec;
+ghost use Rattle.fmp_looking.specs.Drives.{IsDrivenText};
+ghost use Rattle.fmp_looking.specs.Looks.{OfImage};
+ghost use Rattle.fmp_looking.specs.Meanings.{IsMeaning};
 
 use crate::calling::calls_on;
-use crate::driving::driven;
+use crate::driving::{Drive, driven};
 use crate::exit::{ViewExit, memory};
 use crate::looking::RunLook;
 use crate::open_image::OpenImage;
@@ -14,7 +20,7 @@ use crate::opening::image_of;
 use crate::stats_records::append_tally_records;
 use crate::why::why_of;
 use fmp_arguments::kept_events;
-use fmp_base::System;
+use fmp_base::{Event, System};
 use fmp_diagnosis::{explain, topic_asked};
 use fmp_drive::{DriveStop, NextRun};
 use fmp_engine::SimFault;
@@ -25,13 +31,10 @@ use fmp_trace::print_steps;
 use fmp_warnings::Form;
 use std::alloc::{AllocError, Global};
 
-/// Out of memory, as a fault.
-pub fn made<T>(outcome: Result<T, AllocError>) -> Result<T, SimFault> {
-    outcome.map_err(|_| SimFault::Memory)
-}
-
 /// What the code that this word asks for means; none if there is none.
-pub fn code(alloc: Global, word: &str) -> Result<Option<Vec<u8>>, AllocError> {
+pub fn code(alloc: Global, word: &str) -> Result<Option<Vec<u8>>, AllocError>
+    ensures { IfOk result (λ text. IsMeaning (topic_asked_by word.now) (option_map (λ t. t.items) text)) }
+{
     let Some(topic) = topic_asked(alloc, word.as_bytes())? else {
         return Ok(None);
     };
@@ -71,9 +74,31 @@ pub struct Driving {
     pub bound: u64,
 }
 
+/// The text of steps. `AllocError` if memory runs out.
+pub fn printed_steps(alloc: Global, steps: &[Event]) -> Result<Vec<u8>, AllocError>
+    ensures { IfOk result (λ text. text.items ≡ steps_text steps.now) }
+{
+    let mut text = Vec::new(alloc);
+    print_steps(steps, &mut text)?;
+    Ok(text)
+}
+
+/// How the drive of an image ended.
+pub fn ending_of(image: &Image, drive: &Drive) -> DriveEnding
+    ensures { result ≡ spec.ending_of image.now drive.now }
+{
+    DriveEnding {
+        stop: drive.driven.stop,
+        next: drive.next,
+        processors: image.system().processors,
+    }
+}
+
 /// The text of steps that run an image, why they stop, what each processor would do next, and what tasks wait for then.
 #[tactic(none)]
-fn driven_text(alloc: Global, image: &Image, driving: Driving) -> Result<DrivenText, AllocError> {
+fn driven_text(alloc: Global, image: &Image, driving: Driving) -> Result<DrivenText, AllocError>
+    ensures { IfOk result (IsDrivenText image.now driving) }
+{
     let drive = driven(
         alloc,
         image,
@@ -81,29 +106,38 @@ fn driven_text(alloc: Global, image: &Image, driving: Driving) -> Result<DrivenT
         driving.seed,
         driving.bound,
     )?;
-    let mut steps = Vec::new(alloc);
-    print_steps(&drive.driven.steps, &mut steps)?;
+    let steps = printed_steps(alloc, &drive.driven.steps)?;
     let why = why_of(
         alloc,
         &OpenImage::new(image, driving.bound),
         &drive.driven.steps,
     )?;
-    let next = drive.next;
-    let ending = DriveEnding {
-        stop: drive.driven.stop,
-        next,
-        processors: image.system().processors,
-    };
+    let ending = ending_of(image, &drive);
     Ok(DrivenText { steps, ending, why })
 }
 
+/// The same, or that memory runs out.
+fn driven_of(alloc: Global, image: &Image, driving: Driving) -> Result<DrivenText, SimFault>
+    ensures { IfOk result (IsDrivenText image.now driving) }
+{
+    match driven_text(alloc, image, driving) {
+        Ok(driven) => Ok(driven),
+        Err(_) => Err(SimFault::Memory),
+    }
+}
+
 /// Steps that run the image of these bytes, why they stop, and what each processor would do next.
-#[tactic(none)]
-pub fn steps(alloc: Global, image: &[u8], driving: Driving) -> Result<DrivenText, SimFault> {
-    let image = image_of(alloc, image)?;
-    let driven = driven_text(alloc, &image, driving);
-    drop(image);
-    made(driven)
+pub fn steps(alloc: Global, image: &[u8], driving: Driving) -> Result<DrivenText, SimFault>
+    ensures { IfOk result (λ t. OfImage image.now (λ i. IsDrivenText i driving t)) }
+{
+    match image_of(alloc, image) {
+        Ok(image) => {
+            let driven = driven_of(alloc, &image, driving);
+            drop(image);
+            driven
+        }
+        Err(fault) => Err(fault),
+    }
 }
 
 /// What is counted of a run of a kernel over what comes to it.

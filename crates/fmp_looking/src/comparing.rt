@@ -1,6 +1,16 @@
 //! Two runs of a system side by side: the first event in which they differ.
-ghost use Rattle.std.specs.Prelude.{◌≡◌, ◌-◌, ◌≤◌, ◌^◌, IfOk, length, min};
+ghost use Rattle.std.specs.Prelude.{◌≡◌, ◌-◌, ◌≤◌, ◌^◌, [], IfOk, length, min, option_map};
+ghost use Rattle.fmp_foreign.specs.Foreign.{foreign_meaning};
+ghost use Rattle.fmp_foreign.specs.Hosting.{reaction};
+ghost use Rattle.fmp_frames.specs.Compares as frame_spec;
+ghost use Rattle.fmp_frames.specs.Compares.{events_of};
 ghost use Rattle.fmp_frames.specs.Watches.{LeadUp};
+ghost use Rattle.fmp_instructions.specs.Machine.{code_meaning};
+ghost use Rattle.fmp_kernel.specs.Comings.{reaction_of};
+ghost use Rattle.fmp_recording.specs.Replaying.{new_kernel};
+ghost use Rattle.fmp_replay.specs.Replays.{kernel_after};
+ghost use Rattle.fmp_looking.specs.Differences.{IsDifference, IsToldUpTo, told_by};
+ghost use Rattle.fmp_looking.specs.Looks.{OfImage, OfRecording, OfSteps, OfSystem};
 
 use crate::exit::{ViewExit, memory};
 use crate::kinds::exit_over;
@@ -10,7 +20,6 @@ use crate::open_system::OpenSystem;
 use crate::opened::Opened;
 use crate::opening::{events_for, image_of};
 use fmp_frames::{ToldRun, append_difference, count_up_to, first_difference, told_on};
-use fmp_image_bytes::Image;
 use fmp_kernel::Coming;
 use std::alloc::{AllocError, Global};
 
@@ -22,6 +31,8 @@ fn told_of<'a, O: Opened, T: Coming<O::Bodies>>(
     events: &[T],
 ) -> Result<ToldRun<'a>, AllocError>
     requires { length events.now ≤ 2 ^ 31 }
+    ensures { IfOk result (λ told.
+        events_of told ≡ told_by O.Bodies.meaning T.reaction (O.start opened.now) events.now) }
 {
     let mut kernel = opened.kernel(alloc)?;
     let told = told_on(alloc, opened.system(), &mut kernel, events);
@@ -62,6 +73,7 @@ fn told_up_to<'a, O: Opened, T: Coming<O::Bodies>>(
     number: usize,
 ) -> Result<ToldRun<'a>, AllocError>
     requires { length events.now ≤ 2 ^ 31 }
+    ensures { IfOk result (IsToldUpTo O.Bodies.meaning T.reaction (O.start opened.now) events.now number) }
 {
     let count = count_to(alloc, opened, events, number)?;
     told_of(alloc, opened, &events[..count])
@@ -83,6 +95,10 @@ fn both_told<'a, O: Opened, T: Coming<O::Bodies>>(
 ) -> Result<RunsTold<'a>, AllocError>
     requires a { length a.now ≤ 2 ^ 31 }
     requires b { length b.now ≤ 2 ^ 31 }
+    ensures a { IfOk result (λ told.
+        events_of told.a ≡ told_by O.Bodies.meaning T.reaction (O.start opened.now) a.now) }
+    ensures b { IfOk result (λ told.
+        events_of told.b ≡ told_by O.Bodies.meaning T.reaction (O.start opened.now) b.now) }
 {
     let a = told_of(alloc, opened, a)?;
     let b = told_of(alloc, opened, b)?;
@@ -99,6 +115,8 @@ fn both_told_up_to<'a, O: Opened, T: Coming<O::Bodies>>(
 ) -> Result<RunsTold<'a>, AllocError>
     requires a { length a.now ≤ 2 ^ 31 }
     requires b { length b.now ≤ 2 ^ 31 }
+    ensures a { IfOk result (λ told. IsToldUpTo O.Bodies.meaning T.reaction (O.start opened.now) a.now number told.a) }
+    ensures b { IfOk result (λ told. IsToldUpTo O.Bodies.meaning T.reaction (O.start opened.now) b.now number told.b) }
 {
     let a = told_up_to(alloc, opened, a, number)?;
     let b = told_up_to(alloc, opened, b, number)?;
@@ -111,7 +129,10 @@ fn text_of(
     runs: &RunsTold<'_>,
     number: usize,
     ends: &RunsTold<'_>,
-) -> Result<Vec<u8>, AllocError> {
+) -> Result<Vec<u8>, AllocError>
+    ensures { IfOk result (λ out. out.items
+        ≡ frame_spec.difference runs.now.a runs.now.b number ends.now.a ends.now.b) }
+{
     let mut out = Vec::new(alloc);
     let (runs, ends) = ((&runs.a, &runs.b), (&ends.a, &ends.b));
     append_difference(alloc, runs, number, ends, &mut out)?;
@@ -128,28 +149,37 @@ fn difference<O: Opened, T: Coming<O::Bodies>>(
 ) -> Result<Option<Vec<u8>>, AllocError>
     requires a { length a.now ≤ 2 ^ 31 }
     requires b { length b.now ≤ 2 ^ 31 }
+    ensures { IfOk result (λ text. IsDifference O.Bodies.meaning T.reaction (O.start opened.now) a.now b.now
+        (option_map (λ t. t.items) text)) }
 {
     let runs = both_told(alloc, opened, a, b)?;
-    let Some(number) = first_difference(&runs.a, &runs.b) else {
-        return Ok(None);
-    };
-    let ends = both_told_up_to(alloc, opened, a, b, number)?;
-    let text = text_of(alloc, &runs, number, &ends)?;
-    Ok(Some(text))
+    match first_difference(&runs.a, &runs.b) {
+        Some(number) => {
+            let ends = both_told_up_to(alloc, opened, a, b, number)?;
+            let text = text_of(alloc, &runs, number, &ends)?;
+            Ok(Some(text))
+        }
+        None => Ok(None),
+    }
 }
 
 /// The difference of the runs of an image over two steps texts.
 fn difference_over(
     alloc: Global,
-    image: &Image,
+    opened: &OpenImage<'_>,
     a: &[u8],
     b: &[u8],
-    bound: u64,
-) -> Result<Option<Vec<u8>>, ViewExit> {
-    let a = events_for(alloc, image, a)?;
-    let b = events_for(alloc, image, b)?;
-    let opened = OpenImage::new(image, bound);
-    difference(alloc, &opened, &a, &b).map_err(|error| memory(error))
+) -> Result<Option<Vec<u8>>, ViewExit>
+    ensures { IfOk result (λ text. OfSteps opened.now.image.now a.now (λ xs. OfSteps opened.now.image.now b.now
+        (λ ys. IsDifference code_meaning (reaction_of code_meaning)
+        (kernel_after opened.now.image.now opened.now.bound []) xs ys (option_map (λ t. t.items) text)))) }
+{
+    let xs = events_for(alloc, opened.image, a)?;
+    let ys = events_for(alloc, opened.image, b)?;
+    match difference(alloc, opened, &xs, &ys) {
+        Ok(difference) => Ok(difference),
+        Err(error) => Err(memory(error)),
+    }
 }
 
 /// The difference of the runs of the image of these bytes over two steps texts; none if they tell the same.
@@ -159,10 +189,15 @@ pub fn diff(
     a: &[u8],
     b: &[u8],
     bound: u64,
-) -> Result<Option<Vec<u8>>, ViewExit> {
+) -> Result<Option<Vec<u8>>, ViewExit>
+    ensures { IfOk result (λ text. OfImage image.now (λ i. OfSteps i a.now (λ xs. OfSteps i b.now
+        (λ ys. IsDifference code_meaning (reaction_of code_meaning) (kernel_after i bound []) xs ys
+        (option_map (λ t. t.items) text))))) }
+{
     match image_of(alloc, image) {
         Ok(image) => {
-            let difference = difference_over(alloc, &image, a, b, bound);
+            let opened = OpenImage::new(&image, bound);
+            let difference = difference_over(alloc, &opened, a, b);
             drop(image);
             difference
         }
@@ -176,11 +211,18 @@ fn difference_recorded(
     opened: &OpenSystem,
     a: &[u8],
     b: &[u8],
-) -> Result<Option<Vec<u8>>, ViewExit> {
+) -> Result<Option<Vec<u8>>, ViewExit>
+    ensures { IfOk result (λ text. OfRecording opened.now a.now (λ xs. OfRecording opened.now b.now
+        (λ ys. IsDifference foreign_meaning reaction (new_kernel opened.now) xs ys
+        (option_map (λ t. t.items) text)))) }
+{
     let processors = opened.system().processors;
-    let a = recording_of(alloc, a, processors)?;
-    let b = recording_of(alloc, b, processors)?;
-    difference(alloc, opened, &a, &b).map_err(|error| memory(error))
+    let xs = recording_of(alloc, a, processors)?;
+    let ys = recording_of(alloc, b, processors)?;
+    match difference(alloc, opened, &xs, &ys) {
+        Ok(difference) => Ok(difference),
+        Err(error) => Err(memory(error)),
+    }
 }
 
 /// The difference of two recorded runs of the system of a configuration; none if they tell the same.
@@ -189,7 +231,10 @@ pub fn diff_recordings(
     cfg: &[u8],
     a: &[u8],
     b: &[u8],
-) -> Result<Option<Vec<u8>>, ViewExit> {
+) -> Result<Option<Vec<u8>>, ViewExit>
+    ensures { IfOk result (λ text. OfSystem cfg.now (λ sys. OfRecording sys a.now (λ xs. OfRecording sys b.now
+        (λ ys. IsDifference foreign_meaning reaction (new_kernel sys) xs ys (option_map (λ t. t.items) text))))) }
+{
     match OpenSystem::new(alloc, cfg) {
         Ok(opened) => {
             let difference = difference_recorded(alloc, &opened, a, b);

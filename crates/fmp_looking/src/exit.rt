@@ -1,5 +1,6 @@
 //! Why the program ends with nothing printed.
-ghost use Rattle.fmp_looking.specs.Exits.{status_of};
+ghost use Rattle.std.specs.Prelude.{◌≡◌};
+ghost use Rattle.fmp_looking.specs.Exits.{exit_of_run, status_of};
 
 use crate::kinds::Misplaced;
 use crate::timeline::TimelineFault;
@@ -86,12 +87,16 @@ impl Reason for ViewExit {
 }
 
 /// Out of memory, as a reason.
-pub fn memory(error: AllocError) -> ViewExit {
+pub fn memory(error: AllocError) -> ViewExit
+    ensures { result ≡ ViewExit.Failed (Failure.Memory error) }
+{
     ViewExit::Failed(Failure::Memory(error))
 }
 
 /// Why nothing of a run is printed or drawn.
-pub fn exit_of(fault: TimelineFault) -> ViewExit {
+pub fn exit_of(fault: TimelineFault) -> ViewExit
+    ensures { result ≡ exit_of_run fault }
+{
     match fault {
         TimelineFault::Sim(fault) => ViewExit::Sim(fault),
         fault => ViewExit::Picture(fault),

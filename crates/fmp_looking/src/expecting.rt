@@ -14,7 +14,7 @@ use crate::opened::Opened;
 use fmp_arguments::flaw_text;
 use fmp_base::{Line, System};
 use fmp_expect::{
-    BrokenExpectation, Checker, ExpectFault, ExpectationFlaw, Expected, read_expectations,
+    BrokenExpectation, Checker, ExpectFault, ExpectationFlaw, Expected, line_at, read_expectations,
     read_other_sentences, tell_run,
 };
 use fmp_frames::count_up_to;
@@ -102,15 +102,6 @@ pub fn event_text<O: Opened, T: Coming<O::Bodies>>(
     text
 }
 
-/// The line of this number of a text, from 1, without the white space at its end.
-pub fn line_of(text: &[u8], number: usize) -> &[u8] {
-    let mut lines = text.split(|byte| *byte == b'\n');
-    match lines.nth(number.saturating_sub(1)) {
-        Some(line) => line.trim_ascii_end(),
-        None => &[],
-    }
-}
-
 /// What is printed of an expectation that fails: its line, the event, and what the event told.
 fn broken_text(
     alloc: Global,
@@ -123,7 +114,7 @@ fn broken_text(
 {
     let head = format!(in alloc; "{name}:{}: event {}: ", broken.line, broken.event)?;
     let mut out = head.into_bytes();
-    out.extend_from_slice(line_of(text, broken.line))?;
+    out.extend_from_slice(line_at(text, broken.line))?;
     out.push(b'\n')?;
     out.extend_from_slice(event)?;
     Ok(out)
@@ -154,7 +145,7 @@ fn append_empty(
 ) -> Result<(), AllocError> {
     let head = format!(in alloc; "{name}:{line}: never happens at all: ")?;
     out.extend_from_slice(head.as_bytes())?;
-    out.extend_from_slice(line_of(text, line))?;
+    out.extend_from_slice(line_at(text, line))?;
     out.push(b'\n')?;
     Ok(())
 }
@@ -226,7 +217,7 @@ fn flawed(
     number: usize,
     flaw: ExpectationFlaw,
 ) -> ViewExit {
-    match flaw_text(alloc, sys, number, line_of(text, number), flaw) {
+    match flaw_text(alloc, sys, number, line_at(text, number), flaw) {
         Ok(text) => ViewExit::Expect(text),
         Err(error) => memory(error),
     }
@@ -273,7 +264,7 @@ impl RunLook for Expectations<'_> {
     /// or the lines that say nothing of the run, if these fail too.
     type Made = Option<Vec<u8>>;
 
-    ghost makes = { λ x reaction k xs times text. IsJudgedBy x.text.now x.strict reaction k xs (is_some text) };
+    ghost makes = { λ x meaning reaction k xs times text. IsJudgedBy x.text.now x.strict reaction k xs (is_some text) };
 
     fn of<O: Opened, T: Coming<O::Bodies>>(
         &self,

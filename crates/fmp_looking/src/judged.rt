@@ -30,7 +30,8 @@ fn judged_text<O: Opened, T: Coming<O::Bodies>>(
     requires { length events.now ≤ 2 ^ 31 }
     ensures { IfOk result (λ out. spec.IsTold judged.now.form judged.now.expectations.name.now
         judged.now.expectations.strict
-        (map (spec.judged_by T.reaction (O.start opened.now) events.now) expected.now) out.items) }
+        (map (spec.named_by judged.now.expectations.text.now)
+        (map (spec.judged_by T.reaction (O.start opened.now) events.now) expected.now)) out.items) }
 {
     let Judged { expectations, form } = judged;
     let all = judgements_of(alloc, opened, events, expected)?;
@@ -44,7 +45,7 @@ impl RunLook for Judged<'_> {
     /// A test, or an object of JSON, for each expectation, in their order.
     type Made = Vec<u8>;
 
-    ghost makes = { λ x reaction k xs times out. AreJudgements x reaction k xs out.items };
+    ghost makes = { λ x meaning reaction k xs times out. AreJudgements x reaction k xs out.items };
 
     fn of<O: Opened, T: Coming<O::Bodies>>(
         &self,

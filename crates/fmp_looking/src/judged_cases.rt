@@ -4,10 +4,10 @@ ghost use Rattle.std.specs.List.{flat_map};
 ghost use Rattle.fmp_json.specs.Junit.{is_error, is_failure};
 ghost use Rattle.fmp_looking.specs.Judgements as spec;
 
-use crate::expecting::{Expectations, event_text, line_of};
+use crate::expecting::{Expectations, event_text};
 use crate::judging::{Judgement, JudgementForm};
 use crate::opened::Opened;
-use fmp_expect::BrokenExpectation;
+use fmp_expect::{BrokenExpectation, line_at};
 use fmp_json::{
     TestCase, TestSuite, Verdict, append_report, begin, finish, number_member, text_member,
 };
@@ -67,9 +67,9 @@ fn case_of<O: Opened, T: Coming<O::Bodies>>(
     judgement: Judgement,
 ) -> Result<JudgedCase, AllocError>
     requires { length events.now ≤ 2 ^ 31 }
-    ensures { IfOk result (λ case. case.judgement ≡ judgement) }
+    ensures { IfOk result (λ case. spec.named_case case ≡ spec.named_by expectations.now.text.now judgement) }
 {
-    let name = line_of(expectations.text, judgement.line);
+    let name = line_at(expectations.text, judgement.line);
     Ok(JudgedCase {
         judgement,
         name: String::from_utf8_lossy(alloc, name)?,
@@ -91,7 +91,8 @@ pub fn cases_of<O: Opened, T: Coming<O::Bodies>>(
     judgements: &[Judgement],
 ) -> Result<Vec<JudgedCase>, AllocError>
     requires { length events.now ≤ 2 ^ 31 }
-    ensures { IfOk result (λ cases. map (λ c. c.judgement) cases.items ≡ judgements.now) }
+    ensures { IfOk result (λ cases. map spec.named_case cases.items
+        ≡ map (spec.named_by expectations.now.text.now) judgements.now) }
 {
     let mut cases = Vec::new(alloc);
     for judgement in judgements {
@@ -114,7 +115,7 @@ fn test_verdict<'a>(case: &'a JudgedCase, strict: bool) -> Verdict<'a>
 
 /// A judgement as a test.
 fn test_of<'a>(case: &'a JudgedCase, strict: bool) -> TestCase<'a>
-    ensures { spec.counted_test result ≡ spec.wanted_test strict case.now.judgement }
+    ensures { spec.told_test result ≡ spec.wanted_test strict (spec.named_case case.now) }
 {
     TestCase {
         name: case.name.as_str(),
@@ -130,7 +131,7 @@ fn tests_of<'a>(
     cases: &'a [JudgedCase],
 ) -> Result<Vec<TestCase<'a>>, AllocError>
     ensures { IfOk result (λ tests.
-        map spec.counted_test tests.items ≡ map (spec.wanted_test strict) (map (λ c. c.judgement) cases.now)) }
+        map spec.told_test tests.items ≡ map (spec.wanted_test strict) (map spec.named_case cases.now)) }
 {
     let mut tests = Vec::new(alloc);
     for case in cases {
@@ -160,7 +161,7 @@ pub fn report_of(
     strict: bool,
     cases: &[JudgedCase],
 ) -> Result<Vec<u8>, AllocError>
-    ensures { IfOk result (λ out. spec.IsReport name.now strict (map (λ c. c.judgement) cases.now) out.items) }
+    ensures { IfOk result (λ out. spec.IsReport name.now strict (map spec.named_case cases.now) out.items) }
 {
     let tests = tests_of(alloc, strict, cases)?;
     suite_report(alloc, name, &tests)
@@ -228,7 +229,7 @@ fn append_record(
     case: &JudgedCase,
     out: &mut Vec<u8>,
 ) -> Result<(), AllocError>
-    ensures { OnOk result (out.new.items ≡ out.old.items ++ spec.case_record file.now case.now) }
+    ensures { OnOk result (out.new.items ≡ out.old.items ++ spec.named_record file.now (spec.named_case case.now)) }
 {
     let record = record_of(alloc, file, case.name.as_str(), &case.judgement)?;
     out.extend_from_slice(&record)
@@ -236,7 +237,8 @@ fn append_record(
 
 /// Judgements by the expectations of this file as objects of JSON, one a line.
 fn records_of(alloc: Global, file: &str, cases: &[JudgedCase]) -> Result<Vec<u8>, AllocError>
-    ensures { IfOk result (λ out. out.items ≡ flat_map (λ c. spec.case_record file.now c) cases.now) }
+    ensures { IfOk result (λ out. out.items
+        ≡ flat_map (spec.named_record file.now) (map spec.named_case cases.now)) }
 {
     let mut out = Vec::new(alloc);
     for case in cases {
@@ -253,7 +255,7 @@ pub fn told_in(
     strict: bool,
     cases: &[JudgedCase],
 ) -> Result<Vec<u8>, AllocError>
-    ensures { IfOk result (λ out. spec.IsTold form name.now strict (map (λ c. c.judgement) cases.now) out.items) }
+    ensures { IfOk result (λ out. spec.IsTold form name.now strict (map spec.named_case cases.now) out.items) }
 {
     match form {
         JudgementForm::Junit => report_of(alloc, name, strict, cases),

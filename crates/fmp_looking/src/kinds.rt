@@ -1,4 +1,7 @@
 //! What a file is that is read as an image or as steps and is neither.
+ghost use Rattle.std.specs.Prelude.{◌≡◌};
+ghost use Rattle.fmp_looking.specs.Exits.{IsOver, status_of};
+
 use crate::exit::ViewExit;
 use fmp_engine::SimFault;
 use fmp_lex::{Keyword, TokenKind, tokens};
@@ -62,7 +65,10 @@ fn kind_of(alloc: Global, bytes: &[u8]) -> Option<FileKind> {
 }
 
 /// Why nothing is made of a file of these bytes that has this fault: if it is of another kind, it says of which.
-pub fn exit_over(alloc: Global, fault: SimFault, bytes: &[u8]) -> ViewExit {
+pub fn exit_over(alloc: Global, fault: SimFault, bytes: &[u8]) -> ViewExit
+    ensures over { IsOver fault result }
+    ensures status { status_of result ≡ status_of (ViewExit.Sim fault) }
+{
     match (fault, kind_of(alloc, bytes)) {
         (SimFault::Memory, _) | (_, None) => ViewExit::Sim(fault),
         (SimFault::Load(_), Some(FileKind::Image)) => ViewExit::Sim(fault),

@@ -1,7 +1,7 @@
 //! Ways to look at a run of a system, of an image over steps or of a recording: its trace, the table of its calls, what
-//! each task waits for, what it fails of what is expected, how it differs from another run, its picture, and its form
-//! for other viewers. And the command `test` of the program `fmp_view`, which judges random runs of an image, and
-//! prints the first that fails.
+//! each task waits for, which expectations it fails, how it differs from another run, its picture, and its form for
+//! other viewers. And the command `test` of the program `fmp_view`, which judges random runs of an image, and prints
+//! the first that fails.
 #![tactic(auto)]
 
 mod asking;

@@ -1,7 +1,10 @@
 //! Looks at runs: of an image over a steps text, and of a recording.
 ghost use Rattle.std.specs.Prelude.{⊤, ℕ, ◌≡◌, ◌≤◌, ◌^◌, List, [], IfOk, Ok, Option, length};
+ghost use Rattle.fmp_base.specs.Meanings.{Meaning};
 ghost use Rattle.fmp_base.specs.Steps.{Reaction};
+ghost use Rattle.fmp_foreign.specs.Foreign.{foreign_meaning};
 ghost use Rattle.fmp_foreign.specs.Hosting.{reaction};
+ghost use Rattle.fmp_frames.specs.Times.{known_times};
 ghost use Rattle.fmp_instructions.specs.Machine.{code_meaning};
 ghost use Rattle.fmp_kernel.specs.Comings.{reaction_of};
 ghost use Rattle.fmp_kernel.specs.KernelViews.{KernelView};
@@ -28,9 +31,10 @@ pub trait RunLook {
     /// What it makes of a run.
     type Made;
 
-    /// What holds of that: by what comes to a kernel after setup, what each does to a kernel, and when they came.
-    ghost makes: { {B C X : Type 0} → Self → (KernelView B C → X → Reaction C) → KernelView B C → List X
-        → List (Option ℕ) → Self.Made → Type 0 } = { λ _ _ _ _ _ _. ⊤ };
+    /// What holds of that: by what bodies mean, what comes to a kernel after setup, what each does to a kernel, and
+    /// when they came.
+    ghost makes: { {B C X : Type 0} → Self → (B → Meaning C) → (KernelView B C → X → Reaction C) → KernelView B C
+        → List X → List (Option ℕ) → Self.Made → Type 0 } = { λ _ _ _ _ _ _ _. ⊤ };
 
     /// What it makes of what comes to a system. The times are those of a recording, in microseconds, in the same order;
     /// an image has none.
@@ -42,7 +46,8 @@ pub trait RunLook {
         times: &[Option<u64>],
     ) -> Result<Self::Made, ViewExit>
         requires { length events.now ≤ 2 ^ 31 }
-        ensures { IfOk result (makes self.now T.reaction (O.start opened.now) events.now times.now) };
+        ensures { IfOk result (makes self.now O.Bodies.meaning T.reaction (O.start opened.now) events.now
+            times.now) };
 }
 
 /// What a look makes of a run of an image over a steps text.
@@ -53,7 +58,7 @@ fn over_steps<L: RunLook>(
     steps: &[u8],
 ) -> Result<L::Made, ViewExit>
     ensures { IfOk result (λ made. OfSteps opened.now.image.now steps.now (λ es. L.makes look.now
-        (reaction_of code_meaning) (kernel_after opened.now.image.now opened.now.bound []) es [] made)) }
+        code_meaning (reaction_of code_meaning) (kernel_after opened.now.image.now opened.now.bound []) es [] made)) }
 {
     match events_for(alloc, opened.image, steps) {
         Ok(events) => look.of(alloc, opened, &events, &[]),
@@ -68,7 +73,7 @@ pub fn look_at_image<L: RunLook>(
     run: StepsRun<'_>,
 ) -> Result<L::Made, ViewExit>
     ensures { IfOk result (λ made. OfImage run.entry.image.now (λ i. OfSteps i run.entry.steps.now (λ es. L.makes
-        look.now (reaction_of code_meaning) (kernel_after i run.entry.bound []) es [] made))) }
+        look.now code_meaning (reaction_of code_meaning) (kernel_after i run.entry.bound []) es [] made))) }
 {
     match image_of(alloc, run.image) {
         Ok(image) => {
@@ -80,7 +85,7 @@ pub fn look_at_image<L: RunLook>(
     }
 }
 
-/// What was recorded, if it is no more than a kernel takes.
+/// What was recorded, if it is at most as much as a kernel takes.
 fn within_most(recording: Vec<Given>) -> Result<Vec<Given>, ViewExit>
     ensures same { IfOk result (λ kept. kept.items ≡ recording.items) }
     ensures few { IfOk result (λ kept. length kept.items ≤ 2 ^ 31) }
@@ -136,7 +141,9 @@ fn times_of(alloc: Global, recording: &[u8]) -> Result<Vec<Option<u64>>, ViewExi
 }
 
 /// When setup and each event of a run came; nothing where that is not known.
-pub fn known_of(alloc: Global, times: &[Option<u64>]) -> Result<Vec<u64>, ViewExit> {
+pub fn known_of(alloc: Global, times: &[Option<u64>]) -> Result<Vec<u64>, ViewExit>
+    ensures { IfOk result (λ known. known.items ≡ known_times times.now) }
+{
     known_times(alloc, times).map_err(|error| memory(error))
 }
 
@@ -147,8 +154,8 @@ fn over_recording<L: RunLook>(
     opened: &OpenSystem,
     recording: &[u8],
 ) -> Result<L::Made, ViewExit>
-    ensures { IfOk result (λ made. OfRecording opened.now recording.now (λ gs. L.makes look.now reaction
-        (new_kernel opened.now) gs (recordings.times_of recording.now) made)) }
+    ensures { IfOk result (λ made. OfRecording opened.now recording.now (λ gs. L.makes look.now
+        foreign_meaning reaction (new_kernel opened.now) gs (recordings.times_of recording.now) made)) }
 {
     let events = recording_of(alloc, recording, opened.system().processors)?;
     let times = times_of(alloc, recording)?;
@@ -163,7 +170,7 @@ pub fn look_at_recording<L: RunLook>(
     recording: &[u8],
 ) -> Result<L::Made, ViewExit>
     ensures { IfOk result (λ made. OfSystem cfg.now (λ sys. OfRecording sys recording.now (λ gs. L.makes look.now
-        reaction (new_kernel sys) gs (recordings.times_of recording.now) made))) }
+        foreign_meaning reaction (new_kernel sys) gs (recordings.times_of recording.now) made))) }
 {
     match OpenSystem::new(alloc, cfg) {
         Ok(opened) => {

@@ -3,6 +3,7 @@ ghost use Rattle.std.specs.Prelude.{◌≡◌, IfOk, MatchOption, None, Some, na
 ghost use Rattle.std.specs.List.{list_any};
 ghost use Rattle.fmp_base.specs.Systems.{tables_of};
 ghost use Rattle.fmp_looking.specs.Rates as spec;
+ghost use Rattle.fmp_looking.specs.TestDeeds.{SaysSome};
 
 use fmp_base::System;
 use fmp_files::Outside;
@@ -99,14 +100,26 @@ fn is_handled(sys: &System, number: u8) -> bool
     sys.interrupts.iter().any(|config| config.number == number)
 }
 
+/// Says that the interrupt of this rate has no handler, if it has none.
+#[tactic(auto, using(crate::proofs::TestEnds::says_none, crate::proofs::TestEnds::says_one))]
+fn say_rate<O: Outside>(outside: &mut O, sys: &System, rate: InterruptRate)
+    ensures { SaysSome (O.done outside.old) (O.done outside.new) }
+{
+    let InterruptRate { interrupt, every } = rate;
+    if is_handled(sys, interrupt) {
+        return;
+    }
+    outside.say(format_args!(
+        "--int {interrupt}:{every}: no handler is defined for interrupt {interrupt}\n"
+    ));
+}
+
 /// Says which of these interrupts have no handler: each of them does nothing.
-pub fn say_unhandled<O: Outside>(outside: &mut O, sys: &System, rates: &[InterruptRate]) {
+#[tactic(auto, using(crate::proofs::TestEnds::says_none))]
+pub fn say_unhandled<O: Outside>(outside: &mut O, sys: &System, rates: &[InterruptRate])
+    ensures { SaysSome (O.done outside.old) (O.done outside.new) }
+{
     for rate in rates {
-        let (interrupt, every) = (rate.interrupt, rate.every);
-        if !is_handled(sys, interrupt) {
-            outside.say(format_args!(
-                "--int {interrupt}:{every}: no handler is defined for interrupt {interrupt}\n"
-            ));
-        }
+        say_rate(outside, sys, *rate);
     }
 }

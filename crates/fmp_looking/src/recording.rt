@@ -1,9 +1,9 @@
 //! A run as its picture has it, recorded frame by frame.
-ghost use Rattle.std.specs.Prelude.{◌≡◌, IfOk, OnOk};
+ghost use Rattle.std.specs.Prelude.{◌≡◌, ◌-◌, ◌<◌, IfOk, None, OnOk, get_or};
 ghost use Rattle.fmp_timeline.specs.Shown as spec;
 
-use crate::run_positions::{position_at, with_position};
-use fmp_base::System;
+use crate::run_positions::position_of;
+use fmp_base::{Line, System};
 use fmp_frames::{CallPosition, Frame, IdleTurn, Viewer};
 use fmp_timeline::{Moment, Run, TaskShown, tasks_shown};
 use fmp_trace::print;
@@ -30,6 +30,46 @@ pub struct Recorder<'a> {
     run: Run,
     /// What the lanes show of the tasks after the last event.
     pub shown: Vec<TaskShown>,
+}
+
+/// Where the call of the event of this number stands; setup, which has number 0, makes none.
+fn position_at(positions: &[Option<CallPosition>], event: u32) -> Option<CallPosition>
+    ensures setup { event ≡ 0 → result ≡ None }
+    ensures event { 0 < event → result ≡ get_or positions.now (event - 1) None }
+{
+    if event == 0 {
+        return None;
+    }
+    position_of(positions, event)
+}
+
+/// A text with this after its first line.
+fn after_first_line(alloc: Global, text: &[u8], more: &[u8]) -> Result<Vec<u8>, AllocError> {
+    let end = text
+        .iter()
+        .position(|byte| *byte == b'\n')
+        .unwrap_or(text.len());
+    let mut out = Vec::from_slice(alloc, text.get(..end).unwrap_or(&[]))?;
+    out.extend_from_slice(more)?;
+    out.extend_from_slice(text.get(end..).unwrap_or(&[]))?;
+    Ok(out)
+}
+
+/// The text of these lines of an event, with where its call stands after the first of them, if it tells a call and
+/// that is known.
+fn with_position(
+    alloc: Global,
+    lines: &[Line],
+    position: Option<CallPosition>,
+    text: Vec<u8>,
+) -> Result<Vec<u8>, AllocError> {
+    match (lines.first(), position) {
+        (Some(Line::Call { .. }), Some(CallPosition { line, column })) => {
+            let more = format!(in alloc; " at {line}:{column}")?;
+            after_first_line(alloc, &text, more.as_bytes())
+        }
+        _ => Ok(text),
+    }
 }
 
 impl<'a> Recorder<'a> {

@@ -2,8 +2,12 @@
 ghost use Rattle.std.specs.Prelude.{◌≡◌, ◌+◌, ◌≤◌, ◌^◌, [], IfOk, length, map};
 ghost use Rattle.fmp_instructions.specs.Instructions.{code_tables};
 ghost use Rattle.fmp_instructions.specs.Machine.{code_meaning};
-ghost use Rattle.fmp_looking.specs.Refused.{refused_in, refused_lines};
+ghost use Rattle.fmp_looking.specs.Looks.{OfImage, OfSteps};
+ghost use Rattle.fmp_looking.specs.Refused as spec;
+ghost use Rattle.fmp_looking.specs.Refused.{AreRunRefusals, refused_in, refused_lines};
+ghost use Rattle.fmp_looking.specs.Traces.{line_form as spec_form};
 ghost use Rattle.fmp_frames.specs.Answers.{answers_in as answers_by};
+ghost use Rattle.fmp_frames.specs.CallPositions.{AreCallsOf};
 ghost use Rattle.fmp_frames.specs.Refusals.{refused_calls as refused_by, refused_of};
 ghost use Rattle.fmp_replay.specs.Replays.{kernel_after};
 
@@ -105,7 +109,9 @@ fn positions_in(
     alloc: Global,
     image: &Image,
     source: Option<NamedText<'_>>,
-) -> Result<CallPositions, ViewExit> {
+) -> Result<CallPositions, ViewExit>
+    ensures { IfOk result (λ positions. AreCallsOf (spec.text_of source.entry) positions) }
+{
     match source {
         Some(source) => positions_for(alloc, image, source.text),
         None => CallPositions::new(alloc, b"").map_err(|error| memory(error)),
@@ -113,7 +119,9 @@ fn positions_in(
 }
 
 /// The name of the file of a task text; empty if none is given.
-fn file_of<'a>(source: Option<NamedText<'a>>) -> &'a [u8] {
+fn file_of<'a>(source: Option<NamedText<'a>>) -> &'a [u8]
+    ensures { result.now ≡ spec.file_of source.entry }
+{
     match source {
         Some(source) => source.name.as_bytes(),
         None => b"",
@@ -167,7 +175,10 @@ fn lines_over(
     opened: &OpenImage<'_>,
     steps: &[u8],
     source: Option<NamedText<'_>>,
-) -> Result<Vec<u8>, ViewExit> {
+) -> Result<Vec<u8>, ViewExit>
+    ensures { IfOk result (λ out. OfSteps opened.now.image.now steps.now (λ es. AreRunRefusals (spec_form form)
+        source.entry opened.now.image.now opened.now.bound es out.items)) }
+{
     let image = opened.image;
     let events = events_for(alloc, image, steps)?;
     let positions = positions_in(alloc, image, source)?;
@@ -177,7 +188,10 @@ fn lines_over(
         positions: &positions,
         events: &events,
     };
-    lines_on(alloc, line_form(form), file_of(source), run).map_err(|error| memory(error))
+    match lines_on(alloc, line_form(form), file_of(source), run) {
+        Ok(lines) => Ok(lines),
+        Err(error) => Err(memory(error)),
+    }
 }
 
 /// A line for each call that is refused in a run. Calls are told by where they stand in the task text of the image if
@@ -187,7 +201,10 @@ pub fn refused_in_run(
     form: Form,
     run: StepsRun<'_>,
     source: Option<NamedText<'_>>,
-) -> Result<Vec<u8>, ViewExit> {
+) -> Result<Vec<u8>, ViewExit>
+    ensures { IfOk result (λ out. OfImage run.entry.image.now (λ i. OfSteps i run.entry.steps.now
+        (λ es. AreRunRefusals (spec_form form) source.entry i run.entry.bound es out.items))) }
+{
     match image_of(alloc, run.image) {
         Ok(image) => {
             let opened = OpenImage::new(&image, run.bound);

@@ -12,16 +12,15 @@ ghost use Rattle.fmp_looking.specs.Looks.{ShowsEvent};
 ghost use Rattle.fmp_looking.specs.Tested.{HasMetText, IsFailedTest, subject_in, subject_of};
 
 use crate::call_sentences::{CallJudge, CallNever, sentences_of};
+use crate::commands::printed_steps;
 use crate::exit::{ViewExit, memory};
 use crate::expecting::{Expectations, report_of};
 use crate::open_image::OpenImage;
 use crate::trying::{Trials, failed_trial_of};
 use crate::trying_beside::failed_trial_beside;
 use crate::wanted::ImageTest;
-use fmp_base::Event;
 use fmp_expect::Expected;
 use fmp_monitors::Sentence;
-use fmp_trace::print_steps;
 use fmp_trials::{FailedTrial, RunPlan};
 use std::alloc::{AllocError, Global};
 use std::thread::Threads;
@@ -69,15 +68,6 @@ fn refuse_ends(alloc: Global, expected: &[Expected]) -> Result<(), ViewExit>
     Ok(())
 }
 
-/// The text of steps.
-fn text_of(alloc: Global, steps: &[Event]) -> Result<Vec<u8>, AllocError>
-    ensures { IfOk result (λ text. text.items ≡ steps_text steps.now) }
-{
-    let mut text = Vec::new(alloc);
-    print_steps(steps, &mut text)?;
-    Ok(text)
-}
-
 /// What is printed of a run of an image that fails one of the expectations of a text.
 fn printed_test(
     alloc: Global,
@@ -93,7 +83,7 @@ fn printed_test(
         test.report.items) }
 {
     let Expectations { name, text, .. } = *expectations;
-    let steps = text_of(alloc, &trial.run.steps)?;
+    let steps = printed_steps(alloc, &trial.run.steps)?;
     let report = report_of(
         alloc,
         opened,

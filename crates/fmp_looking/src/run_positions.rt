@@ -1,5 +1,7 @@
 //! Where the calls of a run stand in the text of its bodies.
-ghost use Rattle.std.specs.Prelude.{◌≡◌, ◌≤◌, ◌^◌, IfOk, length};
+ghost use Rattle.std.specs.Prelude.{◌≡◌, ◌-◌, ◌≤◌, ◌^◌, IfOk, None, get_or, length, true};
+ghost use Rattle.fmp_frames.specs.CallPositions.{AreCallsOf, fits};
+ghost use Rattle.fmp_looking.specs.Looks.{OfImage, OfSteps};
 ghost use Rattle.fmp_looking.specs.PositionedRuns.{positions_in, start_of};
 ghost use Rattle.fmp_looking.specs.Traces.{ArePositions};
 
@@ -7,7 +9,7 @@ use crate::exit::{ViewExit, memory};
 use crate::kinds::exit_over;
 use crate::open_image::OpenImage;
 use crate::opening::{StepsRun, events_for, image_of};
-use fmp_base::{Event, Line};
+use fmp_base::Event;
 use fmp_code::Vm;
 use fmp_frames::{CallPosition, CallPositions, CodePositions, positions_made};
 use fmp_image_bytes::Image;
@@ -82,43 +84,21 @@ pub fn positions_by_text(
 }
 
 /// Where the call of the event of this number stands, by the positions from the first event on.
-pub fn position_at(positions: &[Option<CallPosition>], event: u32) -> Option<CallPosition> {
-    let index = (event as usize).checked_sub(1)?;
-    *positions.get(index)?
-}
-
-/// A text with this after its first line.
-fn after_first_line(alloc: Global, text: &[u8], more: &[u8]) -> Result<Vec<u8>, AllocError> {
-    let end = text
-        .iter()
-        .position(|byte| *byte == b'\n')
-        .unwrap_or(text.len());
-    let mut out = Vec::from_slice(alloc, text.get(..end).unwrap_or(&[]))?;
-    out.extend_from_slice(more)?;
-    out.extend_from_slice(text.get(end..).unwrap_or(&[]))?;
-    Ok(out)
-}
-
-/// The text of these lines of an event, with where its call stands after the first of them, if it tells a call and
-/// that is known.
-pub fn with_position(
-    alloc: Global,
-    lines: &[Line],
-    position: Option<CallPosition>,
-    text: Vec<u8>,
-) -> Result<Vec<u8>, AllocError> {
-    match (lines.first(), position) {
-        (Some(Line::Call { .. }), Some(CallPosition { line, column })) => {
-            let more = format!(in alloc; " at {line}:{column}")?;
-            after_first_line(alloc, &text, more.as_bytes())
-        }
-        _ => Ok(text),
+pub fn position_of(positions: &[Option<CallPosition>], number: u32) -> Option<CallPosition>
+    ensures { result ≡ get_or positions.now (number - 1) None }
+{
+    match positions.get((number as usize).saturating_sub(1)) {
+        Some(position) => *position,
+        None => None,
     }
 }
 
 /// Where the calls of the code of an image stand in a text of its bodies. The text must have as many bodies as the
 /// image, each with as many calls.
-pub fn positions_for(alloc: Global, image: &Image, src: &[u8]) -> Result<CallPositions, ViewExit> {
+pub fn positions_for(alloc: Global, image: &Image, src: &[u8]) -> Result<CallPositions, ViewExit>
+    ensures calls { IfOk result (λ made. AreCallsOf src.now made) }
+    ensures fit { IfOk result (λ made. fits image.now.code made ≡ true) }
+{
     let positions = CallPositions::new(alloc, src).map_err(|error| memory(error))?;
     match positions.fits(alloc, image.code()) {
         Ok(true) => Ok(positions),
@@ -133,7 +113,10 @@ fn positions_over_steps(
     opened: &OpenImage<'_>,
     steps: &[u8],
     src: &[u8],
-) -> Result<Vec<Option<CallPosition>>, ViewExit> {
+) -> Result<Vec<Option<CallPosition>>, ViewExit>
+    ensures { IfOk result (λ made. OfSteps opened.now.image.now steps.now
+        (λ es. ArePositions src.now opened.now.image.now opened.now.bound es made.items)) }
+{
     let image = opened.image;
     let events = events_for(alloc, image, steps)?;
     let positions = positions_for(alloc, image, src)?;
@@ -143,7 +126,10 @@ fn positions_over_steps(
         positions: &positions,
         events: &events,
     };
-    positions_over(alloc, run).map_err(|error| memory(error))
+    match positions_over(alloc, run) {
+        Ok(made) => Ok(made),
+        Err(error) => Err(memory(error)),
+    }
 }
 
 /// Where the calls of a run stand in this text of the bodies of its image, for each event that is done. The text must
@@ -152,7 +138,10 @@ pub fn positions_of_run(
     alloc: Global,
     run: StepsRun<'_>,
     src: &[u8],
-) -> Result<Vec<Option<CallPosition>>, ViewExit> {
+) -> Result<Vec<Option<CallPosition>>, ViewExit>
+    ensures { IfOk result (λ made. OfImage run.entry.image.now (λ i. OfSteps i run.entry.steps.now
+        (λ es. ArePositions src.now i run.entry.bound es made.items))) }
+{
     match image_of(alloc, run.image) {
         Ok(image) => {
             let opened = OpenImage::new(&image, run.bound);

@@ -1,6 +1,16 @@
 //! The command `test` of a system: random runs, and the steps of the first that fails an expectation.
-ghost use Rattle.std.specs.Prelude.{◌≡◌, IfNone, IfSome, IsTrue, None, false};
+ghost use Rattle.std.specs.Prelude.{ℕ, ◌≡◌, ◌∷◌, ◌<◌, [], IfErr, IfNone, IfOk, IfSome, IsOkAnd, IsTrue, List, None};
+ghost use Rattle.std.specs.Prelude.{OnOk, Option, false, option_map, true};
+ghost use Rattle.fmp_base.specs.Systems.{tables_of};
+ghost use Rattle.fmp_files.specs.Deeds.{Deed, Does, Says, wrote};
+ghost use Rattle.fmp_files.specs.Prints.{Prints};
+ghost use Rattle.fmp_looking.specs.declared.wanted.ReadTest.{ReadTest};
+ghost use Rattle.fmp_looking.specs.Judgements.{IsTestReport};
+ghost use Rattle.fmp_looking.specs.TestDeeds as spec;
+ghost use Rattle.fmp_looking.specs.TestDeeds.{EndsTest, FailsTest, HasTested, IsDone, IsRefusal, IsTested};
+ghost use Rattle.fmp_looking.specs.TestDeeds.{IsTextOf, MeetsTest, Reports, SaysSome, TellsFound, TellsLines};
 ghost use Rattle.fmp_looking.specs.TestFiles.{AreApart};
+ghost use Rattle.fmp_looking.specs.TestRefusals.{AreTestRefusals};
 
 use crate::asking::{TestMistake, test_mistake};
 use crate::built_system::BuiltSystem;
@@ -9,11 +19,11 @@ use crate::expecting::Expectations;
 use crate::outputs::{is_coverage_one_file, is_report_over_coverage};
 use crate::rates::{rates_of, say_unhandled};
 use crate::reporting::{FailedTest, tested};
-use crate::test_coverage::{TestTexts, write_coverage};
+use crate::test_coverage::write_coverage;
 use crate::test_records::test_record;
 use crate::test_refusals::test_refusals;
 use crate::test_reports::test_report;
-use crate::wanted::{ImageTest, Testing};
+use crate::wanted::{ImageTest, ReadTest, TestTexts, Testing};
 use fmp_files::{Failure, Outside, end, print, read_file, refuse_mistake, write_file};
 use fmp_trials::FailedTrial;
 use std::alloc::{AllocError, Global};
@@ -22,8 +32,60 @@ use std::thread::Threads;
 /// The status where a run fails an expectation.
 const FAILS: u8 = 4;
 
+/// Prints bytes. The error is the status that the program ends with.
+#[tactic(auto, using(crate::proofs::TestEnds::printed_all, crate::proofs::TestEnds::printing_refuses))]
+fn printed<O: Outside>(alloc: Global, outside: &mut O, bytes: &[u8]) -> Result<(), u8>
+    ensures ok { OnOk result (Prints (O.done outside.old) bytes.now (O.done outside.new)) }
+    ensures err { IfErr result IsRefusal }
+{
+    match print(alloc, outside, bytes) {
+        0 => Ok(()),
+        status => Err(status),
+    }
+}
+
+/// Says that memory ran out, and gives the status that the program ends with.
+#[tactic(auto, using(crate::proofs::TestEnds::three_refuses))]
+fn end_memory<O: Outside>(outside: &mut O, error: AllocError) -> u8
+    ensures { IsRefusal result }
+{
+    end(outside, &Failure::Memory(error))
+}
+
+/// Says why a test is not made, and gives the status that the program ends with.
+#[tactic(auto, using(crate::proofs::TestEnds::exit_refuses, crate::proofs::TestEnds::refusal_by))]
+fn end_test<O: Outside>(outside: &mut O, exit: &ViewExit) -> u8
+    ensures { IsRefusal result }
+{
+    end(outside, exit)
+}
+
+/// Says what is wrong with the words of a test, and gives the status that the program ends with.
+#[tactic(auto, using(crate::proofs::TestEnds::mistake_refuses))]
+fn refuse_test<O: Outside>(alloc: Global, outside: &mut O, mistake: TestMistake) -> u8
+    ensures { IsRefusal result }
+{
+    refuse_mistake(outside, test_mistake(alloc, mistake))
+}
+
+/// Says a text.
+fn say_text<O: Outside>(alloc: Global, outside: &mut O, text: &[u8]) -> Result<(), u8>
+    ensures ok { OnOk result (Says (O.done outside.old) (O.done outside.new)) }
+    ensures err { IfErr result IsRefusal }
+{
+    match String::from_utf8_lossy(alloc, text) {
+        Ok(text) => {
+            outside.say(text);
+            Ok(())
+        }
+        Err(error) => Err(end_memory(outside, error)),
+    }
+}
+
 /// Says which run fails, and how much shorter it became.
-fn say_seed<O: Outside>(outside: &mut O, trial: &FailedTrial) {
+fn say_seed<O: Outside>(outside: &mut O, trial: &FailedTrial)
+    ensures { Says (O.done outside.old) (O.done outside.new) }
+{
     let left = trial.run.steps.len();
     let end = if trial.shortest {
         ""
@@ -36,32 +98,38 @@ fn say_seed<O: Outside>(outside: &mut O, trial: &FailedTrial) {
     ));
 }
 
-/// Says what `expect` says of a run.
-fn say_report<O: Outside>(alloc: Global, outside: &mut O, report: &[u8]) -> Result<(), AllocError> {
-    let text = String::from_utf8_lossy(alloc, report)?;
-    outside.say(text);
-    Ok(())
+/// Says which run fails, and what `expect` says of it.
+#[tactic(auto, using(crate::proofs::TestEnds::says_one, crate::proofs::TestEnds::says_two))]
+fn say_failed<O: Outside>(alloc: Global, outside: &mut O, failed: &FailedTest) -> Result<(), u8>
+    ensures ok { OnOk result (SaysSome (O.done outside.old) (O.done outside.new)) }
+    ensures err { IfErr result IsRefusal }
+{
+    say_seed(outside, &failed.trial);
+    say_text(alloc, outside, &failed.report)
 }
 
-/// Says which run fails, and prints its steps. The status is 4, or that of what went wrong.
-fn print_failed<O: Outside>(alloc: Global, outside: &mut O, failed: &FailedTest) -> u8 {
-    say_seed(outside, &failed.trial);
-    match say_report(alloc, outside, &failed.report) {
-        Ok(()) => match print(alloc, outside, &failed.steps) {
-            0 => FAILS,
-            status => status,
-        },
-        Err(error) => end(outside, &Failure::Memory(error)),
-    }
+/// Says which run fails, and prints its steps.
+fn print_failed<O: Outside>(alloc: Global, outside: &mut O, failed: &FailedTest) -> Result<(), u8>
+    ensures ok { OnOk result ((between : Option (List Deed)) × SaysSome (O.done outside.old) between
+        × Prints between failed.now.steps.items (O.done outside.new)) }
+    ensures err { IfErr result IsRefusal }
+{
+    say_failed(alloc, outside, failed)?;
+    printed(alloc, outside, &failed.steps)
 }
 
 /// Says that no run failed, which says nothing of other runs.
-fn say_none<O: Outside>(outside: &mut O, seeds: u32) {
+fn say_none<O: Outside>(outside: &mut O, seeds: u32)
+    ensures { Says (O.done outside.old) (O.done outside.new) }
+{
     outside.say(format_args!("none of {seeds} runs fails; nothing is claimed of other runs\n"));
 }
 
 /// The expectations of a text in the file of this name.
-fn expectations_of<'a>(name: &'a str, text: &'a [u8]) -> Expectations<'a> {
+fn expectations_of<'a>(name: &'a str, text: &'a [u8]) -> Expectations<'a>
+    ensures name { result.name.now ≡ name.now }
+    ensures text { result.text.now ≡ text.now }
+{
     Expectations {
         name,
         text,
@@ -70,63 +138,86 @@ fn expectations_of<'a>(name: &'a str, text: &'a [u8]) -> Expectations<'a> {
 }
 
 /// The report of a test, of whose runs this one fails, if one does.
-fn report_by<O: Outside>(
+fn report_by(
     alloc: Global,
-    outside: &O,
-    test: &ImageTest<'_>,
+    read: &ReadTest<'_>,
     failed: Option<&FailedTest>,
-) -> Result<Vec<u8>, ViewExit> {
-    let text = read_file(alloc, outside, test.expect, None)?;
-    let expectations = expectations_of(test.expect, &text);
+) -> Result<Vec<u8>, ViewExit>
+    ensures { IfOk result (λ out. IsTestReport (tables_of read.now.test.now.configured.now) read.now.test.now.expect.now
+        read.now.texts.expectations.now (option_map (λ f. f.now.trial.run.broken) failed.entry) out.items) }
+{
+    let ReadTest { test, texts } = *read;
+    let expectations = expectations_of(test.expect, texts.expectations);
     test_report(alloc, test.configured, &expectations, failed)
 }
 
-/// Writes the report of a test to its file, if one is asked for, and gives the status.
-fn write_report<O: Outside>(
+/// Writes the report of a test to this file. The error is the status that the program ends with.
+fn write_report_to<O: Outside>(
     alloc: Global,
     outside: &mut O,
-    test: &ImageTest<'_>,
+    out: &str,
+    read: &ReadTest<'_>,
     failed: Option<&FailedTest>,
-) -> u8 {
-    let Some(out) = test.testing.junit else {
-        return 0;
-    };
-    match report_by(alloc, outside, test, failed) {
-        Ok(report) => match write_file(alloc, outside, out, &report) {
-            Ok(()) => 0,
-            Err(failure) => end(outside, &failure),
-        },
-        Err(exit) => end(outside, &exit),
+) -> Result<(), u8>
+    ensures ok { OnOk result ((report : List ℕ)
+        × IsTestReport (tables_of read.now.test.now.configured.now) read.now.test.now.expect.now
+        read.now.texts.expectations.now (option_map (λ f. f.now.trial.run.broken) failed.entry) report
+        × Does (O.done outside.old) (wrote out.now report ∷ []) (O.done outside.new)) }
+    ensures err { IfErr result IsRefusal }
+{
+    match report_by(alloc, read, failed) {
+        Ok(report) => write_to(alloc, outside, out, &report),
+        Err(exit) => Err(end_test(outside, &exit)),
     }
 }
 
-/// What comes of a test, as an object of JSON.
-fn record_by<O: Outside>(
+/// Writes the report of a test to its file, if one is asked for. The error is the status that the program ends with.
+#[tactic(auto, using(crate::proofs::TestEnds::reports_none))]
+fn write_report<O: Outside>(
     alloc: Global,
-    outside: &O,
-    test: &ImageTest<'_>,
-    found: Option<&FailedTest>,
-) -> Result<Vec<u8>, Failure> {
-    let text = read_file(alloc, outside, test.expect, None)?;
-    let expectations = expectations_of(test.expect, &text);
-    test_record(alloc, &expectations, test.testing.seeds, found).map_err(|error| Failure::Memory(
-        error,
-    ))
+    outside: &mut O,
+    read: &ReadTest<'_>,
+    failed: Option<&FailedTest>,
+) -> Result<(), u8>
+    ensures ok { OnOk result (Reports read.now (option_map (λ f. f.now) failed.entry) (O.done outside.old)
+        (O.done outside.new)) }
+    ensures err { IfErr result IsRefusal }
+{
+    let test = read.test;
+    match test.testing.junit {
+        Some(out) => write_report_to(alloc, outside, out, read, failed),
+        None => Ok(()),
+    }
+}
+
+/// Writes a file. The error is the status that the program ends with.
+#[tactic(auto, using(crate::proofs::TestEnds::three_refuses))]
+fn write_to<O: Outside>(alloc: Global, outside: &mut O, name: &str, bytes: &[u8]) -> Result<(), u8>
+    ensures ok { OnOk result (Does (O.done outside.old) (wrote name.now bytes.now ∷ []) (O.done outside.new)) }
+    ensures err { IfErr result IsRefusal }
+{
+    match write_file(alloc, outside, name, bytes) {
+        Ok(()) => Ok(()),
+        Err(failure) => Err(end(outside, &failure)),
+    }
 }
 
 /// Prints what comes of a test as an object of JSON.
 fn print_record<O: Outside>(
     alloc: Global,
     outside: &mut O,
-    test: &ImageTest<'_>,
+    read: &ReadTest<'_>,
     found: Option<&FailedTest>,
-) -> u8 {
-    match record_by(alloc, outside, test, found) {
-        Ok(record) => match print(alloc, outside, &record) {
-            0 if found.is_some() => FAILS,
-            status => status,
-        },
-        Err(failure) => end(outside, &failure),
+) -> Result<(), u8>
+    ensures ok { OnOk result (TellsFound true read.now (option_map (λ f. f.now) found.entry) (O.done outside.old)
+        (O.done outside.new)) }
+    ensures err { IfErr result IsRefusal }
+{
+    let ReadTest { test, texts } = *read;
+    let expectations = expectations_of(test.expect, texts.expectations);
+    match test_record(alloc, &expectations, test.testing.seeds, found) {
+        Ok(record) => printed(alloc, outside, &record),
+        Err(error) => Err(end_memory(outside, error)),
     }
 }
 
@@ -166,148 +257,255 @@ fn output_mistake<O: Outside>(outside: &O, test: &ImageTest<'_>) -> Option<TestM
 }
 
 /// How many runs were made, of which this one fails, if one does: the runs after it are not made.
-fn runs_made(testing: &Testing<'_>, found: Option<&FailedTest>) -> u64 {
+fn runs_made(read: &ReadTest<'_>, found: Option<&FailedTest>) -> u64
+    ensures { result ≡ spec.runs_made read.now (option_map (λ f. f.now) found.entry) }
+{
+    let test = read.test;
     match found {
         Some(failed) => failed.trial.seed,
-        None => u64::from(testing.seeds),
+        None => u64::from(test.testing.seeds),
     }
 }
 
 /// Says what came of random runs, and prints the steps of the one that fails, if one does.
+#[tactic(auto, using(crate::proofs::TestEnds::says_one))]
 fn print_found<O: Outside>(
     alloc: Global,
     outside: &mut O,
-    seeds: u32,
+    read: &ReadTest<'_>,
     found: Option<&FailedTest>,
-) -> u8 {
+) -> Result<(), u8>
+    ensures ok { OnOk result (TellsFound false read.now (option_map (λ f. f.now) found.entry) (O.done outside.old)
+        (O.done outside.new)) }
+    ensures err { IfErr result IsRefusal }
+{
+    let test = read.test;
     match found {
         Some(failed) => print_failed(alloc, outside, failed),
         None => {
-            say_none(outside, seeds);
-            0
+            say_none(outside, test.testing.seeds);
+            Ok(())
         }
     }
 }
 
-/// Writes the report of a test, and prints what came of it.
+/// Tells what came of a test.
 fn tell_found<O: Outside>(
     alloc: Global,
     outside: &mut O,
-    test: &ImageTest<'_>,
+    read: &ReadTest<'_>,
     found: Option<&FailedTest>,
-) -> u8 {
-    match write_report(alloc, outside, test, found) {
-        0 if test.testing.json => print_record(alloc, outside, test, found),
-        0 => print_found(alloc, outside, test.testing.seeds, found),
-        status => status,
+) -> Result<(), u8>
+    ensures ok { OnOk result (TellsFound read.now.test.now.testing.json read.now (option_map (λ f. f.now) found.entry)
+        (O.done outside.old) (O.done outside.new)) }
+    ensures err { IfErr result IsRefusal }
+{
+    let test = read.test;
+    if test.testing.json {
+        print_record(alloc, outside, read, found)
+    } else {
+        print_found(alloc, outside, read, found)
     }
-}
-
-/// The lines of the calls that are refused in the first random runs of a test, this many, by the texts of its files.
-fn refused_by<O: Outside>(
-    alloc: Global,
-    outside: &O,
-    test: &ImageTest<'_>,
-    runs: u64,
-) -> Result<Vec<u8>, ViewExit> {
-    let expectations = read_file(alloc, outside, test.expect, None)?;
-    let src = read_file(alloc, outside, test.testing.src, None)?;
-    let texts = TestTexts {
-        src: &src,
-        expectations: &expectations,
-    };
-    test_refusals(alloc, test, texts, runs)
 }
 
 /// Says lines, or prints objects of JSON, if there are some.
-fn tell_lines<O: Outside>(alloc: Global, outside: &mut O, json: bool, lines: &[u8]) -> u8 {
+#[tactic(auto, using(crate::proofs::TestEnds::lines_none, crate::proofs::TestEnds::says_one))]
+fn tell_lines<O: Outside>(
+    alloc: Global,
+    outside: &mut O,
+    json: bool,
+    lines: &[u8],
+) -> Result<(), u8>
+    ensures ok { OnOk result (TellsLines json lines.now (O.done outside.old) (O.done outside.new)) }
+    ensures err { IfErr result IsRefusal }
+{
     if lines.is_empty() {
-        return 0;
+        return Ok(());
     }
     if json {
-        return print(alloc, outside, lines);
-    }
-    match say_report(alloc, outside, lines) {
-        Ok(()) => 0,
-        Err(error) => end(outside, &Failure::Memory(error)),
+        printed(alloc, outside, lines)
+    } else {
+        say_text(alloc, outside, lines)
     }
 }
 
-/// Tells which calls are refused in the first random runs of a test, this many. The status is this one, or that of what
-/// went wrong.
+/// Tells which calls are refused in the first random runs of a test, this many.
 fn tell_refused<O: Outside>(
     alloc: Global,
     outside: &mut O,
-    test: &ImageTest<'_>,
+    read: &ReadTest<'_>,
     runs: u64,
-    status: u8,
-) -> u8 {
-    match refused_by(alloc, outside, test, runs) {
-        Ok(lines) => match tell_lines(alloc, outside, test.testing.json, &lines) {
-            0 => status,
-            worse => worse,
-        },
-        Err(exit) => end(outside, &exit),
+) -> Result<(), u8>
+    ensures ok { OnOk result ((lines : List ℕ) × AreTestRefusals read.now.test.now read.now.texts runs lines
+        × TellsLines read.now.test.now.testing.json lines (O.done outside.old) (O.done outside.new)) }
+    ensures err { IfErr result IsRefusal }
+{
+    let ReadTest { test, texts } = *read;
+    match test_refusals(alloc, test, texts, runs) {
+        Ok(lines) => tell_lines(alloc, outside, test.testing.json, &lines),
+        Err(exit) => Err(end_test(outside, &exit)),
     }
 }
 
-/// Writes the coverage and the report of a test, and prints what came of it.
+/// Writes the coverage and the report of a test, and tells what came of it.
 fn tell_all<O: Outside, R: Threads + Sync>(
     alloc: Global,
     outside: &mut O,
     rt: &R,
-    test: &ImageTest<'_>,
+    read: &ReadTest<'_>,
     found: Option<&FailedTest>,
-) -> u8 {
-    let runs = runs_made(&test.testing, found);
-    match write_coverage(alloc, outside, rt, test, runs) {
-        0 => match tell_found(alloc, outside, test, found) {
-            status if status == 0 || status == FAILS => {
-                tell_refused(alloc, outside, test, runs, status)
-            }
-            status => status,
-        },
-        status => status,
+) -> Result<(), u8>
+    ensures ok { OnOk result (HasTested read.now (option_map (λ f. f.now) found.entry) (O.done outside.old)
+        (O.done outside.new)) }
+    ensures err { IfErr result IsRefusal }
+{
+    let runs = runs_made(read, found);
+    write_coverage(alloc, outside, rt, read, runs)?;
+    write_report(alloc, outside, read, found)?;
+    tell_found(alloc, outside, read, found)?;
+    tell_refused(alloc, outside, read, runs)
+}
+
+/// The status of a test that is made.
+fn verdict_status(found: Option<&FailedTest>) -> u8
+    ensures { result ≡ spec.verdict_status (option_map (λ f. f.now) found.entry) }
+{
+    match found {
+        Some(_) => FAILS,
+        None => 0,
     }
 }
 
-/// Makes the random runs of a test, and judges them.
-fn test_by<O: Outside, R: Threads + Sync>(
+/// Tells what came of a test, and gives the status.
+#[tactic(auto, using(crate::proofs::TestEnds::not_done))]
+fn ended<O: Outside, R: Threads + Sync>(
     alloc: Global,
-    outside: &O,
+    outside: &mut O,
     rt: &R,
-    test: &ImageTest<'_>,
-) -> Result<Option<FailedTest>, ViewExit> {
-    let text = read_file(alloc, outside, test.expect, None)?;
-    let src = read_file(alloc, outside, test.testing.src, None)?;
-    tested(alloc, rt, test, &src, &expectations_of(test.expect, &text))
+    read: &ReadTest<'_>,
+    found: Option<&FailedTest>,
+) -> u8
+    ensures status { IsDone result → result ≡ spec.verdict_status (option_map (λ f. f.now) found.entry) }
+    ensures tested { IsDone result → HasTested read.now (option_map (λ f. f.now) found.entry) (O.done outside.old)
+        (O.done outside.new) }
+{
+    match tell_all(alloc, outside, rt, read, found) {
+        Ok(()) => verdict_status(found),
+        Err(status) => status,
+    }
 }
 
-/// Makes a test, and gives the status.
+/// The random run of a test that fails, if one does.
+fn found_by<R: Threads + Sync>(
+    alloc: Global,
+    rt: &R,
+    read: &ReadTest<'_>,
+) -> Result<Option<FailedTest>, ViewExit>
+    ensures fails { IfOk result (λ found. IfSome found (FailsTest read.now)) }
+    ensures meets { 0 < read.now.test.now.testing.seeds → IfOk result (λ found. IfNone found (MeetsTest read.now)) }
+{
+    let ReadTest { test, texts } = *read;
+    let expectations = expectations_of(test.expect, texts.expectations);
+    tested(alloc, rt, test, texts.src, &expectations)
+}
+
+/// Makes a test whose files are apart, and gives the status.
+#[tactic(auto, using(crate::proofs::TestEnds::not_done))]
+fn run_read<O: Outside, R: Threads + Sync>(
+    alloc: Global,
+    outside: &mut O,
+    rt: &R,
+    read: &ReadTest<'_>,
+) -> u8
+    requires { AreApart read.now.test.now }
+    ensures { IsDone result → IsTested read.now (O.done outside.old) (O.done outside.new) result }
+{
+    match found_by(alloc, rt, read) {
+        Ok(found) => ended(alloc, outside, rt, read, found.as_ref()),
+        Err(exit) => end_test(outside, &exit),
+    }
+}
+
+/// The texts of the files of a test.
+#[derive(Drop)]
+struct TestSources {
+    src: Vec<u8>,
+    expectations: Vec<u8>,
+}
+
+/// Reads the files of a test.
+fn sources_of<O: Outside>(
+    alloc: Global,
+    outside: &O,
+    test: &ImageTest<'_>,
+) -> Result<TestSources, Failure>
+    ensures src { IfOk result (λ s. IsTextOf (O.files outside.now) test.now.testing.src.now s.src.items) }
+    ensures expectations { IfOk result (λ s. IsTextOf (O.files outside.now) test.now.expect.now s.expectations.items) }
+{
+    let expectations = read_file(alloc, outside, test.expect, None)?;
+    let src = read_file(alloc, outside, test.testing.src, None)?;
+    Ok(TestSources { src, expectations })
+}
+
+/// Makes a test with these texts, and gives the status.
+fn run_sources<O: Outside, R: Threads + Sync>(
+    alloc: Global,
+    outside: &mut O,
+    rt: &R,
+    test: &ImageTest<'_>,
+    sources: &TestSources,
+) -> u8
+    requires { AreApart test.now }
+    ensures { IsDone result → (read : ReadTest) × (read.test.now ≡ test.now)
+        × (read.texts.src.now ≡ sources.now.src.items)
+        × (read.texts.expectations.now ≡ sources.now.expectations.items)
+        × IsTested read (O.done outside.old) (O.done outside.new) result }
+{
+    let read = ReadTest {
+        test,
+        texts: TestTexts {
+            src: &sources.src,
+            expectations: &sources.expectations,
+        },
+    };
+    run_read(alloc, outside, rt, &read)
+}
+
+/// Makes a test, unless it would write over a file that is read, or write one twice, and gives the status.
+#[tactic(auto, using(crate::proofs::TestEnds::not_done, crate::proofs::TestEnds::three_refuses))]
 fn run_test<O: Outside, R: Threads + Sync>(
     alloc: Global,
     outside: &mut O,
     rt: &R,
     test: &ImageTest<'_>,
-) -> u8 {
+    sources: Result<TestSources, Failure>,
+) -> u8
+    ensures { IsDone result → IsOkAnd sources (λ s. (read : ReadTest) × (read.test.now ≡ test.now)
+        × (read.texts.src.now ≡ s.src.items) × (read.texts.expectations.now ≡ s.expectations.items)
+        × IsTested read (O.done outside.old) (O.done outside.new) result) }
+{
     if let Some(mistake) = output_mistake(outside, test) {
-        return refuse_mistake(outside, test_mistake(alloc, mistake));
+        return refuse_test(alloc, outside, mistake);
     }
-    match test_by(alloc, outside, rt, test) {
-        Ok(found) => tell_all(alloc, outside, rt, test, found.as_ref()),
-        Err(exit) => end(outside, &exit),
+    match sources {
+        Ok(sources) => run_sources(alloc, outside, rt, test, &sources),
+        Err(failure) => end(outside, &failure),
     }
 }
 
 /// Makes random runs of a system: it prints the steps of the first that fails an expectation, made shorter, with status
 /// 4. If none fails, it prints nothing, with status 0. Its threads are those of this runtime.
+#[tactic(auto, using(crate::proofs::TestEnds::not_done))]
 pub fn test_image<O: Outside, R: Threads + Sync>(
     alloc: Global,
     outside: &mut O,
     rt: &R,
     built: &BuiltSystem<'_>,
     testing: &Testing<'_>,
-) -> u8 {
+) -> u8
+    ensures { IsDone result → EndsTest (O.files outside.old) built.now testing.now (O.done outside.old)
+        (O.done outside.new) result }
+{
     match rates_of(alloc, built.configured, testing.rates) {
         Ok(Some(rates)) => match testing.expect {
             Some(expect) => {
@@ -318,12 +516,13 @@ pub fn test_image<O: Outside, R: Threads + Sync>(
                     rates: &rates,
                     testing: *testing,
                 };
+                let sources = sources_of(alloc, outside, &test);
                 say_unhandled(outside, built.configured, &rates);
-                run_test(alloc, outside, rt, &test)
+                run_test(alloc, outside, rt, &test, sources)
             }
-            None => refuse_mistake(outside, test_mistake(alloc, TestMistake::NothingExpected)),
+            None => refuse_test(alloc, outside, TestMistake::NothingExpected),
         },
-        Ok(None) => refuse_mistake(outside, test_mistake(alloc, TestMistake::Rate)),
-        Err(error) => end(outside, &Failure::Memory(error)),
+        Ok(None) => refuse_test(alloc, outside, TestMistake::Rate),
+        Err(error) => end_memory(outside, error),
     }
 }

@@ -178,8 +178,9 @@ fn judged_text(
     requires { length events.now ≤ 2 ^ 20 }
     ensures { IfOk result (λ out. spec.IsTold judged.now.form judged.now.expectations.name.now
         judged.now.expectations.strict
+        (map (spec.named_by judged.now.expectations.text.now)
         (spec.judged_by_each (kernel_after opened.now.image.now opened.now.bound []) (judge_of opened.now.image.now)
-        events.now sentences.now) out.items) }
+        events.now sentences.now)) out.items) }
 {
     let Judged { expectations, form } = judged;
     let all = judgements_by(alloc, opened, events, sentences)?;

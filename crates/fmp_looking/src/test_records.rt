@@ -1,10 +1,10 @@
 //! What comes of random runs, as an object of JSON.
 ghost use Rattle.std.specs.Prelude.{◌≡◌, ◌++◌, IfOk, OnOk, Some, option_map};
 ghost use Rattle.fmp_looking.specs.TestRecords as spec;
-ghost use Rattle.fmp_looking.specs.TestRecords.{IsTestRecord};
 
-use crate::expecting::{Expectations, line_of};
+use crate::expecting::Expectations;
 use crate::reporting::FailedTest;
+use fmp_expect::line_at;
 use fmp_json::{begin, finish, number_member, text_member};
 use fmp_trials::FailedTrial;
 use json::Writer;
@@ -90,9 +90,10 @@ fn shown_record(
     seeds: u32,
     failed: &FailedTest,
 ) -> Result<Vec<u8>, AllocError>
-    ensures { IfOk result (λ line. IsTestRecord expectations.now.name.now seeds (Some failed.now) line.items) }
+    ensures { IfOk result (λ line. line.items
+        ≡ spec.test_record expectations.now.name.now expectations.now.text.now seeds (Some failed.now)) }
 {
-    let text = line_of(expectations.text, failed.trial.run.broken.line);
+    let text = line_at(expectations.text, failed.trial.run.broken.line);
     let expectation = String::from_utf8_lossy(alloc, text)?;
     let steps = String::from_utf8_lossy(alloc, &failed.steps)?;
     let texts = FailedTexts {
@@ -110,8 +111,8 @@ pub fn test_record(
     seeds: u32,
     failed: Option<&FailedTest>,
 ) -> Result<Vec<u8>, AllocError>
-    ensures { IfOk result (λ line. IsTestRecord expectations.now.name.now seeds
-        (option_map (λ f. f.now) failed.entry) line.items) }
+    ensures { IfOk result (λ line. line.items ≡ spec.test_record expectations.now.name.now expectations.now.text.now
+        seeds (option_map (λ f. f.now) failed.entry)) }
 {
     match failed {
         Some(failed) => shown_record(alloc, expectations, seeds, failed),

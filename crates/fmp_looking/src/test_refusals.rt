@@ -2,7 +2,9 @@
 ghost use Rattle.std.specs.Prelude.{◌≡◌, IfOk, OnOk};
 ghost use Rattle.fmp_frames.specs.Answers.{is_answer, is_same_code as is_same, was_answered, with_answer};
 ghost use Rattle.fmp_looking.specs.TestRefusals as spec;
-ghost use Rattle.fmp_looking.specs.TestRefusals.{AreAnswersOf, AreRefusedLines, with_answers};
+ghost use Rattle.fmp_looking.specs.TestRefusals.{AreAnswersOf, AreRefusedLines, AreTestRefusals, with_answers};
+ghost use Rattle.fmp_looking.specs.Covered.{IsRunOf};
+ghost use Rattle.fmp_looking.specs.Tested.{subject_in};
 
 use crate::call_sentences::CallJudge;
 use crate::exit::{ViewExit, memory};
@@ -10,9 +12,8 @@ use crate::expecting::other_expected;
 use crate::open_image::OpenImage;
 use crate::refused::{NamedText, answers_over, lines_of, refused_among};
 use crate::reporting::plan_of;
-use crate::test_coverage::TestTexts;
 use crate::trying::{ImageBench, Trials, bench_of};
-use crate::wanted::ImageTest;
+use crate::wanted::{ImageTest, TestTexts};
 use fmp_base::Er;
 use fmp_frames::{CallPositions, CodePositions, LineForm, SiteAnswer};
 use fmp_trials::random_steps;
@@ -69,8 +70,9 @@ fn answers_on<'a>(
     trials: &Trials<'_>,
     runs: u64,
 ) -> Result<Vec<SiteAnswer>, AllocError>
-    ensures { IfOk result (λ answers. AreAnswersOf trials.now.opened.image.now trials.now.opened.bound runs
-        answers.items) }
+    requires { bench.old ≡ subject_in trials.now }
+    ensures { IfOk result (λ answers. AreAnswersOf (IsRunOf trials.now) trials.now.opened.image.now
+        trials.now.opened.bound runs answers.items) }
 {
     let mut answers = Vec::new(alloc);
     for made in 0..runs {
@@ -83,8 +85,8 @@ fn answers_on<'a>(
 
 /// The same on new kernels of the image.
 fn answers_of(alloc: Global, trials: &Trials<'_>, runs: u64) -> Result<Vec<SiteAnswer>, AllocError>
-    ensures { IfOk result (λ answers. AreAnswersOf trials.now.opened.image.now trials.now.opened.bound runs
-        answers.items) }
+    ensures { IfOk result (λ answers. AreAnswersOf (IsRunOf trials.now) trials.now.opened.image.now
+        trials.now.opened.bound runs answers.items) }
 {
     let mut bench = bench_of(alloc, trials)?;
     let answers = answers_on(alloc, &mut bench, trials, runs);
@@ -101,8 +103,8 @@ fn lines_in(
     source: NamedText<'_>,
     runs: u64,
 ) -> Result<Vec<u8>, AllocError>
-    ensures { IfOk result (λ out. AreRefusedLines form source.entry.name.now source.entry.text.now
-        trials.now.opened.image.now trials.now.opened.bound runs out.items) }
+    ensures { IfOk result (λ out. AreRefusedLines (IsRunOf trials.now) form source.entry.name.now
+        source.entry.text.now trials.now.opened.image.now trials.now.opened.bound runs out.items) }
 {
     let positions = CallPositions::new(alloc, source.text)?;
     let answers = answers_of(alloc, trials, runs)?;
@@ -133,8 +135,7 @@ pub fn test_refusals(
     texts: TestTexts<'_>,
     runs: u64,
 ) -> Result<Vec<u8>, ViewExit>
-    ensures { IfOk result (λ out. AreRefusedLines (spec.form_of test.now.testing.json) test.now.testing.src.now
-        texts.entry.src.now test.now.image.now test.now.testing.bound runs out.items) }
+    ensures { IfOk result (λ out. AreTestRefusals test.now texts.entry runs out.items) }
 {
     let expected = other_expected(alloc, test.configured, texts.expectations)?;
     let judge = CallJudge::none(test.image);
@@ -151,7 +152,8 @@ pub fn test_refusals(
         name: test.testing.src,
         text: texts.src,
     };
-    lines_in(alloc, form_of(test.testing.json), &trials, source, runs).map_err(|error| memory(
-        error,
-    ))
+    match lines_in(alloc, form_of(test.testing.json), &trials, source, runs) {
+        Ok(lines) => Ok(lines),
+        Err(error) => Err(memory(error)),
+    }
 }

@@ -5,12 +5,12 @@ ghost use Rattle.fmp_looking.specs.Judgements as spec;
 
 use crate::call_sentences::call_sentences_in;
 use crate::exit::{ViewExit, memory};
-use crate::expecting::{Expectations, line_of, other_expected};
+use crate::expecting::{Expectations, other_expected};
 use crate::judged_cases::{JudgedCase, report_of};
 use crate::judging::Judgement;
 use crate::reporting::FailedTest;
 use fmp_base::System;
-use fmp_expect::{BrokenExpectation, CallSentence, Expected};
+use fmp_expect::{BrokenExpectation, CallSentence, Expected, line_at};
 use std::alloc::{AllocError, Global};
 
 /// What is broken, if it stands in this line.
@@ -78,11 +78,11 @@ fn case_of(
     failed: Option<&FailedTest>,
     judgement: Judgement,
 ) -> Result<JudgedCase, AllocError>
-    ensures { IfOk result (λ case. case.judgement ≡ judgement) }
+    ensures { IfOk result (λ case. spec.named_case case ≡ spec.named_by text.now judgement) }
 {
     Ok(JudgedCase {
         judgement,
-        name: String::from_utf8_lossy(alloc, line_of(text, judgement.line))?,
+        name: String::from_utf8_lossy(alloc, line_at(text, judgement.line))?,
         message: message_of(alloc, judgement.broken, failed)?,
         shown: shown_of(alloc, judgement.broken, failed)?,
     })
@@ -95,8 +95,8 @@ fn cases_of(
     lines: &[usize],
     failed: Option<&FailedTest>,
 ) -> Result<Vec<JudgedCase>, AllocError>
-    ensures { IfOk result (λ cases. map (λ c. c.judgement) cases.items
-        ≡ map (spec.tested_by (option_map (λ f. f.now.trial.run.broken) failed.entry)) lines.now) }
+    ensures { IfOk result (λ cases. map spec.named_case cases.items ≡ map (spec.named_by text.now)
+        (map (spec.tested_by (option_map (λ f. f.now.trial.run.broken) failed.entry)) lines.now)) }
 {
     let broken = broken_by(failed);
     let mut cases = Vec::new(alloc);
@@ -148,7 +148,8 @@ fn report_with(
     failed: Option<&FailedTest>,
 ) -> Result<Vec<u8>, AllocError>
     ensures { IfOk result (λ out. spec.IsReport expectations.now.name.now false
-        (map (spec.tested_by (option_map (λ f. f.now.trial.run.broken) failed.entry)) lines.now) out.items) }
+        (map (spec.named_by expectations.now.text.now)
+        (map (spec.tested_by (option_map (λ f. f.now.trial.run.broken) failed.entry)) lines.now)) out.items) }
 {
     let cases = cases_of(alloc, expectations.text, lines, failed)?;
     report_of(alloc, expectations.name, false, &cases)

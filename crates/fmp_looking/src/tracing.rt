@@ -1,14 +1,16 @@
 //! The trace of a run in the names of its objects, and the states at its end.
-ghost use Rattle.std.specs.Prelude.{◌≡◌, ◌+◌, ◌-◌, ◌≤◌, ◌^◌, ◌++◌, IfOk, None, get_or, length};
+ghost use Rattle.std.specs.Prelude.{◌≡◌, ◌+◌, ◌≤◌, ◌^◌, ◌++◌, [], IfOk, length};
 ghost use Rattle.fmp_base.specs.Systems.{tables_of};
 ghost use Rattle.fmp_frames.specs.Frames.{table_of};
 ghost use Rattle.fmp_frames.specs.Shown.{WasShown};
+ghost use Rattle.fmp_frames.specs.Watches.{IsWhy};
 ghost use Rattle.fmp_looking.specs.Traces as spec;
 ghost use Rattle.fmp_looking.specs.Traces.{IsBegun, IsTrace, Traces, end_text};
 
 use crate::exit::{ViewExit, memory};
 use crate::looking::RunLook;
 use crate::opened::Opened;
+use crate::run_positions::position_of;
 use crate::states::states_in;
 use crate::why::why_of;
 use fmp_base::{System, TaskBlock, TaskState};
@@ -55,16 +57,6 @@ fn number_after(number: u32, kept: Option<u8>) -> u32
     match kept {
         Some(_) => number,
         None => number.saturating_add(1),
-    }
-}
-
-/// Where the call of the event of this number stands, by the positions from the first event on.
-fn position_of(positions: &[Option<CallPosition>], number: u32) -> Option<CallPosition>
-    ensures { result ≡ get_or positions.now (number - 1) None }
-{
-    match positions.get((number as usize).saturating_sub(1)) {
-        Some(position) => *position,
-        None => None,
     }
 }
 
@@ -200,6 +192,10 @@ fn told_of<O: Opened, T: Coming<O::Bodies>>(
     events: &[T],
 ) -> Result<Recorded, AllocError>
     requires { length events.now ≤ 2 ^ 31 }
+    ensures text { IfOk result (λ told. IsTrace form (O.start opened.now).system [] O.Bodies.meaning T.reaction
+        (O.start opened.now) events.now told.text.items) }
+    ensures why { IfOk result (λ told. IsWhy (O.start opened.now).system O.Bodies.meaning T.reaction
+        (O.start opened.now) events.now told.why.items) }
 {
     let text = trace_of(alloc, form, &[], opened, events)?;
     let why = why_of(alloc, opened, events)?;
@@ -207,7 +203,15 @@ fn told_of<O: Opened, T: Coming<O::Bodies>>(
 }
 
 impl RunLook for Form {
+    ghost use Rattle.std.specs.Prelude.{[]};
+    ghost use Rattle.fmp_frames.specs.Watches.{IsWhy};
+    ghost use Rattle.fmp_looking.specs.Traces.{IsTrace};
+
     type Made = Recorded;
+
+    ghost makes = { λ form meaning reaction k xs times told.
+        IsTrace form k.system [] meaning reaction k xs told.text.items
+        × IsWhy k.system meaning reaction k xs told.why.items };
 
     fn of<O: Opened, T: Coming<O::Bodies>>(
         &self,
@@ -216,6 +220,9 @@ impl RunLook for Form {
         events: &[T],
         _times: &[Option<u64>],
     ) -> Result<Recorded, ViewExit> {
-        told_of(alloc, *self, opened, events).map_err(|error| memory(error))
+        match told_of(alloc, *self, opened, events) {
+            Ok(told) => Ok(told),
+            Err(error) => Err(memory(error)),
+        }
     }
 }

@@ -4,7 +4,7 @@ ghost use Rattle.fmp_instructions.specs.Machine.{code_meaning};
 ghost use Rattle.fmp_trials.specs.Drawn.{HasMet, any_of_end};
 ghost use Rattle.fmp_trials.specs.Found.{IsFound};
 ghost use Rattle.fmp_trials.specs.Shortening.{IsFailing};
-ghost use Rattle.fmp_looking.specs.Covered.{AreRunsSeen, seen_at};
+ghost use Rattle.fmp_looking.specs.Covered.{AreRunsSeen, IsRunOf, seen_at};
 ghost use Rattle.fmp_looking.specs.CallSentences.{breaks_by};
 ghost use Rattle.fmp_looking.specs.Tested.{subject_in};
 
@@ -101,8 +101,10 @@ fn seen_on<'a>(
     positions: &CallPositions,
     seeds: Seeds,
 ) -> Result<Sightings, AllocError>
-    ensures { IfOk result (λ seen. AreRunsSeen positions.now trials.now.opened.image.now trials.now.opened.bound
-        (seeds.last - seeds.before) (seen_at positions.now seen)) }
+    requires { bench.old ≡ subject_in trials.now }
+    ensures { IfOk result (λ seen. AreRunsSeen (IsRunOf trials.now) positions.now
+        trials.now.opened.image.now trials.now.opened.bound (seeds.last - seeds.before)
+        (seen_at positions.now seen)) }
 {
     let mut seen = Sightings::none(alloc);
     for made in 0..seeds.count() {
@@ -126,8 +128,9 @@ pub fn sightings_of(
     positions: &CallPositions,
     seeds: Seeds,
 ) -> Result<Sightings, AllocError>
-    ensures { IfOk result (λ seen. AreRunsSeen positions.now trials.now.opened.image.now trials.now.opened.bound
-        (seeds.last - seeds.before) (seen_at positions.now seen)) }
+    ensures { IfOk result (λ seen. AreRunsSeen (IsRunOf trials.now) positions.now
+        trials.now.opened.image.now trials.now.opened.bound (seeds.last - seeds.before)
+        (seen_at positions.now seen)) }
 {
     let mut bench = bench_of(alloc, trials)?;
     let seen = seen_on(alloc, &mut bench, trials, positions, seeds);

@@ -10,7 +10,9 @@ ghost use Rattle.fmp_trials.specs.Found.{IsFound};
 ghost use Rattle.fmp_trials.specs.Parts as part_spec;
 ghost use Rattle.fmp_trials.specs.Parts.{edge};
 ghost use Rattle.fmp_trials.specs.Shortening.{IsFailing};
-ghost use Rattle.fmp_looking.specs.Covered.{ArePartsSeen, AreRunsSeen, AreTrialsSeen, IsWithPart, seen_at, seen_of};
+ghost use Rattle.fmp_looking.specs.declared.trying.Trials.{Trials};
+ghost use Rattle.fmp_looking.specs.Covered.{ArePartsSeen, AreRunsSeen, AreTrialsSeen, IsRunOf, IsWithPart, seen_at};
+ghost use Rattle.fmp_looking.specs.Covered.{seen_of};
 ghost use Rattle.fmp_looking.specs.CallSentences.{breaks_by};
 ghost use Rattle.fmp_looking.specs.Tested.{subject_in};
 
@@ -172,14 +174,14 @@ fn parts_seen<R: Threads + Sync>(
     seeds: Seeds,
 ) -> Result<Vec<Result<Sightings, AllocError>>, AllocError>
     requires { 0 < jobs }
-    ensures { IfOk result (λ parts. ArePartsSeen positions.now trials.now.opened.image.now trials.now.opened.bound seeds
-        jobs parts.items) }
+    ensures { IfOk result (λ parts. ArePartsSeen (IsRunOf trials.now) positions.now
+        trials.now.opened.image.now trials.now.opened.bound seeds jobs parts.items) }
 {
     let look = |k: usize| -> Result<Sightings, AllocError>
         requires { k < jobs }
-        ensures { IfOk result (λ s. AreRunsSeen positions.entry.now trials.entry.now.opened.image.now
-            trials.entry.now.opened.bound (edge seeds jobs (k + 1) - edge seeds jobs k)
-            (seen_at positions.entry.now s)) }
+        ensures { IfOk result (λ s. AreRunsSeen (IsRunOf trials.entry.now) positions.entry.now
+            trials.entry.now.opened.image.now trials.entry.now.opened.bound
+            (edge seeds jobs (k + 1) - edge seeds jobs k) (seen_at positions.entry.now s)) }
     {
         sightings_of(
             alloc,
@@ -208,9 +210,9 @@ fn and_part(
 
 /// What is seen in the runs of parts, in order.
 fn all_seen(alloc: Global, parts: &[Result<Sightings, AllocError>]) -> Result<Sightings, AllocError>
-    ensures { IfOk result (λ s. (positions : List (List CallPosition)) (i : ImageTables) (n : ℕ) (seeds : Seeds)
-        (jobs : ℕ) → 0 < jobs → ArePartsSeen positions i n seeds jobs parts.now →
-        AreRunsSeen positions i n (seeds.last - seeds.before) (seen_at positions s)) }
+    ensures { IfOk result (λ s. (t : Trials) (positions : List (List CallPosition)) (i : ImageTables)
+        (n : ℕ) (seeds : Seeds) (jobs : ℕ) → 0 < jobs → ArePartsSeen (IsRunOf t) positions i n seeds jobs parts.now →
+        AreRunsSeen (IsRunOf t) positions i n (seeds.last - seeds.before) (seen_at positions s)) }
 {
     let mut seen = Sightings::none(alloc);
     for k in 0..parts.len() {
@@ -230,8 +232,9 @@ fn sightings_beside<R: Threads + Sync>(
     seeds: Seeds,
 ) -> Result<Sightings, AllocError>
     requires { 0 < jobs }
-    ensures { IfOk result (λ seen. AreRunsSeen positions.now trials.now.opened.image.now trials.now.opened.bound
-        (seeds.last - seeds.before) (seen_at positions.now seen)) }
+    ensures { IfOk result (λ seen. AreRunsSeen (IsRunOf trials.now) positions.now
+        trials.now.opened.image.now trials.now.opened.bound (seeds.last - seeds.before)
+        (seen_at positions.now seen)) }
 {
     let parts = parts_seen(alloc, rt, jobs, trials, positions, seeds)?;
     all_seen(alloc, &parts)
@@ -246,8 +249,9 @@ fn sightings_by<R: Threads + Sync>(
     positions: &CallPositions,
     seeds: Seeds,
 ) -> Result<Sightings, AllocError>
-    ensures { IfOk result (λ seen. AreRunsSeen positions.now trials.now.opened.image.now trials.now.opened.bound
-        (seeds.last - seeds.before) (seen_at positions.now seen)) }
+    ensures { IfOk result (λ seen. AreRunsSeen (IsRunOf trials.now) positions.now
+        trials.now.opened.image.now trials.now.opened.bound (seeds.last - seeds.before)
+        (seen_at positions.now seen)) }
 {
     if jobs <= 1 {
         return sightings_of(alloc, trials, positions, seeds);
@@ -265,8 +269,8 @@ pub fn seen_of_trials<R: Threads + Sync>(
     src: &[u8],
     seeds: u64,
 ) -> Result<RunsSeen, AllocError>
-    ensures { IfOk result (λ seen. AreTrialsSeen src.now trials.now.opened.image.now trials.now.opened.bound seeds
-        (seen_of seen)) }
+    ensures { IfOk result (λ seen. AreTrialsSeen (IsRunOf trials.now) src.now trials.now.opened.image.now
+        trials.now.opened.bound seeds (seen_of seen)) }
 {
     let positions = CallPositions::new(alloc, src)?;
     let all = Seeds {

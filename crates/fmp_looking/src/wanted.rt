@@ -44,6 +44,20 @@ pub struct ImageTest<'a> {
     pub testing: Testing<'a>,
 }
 
+/// The texts of a test: of the bodies, and of what is expected.
+#[derive(Clone, Copy)]
+pub struct TestTexts<'a> {
+    pub src: &'a [u8],
+    pub expectations: &'a [u8],
+}
+
+/// A test of an image with the texts of its files.
+#[derive(Clone, Copy)]
+pub struct ReadTest<'a> {
+    pub test: &'a ImageTest<'a>,
+    pub texts: TestTexts<'a>,
+}
+
 /// The files to which the coverage of runs is written, where that is asked for.
 #[derive(Clone, Copy)]
 pub struct CoverageFiles<'a> {

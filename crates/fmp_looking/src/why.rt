@@ -1,7 +1,9 @@
 //! Why nothing goes on after an event of a run.
-ghost use Rattle.std.specs.Prelude.{◌≡◌, ◌≤◌, ◌^◌, IfOk, length};
+ghost use Rattle.std.specs.Prelude.{ℕ, ◌≡◌, ◌≤◌, ◌^◌, IfOk, List, length};
 ghost use Rattle.fmp_frames.specs.Watches.{LeadUp, after_first};
+ghost use Rattle.fmp_frames.specs.Watches.{IsWhy};
 ghost use Rattle.fmp_looking.specs.Looks.{IsUpTo};
+ghost use Rattle.fmp_looking.specs.Whys.{IsToldIn};
 
 use crate::exit::{ViewExit, exit_of, memory};
 use crate::looking::RunLook;
@@ -22,6 +24,8 @@ pub fn why_of<O: Opened, T: Coming<O::Bodies>>(
     events: &[T],
 ) -> Result<Vec<u8>, AllocError>
     requires { length events.now ≤ 2 ^ 31 }
+    ensures { IfOk result (λ out. IsWhy (O.start opened.now).system O.Bodies.meaning T.reaction (O.start opened.now)
+        events.now out.items) }
 {
     let mut kernel = opened.kernel(alloc)?;
     let text = fmp_frames::why(alloc, opened.system(), &mut kernel, events);
@@ -93,7 +97,9 @@ fn records_of(alloc: Global, text: &[u8]) -> Result<Vec<u8>, AllocError> {
 }
 
 /// What is said, in a form.
-fn in_form(alloc: Global, form: Form, text: Vec<u8>) -> Result<Vec<u8>, AllocError> {
+fn in_form(alloc: Global, form: Form, text: Vec<u8>) -> Result<Vec<u8>, AllocError>
+    ensures { IfOk result (λ out. IsToldIn form text.items out.items) }
+{
     match form {
         Form::Text => Ok(text),
         Form::Json => records_of(alloc, &text),
@@ -108,6 +114,8 @@ fn why_in<O: Opened, T: Coming<O::Bodies>>(
     events: &[T],
 ) -> Result<Vec<u8>, AllocError>
     requires { length events.now ≤ 2 ^ 31 }
+    ensures { IfOk result (λ out. (text : List ℕ) × IsWhy (O.start opened.now).system O.Bodies.meaning T.reaction
+        (O.start opened.now) events.now text × IsToldIn form text out.items) }
 {
     let text = why_of(alloc, opened, events)?;
     in_form(alloc, form, text)
@@ -121,13 +129,11 @@ pub struct Why {
 }
 
 impl RunLook for Why {
-    ghost use Rattle.std.specs.Prelude.{ℕ};
-    ghost use Rattle.fmp_looking.specs.Looks.{IsUpTo};
+    ghost use Rattle.fmp_looking.specs.Whys.{IsWhyAt};
 
     type Made = Vec<u8>;
 
-    // The event of the number is done.
-    ghost makes = { λ why reaction k xs times out. (count : ℕ) × IsUpTo reaction k xs why.at count };
+    ghost makes = { λ why meaning reaction k xs times out. IsWhyAt why meaning reaction k xs out.items };
 
     fn of<O: Opened, T: Coming<O::Bodies>>(
         &self,
@@ -137,6 +143,9 @@ impl RunLook for Why {
         _times: &[Option<u64>],
     ) -> Result<Vec<u8>, ViewExit> {
         let position = position_of(alloc, opened, events, self.at)?;
-        why_in(alloc, self.form, opened, &events[..position]).map_err(|error| memory(error))
+        match why_in(alloc, self.form, opened, &events[..position]) {
+            Ok(out) => Ok(out),
+            Err(error) => Err(memory(error)),
+        }
     }
 }

@@ -28,7 +28,7 @@ pub enum Measure {
     Priority(usize),
 }
 
-/// How a number stands to another.
+/// How a number compares with another.
 #[derive(Clone, Copy)]
 pub enum Relation {
     Less,
@@ -160,7 +160,7 @@ impl Condition {
         &self.tests[..count]
     }
 
-    /// Whether it is so in a state.
+    /// Whether the condition holds in a state.
     pub fn holds(&self, state: &KernelState) -> bool
         ensures { result ≡ spec.holds self.now state.now.state }
     {

@@ -245,7 +245,7 @@ fn does(happening: Happening, task: u8, line: Line) -> bool
     tells(happening, line) && is_this(task, task_in(line))
 }
 
-/// Whether by a line this task leaves: it does what lets it, or it is over.
+/// Whether this task leaves by a line: the line tells that it does this, or that it is over.
 pub fn leaves(happening: Happening, task: u8, line: Line) -> bool
     ensures { result ≡ spec.leaves happening task line }
 {

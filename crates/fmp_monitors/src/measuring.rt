@@ -1,4 +1,4 @@
-//! The numbers of a state that conditions speak of. What is not in the tables is as at the start of a default.
+//! The numbers of a state that conditions speak of. What is not in the tables has a default value.
 ghost use Rattle.std.specs.Prelude.{◌≡◌, get_or, length, pos};
 ghost use Rattle.fmp_base.specs.DataQueueCalls.{words_at};
 ghost use Rattle.fmp_base.specs.FlagCalls.{pattern_at};

@@ -242,7 +242,7 @@ pub fn breaks_in_state(sentence: &Sentence, state: &KernelState) -> bool
     }
 }
 
-/// Whether a sentence says something only where something comes: a sentence of which that never comes says nothing.
+/// Whether a sentence says nothing of a run in which what it speaks of never comes.
 pub fn has_premise(sentence: &Sentence) -> bool
     ensures { result ≡ spec.has_premise sentence.now }
 {
@@ -255,7 +255,7 @@ pub fn has_premise(sentence: &Sentence) -> bool
     }
 }
 
-/// Whether by a line comes what a sentence speaks of.
+/// Whether a line brings what a sentence speaks of.
 pub fn is_premise(sentence: &Sentence, line: Line) -> bool
     ensures { result ≡ spec.is_premise sentence.now line }
 {

@@ -38,7 +38,7 @@ fn number_named(interrupts: &[NamedInterrupt], name: &[u8]) -> Option<u8>
     }
 }
 
-/// The interrupt of a word: its number from 1 to 32, or the name of a body that only its handler has.
+/// The interrupt of a word: its number from 1 to 32, or the name of a body that no other interrupt has.
 pub fn interrupt_of(interrupts: &[NamedInterrupt], word: &[u8]) -> Option<u8>
     ensures { result ≡ spec.interrupt_of interrupts.now word.now }
 {

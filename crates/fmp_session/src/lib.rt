@@ -1,4 +1,4 @@
-//! A session: events that a system takes one by one, and that are taken back; and the commands that ask for it.
+//! A session: a system takes events one by one, and takes them back; and the commands of a session.
 #![tactic(auto)]
 
 mod answers;

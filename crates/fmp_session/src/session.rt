@@ -120,7 +120,7 @@ impl<'a> Session<'a> {
         }
     }
 
-    /// Takes the last events back, this many or all that there are: those before them are taken anew from setup on.
+    /// Takes the last events back, this many or all that there are: those before them are taken again from setup on.
     /// `AllocError` if memory runs out: then nothing has changed. The image and the bound stay.
     pub fn back(&mut self, alloc: Global, count: usize) -> Result<(), AllocError>
         requires { IsSession self.old }
@@ -173,7 +173,8 @@ impl<'a> Session<'a> {
         )
     }
 
-    /// The same as objects of JSON, each in a line, with where the call stands that the event made if that is known.
+    /// The lines of the last event that was done, or of setup, as objects of JSON, one a line, with the position of the
+    /// call that the event made, if that is known.
     pub fn append_last_records(
         &self,
         alloc: Global,
@@ -194,8 +195,8 @@ impl<'a> Session<'a> {
         )
     }
 
-    /// The steps text of the events, over which `fmp sim` runs the image so again with the same bound. `AllocError` if
-    /// memory runs out.
+    /// The steps text of the events: with it and the same bound `fmp sim` repeats the session. `AllocError` if memory
+    /// runs out.
     pub fn steps(&self, alloc: Global) -> Result<Vec<u8>, AllocError>
         ensures { IfOk result (λ text. text.items ≡ steps_text self.now.events.items) }
     {

@@ -22,8 +22,8 @@ fn append_around(
     out.extend_from_slice(behind)
 }
 
-/// Appends why the run of the processor of this number does nothing, where its next run ends so: a call does nothing
-/// only where it asks for a spin lock that is held.
+/// Appends why the run of the processor of this number does nothing, given how its next run ends. A call does nothing
+/// only if it asks for a spin lock that is held.
 fn append_standing(number: u8, next: NextRun, out: &mut Vec<u8>) -> Result<(), AllocError>
     ensures { OnOk result (out.new.items ≡ out.old.items ++ spec.standing number next) }
 {
@@ -48,7 +48,7 @@ fn has_handler(sys: &System, number: u8) -> bool
     sys.interrupts.iter().any(|config| config.number == number)
 }
 
-/// Appends why an event does nothing, where the next runs of the processors end so. `AllocError` if memory runs out.
+/// Appends why an event does nothing, given how the next runs of the processors end. `AllocError` if memory runs out.
 pub fn append_nothing(
     sys: &System,
     e: Event,

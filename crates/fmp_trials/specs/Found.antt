@@ -5,7 +5,8 @@ use Rattle.fmp_trials.specs.declared.testing.FailedTrial.{FailedTrial}
 use Rattle.fmp_trials.specs.Shortening.{IsFailing}
 use Rattle.fmp_trials.specs.Trials.{Breaks, IsShortest, Subject}
 
--- the run over the steps that are left fails what is said to be broken, and none of them can go where that is said
+-- the run over the steps that are left breaks the expectation that is named; and if so is said, none of the steps can
+-- be left out
 pub record IsFound {B C J : Type 0} (meaning : B → Meaning C) (breaks : Breaks B C J) (s : Subject B C J)
     (t : FailedTrial) : Type 0 where
   pub fails : IsFailing meaning breaks s t.run

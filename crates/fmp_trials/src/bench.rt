@@ -12,6 +12,9 @@ use fmp_kernel::{Body, Kernel};
 use std::alloc::{AllocError, Global};
 use std::marker::Model;
 
+/// How many units of a stretch weigh as much as an event.
+const EVENT_UNITS: u64 = 1024;
+
 /// A kernel from which runs begin, one on which they are made, what is expected of them, and a judge of their lines. It
 /// is seen as all but the second of these.
 #[derive(Drop)]
@@ -64,7 +67,7 @@ impl<'a, B: Body, J: LineJudge<B>> Bench<'a, B, J> {
         }
     }
 
-    /// Whether it is known that no line breaks a sentence that looks at where it stands.
+    /// Whether it is known that no line breaks a sentence that looks at where lines stand.
     pub fn is_idle(&self) -> bool
         ensures { result ≡ true → (k : KernelView B B.Ctx) → (l : LineTold) → J.breaks self.now.judge k l ≡ None }
     {
@@ -115,6 +118,12 @@ impl<'a, B: Body, J: LineJudge<B>> Bench<'a, B, J> {
             Some(broken) => Ok(Some(broken)),
             None => Ok(self.judged(events)),
         }
+    }
+
+    /// How many events weigh as much as the stretches of the last run that reached their bound.
+    pub(crate) fn long_weight(&self) -> u64 {
+        let long = self.kernel.taken() - self.kernel.done();
+        u64::from(long).saturating_mul(self.kernel.bound() / EVENT_UNITS)
     }
 
     /// A random run up to the first event that breaks a sentence, or the last. `AllocError` if memory runs out.

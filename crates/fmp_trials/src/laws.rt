@@ -23,8 +23,8 @@ pub fn monitors_go_by_histories()
         is_broken_along (at_open e) events ≡ is_some (failure e (with_events n events [])) }
 {}
 
-/// A run fails a sentence that goes by its lines where the monitor of a search is broken along these: so no run fails a
-/// sentence that holds along its lines, and each fails one that does not.
+/// A run fails a sentence about its lines exactly where the monitor of a search breaks along these lines. So no run
+/// fails a sentence that holds along its lines, and each fails one that does not.
 #[tactic(auto, using(crate::proofs::AlongLaws::judged_along))]
 pub fn runs_are_judged_as_searches_judge<B: Body>()
     ensures { (k : KernelView B B.Ctx) (es : List Event) (x : Expected) → goes_by_lines x.sentence ≡ true →

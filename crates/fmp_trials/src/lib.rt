@@ -1,4 +1,4 @@
-//! Random tests: runs that come by chance are judged by what is expected, and the first that fails is made shorter.
+//! Random tests: random runs are judged by what is expected, and the first that fails is made shorter.
 #![tactic(auto)]
 
 mod bench;

@@ -1,4 +1,4 @@
-//! Seeds in parts, which are looked at beside one another.
+//! Seeds in parts, which are tried at the same time.
 ghost use Rattle.std.specs.Prelude.{◌≡◌, ◌+◌, ◌-◌, ◌<◌};
 ghost use Rattle.fmp_trials.specs.Parts as spec;
 

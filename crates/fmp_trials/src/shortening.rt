@@ -23,7 +23,8 @@ const NO_PROCESSOR: u8 = 0;
 pub struct FailingRun {
     pub steps: Vec<Event>,
     pub broken: BrokenExpectation,
-    /// How many events may still be run to make it shorter.
+    /// How many events may still be run to make it shorter. 1,024 instructions of a stretch that reaches its bound
+    /// count as one more.
     pub room: u64,
 }
 
@@ -128,6 +129,7 @@ fn try_steps<B: Body, J: LineJudge<B>>(
     }
     run.room = run.room.saturating_sub(steps.len() as u64 + 1);
     let verdict = bench.verdict(alloc, &steps)?;
+    run.room = run.room.saturating_sub(bench.long_weight());
     Ok(run.take(steps, verdict))
 }
 
@@ -400,7 +402,8 @@ fn drop_and_gather<B: Body, J: LineJudge<B>>(
     Ok(())
 }
 
-/// Makes a run shorter: whether no event of it can go any more. Where that is not known, no room to try is left.
+/// Makes a run shorter. The answer is whether no event of it can be left out any more; where that is not known, no room
+/// to try is left.
 pub fn shorten<B: Body, J: LineJudge<B>>(
     alloc: Global,
     bench: &mut Bench<'_, B, J>,

@@ -15,7 +15,7 @@ use fmp_expect::LineJudge;
 use fmp_kernel::Body;
 use std::alloc::{AllocError, Global};
 
-/// How many events are run at most to make a run shorter.
+/// How many events are run at most to make a run shorter, as `FailingRun::room` counts them.
 const ROOM: u64 = 1 << 25;
 
 /// A random run that fails an expectation, made shorter.

@@ -1,4 +1,4 @@
-//! Why nothing goes on: what tasks wait and spin for, who took it, and whether they wait for one another.
+//! Why a run has stopped: what tasks wait and spin for, who took it, and whether they wait for one another.
 #![tactic(auto)]
 
 mod cycles;

@@ -136,7 +136,7 @@ fn is_task(task: usize, run: Option<u8>) -> bool
     }
 }
 
-/// What a task spins for, by what is spun for on each processor.
+/// What a task spins for, given what the actor of each processor spins for.
 pub fn spin_of(
     processors: &[Processor],
     spins: &[Option<SpinWait>],

@@ -1,6 +1,6 @@
 use Rattle.std.proofs.Common.{ℕ, Some, ap, arith, refl, subst}
 use Rattle.std.proofs.lemmas.Result.{err_from_is_err_and}
-use Rattle.fmp_base.specs.Systems.{SystemTables}
+use Rattle.fmp_looking.specs.declared.commands.DriveEnding.{DriveEnding}
 use Rattle.fmp_looking.specs.Drives.{DrivesImage}
 use Rattle.fmp_looking.proofs.built.driven_events.Goals as goal
 
@@ -24,14 +24,7 @@ returns-clause-drive c =
           subst (λ (most : ℕ). DrivesImage c.args.image.now c.args.run.bound most drive) c.kept_events.ensures.kept
           c.in_ok-drive.ensures;
       events = refl;
-      ends =
-          ap
-          (λ (t : SystemTables). Some (record {
-            stop = drive.driven.stop;
-            next = drive.next;
-            processors = t.processors;
-          }))
-          c.system.ensures.tables;
+      ends = ap (λ (e : DriveEnding). Some e) c.ending_of-ending.ensures;
     }
 
 pub returns-clause-few : goal.returns-clause-few

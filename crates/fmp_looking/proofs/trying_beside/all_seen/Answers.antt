@@ -1,12 +1,14 @@
-use Rattle.std.proofs.Common.{◌≡◌, ◌∙◌, ◌-◌, ◌<◌, ◌≤◌, ℕ, ap, arith, sym}
+use Rattle.std.proofs.Common.{◌≡◌, ◌-◌, ◌<◌, ◌≤◌, ℕ, ap, arith, sym}
 use Rattle.fmp_trials.specs.Parts.{edge}
-use Rattle.fmp_looking.specs.Covered.{seen_at}
+use Rattle.fmp_looking.specs.Covered.{IsRunOf, seen_at}
 use Rattle.fmp_looking.proofs.SeenLemmas.{after_parts, before_parts, with_part}
+use Rattle.fmp_looking.proofs.TrialRuns.{as_many}
 use Rattle.fmp_looking.proofs.trying_beside.all_seen.Goals as goal
 
 pub loop-k-init : goal.loop-k-init
 loop-k-init c =
-    λ positions i n seeds jobs some parts. before_parts i n positions seeds jobs (seen_at positions c.none-seen.result)
+    λ t positions i n seeds jobs some parts.
+    before_parts i n (IsRunOf t) positions seeds jobs (seen_at positions c.none-seen.result)
     (c.none-seen.ensures positions)
 
 within : (k m n : ℕ) → k < m → m ≡ n → k < n
@@ -14,8 +16,9 @@ within k m n before is = rw (sym is) before
 
 pub loop-k-preserved : goal.loop-k-preserved
 loop-k-preserved c =
-    λ positions i n seeds jobs some parts. with_part i n positions seeds jobs c.loop-k.k c.loop-k.seen c.in_ok-seen.seen
-    c.index-parts-k.result (c.loop-k.invariant positions i n seeds jobs some parts)
+    λ t positions i n seeds jobs some parts.
+    with_part i n (IsRunOf t) positions seeds jobs c.loop-k.k c.loop-k.seen c.in_ok-seen.seen
+    c.index-parts-k.result (c.loop-k.invariant t positions i n seeds jobs some parts)
     (rw c.index-parts-k.is (parts.1 c.loop-k.k c.index-parts-k.result (within _ _ _ c.loop-k-test.true parts.0)))
     c.in_ok-seen.ensures
 
@@ -24,8 +27,9 @@ all k end jobs after before is = omega (arith, after, before, is)
 
 pub returns : goal.returns
 returns c =
-    λ positions i n seeds jobs some parts.
-    let seen = c.loop-k.invariant positions i n seeds jobs some parts in
+    λ t positions i n seeds jobs some parts.
     let is : c.loop-k.k ≡ jobs = all _ _ _ c.loop-k-test.false c.loop-k.auto.k-end parts.0 in
-    after_parts i n positions seeds jobs (seen_at positions c.loop-k.seen) some
-    (seen.0, seen.1 ∙ ap (λ (k : ℕ). edge seeds jobs k - seeds.before) is, seen.2)
+    after_parts i n (IsRunOf t) positions seeds jobs (seen_at positions c.loop-k.seen) some
+    (as_many (IsRunOf t) positions i n _ _ (seen_at positions c.loop-k.seen)
+    (ap (λ (k : ℕ). edge seeds jobs k - seeds.before) is)
+    (c.loop-k.invariant t positions i n seeds jobs some parts))

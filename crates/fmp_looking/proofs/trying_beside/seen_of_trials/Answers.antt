@@ -1,6 +1,6 @@
-use Rattle.std.proofs.Common.{◌≡◌, ◌∙◌, ◌-◌, ℕ, arith}
-use Rattle.fmp_looking.specs.Covered.{seen_at}
-use Rattle.fmp_looking.proofs.TrialRuns.{trials_seen}
+use Rattle.std.proofs.Common.{◌≡◌, ◌-◌, ℕ, arith}
+use Rattle.fmp_looking.specs.Covered.{IsRunOf, seen_at}
+use Rattle.fmp_looking.proofs.TrialRuns.{as_many, trials_seen}
 use Rattle.fmp_looking.proofs.trying_beside.seen_of_trials.Goals as goal
 
 all : (n : ℕ) → n - 0 ≡ n
@@ -10,7 +10,9 @@ pub returns : goal.returns
 returns g c =
     let trials = c.args.trials.now in
     let positions = c.in_ok-positions.positions in
-    let seen = c.in_ok-seen.ensures in
+    let seen = seen_at positions c.in_ok-seen.seen in
     rw c.new-2.ensures
-    (trials_seen c.args.src.now positions trials.opened.image.now trials.opened.bound c.args.seeds
-    (seen_at positions c.in_ok-seen.seen) c.in_ok-positions.ensures (seen.0, seen.1 ∙ all c.args.seeds, seen.2))
+    (trials_seen (IsRunOf trials) c.args.src.now positions trials.opened.image.now trials.opened.bound c.args.seeds seen
+    c.in_ok-positions.ensures
+    (as_many (IsRunOf trials) positions trials.opened.image.now trials.opened.bound _ c.args.seeds seen
+    (all c.args.seeds) c.in_ok-seen.ensures))

@@ -10,7 +10,7 @@ returns-clause-failing g c =
     let breaks = g.J.LineJudge.breaks in
     let s = c.args.bench.now in
     failing_there meaning breaks s c.verdict.new.self c.take.new.self c.verdict.ensures.same
-    (failing_after meaning breaks s c.args.run.now c.take.new.self c.saturating_sub-run.result
+    (failing_after meaning breaks s c.args.run.now c.take.new.self c.saturating_sub-run-2.result
     c.args.steps.items _ c.take.result c.requires.failing c.requires.few
     (c.in_ok-verdict.ensures.verdict
     ∙ ap (λ (es : List Event). broken_by meaning breaks s es) c.deref.ensures.value)
@@ -23,7 +23,7 @@ returns-clause-tried g c =
     let s = c.args.bench.now in
     tried_there meaning breaks s c.verdict.new.self c.args.run.now c.take.new.self
     c.args.steps.items c.take.result c.verdict.ensures.same
-    (tried_after meaning breaks s c.args.run.now c.take.new.self c.saturating_sub-run.result
+    (tried_after meaning breaks s c.args.run.now c.take.new.self c.saturating_sub-run-2.result
     c.args.steps.items _ c.take.result
     (c.in_ok-verdict.ensures.verdict
     ∙ ap (λ (es : List Event). broken_by meaning breaks s es) c.deref.ensures.value)
