@@ -19,7 +19,7 @@ pub record IsAdded (folder : Text) (keys : List Key) (text : List ℕ) (names ad
   pub says : settings_of folder keys text ≡ Some settings
   pub are : added ≡ words_taken names settings
 
--- words of settings stand behind the names of the program and of the command
+-- words of settings stand after the names of the program and of the command
 abbrev pub joined : (names added rest : List Text) → List Text
 joined names added rest = names ++ (added ++ rest)
 

@@ -17,7 +17,7 @@ use Rattle.fmp_arguments.specs.declared.places.Refusal.TheVariants as refusal
 use Rattle.fmp_arguments.specs.Settings.{Text, kind_of, member_words, members_settings}
 use Rattle.fmp_arguments.specs.Settings.{setting_view, settings_of}
 
--- the number of the line, from 1, that begins behind this many bytes
+-- the number of the line, from 1, that begins after this many bytes
 abbrev pub line_behind : List ℕ → ℕ → ℕ
 line_behind text before = count_by (λ byte. byte == 10) (take before text) + 1
 
@@ -49,7 +49,7 @@ LooksAt folder keys text (look.Read settings) = settings_of folder keys text ≡
 LooksAt folder keys text (look.Wrong w) = IsWrong folder keys text w
 LooksAt folder keys text (look.Unfinished e) = IsNoDocument text × IsWithin text e
 
--- a line begins behind what is read, or at the beginning
+-- a line begins after what is read, or at the beginning
 pub record BeginsAt (folder : Text) (keys : List Key) (text : List ℕ) (line : ℕ) : Type 0 where
   pub before : ℕ
   pub is_line : line ≡ line_behind text before
@@ -73,7 +73,7 @@ abbrev pub IsRefusal : (folder : Text) → List Key → (text : List ℕ) → Re
 IsRefusal folder keys text (refusal.Member line w) = IsPlace folder keys text line w
 IsRefusal folder keys text (refusal.Form line message) = IsFormFault text line
 
--- a text is refused before the end of a line of it; or a line begins behind all lines that are read
+-- a text is refused before the end of a line of it; or a line begins after all lines that are read
 abbrev pub GoesThrough : (folder : Text) → List Key → (text : List ℕ) → Lines → Type 0
 GoesThrough folder keys text (lines.Refused line w) = IsPlace folder keys text line w
 GoesThrough folder keys text (lines.Through line) = BeginsAt folder keys text line

@@ -15,7 +15,7 @@ use Rattle.fmp_arguments.specs.declared.reading.Setting.{Setting}
 abbrev pub Text : Type 0
 Text = List ℕ
 
--- a list behind another one, if there is one
+-- a list after another one, if there is one
 abbrev pub prepend : {A : Type 0} → List A → Option (List A) → Option (List A)
 prepend xs None = None
 prepend xs (Some ys) = Some (xs ++ ys)

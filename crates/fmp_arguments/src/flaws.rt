@@ -1,11 +1,16 @@
 //! What is said of a flaw of a text of expectations: what is expected, what stands there, and the known word that was
 //! meant.
+use crate::hints::{end_hint, word_hint};
 use crate::known_words::{add_deeds, add_name, add_tasks, question_text};
 use fmp_base::{Entry, Name, System};
 use fmp_diagnosis::name_meant;
 use fmp_expect::{ExpectationFlaw, Expects, STATES, faulty_word, interrupt_named};
 use std::alloc::{AllocError, Global};
 
+/// The bytes with which editors may begin a text in UTF-8.
+const BYTE_ORDER_MARK: [u8; 3] = [0xEF, 0xBB, 0xBF];
+
+/// Adds the states of tasks.
 fn add_states(known: &mut Vec<Name>) -> Result<(), AllocError> {
     for state in STATES {
         add_name(known, state.name())?;
@@ -177,6 +182,25 @@ fn found_text(alloc: Global, word: Option<&[u8]>) -> Result<String, AllocError> 
     }
 }
 
+/// What is said after the word in which a flaw of a line is, or after the end of the line: what was meant.
+fn hint_text(
+    alloc: Global,
+    sys: &System,
+    expects: Expects,
+    line: &[u8],
+    word: Option<&[u8]>,
+) -> Result<String, AllocError> {
+    let Some(word) = word else {
+        return String::from_str(alloc, end_hint(line));
+    };
+    if is_shown(word) {
+        if let Some(hint) = word_hint(alloc, sys, expects, word)? {
+            return Ok(hint);
+        }
+    }
+    question_text(alloc, meant(alloc, sys, expects, word)?)
+}
+
 /// What is said of a flaw of a line, for a run of this system. `AllocError` if memory runs out.
 pub fn flaw_words(
     alloc: Global,
@@ -184,15 +208,17 @@ pub fn flaw_words(
     line: &[u8],
     flaw: ExpectationFlaw,
 ) -> Result<String, AllocError> {
+    if line.starts_with(&BYTE_ORDER_MARK) {
+        return String::from_str(
+            alloc,
+            "a byte order mark stands here; save the text without it",
+        );
+    }
     let word = faulty_word(line, flaw);
-    let near = match word {
-        Some(word) => meant(alloc, sys, flaw.expects, word)?,
-        None => None,
-    };
     let found = found_text(alloc, word)?;
-    let question = question_text(alloc, near)?;
+    let hint = hint_text(alloc, sys, flaw.expects, line, word)?;
     let expected = expected_text(alloc, sys, flaw)?;
-    format!(in alloc; "{expected}; {found}{question}")
+    format!(in alloc; "{expected}; {found}{hint}")
 }
 
 /// What is said of a flaw of the line of this number of a text, for a run of this system. `AllocError` if memory runs

@@ -1,4 +1,5 @@
-//! The words that are known where a word of a command line or of a text of expectations names none of them.
+//! The known words that may have been meant by a word of a command line or of a text of expectations that names
+//! nothing.
 use fmp_base::{FAULTS, Name, TaskConfig};
 use fmp_expect::CODES;
 use std::alloc::{AllocError, Global};

@@ -1,11 +1,12 @@
-//! The arguments of the command line of `fmp_view`, what its words say for them, and the words that are known where one
-//! of them names nothing; and settings: a file beside a system, in TOML, that holds options of the commands that look
-//! at it. What it says becomes words of the command line.
+//! The arguments of the command line of `fmp_view`, what its words say for them, and what a mistaken word may have
+//! meant; and settings: a file beside a system, in TOML, with options of the commands that look at it. They become
+//! words of the command line.
 #![tactic(auto)]
 
 mod arguments;
 mod flaws;
 mod given;
+mod hints;
 mod joining;
 mod keys;
 mod known_words;

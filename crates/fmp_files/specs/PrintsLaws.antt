@@ -25,7 +25,7 @@ pub prints_one : (before after : Option (List Deed)) (piece : List ℕ) → Does
     → Prints before piece after
 prints_one before after piece h = record { pieces = piece ∷ []; bytes_are = sym (append-nil piece); done = h }
 
--- what is printed behind what was printed
+-- what is printed after what was printed
 pub prints_more : (a b c : Option (List Deed)) (x y : List ℕ) → Prints a x b → Prints b y c → Prints a (x ++ y) c
 prints_more a b c x y h k =
     record {

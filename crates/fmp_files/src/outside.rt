@@ -67,6 +67,23 @@ pub trait Outside {
         ensures said { IfSome ((files self.now).says_one name.now other.now) (λ one. result ≡ one) };
 }
 
+/// The folder in which a file of this name stands, and what it is called there.
+fn place_of(name: &str) -> (&str, &str) {
+    match name.rsplit_once('/') {
+        Some(("", called)) => ("/", called),
+        Some(place) => place,
+        None => (".", name),
+    }
+}
+
+/// Whether two names lead to one file or folder that is there.
+fn is_one_place<R: Files>(rt: &R, name: &str, other: &str) -> bool {
+    match (fs::metadata(rt, name), fs::metadata(rt, other)) {
+        (Ok(one), Ok(two)) => one.dev() == two.dev() && one.ino() == two.ino(),
+        _ => false,
+    }
+}
+
 /// The files, standard output and standard error of the system that the program runs on.
 #[derive(Drop)]
 pub struct Host<'a, R> {
@@ -118,13 +135,12 @@ impl<R: Files + Print + Eprint> Outside for Host<'_, R> {
         let _ = self.rt.eprint(text);
     }
 
+    // A file that is not there yet is known by its folder, and by what it is called there.
     fn is_one_file(&self, name: &str, other: &str) -> bool {
-        if name == other {
+        if name == other || is_one_place(self.rt, name, other) {
             return true;
         }
-        match (fs::metadata(self.rt, name), fs::metadata(self.rt, other)) {
-            (Ok(one), Ok(two)) => one.dev() == two.dev() && one.ino() == two.ino(),
-            _ => false,
-        }
+        let ((folder, called), (beside, also)) = (place_of(name), place_of(other));
+        called == also && is_one_place(self.rt, folder, beside)
     }
 }

@@ -1,5 +1,6 @@
 -- What `export` writes.
-use Rattle.std.specs.Prelude.{◌≡◌, ℕ, List, [], ◌∷◌, ◌++◌, Bool, Ok, Option, codes, false, true}
+use Rattle.std.specs.Prelude.{◌≡◌, ℕ, List, [], ◌∷◌, ◌++◌, Bool, Ok, Option, codes, false, map, true}
+use Rattle.std.specs.List.{AllByRecursion}
 use Rattle.fmp_diagnosis.specs.declared.sentence.Texts.{Texts}
 use Rattle.fmp_files.specs.Deeds.{Deed, Does, wrote}
 use Rattle.fmp_files.specs.Outside.{Files}
@@ -8,6 +9,7 @@ use Rattle.fmp_image_bytes.specs.Images.{ImageTables}
 use Rattle.fmp_export.specs.declared.files.ExportedText.{ExportedText}
 use Rattle.fmp_export.specs.declared.project.TheConstants.{MAKEFILE}
 use Rattle.fmp_export.specs.Files.{IsExportedWith}
+use Rattle.fmp_view.specs.Apart.{IsApartFromTexts}
 use Rattle.fmp_view.specs.declared.exporting.Exporting.{Exporting}
 use Rattle.fmp_view.specs.declared.exporting.Project.{Project}
 use Rattle.fmp_searching.specs.Claimed.{IsFile}
@@ -40,17 +42,34 @@ project folder t e keeps_main =
 abbrev pub files_of : Project → (keeps_main : Bool) → List Deed
 files_of p keeps_main = project p.folder.now p.texts p.exported.now keeps_main
 
+-- a main program that can be read is kept
+abbrev pub KeepsMain : Files → (folder : List ℕ) → (keeps_main : Bool) → Type 0
+KeepsMain files folder keeps_main =
+    files.can_fail (in_folder folder (codes "main.c")) ≡ false → keeps_main ≡ true
+
 -- the files of a folder are those of two texts
-pub record HasExportedTexts
-    (lines : Bool) (t : Texts) (folder : List ℕ) (before after : Option (List Deed)) : Type 0 where
+pub record HasExportedTexts (files : Files) (lines : Bool) (t : Texts) (folder : List ℕ)
+    (before after : Option (List Deed)) : Type 0 where
   pub exported : ExportedText
   pub is : IsExportOf lines t.cfg.now t.src.now exported
   pub keeps_main : Bool
+  pub keeps : KeepsMain files folder keeps_main
   pub written : Does before (project folder t exported keeps_main) after
 
 -- the same of the texts of two files
-pub record HasExported (files : Files) (x : Exporting) (before after : Option (List Deed)) : Type 0 where
+pub record HasExportedFiles (files : Files) (x : Exporting) (before after : Option (List Deed)) : Type 0 where
   pub texts : Texts
   pub is_cfg : IsFile files x.names.cfg.now texts.cfg.now
   pub is_src : IsFile files x.names.src.now texts.src.now
-  pub has : HasExportedTexts x.lines texts x.folder.now before after
+  pub has : HasExportedTexts files x.lines texts x.folder.now before after
+
+-- the files of a folder, with the main program
+abbrev pub project_files : List (List ℕ)
+project_files =
+    codes "bodies.h" ∷ (codes "bodies.c" ∷ (codes "system.cfg" ∷ (codes "system.src"
+    ∷ (codes "Makefile" ∷ (codes "main.c" ∷ [])))))
+
+-- the same, and none of the files of the folder is one of the two that are read
+pub record HasExported (files : Files) (x : Exporting) (before after : Option (List Deed)) : Type 0 where
+  pub apart : AllByRecursion (IsApartFromTexts files x.names) (map (in_folder x.folder.now) project_files)
+  pub has : HasExportedFiles files x before after

@@ -1,5 +1,12 @@
+pub mod Apart
+pub mod Asked
 pub mod Commands
+pub mod Expected
 pub mod Exports
+pub mod Imports
+pub mod Runs
 pub mod Settings
 pub mod Stepped
 pub mod Targets
+pub mod Verdicts
+pub mod VoidOptions

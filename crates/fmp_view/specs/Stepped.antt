@@ -1,17 +1,25 @@
 -- What a session tells of its kernel, and what it leaves.
-use Rattle.std.specs.Prelude.{ℕ, ◌≡◌, List, Option, length}
+use Rattle.std.specs.Prelude.{ℕ, ◌≡◌, List, [], ◌∷◌, Bool, false, true, Option, length}
+use Rattle.fmp_base.specs.declared.events.Event.{Event}
 use Rattle.fmp_base.specs.Runs.{task_state}
 use Rattle.fmp_base.specs.States.{task_at}
+use Rattle.fmp_files.specs.Deeds.{Begins, Deed, Does, wrote}
+use Rattle.fmp_files.specs.Outside.{Files}
 use Rattle.fmp_frames.specs.Frames.{each}
 use Rattle.fmp_instructions.specs.declared.instructions.MachineContext.{MachineContext}
 use Rattle.fmp_instructions.specs.Instructions.{BodyTables}
 use Rattle.fmp_kernel.specs.KernelViews.{KernelView}
 use Rattle.fmp_frames.specs.declared.call_positions.CallPosition.{CallPosition}
 use Rattle.fmp_session.specs.declared.session.Session.{Session}
-use Rattle.fmp_session.specs.Sessions.{lines_now, records_now}
+use Rattle.fmp_session.specs.declared.session.TakenEvent.{TakenEvent}
+use Rattle.fmp_session.specs.declared.session.TakenEvent.TheVariants as taken
+use Rattle.fmp_session.specs.Sessions.{IsTakenAs, lines_now, records_now, with_event}
 use Rattle.fmp_looking.specs.Traces.{states_text}
+use Rattle.fmp_trace.specs.Steps.{steps_text}
+use Rattle.fmp_view.specs.Apart.{IsApartFromTexts}
 use Rattle.fmp_view.specs.declared.answering.Answer.{Answer}
 use Rattle.fmp_view.specs.declared.answering.Answer.TheVariants as answer
+use Rattle.fmp_warnings.specs.declared.verdicts.FileNames.{FileNames}
 use Rattle.fmp_warnings.specs.declared.verdicts.Form.{Form}
 use Rattle.fmp_warnings.specs.declared.verdicts.Form.TheVariants as form
 
@@ -31,3 +39,43 @@ abbrev pub Leaves : (before after : Session) → Answer → Type 0
 Leaves before after (answer.Told text) = Unit {0}
 Leaves before after (answer.Refused reason) = after.events.items ≡ before.events.items
 Leaves before after (answer.NoFile failure) = after.events.items ≡ before.events.items
+
+-- the kinds of answers
+abbrev pub IsTold : Answer → Type 0
+IsTold (answer.Told text) = Unit {0}
+IsTold (answer.Refused reason) = ⊥
+IsTold (answer.NoFile failure) = ⊥
+
+abbrev pub IsRefused : Answer → Type 0
+IsRefused (answer.Told text) = ⊥
+IsRefused (answer.Refused reason) = Unit {0}
+IsRefused (answer.NoFile failure) = ⊥
+
+abbrev pub IsNoFile : Answer → Type 0
+IsNoFile (answer.Told text) = ⊥
+IsNoFile (answer.Refused reason) = ⊥
+IsNoFile (answer.NoFile failure) = Unit {0}
+
+-- the events of a session were written to a file as steps, which is neither of the two texts; a line that is refused
+-- writes nothing, and a file that could not be written has at most a beginning of the steps
+abbrev pub Saves : Files → FileNames → (name : List ℕ) → List Event → (before after : Option (List Deed)) → Answer
+    → Type 0
+Saves files texts name es before after (answer.Told text) =
+    IsApartFromTexts files texts name × Does before (wrote name (steps_text es) ∷ []) after
+Saves files texts name es before after (answer.Refused reason) = Does before [] after
+Saves files texts name es before after (answer.NoFile failure) =
+    IsApartFromTexts files texts name × Begins (wrote name) (steps_text es) before after
+
+-- an event that was taken did something
+abbrev pub is_deed : TakenEvent → Bool
+is_deed taken.Done = true
+is_deed taken.Kept = true
+is_deed taken.Nothing = false
+is_deed taken.Full = false
+
+-- a session took an event, which did something or not
+pub record Takes (before : Session) (e : Event) (did : Bool) (after : Session) : Type 0 where
+  pub taken : TakenEvent
+  pub exact : IsTakenAs before e taken
+  pub events : after.events.items ≡ with_event taken e before.events.items
+  pub is : did ≡ is_deed taken

@@ -1,5 +1,6 @@
 -- What `export --toppers` writes.
-use Rattle.std.specs.Prelude.{ℕ, List, [], ◌∷◌, Ok, Option, codes}
+use Rattle.std.specs.Prelude.{ℕ, List, [], ◌∷◌, Ok, Option, codes, map}
+use Rattle.std.specs.List.{AllByRecursion}
 use Rattle.fmp_diagnosis.specs.declared.sentence.Texts.{Texts}
 use Rattle.fmp_files.specs.Deeds.{Deed, Does, wrote}
 use Rattle.fmp_files.specs.Outside.{Files}
@@ -10,6 +11,7 @@ use Rattle.fmp_toppers.specs.declared.target.Target.{Target}
 use Rattle.fmp_toppers.specs.Files.{IsExported}
 use Rattle.fmp_view.specs.declared.targeting.Targeting.{Targeting}
 use Rattle.fmp_searching.specs.Claimed.{IsFile}
+use Rattle.fmp_view.specs.Apart.{IsApartFromTexts}
 use Rattle.fmp_view.specs.Exports.{in_folder}
 
 -- the files of a target, for the system that a text builds with a configuration
@@ -35,8 +37,15 @@ pub record HasTargetedTexts
     pub written : Does before (target_files folder exported) after
 
 -- the same of the texts of two files
-pub record HasTargeted (files : Files) (x : Targeting) (before after : Option (List Deed)) : Type 0 where
+pub record HasTargetedFiles (files : Files) (x : Targeting) (before after : Option (List Deed)) : Type 0 where
   pub texts : Texts
   pub is_cfg : IsFile files x.names.cfg.now texts.cfg.now
   pub is_src : IsFile files x.names.src.now texts.src.now
   pub has : HasTargetedTexts x.target texts x.folder.now before after
+
+-- the same, and none of the files of the folder is one of the two that are read
+pub record HasTargeted (files : Files) (x : Targeting) (before after : Option (List Deed)) : Type 0 where
+  pub apart :
+      AllByRecursion (IsApartFromTexts files x.names)
+      (map (in_folder x.folder.now) (codes "system.cfg" ∷ (codes "bodies.h" ∷ (codes "bodies.c" ∷ []))))
+  pub has : HasTargetedFiles files x before after

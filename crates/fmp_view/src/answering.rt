@@ -1,7 +1,7 @@
 //! What the commands of a session answer.
 ghost use Rattle.std.specs.Prelude.{◌≡◌, ◌++◌, IfOk, OnOk};
-ghost use Rattle.fmp_session.specs.Sessions.{IsSession};
-ghost use Rattle.fmp_view.specs.Stepped.{Leaves, last_lines, states_text_of};
+ghost use Rattle.fmp_session.specs.Sessions.{IsSession, IsTakenAs, with_event};
+ghost use Rattle.fmp_view.specs.Stepped.{Leaves, Takes, is_deed, last_lines, states_text_of};
 
 use crate::session_files::{load, save};
 use crate::session_objects::state_of;
@@ -198,7 +198,10 @@ pub fn take_event(
     out: &mut Vec<u8>,
 ) -> Result<TakenEvent, AllocError>
     requires { IsSession session.old }
-    ensures { IsSession session.new }
+    ensures session { IsSession session.new }
+    ensures events { IfOk result (λ taken. session.new.events.items
+        ≡ with_event taken e session.old.events.items) }
+    ensures exact { IfOk result (IsTakenAs session.old e) }
 {
     let position = told_position(session, stepping, e);
     let taken = session.take(e)?;
@@ -213,6 +216,13 @@ pub fn take_event(
     Ok(taken)
 }
 
+/// Whether an event that a session took did something.
+fn is_deed(taken: TakenEvent) -> bool
+    ensures { result ≡ is_deed taken }
+{
+    matches!(taken, TakenEvent::Done | TakenEvent::Kept)
+}
+
 /// Takes an event, and appends what is told of it. The answer is whether it did something.
 pub fn take_one(
     alloc: Global,
@@ -222,10 +232,11 @@ pub fn take_one(
     out: &mut Vec<u8>,
 ) -> Result<bool, AllocError>
     requires { IsSession session.old }
-    ensures { IsSession session.new }
+    ensures session { IsSession session.new }
+    ensures takes { IfOk result (λ did. Takes session.old e did session.new) }
 {
     let taken = take_event(alloc, session, stepping, e, true, out)?;
-    Ok(matches!(taken, TakenEvent::Done | TakenEvent::Kept))
+    Ok(is_deed(taken))
 }
 
 /// Takes an event this many times, up to the first time that it does nothing, and gives what is told of it.

@@ -1,7 +1,10 @@
 //! What the program is asked to do.
 ghost use Rattle.std.specs.Prelude.{◌≡◌, IsSomeAnd, List, Some, codes};
 ghost use Rattle.clap.specs.Words.{Row, found_of, rows_of, subcommand_rows_of};
-ghost use Rattle.fmp_view.specs.Commands.{AsksToExplore};
+ghost use Rattle.fmp_searching.specs.Explored.{IsForm};
+ghost use Rattle.fmp_view.specs.Asked.{AsksToDiff, AsksToExpect, AsksToExplore, AsksToTest, AsksToWhy};
+ghost use Rattle.fmp_view.specs.Asked.{IsExpecting, IsPair, IsPairBound, IsRun, word_after};
+ghost use Rattle.fmp_view.specs.Runs.{came_of, system_of};
 
 use crate::exporting::Exporting;
 use crate::form::program;
@@ -36,7 +39,10 @@ pub enum RunFiles<'a> {
 
 impl<'a> RunFiles<'a> {
     /// The names of its two files: of the system, and of what came to it.
-    pub fn files(self) -> (&'a str, &'a str) {
+    pub fn files(self) -> (&'a str, &'a str)
+        ensures system { result.0.now ≡ system_of self.entry }
+        ensures came { result.1.now ≡ came_of self.entry }
+    {
         match self {
             RunFiles::Steps { image, steps, .. } => (image, steps),
             RunFiles::Recording { cfg, recording } => (cfg, recording),
@@ -145,7 +151,9 @@ pub enum Asked<'a> {
 }
 
 /// What a run is of.
-fn run_of<'a>(words: &ArgMatches<'a>) -> RunFiles<'a> {
+fn run_of<'a>(words: &ArgMatches<'a>) -> RunFiles<'a>
+    ensures { IsRun (rows_of (found_of words.now)) result }
+{
     match text_of(words, "recording") {
         Some(recording) => RunFiles::Recording {
             cfg: word_of(words, "IMAGE"),
@@ -161,24 +169,35 @@ fn run_of<'a>(words: &ArgMatches<'a>) -> RunFiles<'a> {
 
 /// The word after those that name a run, for the argument of this name: of a recording there are no steps, so the word
 /// stands in their place.
-fn after_run<'a>(words: &ArgMatches<'a>, id: &str) -> &'a str {
-    match run_of(words) {
+fn after_run<'a>(words: &ArgMatches<'a>, run: RunFiles<'a>, id: &str) -> &'a str
+    ensures { result.now ≡ word_after (rows_of (found_of words.now)) run.entry id.now }
+{
+    match run {
         RunFiles::Steps { .. } => word_of(words, id),
         RunFiles::Recording { .. } => word_of(words, "STEPS"),
     }
 }
 
 /// What two runs are of.
-fn runs_of<'a>(words: &ArgMatches<'a>) -> RunPair<'a> {
+fn runs_of<'a>(words: &ArgMatches<'a>) -> RunPair<'a>
+    ensures { IsPair (rows_of (found_of words.now)) result }
+{
     RunPair {
         system: word_of(words, "IMAGE"),
         a: word_of(words, "A"),
         b: word_of(words, "B"),
-        bound: if flag_of(words, "recordings") {
-            None
-        } else {
-            Some(bound_of(words))
-        },
+        bound: pair_bound(words, flag_of(words, "recordings")),
+    }
+}
+
+/// The bound of a stretch, unless two runs are recordings.
+fn pair_bound(words: &ArgMatches<'_>, recordings: bool) -> Option<u64>
+    ensures { IsPairBound (rows_of (found_of words.now)) recordings result }
+{
+    if recordings {
+        None
+    } else {
+        Some(bound_of(words))
     }
 }
 
@@ -206,7 +225,9 @@ fn format_of(words: &ArgMatches<'_>) -> Format {
 }
 
 /// The form that the command line asks for.
-fn form_of(words: &ArgMatches<'_>) -> Form {
+fn form_of(words: &ArgMatches<'_>) -> Form
+    ensures { IsForm (rows_of (found_of words.now)) result }
+{
     if flag_of(words, "json") {
         Form::Json
     } else {
@@ -301,24 +322,41 @@ fn serve_asked<'a>(_words: &ArgMatches<'a>) -> Asked<'a> {
     Asked::Serve
 }
 
-/// What `expect` asks for.
-fn expect_asked<'a>(words: &ArgMatches<'a>) -> Asked<'a> {
+/// What `why` asks for.
+fn why_asked<'a>(words: &ArgMatches<'a>) -> Cmd<'a>
+    ensures { AsksToWhy (rows_of (found_of words.now)) result }
+{
     let run = run_of(words);
-    let expecting = Expecting {
-        name: after_run(words, "EXPECT"),
+    Cmd::Look(Asked::Why(run, word32_of(words, "at"), form_of(words)))
+}
+
+/// What is expected of a run.
+fn expecting_of<'a>(words: &ArgMatches<'a>, run: RunFiles<'a>) -> Expecting<'a>
+    ensures { IsExpecting (rows_of (found_of words.now)) run.entry result }
+{
+    Expecting {
+        name: after_run(words, run, "EXPECT"),
         strict: flag_of(words, "strict"),
         form: form_of(words),
         junit: text_of(words, "junit"),
         src: text_of(words, "src"),
-    };
-    Asked::Expect(run, expecting)
+    }
+}
+
+/// What `expect` asks for.
+fn expect_asked<'a>(words: &ArgMatches<'a>) -> Cmd<'a>
+    ensures { AsksToExpect (rows_of (found_of words.now)) result }
+{
+    let run = run_of(words);
+    Cmd::Look(Asked::Expect(run, expecting_of(words, run)))
 }
 
 /// What `timeline` asks for.
 fn timeline_asked<'a>(words: &ArgMatches<'a>) -> Asked<'a> {
+    let run = run_of(words);
     Asked::Timeline(Picturing {
-        run: run_of(words),
-        out: after_run(words, "OUT"),
+        run,
+        out: after_run(words, run, "OUT"),
         drawing: drawing_of(words),
         src: text_of(words, "src"),
     })
@@ -342,7 +380,13 @@ fn driving_of(words: &ArgMatches<'_>) -> Driving {
     }
 }
 
-/// What a subcommand of this name other than `explore` asks for with its words.
+/// What `waves` asks for.
+fn waves_asked<'a>(words: &ArgMatches<'a>) -> Asked<'a> {
+    let run = run_of(words);
+    Asked::Waves(run, after_run(words, run, "OUT"), format_of(words))
+}
+
+/// What a subcommand of this name that neither searches nor judges asks for with its words.
 fn look_of<'m>(name: &str, words: &'m ArgMatches<'_>) -> Asked<'m> {
     match name {
         "code" => Asked::Code(word_of(words, "CODE")),
@@ -353,22 +397,26 @@ fn look_of<'m>(name: &str, words: &'m ArgMatches<'_>) -> Asked<'m> {
         "step" => Asked::Step(step_words(words)),
         "lsp" => serve_asked(words),
         "drive" => Asked::Drive(word_of(words, "IMAGE"), driving_of(words)),
-        "why" => Asked::Why(run_of(words), word32_of(words, "at"), form_of(words)),
-        "expect" => expect_asked(words),
-        "test" => Asked::Test(testing_of(words)),
-        "diff" => Asked::Diff(runs_of(words)),
         "stats" => Asked::Stats(run_of(words), text_of(words, "src"), form_of(words)),
         "timeline" => timeline_asked(words),
-        _ => Asked::Waves(run_of(words), after_run(words, "OUT"), format_of(words)),
+        _ => waves_asked(words),
     }
 }
 
 /// What a subcommand of this name asks for with its words.
 fn asked_by<'m>(name: &str, words: &'m ArgMatches<'_>) -> Cmd<'m>
-    ensures { name.now ≡ codes "explore" → AsksToExplore (rows_of (found_of words.now)) result }
+    ensures explore { name.now ≡ codes "explore" → AsksToExplore (rows_of (found_of words.now)) result }
+    ensures diff { name.now ≡ codes "diff" → AsksToDiff (rows_of (found_of words.now)) result }
+    ensures why { name.now ≡ codes "why" → AsksToWhy (rows_of (found_of words.now)) result }
+    ensures expect { name.now ≡ codes "expect" → AsksToExpect (rows_of (found_of words.now)) result }
+    ensures tests { name.now ≡ codes "test" → AsksToTest (rows_of (found_of words.now)) result }
 {
     match name {
         "explore" => Cmd::Explore(exploring_of(words)),
+        "diff" => Cmd::Look(Asked::Diff(runs_of(words))),
+        "why" => why_asked(words),
+        "expect" => expect_asked(words),
+        "test" => Cmd::Look(Asked::Test(testing_of(words))),
         _ => Cmd::Look(look_of(name, words)),
     }
 }
@@ -381,8 +429,16 @@ pub fn parsed<'a>(alloc: Global, words: &'a [String]) -> Result<ArgMatches<'a>, 
 
 /// What the words of a command line ask for; nothing, if they name no command.
 pub fn command<'m>(words: &'m ArgMatches<'_>) -> Option<Cmd<'m>>
-    ensures { (rows : List Row) → subcommand_rows_of words.now ≡ Some (codes "explore", rows) →
+    ensures explore { (rows : List Row) → subcommand_rows_of words.now ≡ Some (codes "explore", rows) →
         IsSomeAnd result (AsksToExplore rows) }
+    ensures diff { (rows : List Row) → subcommand_rows_of words.now ≡ Some (codes "diff", rows) →
+        IsSomeAnd result (AsksToDiff rows) }
+    ensures why { (rows : List Row) → subcommand_rows_of words.now ≡ Some (codes "why", rows) →
+        IsSomeAnd result (AsksToWhy rows) }
+    ensures expect { (rows : List Row) → subcommand_rows_of words.now ≡ Some (codes "expect", rows) →
+        IsSomeAnd result (AsksToExpect rows) }
+    ensures tests { (rows : List Row) → subcommand_rows_of words.now ≡ Some (codes "test", rows) →
+        IsSomeAnd result (AsksToTest rows) }
 {
     match entered(words) {
         Some((name, words)) => Some(asked_by(name, words)),

@@ -1,14 +1,18 @@
 //! The command `export`: the bodies of a text as C, in a folder with what builds and runs them.
-ghost use Rattle.std.specs.Prelude.{◌≡◌, ◌∷◌, [], Bool, IfOk, OnOk};
+ghost use Rattle.std.specs.Prelude.{◌≡◌, ◌<◌, ◌∷◌, [], Bool, IfOk, IfSome, OnOk, false, length, map, slice_get, true};
+ghost use Rattle.std.specs.List.{AllByRecursion};
 ghost use Rattle.std.specs.String.{string_bytes};
 ghost use Rattle.fmp_files.specs.Deeds.{Does, wrote};
-ghost use Rattle.fmp_view.specs.Exports.{HasExported, HasExportedTexts, IsExportOf, files_of, in_folder, main_file};
+ghost use Rattle.fmp_view.specs.Apart.{IsApartFromTexts};
+ghost use Rattle.fmp_view.specs.Exports.{HasExported, HasExportedFiles, HasExportedTexts, IsExportOf, KeepsMain};
+ghost use Rattle.fmp_view.specs.Exports.{files_of, in_folder, main_file};
 
+use crate::inputs::is_text;
 use crate::word_mistakes::files_over_input;
 use fmp_diagnosis::Texts;
 use fmp_export::project::MAKEFILE;
 use fmp_export::{ExportedText, export_c_with_lines};
-use fmp_files::{Failure, Outside, end, failed, refuse_mistake, write_file};
+use fmp_files::{Failure, Outside, ReadFault, end, failed, refuse_mistake, write_file};
 use fmp_image::build;
 use fmp_lex::BuildFault;
 use fmp_searching::{print_fault, read_both};
@@ -52,6 +56,23 @@ fn name_in(alloc: Global, folder: &str, file: &str) -> Result<String, AllocError
     format!(in alloc; "{folder}/{file}")
 }
 
+/// Whether the file of a folder at a place among these is one of the two that are read.
+fn is_input_at<O: Outside>(
+    alloc: Global,
+    outside: &O,
+    names: FileNames<'_>,
+    folder: &str,
+    files: &[&str],
+    place: usize,
+) -> Result<bool, AllocError>
+    requires { place < length files.now }
+    ensures { IfOk result (λ input. input ≡ false → IfSome (slice_get files.now place) (λ file.
+        IsApartFromTexts (O.files outside.now) names.entry (in_folder folder.now file.now))) }
+{
+    let name = name_in(alloc, folder, files[place])?;
+    Ok(is_text(outside, name.as_str(), names))
+}
+
 /// Whether one of these files of a folder is one of the two that are read.
 pub fn is_over_input<O: Outside>(
     alloc: Global,
@@ -59,11 +80,12 @@ pub fn is_over_input<O: Outside>(
     names: FileNames<'_>,
     folder: &str,
     files: &[&str],
-) -> Result<bool, AllocError> {
-    for file in files {
-        let name = name_in(alloc, folder, file)?;
-        let name = name.as_str();
-        if outside.is_one_file(name, names.cfg) || outside.is_one_file(name, names.src) {
+) -> Result<bool, AllocError>
+    ensures { IfOk result (λ over. over ≡ false → AllByRecursion (IsApartFromTexts (O.files outside.now) names.entry)
+        (map (λ file. in_folder folder.now file.now) files.now)) }
+{
+    for i in 0..files.len() {
+        if is_input_at(alloc, outside, names, folder, files, i)? {
             return Ok(true);
         }
     }
@@ -93,10 +115,31 @@ pub fn make_folder<R: Files>(alloc: Global, rt: &R, folder: &str) -> Result<(), 
     }
 }
 
-/// Whether there is a main program in a folder, which is kept then.
-fn has_main<R: Files>(alloc: Global, rt: &R, folder: &str) -> Result<bool, AllocError> {
+/// Whether a file can be read.
+fn is_readable<O: Outside>(alloc: Global, outside: &O, name: &str) -> Result<bool, AllocError>
+    ensures { IfOk result (λ read. (O.files outside.now).can_fail name.now ≡ false → read ≡ true) }
+{
+    match outside.read(alloc, name, Some(0)) {
+        Ok(_) => Ok(true),
+        Err(ReadFault::Device) => Ok(false),
+        Err(ReadFault::Memory) => Err(AllocError),
+    }
+}
+
+/// Whether there is a main program in a folder, which is kept then: always if it can be read.
+fn has_main<O: Outside, R: Files>(
+    alloc: Global,
+    outside: &O,
+    rt: &R,
+    folder: &str,
+) -> Result<bool, AllocError>
+    ensures { IfOk result (KeepsMain (O.files outside.now) folder.now) }
+{
     let name = name_in(alloc, folder, "main.c")?;
-    Ok(matches!(fs::exists(rt, name.as_str()), Ok(true)))
+    if matches!(fs::exists(rt, name.as_str()), Ok(true)) {
+        return Ok(true);
+    }
+    is_readable(alloc, outside, name.as_str())
 }
 
 /// Writes a file of a folder.
@@ -161,18 +204,18 @@ fn make_project<O: Outside, R: Files>(
     rt: &R,
     project: Project<'_>,
 ) -> Result<(), Failure>
-    ensures { OnOk result ((keeps_main : Bool) ×
-        Does (O.done outside.old) (files_of project.entry keeps_main) (O.done outside.new)) }
+    ensures { OnOk result ((keeps_main : Bool) × KeepsMain (O.files outside.old) project.entry.folder.now keeps_main
+        × Does (O.done outside.old) (files_of project.entry keeps_main) (O.done outside.new)) }
 {
     make_folder(alloc, rt, project.folder)?;
-    let keeps_main = has_main(alloc, rt, project.folder)?;
+    let keeps_main = has_main(alloc, outside, rt, project.folder)?;
     write_project(alloc, outside, project, keeps_main)
 }
 
 /// Makes a folder with its files, and gives the status.
 fn give<O: Outside, R: Files>(alloc: Global, outside: &mut O, rt: &R, project: Project<'_>) -> u8
-    ensures { result ≡ 0 → (keeps_main : Bool) ×
-        Does (O.done outside.old) (files_of project.entry keeps_main) (O.done outside.new) }
+    ensures { result ≡ 0 → (keeps_main : Bool) × KeepsMain (O.files outside.old) project.entry.folder.now keeps_main
+        × Does (O.done outside.old) (files_of project.entry keeps_main) (O.done outside.new) }
 {
     match make_project(alloc, outside, rt, project) {
         Ok(()) => 0,
@@ -188,8 +231,8 @@ fn export_texts<O: Outside, R: Files>(
     texts: Texts<'_>,
     exporting: Exporting<'_>,
 ) -> u8
-    ensures { result ≡ 0 → HasExportedTexts exporting.entry.lines texts.entry exporting.entry.folder.now
-        (O.done outside.old) (O.done outside.new) }
+    ensures { result ≡ 0 → HasExportedTexts (O.files outside.old) exporting.entry.lines texts.entry
+        exporting.entry.folder.now (O.done outside.old) (O.done outside.new) }
 {
     match exported(alloc, exporting.lines, texts.cfg, texts.src) {
         Ok(exported) => {
@@ -212,7 +255,7 @@ fn export_files<O: Outside, R: Files>(
     rt: &R,
     exporting: Exporting<'_>,
 ) -> u8
-    ensures { result ≡ 0 → HasExported (O.files outside.old) exporting.entry
+    ensures { result ≡ 0 → HasExportedFiles (O.files outside.old) exporting.entry
         (O.done outside.old) (O.done outside.new) }
 {
     match read_both(alloc, outside, exporting.names.cfg, exporting.names.src) {

@@ -9,13 +9,13 @@ use fmp_looking::TEST;
 use fmp_searching::EXPLORE;
 use std::alloc::Global;
 
-/// What the program is.
+/// The help on the program.
 const ABOUT: &str =
     "Looks at systems of 'fmp': what is wrong with a text, runs by steps, by commands or at random, all
 schedules, what is expected of a run, and a run as a table, as a waveform or as a picture. Serves
 editors, and writes and reads systems for C and for other kernels.";
 
-/// An example, and what the program's answers mean.
+/// The end of the help: an example and the statuses.
 const EXAMPLE_AND_STATUS: &str = "Example, with the image of the example of 'fmp build --help':
   fmp_view code E_PAR
   fmp_view fault examples/queue.cfg examples/queue.src
@@ -46,56 +46,56 @@ Status, and the line on standard error with it:
            with 'explore', something was found
   5        'explore' found nothing and claims nothing, or had no memory to look for stuck tasks";
 
-/// What a steps text is.
+/// The help on STEPS.
 const STEPS: &str = "Text of the events, one a line, as 'fmp sim' reads it";
 
-/// What a system is.
+/// The help on IMAGE.
 const SYSTEM: &str = "Image that 'fmp build' has written; of a recording its configuration";
 
-/// What a steps text is where a word follows it.
+/// The help on STEPS where a word follows it.
 const STEPS_BEFORE_MORE: &str =
     "Text of the events, one a line, as 'fmp sim' reads it; of a recording it is left out";
 
-/// What a recording is.
+/// The help on `--recording`.
 const RECORDING: &str = "Recording of a run whose bodies are not those of an image, as C functions:
 what came, one a line, with the calls that the bodies made";
 
-/// What a number of events is.
+/// The help on `--events`.
 const EVENTS: &str = "How many events are done at most, 0 to 2^20";
 
-/// What the table of calls is.
+/// The help on `--calls`.
 const CALLS: &str =
     "Print a table in place of the trace: who made which call, how often, and what was answered";
 
-/// What the places of calls are.
+/// The help on `--places`.
 const PLACES: &str =
     "Print where each call stands in SRC, its line and column; with --json it always is";
 
-/// What a tracefile is.
+/// The help on `--lcov`.
 const LCOV: &str =
     "Write to FILE too how often the calls in each line of SRC were made, and which ways its branches went,
 as a tracefile of lcov";
 
-/// What a table of coverage is.
+/// The help on `--coverage`.
 const COVERAGE: &str =
     "Write to FILE too how often each call of SRC was made and what it was answered, and which ways its
 branches went, as a table";
 
-/// What a seed is.
+/// The help on `--seed`.
 const SEED: &str = "Order of processors at random by this number, with ticks and interrupts between;
 without it they run in turn, and the clock ticks where all are idle";
 
-/// What the first event of a picture is.
+/// The help on `--from`.
 const FROM: &str = "First event that is drawn, 0 to 2^31; setup is 0";
 
-/// What the last event of a picture is.
+/// The help on `--to`.
 const TO: &str = "Last event that is drawn, 0 to 2^31; without it the last of the run.
 At most 10,000 events are drawn";
 
-/// What the event of `why` is.
+/// The help on `--at`.
 const AT: &str = "Event after which tasks are looked at, 0 to 2^31; without it the last of the run";
 
-/// What a text of expectations is.
+/// The help on EXPECT.
 const EXPECT: &str = "Text of expectations, one a line, with comments from # on:
   never E_QOVR
   put(7) by LOGGER before put(9) by FILTER
@@ -104,23 +104,23 @@ const EXPECT: &str = "Text of expectations, one a line, with comments from # on:
   always LEVEL < 5 or LOGGER is READY
   end DORMANT MAIN";
 
-/// What strict expectations are.
+/// The help on `--strict`.
 const STRICT: &str =
     "Fail an expectation that says nothing of the run, since what it speaks of never happens";
 
-/// The text whose places a picture shows.
+/// The help on `--src` of `timeline`.
 const PLACED: &str =
     "Task text of IMAGE: what is pointed at shows where its call stands there, its line and column";
 
-/// The text whose places tell calls that are refused.
+/// The help on `--src` of `stats`.
 const REFUSED: &str =
     "Task text of IMAGE: calls that are refused are told by their line and column there";
 
-/// The text that tells where calls stand.
+/// The help on `--src` of `expect`.
 const JUDGED: &str =
     "Task text of IMAGE: its lines are those of 'never E_QOVR at 12', its bodies those of 'int BODY'";
 
-/// The commands of a session.
+/// The help on the commands of a session.
 const LINES: &str = "Commands, one a line of standard input:
   run P [xK]   processor P goes on, to its next service call; K times, or until it does nothing
   tick [K]     the clock advances, K times
@@ -137,32 +137,32 @@ const LINES: &str = "Commands, one a line of standard input:
 
 Example: fmp_view step examples/queue.cfg examples/queue.src";
 
-/// What a server does.
+/// The help on `lsp`.
 const SERVED: &str =
     "An editor starts it, as editors/README.md says. It serves CFG and SRC of one name and folder that
 are open there: what 'fmp_view fault' says of them, hover, completion, definition, references, rename, symbols";
 
-/// The formats of `waves`.
+/// The help on `--format`.
 const FORMAT: &str = "A value change dump, for viewers of waveforms; a trace for Perfetto;
 a log for TraceLogVisualizer; or the resource file of such a log";
 
-/// The words for these formats.
+/// The words of `--format`.
 const FORMATS: &[&str] = &["vcd", "perfetto", "tlv", "res"];
 
-/// Where exported C goes.
+/// The help on `--c`.
 const DIR: &str =
     "Folder that gets bodies.h, bodies.c, main.c, Makefile, and the two texts as system.cfg and system.src, in
 place of files of these names; but a main.c that is there is kept. The folder is made if it is not there";
 
-/// Where what is exported for TOPPERS/FMP goes.
+/// The help on `--toppers`.
 const TARGET_DIR: &str =
     "Folder that gets system.cfg, bodies.h and bodies.c for TOPPERS/FMP 1, in place of
 files of these names. The folder is made if it is not there";
 
-/// Whose lines a debugger shows.
+/// The help on `--line-directives`.
 const LINE_DIRECTIVES: &str = "Let a debugger show the lines of system.src";
 
-/// Another target.
+/// The help on `--fmp3`.
 const FMP3: &str = "Write them for TOPPERS/FMP3";
 
 /// The greatest number of an event of a run, 2^31: a recording has as many.

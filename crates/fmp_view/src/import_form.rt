@@ -3,14 +3,14 @@ use clap::{Arg, ArgAction};
 use fmp_arguments::{Argument, ArgumentKind, CommandForm, Made, command_of};
 use std::alloc::Global;
 
-/// A constant of a configuration.
+/// The help on `--define`.
 const DEFINE: &str =
     "Value of a constant of CFG, before those of the files that it includes; it may be given again";
 
-/// What is imported.
+/// The help on CFG.
 const FOREIGN: &str = "Configuration of TOPPERS or uITRON; files that it includes stand beside it";
 
-/// Where the configuration goes.
+/// The help on `--out`.
 const IMPORTED: &str = "File that gets the configuration; without it standard output does";
 
 /// The command `import` without its options.

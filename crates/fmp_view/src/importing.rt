@@ -1,6 +1,11 @@
 //! The command `import`: a configuration of TOPPERS or uITRON becomes one of this project.
+ghost use Rattle.std.specs.Prelude.{◌≡◌, IfSome, false};
+ghost use Rattle.fmp_files.specs.Deeds.{Says};
 ghost use Rattle.fmp_import.specs.Imports.{IsImported};
+ghost use Rattle.fmp_view.specs.Apart.{AreApart};
+ghost use Rattle.fmp_view.specs.Imports.{Gives, HasImported, HasImportedFile, HasImportedText};
 
+use crate::inputs::is_one_file;
 use crate::word_mistakes::{no_constant, out_over_configuration};
 use fmp_files::{Failure, Outside, end, print, read_file, refuse_mistake, write_file};
 use fmp_import::{Constants, Header, ImportFault, Imported, import, included};
@@ -86,7 +91,10 @@ fn imported<O: Outside>(
 }
 
 /// Writes a configuration, or prints it, and gives the status.
-fn give<O: Outside>(alloc: Global, outside: &mut O, out: Option<&str>, text: &[u8]) -> u8 {
+#[tactic(auto, using(crate::proofs::Endings::printed_all))]
+fn give<O: Outside>(alloc: Global, outside: &mut O, out: Option<&str>, text: &[u8]) -> u8
+    ensures { result ≡ 0 → Gives out.entry text.now (O.done outside.old) (O.done outside.new) }
+{
     match out {
         None => print(alloc, outside, text),
         Some(out) => match write_file(alloc, outside, out, text) {
@@ -103,7 +111,9 @@ fn import_text<O: Outside>(
     importing: Importing<'_>,
     text: &[u8],
     constants: Constants,
-) -> u8 {
+) -> u8
+    ensures { result ≡ 0 → HasImportedText text.now importing.entry.out (O.done outside.old) (O.done outside.new) }
+{
     match imported(alloc, outside, importing.cfg, text, constants) {
         Ok(imported) => {
             say_bytes(alloc, outside, &imported.notes);
@@ -118,7 +128,9 @@ fn import_text<O: Outside>(
 }
 
 /// Says bytes on standard error.
-fn say_bytes<O: Outside>(alloc: Global, outside: &mut O, bytes: &[u8]) {
+fn say_bytes<O: Outside>(alloc: Global, outside: &mut O, bytes: &[u8])
+    ensures { Says (O.done outside.old) (O.done outside.new) }
+{
     match String::from_utf8_lossy(alloc, bytes) {
         Ok(text) => outside.say(text.as_str()),
         Err(_) => outside.say("memory\n"),
@@ -151,7 +163,9 @@ fn import_read<O: Outside>(
     importing: Importing<'_>,
     text: &[u8],
     constants: Constants,
-) -> u8 {
+) -> u8
+    ensures { result ≡ 0 → HasImportedText text.now importing.entry.out (O.done outside.old) (O.done outside.new) }
+{
     match is_over_header(alloc, outside, importing, text) {
         Ok(true) => refuse_mistake(outside, out_over_configuration(alloc)),
         Ok(false) => import_text(alloc, outside, importing, text, constants),
@@ -165,7 +179,10 @@ fn import_file<O: Outside>(
     outside: &mut O,
     importing: Importing<'_>,
     constants: Constants,
-) -> u8 {
+) -> u8
+    ensures { result ≡ 0 → HasImportedFile (O.files outside.old) importing.entry (O.done outside.old)
+        (O.done outside.new) }
+{
     match read_file(alloc, outside, importing.cfg, None) {
         Ok(text) => import_read(alloc, outside, importing, &text, constants),
         Err(failure) => end(outside, &failure),
@@ -173,15 +190,21 @@ fn import_file<O: Outside>(
 }
 
 /// Whether the file that is written is the one that is read.
-fn is_over_configuration<O: Outside>(outside: &O, importing: Importing<'_>) -> bool {
+fn is_over_configuration<O: Outside>(outside: &O, importing: Importing<'_>) -> bool
+    ensures { result ≡ false → IfSome importing.entry.out (λ out. AreApart (O.files outside.now) out.now
+        importing.entry.cfg.now) }
+{
     match importing.out {
-        Some(out) => outside.is_one_file(out, importing.cfg),
+        Some(out) => is_one_file(outside, out, importing.cfg),
         None => false,
     }
 }
 
 /// Imports a configuration of TOPPERS or uITRON, and gives the status.
-pub fn run_import<O: Outside>(alloc: Global, outside: &mut O, importing: Importing<'_>) -> u8 {
+pub fn run_import<O: Outside>(alloc: Global, outside: &mut O, importing: Importing<'_>) -> u8
+    ensures { result ≡ 0 → HasImported (O.files outside.old) importing.entry (O.done outside.old)
+        (O.done outside.new) }
+{
     if is_over_configuration(outside, importing) {
         return refuse_mistake(outside, out_over_configuration(alloc));
     }

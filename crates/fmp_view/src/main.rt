@@ -16,6 +16,7 @@ mod exporting;
 mod form;
 mod import_form;
 mod importing;
+mod inputs;
 mod mistakes;
 mod numbers;
 mod refusing;

@@ -70,7 +70,7 @@ fn bodies_of(alloc: Global, interrupts: &[NamedInterrupt]) -> Result<Vec<Name>, 
     Ok(names)
 }
 
-/// What a command with this first word wants.
+/// What a command with this first word expects.
 fn wanted_text(
     alloc: Global,
     mistake: LineMistake,
@@ -104,7 +104,7 @@ fn wanted_text(
     }
 }
 
-/// What is said of the word that a command got in place of what it wants, of which these are known; nothing if it got
+/// What is said of a word that a command got in place of what it expects, of which these are known; nothing if it got
 /// none.
 fn got_text(alloc: Global, word: &[u8], known: &[Name]) -> Result<String, AllocError> {
     if word.is_empty() {

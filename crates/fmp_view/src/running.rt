@@ -2,7 +2,10 @@
 ghost use Rattle.std.specs.Prelude.{◌≡◌, List, Some, codes};
 ghost use Rattle.clap.specs.Words.{Row, subcommand_rows_of};
 ghost use Rattle.fmp_searching.specs.Claimed.{HoldsOfWords};
-ghost use Rattle.fmp_view.specs.Commands.{AsksToExplore};
+ghost use Rattle.fmp_looking.specs.TestDeeds.{IsDone};
+ghost use Rattle.fmp_view.specs.Asked.{AsksToDiff, AsksToExpect, AsksToExplore, AsksToTest, AsksToWhy};
+ghost use Rattle.fmp_view.specs.Commands.{DiffOfWords, EndsLook, ExpectOfWords, TestOfWords, WhyOfWords};
+ghost use Rattle.fmp_view.specs.Verdicts.{EndsWhy};
 
 use crate::asking::{Asked, Cmd, Picturing, RunFiles, command, parsed};
 use crate::differing::print_diff;
@@ -112,7 +115,10 @@ fn print_why<O: Outside>(
     run: RunFiles<'_>,
     at: Option<u32>,
     form: Form,
-) -> u8 {
+) -> u8
+    ensures { IsDone result → EndsWhy (O.files outside.old) run.entry (record { at = at; form = form })
+        (O.done outside.old) (O.done outside.new) result }
+{
     let made = made_of_run(alloc, outside, run, &Why { at, form });
     print_made(alloc, outside, made)
 }
@@ -309,6 +315,8 @@ fn look_at<O: Outside, R: Input + Files + Threads + Sync>(
 ) -> u8
 where
     R::Reader: IsTerminal,
+    ensures { IsDone result → EndsLook (O.files outside.old) asked.entry (O.done outside.old) (O.done outside.new)
+        result }
 {
     match asked {
         Asked::Export(exporting) => run_export(alloc, outside, rt, exporting),
@@ -341,8 +349,16 @@ fn obey<O: Outside, R: Input + Files + Clock + Threads + Sync>(
 ) -> u8
 where
     R::Reader: IsTerminal,
-    ensures { (rows : List Row) → AsksToExplore rows cmd.entry → result ≡ 0 →
+    ensures explore { (rows : List Row) → AsksToExplore rows cmd.entry → result ≡ 0 →
         HoldsOfWords (O.files outside.old) rows (O.done outside.new) }
+    ensures diff { (rows : List Row) → AsksToDiff rows cmd.entry → IsDone result →
+        DiffOfWords (O.files outside.old) rows (O.done outside.old) (O.done outside.new) result }
+    ensures why { (rows : List Row) → AsksToWhy rows cmd.entry → IsDone result →
+        WhyOfWords (O.files outside.old) rows (O.done outside.old) (O.done outside.new) result }
+    ensures expect { (rows : List Row) → AsksToExpect rows cmd.entry → IsDone result →
+        ExpectOfWords (O.files outside.old) rows (O.done outside.old) (O.done outside.new) result }
+    ensures tests { (rows : List Row) → AsksToTest rows cmd.entry → IsDone result →
+        TestOfWords (O.files outside.old) rows (O.done outside.old) (O.done outside.new) result }
 {
     match cmd {
         Cmd::Explore(exploring) => run_explore(alloc, outside, rt, &exploring),
@@ -359,8 +375,16 @@ fn carry_out<O: Outside, R: Input + Files + Clock + Threads + Sync>(
 ) -> u8
 where
     R::Reader: IsTerminal,
-    ensures { (rows : List Row) → subcommand_rows_of words.now ≡ Some (codes "explore", rows) → result ≡ 0 →
+    ensures explore { (rows : List Row) → subcommand_rows_of words.now ≡ Some (codes "explore", rows) → result ≡ 0 →
         HoldsOfWords (O.files outside.old) rows (O.done outside.new) }
+    ensures diff { (rows : List Row) → subcommand_rows_of words.now ≡ Some (codes "diff", rows) → IsDone result →
+        DiffOfWords (O.files outside.old) rows (O.done outside.old) (O.done outside.new) result }
+    ensures why { (rows : List Row) → subcommand_rows_of words.now ≡ Some (codes "why", rows) → IsDone result →
+        WhyOfWords (O.files outside.old) rows (O.done outside.old) (O.done outside.new) result }
+    ensures expect { (rows : List Row) → subcommand_rows_of words.now ≡ Some (codes "expect", rows) → IsDone result →
+        ExpectOfWords (O.files outside.old) rows (O.done outside.old) (O.done outside.new) result }
+    ensures tests { (rows : List Row) → subcommand_rows_of words.now ≡ Some (codes "test", rows) → IsDone result →
+        TestOfWords (O.files outside.old) rows (O.done outside.old) (O.done outside.new) result }
 {
     match command(words) {
         Some(cmd) => obey(alloc, outside, rt, cmd),

@@ -1,9 +1,10 @@
 //! The files of a session: steps that it takes, and steps that it writes.
 ghost use Rattle.std.specs.Prelude.{IfOk};
 ghost use Rattle.fmp_session.specs.Sessions.{IsSession};
-ghost use Rattle.fmp_view.specs.Stepped.{Leaves};
+ghost use Rattle.fmp_view.specs.Stepped.{IsNoFile, IsRefused, IsTold, Leaves, Saves};
 
 use crate::answering::{Answer, Stepping, append_told, take_one};
+use crate::inputs::is_text;
 use fmp_arguments::EVENTS_MAX;
 use fmp_base::Event;
 use fmp_engine::SimFault;
@@ -23,12 +24,16 @@ const IS_READ: &str = "the file is one of the two that are read";
 const TOO_MANY: &str = "a session has at most 1048576 events";
 
 /// The answer of a line that failed for this reason.
-pub fn refused(alloc: Global, reason: &str) -> Result<Answer, AllocError> {
+pub fn refused(alloc: Global, reason: &str) -> Result<Answer, AllocError>
+    ensures { IfOk result IsRefused }
+{
     Ok(Answer::Refused(String::from_str(alloc, reason)?))
 }
 
 /// The answer of a line whose file could not be read or written.
-fn no_file(failure: Failure) -> Result<Answer, AllocError> {
+fn no_file(failure: Failure) -> Result<Answer, AllocError>
+    ensures { IfOk result IsNoFile }
+{
     match failure {
         Failure::Memory(error) => Err(error),
         failure => Ok(Answer::NoFile(failure)),
@@ -113,7 +118,9 @@ pub fn load<O: Outside>(
 }
 
 /// What is told of a file of this name that was written.
-fn saved(alloc: Global, form: Form, name: &str) -> Result<Answer, AllocError> {
+fn saved(alloc: Global, form: Form, name: &str) -> Result<Answer, AllocError>
+    ensures { IfOk result IsTold }
+{
     let line = format!(in alloc; "saved: {name}\n")?;
     let mut out = Vec::new(alloc);
     append_told(alloc, form, line.as_bytes(), &mut out)?;
@@ -121,15 +128,18 @@ fn saved(alloc: Global, form: Form, name: &str) -> Result<Answer, AllocError> {
 }
 
 /// Writes the events of a session to the file of this name, which is none of those that are read.
+#[tactic(auto, using(crate::proofs::SessionLemmas::refused_saves))]
 fn save_as<O: Outside>(
     alloc: Global,
     outside: &mut O,
     session: &Session<'_>,
     stepping: Stepping<'_>,
     name: &str,
-) -> Result<Answer, AllocError> {
-    let names = stepping.names;
-    if outside.is_one_file(name, names.cfg) || outside.is_one_file(name, names.src) {
+) -> Result<Answer, AllocError>
+    ensures { IfOk result (Saves (O.files outside.old) stepping.entry.names name.now session.now.events.items
+        (O.done outside.old) (O.done outside.new)) }
+{
+    if is_text(outside, name, stepping.names) {
         return refused(alloc, IS_READ);
     }
     let text = session.steps(alloc)?;
@@ -140,13 +150,17 @@ fn save_as<O: Outside>(
 }
 
 /// Writes the events of a session to a file.
+#[tactic(auto, using(crate::proofs::SessionLemmas::refused_saves))]
 pub fn save<O: Outside>(
     alloc: Global,
     outside: &mut O,
     session: &Session<'_>,
     stepping: Stepping<'_>,
     name: &[u8],
-) -> Result<Answer, AllocError> {
+) -> Result<Answer, AllocError>
+    ensures { IfOk result (Saves (O.files outside.old) stepping.entry.names name.now session.now.events.items
+        (O.done outside.old) (O.done outside.new)) }
+{
     match str::from_utf8(name) {
         Ok(name) => save_as(alloc, outside, session, stepping, name),
         Err(_) => refused(alloc, NOT_UTF8),

@@ -1,7 +1,7 @@
 //! The command `export --toppers`: the files of a system for TOPPERS/FMP, in a folder.
 ghost use Rattle.std.specs.Prelude.{◌≡◌, ◌∷◌, [], IfOk, OnOk};
 ghost use Rattle.fmp_files.specs.Deeds.{Does};
-ghost use Rattle.fmp_view.specs.Targets.{HasTargeted, HasTargetedTexts, IsTargetOf, target_files};
+ghost use Rattle.fmp_view.specs.Targets.{HasTargeted, HasTargetedFiles, HasTargetedTexts, IsTargetOf, target_files};
 
 use crate::exporting::{is_over_input, make_folder, write_in};
 use crate::word_mistakes::files_over_input;
@@ -11,7 +11,9 @@ use fmp_files::{Failure, Outside, end, refuse_mistake};
 use fmp_image::build;
 use fmp_lex::BuildFault;
 use fmp_searching::{print_fault, read_both};
-use fmp_toppers::{Target, ToppersFiles, ToppersRefusal, export_toppers};
+use fmp_toppers::{
+    RefusedObjects, Target, ToppersFiles, ToppersRefusal, export_toppers, refused_objects,
+};
 use fmp_warnings::{FileNames, Form};
 use std::alloc::{AllocError, Global};
 use std::rt::Files;
@@ -97,28 +99,66 @@ fn give<O: Outside, R: Files>(
     }
 }
 
-/// Says why an object has no place in a target, with status 1.
-fn refuse_object<O: Outside>(outside: &mut O, name: Name, why: &str) -> u8 {
-    let name = str::from_utf8(name.as_bytes()).unwrap_or("");
-    outside.say(format_args!("{name}: {why}\n"));
-    1
+/// The objects of two texts that have no place in a target.
+fn refused_of(
+    alloc: Global,
+    target: Target,
+    texts: Texts<'_>,
+) -> Result<RefusedObjects, BuildFault> {
+    match build(alloc, texts.cfg, texts.src) {
+        Ok(image) => {
+            let refused = refused_objects(alloc, target, image.system());
+            drop(image);
+            refused.map_err(|_error| BuildFault::Memory)
+        }
+        Err(fault) => Err(fault),
+    }
+}
+
+/// Says of each of these objects why it has no place in a target.
+fn say_objects<O: Outside>(outside: &mut O, names: &[Name], why: &str) {
+    for name in names {
+        let name = str::from_utf8(name.as_bytes()).unwrap_or("");
+        outside.say(format_args!("{name}: {why}\n"));
+    }
+}
+
+/// Says which objects have no place in a target, with status 1.
+fn refuse_objects<O: Outside>(
+    alloc: Global,
+    outside: &mut O,
+    target: Target,
+    texts: Texts<'_>,
+) -> u8 {
+    match refused_of(alloc, target, texts) {
+        Ok(refused) => {
+            say_objects(
+                outside,
+                &refused.names,
+                "the headers of TOPPERS have this name",
+            );
+            say_objects(outside, &refused.mailboxes, "FMP3 has no mailboxes");
+            1
+        }
+        Err(_) => end(outside, &Failure::Memory(AllocError)),
+    }
 }
 
 /// Says or prints why there are no files, and gives the status.
 fn refuse_target<O: Outside>(
     alloc: Global,
     outside: &mut O,
-    names: FileNames<'_>,
+    texts: Texts<'_>,
+    targeting: Targeting<'_>,
     refusal: ToppersRefusal,
 ) -> u8 {
     match refusal {
-        ToppersRefusal::Name(name) => {
-            refuse_object(outside, name, "the headers of TOPPERS have this name")
+        ToppersRefusal::Name(_) | ToppersRefusal::Mailbox(_) => {
+            refuse_objects(alloc, outside, targeting.target, texts)
         }
-        ToppersRefusal::Mailbox(name) => refuse_object(outside, name, "FMP3 has no mailboxes"),
         ToppersRefusal::Fault(BuildFault::Memory) => end(outside, &Failure::Memory(AllocError)),
         ToppersRefusal::Fault(BuildFault::At(..)) => {
-            print_fault(alloc, outside, names, Form::Text).max(1)
+            print_fault(alloc, outside, targeting.names, Form::Text).max(1)
         }
     }
 }
@@ -136,7 +176,7 @@ fn target_texts<O: Outside, R: Files>(
 {
     match targeted(alloc, targeting.target, texts.cfg, texts.src) {
         Ok(exported) => give(alloc, outside, rt, targeting.folder, &exported),
-        Err(refusal) => refuse_target(alloc, outside, targeting.names, refusal).max(1),
+        Err(refusal) => refuse_target(alloc, outside, texts, targeting, refusal).max(1),
     }
 }
 
@@ -147,7 +187,7 @@ fn target_files_of<O: Outside, R: Files>(
     rt: &R,
     targeting: Targeting<'_>,
 ) -> u8
-    ensures { result ≡ 0 → HasTargeted (O.files outside.old) targeting.entry
+    ensures { result ≡ 0 → HasTargetedFiles (O.files outside.old) targeting.entry
         (O.done outside.old) (O.done outside.new) }
 {
     match read_both(alloc, outside, targeting.names.cfg, targeting.names.src) {

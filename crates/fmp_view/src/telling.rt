@@ -1,4 +1,8 @@
 //! What is printed of a run, and what is said of how its drive ended.
+ghost use Rattle.std.specs.Prelude.{◌≡◌, ◌⊎◌, IfErr, IfOk, OnOk};
+ghost use Rattle.fmp_files.specs.Prints.{Prints};
+ghost use Rattle.fmp_looking.specs.TestDeeds.{IsDone, IsRefusal};
+
 use fmp_base::Call;
 use fmp_drive::{DriveStop, NextRun};
 use fmp_files::{Failure, Outside, end, print};
@@ -64,14 +68,38 @@ pub fn print_run<O: Outside>(
     }
 }
 
+/// Prints bytes. The error is the status that the program ends with.
+#[tactic(auto, using(crate::proofs::Endings::printed_all, crate::proofs::Endings::printing_refuses))]
+pub fn printed<O: Outside>(alloc: Global, outside: &mut O, bytes: &[u8]) -> Result<(), u8>
+    ensures ok { OnOk result (Prints (O.done outside.old) bytes.now (O.done outside.new)) }
+    ensures err { IfErr result IsRefusal }
+{
+    match print(alloc, outside, bytes) {
+        0 => Ok(()),
+        status => Err(status),
+    }
+}
+
+/// Says why nothing is made, and gives the status that the program ends with.
+#[tactic(auto, using(crate::proofs::Endings::exit_refuses, crate::proofs::Endings::refusal_by))]
+pub fn end_look<O: Outside>(outside: &mut O, exit: &ViewExit) -> u8
+    ensures { IsRefusal result }
+{
+    end(outside, exit)
+}
+
 /// Prints a text that was made, or says why there is none.
-pub fn print_made<O: Outside>(
-    alloc: Global,
-    outside: &mut O,
-    made: Result<Vec<u8>, ViewExit>,
-) -> u8 {
+#[tactic(auto, using(crate::proofs::Endings::not_done))]
+pub fn print_made<O: Outside>(alloc: Global, outside: &mut O, made: Result<Vec<u8>, ViewExit>) -> u8
+    ensures printed { IfOk made (λ text. IsDone result → Prints (O.done outside.old) text.items (O.done outside.new)) }
+    ensures status { (result ≡ 0) ⊎ IsRefusal result }
+    ensures refused { IfErr made (λ _. IsRefusal result) }
+{
     match made {
-        Ok(text) => print(alloc, outside, &text),
-        Err(exit) => end(outside, &exit),
+        Ok(text) => match printed(alloc, outside, &text) {
+            Ok(()) => 0,
+            Err(status) => status,
+        },
+        Err(exit) => end_look(outside, &exit),
     }
 }

@@ -1,4 +1,8 @@
 //! The command `test`: random runs of two texts.
+ghost use Rattle.fmp_cfgparse.specs.Configurations.{Describes};
+ghost use Rattle.fmp_looking.specs.TestDeeds.{IsDone, IsRefusal};
+ghost use Rattle.fmp_view.specs.Verdicts.{EndsTestFiles, EndsTestTexts};
+
 use fmp_base::System;
 use fmp_cfgparse::read_cfg;
 use fmp_diagnosis::Texts;
@@ -12,12 +16,15 @@ use std::alloc::{AllocError, Global};
 use std::thread::Threads;
 
 /// Prints the first fault of two texts, which build no image, and gives the status.
+#[tactic(auto, using(crate::proofs::Endings::three_refuses, crate::proofs::Endings::fault_refuses))]
 fn refuse_texts<O: Outside>(
     alloc: Global,
     outside: &mut O,
     testing: &Testing<'_>,
     fault: &BuildFault,
-) -> u8 {
+) -> u8
+    ensures { IsRefusal result }
+{
     let names = FileNames {
         cfg: testing.cfg,
         src: testing.src,
@@ -31,6 +38,7 @@ fn refuse_texts<O: Outside>(
 
 /// Makes random runs of the system of two texts, of which the configuration describes this, or prints their first
 /// fault, with status 1.
+#[tactic(auto, using(crate::proofs::Endings::not_done))]
 fn test_system<O: Outside, R: Threads + Sync>(
     alloc: Global,
     outside: &mut O,
@@ -38,7 +46,11 @@ fn test_system<O: Outside, R: Threads + Sync>(
     configured: &System,
     texts: Texts<'_>,
     testing: &Testing<'_>,
-) -> u8 {
+) -> u8
+    requires { Describes texts.cfg.now configured.now }
+    ensures { IsDone result → EndsTestTexts (O.files outside.old) texts.entry.cfg.now texts.entry.src.now testing.now
+        (O.done outside.old) (O.done outside.new) result }
+{
     match build(alloc, texts.cfg, texts.src) {
         Ok(image) => {
             let built = BuiltSystem {
@@ -54,13 +66,17 @@ fn test_system<O: Outside, R: Threads + Sync>(
 }
 
 /// Makes random runs of the system of two texts, or prints their first fault, with status 1.
+#[tactic(auto, using(crate::proofs::Endings::not_done))]
 fn test_texts<O: Outside, R: Threads + Sync>(
     alloc: Global,
     outside: &mut O,
     rt: &R,
     texts: Texts<'_>,
     testing: &Testing<'_>,
-) -> u8 {
+) -> u8
+    ensures { IsDone result → EndsTestTexts (O.files outside.old) texts.entry.cfg.now texts.entry.src.now testing.now
+        (O.done outside.old) (O.done outside.new) result }
+{
     match read_cfg(alloc, texts.cfg) {
         Ok(configured) => {
             let status = test_system(alloc, outside, rt, &configured, texts, testing);
@@ -74,12 +90,16 @@ fn test_texts<O: Outside, R: Threads + Sync>(
 /// Makes random runs of the system of the texts of two files: it prints the steps of the first that fails an
 /// expectation, made shorter, with status 4. If none fails, it prints nothing, with status 0. Its threads are those of
 /// this runtime.
+#[tactic(auto, using(crate::proofs::Endings::not_done, crate::proofs::Endings::three_refuses))]
 pub fn run_test<O: Outside, R: Threads + Sync>(
     alloc: Global,
     outside: &mut O,
     rt: &R,
     testing: &Testing<'_>,
-) -> u8 {
+) -> u8
+    ensures { IsDone result → EndsTestFiles (O.files outside.old) testing.now (O.done outside.old)
+        (O.done outside.new) result }
+{
     match read_both(alloc, outside, testing.cfg, testing.src) {
         Ok((cfg, src)) => {
             let texts = Texts {
