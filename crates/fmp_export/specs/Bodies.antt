@@ -20,7 +20,7 @@ c_initial s (Some l) = codes "[" ++ (number_text s l.at l.places ++ codes "] = {
 unfoldable pub c_variable : SourceText → Declaration → List ℕ
 c_variable s d = codes "    int32_t " ++ (c_name d.name.name ++ c_initial s d.length)
 
--- a declaration below the comments of a gap, with the comment of another behind it
+-- a declaration below the comments of a gap, with the comment of another after it
 unfoldable pub c_declared : SourceText → (before gap : List ℕ) → Declaration → List ℕ
 c_declared s before gap d = c_above tab before ++ (c_variable s d ++ (c_behind gap ++ codes "\n"))
 
@@ -32,12 +32,12 @@ c_variables s before at (d ∷ ds) =
     c_declared s before (gaps s at (behind landmark.Semicolon s at)) d
     ++ c_variables s (gaps s at (behind landmark.Semicolon s at)) (behind landmark.Semicolon s at) ds
 
--- the place behind the declarations
+-- the place after the declarations
 abbrev pub variables_end : SourceText → (at : ℕ) → List Declaration → ℕ
 variables_end s at [] = at
 variables_end s at (d ∷ ds) = variables_end s (behind landmark.Semicolon s at) ds
 
--- the first lines of a body, behind which its variables stand
+-- the first lines of a body, after which its variables stand
 unfoldable pub c_heading : Name → (before : List ℕ) → List ℕ
 c_heading name before =
     codes "void "
@@ -63,7 +63,7 @@ c_body s b =
 abbrev pub body_end : SourceText → BodyTree → ℕ
 body_end s b = inside_end s (behind landmark.LeftBrace s b.at) b
 
--- what stands behind a body
+-- what stands after a body
 abbrev pub gap_behind : SourceText → BodyTree → List ℕ
 gap_behind s b = gaps s (body_end s b) (behind landmark.RightBrace s (body_end s b))
 

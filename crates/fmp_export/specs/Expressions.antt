@@ -20,7 +20,7 @@ c_expression s at (binary op a b) =
 c_expression s at (both a b) = both_piece (c_expression s at a) (c_expression s ((c_expression s at a).next) b)
 c_expression s at (either a b) = either_piece (c_expression s at a) (c_expression s ((c_expression s at a).next) b)
 
--- expressions, one behind another
+-- expressions, one after another
 abbrev pub c_expressions : SourceText → (at : ℕ) → List ExpressionTree → List PieceText
 c_expressions s at [] = []
 c_expressions s at (e ∷ es) = c_expression s at e ∷ c_expressions s ((c_expression s at e).next) es

@@ -1,5 +1,5 @@
 -- Expressions in C: the text of each, the faults that its evaluation may end with, whether an operator stands
--- outermost, and where the task text goes on behind its numbers.
+-- outermost, and where the task text goes on after its numbers.
 use Rattle.std.specs.Prelude.{ℕ, ℤ, pos, negsuc, List, ◌++◌, codes, drop, take, Bool, true, false, Option, Some, None}
 use Rattle.std.specs.Fmt.{signed_decimal}
 use Rattle.fmp_base.specs.declared.operators.UnaryOperator.{UnaryOperator}
@@ -19,7 +19,7 @@ pub record PieceText : Type 0 where
   pub text : List ℕ
   pub risk : Risk
   pub shape : ExpressionShape
-  -- the place behind the last number of the expression in the list of tokens, or where the expression was begun
+  -- the place after the last number of the expression in the list of tokens, or where the expression was begun
   pub next : ℕ
 
 -- what a `Piece` holds

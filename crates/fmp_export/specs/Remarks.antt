@@ -57,7 +57,7 @@ closed line = stopped (is_open line) line
 abbrev pub closes : (piece : List ℕ) → Bool
 closes piece = ends_with nat_eq piece (codes "*/") && not (starts_with nat_eq (trimmed piece) (codes "//"))
 
--- the comment of a further piece of a line, behind those before it
+-- the comment of a further piece of a line, after those before it
 abbrev pub spaced : (comments : List ℕ) → List ℕ
 spaced [] = []
 spaced (b ∷ bs) = (b ∷ bs) ++ codes " "
@@ -69,7 +69,7 @@ further comments (c ∷ cs) = spaced comments ++ (c ∷ cs)
 abbrev pub with_piece : (comments piece : List ℕ) → List ℕ
 with_piece comments piece = further comments (line_comment (trimmed piece))
 
--- the comments of a line, behind those before it and a piece that is begun: each block comment ends a piece
+-- the comments of a line, after those before it and a piece that is begun: each block comment ends a piece
 abbrev pub line_comments : (comments piece : List ℕ) → List ℕ → List ℕ
 line_comments comments piece [] = with_piece comments piece
 line_comments comments piece (b ∷ bs) =
@@ -80,7 +80,7 @@ line_comments comments piece (b ∷ bs) =
 abbrev pub comment : List ℕ → List ℕ
 comment line = closed (line_comments [] [] line)
 
--- behind the code of its line, or in a line of its own
+-- after the code of its line, or in a line of its own
 abbrev pub behind_code : (remark : List ℕ) → List ℕ
 behind_code [] = []
 behind_code (b ∷ bs) = codes " " ++ (b ∷ bs)
@@ -89,7 +89,7 @@ abbrev pub own_line : (margin remark : List ℕ) → List ℕ
 own_line margin [] = []
 own_line margin (b ∷ bs) = margin ++ ((b ∷ bs) ++ codes "\n")
 
--- the first line of this, behind bytes of it that are shown already, and what stands behind that line
+-- the first line of this, after bytes of it that are shown already, and what stands after that line
 abbrev pub first_line : (begun : List ℕ) → List ℕ → List ℕ
 first_line line [] = line
 first_line line (b ∷ bs) = if b == 10 then line else first_line (line ++ shown b ∷ []) bs
@@ -105,7 +105,7 @@ own_lines margin line (b ∷ bs) =
     if b == 10 then own_line margin (comment line) ++ own_lines margin [] bs
     else own_lines margin (line ++ shown b ∷ []) bs
 
--- the comments of a gap: that of its first line behind the code, the others in lines of their own
+-- the comments of a gap: that of its first line after the code, the others in lines of their own
 abbrev pub c_behind : (gap : List ℕ) → List ℕ
 c_behind gap = behind_code (comment (first_line [] gap))
 
@@ -115,7 +115,7 @@ c_above margin gap = own_lines margin [] (other_lines gap)
 unfoldable pub c_line_end : (margin gap : List ℕ) → List ℕ
 c_line_end margin gap = c_behind gap ++ (codes "\n" ++ c_above margin gap)
 
--- the end of a line of C for the tokens from a place up to a landmark: all comments that stand behind one of them
+-- the end of a line of C for the tokens from a place up to a landmark: all comments that stand after one of them
 abbrev pub c_finish : (margin : List ℕ) → Landmark → SourceText → (at : ℕ) → List ℕ
 c_finish margin l s at = c_line_end margin (gaps s at (behind l s at))
 

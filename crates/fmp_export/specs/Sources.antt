@@ -34,12 +34,12 @@ is_landmark landmark.RightBrace (kind.Symbol symbol.RightBrace) = true
 is_landmark landmark.Else (kind.Keyword keyword.Else) = true
 is_landmark _ _ = false
 
--- the place behind the first landmark of these tokens, which begin at a place; behind all of them if there is none
+-- the place after the first landmark of these tokens, which begin at a place; after all of them if there is none
 abbrev pub behind_in : Landmark → (at : ℕ) → List Token → ℕ
 behind_in l at [] = at
 behind_in l at (t ∷ ts) = if is_landmark l t.kind then at + 1 else behind_in l (at + 1) ts
 
--- the place behind the first landmark from a place on
+-- the place after the first landmark from a place on
 unfoldable pub behind : Landmark → SourceText → (at : ℕ) → ℕ
 behind l s at = behind_in l at (drop at s.tokens)
 
@@ -61,16 +61,16 @@ abbrev pub start_of : (text : List ℕ) → List Token → ℕ
 start_of text [] = length text
 start_of text (t ∷ ts) = t.start
 
--- what stands between a token and those behind it: space and comments
+-- what stands between a token and those after it: space and comments
 abbrev pub gap : (text : List ℕ) → Token → List Token → List ℕ
 gap text t ts = drop t.end (take (start_of text ts) text)
 
--- what stands behind each of these tokens, which begin at a place, up to another place
+-- what stands after each of these tokens, which begin at a place, up to another place
 abbrev pub gaps_in : (text : List ℕ) → (at to : ℕ) → List Token → List ℕ
 gaps_in text at to [] = []
 gaps_in text at to (t ∷ ts) = if nat_lt at to then gap text t ts ++ gaps_in text (at + 1) to ts else []
 
--- what stands behind each of the tokens from a place up to another
+-- what stands after each of the tokens from a place up to another
 unfoldable pub gaps : SourceText → (from to : ℕ) → List ℕ
 gaps s from to = gaps_in s.text from to (drop from s.tokens)
 

@@ -127,17 +127,17 @@ is_if (if_then e b) = true
 is_if (if_else e b o) = true
 is_if _ = false
 
--- a statement alone that is an `if`: behind `else` it goes on in the same line
+-- a statement alone that is an `if`: after `else` it goes on in the same line
 abbrev pub is_chain : Block → Bool
 is_chain empty = false
 is_chain (next s empty) = is_if s
 is_chain (next s (next t b)) = false
 
--- the same, but for an `if` in braces of its own; its `else` stands behind the `}` at this place
+-- the same, but for an `if` in braces of its own; its `else` stands after the `}` at this place
 abbrev pub goes_on : SourceText → (at : ℕ) → Block → Bool
 goes_on s at o = is_chain o && not (stands_at landmark.LeftBrace s (behind landmark.Else s at))
 
--- where a block ends, given where its last statement does: behind its `}`
+-- where a block ends, given where its last statement does: after its `}`
 abbrev pub else_end : (chain : Bool) → (chained block : ℕ) → SourceText → ℕ
 else_end true chained block s = chained
 else_end false chained block s = behind landmark.RightBrace s block
@@ -146,7 +146,7 @@ else_end false chained block s = behind landmark.RightBrace s block
 abbrev pub choice_end_by : (end : ℕ → ℕ) → SourceText → (at : ℕ) → Block → ℕ
 choice_end_by end s at o = else_end (goes_on s at o) (end at) (end (behind landmark.LeftBrace s at)) s
 
--- the place behind a statement, and behind the statements of a block
+-- the place after a statement, and after the statements of a block
 abbrev mutual
   pub statement_end : SourceText → (at : ℕ) → StatementTree → ℕ
   statement_end s at (assign w e) = behind landmark.Semicolon s at
@@ -171,11 +171,11 @@ choice_end s at o = choice_end_by (λ i. block_end s i o) s at o
 abbrev pub c_closed : SourceText → (margin block : List ℕ) → (end : ℕ) → List ℕ
 c_closed s margin block end = block ++ c_close s margin end
 
--- the `{` behind the `else` that stands behind the `}` at a place
+-- the `{` after the `else` that stands after the `}` at a place
 unfoldable pub c_else_head : SourceText → (margin : List ℕ) → (at : ℕ) → List ℕ
 c_else_head s margin at = margin ++ (codes "} else {" ++ c_finish (margin ++ tab) landmark.LeftBrace s at)
 
--- what stands behind the `if` of a choice: an `if` in the line of the `else`, or a block
+-- what stands after the `if` of a choice: an `if` in the line of the `else`, or a block
 abbrev pub c_else : (chain : Bool) → (chained head block : List ℕ) → List ℕ
 c_else true chained head block = chained
 c_else false chained head block = head ++ block
@@ -185,7 +185,7 @@ c_choice_by chained block s margin at o =
     c_else (goes_on s at o) (chained at) (c_else_head s margin at)
     (c_closed s margin (block (behind landmark.LeftBrace s at)) (block_end s (behind landmark.LeftBrace s at) o))
 
--- a statement; the statements of a block, each behind its margin; and the same, each behind `else` in its line
+-- a statement; the statements of a block, each after its margin; and the same, each after `else` in its line
 abbrev mutual
   pub c_statement : SourceText → (margin : List ℕ) → (at : ℕ) → StatementTree → List ℕ
   c_statement s margin at (assign w e) = c_assign s at w e ++ c_finish margin landmark.Semicolon s at
@@ -220,7 +220,7 @@ abbrev mutual
   c_block s margin at (next t b) =
       (c_directive s at ++ (margin ++ c_statement s margin at t)) ++ c_block s margin (statement_end s at t) b
 
--- what stands behind the `if` of a choice, whose `}` stands at a place
+-- what stands after the `if` of a choice, whose `}` stands at a place
 abbrev pub c_choice : SourceText → (margin : List ℕ) → (at : ℕ) → Block → List ℕ
 c_choice s margin at o =
     c_choice_by (λ i. c_chained s margin i o) (λ i. c_block s (margin ++ tab) i o) s margin at o

@@ -155,7 +155,7 @@ pub fn export_c_with_lines(
     Ok(files(&source, system, &program)?)
 }
 
-/// The same without the lines of the text.
+/// As `export_c_with_lines`, without the lines of the text for a debugger.
 pub fn export_c(alloc: Global, text: &[u8], system: &System) -> Result<ExportedText, BuildFault>
     ensures { IsExported (tables_of system.now) text.now result }
 {

@@ -12,14 +12,15 @@ CFLAGS = -std=c11 -O2 -Wall -Wextra -Wconversion
 TICK = 1000000
 TICKS = 10000
 PROGRAM = exported$(SHADOW:1=-shadow)
+FMP = $(shell pkg-config --cflags --libs fmp)
 
 all: $(PROGRAM)
 
 exported: bodies.c main.c bodies.h
-\t$(CC) $(CFLAGS) bodies.c main.c $$(pkg-config --cflags --libs fmp) -o $@
+\t$(CC) $(CFLAGS) bodies.c main.c $(FMP) -o $@
 
 exported-shadow: bodies.c main.c bodies.h image.h
-\t$(CC) $(CFLAGS) -DFMP_SHADOW bodies.c main.c $$(pkg-config --cflags --libs fmp) -o $@
+\t$(CC) $(CFLAGS) -DFMP_SHADOW bodies.c main.c $(FMP) -o $@
 
 image.h: system.cfg system.src
 \tfmp build system.cfg system.src system.img > /dev/null
@@ -27,7 +28,7 @@ image.h: system.cfg system.src
 
 .PHONY: all run live
 run: $(PROGRAM)
-\t./$(PROGRAM) system.cfg $(STEPS)
+\t./$(PROGRAM) system.cfg $(if $(STEPS),\"$(STEPS)\")
 
 live: $(PROGRAM)
 \t./$(PROGRAM) live system.cfg $(TICK) $(TICKS)

@@ -1,6 +1,7 @@
 -- The constants that are known while a configuration of C is read.
 use Rattle.std.specs.Prelude.{◌≡◌, ◌||◌, ℕ, List, [], ◌∷◌, ◌++◌, ℤ, pos, Option, Some, None, Bool, true, false}
 use Rattle.std.specs.Prelude.{bytes_eq, codes, find, if◌then◌else◌, option_map}
+use Rattle.std.specs.List.{list_any}
 use Rattle.std.specs.Option.{option_or}
 use Rattle.fmp_base.specs.Names.{name_from, name_text}
 use Rattle.fmp_base.specs.Words.{constant_named, constant_value}
@@ -28,6 +29,10 @@ value_or own (Some d) = Some d.value
 -- what stands for a name: its first definition counts
 abbrev pub defined : List Definition → (word : List ℕ) → Option Definition
 defined ds word = find (λ d. bytes_eq (name_text d.name) word) ds
+
+-- something stands for a name
+abbrev pub is_defined : List Definition → (word : List ℕ) → Bool
+is_defined ds word = list_any (λ d. bytes_eq (name_text d.name) word) ds
 
 -- the value of a name
 abbrev pub value_named : List Definition → (word : List ℕ) → Option ℤ

@@ -46,7 +46,7 @@ item_text source (item.Number k) = signed_decimal k
 item_text source (item.Attribute a b c) = constant_name a ++ (or_text b ++ or_text c)
 item_text source item.Null = codes "NULL"
 
--- what stands behind the attribute
+-- what stands after the attribute
 unfoldable pub further_text : (source : List ℕ) → PlanItem → List ℕ
 further_text source i = codes ", " ++ item_text source i
 

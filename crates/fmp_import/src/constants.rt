@@ -1,5 +1,5 @@
 //! The constants of a configuration in C.
-ghost use Rattle.std.specs.Prelude.{◌≡◌, [], IfOk, OnErr, length, option_copied, option_map};
+ghost use Rattle.std.specs.Prelude.{◌≡◌, [], IfOk, OnErr, length, option_copied, option_map, take};
 ghost use Rattle.fmp_base.specs.Words as spec_words;
 ghost use Rattle.fmp_import.specs.Constants as spec;
 ghost use Rattle.fmp_import.specs.Constants.{HasDefined, HasGiven, HasMore};
@@ -42,6 +42,8 @@ pub enum Defines {
 #[derive(Drop)]
 pub struct Constants {
     definitions: Vec<Definition>,
+    /// The names that `define` passes over: `define_again` alone defines them.
+    renewed: Vec<Name>,
 }
 
 impl Model for Constants {
@@ -93,6 +95,7 @@ impl Constants {
     {
         Constants {
             definitions: Vec::new(alloc),
+            renewed: Vec::new(alloc),
         }
     }
 
@@ -183,9 +186,58 @@ impl Constants {
         }
     }
 
-    /// Adds the constant that a line of the preprocessor defines, unless something stands for its name already. A macro
-    /// with parameters is no constant.
+    /// Whether one of the first definitions, of this number, has a name.
+    pub(crate) fn is_among_first(&self, count: usize, word: &[u8]) -> bool
+        ensures { result ≡ spec.is_defined (take count self.now) word.now }
+    {
+        self.definitions
+            .iter()
+            .take(count)
+            .any(|definition| definition.name.as_bytes() == word)
+    }
+
+    /// Forgets all but the first definitions, of this number, and which names `define` passes over.
+    pub(crate) fn begin_again(&mut self, count: usize)
+        ensures { self.new ≡ take count self.old }
+    {
+        self.definitions.truncate(count);
+        self.renewed.clear();
+    }
+
+    /// From now on `define` passes over this name.
+    pub(crate) fn renew(&mut self, name: Name) -> Result<(), AllocError>
+        ensures { self.new ≡ self.old }
+    {
+        self.renewed.push(name)?;
+        Ok(())
+    }
+
+    /// Whether `define` passes over a name.
+    fn is_renewed(&self, word: &[u8]) -> bool {
+        self.renewed.iter().any(|name| name.as_bytes() == word)
+    }
+
+    /// Adds the constant that a line of the preprocessor defines, unless something stands for its name already, or the
+    /// name is passed over. A macro with parameters is no constant.
     pub(crate) fn define(&mut self, alloc: Global, line: &[u8]) -> Result<Defines, AllocError>
+        ensures { HasMore self.old self.new }
+    {
+        self.define_as(alloc, line, false)
+    }
+
+    /// The same also of a name that `define` passes over.
+    pub(crate) fn define_again(&mut self, alloc: Global, line: &[u8]) -> Result<Defines, AllocError>
+        ensures { HasMore self.old self.new }
+    {
+        self.define_as(alloc, line, true)
+    }
+
+    fn define_as(
+        &mut self,
+        alloc: Global,
+        line: &[u8],
+        is_renewal: bool,
+    ) -> Result<Defines, AllocError>
         ensures { HasMore self.old self.new }
     {
         let Some(text) = line.strip_prefix(b"#") else {
@@ -207,6 +259,7 @@ impl Constants {
         let name = bytes_of(text, name.span);
         match self.defined(name) {
             Some(known) => self.known(alloc, text, known, expression),
+            None if !is_renewal && self.is_renewed(name) => Ok(Defines::Other),
             None => {
                 let added = self.add(alloc, text, name, expression)?;
                 Ok(if added {
@@ -223,7 +276,7 @@ impl Constants {
         ensures { HasMore self.old self.new }
     {
         for lexeme in &enabled_lexemes(alloc, text)? {
-            if lexeme.kind == LexemeKind::Directive {
+            if lexeme.kind.is_directive() {
                 self.define(alloc, bytes_of(text, lexeme.span))?;
             }
         }

@@ -93,16 +93,38 @@ fn enabled(depth: usize, condition: Option<Condition>, lexeme: Lexeme) -> Option
     }
 }
 
+/// How many conditions are open after a line that has this one.
+fn open_after(open: usize, condition: Option<Condition>) -> usize {
+    match condition {
+        Some(Condition::Never | Condition::Begins) => open.saturating_add(1),
+        Some(Condition::Ends) => open.saturating_sub(1),
+        _ => open,
+    }
+}
+
+/// A lexeme that is read where this many conditions are open.
+fn marked(open: usize, lexeme: Lexeme) -> Lexeme {
+    match lexeme.kind {
+        LexemeKind::Directive if open > 0 => Lexeme {
+            kind: LexemeKind::ConditionalDirective,
+            ..lexeme
+        },
+        _ => lexeme,
+    }
+}
+
 /// The lexemes of a text without those after `#if 0` up to its `#else` or `#endif`.
 pub fn enabled_lexemes(alloc: Global, text: &[u8]) -> Result<Vec<Lexeme>, AllocError> {
     let mut found = Vec::new(alloc);
     let mut depth = 0;
+    let mut open = 0;
     for lexeme in &lexemes(alloc, text)? {
         let condition = condition_at(text, *lexeme);
         if let Some(read) = enabled(depth, condition, *lexeme) {
-            found.push(read)?;
+            found.push(marked(open, read))?;
         }
         depth = depth_after(depth, condition);
+        open = open_after(open, condition);
     }
     Ok(found)
 }

@@ -140,14 +140,15 @@ fn drafted(
         lexemes: &found,
         headers,
     };
-    take_constants(alloc, source, &mut constants)?;
-    let mut walk = ConfigurationWalk::new(alloc, text, &found, headers, constants);
+    let given = constants.count();
+    take_constants(alloc, source, &[], &mut constants)?;
+    let mut walk = ConfigurationWalk::new(alloc, source, constants, given);
     walk.go()?;
     if walk.has_taken()? {
         walk.go_again()?;
     }
     Ok(Draft {
-        blocks: walk.blocks,
+        blocks: walk.placed.blocks,
         notes: walk.notes,
     })
 }

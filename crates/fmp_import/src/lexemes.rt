@@ -13,6 +13,8 @@ pub enum LexemeKind {
     Number,
     /// A line of the preprocessor.
     Directive,
+    /// One between an `#if` and its `#endif`.
+    ConditionalDirective,
     /// An `#elif` after an `#if 0`.
     DisabledDirective,
     /// A text or a character in quotes.
@@ -23,6 +25,16 @@ pub enum LexemeKind {
     Shift(u8),
     /// Any other byte.
     Sign(u8),
+}
+
+impl LexemeKind {
+    /// Whether it is a line of the preprocessor that is read.
+    pub fn is_directive(self) -> bool {
+        matches!(
+            self,
+            LexemeKind::Directive | LexemeKind::ConditionalDirective
+        )
+    }
 }
 
 /// A lexeme, where it stands, and its line, from 1.
@@ -40,9 +52,22 @@ struct TextPiece {
     end: usize,
 }
 
-/// Whether a byte may stand in a word.
+/// Whether a byte may stand in a word: one of a letter that is no ASCII too.
 fn is_word(byte: u8) -> bool {
-    byte.is_ascii_alphanumeric() || byte == b'_'
+    byte.is_ascii_alphanumeric() || byte == b'_' || byte >= 128
+}
+
+/// Where the space ends that begins at a place and is no ASCII: a no-break space, an ideographic one, or a byte order
+/// mark.
+fn space_end(text: &[u8], at: usize) -> Option<usize>
+    requires { at ≤ length text.now }
+    ensures { IfSome result (λ end. (at < end) × (end ≤ length text.now)) }
+{
+    match &text[at..] {
+        [0xC2, 0xA0, ..] => Some(at + 2),
+        [0xE3, 0x80, 0x80, ..] | [0xEF, 0xBB, 0xBF, ..] => Some(at + 3),
+        _ => None,
+    }
 }
 
 /// Where the word ends that goes on at a place.
@@ -52,7 +77,7 @@ pub fn word_end(text: &[u8], from: usize) -> usize
     ensures within { result ≤ length text.now }
 {
     for i in from..text.len() {
-        if !is_word(text[i]) {
+        if !is_word(text[i]) || space_end(text, i).is_some() {
             return i;
         }
     }
@@ -223,6 +248,22 @@ fn is_line_end(text: &[u8], at: usize) -> bool {
     matches!(text.get(at), Some(b'\r' | b'\n'))
 }
 
+/// The word or the space whose first byte stands before a place.
+fn word_or_space(text: &[u8], next: usize, byte: u8) -> TextPiece
+    requires from { 0 < next }
+    requires within { next ≤ length text.now }
+    ensures next { next ≤ result.end }
+    ensures within { result.end ≤ length text.now }
+{
+    match space_end(text, next - 1) {
+        Some(end) => TextPiece { kind: None, end },
+        None => TextPiece {
+            kind: Some(word_kind(byte)),
+            end: word_end(text, next),
+        },
+    }
+}
+
 /// The piece that begins at a place.
 fn piece_at(text: &[u8], at: usize) -> TextPiece
     requires { at < length text.now }
@@ -249,10 +290,7 @@ fn piece_at(text: &[u8], at: usize) -> TextPiece
         },
         b'/' => comment_or_sign(text, next),
         byte @ (b'<' | b'>') => shift_or_sign(text, next, byte),
-        byte if is_word(byte) => TextPiece {
-            kind: Some(word_kind(byte)),
-            end: word_end(text, next),
-        },
+        byte if is_word(byte) => word_or_space(text, next, byte),
         byte => TextPiece {
             kind: Some(LexemeKind::Sign(byte)),
             end: next,
@@ -260,7 +298,7 @@ fn piece_at(text: &[u8], at: usize) -> TextPiece
     }
 }
 
-/// What a run of letters and digits is, by its first byte.
+/// What a word is, by its first byte.
 fn word_kind(first: u8) -> LexemeKind {
     if first.is_ascii_digit() {
         LexemeKind::Number

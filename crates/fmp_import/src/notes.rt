@@ -2,8 +2,15 @@
 ghost use Rattle.std.specs.Prelude.{◌≡◌, ◌++◌, OnOk};
 ghost use Rattle.fmp_import.specs.Written.{note_end, note_front, note_text, unknown_text};
 
+use crate::objects::Changes;
 use crate::text::{append, append_count, append_shown};
 use std::alloc::AllocError;
+
+/// Before why something is left out.
+pub const LEFT_OUT: &str = " is left out: ";
+
+/// Before what is said of something that is written, or counts.
+pub const CHANGED: &str = ": ";
 
 /// Appends the number of a line and a word of it.
 #[tactic(auto, unfolding(crate::specs::Written::note_front))]
@@ -54,4 +61,39 @@ pub fn append_unknown(
     append(b"` is left out: the constant `", out)?;
     append_shown(constant, out)?;
     append(b"` is unknown; `-D` gives it a value\n", out)
+}
+
+/// Appends what an object has otherwise than its source.
+pub fn append_changes(
+    line: usize,
+    word: &[u8],
+    changes: Changes,
+    out: &mut Vec<u8>,
+) -> Result<(), AllocError> {
+    let sentences = [
+        (
+            changes.attribute,
+            "an attribute without an equal is left out",
+        ),
+        (
+            changes.information,
+            "its extended information is no known number, and becomes 0",
+        ),
+        (
+            changes.entry,
+            "its entry is a word of this project, and gets `_` at its end",
+        ),
+        (changes.area, "the memory that it is given is left out"),
+        (changes.stack, "its stack size becomes 65536, the greatest"),
+        (
+            changes.times,
+            "its times were microseconds, and are ticks now",
+        ),
+    ];
+    for (is_told, sentence) in &sentences {
+        if *is_told {
+            append_note(line, word, CHANGED, sentence, out)?;
+        }
+    }
+    Ok(())
 }

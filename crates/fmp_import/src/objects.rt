@@ -110,7 +110,7 @@ fn is_reserved(word: &[u8]) -> bool {
 
 /// Whether the texts may give this name to an object or to a body.
 fn is_name(word: &[u8]) -> bool {
-    !word.is_empty() && word.len() <= Name::MAX && !is_reserved(word)
+    !word.is_empty() && word.is_ascii() && word.len() <= Name::MAX && !is_reserved(word)
 }
 
 impl Parameters<'_> {

@@ -1,25 +1,27 @@
 //! A configuration of C is gone over, statement by statement.
 use crate::constants::{Constants, Defines};
-use crate::defining::{header_named, why_skipped};
+use crate::defining::{Source, header_named, name_defined, why_skipped};
 use crate::directives::{enabled_lexemes, included_name, leaves_out};
 use crate::importing::Header;
 use crate::lexemes::{Lexeme, LexemeKind, first_line};
-use crate::notes::{append_note, append_unknown};
+use crate::notes::{CHANGED, LEFT_OUT, append_changes, append_note, append_unknown};
 use crate::objects::{Changes, Omission, Parameters, SourceObject};
-use crate::plan::{Block, PlanItem, Record, SourceClass};
-use crate::reading::{SourceField, SourceReading};
-use crate::same_names::{is_same, is_taken};
+use crate::placing::PlacedObjects;
+use crate::plan::SourceClass;
+use crate::reading::SourceReading;
+use crate::renewing::Renewals;
 use crate::source_words::{OUTSIDE, class_named, why_left_out};
+use crate::statement::Statement;
 use crate::text::bytes_of;
+use fmp_base::Name;
 use fmp_base::words::{Api, find_api};
 use std::alloc::{AllocError, Global};
 
 /// The greatest number of objects of a kind.
 const MOST: usize = 255;
 
-const LEFT_OUT: &str = " is left out: ";
-
-const CHANGED: &str = ": ";
+/// What is said of a line that defines a name for which another line or option counts.
+const NOT_COUNTED: &str = "another definition of its name counts";
 
 /// What a block in braces is.
 #[derive(Clone, Copy)]
@@ -46,8 +48,10 @@ pub struct ConfigurationWalk<'a> {
     lexemes: &'a [Lexeme],
     headers: &'a [Header],
     constants: Constants,
+    /// The names that were defined again so far.
+    renewals: Renewals,
     /// The objects so far.
-    pub blocks: Vec<Block>,
+    pub placed: PlacedObjects,
     /// What was left out or changed so far.
     pub notes: Vec<u8>,
     /// The open blocks.
@@ -56,47 +60,46 @@ pub struct ConfigurationWalk<'a> {
     escapes: bool,
     /// The word of the open statement.
     word: Option<Lexeme>,
-    /// Its open parentheses.
-    depth: usize,
-    /// Its open braces.
-    braces: usize,
-    /// Whether one of its braces closes nothing.
-    is_uneven: bool,
-    /// Where its open field begins.
-    from: usize,
-    /// Its fields.
-    fields: Vec<SourceField>,
+    /// What was read of it, or of the one before.
+    statement: Statement,
     /// Whether an object outside of a class was told.
     told_outside: bool,
 }
 
 impl<'a> ConfigurationWalk<'a> {
-    /// A text that is not gone over yet.
+    /// A text that is not gone over yet. Of the constants this many are known beforehand.
     pub fn new(
         alloc: Global,
-        text: &'a [u8],
-        lexemes: &'a [Lexeme],
-        headers: &'a [Header],
+        source: Source<'a>,
         constants: Constants,
+        given: usize,
     ) -> ConfigurationWalk<'a> {
         ConfigurationWalk {
             alloc,
-            text,
-            lexemes,
-            headers,
+            text: source.text,
+            lexemes: source.lexemes,
+            headers: source.headers,
             constants,
-            blocks: Vec::new(alloc),
+            renewals: Renewals::new(alloc, given),
+            placed: PlacedObjects::new(alloc),
             notes: Vec::new(alloc),
             open: Vec::new(alloc),
             escapes: true,
             word: None,
-            depth: 0,
-            braces: 0,
-            is_uneven: false,
-            from: 0,
-            fields: Vec::new(alloc),
+            statement: Statement::new(alloc),
             told_outside: false,
         }
+    }
+
+    /// Makes the constants those at the place that is reached.
+    fn refresh(&mut self) -> Result<(), AllocError> {
+        let source = Source {
+            text: self.text,
+            lexemes: self.lexemes,
+            headers: self.headers,
+        };
+        self.renewals
+            .refresh(self.alloc, source, &mut self.constants)
     }
 
     fn reading(&self) -> SourceReading<'_> {
@@ -138,68 +141,14 @@ impl<'a> ConfigurationWalk<'a> {
         None
     }
 
-    /// How many objects of a kind there are, and whether one is defined already.
-    fn look_up(&self, api: Api, subject: PlanItem) -> (usize, bool) {
-        let mut count: usize = 0;
-        let mut is_there = false;
-        for block in &self.blocks {
-            for record in &block.records {
-                if record.api == api {
-                    count = count.saturating_add(1);
-                }
-                is_there = is_there || is_same(self.text, record.subject, subject);
-            }
-        }
-        (count, is_there)
-    }
-
-    /// Puts an object into its class.
-    fn put(&mut self, class: SourceClass, record: Record) -> Result<(), AllocError> {
-        if let Some(block) = self.blocks.last_mut()
-            && block.class == class
-        {
-            block.records.push(record)?;
-            return Ok(());
-        }
-        let mut records = Vec::new(self.alloc);
-        records.push(record)?;
-        self.blocks.push(Block { class, records })?;
-        Ok(())
-    }
-
     /// Says what an object has otherwise than its source.
     fn note_changes(&mut self, at: Lexeme, changes: Changes) -> Result<(), AllocError> {
-        if changes.attribute {
-            self.note(at, CHANGED, "an attribute without an equal is left out")?;
-        }
-        if changes.information {
-            self.note(
-                at,
-                CHANGED,
-                "its extended information is no known number, and becomes 0",
-            )?;
-        }
-        if changes.entry {
-            self.note(
-                at,
-                CHANGED,
-                "its entry is a word of this project, and gets `_` at its end",
-            )?;
-        }
-        if changes.area {
-            self.note(at, CHANGED, "the memory that it is given is left out")?;
-        }
-        if changes.stack {
-            self.note(at, CHANGED, "its stack size becomes 65536, the greatest")?;
-        }
-        if changes.times {
-            self.note(
-                at,
-                CHANGED,
-                "its times were microseconds, and are ticks now",
-            )?;
-        }
-        Ok(())
+        append_changes(
+            at.line,
+            bytes_of(self.text, at.span),
+            changes,
+            &mut self.notes,
+        )
     }
 
     /// Adds an object that stands at a word, in a class.
@@ -210,7 +159,7 @@ impl<'a> ConfigurationWalk<'a> {
         object: SourceObject,
     ) -> Result<(), AllocError> {
         let SourceObject { record, changes } = object;
-        let (count, is_there) = self.look_up(record.api, record.subject);
+        let (count, is_there) = self.placed.look_up(self.text, record.api, record.subject);
         if is_there {
             return self.note(at, LEFT_OUT, "it is defined before");
         }
@@ -218,12 +167,12 @@ impl<'a> ConfigurationWalk<'a> {
             return self.note(at, LEFT_OUT, "there are 255 of its kind before");
         }
         self.note_changes(at, changes)?;
-        self.put(class, record)
+        self.placed.put(class, record)
     }
 
     /// What names the open statement in a note: its first field, or else its word.
     fn named(&self, word: Lexeme) -> Lexeme {
-        match self.fields.first() {
+        match self.statement.fields.first() {
             Some(field) => match self.reading().lexemes_of(*field) {
                 [lexeme, ..] => *lexeme,
                 [] => word,
@@ -256,8 +205,9 @@ impl<'a> ConfigurationWalk<'a> {
 
     /// Ends a statement that makes an object.
     fn end_object(&mut self, word: Lexeme, api: Api) -> Result<(), AllocError> {
+        self.refresh()?;
         let at = self.named(word);
-        if self.depth != 0 || self.braces != 0 || self.is_uneven {
+        if self.statement.is_unmatched() {
             self.note(at, CHANGED, "its parentheses or braces do not match")?;
         }
         let parameters = Parameters {
@@ -265,7 +215,7 @@ impl<'a> ConfigurationWalk<'a> {
             reading: self.reading(),
             escapes: self.escapes,
         };
-        match parameters.object(api, &self.fields) {
+        match parameters.object(api, &self.statement.fields) {
             Ok(object) => match self.class_for(at)? {
                 Some(class) => self.add(at, class, object),
                 None => Ok(()),
@@ -319,18 +269,6 @@ impl<'a> ConfigurationWalk<'a> {
         }
     }
 
-    /// Ends the open field before a place.
-    fn end_field(&mut self, place: usize) -> Result<(), AllocError> {
-        if self.from < place {
-            self.fields.push(SourceField {
-                from: self.from,
-                to: place,
-            })?;
-        }
-        self.from = place.saturating_add(1);
-        Ok(())
-    }
-
     /// Takes a line of the preprocessor.
     fn directive(&mut self, at: Lexeme) -> Result<(), AllocError> {
         let line = bytes_of(self.text, at.span);
@@ -338,30 +276,62 @@ impl<'a> ConfigurationWalk<'a> {
             return self.include(at, name);
         }
         if leaves_out(line) {
-            return self.note_line(at, "nothing before its `#else` or `#endif` is read");
+            return self.note_line(
+                at,
+                LEFT_OUT,
+                "nothing before its `#else` or `#endif` is read",
+            );
+        }
+        if let Some(name) = name_defined(self.alloc, line)?
+            && self.renewals.line_of(name).is_some()
+        {
+            return self.define_again(at, name);
         }
         match self.constants.define(self.alloc, line)? {
             Defines::Constant => Ok(()),
-            Defines::Other => self.note_line(at, "another definition of its name counts"),
-            Defines::NoNumber => self.note_line(at, "it defines no number that is known here"),
+            Defines::Other => match name_defined(self.alloc, line)? {
+                Some(name) => self.define_again(at, name),
+                None => self.note_line(at, LEFT_OUT, NOT_COUNTED),
+            },
+            Defines::NoNumber => {
+                self.note_line(at, LEFT_OUT, "it defines no number that is known here")
+            }
             Defines::Nothing => self.note_line(
                 at,
+                LEFT_OUT,
                 "only `#define`, and `#include` of a file in quotes, are read",
             ),
         }
     }
 
-    /// Says that a line of the preprocessor is left out.
-    fn note_line(&mut self, at: Lexeme, why: &str) -> Result<(), AllocError> {
+    /// Takes a line that defines a name otherwise than one before: it counts from here on, unless it stands after an
+    /// `#if`, or the constant is known beforehand.
+    fn define_again(&mut self, at: Lexeme, name: Name) -> Result<(), AllocError> {
+        let line = bytes_of(self.text, at.span);
+        if let Some(span) = self.renewals.line_of(name)
+            && bytes_of(self.text, span) == line
+        {
+            return Ok(());
+        }
+        if at.kind != LexemeKind::Directive || self.renewals.is_given(&self.constants, name) {
+            return self.note_line(at, LEFT_OUT, NOT_COUNTED);
+        }
+        self.renewals.take(name, at.span)?;
+        self.note_line(at, CHANGED, "its name has another value before this line")
+    }
+
+    /// Says something of a line of the preprocessor.
+    fn note_line(&mut self, at: Lexeme, says: &str, why: &str) -> Result<(), AllocError> {
         let span = first_line(self.text, at.span);
-        self.note(Lexeme { span, ..at }, LEFT_OUT, why)
+        self.note(Lexeme { span, ..at }, says, why)
     }
 
     /// Takes the name of an included file, whose constants are known.
     fn include(&mut self, at: Lexeme, name: &[u8]) -> Result<(), AllocError> {
+        self.refresh()?;
         match header_named(self.headers, name) {
             Some(header) => self.note_header(at.line, &header.text),
-            None => self.note_line(at, "the file is not there"),
+            None => self.note_line(at, LEFT_OUT, "the file is not there"),
         }
     }
 
@@ -381,10 +351,7 @@ impl<'a> ConfigurationWalk<'a> {
         match lexeme.kind {
             LexemeKind::Word => {
                 self.word = Some(lexeme);
-                self.depth = 0;
-                self.braces = 0;
-                self.is_uneven = false;
-                self.fields.clear();
+                self.statement.restart();
                 Ok(())
             }
             LexemeKind::Sign(b'}') => self.close_block(lexeme),
@@ -406,15 +373,14 @@ impl<'a> ConfigurationWalk<'a> {
             LexemeKind::Sign(b';') => self.end_statement(word),
             LexemeKind::Sign(b'{') => self.open_block(word),
             LexemeKind::Sign(b'(') => {
-                self.depth = 1;
-                self.from = place.saturating_add(1);
+                self.statement.open(place);
                 Ok(())
             }
             LexemeKind::Sign(b'}') => {
                 self.leave(word)?;
                 self.close_block(lexeme)
             }
-            LexemeKind::Word if !self.fields.is_empty() => {
+            LexemeKind::Word if !self.statement.fields.is_empty() => {
                 self.leave(word)?;
                 self.begin(lexeme)
             }
@@ -422,84 +388,37 @@ impl<'a> ConfigurationWalk<'a> {
         }
     }
 
-    /// Counts a brace of a statement.
-    fn count_brace(&mut self, kind: LexemeKind) {
-        match kind {
-            LexemeKind::Sign(b'{') => self.braces = self.braces.saturating_add(1),
-            LexemeKind::Sign(b'}') if self.braces == 0 => self.is_uneven = true,
-            LexemeKind::Sign(b'}') => self.braces = self.braces.saturating_sub(1),
-            _ => {}
-        }
-    }
-
-    /// Takes the lexeme at a place in the parentheses of a statement.
-    fn go_on(&mut self, word: Lexeme, place: usize, kind: LexemeKind) -> Result<(), AllocError> {
-        self.count_brace(kind);
-        match (kind, self.depth) {
-            (LexemeKind::Sign(b';'), _) => self.end_statement(word),
-            (LexemeKind::Sign(b'('), depth) => {
-                self.depth = depth.saturating_add(1);
-                Ok(())
-            }
-            (LexemeKind::Sign(b')'), 1) => {
-                self.depth = 0;
-                self.end_field(place)
-            }
-            (LexemeKind::Sign(b')'), depth) => {
-                self.depth = depth.saturating_sub(1);
-                Ok(())
-            }
-            (LexemeKind::Sign(b',' | b'{' | b'}'), 1) => self.end_field(place),
-            _ => Ok(()),
-        }
-    }
-
     /// Takes the lexeme at a place.
     fn take(&mut self, place: usize, lexeme: Lexeme) -> Result<(), AllocError> {
         match (lexeme.kind, self.word) {
-            (LexemeKind::Directive, _) => self.directive(lexeme),
+            (kind, _) if kind.is_directive() => self.directive(lexeme),
             (LexemeKind::DisabledDirective, _) => self.note_line(
                 lexeme,
+                LEFT_OUT,
                 "neither its condition nor anything before its `#else` or `#endif` is read",
             ),
             (LexemeKind::OpenComment, _) => self.note(lexeme, CHANGED, "no `*/` ends this comment"),
             (_, None) => self.begin(lexeme),
-            (_, Some(word)) if self.depth == 0 => self.go_outside(word, place, lexeme),
-            (kind, Some(word)) => self.go_on(word, place, kind),
+            (_, Some(word)) if self.statement.is_outside() => self.go_outside(word, place, lexeme),
+            (LexemeKind::Sign(b';'), Some(word)) => self.end_statement(word),
+            (kind, Some(_)) => self.statement.take(place, kind),
         }
-    }
-
-    /// What stands after the attributes of the objects, with the names of their bodies.
-    fn items(&self) -> Result<Vec<PlanItem>, AllocError> {
-        let mut items = Vec::new(self.alloc);
-        for block in &self.blocks {
-            for record in &block.records {
-                items.extend_from_slice(&record.rest)?;
-            }
-        }
-        Ok(items)
     }
 
     /// Whether a body that got `_` at the end of its name has the name of another one.
     pub fn has_taken(&self) -> Result<bool, AllocError> {
-        let items = self.items()?;
-        for item in &items {
-            if let PlanItem::Escaped(word) = *item
-                && is_taken(self.text, word, &items)
-            {
-                return Ok(true);
-            }
-        }
-        Ok(false)
+        self.placed.has_taken(self.text)
     }
 
     /// Goes over all lexemes again, and leaves out bodies whose names are words of this project.
     pub fn go_again(&mut self) -> Result<(), AllocError> {
         self.escapes = false;
         self.told_outside = false;
-        self.blocks.clear();
+        self.placed.blocks.clear();
         self.notes.clear();
         self.open.clear();
+        self.renewals.restart();
+        self.refresh()?;
         self.go()
     }
 

@@ -1,5 +1,5 @@
 -- The files of a system and its bodies for TOPPERS/FMP.
-use Rattle.std.specs.Prelude.{◌≡◌, ℕ, List, [], ◌∷◌, Option, Some, None, Result, Ok, Err}
+use Rattle.std.specs.Prelude.{◌≡◌, ℕ, List, [], ◌∷◌, map, Option, Some, None, Result, Ok, Err}
 use Rattle.fmp_base.specs.declared.names.Name.{Name}
 use Rattle.fmp_base.specs.declared.systems.MailboxConfig.{MailboxConfig}
 use Rattle.fmp_base.specs.Systems.{SystemTables}
@@ -9,6 +9,7 @@ use Rattle.fmp_lex.specs.Faults.{Spells}
 use Rattle.fmp_tasklang.specs.Grammar.{Bodies}
 use Rattle.fmp_tasklang.specs.Reading.{IsRead}
 use Rattle.fmp_tasklang.specs.Trees.{BodyTree}
+use Rattle.fmp_toppers.specs.declared.files.RefusedObjects.{RefusedObjects}
 use Rattle.fmp_toppers.specs.declared.files.ToppersFiles.{ToppersFiles}
 use Rattle.fmp_toppers.specs.declared.files.ToppersRefusal.{ToppersRefusal}
 use Rattle.fmp_toppers.specs.declared.files.ToppersRefusal.TheVariants as refusal
@@ -16,7 +17,7 @@ use Rattle.fmp_toppers.specs.declared.target.Target.{Target}
 use Rattle.fmp_toppers.specs.declared.target.Target.TheVariants as target
 use Rattle.fmp_toppers.specs.Configuration.{configuration_file}
 use Rattle.fmp_toppers.specs.Declarations.{bodies_file, header_file}
-use Rattle.fmp_toppers.specs.Names.{known_object}
+use Rattle.fmp_toppers.specs.Names.{known_names, known_object}
 
 -- the first object that the kernel has no equal for
 abbrev pub without_equal : Target → List MailboxConfig → Option ToppersRefusal
@@ -31,6 +32,15 @@ refused_first None second = second
 -- why there are no files for a configuration
 abbrev pub refusal_for : Target → SystemTables → Option ToppersRefusal
 refusal_for k s = refused_first (known_object s) (without_equal k s.mailboxes)
+
+-- the mailboxes that the kernel has no equal for
+abbrev pub mailboxes_without : Target → List MailboxConfig → List Name
+mailboxes_without target.Fmp1 ms = []
+mailboxes_without target.Fmp3 ms = map (λ m. m.name) ms
+
+-- all objects for which there are no files
+abbrev pub AreRefused : Target → SystemTables → RefusedObjects → Type 0
+AreRefused k s r = (r.names.items ≡ known_names s) × (r.mailboxes.items ≡ mailboxes_without k s.mailboxes)
 
 abbrev pub AreFiles : Target → SystemTables → List BodyTree → ToppersFiles → Type 0
 AreFiles k s bodies e =

@@ -1,6 +1,6 @@
 -- Names of objects that TOPPERS' headers have.
-use Rattle.std.specs.Prelude.{ℕ, List, [], ◌∷◌, map, Option, Some, None, Bool, true, false, ◌||◌, nat_eq}
-use Rattle.std.specs.List.{list_any, starts_with}
+use Rattle.std.specs.Prelude.{ℕ, List, [], ◌∷◌, ◌++◌, map, Option, Some, None, Bool, true, false, ◌||◌, nat_eq}
+use Rattle.std.specs.List.{filter, list_any, starts_with}
 use Rattle.std.specs.Str.{bytes_eq}
 use Rattle.fmp_base.specs.declared.names.Name.{Name}
 use Rattle.fmp_base.specs.Names.{name_text}
@@ -40,3 +40,24 @@ known_other s =
 -- the first object of which the headers have the name, kind by kind
 abbrev pub known_object : SystemTables → Option Name
 known_object s = first_of (known_configured s) (known_other s)
+
+-- those of some names that the headers have
+abbrev pub known : List Name → List Name
+known names = filter (λ name. is_known (name_text name)) names
+
+unfoldable pub known_names_configured : SystemTables → List Name
+known_names_configured s =
+    known (map (λ t. t.name) s.tasks)
+    ++ (known (map (λ t. t.name) s.semaphores)
+    ++ (known (map (λ t. t.name) s.flags)
+    ++ (known (map (λ t. t.name) s.data_queues) ++ known (map (λ t. t.name) s.mailboxes))))
+
+unfoldable pub known_names_other : SystemTables → List Name
+known_names_other s =
+    known (map (λ t. t.name) s.messages)
+    ++ (known (map (λ t. t.name) s.shared_words)
+    ++ (known (map (λ t. t.name) s.spin_locks) ++ known (map (λ t. t.name) s.cyclics)))
+
+-- the names of objects that the headers have, kind by kind
+abbrev pub known_names : SystemTables → List Name
+known_names s = known_names_configured s ++ known_names_other s

@@ -1,12 +1,12 @@
 //! The files of a system and its bodies for TOPPERS/FMP.
-ghost use Rattle.std.specs.Prelude.{◌≡◌, IfOk};
+ghost use Rattle.std.specs.Prelude.{◌≡◌, map, IfOk};
 ghost use Rattle.fmp_base.specs.Systems.{tables_of};
 ghost use Rattle.fmp_tasklang.specs.Views.{program_view};
 ghost use Rattle.fmp_toppers.specs.Files as spec;
 
 use crate::configuration::append_configuration;
 use crate::declarations::{append_bodies_file, append_header};
-use crate::names::known_object;
+use crate::names::{append_known_names, known_object};
 use crate::target::Target;
 use fmp_base::{MailboxConfig, Name, System};
 use fmp_lex::BuildFault;
@@ -33,6 +33,55 @@ pub enum ToppersRefusal {
     Mailbox(Name),
     /// The first fault of the text's syntax, B1 or B5, or out of memory.
     Fault(BuildFault),
+}
+
+/// The objects of a system that have no place in the files.
+#[derive(Drop)]
+pub struct RefusedObjects {
+    /// TOPPERS' headers have the names of these: they need others.
+    pub names: Vec<Name>,
+    /// The mailboxes, where the kernel has none.
+    pub mailboxes: Vec<Name>,
+}
+
+/// The names of mailboxes.
+fn mailbox_names(alloc: Global, mailboxes: &[MailboxConfig]) -> Result<Vec<Name>, AllocError>
+    ensures { IfOk result (λ names. names.items ≡ map (λ m. m.name) mailboxes.now) }
+{
+    let mut names = Vec::new(alloc);
+    for place in 0..mailboxes.len() {
+        names.push(mailboxes[place].name)?;
+    }
+    Ok(names)
+}
+
+/// The mailboxes that the kernel has no equal for.
+fn mailboxes_without(
+    alloc: Global,
+    target: Target,
+    mailboxes: &[MailboxConfig],
+) -> Result<Vec<Name>, AllocError>
+    ensures { IfOk result (λ names. names.items ≡ spec.mailboxes_without target mailboxes.now) }
+{
+    match target {
+        Target::Fmp1 => Ok(Vec::new(alloc)),
+        Target::Fmp3 => mailbox_names(alloc, mailboxes),
+    }
+}
+
+/// All objects of a system for which `export_toppers` gives no files; it tells of the first one. `AllocError` if memory
+/// runs out.
+pub fn refused_objects(
+    alloc: Global,
+    target: Target,
+    system: &System,
+) -> Result<RefusedObjects, AllocError>
+    ensures { IfOk result (spec.AreRefused target (tables_of system.now)) }
+{
+    let mut names = Vec::new(alloc);
+    append_known_names(system, &mut names)?;
+    let mailboxes = mailboxes_without(alloc, target, &system.mailboxes)?;
+    Ok(RefusedObjects { names, mailboxes })
 }
 
 /// The first object that the kernel has no equal for.

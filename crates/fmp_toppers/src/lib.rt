@@ -13,5 +13,5 @@ mod row;
 mod tables;
 mod target;
 
-pub use files::{ToppersFiles, ToppersRefusal, export_toppers};
+pub use files::{RefusedObjects, ToppersFiles, ToppersRefusal, export_toppers, refused_objects};
 pub use target::Target;

@@ -1,5 +1,5 @@
 //! Names of objects that TOPPERS' headers have.
-ghost use Rattle.std.specs.Prelude.{◌≡◌, map, nat_eq};
+ghost use Rattle.std.specs.Prelude.{◌≡◌, ◌++◌, map, nat_eq, OnOk};
 ghost use Rattle.std.specs.List.{list_any, starts_with};
 ghost use Rattle.fmp_base.specs.Systems.{tables_of};
 ghost use Rattle.fmp_toppers.specs.Names as spec;
@@ -7,6 +7,7 @@ ghost use Rattle.fmp_toppers.specs.Names as spec;
 use fmp_base::{Name, System};
 use fmp_export::is_among;
 use fmp_scopes::HasName;
+use std::alloc::AllocError;
 
 /// Types, macros and functions of the headers: the configurator makes each object a macro, so that it cannot have such
 /// a name.
@@ -181,4 +182,48 @@ pub fn known_object(system: &System) -> Option<Name>
     ensures { result ≡ spec.known_object (tables_of system.now) }
 {
     first_of(known_configured(system), known_other(system))
+}
+
+/// Appends those of these names that the headers have.
+fn append_known<T: HasName>(rows: &[T], out: &mut Vec<Name>) -> Result<(), AllocError>
+    ensures { OnOk result (out.new.items ≡ out.old.items ++ spec.known (map T.name_of rows.now)) }
+{
+    for place in 0..rows.len() {
+        let name = rows[place].name();
+        if is_known(name.as_bytes()) {
+            out.push(*name)?;
+        }
+    }
+    Ok(())
+}
+
+/// Appends the names that the headers have of the objects that the configurator knows.
+#[tactic(auto, unfolding(crate::specs::Names::known_names_configured))]
+fn append_known_configured(system: &System, out: &mut Vec<Name>) -> Result<(), AllocError>
+    ensures { OnOk result (out.new.items ≡ out.old.items ++ spec.known_names_configured (tables_of system.now)) }
+{
+    append_known(&system.tasks, out)?;
+    append_known(&system.semaphores, out)?;
+    append_known(&system.flags, out)?;
+    append_known(&system.data_queues, out)?;
+    append_known(&system.mailboxes, out)
+}
+
+/// Appends the names that the headers have of the other objects.
+#[tactic(auto, unfolding(crate::specs::Names::known_names_other))]
+fn append_known_other(system: &System, out: &mut Vec<Name>) -> Result<(), AllocError>
+    ensures { OnOk result (out.new.items ≡ out.old.items ++ spec.known_names_other (tables_of system.now)) }
+{
+    append_known(&system.messages, out)?;
+    append_known(&system.shared_words, out)?;
+    append_known(&system.spin_locks, out)?;
+    append_known(&system.cyclics, out)
+}
+
+/// Appends the names of objects that the headers have.
+pub fn append_known_names(system: &System, out: &mut Vec<Name>) -> Result<(), AllocError>
+    ensures { OnOk result (out.new.items ≡ out.old.items ++ spec.known_names (tables_of system.now)) }
+{
+    append_known_configured(system, out)?;
+    append_known_other(system, out)
 }
