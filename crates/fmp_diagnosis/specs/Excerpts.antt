@@ -60,10 +60,14 @@ blank b = if b == 9 then 9 else 32
 abbrev pub blanks : List ℕ → List ℕ
 blanks bytes = map blank (filter begins_character bytes)
 
--- what stands under the line from i on: a `^` under each byte from `at` up to `end` that is shown, or one
+-- a `^` for each character that begins in these bytes, or one
+abbrev pub carets : List ℕ → List ℕ
+carets bytes = replicate (max 1 (length (filter begins_character bytes))) 94
+
+-- what stands under the line from i on: a `^` under each character from `at` up to `end` that is shown, or one
 abbrev pub marks : List ℕ → ℕ → ℕ → ℕ → ℕ → ℕ → List ℕ
 marks text begin i j at end =
-    blanks (dots (nat_lt begin i)) ++ blanks (slice_range text i at) ++ replicate (max 1 (min end j - at)) 94
+    blanks (dots (nat_lt begin i)) ++ blanks (slice_range text i at) ++ carets (slice_range text at (min end j))
 
 -- The line of the place `at`, with marks under the token that stands there up to `end`. Its column is counted in bytes.
 pub record IsExcerpt (text : List ℕ) (at end : ℕ) (e : Excerpt) : Type 0 where

@@ -1,6 +1,7 @@
 //! The line of a text that holds a place, with marks under the token there.
 ghost use Rattle.std.specs.Prelude.{◌≡◌, ℕ, ◌+◌, ◌-◌, ◌^◌, ◌<◌, ◌≤◌, ◌==◌, ◌++◌, nat_lt, true, false, IfOk, OnOk};
 ghost use Rattle.std.specs.Prelude.{flat_map, length, max, min, replicate, slice_index, slice_range};
+ghost use Rattle.std.specs.List.{filter};
 ghost use Rattle.fmp_diagnosis.specs.Excerpts as spec;
 ghost use Rattle.fmp_diagnosis.specs.Excerpts.{IsExcerpt, IsLine};
 
@@ -14,7 +15,7 @@ pub struct Excerpt {
     /// The line without its end; of a line of more than 100 bytes a part, with `...` where something is left out. In
     /// place of a control byte other than a tab stands its picture, a character from U+2400 on.
     pub line: Vec<u8>,
-    /// What stands under the line: `^` under each byte of the token, or one if it has none.
+    /// What stands under the line, a column for each character: `^` under each one of the token, or one if it has none.
     pub marks: Vec<u8>,
 }
 
@@ -198,6 +199,21 @@ fn shown(
     Ok(line)
 }
 
+/// How many characters begin in these bytes.
+fn characters(bytes: &[u8]) -> usize
+    ensures { result ≡ length (filter spec.begins_character bytes.now) }
+{
+    bytes.iter().filter(|byte| begins_character(**byte)).count()
+}
+
+/// The bytes of a text from one place up to another one, none if that stands before it.
+fn bytes_between(text: &[u8], from: usize, to: usize) -> &[u8]
+    requires { to ≤ length text.now }
+    ensures { result.now ≡ slice_range text.now from to }
+{
+    if from < to { &text[from..to] } else { &[] }
+}
+
 /// What stands under the line that is shown from `from` up to `to`, for the token from `at` up to `end`.
 fn marks(
     alloc: Global,
@@ -210,6 +226,7 @@ fn marks(
 ) -> Result<Vec<u8>, AllocError>
     requires from { from ≤ at }
     requires at { at ≤ length text.now }
+    requires to { to ≤ length text.now }
     ensures { IfOk result (λ v. v.items ≡ spec.marks text.now begin from to at end) }
 {
     let mut line = Vec::new(alloc);
@@ -217,7 +234,8 @@ fn marks(
         append_blanks(b"...", &mut line)?;
     }
     append_blanks(&text[from..at], &mut line)?;
-    append_carets(end.min(to).saturating_sub(at).max(1), &mut line)?;
+    let token = bytes_between(text, at, end.min(to));
+    append_carets(characters(token).max(1), &mut line)?;
     Ok(line)
 }
 

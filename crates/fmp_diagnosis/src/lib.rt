@@ -1,5 +1,5 @@
 //! What is said of a fault of a text: its line with marks under the token, a sentence, and the nearest known name; and
-//! what each code that the programs print means.
+//! the meaning of each code that the programs print.
 #![tactic(auto)]
 
 pub mod apis;

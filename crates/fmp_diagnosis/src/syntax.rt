@@ -32,6 +32,8 @@ fn first_of(bytes: &[u8]) -> u8 {
 fn why_no_number(number: &[u8]) -> &'static str {
     if number.starts_with(b"0x") || number.starts_with(b"0X") {
         "; a hexadecimal number is `0x` and its digits"
+    } else if number.starts_with(b"0b") || number.starts_with(b"0B") {
+        "; there are no binary numbers; a hexadecimal one is `0x` and its digits"
     } else if number.starts_with(b"0") {
         "; a decimal number does not begin with 0, and there are no octal numbers"
     } else {
@@ -220,7 +222,9 @@ fn remark(around: &Around<'_>) -> Option<&'static str>
         }
         (TokenKind::Symbol(Symbol::Less), Some(TokenKind::Symbol(Symbol::Less)))
         | (TokenKind::Symbol(Symbol::Greater), Some(TokenKind::Symbol(Symbol::Greater))) => {
-            Some("there are no shifts; `x * 2` stands for `x << 1`, and `x / 2` for `x >> 1`")
+            Some(
+                "there are no shifts; `x * 2` stands for `x << 1`, and `x / 2` for `x >> 1` if `x` is not negative",
+            )
         }
         _ => None,
     }

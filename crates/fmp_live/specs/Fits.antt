@@ -1,5 +1,5 @@
 -- Events that fit where out places count as written by every reply: those whose replies write them. E_OK does. Where
--- another code is told, its caller must not stand behind a call with an out place in the world that the event leaves.
+-- another code is told, its caller must not stand after a call with an out place in the world that the event leaves.
 use Rattle.std.specs.Prelude.{ℕ, ◌≡◌, Bool, true, false, not, ◌&&◌, ◌||◌, Option, Some, None, List, slice_get}
 use Rattle.std.specs.List.{list_all}
 use Rattle.fmp_base.specs.declared.bodies.HandlerContext.{HandlerContext}
@@ -37,7 +37,7 @@ abbrev pub held_behind_out : List BodyTables → (body : ℕ) → Held MachineCo
 held_behind_out bodies body (Goes c) = is_behind_out bodies body c.pc
 held_behind_out bodies body (Awaits c) = is_behind_out bodies body c.pc
 
--- a body of which this is kept, if anything is, stands behind no such call
+-- a body of which this is kept, if anything is, stands after no such call
 abbrev pub is_clear : List BodyTables → (body : ℕ) → Option (Held MachineContext) → Bool
 is_clear bodies body None = true
 is_clear bodies body (Some held) = not (held_behind_out bodies body held)
@@ -46,7 +46,7 @@ abbrev pub is_clear_of : List BodyTables → Option TaskConfig → Option (Held 
 is_clear_of bodies None held = false
 is_clear_of bodies (Some config) held = is_clear bodies (body_of config.entry) held
 
--- task t is started, and stands behind no such call
+-- task t is started, and stands after no such call
 abbrev pub is_task_clear : SystemTables → List BodyTables → World MachineContext → (t : ℕ) → Bool
 is_task_clear sys bodies w t =
     not (is_dormant (task_at w.state.tasks t).phase)
@@ -69,7 +69,7 @@ abbrev pub is_reply_ok : Option Reply → Bool
 is_reply_ok None = true
 is_reply_ok (Some reply) = is_e_ok reply.code
 
--- a line tells E_OK, or its caller stands behind no call with an out place
+-- a line tells E_OK, or its caller stands after no call with an out place
 unfoldable pub is_written : SystemTables → List BodyTables → World MachineContext → Line → Bool
 is_written sys bodies w (line.Call p who made reply) = is_reply_ok reply || is_caller_clear sys bodies w p who
 is_written sys bodies w (line.Gets p t reply) = is_e_ok reply.code || is_task_clear sys bodies w t

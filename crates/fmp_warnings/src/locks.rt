@@ -1,78 +1,35 @@
 //! Warnings of calls that are refused where a task has taken a spin lock, locked the CPU or disabled dispatching, and
 //! of tasks that end with a lock.
-ghost use Rattle.std.specs.Prelude.{OnOk};
-ghost use Rattle.fmp_diagnosis.specs.Words.{IsSaid};
-
 use crate::contexts::BodyKind;
 use crate::found::FoundWarnings;
+use crate::holds::{Flaw, Held, Hold, say_held};
 use crate::landmarks::Landmarks;
 use crate::objects::NamedObjects;
-use crate::ways::{Ways, gives_back, jumps};
-use fmp_base::{Permission, Service};
+use crate::sections::{Guard, guard_at, is_in_sections};
+use crate::walk::{Lone, lone_argument};
+use crate::ways::{Ways, gives_back, gives_back_in_block, jumps};
+use fmp_base::Service;
 use fmp_diagnosis::apis::is_symbol;
-use fmp_diagnosis::around::{line_of, name_at};
-use fmp_diagnosis::words::{Word, say};
-use fmp_lex::{Api, Keyword, Symbol, TextFile, TokenKind, Tokens};
+use fmp_diagnosis::around::line_of;
+use fmp_lex::{Constant, Keyword, Symbol, TextFile, TokenKind, Tokens};
 use std::alloc::{AllocError, Global};
 
-/// What a task holds.
-#[derive(Clone, Copy, PartialEq, Eq)]
-enum Hold {
-    SpinLock,
-    Cpu,
-    Dispatching,
-}
-
-impl Hold {
-    /// Whether a call of a task is E_CTX while this is held.
-    fn bars(self, service: Service) -> bool {
-        match (self, service.permission()) {
-            (_, Permission::WaitingTasks) => true,
-            (Hold::SpinLock | Hold::Cpu, permission) => matches!(
-                permission,
-                Permission::Tasks | Permission::TasksOnOthers
-            ),
-            _ => false,
-        }
-    }
-
-    /// What is said of it before the line of the call that took it, and after that.
-    fn words(self) -> (&'static str, &'static str) {
-        match self {
-            Hold::SpinLock => ("the spin lock that line ", " takes is held"),
-            Hold::Cpu => ("the CPU is locked by line ", ""),
-            Hold::Dispatching => ("dispatching is disabled by line ", ""),
-        }
-    }
-}
-
-/// What is wrong where something is held.
-#[derive(Clone, Copy, PartialEq, Eq)]
-enum Flaw {
-    /// This call is E_CTX.
-    Barred(Service),
-    /// The task ends, and has not given it back.
-    Kept,
-    /// The task ends, and an `if` before takes it, or gives it back, on some of its ways alone.
-    MayBeKept,
-}
-
-/// What is held at a token: since the call at a place, in as many blocks as are open there.
+/// A token that a walk comes to.
 #[derive(Clone, Copy)]
-struct Held {
-    hold: Hold,
-    at: usize,
-    depth: usize,
-    /// Whether a loop stands after the call that may be left by no way but a jump.
-    is_looped: bool,
-}
-
-impl Held {
-    /// Whether a task that comes to its end with it has forgotten it: of a lock, if no loop may keep the task from its
-    /// end.
-    fn is_lost(self) -> bool {
-        !self.is_looped && self.hold != Hold::Dispatching
-    }
+struct Step {
+    /// Its index in the landmarks.
+    index: usize,
+    kind: TokenKind,
+    /// The token after it.
+    next: Option<TokenKind>,
+    /// Whether it is a call that would give something back, and gives back nothing for sure.
+    is_wrong: bool,
+    /// Whether it is a call on the task that makes it.
+    is_on_caller: bool,
+    /// Whether it begins a loop whose condition always holds.
+    is_unconditional: bool,
+    /// Whether it begins a loop in which something is given back.
+    gives_in_loop: bool,
 }
 
 /// An `if` that is open in the block in which something was taken.
@@ -88,6 +45,8 @@ struct OpenIf {
 struct HeldWalk {
     /// Whether the body is a task's: calls that take something are refused in a handler.
     in_task: bool,
+    /// The index of the body's first token in the landmarks.
+    body: usize,
     /// How many blocks are open.
     depth: usize,
     /// For each of the last 64 open blocks a bit, the lowest one for the innermost: whether an `if` or `else` has it.
@@ -105,6 +64,7 @@ impl HeldWalk {
     fn new() -> HeldWalk {
         HeldWalk {
             in_task: false,
+            body: 0,
             depth: 0,
             choices: 0,
             chooses: false,
@@ -131,25 +91,27 @@ impl HeldWalk {
         HeldWalk {
             depth,
             choices: self.choices / 2,
-            held,
+            held: held.map(|held| held.after_block(depth)),
             ..self
         }
     }
 
     /// The walk after a jump. Nothing reaches the rest of its block; what was taken outside the block is held after
-    /// it.
+    /// it, unless the only round in which it is held for sure may end here.
     fn behind_jump(self) -> HeldWalk {
         match self.held {
-            Some(held) if held.depth < self.depth => self,
+            Some(held) if held.depth < self.depth && !held.is_doubtful(self.depth) => self,
             _ => HeldWalk { held: None, ..self },
         }
     }
 
-    /// The walk after a token. A call that gives something back may give back anything.
-    fn behind(self, kind: TokenKind) -> HeldWalk {
+    /// The walk after a step. A call that gives something back may give back anything, unless it is wrong.
+    fn behind(self, step: Step) -> HeldWalk {
+        let kind = step.kind;
         match kind {
             TokenKind::Keyword(Keyword::Task | Keyword::Handler) => HeldWalk {
                 in_task: matches!(BodyKind::begun_by(kind), Some(BodyKind::Task)),
+                body: step.index,
                 ..HeldWalk::new()
             },
             TokenKind::Symbol(Symbol::LeftBrace) => self.in_block(),
@@ -158,7 +120,8 @@ impl HeldWalk {
                 chooses: true,
                 ..self
             },
-            _ if gives_back(kind) => HeldWalk { held: None, ..self },
+            TokenKind::Keyword(Keyword::While) => self.looping(step),
+            _ if gives_back(kind) && !step.is_wrong => HeldWalk { held: None, ..self },
             _ if jumps(kind) => self.behind_jump(),
             _ => self,
         }
@@ -265,6 +228,7 @@ impl HeldWalk {
 
     /// The walk after a call at a place that takes something. Of what is held the lock tells most.
     fn taking(self, at: usize, hold: Hold) -> HeldWalk {
+        let depth = self.depth;
         let is_more = match self.held {
             Some(held) => held.hold == Hold::Dispatching && hold != Hold::Dispatching,
             None => self.in_task,
@@ -272,52 +236,56 @@ impl HeldWalk {
         if !is_more {
             return self;
         }
-        let depth = self.depth;
         HeldWalk {
-            held: Some(Held {
-                hold,
-                at,
-                depth,
-                is_looped: false,
-            }),
+            held: Some(Held::new(hold, at, depth)),
             kept: None,
             ..self
         }
     }
 
-    /// The walk after the head of a loop whose condition always holds.
-    fn looping(self) -> HeldWalk {
-        match self.held {
-            Some(held) => HeldWalk {
-                held: Some(Held {
-                    is_looped: true,
-                    ..held
-                }),
-                ..self
-            },
-            None => self,
-        }
-    }
-
-    /// What is wrong with a token after the walk where this is held, if anything is.
-    fn flaw_with(self, held: Held, kind: TokenKind) -> Option<(Flaw, Held)> {
-        let flaw = match kind {
-            TokenKind::Service(service) if held.hold.bars(service) => Flaw::Barred(service),
-            TokenKind::Keyword(Keyword::Return) | TokenKind::Service(Service::ExtTsk) => Flaw::Kept,
-            _ if self.ends_body(kind) => Flaw::Kept,
-            _ => return None,
+    /// The walk after the head of a loop.
+    fn looping(self, step: Step) -> HeldWalk {
+        let Some(held) = self.held else {
+            return self;
         };
-        if flaw == Flaw::Kept && !held.is_lost() {
-            return None;
+        let this_loop = step.gives_in_loop.then_some(self.depth);
+        HeldWalk {
+            held: Some(Held {
+                is_looped: held.is_looped || step.is_unconditional,
+                first_round: held.first_round.or(this_loop),
+                ..held
+            }),
+            ..self
         }
-        Some((flaw, held))
     }
 
-    /// What is wrong with a token after the walk, if anything is.
-    fn flaw(self, kind: TokenKind) -> Option<(Flaw, Held)> {
+    /// What is wrong with a call where this is held, if anything is.
+    fn call_flaw(self, held: Held, step: Step, service: Service) -> Option<Flaw> {
+        match service {
+            Service::UnlSpn if step.is_wrong => Some(Flaw::Wrong(service)),
+            Service::UnlCpu if step.is_wrong => Some(Flaw::Barred(service)),
+            Service::ExtTsk if held.is_lost() => Some(Flaw::Kept),
+            _ if held.hold.bars(service, step.is_on_caller) => Some(Flaw::Barred(service)),
+            _ => None,
+        }
+    }
+
+    /// What is wrong with a step where this is held, if anything is.
+    fn flaw_with(self, held: Held, step: Step) -> Option<Flaw> {
+        match step.kind {
+            TokenKind::Service(service) => self.call_flaw(held, step, service),
+            TokenKind::Keyword(Keyword::Return) if held.is_lost() => Some(Flaw::Kept),
+            kind if self.ends_body(kind) && held.is_lost() => Some(Flaw::Kept),
+            _ => None,
+        }
+    }
+
+    /// What is wrong with a step after the walk, if anything is.
+    fn flaw(self, step: Step) -> Option<(Flaw, Held)> {
         match (self.held, self.kept) {
-            (Some(held), _) => self.flaw_with(held, kind),
-            (None, Some(kept)) if self.ends_body(kind) && kept.is_lost() => {
+            (Some(held), _) if held.is_doubtful(self.depth) => None,
+            (Some(held), _) => Some((self.flaw_with(held, step)?, held)),
+            (None, Some(kept)) if self.ends_body(step.kind) && kept.is_lost() => {
                 Some((Flaw::MayBeKept, kept))
             }
             _ => None,
@@ -341,86 +309,116 @@ fn is_unconditional(tokens: &Tokens<'_>, at: usize) -> bool {
         && is_symbol(tokens, at.saturating_add(3), Symbol::RightParen)
 }
 
-/// Whether the only argument of the call at a place is the name of a spin lock.
-fn names_lock(objects: &NamedObjects, tokens: &Tokens<'_>, at: usize) -> bool {
-    if !is_symbol(tokens, at.saturating_add(3), Symbol::RightParen) {
-        return false;
-    }
-    match name_at(tokens, at.saturating_add(2)) {
-        Some(name) => matches!(objects.api_of(name), Some(Api::CreSpn)),
-        None => false,
-    }
+/// Whether the first argument of the call at a place is the task that makes it.
+fn is_on_caller(tokens: &Tokens<'_>, at: usize) -> bool {
+    matches!(
+        lone_argument(tokens, at.saturating_add(2)),
+        Some(Lone::Number(0) | Lone::Constant(Constant::TskSelf))
+    )
 }
 
-/// What the call at a place takes, if its answer is not asked for.
-fn taken_at(objects: &NamedObjects, tokens: &Tokens<'_>, at: usize) -> Option<Hold> {
-    if is_symbol(tokens, at.saturating_sub(1), Symbol::Assign) {
-        return None;
-    }
-    match tokens.kind(at)? {
-        TokenKind::Service(Service::LocSpn) if names_lock(objects, tokens, at) => {
-            Some(Hold::SpinLock)
-        }
-        TokenKind::Service(Service::LocCpu) => Some(Hold::Cpu),
-        TokenKind::Service(Service::DisDsp) => Some(Hold::Dispatching),
-        _ => None,
-    }
+/// The bodies that are walked over: the tokens, the places at which the walk looks, and the objects.
+#[derive(Clone, Copy)]
+struct Bodies<'a> {
+    src: &'a Tokens<'a>,
+    places: &'a [usize],
+    objects: &'a NamedObjects,
 }
 
-/// Says what is wrong where something is held that a call in this line took.
-fn say_held(flaw: Flaw, hold: Hold, line: u32, out: &mut Vec<u8>) -> Result<(), AllocError>
-    ensures { OnOk result (IsSaid out.old.items out.new.items) }
-{
-    let (before, behind) = hold.words();
-    let before = Word::Text(before);
-    let line = Word::Number(i64::from(line));
-    let behind = Word::Text(behind);
-    match flaw {
-        Flaw::Barred(service) => {
-            let call = Word::Quoted(service.name());
-            let answers = Word::Text(" answers E_CTX here: ");
-            say(&[call, answers, before, line, behind], out)
+impl Bodies<'_> {
+    /// What the call at a place takes or gives back, if a call stands there and the text says it.
+    fn guard(self, at: usize) -> Option<Guard> {
+        match self.src.kind(at)? {
+            TokenKind::Service(service) => guard_at(self.objects, self.src, at, service),
+            _ => None,
         }
-        Flaw::Kept => {
-            let ends = Word::Text("the task ends here while ");
-            say(&[ends, before, line, behind], out)
+    }
+
+    /// What the call at a place takes, if its answer is not asked for.
+    fn taken(self, at: usize, kind: TokenKind) -> Option<Hold> {
+        if is_symbol(self.src, at.saturating_sub(1), Symbol::Assign) {
+            return None;
         }
-        Flaw::MayBeKept => {
-            let ends = Word::Text("the task may end here while ");
-            say(&[ends, before, line, behind], out)
+        match kind {
+            TokenKind::Service(Service::LocSpn) => self.guard(at).and(Some(Hold::SpinLock)),
+            TokenKind::Service(Service::LocCpu) => Some(Hold::Cpu),
+            TokenKind::Service(Service::DisDsp) => Some(Hold::Dispatching),
+            _ => None,
+        }
+    }
+
+    /// Whether the call at a place gives back nothing for sure after a walk: what is held is not what it gives back,
+    /// and that is held in other parts of the body alone.
+    fn is_wrong(self, walk: HeldWalk, at: usize, kind: TokenKind) -> bool {
+        let Some(held) = walk.held else {
+            return false;
+        };
+        let is_lock = held.hold != Hold::Dispatching;
+        match kind {
+            TokenKind::Service(Service::EnaDsp) => is_lock,
+            TokenKind::Service(Service::UnlSpn | Service::UnlCpu) if is_lock => {
+                self.is_elsewhere(walk, held, at)
+            }
+            _ => false,
+        }
+    }
+
+    /// Whether what the call at a place gives back is held in other parts of the body alone.
+    fn is_elsewhere(self, walk: HeldWalk, held: Held, at: usize) -> bool {
+        let (Some(taken), Some(given)) = (self.guard(held.at), self.guard(at)) else {
+            return false;
+        };
+        let body = self.places.get(walk.body..).unwrap_or(&[]);
+        !taken.is(given) && is_in_sections(self.objects, self.src, body, given)
+    }
+
+    /// The step of a walk to one of the places.
+    fn step(self, walk: HeldWalk, index: usize, at: usize, kind: TokenKind) -> Step {
+        let is_loop = kind == TokenKind::Keyword(Keyword::While) && walk.held.is_some();
+        let after = self.places.get(index.saturating_add(1)..).unwrap_or(&[]);
+        Step {
+            index,
+            kind,
+            next: self.src.kind(at.saturating_add(1)),
+            is_wrong: self.is_wrong(walk, at, kind),
+            is_on_caller: is_on_caller(self.src, at),
+            is_unconditional: is_loop && is_unconditional(self.src, at),
+            gives_in_loop: is_loop && gives_back_in_block(self.src, after),
         }
     }
 }
 
 /// Warns of the calls of a task text that are E_CTX since the same body has taken a spin lock, locked the CPU or
-/// disabled dispatching, and of the places where a task ends with one of the first two. That is certain: the call that
-/// does so stands before, in the same block or one around it, and none that ends it stands between. And of the end of a
-/// body to which a task may come with a lock, since an `if` takes it, or gives it back, on some of its ways alone, and
-/// nothing after that gives back, jumps or loops. Of an end that a loop may keep the task from nothing is said.
+/// disabled dispatching, of an `unl_spn` there that gives nothing back, and of the places where a task ends with one of
+/// the first two. That is certain, in a loop that may give it back for the first round: the call that does so stands
+/// before, in the same block or one around it, and none that ends it stands between. And of the end of a body to which
+/// a task may come with a lock, since an `if` takes it, or gives it back, on some of its ways alone, and nothing after
+/// that gives back, jumps or loops. Of an end that a loop may keep the task from nothing is said.
 pub fn warn_of_locks(
     alloc: Global,
     (src, landmarks): (&Tokens<'_>, &Landmarks),
     objects: &NamedObjects,
     found: &mut FoundWarnings<'_>,
 ) -> Result<(), AllocError> {
+    let bodies = Bodies {
+        src,
+        places: &landmarks.structure,
+        objects,
+    };
     let mut walk = HeldWalk::new();
-    for place in &landmarks.structure {
-        let at = *place;
+    for index in 0..landmarks.structure.len() {
+        let at = landmarks.structure[index];
         if let Some(kind) = src.kind(at) {
-            if let Some((flaw, held)) = walk.flaw(kind) {
+            let step = bodies.step(walk, index, at, kind);
+            if let Some((flaw, held)) = walk.flaw(step) {
                 let mut sentence = Vec::new(alloc);
                 let line = line_of(src, held.at).unwrap_or(1);
-                say_held(flaw, held.hold, line, &mut sentence)?;
+                say_held(flaw, held, line, &mut sentence)?;
                 found.warn(alloc, TextFile::Source, src, at, sentence)?;
             }
-            walk = walk
-                .through_ways(kind, src.kind(at.saturating_add(1)))
-                .behind(kind);
-            if let Some(hold) = taken_at(objects, src, at) {
+            walk = walk.through_ways(kind, step.next).behind(step);
+            if let Some(hold) = bodies.taken(at, kind) {
                 walk = walk.taking(at, hold);
-            }
-            if is_unconditional(src, at) {
-                walk = walk.looping();
             }
         }
     }

@@ -1,6 +1,6 @@
 //! The ways of an `if`: its blocks, and what happens without one. Does each of them give back what is held before it?
 use fmp_base::Service;
-use fmp_lex::{Keyword, TokenKind};
+use fmp_lex::{Keyword, Symbol, TokenKind, Tokens};
 
 /// Whether a token is a call that gives something back: it may give back anything.
 pub fn gives_back(kind: TokenKind) -> bool {
@@ -8,6 +8,21 @@ pub fn gives_back(kind: TokenKind) -> bool {
         kind,
         TokenKind::Service(Service::UnlSpn | Service::UnlCpu | Service::EnaDsp)
     )
+}
+
+/// Whether something is given back in the block that begins at the first brace of these places.
+pub fn gives_back_in_block(tokens: &Tokens<'_>, places: &[usize]) -> bool {
+    let mut depth: usize = 0;
+    for at in places {
+        match tokens.kind(*at) {
+            Some(TokenKind::Symbol(Symbol::LeftBrace)) => depth = depth.saturating_add(1),
+            Some(TokenKind::Symbol(Symbol::RightBrace)) if depth <= 1 => return false,
+            Some(TokenKind::Symbol(Symbol::RightBrace)) => depth = depth.saturating_sub(1),
+            Some(kind) if gives_back(kind) => return true,
+            _ => {}
+        }
+    }
+    false
 }
 
 /// Whether a token is a jump: nothing reaches the rest of its block.
@@ -26,9 +41,9 @@ pub struct Ways {
     is_given: bool,
     /// Whether a way that is over gives nothing back and comes to the end of the `if`.
     is_kept: bool,
-    /// Whether the way at hand gives something back.
+    /// Whether the present way gives something back.
     gives: bool,
-    /// Whether the way at hand may not come to the end of the `if`: by a jump, or since a loop may go on for ever.
+    /// Whether the present way may not come to the end of the `if`: by a jump, or since a loop may go on for ever.
     leaves: bool,
     /// Whether the `if` has a last `else`, so that one of its blocks is taken.
     has_last: bool,
