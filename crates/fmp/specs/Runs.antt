@@ -101,11 +101,11 @@ tells (command.Sim _ _ _) = false
 tells (command.Host _ _ _ _ _ tick_us interrupt) = is_some tick_us || is_some interrupt
 tells command.Stored = false
 
--- that is said, or nothing
+-- what came of a command is said if it tells that, and else nothing is said
 abbrev pub SaysWhatCame : Cmd → (before after : Option (List Deed)) → Type 0
 SaysWhatCame cmd before after = MatchBool (tells cmd) (Says before after) (after ≡ before)
 
--- how a run of a command ends, where standard output can or can not fail
+-- how a run of a command ends, given whether standard output can fail
 pub data EndsCommand (files : Files) (can_fail : Bool) (cmd : Cmd) (before after : Option (List Deed)) (status : ℕ)
     : Type 0 where
   -- it was carried out: its file is written, then is printed what there is to print, and then is said what came

@@ -72,7 +72,7 @@ pub fn read_inputs<O: Outside>(
     }
 }
 
-/// The same texts, borrowed.
+/// Texts, borrowed from those that own them.
 pub fn borrowed<'a>(alloc: Global, texts: &'a [Vec<u8>]) -> Result<Vec<&'a [u8]>, AllocError>
     ensures { IfOk result (λ inputs. map (λ s. s.now) inputs.items ≡ map (λ t. t.items) texts.now) }
 {

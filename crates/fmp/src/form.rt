@@ -7,17 +7,17 @@ use clap::builder::ValueParser;
 use clap::{Arg, Command};
 use std::alloc::{AllocError, Global};
 
-/// What the program is.
+/// The help on the program.
 const ABOUT: &str =
     "A multiprocessor real-time kernel of the uITRON family, with the compiler of its systems.
 With no command it builds and runs a small example that it holds.";
 
-/// What a steps text is.
+/// The help on STEPS.
 const STEPS: &str =
     "Text of the events, one a line: 'run 1' lets processor 1 run to its next service call,
 'tick' advances the clock, 'int 3' raises interrupt 3";
 
-/// What a journal is.
+/// The help on JOURNAL.
 const JOURNAL: &str = "File that the events are written to, as the text of 'fmp sim'";
 
 /// The largest bound, 2^48.
@@ -26,11 +26,11 @@ const BOUND_MAX: u64 = 281_474_976_710_656;
 /// The largest number of turns, and of ticks, 2^20.
 const COUNT_MAX: u64 = 1_048_576;
 
-/// What turns are.
+/// The help on `--turns`.
 const TURNS: &str = "How many turns each processor has, 0 to 2^20: in a turn it runs to its next
 service call, unless another event changes what runs there meanwhile";
 
-/// What ticks are.
+/// The help on `--ticks`.
 const TICKS: &str = "How many ticks the clock has, 0 to 2^20";
 
 /// The longest time from tick to tick, in microseconds.
@@ -39,21 +39,21 @@ const TICK_US_MAX: u64 = 1_000_000;
 /// The largest number of an interrupt.
 const INTERRUPT_MAX: u64 = 32;
 
-/// What the time from tick to tick is.
+/// The help on `--tick-us`.
 const TICK_US: &str = "Microseconds from tick to tick, 1 to 1000000: a processor with nothing to run
 waits, and standard error gets a summary; without it ticks come at once";
 
-/// What the interrupt is.
+/// The help on `--int`.
 const INTERRUPT: &str =
     "Interrupt that each line 'int I' of standard input raises, 1 to 32: waits and
 summary as with --tick-us, without which the run lasts to the end of the input";
 
-/// What a bound is.
+/// The help on `--bound`.
 const BOUND: &str = "How many instructions a body may take in a step, 1 to 2^48 in decimal
 digits; where its next service call is farther, its next step goes on
 from there";
 
-/// An example, and what the program's answers mean.
+/// The end of the help: an example, the statuses and the codes of faults.
 const EXAMPLE_AND_CODES: &str = "Example, on the files of the folder 'examples':
   fmp check examples/queue.cfg examples/queue.src
   fmp build examples/queue.cfg examples/queue.src queue.img

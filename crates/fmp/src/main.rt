@@ -2,9 +2,9 @@
 //! that it reads or by threads, and prints what happened.
 //!
 //! It ends with status 0 if it did what it was asked, 1 for a fault of what it read, 2 for a mistake in the command
-//! line, and 3 if a file could not be read or written or memory ran out. What it prints is printed after the file that
-//! it writes: the run of an image over steps while it goes on, once the image and the steps are judged, and all else at
-//! once, at the end.
+//! line, and 3 if a file could not be read or written or memory ran out. It prints after it has written its file. The
+//! run of an image over steps is printed while it goes on, once image and steps are judged; all else is printed at the
+//! end.
 #![tactic(auto)]
 
 mod asking;

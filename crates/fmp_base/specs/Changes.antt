@@ -56,7 +56,7 @@ abbrev pub ended_by : ℕ → SystemTables → Progress → ℕ → TaskBlock �
 ended_by zero sys g t y = record g { state = with_removed g.state t y }
 ended_by (suc n) sys g t y = started sys g t (record y { activations = n })
 
--- the task ends, and starts again where an activation is queued
+-- the task ends, and starts again if an activation is queued
 abbrev pub ended : SystemTables → Progress → ℕ → TaskBlock → Progress
 ended sys g t x = ended_by x.activations sys g t (ended_block sys t x)
 
@@ -69,7 +69,7 @@ with_nothing_run s p =
 abbrev pub ended_itself : SystemTables → KernelState → ℕ → ℕ → TaskBlock → Progress
 ended_itself sys s p t x = ended sys (unchanged (with_nothing_run s p)) t x
 
--- a waiting task waits on in its place, another leaves the order
+-- a waiting task goes on waiting in its place, another leaves the order
 abbrev pub suspended_by : Phase → KernelState → ℕ → TaskBlock → KernelState
 suspended_by Dormant s t y = with_removed s t y
 suspended_by Ready s t y = with_removed s t y

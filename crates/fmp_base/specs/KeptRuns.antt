@@ -71,7 +71,7 @@ module _ {C D : Type 0} (sys : SystemTables) (R S : ℕ → C → D → Type 0) 
             (λ o. f.text_over body t d o) (f.back body t n c d one le h);
       }
 
-  -- what the text completes within so few turns is done without a place being kept
+  -- what the text completes within few enough turns is done without a place being kept
   pub first_done : (es : List Event) (k t : ℕ) → (t + 1) * size ≤ n
       → IsComplete (complete_run sys M t (setup sys M).world (take k es))
       → take k (done_events sys N n (setup sys N).world es) ≡ take k es

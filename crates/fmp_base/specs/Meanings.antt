@@ -24,8 +24,8 @@ pub record Meaning (C : Type 0) : Type 0 where
   pub stretch : (body bound : ℕ) (context : C) → Ending C
   pub deliver : (body : ℕ) (context : C) (reply : Reply) → C
 
--- the contexts of the tasks' bodies, and of the handlers that run, by processor; what a dormant task or a processor
--- without a handler has is not looked at
+-- the contexts of the tasks' bodies, and of the handlers that run, by processor; what stands here for a dormant task,
+-- or for a processor without a handler, does not matter
 pub record Contexts (C : Type 0) : Type 0 where
   pub tasks : List (Option C)
   pub handlers : List (Option (HandlerContext C))

@@ -12,7 +12,7 @@ use Rattle.fmp_base.specs.declared.states.Processor.{Processor}
 use Rattle.fmp_base.specs.ProcessorCalls.{is_cpu_locked}
 use Rattle.fmp_base.specs.Services.{argument, arguments_of}
 
--- one clause for each service, so that none is called from anywhere before its clause stands here
+-- one clause for each service, so that a new service has no permission until it has a clause here
 abbrev pub permission : Service → Permission
 permission service.Put = Anywhere
 permission service.LdShr = Anywhere
@@ -84,8 +84,9 @@ is_caller me (negsuc n) = false
 abbrev pub is_on_caller : ℕ → Call → Bool
 is_on_caller me c = is_caller me (argument (arguments_of c) 0)
 
--- whether a call with this permission is refused to its caller, on the processor cpu: by a task what it may not do
--- while the CPU is locked, or while dispatching is disabled, and what is for handlers; by a handler what is for tasks
+-- whether a call with this permission is refused to its caller, on the processor cpu. A task is refused what it may not
+-- do while the CPU is locked or dispatching is disabled, and what is for handlers; a handler is refused what is for
+-- tasks
 abbrev pub is_barred : Permission → Processor → Caller → Call → Bool
 is_barred Anywhere cpu who c = false
 is_barred LockedTasks cpu (caller.Task me) c = false

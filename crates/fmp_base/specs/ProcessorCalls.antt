@@ -14,7 +14,7 @@ use Rattle.fmp_base.specs.Systems.{SystemTables, cyclic_config}
 abbrev pub with_due : KernelState → ℕ → Option ℕ → KernelState
 with_due s c due = record s { due_times = slice_set s.due_times c due }
 
--- the handler is due anew, one period and a tick from now
+-- the handler is due one period and a tick from now, also if it was started already
 abbrev pub sta_cyc : SystemTables → KernelState → ℤ → CallOutcome
 sta_cyc sys s c =
     tested s er.Id (numbered (length s.due_times) c)

@@ -263,7 +263,8 @@ action service.IpsndDtq = Some Gives
 action service.IfsndDtq = Some Gives
 action _ = None
 
--- the call that does the same from handlers, or from tasks, where a call is for the others
+-- the call that does the same from the other side: from handlers if a call is for tasks, from tasks if it is for
+-- handlers
 abbrev pub counterpart : Service → Option Service
 counterpart service.ActTsk = Some service.IactTsk
 counterpart service.WupTsk = Some service.IwupTsk

@@ -1,8 +1,8 @@
 -- The state in which a system starts: its static APIs have been carried out, in order, on a system without objects at
--- clock 0 (uITRON 4.0, section 3.12). Of all static APIs only CRE_TSK does more than make its object: with TA_ACT it
--- starts the task. A start looks at no other object, and no object is changed once it is made, so the APIs of one table
--- may be carried out before those of another: setup is defined over the tables, the tasks in order of number, which is
--- the order of the text.
+-- clock 0 (uITRON 4.0, section 3.12). Only one static API does more than make its object: CRE_TSK with TA_ACT starts
+-- the task. A start looks at no other object, and no object is changed once it is made, so the APIs of one table may be
+-- carried out before those of another: setup is defined over the tables, the tasks in order of number, which is the
+-- order of the text.
 use Rattle.std.specs.Prelude.{ℕ, ◌+◌, List, [], ◌∷◌, Option, Some, None, Bool, true, false, replicate, length, map}
 use Rattle.std.specs.Prelude.{if◌then◌else◌}
 use Rattle.fmp_base.specs.declared.bodies.Held.{Held}

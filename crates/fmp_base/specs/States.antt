@@ -25,7 +25,7 @@ use Rattle.fmp_base.specs.declared.states.Processor.{Processor}
 use Rattle.fmp_base.specs.declared.states.TaskBlock.{TaskBlock}
 use Rattle.fmp_base.specs.Systems.{found}
 
--- Tasks, processors and objects go by their places, from 0, in their tables.
+-- What the kernel keeps. Tasks, processors and objects go by their places, from 0, in their tables.
 pub record KernelState : Type 0 where
   pub tasks : List TaskBlock
   -- the tasks that are ready or waiting, in the one order of which every queue is a part
@@ -71,7 +71,7 @@ task_at tasks t =
     })
     (slice_get tasks t)
 
--- the clock when a time of n ticks that begins now has passed
+-- the clock when n ticks from now have passed
 abbrev pub clock_after : KernelState → ℕ → ℕ
 clock_after s ticks = s.clock + ticks + 1
 
@@ -105,7 +105,7 @@ with_last s t x = record s { tasks = slice_set s.tasks t x; order = to_end s.ord
 abbrev pub with_removed : KernelState → ℕ → TaskBlock → KernelState
 with_removed s t x = record s { tasks = slice_set s.tasks t x; order = without s.order t }
 
--- the numbers from k on, as many as the second says
+-- this many numbers, from k on
 abbrev pub places_from : ℕ → ℕ → List ℕ
 places_from k zero = []
 places_from k (suc n) = k ∷ places_from (k + 1) n

@@ -70,7 +70,7 @@ without_objects processors =
     }
 
 -- The number of the body of an entry. An entry is a name only until the bodies are known: in a system that runs, as in
--- every image, each is a number, so that what a name gives is never looked at.
+-- every image, each is a number, so what a name gives here does not matter.
 abbrev pub body_of : Entry → ℕ
 body_of (entry.Body b) = b
 body_of (entry.Named n) = 0

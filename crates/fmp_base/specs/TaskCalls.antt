@@ -25,7 +25,7 @@ is_dormant (Waiting c) = false
 abbrev pub self_or : KernelState → ℕ → ℤ → Option ℕ
 self_or s me t = named me (length s.tasks) t
 
--- another than by 0, or E_ID
+-- a task that is not named by 0, or E_ID
 abbrev pub by_number : KernelState → ℤ → Option ℕ
 by_number s t = numbered (length s.tasks) t
 
@@ -189,7 +189,7 @@ sus_tsk s me t =
     on_task s (self_or s me t) (λ u x. refused_if (is_dormant x.phase) s er.Obj
     (refused_if x.suspended s er.Qovr (succeeds_in (suspended s u x))))
 
--- a waiting task waits on in its place, another is ready, at the end
+-- a waiting task goes on waiting in its place, another is ready, at the end
 abbrev pub resumed_by : Phase → KernelState → ℕ → TaskBlock → KernelState
 resumed_by Dormant s t y = with_last s t y
 resumed_by Ready s t y = with_last s t y

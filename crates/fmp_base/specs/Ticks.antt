@@ -15,7 +15,7 @@ use Rattle.fmp_base.specs.ProcessorCalls.{with_due}
 use Rattle.fmp_base.specs.States.{KernelState, Progress, unchanged, task_at, places_from}
 use Rattle.fmp_base.specs.Systems.{SystemTables, cyclic_config, found}
 
--- a delay ends well, every other wait has run out of time
+-- E_OK for the end of a delay, E_TMOUT for that of every other wait
 abbrev pub cause_timeout : WaitCause → Er
 cause_timeout cause.Delay = er.Ok
 cause_timeout _ = er.Tmout
@@ -48,7 +48,7 @@ is_pending pending i = found false (slice_get pending i)
 abbrev pub with_cyclic_pending : KernelState → ℕ → KernelState
 with_cyclic_pending s c = record s { pending_cyclics = slice_set s.pending_cyclics c true }
 
--- a cyclic handler becomes pending; one that is pending already is merged with no line
+-- a cyclic handler becomes pending; if it is pending already, it stays so, with no line
 abbrev pub pended_by : Bool → SystemTables → Progress → ℕ → Progress
 pended_by true sys g c = g
 pended_by false sys g c =

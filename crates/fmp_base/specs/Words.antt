@@ -23,7 +23,7 @@ is_digit b = nat_le 48 b && nat_le b 57
 abbrev pub is_letter : ℕ → Bool
 is_letter b = (nat_le 65 b && nat_le b 90) || (nat_le 97 b && nat_le b 122) || (b == 95)
 
--- a byte of a name behind its first one
+-- a byte of a name after its first one
 abbrev pub is_word : ℕ → Bool
 is_word b = is_letter b || is_digit b
 

@@ -24,7 +24,7 @@ pub enum Stretch<C> {
     End(C),
     /// It stops with this fault.
     Fault(C, Fault),
-    /// It needs more than the bound, at which this context stands.
+    /// It needs more than the bound; this is the context at the bound.
     Over(C),
 }
 

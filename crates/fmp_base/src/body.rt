@@ -42,8 +42,8 @@ pub trait Body {
         ensures value { result ≡ (meaning self.now).deliver entry c r }
         ensures context { is_context self.now entry result };
 
-    /// A stretch of a body, of at most n units, that leaves its context in place of the one from which it began. Where
-    /// it is over its bound, the context at the bound stands there.
+    /// A stretch of a body, of at most n units, that leaves its context in place of the one from which it began. If it
+    /// is over its bound, it leaves the context at the bound.
     fn stretch_in_place(&self, entry: u8, n: u64, context: &mut Self::Ctx) -> StretchStop
         requires entry { has_entry self.now entry }
         requires context { is_context self.now entry context.old }

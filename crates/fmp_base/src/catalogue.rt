@@ -155,7 +155,7 @@ impl Service {
         PARAMETERS[self as usize]
     }
 
-    /// How many arguments the call passes to the kernel, 0 to 4: its parameters but the out place.
+    /// How many arguments the call passes to the kernel, 0 to 4: its parameters except the out place.
     #[inline(always)]
     pub fn arity(self) -> u8
         ensures { result ≡ arity_of self }
@@ -349,7 +349,8 @@ impl Service {
         }
     }
 
-    /// The call that does the same from handlers, or from tasks, where this one is for the others.
+    /// The call that does the same from the other side: from handlers if this one is for tasks, from tasks if it is for
+    /// handlers.
     pub fn counterpart(self) -> Option<Service>
         ensures { result ≡ counterpart_of self }
     {

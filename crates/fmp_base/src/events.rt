@@ -19,7 +19,7 @@ pub enum Event {
 pub enum Effect {
     /// It changed the state, and takes the next number of the trace.
     Done,
-    /// The bound was reached, and the context that stands there is kept. There is no line, and the trace goes on at the
+    /// The bound was reached, and the context at that point is kept. There is no line, and the trace goes on at the
     /// same number.
     Kept,
     /// The state is as it was, and there is no line.
@@ -88,7 +88,7 @@ pub enum StateWord {
     Ready,
     /// It waits.
     Waiting,
-    /// It could run, but for its suspension.
+    /// It could run if it were not suspended.
     Suspended,
     /// It waits, and is suspended.
     WaitingSuspended,
@@ -99,7 +99,7 @@ pub enum StateWord {
 /// What is shown of a task at the end.
 #[derive(Clone, Copy)]
 pub struct TaskState {
-    /// How far it is from running.
+    /// Its state.
     pub word: StateWord,
     /// The place of the assigned processor.
     pub processor: u8,

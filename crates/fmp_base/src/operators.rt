@@ -10,7 +10,7 @@ pub enum UnaryOperator {
     Complement,
 }
 
-/// A binary operator of the task language, but `&&` and `||`.
+/// A binary operator of the task language, except `&&` and `||`.
 #[derive(Clone, Copy)]
 pub enum BinaryOperator {
     /// `+`
@@ -29,7 +29,7 @@ pub enum BinaryOperator {
     Or,
     /// `^`, bit by bit.
     ExclusiveOr,
-    /// `==`: 1 if it holds, else 0, as the five below.
+    /// `==`: 1 if it holds, else 0; likewise the five below.
     Equal,
     /// `!=`
     NotEqual,

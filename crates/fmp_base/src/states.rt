@@ -1,5 +1,5 @@
 //! The records of the kernel's state: tasks, processors, waits and locks.
-/// How far a task is from running (uITRON 4.0, section 3.2.1), its suspension aside.
+/// The state of a task (uITRON 4.0, section 3.2.1), apart from suspension.
 #[derive(Clone, Copy)]
 pub enum Phase {
     /// Not started.
@@ -71,10 +71,10 @@ pub enum WaitQueue {
     Mailbox(u8),
 }
 
-/// The task control block, without what never changes and without the context of the body.
+/// The task control block, without what never changes and without the context of its body.
 #[derive(Clone, Copy)]
 pub struct TaskBlock {
-    /// How far it is from running, its suspension aside.
+    /// Its state, apart from suspension.
     pub phase: Phase,
     /// Whether it is suspended.
     pub suspended: bool,

@@ -12,6 +12,6 @@ pub enum StretchStop {
     End,
     /// It stops with this fault.
     Fault(Fault),
-    /// It needs more than the bound, at which the context that it leaves stands.
+    /// It needs more than the bound; the context that it leaves is the one at the bound.
     Over,
 }

@@ -92,7 +92,7 @@ pub struct MailboxConfig {
     pub order: QueueOrder,
     /// The order of its messages.
     pub message_order: QueueOrder,
-    /// The greatest priority number of a message, 1 to 16; it counts where messages queue by priority.
+    /// The greatest priority number of a message, 1 to 16; it matters only if messages queue by priority.
     pub most: u8,
 }
 

@@ -77,9 +77,10 @@ pub fn events_do_the_same<C>()
     ensures { (sys : SystemTables) (M : Meaning C) (n : ℕ) → KeepsAlike (Alike sys) (step sys M n) }
 {}
 
-/// No list of events, however long, leaves a closed list of worlds: a run that begins in a world like one of the list
-/// ends in a world like one of it, with the watch that it has there. A run from setup does, if the list has the world
-/// after setup. Where a rule says which events may come, so it is with each list of events that the rule allows.
+/// No list of events, however long, leads out of a closed list of worlds: a run that begins in a world like one of the
+/// list ends in a world like one of the list, with the watch that this one has. A run from setup does, if the list has
+/// the world after setup. Where a rule says which events may come, so it is with each list of events that the rule
+/// allows.
 pub fn closed_lists_keep<C, S>()
     ensures allowed { (sys : SystemTables) (M : Meaning C) (n : ℕ) (W : Watch S) (may : World C → S → Event → Bool)
         (seen : List (Seen C S)) →

@@ -259,7 +259,7 @@ impl<'a, S: Site> Board<'a, S> {
         desk.close_all(seats, room)
     }
 
-    /// What lay under the lock, and room for the events of its journal.
+    /// What was under the lock, and room for the events of its journal.
     fn into_parts(self) -> (Desk<'a, S>, Vec<Event>)
         ensures { (result.1.items ≡ []) × (S.row_id.capacity ≤ vec_capacity result.1) }
     {

@@ -24,6 +24,7 @@ impl<'a, S: Site> Desk<'a, S> {
     ghost use Rattle.fmp_board.specs.Outcomes.{Drew, IsDrawn, IsOutcome, IsTicket, Submitted, waiting};
     ghost use Rattle.fmp_board.specs.Visits.{Fed, Visited, journaled};
 
+    /// The desk of a book in whose journal each seat has counted its entries.
     pub fn new(book: Book<'a, S>) -> Desk<'a, S>
         requires { book.marks ≡ [] }
     {
@@ -57,7 +58,7 @@ impl<'a, S: Site> Desk<'a, S> {
         self.book.ticket(p)
     }
 
-    /// The same ticket in a workspace, if there is one.
+    /// Draws a ticket for the stretch that the actor of processor p makes next into a workspace, if it has one.
     #[tactic(auto, using(crate::proofs::Visiting::drawn_here))]
     pub fn draw(&mut self, seat: &mut Seat, p: u8, workspace: &mut Workspace) -> bool
         requires { IsAt S.row_id seat.old }

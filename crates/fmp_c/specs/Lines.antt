@@ -14,7 +14,7 @@ use Rattle.fmp_base.specs.Services.{arguments_of, service_number, service_of}
 use Rattle.fmp_c.specs.Records.{kind_of, number_of, value_or_0}
 use Rattle.fmp_c.specs.declared.lines.FmpLine.{FmpLine}
 
--- a line of this kind that says no more
+-- a line of this kind with nothing else
 abbrev pub plain : ℕ → FmpLine
 plain kind =
     record {

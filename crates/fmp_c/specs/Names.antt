@@ -117,6 +117,6 @@ abbrev pub name_bytes : Option Name → List ℕ
 name_bytes None = []
 name_bytes (Some name) = name_text name
 
--- the room after a text was put there: the text and what was behind it, if there is room for the text
+-- the room after a text was put there: the text and what was after it, if there is room for the text
 abbrev pub put : List ℕ → List ℕ → List ℕ
 put text room = if nat_le (length text) (length room) then (text ++ drop (length text) room) else room

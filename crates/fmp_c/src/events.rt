@@ -1,7 +1,7 @@
-//! The events that C hands in. Each takes no memory. Its answer is 0 where nothing has happened, 1 where it is done, 3
-//! after 2^31 events, 4 where the handle is blank, 5 to 9 where a number is out of range. Of a checked system it is 10
-//! where the text of the actor does another thing next, and 11 where that text is still within a stretch, in which it
-//! has gone on by one turn. Unless it is 1, nothing that C reads has changed.
+//! The events that C hands in. None takes memory. The answer is 0 if nothing has happened, 1 if the event is done, 3
+//! after 2^31 events, 4 if the handle is blank, and 5 to 9 if a number is out of range. In a checked system it is 10 if
+//! the text of the actor does another thing next, and 11 if that text is still within a stretch, in which it has gone
+//! on by one turn. Unless it is 1, nothing that C reads has changed.
 ghost use Rattle.std.specs.Prelude.{◌≡◌, ◌∷◌, [], IfSome, None, Ok, pos};
 ghost use Rattle.fmp_outside.specs.declared.given.Act.TheVariants as act;
 ghost use Rattle.fmp_outside.specs.declared.given.Given.TheVariants as given;
@@ -56,7 +56,7 @@ fn call_any(
     }
 }
 
-/// The same with this first argument, and 0 for any other: mostly a call that is one of those that are made most often.
+/// The same with this first argument, and 0 for any other: mostly one of the most frequent calls.
 #[inline(never)]
 fn call_often(
     alloc: Global,
@@ -84,7 +84,8 @@ fn call_often(
     }
 }
 
-/// Whether calls of the service of this function code are made most often. Such a service takes one argument at most.
+/// Whether the calls of the service of this function code are among the most frequent. Such a service takes one
+/// argument at most.
 #[inline(always)]
 fn is_frequent(service: u8) -> bool
     ensures { result ≡ spec.is_frequent service }

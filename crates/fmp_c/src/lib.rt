@@ -1,5 +1,5 @@
 //! The kernel for C programs: a system that C holds by a handle, with a call for each event and for what is read of it.
-//! Each function of C is a thin one over `fmp_foreign`, and states its clauses again.
+//! Each function for C is a thin one over `fmp_foreign`, and states its clauses again.
 #![tactic(auto)]
 
 mod events;

@@ -9,7 +9,7 @@ use fmp_base::{Arguments, Call, Caller, Fault, Handler, Line, Reply};
 #[repr(C)]
 #[derive(Clone, Copy)]
 pub struct FmpLine {
-    /// 0 there is no line, 1 tick, 2 int, 3 a call, 4 end, 5 a fault, 6 gets, 7 starts, 8 cyc, 9 begin, 10 who runs.
+    /// 0 no line, 1 tick, 2 int, 3 a call, 4 end, 5 a fault, 6 gets, 7 starts, 8 cyc, 9 begin, 10 `>`: who runs now.
     pub kind: u32,
     /// The number of the processor, from 1; 0 for `tick` and `int`.
     pub processor: u32,
@@ -36,7 +36,7 @@ pub struct FmpLine {
     pub d: i32,
 }
 
-/// A line of this kind that says no more.
+/// A line of this kind with nothing else.
 fn plain(kind: u32) -> FmpLine
     ensures { result ≡ spec.plain kind }
 {

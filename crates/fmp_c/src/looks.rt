@@ -23,7 +23,7 @@ const READ: u32 = 1;
 /// What is answered where the handle holds no system.
 const BLANK: u32 = 4;
 
-/// How much there is of a system.
+/// Counts of a system and of its events.
 #[repr(C)]
 #[derive(Clone, Copy)]
 pub struct FmpCounts {
@@ -31,7 +31,7 @@ pub struct FmpCounts {
     pub processors: u32,
     /// How many events were done: the number of the last one in the trace.
     pub done: u32,
-    /// How many events were taken, which is as many.
+    /// How many events were taken: as many as were done.
     pub taken: u32,
     /// How many lines the last event that was done has, or setup.
     pub lines: usize,

@@ -109,8 +109,8 @@ impl Machine {
         }
     }
 
-    /// The actor of the processor of this number makes this call, inline, so that nothing is left but what is done for
-    /// this call. None where something may stand in its way: then nothing has happened.
+    /// The actor of the processor of this number makes this call, inline, so that only what this call needs is done.
+    /// None if something may stand in its way: then nothing has happened.
     #[inline(always)]
     fn take_straight(&mut self, p: u8, call: Call, out: &mut FmpOutcome) -> Option<u32>
         ensures taken { IfSome result (λ number.
@@ -126,8 +126,8 @@ impl Machine {
     }
 
     /// The actor of the processor of this number makes the call of the service of this function code with this first
-    /// argument, and 0 for any other, where it is one of those that are made most often, and nothing stands in its way.
-    /// None of another one, or where something may stand in its way: then nothing has happened.
+    /// argument, and 0 for any other, if it is one of the most frequent calls, and nothing stands in its way. Otherwise
+    /// None, and nothing has happened.
     #[inline(always)]
     pub fn call_straight(&mut self, p: u8, service: u8, a: i32, out: &mut FmpOutcome) -> Option<u32>
         ensures taken { IfSome result (λ number.

@@ -97,8 +97,9 @@ fn made(alloc: Global, text: &[u8]) -> Result<Box<Machine, Global>, BuildFault>
     }
 }
 
-/// The system that a configuration describes, after setup, in a blank handle: 0. Else the handle stays blank: 1 where
-/// the text is refused, for this fault; 3 where memory runs out. 4 where the handle holds a system, which it keeps.
+/// Puts the system that a configuration describes, after setup, into a blank handle: the answer is 0. Else the handle
+/// stays blank: 1 if the text is refused, for this fault; 3 if memory runs out. 4 if the handle holds a system already,
+/// which it keeps.
 #[unsafe(no_mangle)]
 pub extern "C" fn fmp_new(
     alloc: Global,
@@ -235,10 +236,10 @@ fn load_into(
     }
 }
 
-/// The system of an image, after setup, in a blank handle, with the text that its bodies must follow: 0. A stretch of
-/// the text takes at most `bound` instructions in a turn, 1 to 2^48. Else the handle stays blank: 1 where the bytes
-/// spell no image, for this fault; 3 where memory runs out; 5 where the bound is out of range. 4 where the handle holds
-/// a system, which it keeps.
+/// Puts the system of an image, after setup, into a blank handle, with the text that its bodies must follow: the answer
+/// is 0. A stretch of the text takes at most `bound` instructions in a turn, 1 to 2^48. Else the handle stays blank: 1
+/// if the bytes spell no image, for this fault; 3 if memory runs out; 5 if the bound is out of range. 4 if the handle
+/// holds a system already, which it keeps.
 #[unsafe(no_mangle)]
 pub extern "C" fn fmp_new_checked(
     alloc: Global,
@@ -262,7 +263,7 @@ pub extern "C" fn fmp_new_checked(
     }
 }
 
-/// Gives all memory of a system back. The handle is blank then, also where it was before.
+/// Gives back all memory of a system. The handle is blank then, as it may have been before.
 #[unsafe(no_mangle)]
 pub extern "C" fn fmp_free(alloc: Global, h: &mut FmpSystem)
     ensures { h.new.machine ≡ None }

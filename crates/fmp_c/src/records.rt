@@ -209,7 +209,7 @@ pub fn changes(lines: &[Line]) -> u32
     }
 }
 
-/// The same of lines of which there is mostly one, or none.
+/// The same for a list that mostly has one line, or none.
 #[inline(always)]
 fn changes_of_few(lines: &[Line]) -> u32
     ensures { result ≡ spec.changes lines.now }

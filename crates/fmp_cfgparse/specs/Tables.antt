@@ -29,7 +29,7 @@ abbrev pub is_identifier : List ℕ → Bool
 is_identifier [] = false
 is_identifier (b ∷ bs) = is_letter b && list_all is_word bs
 
--- An object's name: its text is an identifier of at most 31 bytes and no word of the texts, and the bytes behind it are
+-- An object's name: its text is an identifier of at most 31 bytes and no word of the texts, and the bytes after it are
 -- 0.
 pub record IsObjectName (n : Name) : Type 0 where
   pub canonical : name_from (name_text n) ≡ n

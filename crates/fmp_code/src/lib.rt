@@ -1,5 +1,5 @@
-//! Stack code: the machine that runs it. Its instructions and the verifier stand in `fmp_instructions`, and are given
-//! out here too.
+//! Stack code: the machine that runs it. Its instructions and the verifier are in `fmp_instructions`, and exported here
+//! too.
 #![tactic(auto)]
 
 mod contexts;

@@ -202,12 +202,12 @@ pub fn compile_body(
 
 /// The code of the bodies of a text, which does what they do. These are the tokens of the text.
 ///
-/// Bodies are judged in order of text. A fault stands at its token of the task text: `Limit` for the 256th body at its
+/// Bodies are judged in order of text. A fault stands at its token of the task text. `Limit`: for the 256th body at its
 /// first word, for the 65th place of locals at the name of the variable that has it, for the length of an array that is
 /// not 1 to 63 at that number, and for more than 65535 instructions or 64 operands at the body's first word, after all
-/// of its names; `TwiceNamed` for a body with the name of another one, and for a variable with the name of another
-/// variable, of `exinf` or of an object; `UnknownName` for a name that is neither a variable nor an object, or is no
-/// variable where it is written; `Shape` for an array without an index, and for a variable or an object with one.
+/// of its names. `TwiceNamed`: for a body with the name of another one, and for a variable with the name of another
+/// variable, of `exinf` or of an object. `UnknownName`: for a name that is neither a variable nor an object, or that is
+/// no variable where it is written. `Shape`: for an array without an index, and for a variable or an object with one.
 pub fn compile(
     alloc: Global,
     tokens: &Tokens<'_>,

@@ -375,8 +375,8 @@ fn stretch_handler<B: Body>(
 }
 
 /// The caller on processor p, of which a context goes on, makes a stretch of at most n units of the body of its entry.
-/// What is kept of it then stands in place: with a call the context that awaits the reply, at the bound the one that
-/// goes on, and of a body that has ended nothing.
+/// This is kept of it then: after a call the context that awaits the reply, at the bound the one that goes on, and
+/// after its end nothing.
 #[tactic(auto, using(crate::proofs::HeldLemmas::inside_task, crate::proofs::HeldLemmas::inside_handler))]
 #[inline(always)]
 pub fn stretch<B: Body>(

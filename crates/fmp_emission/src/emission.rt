@@ -45,7 +45,7 @@ fn place_of_word(names: &Names<'_>, word: Option<&Word>) -> Option<u8>
     }
 }
 
-/// The code of the arguments of a call, one upon another.
+/// The code of the arguments of a call, one after another.
 fn emit_arguments(
     out: &mut Output,
     names: &Names<'_>,

@@ -1,4 +1,4 @@
-//! The stack code of the statements of a body, and of its expressions, whose order of evaluation is theirs.
+//! The stack code of the statements and expressions of a body, in their order of evaluation.
 #![tactic(auto)]
 
 mod emission;

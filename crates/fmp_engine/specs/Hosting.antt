@@ -116,7 +116,7 @@ pub record IsWhyNoHost (f : BoardFault) (image : List ℕ) (work : Workload) : T
   pub spelled : Spells loaded image
   pub why : IsWhyNoBoard f loaded work
 
--- Why a host writes and prints nothing: the first fault of the image, else the limit of a board, else what befell its
+-- Why a host writes and prints nothing: the first fault of the image, else the limit of a board, else what stopped its
 -- threads. Or memory ran out.
 abbrev pub IsWhyHost : HostFault → (image : List ℕ) → Workload → Type 0
 IsWhyHost (fault.Load (load.Image f)) image work = image_at image ≡ Err f

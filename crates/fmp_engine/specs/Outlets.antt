@@ -1,8 +1,8 @@
 -- What an outlet was given of a text, and what is left of it.
 use Rattle.std.proofs.Common.{ℕ, ◌≡◌, ◌++◌, ◌∙◌, List, [], ap, append_assoc, append-nil, sym}
 
--- Between two states of an outlet it was given the front of a text: behind that, this is left of the text. What it says
--- of an outlet that it was given some bytes is the first argument's.
+-- Between two states of an outlet it was given the front of a text, and this is left of the text. The first argument
+-- says what it means that an outlet was given some bytes.
 pub record Given {T : Type 0} (gave : T → T → List ℕ → Type 0) (from to : T) (left whole : List ℕ) : Type 0 where
   pub front : List ℕ
   pub is_given : gave from to front

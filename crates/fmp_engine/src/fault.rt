@@ -6,7 +6,7 @@ use thiserror::Error;
 /// Why a simulation prints nothing.
 #[derive(Clone, Copy, Debug, PartialEq, Eq, Error)]
 pub enum SimFault {
-    /// The bytes spell no image. It is never out of memory.
+    /// The bytes spell no image. This fault is never out of memory.
     #[error("{0}")]
     Load(LoadFault),
     /// A line of the steps is no event.
@@ -17,7 +17,7 @@ pub enum SimFault {
     Memory,
 }
 
-/// Why an outlet was not given all of a text.
+/// Why an outlet did not get all of a text.
 #[derive(Clone, Copy)]
 pub enum TextCut {
     /// Memory ran out before the first piece.
@@ -26,7 +26,7 @@ pub enum TextCut {
     Stopped,
 }
 
-/// Why an outlet was not given all that a simulation prints.
+/// Why an outlet did not get all that a simulation prints.
 #[derive(Clone, Copy)]
 pub enum SimCut {
     /// The simulation was refused, and the outlet was given nothing.

@@ -37,7 +37,7 @@ pub struct Workload {
     pub ticks: u32,
     /// The interrupt that may come, 1 to 32.
     pub interrupt: u8,
-    /// At most how many times it comes, at most 2^20.
+    /// How many times it comes at most, 0 to 2^20.
     pub interrupts: u32,
     /// How many instructions a stretch of a body may take, 1 to 2^48.
     pub bound: u64,
@@ -46,11 +46,11 @@ pub struct Workload {
 /// Why a host writes and prints nothing.
 #[derive(Clone, Copy, Debug, PartialEq, Eq, Error)]
 pub enum HostFault {
-    /// The bytes spell no image. It is never out of memory.
+    /// The bytes spell no image. This fault is never out of memory.
     #[error("{0}")]
     Load(LoadFault),
-    /// The turns, ticks and interrupts are no events or more than a board has room for, or a thread was refused. It is
-    /// never out of memory.
+    /// The turns, ticks and interrupts together are 0, or more than a board has room for; or a thread was refused. This
+    /// fault is never out of memory.
     #[error("host: {0}")]
     Board(BoardFault),
     /// Memory ran out.
@@ -158,7 +158,7 @@ fn events_of(alloc: Global, closed: &Closed<'_>) -> Result<Vec<Event>, AllocErro
     Ok(events)
 }
 
-/// The events of the journal of a closed board, which is given up.
+/// The events of the journal of a closed board, which is dropped.
 fn taken_events(alloc: Global, closed: Closed<'_>) -> Result<Vec<Event>, HostFault>
     ensures events { IfOk result (λ events. events.items ≡ closed.entry.events) }
     ensures memory { IfErr result (λ f. f ≡ host_fault.Memory) }

@@ -14,8 +14,8 @@ use Rattle.fmp_worlds.specs.Stamps.{Going, actor_at_number}
 use Rattle.fmp_foreign.specs.declared.shadow.Departure.{Departure}
 use Rattle.fmp_foreign.specs.declared.shadow.BodyVerdict.TheVariants as verdict
 
--- from the kernel old on the text does each of these, in order, in between only keeps its places, and so comes to the
--- kernel new
+-- from the kernel `old` on, the text does each of these, in order, and between them only keeps its places; so it comes
+-- to the kernel `new`
 pub record HasFollowed {B C : Type 0} (meaning : B → Meaning C) (old : KernelView B C) (gs : List Given)
     (new : KernelView B C) : Type 0 where
   pub events : List Event
@@ -49,7 +49,7 @@ abbrev pub IsOver : {C : Type 0} → Meaning C → (bound : ℕ) → Option (Goi
 IsOver M bound None = ⊥
 IsOver {C} M bound (Some g) = (c : C) × (M.stretch g.entry bound g.context ≡ ends.Over (Some c))
 
--- the actor of whom this comes is still within a stretch
+-- the actor from whom this comes is still within a stretch
 abbrev pub GoesOn : {B C : Type 0} → (B → Meaning C) → KernelView B C → Given → Type 0
 GoesOn meaning k (given.Act p a) = IsOver (meaning k.body) k.bound (actor_at_number k.system k.world p)
 GoesOn meaning k given.Tick = ⊥

@@ -79,9 +79,9 @@ impl HostedSystem {
         self.refused_number(given)
     }
 
-    /// What comes, while fewer than 2^31 events were taken. If it is done, its lines and the state after it stand in
-    /// the kernel. It does nothing where the processor has no actor, where the call spins for a lock that is held, and
-    /// where the interrupt has no handler or is pending. What is refused changes nothing.
+    /// Takes what comes, while fewer than 2^31 events were taken. If it is done, its lines and the state after it are
+    /// in the kernel. It does nothing if the processor has no actor, if the call spins for a lock that is held, and if
+    /// the interrupt has no handler or is pending. What is refused changes nothing.
     #[inline(always)]
     pub fn take(&mut self, given: Given) -> Result<Effect, Refusal>
         ensures answer { result ≡ answer self.old.kernel (Ok given) }

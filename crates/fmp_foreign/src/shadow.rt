@@ -1,4 +1,4 @@
-//! A kernel over the text of bodies that run elsewhere: it says of each thing that they do whether their text does it.
+//! A kernel over the text of bodies that run elsewhere: it says of each of their acts whether their text does it.
 ghost use Rattle.std.specs.Prelude.{◌≡◌, ◌≢◌, ◌+◌, ◌<◌, ◌≤◌, ◌^◌, ◌∷◌, [], IfErr, IfOk, MatchOption, None, Some};
 ghost use Rattle.std.specs.Prelude.{length, slice_get};
 ghost use Rattle.fmp_outside.specs.Outside.{IsOfText};
@@ -31,7 +31,7 @@ pub enum BodyVerdict {
 /// Where a journal departs from the text.
 #[derive(Clone, Copy, Debug, PartialEq, Eq)]
 pub struct Departure {
-    /// The place, from 0, of the first thing in the journal that the text does not follow.
+    /// The place, from 0, of the first entry of the journal that the text does not follow.
     pub at: usize,
     /// Why it does not; never `BodyVerdict::Follows`.
     pub why: BodyVerdict,
@@ -65,7 +65,7 @@ fn next_stretch<B: Body>(kernel: &Kernel<B>, p: u8) -> Option<Stretch<B::Ctx>>
     )
 }
 
-/// How the next stretch of the text stands to what comes: it ends so, or otherwise, or is over its bound.
+/// How the next stretch of the text compares with what comes: it ends in that way, or in another, or is over its bound.
 #[tactic(auto, using(crate::proofs::Judging::nobody_follows, crate::proofs::Judging::over_goes_on))]
 fn judge<B: Body>(kernel: &Kernel<B>, given: Given) -> BodyVerdict
     ensures follows { result ≡ BodyVerdict.Follows
@@ -137,7 +137,7 @@ fn given_at(journal: &[Given], at: usize) -> Given
     journal[at]
 }
 
-/// The whole of a journal, or the first thing in it that the text does not follow.
+/// Takes a whole journal, up to the first entry that the text does not follow.
 #[tactic(auto, using(crate::proofs::Journals::all_followed, crate::proofs::Following::nothing_yet))]
 fn replay_all<B: Body>(
     kernel: &mut Kernel<B>,
@@ -172,9 +172,9 @@ impl<B: Body> Shadow<B> {
         &self.kernel
     }
 
-    /// What comes, in at most `turns` turns of the text. It follows where the text does just this next, and its kernel
-    /// has then made the event. Else its kernel has only gone on within the stretch of the actor: up to where the text
-    /// does another thing, or for all of the turns, after which another call goes on.
+    /// Takes what comes, in at most `turns` turns of the text. The verdict is `Follows` if the text does just this
+    /// next, and its kernel has then made the event. Else its kernel has only gone on within the stretch of the actor:
+    /// up to where the text does another thing, or for all of the turns; then another call of `take` goes on.
     pub fn take(&mut self, given: Given, turns: u32) -> BodyVerdict
         ensures follows { result ≡ BodyVerdict.Follows → HasFollowed B.meaning self.old (given ∷ []) self.new }
         ensures stays { result ≢ BodyVerdict.Follows → HasFollowed B.meaning self.old [] self.new }
@@ -185,7 +185,7 @@ impl<B: Body> Shadow<B> {
         take_turns(&mut self.kernel, given, turns)
     }
 
-    /// The whole of a journal, each thing in it in at most `turns` turns of the text; or the first that the text does
+    /// Takes a whole journal, each entry in at most `turns` turns of the text, up to the first entry that the text does
     /// not follow.
     pub fn replay(&mut self, journal: &[Given], turns: u32) -> Result<(), Departure>
         ensures follows { IfOk result (λ _. HasFollowed B.meaning self.old journal.now self.new) }

@@ -29,7 +29,7 @@ is_interrupt (Run p) = false
 is_interrupt Tick = false
 is_interrupt (Int i) = true
 
--- Each event is of a load, and they are no more than it says: runs of each processor, ticks, and interrupts.
+-- Each event is one of a load, and there are at most as many as it says: runs of each processor, ticks, and interrupts.
 pub record AreCounted (load : Load) (events : List Event) : Type 0 where
   pub each : All (IsEventOf load) events
   pub few_runs : (p : ℕ) → length (filter (is_run p) events) ≤ load.turns

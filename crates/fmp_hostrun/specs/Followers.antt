@@ -44,8 +44,8 @@ followed_text i n es =
     let d = setup i.system (code_meaning i.code) in
     lines_text i.system 0 d.lines ++ events_text i.system 1 (run i.system (code_meaning i.code) n d.world es).events
 
--- What was appended is what the text over the events of after has behind the text over those of before: so what was
--- appended one time after the other is the text over all events.
+-- What was appended is what the text over the events `after` has beyond the text over the events `before`. So what was
+-- appended time after time is the text over all events.
 pub record Continues (i : ImageTables) (n : ℕ) (before after : List Event) (out out_after : List ℕ) : Type 0 where
   pub more : List ℕ
   pub appended : out_after ≡ out ++ more

@@ -31,7 +31,7 @@ abbrev pub IsCounted : SeatState → Type 0
 IsCounted s = length (own s.number s.seen) ≡ s.mine
 
 -- The effect on a seat of calls of a board that enter only this event, at most a given number of times: the seat has
--- counted those that were journaled, and has seen them behind the entries of its own that it had seen before. If it
+-- counted those that were journaled, and has seen them after the entries of its own that it had seen before. If it
 -- counted one, it has counted at most as many as a row has words.
 pub record Added (i : ImageTables) (n : ℕ) (row : RowId) (e : Event) (most : ℕ) (was now : SeatState) : Type 0 where
   pub kept : Kept i n row was now
@@ -93,7 +93,7 @@ DidTimes i n row e zero was now = now ≡ was
 DidTimes i n row e (suc times) was now =
     (mid : SeatState) × DidTimes i n row e times was mid × DidOnce i n row e mid now
 
--- its part: all turns, all ticks, or the interrupt at most that often
+-- a thread has done its part: all turns, all ticks, or the interrupt at most that often
 abbrev pub DidPart : ImageTables → (n : ℕ) → RowId → Event → (times : ℕ) → (was now : SeatState) → Type 0
 DidPart i n row (Run p) times was now = DidTimes i n row (Run p) times was now
 DidPart i n row Tick times was now = DidTimes i n row Tick times was now

@@ -1,6 +1,6 @@
 //! Threads that share a board: a worker for each processor, one for the ticks, and one for the interrupts; and a
-//! follower, which never waits, runs the journal on a kernel of its own, and prints it. The board itself stands in
-//! `fmp_board`, and is given out here too.
+//! follower, which never waits, runs the journal on a kernel of its own, and prints it. The board itself is in
+//! `fmp_board`, and exported here too.
 #![tactic(auto)]
 
 mod feed;

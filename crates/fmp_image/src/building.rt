@@ -1,4 +1,4 @@
-//! Two texts are read, compiled and put together to an image.
+//! Two texts are read, compiled and put together into an image.
 ghost use Rattle.std.specs.Prelude.{◌≡◌, ◌≤◌, List, length, IfOk, IfErr};
 ghost use Rattle.std.specs.List.{AllByRecursion};
 ghost use Rattle.fmp_base.specs.Systems.{tables_of};

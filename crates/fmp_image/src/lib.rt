@@ -1,5 +1,5 @@
-//! Images: built from the two texts of a system, stored as bytes and loaded. What images are, and their bytes, stand in
-//! `fmp_image_bytes`, and are given out here too.
+//! Images: built from the two texts of a system, stored as bytes and loaded. What images are, and their bytes, is in
+//! `fmp_image_bytes`, and exported here too.
 #![tactic(auto)]
 
 mod building;

@@ -30,7 +30,7 @@ pub struct SeenJournal {
     pub look: SeatLook,
 }
 
-/// The scribe has the pen, a seat has a sight. While a seat is shown the journal it has both.
+/// The scribe has the pen, and a seat has what it has seen. While a seat is shown the journal it has both.
 pub struct View {
     pub has_pen: bool,
     pub pen: Pen,

@@ -6,8 +6,8 @@ ghost use Rattle.fmp_base.specs.Steps.{actor_of};
 use fmp_base::{Caller, Processor};
 use fmp_tasks::KernelState;
 
-/// The actor of a processor: the number of its body, the context from which it goes on, and the stamp of the
-/// processor, which is another one after any event that may have changed the actor or its context.
+/// The actor of a processor: the number of its body, the context from which it goes on, and the stamp of the processor,
+/// which changes with any event that may have changed the actor or its context.
 #[derive(Clone, Copy)]
 pub struct Actor<C> {
     pub entry: u8,

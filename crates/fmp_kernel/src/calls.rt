@@ -1,5 +1,4 @@
-//! The service calls: the test of where a call is made from, then the case of the call. Each call of the uITRON 4.0
-//! standard profile and of the FMP kernel that this kernel has is one, from tasks and from handlers.
+//! The service calls: the test of where a call is made from, then the case of the call, from tasks and from handlers.
 ghost use Rattle.std.specs.Prelude.{◌≡◌, ◌<◌, ◌||◌, [], length, not, vec_capacity, false, true, IfNone, IfSome};
 ghost use Rattle.fmp_base.specs.declared.states.Handler.{Handler};
 ghost use Rattle.fmp_base.specs.Calls.{called, case_by, case_of};

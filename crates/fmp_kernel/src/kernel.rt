@@ -145,7 +145,7 @@ impl<B: Body> Kernel<B> {
         self.runner.tables()
     }
 
-    /// What is kept of the body of the task at place t, from 0, if there is one.
+    /// What is kept of the body of the task at place t, from 0, if there is such a task.
     pub fn held(&self, t: u8) -> Option<Held<B::Ctx>>
         ensures { result ≡ context_at self.now.world.contexts.tasks t }
     {

@@ -1,6 +1,5 @@
 //! The kernel over bodies that are given by a trait: one event is one step of its state. It takes every system in
-//! range, and carries out every service call of the uITRON 4.0 standard profile and of the FMP kernel that this kernel
-//! has, for tasks, for handlers, and for bodies that run elsewhere.
+//! range, and carries out all service calls, for tasks, for handlers, and for bodies that run elsewhere.
 #![tactic(auto)]
 
 pub mod actors;

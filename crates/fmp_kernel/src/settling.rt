@@ -24,15 +24,15 @@ pub fn is_same_task(a: Option<u8>, b: Option<u8>) -> bool
     }
 }
 
-/// Whether dispatch is held: by a running handler, by CPU lock, or while dispatching is disabled.
+/// Whether dispatching is held: by a running handler, by CPU lock, or because it is disabled.
 fn is_dispatch_held(cpu: &Processor) -> bool
     ensures { result ≡ holds_dispatch cpu.now }
 {
     cpu.handler.is_some() || is_cpu_locked(cpu) || cpu.dispatch_disabled
 }
 
-/// A processor on which no handler begins, and that runs another task than its most urgent ready one, runs that one
-/// now, or none, unless dispatch is held.
+/// A processor on which no handler begins, and that does not run its most urgent ready task, now runs that task, or
+/// none, unless dispatching is held.
 #[inline(never)]
 fn dispatch(tables: &mut KernelState, lines: &mut Vec<Line>, p: u8, run: Option<u8>)
     requires there { p < tables.old.system.processors }
@@ -55,8 +55,8 @@ fn dispatch(tables: &mut KernelState, lines: &mut Vec<Line>, p: u8, run: Option<
     }
 }
 
-/// A processor on which this is the first pending handler: it begins, where none runs and the CPU is not locked. Else
-/// dispatch is held too.
+/// A processor on which this is the first pending handler: it begins if none runs and the CPU is not locked. If it does
+/// not begin, dispatching is held too.
 #[inline(never)]
 fn begin_pending(tables: &mut KernelState, lines: &mut Vec<Line>, p: u8, handler: Handler)
     requires there { p < tables.old.system.processors }
@@ -87,8 +87,8 @@ fn begin_pending(tables: &mut KernelState, lines: &mut Vec<Line>, p: u8, handler
     });
 }
 
-/// A processor settles. Mostly no handler is pending on it, and it runs its most urgent ready task already: then no
-/// more is looked at, and it is not marked until that changes.
+/// A processor settles. Mostly no handler is pending on it, and it runs its most urgent ready task already: then
+/// nothing else is looked at, and it is not marked until that changes.
 #[tactic(auto, using(crate::proofs::SettleLemmas::settled_none, crate::proofs::SettleLemmas::settled_some))]
 #[inline(always)]
 fn settle_on(tables: &mut KernelState, lines: &mut Vec<Line>, p: u8)

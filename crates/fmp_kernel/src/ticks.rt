@@ -16,7 +16,7 @@ use fmp_tasks::KernelState;
 use fmp_tasks::answers::code;
 use fmp_tasks::tasks::release;
 
-/// A delay ends well, every other wait has run out of time.
+/// E_OK for the end of a delay, E_TMOUT for that of every other wait.
 fn timeout_code(phase: Phase) -> Er
     ensures { result ≡ code_at_timeout phase }
 {
@@ -58,7 +58,7 @@ fn time_out_all(tables: &mut KernelState, caused: &mut Vec<Line>)
     }
 }
 
-/// A cyclic handler becomes pending; one that is pending already stays one, with no line.
+/// A cyclic handler becomes pending; if it is pending already, it stays so, with no line.
 fn pend(tables: &mut KernelState, caused: &mut Vec<Line>, c: u8)
     requires there { c < length tables.old.system.cyclics }
     requires room { vec_len caused.old < vec_capacity caused.old }

@@ -31,7 +31,7 @@ abbrev pub fault_of : TextFile → TokenPosition → Option Token → GrammarFau
 fault_of file end (Some t) why = build.At file (position_of t) (token_fault t.kind why)
 fault_of file end None why = build.At file end fault.Syntax
 
--- the fault of what a tree has at a token; wherever a tree names a token there is one
+-- the fault of what a tree has at a token; wherever a tree names a token, there is one
 abbrev pub offence_fault : TextFile → Option Token → FaultKind → BuildFault
 offence_fault file token why = build.At file (position_or_start token) why
 

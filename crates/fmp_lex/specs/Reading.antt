@@ -18,7 +18,7 @@ abbrev pub kinds_of : List Token → List TokenKind
 kinds_of tokens = map kind_of tokens
 
 -- Which tokens of a list spell what: the list, the place from which on the depth is not limited, the place of the
--- first token, what they spell, and the place behind the last one.
+-- first token, what they spell, and the place after the last one.
 abbrev pub Rel : Type 0 → Type 1
 Rel A = List TokenKind → ℕ → ℕ → A → ℕ → Type 0
 
@@ -65,7 +65,7 @@ Item read ts limit i a j = IsItem read ts i a j
 abbrev pub Opening : TokenKind → ℕ → Rel (Unit {0})
 Opening t d ts limit i a j = Opens ts limit t d i j
 
--- what was read and the place behind it, or the place of the first fault
+-- what was read and the place after it, or the place of the first fault
 pub data ParseResult (A : Type 0) : Type 0 where
   found : A → ℕ → ParseResult A
   stopped : ℕ → GrammarFault → ParseResult A

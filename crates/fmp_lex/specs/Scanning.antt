@@ -38,7 +38,7 @@ pub record IsFirstClose (text : List ℕ) (i j : ℕ) : Type 0 where
   pub closes : Closes text j
   pub first : (k : ℕ) → i ≤ k → k < j → Closes text k → ⊥
 
--- no `*/` stands at i or behind it
+-- no `*/` stands at i or after it
 abbrev pub NeverCloses : List ℕ → ℕ → Type 0
 NeverCloses text i = (k : ℕ) → i ≤ k → Closes text k → ⊥
 
@@ -46,7 +46,7 @@ NeverCloses text i = (k : ℕ) → i ≤ k → Closes text k → ⊥
 abbrev pub digit_of : ℕ → ℕ
 digit_of b = if nat_le b 57 then b - 48 else (if nat_le b 70 then b - 55 else b - 87)
 
--- the value of digits in a base, behind digits of value n
+-- the value of digits in a base, after digits of value n
 abbrev pub value_from : ℕ → ℕ → List ℕ → ℕ
 value_from base n [] = n
 value_from base n (b ∷ bs) = value_from base (n * base + digit_of b) bs

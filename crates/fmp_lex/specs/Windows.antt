@@ -21,7 +21,7 @@ pub data CutsUpTo (text : List ℕ) (next : ℕ) : ℕ → List Token → Type 0
 abbrev pub IsFaultAt : List ℕ → ℕ → Type 0
 IsFaultAt text i = (f : LexFault) × IsPiece text i (Fault f)
 
--- a part of a text that is cut up to `stop` ends there or behind, or where no token begins
+-- a part of a text that is cut up to `stop` ends there or after, or where no token begins
 abbrev pub IsPartEnd : List ℕ → ℕ → ℕ → Option LexFault → Type 0
 IsPartEnd text stop i None = stop ≤ i
 IsPartEnd text stop i (Some f) = (i < length text) × IsPiece text i (Fault f)
@@ -30,14 +30,14 @@ IsPartEnd text stop i (Some f) = (i < length text) × IsPiece text i (Fault f)
 abbrev pub IsWindow : Window → Type 0
 IsWindow w = (length w.text.now ≤ text_max) × (w.next ≤ length w.text.now)
 
--- These are the text's tokens before the one at a place of the window. Behind them the text is cut into those of the
+-- These are the text's tokens before the one at a place of the window. After them the text is cut into those of the
 -- window from that place on.
 pub record Passed (w : Window) (before : List Token) (at : ℕ) : Type 0 where
   pub count : length before ≡ at
   pub within : at ≤ length w.tokens
   pub cut : (c : ℕ) × CutsUpTo w.text.now c 0 before × CutsUpTo w.text.now w.next c (drop at w.tokens)
 
--- An X was read at a place while the window moved: behind the tokens that were passed before, more were passed, and
+-- An X was read at a place while the window moved: after the tokens that were passed before, more were passed, and
 -- they spell it.
 abbrev pub Streams : {A : Type 0} → Rel A → (old new : Window) → ℕ → A → ℕ → Type 0
 Streams X old new i a j =

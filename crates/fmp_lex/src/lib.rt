@@ -1,5 +1,4 @@
-//! The tokens of both texts, the configuration and the task bodies. The definition of how a text is cut
-//! stands in `specs/`.
+//! The tokens of both texts, the configuration and the task bodies. How a text is cut is defined in `specs/`.
 #![tactic(auto)]
 
 mod cutting;

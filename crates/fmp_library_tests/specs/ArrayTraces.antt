@@ -25,7 +25,7 @@ storing last =
     []) ∷
     []
 
--- a store behind the last place of an array is a fault
+-- a store after the last place of an array is a fault
 abbrev pub IndexOutOfRange : Type 0
 IndexOutOfRange =
     printed one_task (storing (whole 1)) usual_bound (Run 1 ∷ Run 1 ∷ []) ≡

@@ -66,7 +66,7 @@ SemaphoreByPriority =
     "12 p1 > M" ∷
     [])
 
--- a task whose priority is set anew, also to what it is, goes behind its equals in a queue by priority
+-- a task whose priority is set, even to what it is already, goes behind its equals in a queue by priority
 abbrev pub PriorityChangeGoesLast : Type 0
 PriorityChangeGoesLast =
     printed_from 7 main_and_three waiters_and_changing_main usual_bound (replicate 8 (Run 1)) ≡

@@ -1,7 +1,6 @@
 //! The programs of docs/LIBRARY.md: a system that is built and run step by step, bodies of your own, and a board of
-//! threads; and in `worked_traces` small systems with the very bytes that they print, proved from what the definitions
-//! mean. Beside them stand the tests of gates, of what a board shows beside its contract, and of files whose calls
-//! fail.
+//! threads; and in `worked_traces` small systems with the exact bytes that they print, proved from the definitions.
+//! There are also tests of gates, of what a board shows beyond its contract, and of files whose calls fail.
 #![tactic(auto)]
 
 #[cfg(test)]

@@ -1,4 +1,4 @@
-//! Worked examples: small systems, written as tables and syntax trees, and the very bytes that they print over a few
+//! Worked examples: small systems, written as tables and syntax trees, and the exact bytes that they print over a few
 //! events. Each is proved by computing what the definitions mean.
 ghost use Rattle.fmp_library_tests.specs.AcrossTraces.{CallsAcrossProcessors, WokenBehindASpinLock};
 ghost use Rattle.fmp_library_tests.specs.ArrayTraces.{IndexOutOfRange, ValueFaultsFirst};
@@ -45,7 +45,7 @@ pub fn semaphore_by_priority()
     ensures { SemaphoreByPriority }
 {}
 
-/// A waiting task whose priority is set anew, also to what it is, goes behind its equals.
+/// A waiting task whose priority is set, even to what it is already, goes behind its equals.
 pub fn priority_change_goes_last()
     ensures { PriorityChangeGoesLast }
 {}

@@ -1,9 +1,9 @@
 //! The service calls that manage tasks: activation and termination, priorities, migration, sleep, suspension and the
 //! rotation of ready queues (uITRON 4.0, sections 4.1, 4.2 and 4.8; FMP kernel, task management).
 //!
-//! Each call is a function of its name. It reads its arguments, answers a refusal with the code of the first test that
-//! fails, where nothing has changed, or else changes the tables. The test of the context, that the call may be made
-//! where it is made, comes before and is not made here. Calls whose case for handlers differs have two functions.
+//! Each call is a function of its name. It reads its arguments. It refuses with the code of the first test that fails,
+//! and then nothing has changed; or else it changes the tables. Whether the call may be made where it is made is tested
+//! before, and not here. Calls whose case for handlers differs have two functions.
 #![tactic(auto)]
 
 pub mod activation;

@@ -35,8 +35,8 @@ fn set_priority(tables: &mut KernelState, t: u8, x: TaskBlock, priority: u8)
 }
 
 /// `chg_pri`: the current priority of a task becomes this, from 1 to 16, or the initial one at 0 (TPRI_INI). A ready
-/// task, and one in a queue of priority order, goes behind those of the same priority, also where it had it already;
-/// another keeps its place. E_ID if no task has the number, where 0 (TSK_SELF) is the caller; E_PAR at another
+/// task, and one in a queue of priority order, goes behind those of the same priority, even if it had that priority
+/// already; another keeps its place. E_ID if no task has the number, where 0 (TSK_SELF) is the caller; E_PAR at another
 /// priority; E_OBJ if the task is dormant. What is refused changes nothing (uITRON 4.0, section 4.1).
 pub fn chg_pri(tables: &mut KernelState, me: u8, task: i32, priority: i32) -> Answer
     requires caller { me < length tables.old.system.tasks }

@@ -11,7 +11,7 @@ use fmp_tasks::KernelState;
 use fmp_tasks::answers::replied;
 use fmp_tasks::tasks::suspend;
 
-/// `sus_tsk`: suspends a task; a waiting one waits on. E_ID if no task has the number, where 0 (TSK_SELF) is the
+/// `sus_tsk`: suspends a task; a waiting one goes on waiting. E_ID if no task has the number, where 0 (TSK_SELF) is the
 /// caller; E_OBJ if the task is dormant; E_QOVR if it is suspended already. What is refused changes nothing (uITRON
 /// 4.0, section 4.2).
 pub fn sus_tsk(tables: &mut KernelState, me: u8, task: i32) -> Answer
@@ -54,9 +54,9 @@ fn resume(tables: &mut KernelState, t: u8, x: TaskBlock)
     }
 }
 
-/// `rsm_tsk`: resumes a suspended task. A waiting one waits on in its place; another is ready, at the end. E_ID if no
-/// task has the number, also at 0; E_OBJ if the task is not suspended. What is refused changes nothing (uITRON 4.0,
-/// section 4.2).
+/// `rsm_tsk`: resumes a suspended task. A waiting one goes on waiting in its place; another is ready, at the end. E_ID
+/// if no task has the number, also at 0; E_OBJ if the task is not suspended. What is refused changes nothing (uITRON
+/// 4.0, section 4.2).
 pub fn rsm_tsk(tables: &mut KernelState, task: i32) -> Answer
     ensures outcome { outcome result tables.new [] ≡ calls.rsm_tsk tables.old.state task }
     ensures shape { SameShape tables.old tables.new }

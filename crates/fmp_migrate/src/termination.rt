@@ -13,8 +13,8 @@ use fmp_tasks::answers::replied;
 use fmp_tasks::tasks::end;
 
 /// Task t, which processor p runs, ends itself, by `ext_tsk` or at the end of its body: the processor runs none, its
-/// lock is freed, its dispatching enabled, and the task is dormant, or starts again where an activation is queued. It
-/// is never refused (uITRON 4.0, section 4.1; FMP kernel, spin locks).
+/// lock is freed, its dispatching enabled, and the task is dormant, or starts again if an activation is queued. It is
+/// never refused (uITRON 4.0, section 4.1; FMP kernel, spin locks).
 pub fn end_itself(tables: &mut KernelState, lines: &mut Vec<Line>, p: u8, t: u8)
     requires task { t < length tables.old.system.tasks }
     requires processor { p < tables.old.system.processors }

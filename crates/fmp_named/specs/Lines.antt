@@ -36,12 +36,12 @@ abbrev pub is_out : Parameter → Bool
 is_out parameter.Out = true
 is_out _ = false
 
--- the comma between an argument and those behind it, if there are any
+-- the comma between an argument and those after it, if there are any
 unfoldable pub comma : List ℤ → List ℕ
 comma [] = []
 comma (n ∷ ns) = codes ","
 
--- the first of these arguments, which is at this parameter, and the comma behind it
+-- the first of these arguments, which is at this parameter, and the comma after it
 unfoldable pub first_argument : SystemTables → Parameter → List ℤ → List ℕ
 first_argument sys p [] = []
 first_argument sys p (n ∷ ns) = argument_text sys p n ++ comma ns

@@ -30,7 +30,7 @@ use Rattle.fmp_named.specs.States.{wait_text}
 abbrev pub processor_member : ℕ → List Token
 processor_member p = number_member (codes "processor") (p + 1)
 
--- an actor, behind its processor
+-- an actor, after its processor
 abbrev pub actor_members : SystemTables → ℕ → Caller → List Token
 actor_members sys p who = processor_member p ++ text_member (codes "actor") (utf8_lossy (caller_name sys who))
 
@@ -47,7 +47,7 @@ name_token None = null
 abbrev pub argument_name : SystemTables → Parameter → ℤ → Option Name
 argument_name sys p n = option_and_then (λ kind. object_name sys kind n) (services.object_kind p)
 
--- the name at this parameter, and what comes behind it
+-- the name at this parameter, and what comes after it
 abbrev pub next_name : SystemTables → Parameter → List ℤ → (List ℤ → List Token) → List Token
 next_name sys p [] rest = []
 next_name sys p (n ∷ ns) rest = name_token (argument_name sys p n) ∷ rest ns

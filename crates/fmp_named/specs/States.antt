@@ -47,7 +47,7 @@ wait_text sys (phase.Waiting c) until = cause_text sys c ++ until_text until
 wait_text sys phase.Dormant until = []
 wait_text sys phase.Ready until = []
 
--- the same behind a blank
+-- the same after a blank
 abbrev pub waiting_text : SystemTables → Phase → Option ℕ → List ℕ
 waiting_text sys (phase.Waiting c) until = codes " " ++ wait_text sys (phase.Waiting c) until
 waiting_text sys phase.Dormant until = []

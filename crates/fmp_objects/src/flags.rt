@@ -34,9 +34,9 @@ fn mode_of(number: i32) -> Option<FlagMode>
     }
 }
 
-/// `set_flg` and `iset_flg` (uITRON 4.0, section 4.4.2): sets bits, and releases with E_OK and the pattern each waiting
-/// task that it satisfies, in the order of the queue; with TA_CLR the first release clears all bits and is the last.
-/// E_ID if the number names no flag, then E_PAR if the bits are not 0 to 65535; nothing changes then.
+/// `set_flg` and `iset_flg` (uITRON 4.0, section 4.4.2): sets bits, and releases each waiting task that the pattern
+/// satisfies, with E_OK and the pattern, in the order of the queue. With TA_CLR the first release clears all bits and
+/// is the last. E_ID if the number names no flag, then E_PAR if the bits are not 0 to 65535; nothing changes then.
 pub fn set_flg(tables: &mut KernelState, lines: &mut Vec<Line>, flag: i32, bits: i32) -> Answer
     requires lines { AreEmptyWithRoom (length tables.old.system.tasks) lines.old }
     ensures outcome { outcome result tables.new lines.new.items
@@ -109,11 +109,11 @@ fn await_bits(
     gives(bits as i32)
 }
 
-/// `wai_flg` and `pol_flg` by task me (uITRON 4.0, section 4.4.2): gives the bits of a flag where all bits of the wait
-/// pattern are set (mode 0, TWF_ANDW) or any (mode 1, TWF_ORW), and with TA_CLR then clears all; else waits at the end
-/// of the order within the limit. In this order: E_ID if the number names no flag, E_PAR if the wait pattern is not 1
-/// to 65535 or the mode not 0 or 1, E_ILUSE if a task waits for a flag without TA_WMUL, E_TMOUT if a poll finds the
-/// bits not set; nothing changes then.
+/// `wai_flg` and `pol_flg` by task me (uITRON 4.0, section 4.4.2): gives the bits of a flag if all bits of the wait
+/// pattern are set (mode 0, TWF_ANDW) or any (mode 1, TWF_ORW), and with TA_CLR then clears all bits. Else it waits at
+/// the end of the order within the limit. In this order: E_ID if the number names no flag, E_PAR if the wait pattern is
+/// not 1 to 65535 or the mode not 0 or 1, E_ILUSE if a task waits for a flag without TA_WMUL, E_TMOUT if a poll finds
+/// the bits not set; nothing changes then.
 pub fn wai_flg(
     tables: &mut KernelState,
     me: u8,

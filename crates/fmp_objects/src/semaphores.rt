@@ -44,9 +44,9 @@ fn signal(tables: &mut KernelState, lines: &mut Vec<Line>, s: u8) -> Answer
     }
 }
 
-/// `sig_sem` and `isig_sem` (uITRON 4.0, section 4.4.1): the first waiting task is released with E_OK; with none the
-/// count rises by one. E_ID if the number names no semaphore, then E_QOVR if no task waits and the count is the
-/// greatest; nothing changes then.
+/// `sig_sem` and `isig_sem` (uITRON 4.0, section 4.4.1): the first waiting task is released with E_OK; with no such
+/// task the count rises by one. E_ID if the number names no semaphore, then E_QOVR if no task waits and the count is
+/// the greatest; nothing changes then.
 #[inline(always)]
 pub fn sig_sem(tables: &mut KernelState, lines: &mut Vec<Line>, semaphore: i32) -> Answer
     requires lines { AreEmptyWithRoom 1 lines.old }

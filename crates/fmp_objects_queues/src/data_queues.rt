@@ -67,10 +67,10 @@ fn send(
     wait_within(tables, me, x, WaitCause::Sending { queue: d, word }, limit)
 }
 
-/// `snd_dtq` and `psnd_dtq` by task me (uITRON 4.0, section 4.4.3): releases the first task that waits to receive with
-/// E_OK and the word; with none puts the word last if there is room, and else waits with it at the end of the order
-/// within the limit. E_ID if the number names no data queue, then E_TMOUT if a poll would have to wait; nothing changes
-/// then.
+/// `snd_dtq` and `psnd_dtq` by task me (uITRON 4.0, section 4.4.3): releases the first task that waits to receive, with
+/// E_OK and the word. With no such task it puts the word last if there is room, and else waits with it at the end of
+/// the order within the limit. E_ID if the number names no data queue, then E_TMOUT if a poll would have to wait;
+/// nothing changes then.
 pub fn snd_dtq(
     tables: &mut KernelState,
     lines: &mut Vec<Line>,
@@ -164,9 +164,9 @@ fn force(tables: &mut KernelState, lines: &mut Vec<Line>, d: u8, word: i32) -> A
     replied(Er::Ok)
 }
 
-/// `fsnd_dtq` and `ifsnd_dtq` (uITRON 4.0, section 4.4.3): releases the first task that waits to receive with E_OK and
-/// the word; with none puts the word last, and a full queue drops its oldest word first. E_ID if the number names no
-/// data queue, then E_ILUSE if it can hold no word; nothing changes then.
+/// `fsnd_dtq` and `ifsnd_dtq` (uITRON 4.0, section 4.4.3): releases the first task that waits to receive, with E_OK and
+/// the word. With no such task it puts the word last, and a full queue drops its oldest word first. E_ID if the number
+/// names no data queue, then E_ILUSE if it can hold no word; nothing changes then.
 pub fn fsnd_dtq(tables: &mut KernelState, lines: &mut Vec<Line>, queue: i32, word: i32) -> Answer
     requires lines { AreEmptyWithRoom 1 lines.old }
     ensures outcome { outcome result tables.new lines.new.items
@@ -232,10 +232,10 @@ fn receive(
     wait_within(tables, me, x, WaitCause::Receiving(d), limit)
 }
 
-/// `rcv_dtq` and `prcv_dtq` by task me (uITRON 4.0, section 4.4.3): gives the oldest word, then the word of the first
-/// task that waits to send is put last and that task is released with E_OK; of a queue that can hold no word gives the
-/// word of that task and releases it; else waits at the end of the order within the limit. E_ID if the number names no
-/// data queue, then E_TMOUT if a poll finds no word; nothing changes then.
+/// `rcv_dtq` and `prcv_dtq` by task me (uITRON 4.0, section 4.4.3): gives the oldest word; the word of the first task
+/// that waits to send is then put last, and that task is released with E_OK. If the queue can hold no word, gives the
+/// word of that task and releases it. With no word it waits at the end of the order within the limit. E_ID if the
+/// number names no data queue, then E_TMOUT if a poll finds no word; nothing changes then.
 pub fn rcv_dtq(
     tables: &mut KernelState,
     lines: &mut Vec<Line>,

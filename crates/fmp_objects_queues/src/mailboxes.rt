@@ -57,10 +57,11 @@ fn send(tables: &mut KernelState, lines: &mut Vec<Line>, m: u8, g: u8) -> Answer
     replied(Er::Ok)
 }
 
-/// `snd_mbx` (uITRON 4.0, section 4.4.4): releases the first task that waits for the mailbox with E_OK and the
-/// message's number; with none queues the message, with TA_MPRI behind those of its priority or more urgent, else last.
-/// In this order: E_ID if a number names no mailbox or no message, E_PAR if, with TA_MPRI, the message's priority is
-/// above the mailbox's limit, E_OBJ if the message is queued in some mailbox; nothing changes then.
+/// `snd_mbx` (uITRON 4.0, section 4.4.4): releases the first task that waits for the mailbox, with E_OK and the
+/// message's number. With no such task it queues the message: with TA_MPRI after those of its priority and more urgent
+/// ones, else last. In this order: E_ID if a number names no mailbox or no message, E_PAR if, with TA_MPRI, the
+/// message's priority is above the mailbox's limit, E_OBJ if the message is queued in some mailbox; nothing changes
+/// then.
 pub fn snd_mbx(
     tables: &mut KernelState,
     lines: &mut Vec<Line>,

@@ -28,7 +28,7 @@ pub enum Given {
 }
 
 impl Given {
-    /// The event that it is where the bodies run inside.
+    /// The event that it would be if the bodies ran inside.
     pub fn event(self) -> Event
         ensures { result ≡ event_of self }
     {

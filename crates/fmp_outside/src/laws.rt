@@ -31,21 +31,22 @@ pub fn schedules_hold_outside<C, D>()
         HoldsOutside rules sys F m d M n forbidden rest }
 {}
 
-/// The same where the text needs several turns for a stretch, in which it keeps its places.
+/// As `bodies_outside_do_as_their_text`, where the text needs several turns for a stretch, in which it keeps its
+/// places.
 pub fn bodies_outside_may_take_long<C, D>()
     ensures { (sys : SystemTables) (F : Meaning D) (m : ℕ) (d : D) (M : Meaning C) (n : ℕ) (gs : List Given)
         (es : List Event) → Follows sys M n (setup sys M).world gs es → SameAlong sys F m d M n gs es }
 {}
 
-/// The same of what holds of a text along every schedule.
+/// As `bodies_outside_may_take_long`, of what holds of a text along every schedule.
 pub fn schedules_hold_along<C, D>()
     ensures { (rules : Rules) (sys : SystemTables) (F : Meaning D) (m : ℕ) (d : D) (M : Meaning C) (n : ℕ)
         (forbidden : Line → Bool) (rest : List Bool) → Holds rules sys M n forbidden rest →
         HoldsAlong rules sys F m d M n forbidden rest }
 {}
 
-/// Bodies outside that read nothing but their extended information and the replies since their start have a text: of
-/// the actor it says the act that the body makes of its history, and no stretch of it is ever over the bound.
+/// Bodies outside that read only their extended information and the replies since their start have a text: it makes the
+/// act that the body makes after the same history, and none of its stretches is ever over the bound.
 pub fn histories_are_texts()
     ensures acts { (f : ℕ → History → Act) (sys : SystemTables) (n : ℕ) (w : World History) (p : ℕ) (a : Act) →
         IsOfText sys (history_meaning f) n w (given.Act p a)

@@ -1,5 +1,5 @@
 //! Bodies that run outside the kernel, as C functions do: what they do is handed in, and the text of a body says what
-//! it may be.
+//! that may be.
 #![tactic(auto)]
 
 mod given;

@@ -1,5 +1,5 @@
-//! The ready queues over lent rings: for each processor and priority a list of the tasks that are able to run there, in
-//! order, and for each processor a bitmap of the lists that are not empty. No call but `new` takes memory.
+//! The ready queues, over borrowed rings: for each processor and priority a list of the tasks that are able to run
+//! there, in order, and for each processor a bitmap of the lists that are not empty. No call but `new` takes memory.
 #![tactic(auto)]
 
 pub mod bits;

@@ -41,7 +41,7 @@ abbrev pub inserted_before : ℕ → ℕ → List ℕ → List ℕ
 inserted_before at x [] = []
 inserted_before at x (t ∷ ts) = cond (nat_eq t at) (x ∷ t ∷ ts) (t ∷ inserted_before at x ts)
 
--- what comes behind x
+-- what comes after x
 abbrev pub behind : ℕ → List ℕ → List ℕ
 behind x l = after_first (nat_eq x) l
 

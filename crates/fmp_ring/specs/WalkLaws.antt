@@ -1,4 +1,4 @@
--- A walk over a list in which no node stands twice: what comes behind a node, and what follows it, also once it has
+-- A walk over a list in which no node stands twice: what comes after a node, and what follows it, also once it has
 -- left.
 use Rattle.std.specs.Prelude.{◌≡◌, ℕ, suc, ◌+◌, ◌<◌, List, [], ◌∷◌, ◌++◌, length, drop, Bool, true, false, cond, not}
 use Rattle.std.specs.Prelude.{nat_eq, ◌||◌, refl}
@@ -11,7 +11,7 @@ use Rattle.fmp_ring.specs.Orders.{IsOrder}
 use Rattle.fmp_ring.specs.OrderLaws.{nat_same, nat_eq-same, nat_eq-flip}
 use Rattle.fmp_ring.specs.RingLists.{is_in, inserted_before, behind, follower, from_node}
 
--- what is behind x in a list with a first
+-- what is after x in a list with a first
 pub behind-cons : (x t : ℕ) (ts : List ℕ) → behind x (t ∷ ts) ≡ cond (nat_eq x t) ts (behind x ts)
 behind-cons x t ts = by_test (nat_eq x t) (position_or_len (nat_eq x) ts) where
   by_test : (b : Bool) (k : ℕ) → drop (cond (not b) (1 + k) 0 + 1) (t ∷ ts) ≡ cond b ts (drop (k + 1) ts)
@@ -54,7 +54,7 @@ apart-split n t x ts r o = by_test (nat_eq t x) refl where
       let absent : is_in t (ts ++ x ∷ r) ≡ false = o.1 in
       cc
 
--- in an order what is behind a node is what follows it
+-- in an order what comes after a node is the rest of the list
 pub behind-split : (n x : ℕ) (p r : List ℕ) → IsOrder n (p ++ x ∷ r) → behind x (p ++ x ∷ r) ≡ r
 behind-split n x [] r o = behind-cons x x r ∙ rw (nat_eq-same x) refl
 behind-split n x (t ∷ ts) r o =
@@ -68,13 +68,13 @@ inserted-split n x y [] r o = rw (nat_eq-same x) refl
 inserted-split n x y (t ∷ ts) r o =
     rw (apart-split n t x ts r o) (ap (λ (q : List ℕ). t ∷ q) (inserted-split n x y ts r o.2))
 
--- without it what stood before and behind it stays
+-- without a node, what was before and after it stays
 pub without-split : (n x : ℕ) (p r : List ℕ) → IsOrder n (p ++ x ∷ r) → without (p ++ x ∷ r) x ≡ p ++ r
 without-split n x [] r o = rw (nat_eq-same x) (without-absent x r o.1)
 without-split n x (t ∷ ts) r o =
     rw (apart-split n t x ts r o) (ap (λ (q : List ℕ). t ∷ q) (without-split n x ts r o.2))
 
--- the rest from the follower of x is what is behind x
+-- the rest from the follower of x is what is after x
 pub follower-rest : (n x : ℕ) (l p : List ℕ) → IsOrder n l → l ≡ p ++ x ∷ behind x l
     → from_node (follower x l) l ≡ behind x l
 follower-rest n x l p o e = by_list (behind x l) refl where

@@ -1,5 +1,5 @@
-//! Lists of numbers kept as rings of links: a node stands in at most one list, and goes into a list or out of it in a
-//! few steps, wherever it stands. No call but `new` takes memory.
+//! Lists of numbers kept as rings of links: a node is in at most one list, and enters or leaves a list in a few steps,
+//! wherever it is. No call but `new` takes memory.
 #![tactic(auto)]
 
 pub mod nodes;

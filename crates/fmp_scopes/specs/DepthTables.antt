@@ -16,7 +16,7 @@ expression_depths (both a b) d =
 expression_depths (either a b) d =
     expression_depths a d ++ ((d + 1) ∷ d ∷ (d + 1) ∷ (expression_depths b d ++ (d + 1) ∷ []))
 
--- an assignment to an element, whose value stands upon the index
+-- an assignment to an element, whose value is pushed on top of the index
 abbrev pub element_depths : (index value : ExpressionTree) → List ℕ
 element_depths index value = expression_depths index 0 ++ (expression_depths value 1 ++ 2 ∷ [])
 

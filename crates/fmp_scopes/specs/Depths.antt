@@ -4,7 +4,7 @@ use Rattle.fmp_tasklang.specs.Trees.{ExpressionTree, number, named, element, una
 use Rattle.fmp_tasklang.specs.Trees.{assign, assign_element, service_call, if_then, if_else, while, break, continue}
 use Rattle.fmp_tasklang.specs.Trees.{return, Block, empty, next, BodyTree}
 
--- the second operand of an operator stands upon the first; those of `&&` and `||` never stand together
+-- the second operand of an operator is pushed on top of the first; those of `&&` and `||` are never there together
 abbrev pub expression_depth : ExpressionTree → ℕ
 expression_depth (number k) = 1
 expression_depth (named w) = 1
@@ -14,12 +14,12 @@ expression_depth (binary op a b) = max (expression_depth a) (expression_depth b 
 expression_depth (both a b) = max (expression_depth a) (expression_depth b)
 expression_depth (either a b) = max (expression_depth a) (expression_depth b)
 
--- each argument of a call stands upon those before it
+-- each argument of a call is pushed on top of those before it
 abbrev pub arguments_depth : List ExpressionTree → ℕ
 arguments_depth [] = 0
 arguments_depth (e ∷ es) = max (expression_depth e) (arguments_depth es + 1)
 
--- a statement, and the statements of a block; the value of an element stands upon its index
+-- a statement, and the statements of a block; the value of an element is pushed on top of its index
 abbrev mutual
   pub statement_depth : StatementTree → ℕ
   statement_depth (assign w e) = expression_depth e

@@ -38,7 +38,7 @@ is_known (Array v) = true
 is_known (Object k) = true
 is_known Unknown = false
 
--- the fault of a name that is read, where that is what it means: an array wants an index
+-- the fault of a name that is read, where that is what it means: an array needs an index
 abbrev pub read_fault : NameMeaning → Option FaultKind
 read_fault (Variable v) = None
 read_fault (Array v) = Some fault.Shape

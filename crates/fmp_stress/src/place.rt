@@ -239,7 +239,7 @@ impl<S: Site> SeatCalls<S> {
         self.answers.idle = self.answers.idle.saturating_add(1);
     }
 
-    /// Runs the actor of processor p once, by a ticket. A stale outcome is made anew.
+    /// Runs the actor of processor p once, by a ticket. A stale outcome is made again.
     pub fn run<R: Wait>(&mut self, rt: &R, board: &Board<'_, S>, p: u8) {
         for _ in 0..MOST_TRIES {
             let Some(answer) = submitted(rt, board, &mut self.seat, p) else {

@@ -89,7 +89,7 @@ after_item scope locals [] = Stops (ends.End (going locals []))
 after_item scope locals (Do s ∷ rest) = after_statement scope s locals rest
 after_item scope locals (Mark e b ∷ rest) = Turns locals (Do (while e b) ∷ rest)
 
--- no fewer than the items that come before the next mark is met
+-- at least as many as the items that come before the next mark
 abbrev mutual
   pub statement_weight : StatementTree → ℕ
   statement_weight (assign w e) = 1

@@ -19,14 +19,14 @@ value_at locals v place = get_or (get_or locals v []) place (pos 0)
 abbrev pub set_at : Values → (v place : ℕ) → ℤ → Values
 set_at locals v place x = slice_set locals v (slice_set (get_or locals v []) place x)
 
--- what a name stands for: the value of a variable, or an object's number; no accepted body has another name here
+-- what a name stands for: the value of a variable, or an object's number; an accepted body has no other name here
 abbrev pub name_value : Values → NameMeaning → ℤ
 name_value locals (Variable v) = value_at locals v 0
 name_value locals (Array v) = pos 0
 name_value locals (Object k) = pos k
 name_value locals Unknown = pos 0
 
--- the number of an array; no accepted body has another name before an index
+-- the number of an array; an accepted body has no other name before an index
 abbrev pub array_number : NameMeaning → ℕ
 array_number (Array v) = v
 array_number _ = 0

@@ -6,7 +6,7 @@ ghost use Rattle.fmp_base.specs.Systems.{tables_of, defined_for};
 use fmp_base::{InterruptConfig, QueueOrder, System, WaitQueue};
 use std::alloc::{AllocError, Global};
 
-/// The rows of a table again.
+/// A copy of the rows of a table.
 fn copied<T: Copy>(alloc: Global, rows: &[T]) -> Result<Vec<T>, AllocError>
     ensures { IfOk result (λ v. v.items ≡ rows.now) }
 {
@@ -17,7 +17,7 @@ fn copied<T: Copy>(alloc: Global, rows: &[T]) -> Result<Vec<T>, AllocError>
     Ok(copy)
 }
 
-/// The tables of a system again. `AllocError` if memory runs out.
+/// A copy of the tables of a system. `AllocError` if memory runs out.
 pub fn copied_system(alloc: Global, sys: &System) -> Result<System, AllocError>
     ensures { IfOk result (λ s. tables_of s ≡ tables_of sys.now) }
 {

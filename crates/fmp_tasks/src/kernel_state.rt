@@ -32,9 +32,9 @@ mod values;
 
 /// The tables of the system, which never change, and the state of the kernel: the task blocks with the queues and
 /// deadlines that belong to them, and the values of the objects, the processors and the handlers. Everything goes by
-/// its place, from 0. The tasks stand in the lists of `rings`, of ready queues and wait queues; the messages stand in
-/// those of `mailboxes`. A processor that is not marked has nothing to settle. Each call that changes the state says
-/// the whole state that it leaves.
+/// its place, from 0. The tasks are in the lists of `rings`, which are the ready queues and the wait queues; the
+/// messages are in those of `mailboxes`. A processor that is not marked has nothing to settle. The contract of each
+/// call that changes the state gives the whole state that it leaves.
 #[derive(Drop)]
 pub struct KernelState {
     system: System,

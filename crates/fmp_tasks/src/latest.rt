@@ -6,15 +6,15 @@ use fmp_base::WaitQueue;
 /// How many tasks are remembered: one for each priority, in each of sixteen groups of queues.
 const SLOTS: usize = 256;
 
-/// For each priority the task that came last into a wait queue at it. It may have left since, or stand in another queue
-/// of the group: the caller looks where it stands. So the contracts say nothing of it, and nothing depends on it but
-/// how long a task looks for its place.
+/// For each priority the task that came last into a wait queue at it. It may have left since, or be in another queue of
+/// the group: the caller looks where it is. So the contracts say nothing of it, and nothing depends on it except how
+/// long the search for a place takes.
 #[derive(Drop)]
 pub struct Latest {
     tasks: [u8; SLOTS],
 }
 
-/// Where the task is remembered that came last into a queue at a priority.
+/// Where the task that came last into a queue at a priority is remembered.
 fn slot(queue: WaitQueue, priority: u8) -> usize
     ensures { result < 256 }
 {

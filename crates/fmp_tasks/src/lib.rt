@@ -1,6 +1,6 @@
 //! The tables of a system and the state of its kernel, as the service calls see them: the task blocks with the queues
-//! in which the tasks stand, the objects' values, the processors and the clock. What the calls share, that a task
-//! starts, ends, waits, is released or suspended, stands here too. No call but `new` takes memory.
+//! of tasks, the objects' values, the processors and the clock. What the calls share is here too: a task starts, ends,
+//! waits, is released or suspended. No call but `new` takes memory.
 #![tactic(auto)]
 
 pub mod answers;

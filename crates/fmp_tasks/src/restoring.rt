@@ -1,5 +1,5 @@
 //! Tables are put into a saved state, part by part, by calls that each say the whole state that they leave. What a call
-//! asks for is tested, so that whatever was saved, the tables stay whole. The contracts do not say that the state is
+//! requires is tested, so that whatever was saved, the tables stay whole. The contracts do not say that the state is
 //! the saved one: a caller that needs this reads the state and compares.
 ghost use Rattle.std.specs.Prelude.{◌≡◌, ◌&&◌, ◌+◌, ◌<◌, ◌≤◌, length, true, IfSome};
 ghost use Rattle.fmp_base.specs.Queues.{is_ready as is_ready_block, queue_of as queue_of_phase};

@@ -4,7 +4,7 @@ use crate::kernel_state::KernelState;
 use crate::queues::{is_ready, queue_of};
 use fmp_base::{Phase, TaskBlock, WaitCause};
 
-/// Whether two waits are for the same. False of two for bits of an eventflag, and of two to send a word.
+/// Whether two waits are for the same. It is false for two that wait for bits of an eventflag, or to send a word.
 fn is_same_cause(a: WaitCause, b: WaitCause) -> bool {
     match (a, b) {
         (WaitCause::Sleep, WaitCause::Sleep) | (WaitCause::Delay, WaitCause::Delay) => true,
@@ -15,7 +15,8 @@ fn is_same_cause(a: WaitCause, b: WaitCause) -> bool {
     }
 }
 
-/// Whether two phases are the same. False of two in which a task waits so that it may be.
+/// Whether two phases are the same. It may be false for two equal ones in which a task waits, as `is_same_cause` may
+/// be.
 fn is_same_phase(a: Phase, b: Phase) -> bool {
     match (a, b) {
         (Phase::Dormant, Phase::Dormant) | (Phase::Ready, Phase::Ready) => true,
@@ -24,7 +25,8 @@ fn is_same_phase(a: Phase, b: Phase) -> bool {
     }
 }
 
-/// Whether two blocks are the same. False of two in which a task waits so that it may be.
+/// Whether two blocks are the same. It may be false for two equal ones in which a task waits, as `is_same_cause` may
+/// be.
 pub fn is_same_block(a: &TaskBlock, b: &TaskBlock) -> bool {
     is_same_phase(a.phase, b.phase)
         && a.suspended == b.suspended

@@ -68,7 +68,7 @@ pub fn release(tables: &mut KernelState, lines: &mut Vec<Line>, t: u8, x: TaskBl
     });
 }
 
-/// The task ends, and starts again where an activation is queued.
+/// The task ends, and starts again if an activation is queued.
 pub fn end(tables: &mut KernelState, lines: &mut Vec<Line>, t: u8, x: TaskBlock)
     requires there { t < length tables.old.system.tasks }
     requires fits { Fits tables.old.system x }
@@ -95,7 +95,7 @@ pub fn end(tables: &mut KernelState, lines: &mut Vec<Line>, t: u8, x: TaskBlock)
     }
 }
 
-/// The task is suspended: a waiting one waits on in its place, another leaves the order.
+/// The task is suspended: a waiting one goes on waiting in its place, another leaves the order.
 pub fn suspend(tables: &mut KernelState, t: u8, x: TaskBlock)
     requires there { t < length tables.old.system.tasks }
     requires is { x ≡ task_at tables.old.state.tasks t }

@@ -1,7 +1,7 @@
 -- How much room a text needs for lines.
 use Rattle.std.specs.Prelude.{ℕ, ◌+◌, ◌*◌}
 
--- room for n lines: each has at most 127 bytes, and behind the last one 96 more are copied and cut off
+-- room for n lines: each has at most 127 bytes, and after the last one 96 more are copied and cut off
 abbrev pub lines_room : (lines : ℕ) → ℕ
 lines_room lines = 127 * lines + 96
 

@@ -10,7 +10,7 @@ use Rattle.fmp_trace.specs.declared.faults.Flaw.TheVariants as flaw
 use Rattle.fmp_trace.specs.declared.faults.StepsFault.{StepsFault}
 use Rattle.fmp_trace.specs.declared.faults.StepsFault.TheVariants as fault
 
--- lines behind one more byte: a line feed ends an empty line in front of them
+-- lines after one more byte: a line feed ends an empty line in front of them
 abbrev pub with_byte : (is_line_feed : Bool) → ℕ → List (List ℕ) → List (List ℕ)
 with_byte true b lines = [] ∷ lines
 with_byte false b [] = (b ∷ []) ∷ []
@@ -51,13 +51,13 @@ abbrev pub if_same : Bool → Option (List ℕ) → Option (List ℕ)
 if_same true rest = rest
 if_same false rest = None
 
--- what stands behind a front of a text, if the text begins with it
+-- what stands after a front of a text, if the text begins with it
 abbrev pub behind : (front text : List ℕ) → Option (List ℕ)
 behind [] text = Some text
 behind (c ∷ cs) [] = None
 behind (c ∷ cs) (b ∷ bs) = if_same (nat_eq b c) (behind cs bs)
 
--- the event of a line by what stands in it behind `run `, behind `int ` and behind `tick`
+-- the event of a line by what stands in it after `run `, after `int ` and after `tick`
 abbrev pub meaning_by : (processors : ℕ) → (run int tick : Option (List ℕ)) → Result Event Flaw
 meaning_by processors (Some text) int tick =
     numbered_event (λ p. event.Run p) (ranged_number processors (numeral_value text))

@@ -1,4 +1,4 @@
--- The lists of the wait queues stand among the lent ones, behind those of the ready queues, and stay lent when a list
+-- The lists of the wait queues stand among the lent ones, after those of the ready queues, and stay lent when a list
 -- changes.
 use Rattle.std.specs.Prelude.{ℕ, ◌*◌, ◌<◌, ◌≤◌, List, length, slice_set}
 use Rattle.std.proofs.Common.{arith}

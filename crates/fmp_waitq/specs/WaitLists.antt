@@ -1,4 +1,4 @@
--- The wait queues among lent lists: behind sixteen ready queues for each processor, those of semaphores, eventflags,
+-- The wait queues among lent lists: after sixteen ready queues for each processor, those of semaphores, eventflags,
 -- senders, receivers and mailboxes.
 use Rattle.std.specs.Prelude.{ℕ, ◌+◌, ◌*◌, ◌<◌, ◌≤◌, ◌^◌, List, length, slice_set}
 use Rattle.fmp_base.specs.declared.states.WaitQueue.{WaitQueue}

@@ -1,5 +1,5 @@
-//! The wait queues over lent rings: for each semaphore, eventflag and mailbox a list of the tasks that wait there, and
-//! two for each data queue, of senders and of receivers. No call takes memory.
+//! The wait queues, over borrowed rings: for each semaphore, eventflag and mailbox a list of the tasks that wait there,
+//! and two for each data queue, of senders and of receivers. No call takes memory.
 #![tactic(auto)]
 
 pub mod place;

@@ -14,8 +14,8 @@ use fmp_base::{Answer, Call, Er};
 use fmp_tasks::KernelState;
 use fmp_tasks::answers::replied;
 
-/// `sta_cyc`: a cyclic handler is due anew, one period and a tick from now. E_ID if the number names none; nothing
-/// changes then.
+/// `sta_cyc`: a cyclic handler is due one period and a tick from now, also if it was started already. E_ID if the
+/// number names none; nothing changes then.
 fn sta_cyc(tables: &mut KernelState, cyclic: i32) -> Answer
     ensures outcome { outcome result tables.new [] ≡ calls.sta_cyc tables.old.system tables.old.state cyclic }
     ensures shape { SameShape tables.old tables.new }

@@ -92,7 +92,7 @@ impl KernelState {
         self.cyclics.has_started()
     }
 
-    /// A cyclic handler is due when the clock is this, which lies after now, or no longer.
+    /// Sets the clock at which a cyclic handler is due, which lies after now; with none it is no longer due.
     pub fn set_due(&mut self, c: u8, due: Option<u32>)
         requires there { c < length self.old.system.cyclics }
         requires later { IfSome due (λ w. self.old.state.clock + 1 ≤ w) }

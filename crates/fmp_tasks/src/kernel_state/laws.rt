@@ -27,7 +27,7 @@ impl KernelState {
         let _ = &self.blocks;
     }
 
-    /// It is known of each of the 32 interrupts whether it is pending.
+    /// The state says of each of the 32 interrupts whether it is pending.
     pub fn interrupts_are_all_there(&self)
         ensures { length self.now.state.pending_interrupts ≡ 32 }
     {

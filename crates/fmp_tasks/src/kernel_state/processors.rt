@@ -88,7 +88,7 @@ impl KernelState {
     }
 
     /// `loc_spn` on processor p: a free spin lock is taken, and locks the CPU; for a held one the caller spins. E_ID if
-    /// the number names no spin lock. But for a lock that is taken nothing changes (FMP kernel, spin locks).
+    /// the number names no spin lock. Unless a lock is taken, nothing changes (FMP kernel, spin locks).
     #[tactic(auto, using(crate::proofs::MarkLemmas::at_rest_runs))]
     pub fn loc_spn(&mut self, p: u8, lock: i32) -> Answer
         ensures outcome { outcome result self.new [] ≡ calls.loc_spn self.old.system self.old.state p lock }
