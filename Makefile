@@ -14,8 +14,9 @@
 # `install` copies the proved programs, their manual pages, their completions and the reference below PREFIX, and says
 # where; and the library for C, its headers, its manual page and its pkg-config file, once `library` has made it.
 # `uninstall` removes these files. `install` builds nothing: each program stands in its crate's folder out once `rt run`
-# there, or the gate, has proved it. `install-c` is for the library alone. PREFIX and DESTDIR may have blanks in them.
-# With QUICK=1 both copy what `quick` built.
+# there, or the gate, has proved it. `install-c` is for the library alone. With QUICK=1 both copy what `quick` built.
+# PREFIX and DESTDIR may have blanks in them: `eval` then reads the flags that pkg-config prints, a bare
+# `$(pkg-config ..)` does not.
 
 .PHONY: help
 help:

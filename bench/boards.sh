@@ -5,8 +5,8 @@
 #   bench/boards.sh [RUNS]     RUNS is how often each is run, 5 where it is not given; the least time of each is
 #                              printed, by the clock and without the start of the program, the image and the files
 #
-# It wants the programs as `rt run` leaves them in crates/fmp/out and crates/fmp_stress/out, and builds them where they
-# are not there. FMP and STRESS name other ones. It wants a machine of four processors that does nothing else.
+# It needs the programs as `rt run` leaves them in crates/fmp/out and crates/fmp_stress/out, and builds them where they
+# are not there. FMP and STRESS name other ones. It needs a machine of four processors that does nothing else.
 set -euo pipefail
 root=$(cd "$(dirname "$0")/.." && pwd)
 runs=${1:-5}

@@ -4,7 +4,7 @@
 #   bench/run.sh [RUNS]     RUNS is how often each is run, 5 where it is not given; the least time of each is printed,
 #                           by user and system time, and the greatest memory that it held at once
 #
-# It wants the program as `rt run` leaves it in crates/fmp/out, and builds it where it is not there. FMP names another
+# It needs the program as `rt run` leaves it in crates/fmp/out, and builds it where it is not there. FMP names another
 # one. The command `time` of GNU tells times and memory. At the end stand the tables of bench/boards.sh.
 set -euo pipefail
 root=$(cd "$(dirname "$0")/.." && pwd)

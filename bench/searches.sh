@@ -6,9 +6,9 @@
 #                                            each is printed, by user and system time. SYSTEM.. are the rows: all,
 #                                            where none is named. A search of over 15 seconds is run once.
 #
-# It wants the program as `rt run` leaves it in crates/fmp_view/out, and builds it where it is not there. VIEW names
+# It needs the program as `rt run` leaves it in crates/fmp_view/out, and builds it where it is not there. VIEW names
 # another one. A search may take MOST seconds of a processor, 300 where that is not given. GNU's command `time` tells
-# times and memory. For the columns of SPIN it wants spin and a C compiler: it installs spin by apt-get where it may,
+# times and memory. For the columns of SPIN it needs spin and a C compiler: it installs spin by apt-get where it may,
 # and leaves the columns empty where there is none.
 #
 # A second table tells what threads give, in seconds of the clock: for each system that one of its rows names, and for

@@ -1,9 +1,9 @@
 /*
  * live.c: C tasks in real time, over the kernel of fmp.h.
  *
- * One lock orders all events. The thread of a processor has it, but while it waits and while it is in a body. A body
- * takes it for its call, and leaves with it if it does not go on at once: so no thread enters a body that another one
- * has not left.
+ * One lock orders all events. The thread of a processor holds it, except while it waits and while it is in a body. A
+ * body takes it for its call, and leaves with it if it does not go on at once: so no thread enters a body that another
+ * one has not left.
  */
 #define _GNU_SOURCE
 #include "live.h"

@@ -1,8 +1,8 @@
 /*
  * fmp.h: the kernel as a library for C.
  *
- * Each function here is proved: what it answers and what it changes is what the kernel's case tables say. What the
- * functions ask of their caller, nothing checks:
+ * Each function here is proved: what it answers and what it changes is what the kernel's case tables say. Nothing
+ * checks what the functions require of their caller:
  *
  * - A handle begins as FMP_BLANK, is written by these functions alone, and is never copied.
  * - Calls on one handle come one after the other. A lock of the caller's orders those of several threads.

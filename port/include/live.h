@@ -22,7 +22,7 @@ enum fmp_over {
     FMP_NO_THREAD,          /* a thread could not be made; a message names it */
     FMP_NOT_OPEN,           /* no system is open, it runs, or a body calls fmp_run */
     FMP_LEFT_THE_TEXT,      /* a body does not do what its text does next; a message says which, and what */
-    FMP_NO_PREEMPTION       /* FMP_PREEMPT asks for what there is not; a message says so */
+    FMP_NO_PREEMPTION       /* what FMP_PREEMPT asks for is not available; a message says so */
 };
 
 /*
@@ -33,12 +33,13 @@ enum fmp_over {
  * A task that another one replaces on its processor goes on to compute until its next call, poll or end. It makes
  * that once the kernel runs it again. A body that does none of these keeps its processor, and the run from its end.
  *
- * With FMP_PREEMPT=signal in the environment (on x86-64), it is replaced at any instruction, by SIGURG to the thread of
- * its processor. It must then not use what it shares with other tasks of its processor, unless dis_dsp keeps these
- * away, or loc_cpu handlers too; nor functions of the C library that are not safe in signal handlers, as malloc and
- * printf, unless loc_cpu does: for a handler the port may print lines meanwhile, and the run may be over, whose end a
- * task with the CPU locked, and a handler, see at their next call. Such a system does not go on in virtual time:
- * fmp_step_run is FMP_NOTHING then. A body that has run in virtual time is interrupted after its next call.
+ * With FMP_PREEMPT=signal in the environment (on x86-64), a task is replaced at any instruction, by SIGURG to the
+ * thread of its processor. Then it may use what it shares with other tasks of its processor only between dis_dsp and
+ * ena_dsp, and what it shares with handlers only between loc_cpu and unl_cpu. The same holds of functions of the C
+ * library that are not safe in signal handlers, such as malloc and printf: they need loc_cpu, since the port may print
+ * lines for a handler. A handler, and a task with the CPU locked, see the end of the run at their next call. Such a
+ * system does not go on in virtual time: fmp_step_run is FMP_NOTHING then. A body that has run in virtual time is
+ * interrupted after its next call.
  *
  * A task that is terminated leaves its stack as it is: nothing is freed that it took.
  *
@@ -62,10 +63,10 @@ void fmp_halt(void);
 int64_t fmp_tick_due(void);
 
 /*
- * The whole of it: PROGRAM [--image IMAGE] [--times] [--last EVENTS] CFG NANOSECONDS TICKS [RECORDING] prints the trace
- * and the states at the end, and writes the recording: with times, or of the last events alone. With an image the run
- * is checked. The exit status: 0 where the run is over as it should be, 1 where the system cannot be opened, 2 where
- * the command line is wrong, else 3.
+ * A whole main program: PROGRAM [--image IMAGE] [--times] [--last EVENTS] CFG NANOSECONDS TICKS [RECORDING] prints the
+ * trace and the states at the end, and writes the recording: with times, or of the last events alone. With an image the
+ * run is checked. The exit status is 0 if the run is over as it should be, 1 if the system cannot be opened, 2 if the
+ * command line is wrong, else 3.
  */
 int fmp_perform(int argc, char **argv, const struct fmp_program *);
 

@@ -46,9 +46,9 @@ enum fmp_opened {
  *
  * All memory is taken here. A task has a stack of the size that the configuration gives it and 64 KB more, for the
  * library and the C library, and the handlers of a processor one of 64 KB. A task or a handler that overflows its stack
- * into the 64 KB below it ends the program with status 3, after a message that names the task. So far as it is not the
- * kernel that runs then, the recording is whole. The same holds where an access to no memory, a division by 0 or abort
- * ends the program, unless it has handlers of its own for these signals.
+ * into the 64 KB below it ends the program with status 3, after a message that names the task. The recording is whole
+ * then, unless the kernel itself was running. The same holds if an access to no memory, a division by 0 or abort ends
+ * the program, unless it has handlers of its own for these signals.
  */
 enum fmp_opened fmp_open(const char *text, size_t length, const struct fmp_program *, FILE *trace, FILE *messages);
 

@@ -31,10 +31,10 @@ uint32_t fmp_step_int(uint8_t number);
 unsigned long fmp_play(const char *steps, size_t length);
 
 /*
- * The whole of it: PROGRAM [--image IMAGE] CFG STEPS [RECORDING] prints the trace and the states at the end, and writes
- * the recording. With an image the run is checked. The exit status: 0; 1 for a text that is refused, after the steps
- * before its line were taken, or a body that does not do what its text does; 2 for a wrong command line, as one that
- * would write over a file that it reads; 3 for a file that cannot be read or written.
+ * A whole main program: PROGRAM [--image IMAGE] CFG STEPS [RECORDING] prints the trace and the states at the end, and
+ * writes the recording. With an image the run is checked. The exit status is 0; 1 for a text that is refused, after the
+ * steps before its line were taken, or a body that does not do what its text does; 2 for a wrong command line, such as
+ * one that would write over a file that it reads; 3 for a file that cannot be read or written.
  */
 int fmp_simulate(int argc, char **argv, const struct fmp_program *);
 
