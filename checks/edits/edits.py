@@ -202,7 +202,7 @@ class Crate:
                     for proof in list((room / "proofs").rglob(it.name)):
                         shutil.rmtree(proof)
             path.write_text(text)
-        root = room / "src/lib.rt"
+        root = next(filter(Path.is_file, (room / "src" / it for it in ("lib.rt", "main.rt"))))
         root.write_text(root.read_text() + DECLARED)
 
     def check(self, room, kept, functions):

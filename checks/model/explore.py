@@ -31,7 +31,9 @@ from model.harness import SECONDS, expect, main, replayed  # noqa: E402
 from model.schedules import (  # noqa: E402
     AtMost, Gap, Question, first_lines, goes_on_for_ever, is_deadlock, searched, state_key, tells, tells_at,
 )
-from model.sentences import FAULTS, Between, Happening, after_lines, broken_in, starts  # noqa: E402
+from model.sentences import (  # noqa: E402
+    FAULTS, Between, Happening, after_lines, bodies_of_interrupts, broken_in, starts,
+)
 from model.systems import Generator  # noqa: E402
 
 MOST = 1_000
@@ -142,9 +144,12 @@ def sentence_at(trial, place):
     return " ".join(trial.read(EXPECT).split("\n")[place].split("#")[0].split())
 
 
-def claimed(sentence):
-    """A sentence as a claim has it: one about two values that are put is as the option for them, and what must not
-    happen until something is said the other way round."""
+def claimed(system, sentence):
+    """A sentence as a claim has it: an interrupt goes by its handler's body, where no other interrupt has it; one about
+    two values that are put is as the option for them, and what must not happen until something is said the other way
+    round."""
+    bodies = {str(number): body for number, body in bodies_of_interrupts(system).items()}
+    sentence = re.sub(r"\bint (\d+)", lambda found: f"int {bodies.get(found[1], found[1])}", sentence)
     sentence = re.sub(r"between put\((-?\d+)\) and put\((-?\d+)\) one at a time", r"alone \1,\2", sentence)
     return re.sub(r"never ((?:(?! after ).)*) until (.*)", r"\2 before \1", sentence)
 
@@ -180,7 +185,7 @@ def shows_broken(trial, kernel, question, what):
     number, said, holder = re.search(rf"(?:^|: ){EXPECT}:(\d+): (.*?)(?:: while (T\d+) is inside)?$", what).groups()
     place = int(number) - 1
     sentence, kept = question.sentences[place], kept_before(kernel, question, place)
-    expect(said == claimed(sentence_at(trial, place)), f"line {number} is not '{said}'")
+    expect(said == claimed(kernel.system, sentence_at(trial, place)), f"line {number} is not '{said}'")
     inside = kept if isinstance(sentence, Between) else None
     expect(holder == inside, f"{inside} is inside in line {number}, not {holder}")
     return f"a broken `{type(sentence).__name__}`"
@@ -226,7 +231,7 @@ def is_claimed(trial, case, question, text):
     calls = calls_of(case) if question.nevers_at else {}
     nevers += [f"never {code} of {calls[number].service} in line {number}" for code, number in question.nevers_at]
     alone = [f"alone {enters},{leaves}" for enters, leaves in question.sections]
-    sentences = [claimed(sentence_at(trial, place)) for place in range(len(question.sentences))]
+    sentences = [claimed(case.system, sentence_at(trial, place)) for place in range(len(question.sentences))]
     asked = [*nevers, *alone, *(each for each in sentences if each and " rests" not in each), "no deadlock"]
     return f"\n{', '.join(asked)}" in f"\n{text}"
 

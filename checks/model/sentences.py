@@ -256,10 +256,18 @@ def split(words, *marks):
 
 
 def handlers_of(system):
-    """What lines call the handlers of interrupts, by their bodies, where only one interrupt has the body."""
+    """What lines call the handlers of interrupts, by their bodies, where no other handler has the body."""
     bodies = [(system.bodies[handler.body].name, handler.name) for handler in system.interrupt_handlers]
     counts = Counter(body for body, _ in bodies)
+    counts.update(system.bodies[handler.body].name for handler in system.cyclic_handlers)
     return {body: name for body, name in bodies if counts[body] == 1}
+
+
+def bodies_of_interrupts(system):
+    """The bodies by which sentences name interrupts, by their numbers: those that one interrupt has."""
+    counts = Counter(handler.body for handler in system.interrupt_handlers)
+    return {handler.number: system.bodies[handler.body].name for handler in system.interrupt_handlers
+            if counts[handler.body] == 1}
 
 
 def happening(words, handlers):

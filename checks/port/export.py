@@ -9,7 +9,7 @@ example, or over random ones: its trace and its states at the end are those of `
 that of its example. Half of the random systems have the bodies of the model; the others have nested expressions, loops,
 arrays, and operands that fault by different faults. All of them have hexadecimal numbers and comments at random places,
 and the C has all comments, in the order of the text. The files of one example are built and run by their own Makefile,
-with what `make install-c` copies.
+with what `make install-c` copies into a folder whose name has a blank, over steps in a file of such a name.
 
 LIVE systems more (60) are run by threads for 12 ms each, with random interrupts. They are checked against their texts:
 no body does what its text does not do. Their recordings, handed to a new kernel, give their traces again; and so does
@@ -167,7 +167,7 @@ class Bench:
 
     def __init__(self, view, program, library, folder):
         self.view, self.program, self.folder = view, program, folder
-        self.prefix = folder / "prefix"
+        self.prefix = folder / "a prefix"
         self.run("make", "-s", "-C", ROOT, f"LIBRARY={library}", f"PREFIX={self.prefix}", f"C_ROOM={folder / 'made'}",
                  f"CC={COMPILER}", "install-c")
         self.behind = [f"-L{self.prefix}/lib", "-lfmp", "-pthread"]
@@ -257,7 +257,8 @@ class Bench:
         shutil.copy(self.program, self.prefix / "bin/fmp")
         path = f"{self.prefix}/bin:{os.environ['PATH']}"
         packages = {**os.environ, "PKG_CONFIG_PATH": str(self.prefix / "lib/pkgconfig"), "PATH": path}
-        words = ["make", "-s", "-C", folder, f"CC={COMPILER}", f"STEPS={example.with_suffix('.steps')}", "TICKS=20"]
+        shutil.copy(example.with_suffix(".steps"), folder / "its events.steps")
+        words = ["make", "-s", "-C", folder, f"CC={COMPILER}", "STEPS=its events.steps", "TICKS=20"]
         for program, shadow in (("exported", "SHADOW="), ("exported-shadow", "SHADOW=1")):
             trace = self.run(*words, shadow, "run", env=packages)
             compared(f"make {shadow} run", trace, example.with_suffix(".trace").read_text())

@@ -71,13 +71,14 @@ class TargetBench(Bench):
             made = self.object(compiler, folder / "bodies.c", *STRICT, "-include", STUB / "seen.h")
         return made
 
-    def refused(self, cfg, src, name):
-        """FMP3 has no mailboxes: the first is named, and nothing is written."""
+    def refused(self, cfg, src, names):
+        """FMP3 has no mailboxes: all are named, and nothing is written."""
         folder = self.folder / "refused"
         words = [self.view, "export", cfg, src, "--toppers", folder, "--fmp3"]
         done = subprocess.run(words, capture_output=True, text=True, check=False)
-        if (done.returncode, done.stderr) != (1, f"{name}: FMP3 has no mailboxes\n") or folder.exists():
-            raise Difference(f"the mailbox {name} is not refused: {done}")
+        told = "".join(f"{name}: FMP3 has no mailboxes\n" for name in names)
+        if (done.returncode, done.stderr) != (1, told) or folder.exists():
+            raise Difference(f"the mailboxes {names} are not refused: {done}")
 
     def try_system(self, cfg, src, steps):
         """How many lines the traces of a system have; none if its texts are refused."""
@@ -86,7 +87,7 @@ class TargetBench(Bench):
             return None
         mailboxes = created(cfg.read_text()).get("MBX")
         if mailboxes:
-            self.refused(cfg, src, mailboxes[0])
+            self.refused(cfg, src, mailboxes)
         else:
             self.target(cfg, src, "--fmp3")
         bodies = self.target(cfg, src)

@@ -296,6 +296,8 @@ SOURCES = [
      "expected `;`, found `==`; a service call stands alone, or alone to the right of `=`"),
     ("task m { wup_tks(1); }", 1, 10, 7, "B1", "`wup_tks` is not a service call; did you mean `wup_tsk`?"),
     ("task m { put(012); }", 1, 14, 3, "B1", "`012` " + OCTAL),
+    ("task m { put(0b1); }", 1, 14, 3, "B1",
+     "`0b1` is not a number; there are no binary numbers; a hexadecimal one is `0x` and its digits"),
     ("task m { var a[3; }", 1, 17, 1, "B1", "expected `]`, found `;`"),
     ("task m { var a[]; }", 1, 16, 1, "B1", "expected a number, 1 to 63, found `]`"),
     ("task m { var a[3]; put(a[1); }", 1, 27, 1, "B1", "expected an operator or `]`, found `)`"),
@@ -304,7 +306,7 @@ SOURCES = [
     ("task m { a[put(1)] = 2; }", 1, 12, 3, "B1",
      "a service call is a statement, and no part of an expression; `x = put(..);` keeps its answer"),
     ("task m { put(1 << 2); }", 1, 17, 1, "B1",
-     "there are no shifts; `x * 2` stands for `x << 1`, and `x / 2` for `x >> 1`"),
+     "there are no shifts; `x * 2` stands for `x << 1`, and `x / 2` for `x >> 1` if `x` is not negative"),
     ("task m { put(exinf->a); }", 1, 20, 1, "B1",
      "expected an operand: a number, a constant, a name or `(`, found `>`; there are no pointers and no structures"),
     ("task m { if (not exinf) { } }", 1, 18, 5, "B1",
@@ -338,6 +340,7 @@ SOURCES = [
      "no token begins with a byte of value 195; names are of ASCII letters"),
     ("task m { put(\u00e9t\u00e9); }", 1, 14, 1, "B1",
      "no token begins with a byte of value 195; names are of ASCII letters"),
+    ("task m { /* \u00e9\u6f22\u5b57 */ put(1) }", 1, 31, 1, "B1", "expected `;`, found `}`"),
     ("task m { put(1); } \u20ac", 1, 20, 1, "B1", "no token begins with a byte of value 226"),
     ("task m { put(2147483648); }", 1, 14, 10, "B5", "`2147483648` " + GREAT),
     ("task m { put([41 times: 9]); }", 1, 14, 41, "B5", "a number of 41 characters " + GREAT),
@@ -680,6 +683,40 @@ WARNINGS = [
      "task m {\n    var x;\n    x = loc_spn(L);\n    if (x != E_OK) { return; }\n    unl_spn(L);\n    dis_dsp();\n"
      "    if (exinf) { ena_dsp(); }\n    wai_sem(S);\n    sig_sem(S);\n    dis_dsp();\n    pol_sem(S);\n}\n"),
     (WITH_LOCK_AND_SEM, "task m { wai_sem(S); sig_sem(S); loc_spn(L); while (1) { put(1); } }"),
+    # A call that surely gives nothing back leaves a lock held: not where a part of the body may hold what it names.
+    (WITH_LOCKS,
+     "task m {\n    loc_spn(L);\n    unl_spn(M);\n    unl_cpu();\n    put(1);\n    slp_tsk();\n    ena_dsp();\n"
+     "    wup_tsk(T);\n}\n",
+     ("t.src", 3, 5, 7, "`unl_spn` answers E_ILUSE here: the spin lock that line 2 takes is held"),
+     ("t.src", 4, 5, 7, "`unl_cpu` answers E_CTX here: the spin lock that line 2 takes is held"),
+     ("t.src", 6, 5, 7, "`slp_tsk` answers E_CTX here: the spin lock that line 2 takes is held"),
+     ("t.src", 7, 5, 7, "`ena_dsp` answers E_CTX here: the spin lock that line 2 takes is held"),
+     ("t.src", 8, 5, 7, "`wup_tsk` answers E_CTX here: the spin lock that line 2 takes is held"),
+     ("t.src", 9, 1, 1, "the task ends here while the spin lock that line 2 takes is held")),
+    (WITH_LOCKS,
+     "task m {\n    loc_spn(M);\n    put(1);\n    unl_spn(M);\n    loc_cpu();\n    unl_spn(M);\n    unl_cpu();\n"
+     "    loc_spn(L);\n    unl_spn(M);\n}\n",
+     ("t.src", 6, 5, 7, "`unl_spn` answers E_ILUSE here: the CPU is locked by line 5"),
+     ("t.src", 9, 5, 7, "`unl_spn` answers E_ILUSE here: the spin lock that line 8 takes is held"),
+     ("t.src", 10, 1, 1, "the task ends here while the spin lock that line 8 takes is held")),
+    (WITH_LOCKS, "task m { while (exinf) { loc_spn(L); unl_spn(M); unl_spn(L); try_spn(M); } }"),
+    (WITH_LOCKS, "task m { if (exinf) { loc_cpu(); } loc_spn(L); unl_cpu(); unl_spn(M); }"),
+    (WITH_LOCKS, "task m { try_spn(exinf); loc_spn(L); unl_spn(M); }"),
+    (WITH_LOCKS,
+     "task m {\n    dis_dsp();\n    mig_tsk(TSK_SELF, 1);\n    sus_tsk(0);\n    mig_tsk(T, 1);\n    ena_dsp();\n"
+     "    sus_tsk(0);\n    loc_spn(L);\n    unl_spn(L);\n    loc_spn(M);\n    unl_spn(M);\n}\n",
+     ("t.src", 3, 5, 7, "`mig_tsk` answers E_CTX here: dispatching is disabled by line 2"),
+     ("t.src", 4, 5, 7, "`sus_tsk` answers E_CTX here: dispatching is disabled by line 2")),
+    # What a loop gives back is held in its first round, unless the loop takes it too. What an `if` passes over is left.
+    (WITH_LOCK_AND_SEM,
+     "task m {\n    var v;\n    loc_spn(L);\n    while (v < 3) {\n        try_spn(L);\n"
+     "        if (v == 2) { sig_sem(S); return; }\n        unl_spn(L);\n        v = v + 1;\n    }\n    loc_spn(L);\n"
+     "    while (v < 6) {\n        unl_spn(L);\n"
+     "        loc_spn(L);\n        wai_sem(S);\n        v = v + 1;\n    }\n    unl_spn(L);\n    loc_cpu();\n"
+     "    while (v < 9) { sig_sem(S); v = v + 1; }\n    unl_cpu();\n}\n",
+     ("t.src", 5, 9, 7, "`try_spn` answers E_CTX here in the first round: the spin lock that line 3 takes is held"),
+     ("t.src", 14, 9, 7, "`wai_sem` answers E_CTX here: the spin lock that line 13 takes is held"),
+     ("t.src", 19, 21, 7, "`sig_sem` answers E_CTX here: the CPU is locked by line 18")),
     # Bits that nothing sets: all of them for TWF_ORW, some of them for TWF_ANDW. `pol_flg` does not wait.
     (TASK + "\nCRE_FLG(F, { 0, 1 }); CRE_FLG(G, { 0, 0 }); }",
      "task m {\n    var v;\n    set_flg(F, 2);\n    wai_flg(F, 7, TWF_ANDW, &v);\n    wai_flg(F, 7, TWF_ORW, &v);\n"
@@ -718,6 +755,7 @@ STEPS = [
     ("run 01\n", 1, 5, 2, "S1", "the number begins with 0" + FORMS),
     ("run one\n", 1, 5, 3, "S1", "expected the number of a processor" + FORMS),
     ("int -1\n", 1, 5, 2, "S1", "expected the number of an interrupt" + FORMS),
+    ("run \u00e9 1\n", 1, 5, 4, "S1", "expected the number of a processor" + FORMS),
     ("tick 1\n", 1, 5, 2, "S1",
      "expected the end of the line after `tick`; only a session takes a number there" + FORMS),
     ("ticks\n", 1, 5, 1, "S1", "expected the end of the line after `tick`" + FORMS),
@@ -741,11 +779,14 @@ PICTURES = {byte: 0x2400 + byte for byte in range(32) if byte != 9} | {127: 0x24
 
 
 def report(name, text, line, column, width, code, sentence):
-    """What is printed of a fault: the head and the sentence, the line, and the marks under it."""
-    shown = text.split("\n")[line - 1].removesuffix("\r").translate(PICTURES)
+    """What is printed of a fault: the head and the sentence, the line, and the marks under it, one for a character."""
+    whole = text.split("\n")[line - 1].removesuffix("\r")
+    shown = whole.translate(PICTURES)
     if shown[:4] == "FMPI" and ord(shown[4:5] or " ") in PICTURES.values():  # an image has no lines
         return f"{name}:{line}:{column}: {code}: {sentence}\n"
-    marks = "".join("\t" if letter == "\t" else " " for letter in shown[:column - 1]) + "^" * width
+    before = whole.encode()[:column - 1].decode()
+    token = whole.encode()[column - 1:column - 1 + width].decode(errors="ignore")
+    marks = "".join("\t" if letter == "\t" else " " for letter in before) + "^" * max(1, len(token))
     if len(shown) > 100:
         assert column <= 47 or column == 78  # worked out for these alone
         begin = max(0, column - 1 - 47)
