@@ -175,11 +175,9 @@ module _ {B C : Type 0} (meaning : B → Meaning C) where
 
   -- what was done from a number on is a step
   pub processor_steps : (r : Option Event) (k k' : KernelView B C) (processors first : ℕ) → 1 ≤ first
-      → TakesFirst meaning k k' source.Processor first (processors + 1) r
-      → MatchOption r (AllStand meaning k source.Processor first (processors + 1) × (k' ≡ k))
-      (λ e. HasTaken meaning k k' e × IsStep processors e)
-  processor_steps None k k' processors first low m = m
-  processor_steps (Some e) k k' processors first low m = (m.0, processor_step k processors first e low m.1)
+      → TakesFirst meaning k k' source.Processor first (processors + 1) r → IfSome r (IsStep processors)
+  processor_steps None k k' processors first low m = tt
+  processor_steps (Some e) k k' processors first low m = processor_step k processors first e low m.1
 
   pub interrupt_steps : (r : Option Event) (k k' : KernelView B C) (processors first : ℕ) → 1 ≤ first
       → TakesFirst meaning k k' source.Interrupt first 33 r → IfSome r (IsStep processors)

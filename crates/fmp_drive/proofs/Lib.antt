@@ -1,2 +1,3 @@
 pub mod DriveLemmas
 pub mod PlanLemmas
+pub mod TurnLemmas

@@ -49,11 +49,13 @@ is_waiting _ = false
 abbrev pub is_timed : (ending : List Bool) → KernelState → (t : ℕ) → Bool
 is_timed ending s t = is_waiting (task_state s t).word && get_or ending t false
 
--- the clock can change something: interrupts come at random, a cyclic handler is started, or one of this many tasks
--- waits for the clock
+-- the clock can change something: a cyclic handler is started, or one of this many tasks waits for the clock
+abbrev pub can_tick : (ending : List Bool) → KernelState → (tasks : ℕ) → Bool
+can_tick ending s tasks = list_any is_some s.due_times || list_any (is_timed ending s) (range_with_len 0 tasks)
+
+-- the same of a plan; where interrupts come at random, one may start a cyclic handler
 abbrev pub is_due : Plan → KernelState → (tasks : ℕ) → Bool
-is_due p s tasks =
-    p.stirred || list_any is_some s.due_times || list_any (is_timed p.ending.items s) (range_with_len 0 tasks)
+is_due p s tasks = p.stirred || can_tick p.ending.items s tasks
 
 -- A plan that begins with processor 1, for this many tasks of which none waits; without a seed it is not random, and no
 -- interrupt comes.

@@ -1,8 +1,9 @@
 //! Driving a kernel: events that each are done or keep a place, until no processor goes on.
-ghost use Rattle.std.specs.Prelude.{◌≡◌, ◌+◌, ◌<◌, ◌≤◌, ◌^◌, length, IfOk, IfSome, MatchOption};
+ghost use Rattle.std.specs.Prelude.{◌≡◌, ◌+◌, ◌<◌, ◌≤◌, ◌^◌, ◌⊎◌, None, length, false, true, IfNone, IfOk, IfSome};
+ghost use Rattle.std.specs.Prelude.{MatchOption};
 ghost use Rattle.fmp_trace.specs.StepsLaws.{IsStep};
-ghost use Rattle.fmp_drive.specs.Driving.{AllStand, HasTaken, IsDriven, IsStirred};
-ghost use Rattle.fmp_drive.specs.declared.trying.EventSource.TheVariants as source;
+ghost use Rattle.fmp_drive.specs.Driving.{AreIdle, HasTaken, IsDriven, IsFirstInTurn, IsNext, IsStirred, course_of};
+ghost use Rattle.fmp_drive.specs.Plans.{is_due};
 
 use crate::plan::{Plan, Wish};
 use crate::trying::{raise, run_one, tick};
@@ -49,8 +50,10 @@ fn tick_if_due<B: Body>(
 ) -> Option<Event>
     requires few { kernel.old.taken < 2 ^ 20 }
     requires tasks { tasks ≤ length kernel.old.system.tasks }
-    ensures { MatchOption result (kernel.new ≡ kernel.old)
+    ensures taken { MatchOption result (kernel.new ≡ kernel.old)
         (λ e. HasTaken B.meaning kernel.old kernel.new e × IsStep processors e) }
+    ensures tick { IfSome result (λ e. (e ≡ Event.Tick) × (is_due plan.now kernel.old.world.state tasks ≡ true)) }
+    ensures none { IfNone result (is_due plan.now kernel.old.world.state tasks ≡ false) }
 {
     if plan.is_due(kernel, tasks) {
         Some(tick(kernel, processors))
@@ -71,9 +74,13 @@ fn run_or_tick<B: Body>(
     requires processors { processors ≤ 8 }
     requires first { 1 ≤ first }
     requires tasks { tasks ≤ length kernel.old.system.tasks }
-    ensures { MatchOption result
-        (AllStand B.meaning kernel.old source.Processor 1 (processors + 1) × (kernel.new ≡ kernel.old))
+    ensures taken { MatchOption result
+        (AreIdle B.meaning kernel.old processors × (kernel.new ≡ kernel.old))
         (λ e. HasTaken B.meaning kernel.old kernel.new e × IsStep processors e) }
+    ensures turn { IfSome result (λ e. IsFirstInTurn B.meaning kernel.old first processors e
+        ⊎ ((e ≡ Event.Tick) × AreIdle B.meaning kernel.old processors
+        × (is_due plan.now kernel.old.world.state tasks ≡ true))) }
+    ensures none { IfNone result (is_due plan.now kernel.old.world.state tasks ≡ false) }
 {
     match run_one(kernel, first, processors) {
         Some(e) => Some(e),
@@ -91,9 +98,16 @@ fn next<B: Body>(
     requires few { kernel.old.taken < 2 ^ 20 }
     requires processors { processors ≤ 8 }
     requires tasks { tasks ≤ length kernel.old.system.tasks }
-    ensures { MatchOption result
-        (AllStand B.meaning kernel.old source.Processor 1 (processors + 1) × (kernel.new ≡ kernel.old))
+    ensures taken { MatchOption result
+        (AreIdle B.meaning kernel.old processors × (kernel.new ≡ kernel.old))
         (λ e. HasTaken B.meaning kernel.old kernel.new e × IsStep processors e) }
+    ensures next { plan.old.random ≡ None → plan.old.stirred ≡ false
+        → IfSome result (IsNext B.meaning processors tasks (course_of kernel.old plan.old)) }
+    ensures none { IfNone result (is_due plan.old kernel.old.world.state tasks ≡ false) }
+    ensures turn { plan.new.turn ≡ plan.old.turn }
+    ensures random { plan.old.random ≡ None → plan.new.random ≡ None }
+    ensures stirred { plan.new.stirred ≡ plan.old.stirred }
+    ensures ending { plan.new.ending.items ≡ plan.old.ending.items }
 {
     let wish = plan.wish();
     match stir(kernel, wish, processors) {
@@ -117,7 +131,8 @@ pub fn drive<B: Body>(
     requires one { 1 ≤ processors }
     requires eight { processors ≤ 8 }
     requires tasks { tasks ≤ length kernel.old.system.tasks }
-    ensures { IfOk result (λ d. IsDriven B.meaning kernel.old kernel.new processors most d.steps.items d.stop) }
+    ensures { IfOk result (λ d.
+        IsDriven B.meaning kernel.old kernel.new plan.old processors tasks most d.steps.items d.stop) }
 {
     let mut steps = Vec::new(alloc);
     for _turn in 0..most {

@@ -1,8 +1,8 @@
 //! What a drive tries next.
-ghost use Rattle.std.specs.Prelude.{◌≡◌, ◌+◌, ◌%◌, ◌<◌, ◌≤◌, ℕ, IfOk, None, false, get_or, length};
+ghost use Rattle.std.specs.Prelude.{◌≡◌, ◌<◌, ◌≤◌, ℕ, IfOk, None, false, get_or, length, max};
 ghost use Rattle.std.specs.List.{list_any, range_with_len};
-ghost use Rattle.fmp_base.specs.declared.events.Event.TheVariants as event;
 ghost use Rattle.fmp_drive.specs.declared.plan.Wish.TheVariants as kind;
+ghost use Rattle.fmp_drive.specs.Driving.{turn_after};
 ghost use Rattle.fmp_drive.specs.Plans as spec;
 ghost use Rattle.fmp_drive.specs.Plans.{IsFirstPlan, waits_after_all};
 
@@ -45,7 +45,8 @@ fn is_ending(ending: &[bool], task: usize) -> bool
 impl Wish {
     /// The processor that is tried first.
     pub(crate) fn first(self) -> u8
-        ensures { 1 ≤ result }
+        ensures least { 1 ≤ result }
+        ensures run { (n : ℕ) → self ≡ kind.Run n → result ≡ max n 1 }
     {
         match self {
             Wish::Run(first) => first.max(1),
@@ -87,8 +88,11 @@ impl Plan {
 
     /// What is tried first now.
     pub(crate) fn wish(&mut self) -> Wish
-        ensures turn { self.old.random ≡ None → result ≡ kind.Run self.old.turn }
-        ensures ending { self.new.ending ≡ self.old.ending }
+        ensures run { self.old.random ≡ None → result ≡ kind.Run self.old.turn }
+        ensures random { self.old.random ≡ None → self.new.random ≡ None }
+        ensures turn { self.new.turn ≡ self.old.turn }
+        ensures stirred { self.new.stirred ≡ self.old.stirred }
+        ensures ending { self.new.ending.items ≡ self.old.ending.items }
     {
         let Some(random) = &mut self.random else {
             return Wish::Run(self.turn);
@@ -137,7 +141,9 @@ impl Plan {
     /// next.
     pub(crate) fn done(&mut self, e: Event, lines: &[Line], processors: u8)
         requires { 1 ≤ processors }
-        ensures turn { (p : ℕ) → e ≡ event.Run p → self.new.turn ≡ p % processors + 1 }
+        ensures turn { self.new.turn ≡ turn_after self.old.turn processors e }
+        ensures random { self.new.random ≡ self.old.random }
+        ensures stirred { self.new.stirred ≡ self.old.stirred }
         ensures ending { self.new.ending.items ≡ waits_after_all self.old.ending.items lines.now }
     {
         if let Event::Run(number) = e {

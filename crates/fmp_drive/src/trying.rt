@@ -2,7 +2,7 @@
 ghost use Rattle.std.specs.Prelude.{◌≡◌, ◌+◌, ◌<◌, ◌≤◌, ◌^◌, IfSome, MatchOption};
 ghost use Rattle.fmp_drive.specs.declared.trying.EventSource.TheVariants as source;
 ghost use Rattle.fmp_trace.specs.StepsLaws.{IsStep};
-ghost use Rattle.fmp_drive.specs.Driving.{AllStand, TakesFirst, HasTaken, event_of};
+ghost use Rattle.fmp_drive.specs.Driving.{AllStand, TakesFirst, HasTaken, IsFirstInTurn, event_of};
 
 use fmp_base::{Effect, Event};
 use fmp_kernel::{Body, Kernel};
@@ -56,9 +56,8 @@ fn run_from<B: Body>(kernel: &mut Kernel<B>, first: u8, processors: u8) -> Optio
     requires few { kernel.old.taken < 2 ^ 20 }
     requires processors { processors ≤ 8 }
     requires first { 1 ≤ first }
-    ensures { MatchOption result
-        (AllStand B.meaning kernel.old source.Processor first (processors + 1) × (kernel.new ≡ kernel.old))
-        (λ e. HasTaken B.meaning kernel.old kernel.new e × IsStep processors e) }
+    ensures first { TakesFirst B.meaning kernel.old kernel.new source.Processor first (processors + 1) result }
+    ensures step { IfSome result (IsStep processors) }
 {
     first_taken(kernel, EventSource::Processor, first, processors + 1)
 }
@@ -67,9 +66,8 @@ fn run_from<B: Body>(kernel: &mut Kernel<B>, first: u8, processors: u8) -> Optio
 fn run_any<B: Body>(kernel: &mut Kernel<B>, processors: u8) -> Option<Event>
     requires few { kernel.old.taken < 2 ^ 20 }
     requires processors { processors ≤ 8 }
-    ensures { MatchOption result
-        (AllStand B.meaning kernel.old source.Processor 1 (processors + 1) × (kernel.new ≡ kernel.old))
-        (λ e. HasTaken B.meaning kernel.old kernel.new e × IsStep processors e) }
+    ensures first { TakesFirst B.meaning kernel.old kernel.new source.Processor 1 (processors + 1) result }
+    ensures step { IfSome result (IsStep processors) }
 {
     run_from(kernel, 1, processors)
 }
@@ -79,9 +77,10 @@ pub fn run_one<B: Body>(kernel: &mut Kernel<B>, first: u8, processors: u8) -> Op
     requires few { kernel.old.taken < 2 ^ 20 }
     requires processors { processors ≤ 8 }
     requires first { 1 ≤ first }
-    ensures { MatchOption result
+    ensures taken { MatchOption result
         (AllStand B.meaning kernel.old source.Processor 1 (processors + 1) × (kernel.new ≡ kernel.old))
         (λ e. HasTaken B.meaning kernel.old kernel.new e × IsStep processors e) }
+    ensures turn { IfSome result (IsFirstInTurn B.meaning kernel.old first processors) }
 {
     match run_from(kernel, first, processors) {
         Some(e) => Some(e),
