@@ -1,5 +1,6 @@
 pub mod Built
 pub mod Hosting
+pub mod Messages
 pub mod Outlets
 pub mod Plays
 pub mod Simulations

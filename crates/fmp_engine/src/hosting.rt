@@ -23,10 +23,11 @@ use fmp_image::laws::built_image_prints_text;
 use fmp_image_bytes::{Image, LoadFault, load};
 use fmp_trace::{print_steps, printed_steps_read_back};
 use std::alloc::{AllocError, Global};
+use std::error::Error;
+use std::fmt::{self, Display, Formatter, Write};
 use std::marker::Brand;
 use std::sync::Wait;
 use std::thread::Threads;
-use thiserror::Error;
 
 /// What the threads of a host are to do.
 #[derive(Clone, Copy)]
@@ -44,19 +45,34 @@ pub struct Workload {
 }
 
 /// Why a host writes and prints nothing.
-#[derive(Clone, Copy, Debug, PartialEq, Eq, Error)]
+#[derive(Clone, Copy, Debug, PartialEq, Eq)]
 pub enum HostFault {
     /// The bytes spell no image. This fault is never out of memory.
-    #[error("{0}")]
     Load(LoadFault),
     /// The turns, ticks and interrupts together are 0, or more than a board has room for; or a thread was refused. This
     /// fault is never out of memory.
-    #[error("host: {0}")]
     Board(BoardFault),
     /// Memory ran out.
-    #[error("memory")]
     Memory,
 }
+
+impl Display for HostFault {
+    ghost use Rattle.std.specs.Prelude.{Some};
+    ghost use Rattle.fmp_engine.specs.Messages.{host_message};
+
+    ghost output = { λ fault. Some (host_message fault) };
+
+    /// The message of the image, the code of the board after `host`, or `memory`.
+    fn fmt<W: Write>(&self, f: &mut Formatter<W>) -> fmt::Result {
+        match self {
+            HostFault::Load(fault) => write!(f, "{fault}"),
+            HostFault::Board(fault) => write!(f, "host: {fault}"),
+            HostFault::Memory => f.write_str("memory"),
+        }
+    }
+}
+
+impl Error for HostFault {}
 
 /// A gate that lets every processor go on.
 struct OpenGate;

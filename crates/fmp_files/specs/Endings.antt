@@ -1,10 +1,12 @@
 -- How a program ends: what it says and prints, and its status.
-use Rattle.std.specs.Prelude.{ℕ, ◌≡◌, ◌≢◌, ◌⊎◌, ◌++◌, Bool, IsTrue, List, [], ◌∷◌, Option, Some, None, string_bytes, ⊤}
+use Rattle.std.specs.Prelude.{ℕ, ◌≡◌, ◌≢◌, ◌⊎◌, ◌++◌, Bool, IsTrue, List, [], ◌∷◌, Option, Some, None, codes}
+use Rattle.std.specs.Prelude.{string_bytes, ⊤}
 use Rattle.clap.specs.declared.error.kind.ErrorKind.{ErrorKind}
 use Rattle.clap.specs.declared.error.kind.ErrorKind.TheVariants.{DisplayHelp, DisplayVersion, OutOfMemory}
 use Rattle.fmp_files.specs.declared.failure.Failure.{Failure}
 use Rattle.fmp_files.specs.declared.failure.Failure.TheVariants.{File, Memory}
-use Rattle.fmp_files.specs.Deeds.{Deed, Says}
+use Rattle.fmp_files.specs.Deeds.{Deed, Does, Says, said}
+use Rattle.fmp_files.specs.Messages.{failure_line}
 use Rattle.fmp_files.specs.Outside.{Files}
 use Rattle.fmp_files.specs.Prints.{Prints}
 
@@ -33,12 +35,22 @@ abbrev pub IsFailureAt : Files → (output : Option (List ℕ)) → Failure → 
 IsFailureAt files None failure = ⊥
 IsFailureAt files (Some name) failure = IsFailureOf files (name ∷ []) failure
 
--- how printing ends: all of it stands on standard output, or that can fail, has done so with this left, and this was
+-- it was said that a call on the file of this name failed, or that memory ran out
+abbrev pub SaysFailure : (name : List ℕ) → (before after : Option (List Deed)) → Type 0
+SaysFailure name before after =
+    (failure : Failure) × IsFor name failure × Does before (said (failure_line failure) ∷ []) after
+
+-- it was said that memory ran out
+abbrev pub SaysMemory : (before after : Option (List Deed)) → Type 0
+SaysMemory before after = Does before (said (codes "memory\n") ∷ []) after
+
+-- how printing ends: all of it stands on standard output, or that can fail, has done so with this left, and that was
 -- said
 pub data EndsPrinting (bytes : List ℕ) (can_fail : Bool) (before after : Option (List Deed)) (status : ℕ) : Type 0 where
   all_printed : Prints before bytes after → status ≡ 0 → EndsPrinting bytes can_fail before after status
   some_printed : IsTrue can_fail → (front left : List ℕ) → bytes ≡ front ++ left → (between : Option (List Deed))
-      → Prints before front between → Says between after → status ≡ 3 → EndsPrinting bytes can_fail before after status
+      → Prints before front between → SaysFailure (codes "-") between after → status ≡ 3
+      → EndsPrinting bytes can_fail before after status
 
 -- help or the version is asked for
 abbrev pub IsShown : ErrorKind → Type 0
@@ -54,5 +66,5 @@ pub data EndsRefused (kind : ErrorKind) (can_fail : Bool) (before after : Option
   told : ¬ IsShown kind → kind ≢ OutOfMemory → Says before after → status ≡ 2
       → EndsRefused kind can_fail before after status
   -- memory ran out
-  no_memory : IsShown kind ⊎ (kind ≡ OutOfMemory) → Says before after → status ≡ 3
+  no_memory : IsShown kind ⊎ (kind ≡ OutOfMemory) → SaysMemory before after → status ≡ 3
       → EndsRefused kind can_fail before after status

@@ -1,9 +1,10 @@
 //! How a program ends: what it says and prints, and its status. 0 is for what is done, 2 for a mistake in the words of
 //! the command line, 3 for a failure; a program has a status of its own, 1, for a fault of what it read.
-ghost use Rattle.std.specs.Prelude.{◌≡◌, ℕ, MatchResult};
+ghost use Rattle.std.specs.Prelude.{◌≡◌, ◌∷◌, ℕ, [], IfErr, IfSome, MatchResult};
+ghost use Rattle.std.specs.Fmt.{with_newline};
 ghost use Rattle.clap.specs.Words.{kind_of};
-ghost use Rattle.fmp_files.specs.Deeds.{Says};
-ghost use Rattle.fmp_files.specs.Endings.{EndsPrinting, EndsRefused};
+ghost use Rattle.fmp_files.specs.Deeds.{Does, Says, said};
+ghost use Rattle.fmp_files.specs.Endings.{EndsPrinting, EndsRefused, SaysMemory};
 
 use crate::failure::{Failure, failed};
 use crate::outside::Outside;
@@ -34,6 +35,8 @@ impl Reason for Failure {
 /// Says why the program ends, and gives its status.
 pub fn end<O: Outside, E: Reason>(outside: &mut O, reason: &E) -> u8
     ensures said { Says (O.done outside.old) (O.done outside.new) }
+    ensures line { IfSome (with_newline (E.output reason.now)) (λ line.
+        Does (O.done outside.old) (said line ∷ []) (O.done outside.new)) }
     ensures status { result ≡ E.status_of reason.now }
 {
     outside.say(format_args!("{reason}\n"));
@@ -73,6 +76,7 @@ pub fn refuse<O: Outside>(alloc: Global, outside: &mut O, error: &Error) -> u8
 /// before the mistake could be said.
 pub fn refuse_mistake<O: Outside>(outside: &mut O, mistake: Result<Error, AllocError>) -> u8
     ensures said { Says (O.done outside.old) (O.done outside.new) }
+    ensures memory { IfErr mistake (λ _. SaysMemory (O.done outside.old) (O.done outside.new)) }
     ensures status { MatchResult mistake (λ _. result ≡ 2) (λ _. result ≡ 3) }
 {
     match mistake {

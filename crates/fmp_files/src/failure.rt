@@ -1,24 +1,57 @@
 //! Why a program cannot do what it was asked, whatever it reads: a call on a file fails, or memory runs out.
 ghost use Rattle.std.specs.Prelude.{◌≡◌, ◌∷◌, [], IfErr, IfOk, IfSome, OnErr, OnOk};
 ghost use Rattle.fmp_files.specs.Deeds.{Begins, Does, wrote};
-ghost use Rattle.fmp_files.specs.Endings.{IsFailureOf, IsFor};
+ghost use Rattle.fmp_files.specs.Endings.{IsFailureOf, IsFor, IsMemory};
 ghost use Rattle.fmp_files.specs.Files.{front};
+ghost use Rattle.fmp_files.specs.declared.failure.Failure.TheVariants.{Memory};
 
 use crate::outside::Outside;
 use crate::reading::ReadFault;
 use crate::writing::WriteFault;
-use std::alloc::{AllocError, Global};
-use thiserror::Error;
+use std::alloc::{AllocError, AllocFailed, Global};
+use std::error::Error;
+use std::fmt::{self, Display, Formatter, Write};
 
 /// Why a program cannot do what it was asked, whatever it reads. The message is one line.
-#[derive(Debug, Drop, Error)]
+#[derive(Debug, Drop)]
 pub enum Failure {
     /// The file of this name could not be read or written; `-` is standard output.
-    #[error("file: {0}")]
     File(String),
     /// Memory ran out.
-    #[error("memory")]
-    Memory(#[from(alloc)] AllocError),
+    Memory(AllocError),
+}
+
+impl Display for Failure {
+    ghost use Rattle.std.specs.Prelude.{Some};
+    ghost use Rattle.fmp_files.specs.Messages.{failure_message};
+
+    ghost output = { λ failure. Some (failure_message failure) };
+
+    /// The name of the file after `file`, or `memory`.
+    fn fmt<W: Write>(&self, f: &mut Formatter<W>) -> fmt::Result {
+        match self {
+            Failure::File(name) => write!(f, "file: {name}"),
+            Failure::Memory(_) => f.write_str("memory"),
+        }
+    }
+}
+
+impl Error for Failure {}
+
+impl From<AllocError> for Failure {
+    ghost from_gives = { λ error failure. failure ≡ Memory error };
+
+    fn from(error: AllocError) -> Self {
+        Failure::Memory(error)
+    }
+}
+
+impl<T: Drop> From<AllocFailed<T>> for Failure {
+    ghost from_gives = { λ _ failure. IsMemory failure };
+
+    fn from(_error: AllocFailed<T>) -> Self {
+        Failure::Memory(AllocError)
+    }
 }
 
 /// The failure of a call on the file of this name.

@@ -2,7 +2,7 @@
 ghost use Rattle.std.specs.Prelude.{◌≡◌, ℕ, List, [], ◌∷◌, Bool, Option, None, Some, IfErr, IfOk, IfSome, IsTrue};
 ghost use Rattle.std.specs.Prelude.{OnErr};
 ghost use Rattle.std.specs.Prelude.{OnOk, true};
-ghost use Rattle.fmp_files.specs.Deeds.{Begins, Deed, Does, Says, printed, removal, wrote};
+ghost use Rattle.fmp_files.specs.Deeds.{Begins, Deed, Does, Says, printed, removal, said, wrote};
 ghost use Rattle.fmp_files.specs.Files.{front};
 ghost use Rattle.fmp_files.specs.Outside.{Files as KnownFiles, unknown_files};
 
@@ -59,7 +59,8 @@ pub trait Outside {
 
     /// Writes a text to standard error, as far as that works.
     fn say<D: Display + Drop>(&mut self, text: D)
-        ensures { Says (done self.old) (done self.new) };
+        ensures said { Says (done self.old) (done self.new) }
+        ensures text { IfSome (D.output text) (λ bytes. Does (done self.old) (said bytes ∷ []) (done self.new)) };
 
     /// Whether two names lead to one file. Equal names do, and of others it is what the system says.
     fn is_one_file(&self, name: &str, other: &str) -> bool

@@ -5,6 +5,7 @@ pub mod Images
 pub mod Instructions
 pub mod KeyLaws
 pub mod Keys
+pub mod Messages
 pub mod OlderImages
 pub mod Pairs
 pub mod Ranges

@@ -3,6 +3,7 @@ pub mod Cutting
 pub mod Faults
 pub mod Forms
 pub mod Laws
+pub mod Messages
 pub mod ObjectNames
 pub mod Packing
 pub mod Positions

@@ -10,16 +10,29 @@ use crate::reading::{FirstFault, GrammarFault};
 use crate::token::{LexFault, TokenKind, TokenList};
 use fmp_base::Er;
 use std::alloc::AllocError;
+use std::error::Error;
 use std::fmt::{self, Display, Formatter, Write};
-use thiserror::Error;
 
 /// Which of the two texts of a system.
-#[derive(Clone, Copy, Debug, PartialEq, Eq, Error)]
+#[derive(Clone, Copy, Debug, PartialEq, Eq)]
 pub enum TextFile {
-    #[error("cfg")]
     Configuration,
-    #[error("src")]
     Source,
+}
+
+impl Display for TextFile {
+    ghost use Rattle.std.specs.Prelude.{Some};
+    ghost use Rattle.fmp_lex.specs.Messages.{text_name};
+
+    ghost output = { λ file. Some (text_name file) };
+
+    /// What the text is called.
+    fn fmt<W: Write>(&self, f: &mut Formatter<W>) -> fmt::Result {
+        f.write_str(match self {
+            TextFile::Configuration => "cfg",
+            TextFile::Source => "src",
+        })
+    }
 }
 
 /// What is wrong at a position of a text.
@@ -43,7 +56,13 @@ pub enum FaultKind {
 }
 
 impl Display for FaultKind {
-    fn fmt<W: Write>(&self, f: &mut Formatter<W>) -> Result<(), fmt::Error> {
+    ghost use Rattle.std.specs.Prelude.{Some};
+    ghost use Rattle.fmp_lex.specs.Messages.{fault_code};
+
+    ghost output = { λ kind. Some (fault_code kind) };
+
+    /// The code of the fault.
+    fn fmt<W: Write>(&self, f: &mut Formatter<W>) -> fmt::Result {
         match self {
             FaultKind::Syntax => f.write_str("B1"),
             FaultKind::TwiceNamed => f.write_str("B2"),
@@ -58,13 +77,31 @@ impl Display for FaultKind {
 }
 
 /// Why no system is built from two texts.
-#[derive(Debug, Drop, PartialEq, Eq, Error)]
+#[derive(Debug, Drop, PartialEq, Eq)]
 pub enum BuildFault {
-    #[error("{0}:{line}: {2}", line = .1.line)]
     At(TextFile, TokenPosition, FaultKind),
-    #[error("memory")]
     Memory,
 }
+
+impl Display for BuildFault {
+    ghost use Rattle.std.specs.Prelude.{Some};
+    ghost use Rattle.fmp_lex.specs.Messages.{build_message};
+
+    ghost output = { λ fault. Some (build_message fault) };
+
+    /// The text, the number of the line and the code of the fault.
+    fn fmt<W: Write>(&self, f: &mut Formatter<W>) -> fmt::Result {
+        match self {
+            BuildFault::At(file, position, kind) => {
+                let line = position.line;
+                write!(f, "{file}:{line}: {kind}")
+            }
+            BuildFault::Memory => f.write_str("memory"),
+        }
+    }
+}
+
+impl Error for BuildFault {}
 
 impl From<AllocError> for BuildFault {
     ghost from_gives = { λ _ e. e ≡ Memory };

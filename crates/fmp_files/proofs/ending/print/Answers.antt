@@ -11,4 +11,4 @@ returns-in-Err-Device g c =
     let begun = prints_front _ _ c.args.bytes.now c.in-Err-Device.ensures.err in
     some_printed c.in-Err-Device.ensures.device begun.front begun.left begun.bytes_are
     (g.O.Outside.done c.print.new.self)
-    begun.printed_front c.end.ensures.said c.end.ensures.status
+    begun.printed_front (c.failed.result, c.failed.ensures, c.end.ensures.line) c.end.ensures.status
