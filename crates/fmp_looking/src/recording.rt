@@ -101,7 +101,7 @@ impl<'a> Recorder<'a> {
             if turn.event >= next {
                 break;
             }
-            self.run.turn_in_vain(turn.processor);
+            self.run.idle_turn(turn.processor);
             self.taken = self.taken.saturating_add(1);
         }
     }
@@ -110,7 +110,7 @@ impl<'a> Recorder<'a> {
     fn take_spins(&mut self, frame: &Frame) {
         for place in 0..frame.spins.len().min(255) as u8 {
             if let Some(Some(_)) = frame.spins.get(usize::from(place)) {
-                self.run.turn_in_vain(place);
+                self.run.idle_turn(place);
             }
         }
     }

@@ -208,7 +208,7 @@ impl Run {
     }
 
     /// A turn of the processor at this place did nothing, since its actor spins for a spin lock or makes no progress.
-    pub fn turn_in_vain(&mut self, processor: u8) {
+    pub fn idle_turn(&mut self, processor: u8) {
         let event = self.next_event().saturating_sub(1);
         if let Some(track) = self.occupants.get(usize::from(processor))
             && let Some(occupant) = track.last()
