@@ -11,7 +11,7 @@ mod NameLemmas
 mod PartLemmas
 mod SeenLemmas
 mod TestAnswers
-mod TestEnds
+pub mod TestEnds
 mod TestImages
 mod TrialRuns
 mod WayLemmas
