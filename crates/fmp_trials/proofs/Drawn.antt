@@ -22,6 +22,7 @@ use Rattle.fmp_monitors.specs.declared.sentence.Sentence.{Sentence}
 use Rattle.fmp_monitors.specs.declared.sentence.Sentence.TheVariants as sentence
 use Rattle.fmp_trials.specs.declared.random_run.RandomRun.{RandomRun}
 use Rattle.fmp_trials.specs.Drawn.{HasMet, IsDrawn, any_of_end, broken_so_far, is_of_end}
+use Rattle.fmp_trials.specs.Taking.{TakesAll}
 use Rattle.fmp_trials.specs.Trials.{Breaks, Subject, broken_by}
 use Rattle.fmp_trials.specs.Verdicts.{states_in, verdict}
 
@@ -126,12 +127,13 @@ module _ {B C : Type 0} (meaning : B → Meaning C) (start : KernelView B C) (xs
       ap (broken_so_far meaning start xs) same ∙ not_some (broken_so_far meaning start xs es) (sym is ∙ h)
 
   pub some_broken : (events : ℕ) (es : List Event) (run : RandomRun) (b : Bool) → run.steps.items ≡ es
-      → run.is_broken ≡ true → b ≡ true → b ≡ is_some (broken_so_far meaning start xs es)
+      → TakesAll meaning start es → run.is_broken ≡ true → b ≡ true → b ≡ is_some (broken_so_far meaning start xs es)
       → IsDrawn meaning start xs events run
-  some_broken events es run b same broken broke is =
+  some_broken events es run b same all broken broke is =
       let so : is_some (broken_so_far meaning start xs run.steps.items) ≡ true =
       ap (λ (ys : List Event). is_some (broken_so_far meaning start xs ys)) same ∙ sym is ∙ broke in
       record {
+        taken = subst (λ (ys : List Event). TakesAll meaning start ys) (sym same) all;
         broken = broken ∙ sym so;
         whole = λ none. absurd (some_not_none (broken_so_far meaning start xs run.steps.items) so none);
       }
@@ -193,6 +195,7 @@ module _ {B C J : Type 0} (meaning : B → Meaning C) (breaks : Breaks B C J) (s
         record {
           steps = run.steps.items;
           whole = drawn.whole (same_broken ∙ first_none shown judged passed);
+          taken = drawn.taken;
           met = passed;
         }
 

@@ -3,4 +3,5 @@ pub mod Besides
 pub mod Drawn
 pub mod Parts
 pub mod States
+pub mod Taken
 mod AlongLaws

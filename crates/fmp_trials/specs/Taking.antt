@@ -1,10 +1,17 @@
--- What a kernel comes to that takes an event.
-use Rattle.std.specs.Prelude.{◌≡◌}
+-- What a kernel comes to that takes events.
+use Rattle.std.specs.Prelude.{◌≡◌, List}
 use Rattle.fmp_base.specs.declared.events.Event.{Event}
 use Rattle.fmp_base.specs.Meanings.{Meaning}
+use Rattle.fmp_base.specs.Runs.{taken_events}
+use Rattle.fmp_base.specs.Steps.{IsTaken}
 use Rattle.fmp_kernel.specs.Comings.{reaction_of}
 use Rattle.fmp_kernel.specs.KernelViews.{KernelView, view_after}
 
--- this event came to it
-abbrev pub HasCome : {B C : Type 0} → (B → Meaning C) → (before after : KernelView B C) → Event → Type 0
-HasCome meaning before after e = after ≡ view_after before (reaction_of meaning before e)
+-- this event came to a kernel, which took it: it is done, or keeps a place
+pub record Takes {B C : Type 0} (meaning : B → Meaning C) (before after : KernelView B C) (e : Event) : Type 0 where
+  pub taken : IsTaken (reaction_of meaning before e)
+  pub view : after ≡ view_after before (reaction_of meaning before e)
+
+-- a kernel takes each of these events, one after the other
+abbrev pub TakesAll : {B C : Type 0} → (B → Meaning C) → KernelView B C → List Event → Type 0
+TakesAll meaning k es = taken_events k.system (meaning k.body) k.bound k.world es ≡ es

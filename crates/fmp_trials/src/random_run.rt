@@ -8,7 +8,7 @@ ghost use Rattle.fmp_expect.specs.Runs.{last_told, told_after};
 ghost use Rattle.fmp_expect.specs.Watches.{AreTold};
 ghost use Rattle.fmp_kernel.specs.Comings.{reaction_of};
 ghost use Rattle.fmp_trials.specs.Drawn.{IsDrawn};
-ghost use Rattle.fmp_trials.specs.Taking.{HasCome};
+ghost use Rattle.fmp_trials.specs.Taking.{Takes};
 ghost use Rattle.fmp_trials.specs.Verdicts.{IsBeside};
 
 use crate::choices::Choices;
@@ -30,9 +30,10 @@ pub struct RandomRun {
 const EVENTS_MOST: u32 = 1 << 20;
 
 /// A kernel takes an event: whether that does something.
+#[tactic(auto, using(crate::proofs::Taken::taken_done, crate::proofs::Taken::taken_kept))]
 fn takes<B: Body>(kernel: &mut Kernel<B>, e: Event) -> bool
     requires { kernel.old.taken < 2 ^ 31 }
-    ensures come { result ≡ true → HasCome B.meaning kernel.old kernel.new e }
+    ensures come { result ≡ true → Takes B.meaning kernel.old kernel.new e }
     ensures stands { result ≡ false → kernel.new ≡ kernel.old }
 {
     match kernel.step_long(e) {
@@ -45,7 +46,7 @@ fn takes<B: Body>(kernel: &mut Kernel<B>, e: Event) -> bool
 /// The clock advances.
 fn tick<B: Body>(kernel: &mut Kernel<B>) -> Event
     requires { kernel.old.taken < 2 ^ 31 }
-    ensures { HasCome B.meaning kernel.old kernel.new result }
+    ensures { Takes B.meaning kernel.old kernel.new result }
 {
     kernel.step_long(Event::Tick);
     Event::Tick
@@ -54,7 +55,7 @@ fn tick<B: Body>(kernel: &mut Kernel<B>) -> Event
 /// The first interrupt whose turn it is by chance, and that does something.
 fn interrupt<B: Body>(kernel: &mut Kernel<B>, choices: &mut Choices<'_>) -> Option<Event>
     requires { kernel.old.taken < 2 ^ 31 }
-    ensures come { IfSome result (HasCome B.meaning kernel.old kernel.new) }
+    ensures come { IfSome result (Takes B.meaning kernel.old kernel.new) }
     ensures stands { IfNone result (kernel.new ≡ kernel.old) }
 {
     let rates = choices.plan.interrupts;
@@ -73,7 +74,7 @@ fn interrupt<B: Body>(kernel: &mut Kernel<B>, choices: &mut Choices<'_>) -> Opti
 /// The first processor that can do something, from the first up to the end, which is left out, does it.
 fn run_from<B: Body>(kernel: &mut Kernel<B>, first: u8, end: u8) -> Option<u8>
     requires { kernel.old.taken < 2 ^ 31 }
-    ensures come { IfSome result (λ p. HasCome B.meaning kernel.old kernel.new (event.Run p)) }
+    ensures come { IfSome result (λ p. Takes B.meaning kernel.old kernel.new (event.Run p)) }
     ensures stands { IfNone result (kernel.new ≡ kernel.old) }
 {
     for processor in first..end {
@@ -88,7 +89,7 @@ fn run_from<B: Body>(kernel: &mut Kernel<B>, first: u8, end: u8) -> Option<u8>
 fn run_one<B: Body>(kernel: &mut Kernel<B>, first: u8, last: u8) -> Option<u8>
     requires taken { kernel.old.taken < 2 ^ 31 }
     requires last { last ≤ 8 }
-    ensures come { IfSome result (λ p. HasCome B.meaning kernel.old kernel.new (event.Run p)) }
+    ensures come { IfSome result (λ p. Takes B.meaning kernel.old kernel.new (event.Run p)) }
     ensures stands { IfNone result (kernel.new ≡ kernel.old) }
 {
     match run_from(kernel, first, last + 1) {
@@ -100,7 +101,7 @@ fn run_one<B: Body>(kernel: &mut Kernel<B>, first: u8, last: u8) -> Option<u8>
 /// A processor goes on, or the clock if none can do anything.
 fn run_or_tick<B: Body>(kernel: &mut Kernel<B>, choices: &mut Choices<'_>) -> Event
     requires { kernel.old.taken < 2 ^ 31 }
-    ensures { HasCome B.meaning kernel.old kernel.new result }
+    ensures { Takes B.meaning kernel.old kernel.new result }
 {
     let processors = kernel.tables().processor_count() as u8;
     match run_one(kernel, choices.processor(processors), processors) {
@@ -115,7 +116,7 @@ fn run_or_tick<B: Body>(kernel: &mut Kernel<B>, choices: &mut Choices<'_>) -> Ev
 /// The next event, which is taken.
 fn next<B: Body>(kernel: &mut Kernel<B>, choices: &mut Choices<'_>) -> Event
     requires { kernel.old.taken < 2 ^ 31 }
-    ensures { HasCome B.meaning kernel.old kernel.new result }
+    ensures { Takes B.meaning kernel.old kernel.new result }
 {
     if let Some(e) = interrupt(kernel, choices) {
         return e;
@@ -146,7 +147,7 @@ fn judged_next<B: Body>(
     checker: &mut Checker,
 ) -> (Event, bool)
     requires { kernel.old.taken < 2 ^ 31 }
-    ensures come { HasCome B.meaning kernel.old kernel.new result.0 }
+    ensures come { Takes B.meaning kernel.old kernel.new result.0 }
     ensures told { (xs : List Expected) → (told : List Told) → AreTold xs told checker.old
         → AreTold xs (told_after kernel.old (reaction_of B.meaning kernel.old result.0) told) checker.new }
     ensures broken { (xs : List Expected) → (told : List Told) → AreTold xs told checker.old

@@ -3,6 +3,7 @@ ghost use Rattle.std.specs.Prelude.{◌≡◌, ◌<◌, ◌≤◌, ◌^◌, None
 ghost use Rattle.fmp_trials.specs.Drawn.{HasMet, IsWhole, any_of_end};
 ghost use Rattle.fmp_trials.specs.Shortening.{IsFailing};
 ghost use Rattle.fmp_trials.specs.Found.{IsFound};
+ghost use Rattle.fmp_trials.specs.Taking.{TakesAll};
 ghost use Rattle.fmp_trials.specs.Trials.{broken_by};
 
 use crate::bench::Bench;
@@ -144,6 +145,7 @@ pub fn random_steps<B: Body, J: LineJudge<B>>(
     ensures few { IfOk result (λ steps. length steps.items ≤ 2 ^ 20) }
     ensures whole { IfOk result (λ steps.
         IsWhole B.meaning bench.old.start bench.old.expected plan.entry.events steps.items) }
+    ensures taken { IfOk result (λ steps. TakesAll B.meaning bench.old.start steps.items) }
 {
     let mut choices = Choices::new(plan, seed);
     let run = bench.random_run(alloc, &mut choices)?;
@@ -160,6 +162,7 @@ pub fn first_failed_trial<B: Body, J: LineJudge<B>>(
 ) -> Result<Option<FailedTrial>, AllocError>
     ensures same { bench.new ≡ bench.old }
     ensures found { IfOk result (λ found. IfSome found (IsFound B.meaning J.breaks bench.new)) }
+    ensures seed { IfOk result (λ found. IfSome found (λ trial. (0 < trial.seed) × (trial.seed ≤ seeds))) }
     ensures met { any_of_end bench.old.expected ≡ false → 0 < seeds
         → IfOk result (λ found. IfNone found (HasMet B.meaning J.breaks bench.old plan.entry.events)) }
 {

@@ -8,6 +8,8 @@ use Rattle.fmp_kernel.specs.Comings.{reaction_of, view_after_each}
 use Rattle.fmp_trials.specs.declared.random_run.RandomRun.{RandomRun}
 use Rattle.fmp_trials.proofs.Besides.{beside_after, beside_both, taken_after}
 use Rattle.fmp_trials.proofs.Drawn.{along_more, broken_more, none_broken, quiet_here, run_more, some_broken}
+use Rattle.fmp_trials.proofs.Taken.{all_more}
+use Rattle.fmp_trials.specs.Taking.{TakesAll}
 use Rattle.fmp_trials.proofs.random_run.random_run.Goals as goal
 
 pub loop-turn-preserved : goal.loop-turn-preserved
@@ -20,12 +22,14 @@ loop-turn-preserved g c =
     let e : Event = c.judged_next-e.result.0 in
     let items = c.in_ok-push.ensures.items in
     let along = c.loop-turn.invariant.along in
-    let come = c.judged_next-e.ensures.come in
+    let come = c.judged_next-e.ensures.come.view in
+    let more = all_more meaning start k es e along c.loop-turn.invariant.all_taken c.judged_next-e.ensures.come.taken in
     let so_far = run_told (reaction_of meaning) start es in
     record {
       taken = omega (arith, c.loop-turn.invariant.taken, taken_after k k' (reaction_of meaning k e) come);
       count = omega (arith, c.loop-turn.invariant.count, c.in_ok-push.ensures.len);
       beside = beside_both start k k' c.loop-turn.invariant.beside (beside_after k k' (reaction_of meaning k e) come);
+      all_taken = subst (λ (xs : List Event). TakesAll meaning start xs) (sym items) more;
       along =
           along_more meaning start k k' es e along come
           ∙ ap (λ (xs : List Event). view_after_each (reaction_of meaning) start xs) (sym items);
@@ -51,11 +55,12 @@ returns-then-broken-clause-drawn g c = λ xs are.
     let es : List Event = c.loop-turn.steps.items in
     let e : Event = c.judged_next-e.result.0 in
     let along = c.loop-turn.invariant.along in
-    let come = c.judged_next-e.ensures.come in
+    let come = c.judged_next-e.ensures.come.view in
+    let more = all_more meaning start k es e along c.loop-turn.invariant.all_taken c.judged_next-e.ensures.come.taken in
     let so_far = run_told (reaction_of meaning) start es in
     let run : RandomRun = record { steps = c.push.new.self; is_broken = true } in
     some_broken meaning start xs c.args.choices.now.plan.events (es ++ e ∷ []) run
-    c.judged_next-e.result.1 c.in_ok-push.ensures.items refl c.if-broken.true
+    c.judged_next-e.result.1 c.in_ok-push.ensures.items more refl c.if-broken.true
     (c.judged_next-e.ensures.broken xs so_far (c.loop-turn.invariant.told xs are)
     (quiet_here meaning start k k' es e along come xs (c.loop-turn.invariant.quiet xs are))
     ∙ ap is_some (broken_more meaning start k k' es e along come xs))

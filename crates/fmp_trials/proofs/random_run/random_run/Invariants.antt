@@ -4,6 +4,7 @@ use Rattle.fmp_expect.specs.Runs.{run_told}
 use Rattle.fmp_expect.specs.Watches.{AreTold}
 use Rattle.fmp_kernel.specs.Comings.{reaction_of, view_after_each}
 use Rattle.fmp_trials.specs.Drawn.{broken_so_far}
+use Rattle.fmp_trials.specs.Taking.{TakesAll}
 use Rattle.fmp_trials.specs.Verdicts.{IsBeside}
 use Rattle.fmp_trials.proofs.random_run.random_run.Given as goal
 
@@ -14,6 +15,7 @@ invariant-loop-turn g l =
       taken : l.kernel.taken ≤ l._turn;
       count : length l.steps.items ≡ l._turn;
       beside : IsBeside l.fn.kernel l.kernel;
+      all_taken : TakesAll g.B.Body.meaning l.fn.kernel l.steps.items;
       along : l.kernel ≡ view_after_each (reaction_of g.B.Body.meaning) l.fn.kernel l.steps.items;
       told : (xs : List Expected) → AreTold xs [] l.fn.checker
           → AreTold xs (run_told (reaction_of g.B.Body.meaning) l.fn.kernel l.steps.items) l.checker;
