@@ -15,5 +15,7 @@ mod Statements
 mod StreamMaking
 mod TextMaking
 mod Tied
+mod TokenCalls
+mod TreeCalls
 mod Variables
 mod VerifiedBodies

@@ -6,6 +6,7 @@ ghost use Rattle.fmp_base.specs.Systems.{SystemTables};
 ghost use Rattle.fmp_tasklang.specs.Trees.{BodyTree};
 ghost use Rattle.fmp_instructions.specs.Verify.{Verified};
 ghost use Rattle.fmp_tasklang.specs.CallForms.{CallsFit};
+ghost use Rattle.fmp_codegen.specs.Calls.{KeepsCalls};
 ghost use Rattle.fmp_codegen.specs.Compiling.{IsAccepted, compiled};
 ghost use Rattle.fmp_scopes.specs.Depths.{body_depth};
 ghost use Rattle.fmp_scopes.specs.DepthTables.{body_depths};
@@ -33,4 +34,9 @@ pub fn greatest_depth_is_needed()
 pub fn compiled_run()
     ensures { (sys : SystemTables) (bodies : List BodyTree) (n : ℕ) (es : List Event) →
         IsAccepted sys bodies → 1 ≤ n → PrintsText sys bodies (compiled sys bodies) n es }
+{}
+
+/// The code of a body has the service calls of its text, in the order of the text.
+pub fn code_keeps_calls()
+    ensures { KeepsCalls }
 {}
