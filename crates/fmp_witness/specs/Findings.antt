@@ -1,5 +1,5 @@
 -- What is found in the schedules of an image.
-use Rattle.std.specs.Prelude.{ℕ, ◌≡◌, List, [], ◌∷◌, ◌++◌, Some, true, slice_get}
+use Rattle.std.specs.Prelude.{ℕ, ◌≡◌, ◌⊎◌, List, [], ◌∷◌, ◌++◌, Some, true, slice_get}
 use Rattle.fmp_base.specs.declared.events.Event.{Event}
 use Rattle.fmp_base.specs.declared.events.Line.{Line}
 use Rattle.fmp_base.specs.Meanings.{Meaning, World}
@@ -37,6 +37,25 @@ pub record HasForbidden (sys : SystemTables) (q : Question) (w : World MachineCo
   pub there : slice_get lines place ≡ Some line
   pub forbidden : is_bad sys q w line ≡ true
 
+-- the last of these events is done, and this is what it did
+pub record EndsWith (sys : SystemTables) (M : Meaning MachineContext) (n : ℕ) (es : List Event)
+    (d : Done MachineContext) : Type 0 where
+  pub before : List Event
+  pub last : Event
+  pub parts : es ≡ before ++ last ∷ []
+  pub did : step sys M n (reached sys M n before) last ≡ Did d
+
+-- this was left by the last of these events, which is done; or by setup, where there is no event
+abbrev pub IsOfLast : SystemTables → Meaning MachineContext → ℕ → List Event → Done MachineContext → Type 0
+IsOfLast sys M n es d = (es ≡ []) ⊎ EndsWith sys M n es d
+
+-- the last of these events tells something that must never happen, by the line at a place; or setup does, where there
+-- is no event
+pub record TellsForbidden (sys : SystemTables) (M : Meaning MachineContext) (n : ℕ) (q : Question) (es : List Event)
+    (d : Done MachineContext) (place : ℕ) : Type 0 where
+  pub of_last : IsOfLast sys M n es d
+  pub forbidden : HasForbidden sys q d.world d.lines place
+
 -- the last of these events is done, and one of its lines breaks a sentence
 pub record IsBreached (sys : SystemTables) (M : Meaning MachineContext) (n : ℕ) (q : Question) (es : List Event)
     (t : SentenceBreach) : Type 0 where
@@ -59,7 +78,7 @@ pub record HasBroken (monitors : List Monitor) (w : World MachineContext) (place
 abbrev pub IsSeen : SystemTables → Meaning MachineContext → ℕ → Question → List Event → Done MachineContext
     → FindingKind
     → Type 0
-IsSeen sys M n q es d (kind.Line place) = HasForbidden sys q d.world d.lines place
+IsSeen sys M n q es d (kind.Line place) = TellsForbidden sys M n q es d place
 IsSeen sys M n q es d kind.Deadlock = IsDeadlock sys M n d.world q.rest.items (may_interrupt q.interrupts es)
 IsSeen sys M n q es d (kind.Endless p) = IsEndlessOn sys M d.world p
 IsSeen sys M n q es d (kind.Breach t) = IsBreached sys M n q es t
@@ -79,6 +98,18 @@ pub record IsSo (asked : Asked) (es : List Event) (seen : FindingKind) : Type 0 
 -- a finding is so
 abbrev pub IsFound : ImageTables → ℕ → Question → Finding → Type 0
 IsFound i n q f = IsSo (record { image = i; bound = n; question = q }) f.steps.items f.kind
+
+-- a kernel has taken these events, and the last one is done, if there is one
+pub record HasDoneLast (i : ImageTables) (n : ℕ) (es : List Event) (k : KernelView (List BodyTables) MachineContext) :
+    Type 0 where
+  pub followed : IsFollowed i n es k
+  pub of_last : IsOfLast i.system (code_meaning i.code) n es (replay i n es)
+
+-- after these events the line at a place tells something that must never happen
+abbrev pub HasForbiddenAfter : Asked → List Event → (place : ℕ) → Type 0
+HasForbiddenAfter asked es place =
+    let d = replay asked.image asked.bound es in
+    HasForbidden asked.image.system asked.question d.world d.lines place
 
 -- what legal events have left: the lines of the last one that was done, with its number in the trace
 pub record IsLeft (i : ImageTables) (n : ℕ) (es : List Event) (left : Left) : Type 0 where

@@ -4,8 +4,9 @@ ghost use Rattle.fmp_base.specs.Systems.{tables_of};
 ghost use Rattle.fmp_replay.specs.Replays.{kernel_after};
 ghost use Rattle.fmp_schedules.specs.Monitors.{IsBreach};
 ghost use Rattle.fmp_witness.specs.Asked.{asked_of};
-ghost use Rattle.fmp_witness.specs.Findings.{HasBroken, HasForbidden, IsLeft, IsBreachAfter, IsSeenAfter, IsSo};
-ghost use Rattle.fmp_witness.specs.Followed.{HasFollowed, IsFollowed};
+ghost use Rattle.fmp_witness.specs.Findings.{HasBroken, HasDoneLast, HasForbidden, HasForbiddenAfter, IsBreachAfter};
+ghost use Rattle.fmp_witness.specs.Findings.{IsLeft, IsSeenAfter, IsSo};
+ghost use Rattle.fmp_witness.specs.Followed.{HasDone, HasFollowed, IsFollowed};
 
 use crate::breaching::{follow_monitor, is_done};
 use crate::replaying::{TAKEN_MOST, follow};
@@ -24,8 +25,8 @@ use std::alloc::{AllocError, Global};
 /// What is seen after a list of events.
 #[derive(Clone, Copy, Debug, PartialEq, Eq)]
 pub enum FindingKind {
-    /// The line at this place, from 0, tells what must never happen. It is one of the last event that was done, or of
-    /// setup if none was.
+    /// The line at this place, from 0, tells what must never happen. It is one of the last event, which is done, or of
+    /// setup if there is no event.
     Line(usize),
     /// No processor can do anything, no time limit runs, no cyclic handler is started, and a task that may not wait
     /// forever is not dormant.
@@ -76,7 +77,7 @@ fn tells_forbidden<'a>(
     place: usize,
 ) -> bool
     requires { HasFollowed (asked_of subject.now) steps.now kernel.now }
-    ensures { IsTrue result → IsSeenAfter (asked_of subject.now) steps.now (FindingKind.Line place) }
+    ensures { IsTrue result → HasForbiddenAfter (asked_of subject.now) steps.now place }
 {
     has_forbidden(kernel, subject.image.system(), subject.question, place)
 }
@@ -135,11 +136,10 @@ fn is_seen<'a>(
     ensures { IsTrue result → IsSeenAfter (asked_of subject.now) steps.now kind }
 {
     match kind {
-        FindingKind::Line(place) => tells_forbidden(kernel, subject, steps, place),
         FindingKind::Deadlock => stands(kernel, subject, steps),
         FindingKind::Endless(p) => goes_on(kernel, subject, steps, p),
         FindingKind::State(place) => is_state_broken(kernel, subject, steps, place),
-        FindingKind::Breach(_) | FindingKind::Stuck(_) => false,
+        FindingKind::Line(_) | FindingKind::Breach(_) | FindingKind::Stuck(_) => false,
     }
 }
 
@@ -223,6 +223,74 @@ fn is_breached<'a>(
     )
 }
 
+/// Whether each of these events does something on the kernel of an image that was just set up, and then one more event
+/// is done.
+fn follow_to(
+    kernel: &mut Kernel<Vm<'_>>,
+    image: &Image,
+    n: u64,
+    before: &[Event],
+    last: Event,
+) -> bool
+    requires { kernel.old ≡ kernel_after image.now n [] }
+    ensures { IsTrue result → HasDone image.now n before.now last kernel.new }
+{
+    if !follow(kernel, image, n, before) {
+        return false;
+    }
+    if kernel.taken() >= TAKEN_MOST {
+        return false;
+    }
+    is_done(kernel, image, n, before, last)
+}
+
+/// Whether each of these events does something on the kernel of an image that was just set up, and the last one is
+/// done, if there is one.
+fn follow_done(kernel: &mut Kernel<Vm<'_>>, image: &Image, n: u64, steps: &[Event]) -> bool
+    requires { kernel.old ≡ kernel_after image.now n [] }
+    ensures { IsTrue result → HasDoneLast image.now n steps.now kernel.new }
+{
+    if steps.is_empty() {
+        return true;
+    }
+    let end = steps.len() - 1;
+    follow_to(kernel, image, n, &steps[..end], steps[end])
+}
+
+/// Whether each of these events does something on the kernel of an image that was just set up, and the line at a place,
+/// which the last event tells, or setup, is forbidden.
+fn is_told<'a>(
+    kernel: &mut Kernel<Vm<'a>>,
+    subject: &SearchSubject<'a>,
+    steps: &[Event],
+    place: usize,
+) -> bool
+    requires { kernel.old ≡ kernel_after subject.now.image.now subject.now.n [] }
+    ensures { IsTrue result → IsSo (asked_of subject.now) steps.now (FindingKind.Line place) }
+{
+    if !follow_done(kernel, subject.image, subject.n, steps) {
+        return false;
+    }
+    tells_forbidden(kernel, subject, steps, place)
+}
+
+/// Whether each of these events does something on the kernel of an image that was just set up, and this is known to be
+/// seen in what they leave.
+fn is_left<'a>(
+    kernel: &mut Kernel<Vm<'a>>,
+    subject: &SearchSubject<'a>,
+    steps: &[Event],
+    kind: FindingKind,
+) -> bool
+    requires { kernel.old ≡ kernel_after subject.now.image.now subject.now.n [] }
+    ensures { IsTrue result → IsSo (asked_of subject.now) steps.now kind }
+{
+    if !follow(kernel, subject.image, subject.n, steps) {
+        return false;
+    }
+    is_seen(kernel, subject, steps, kind)
+}
+
 /// Whether each of these events does something on the kernel of an image that was just set up, and this is known to be
 /// seen then. The answer no claims nothing; for a stuck task it is always the answer.
 pub fn is_so<'a>(
@@ -234,13 +302,11 @@ pub fn is_so<'a>(
     requires begun { kernel.old ≡ kernel_after subject.now.image.now subject.now.n [] }
     ensures { IsTrue result → IsSo (asked_of subject.now) steps.now kind }
 {
-    if let FindingKind::Breach(breached) = kind {
-        return is_breached(kernel, subject, steps, breached);
+    match kind {
+        FindingKind::Breach(breached) => is_breached(kernel, subject, steps, breached),
+        FindingKind::Line(place) => is_told(kernel, subject, steps, place),
+        _ => is_left(kernel, subject, steps, kind),
     }
-    if !follow(kernel, subject.image, subject.n, steps) {
-        return false;
-    }
-    is_seen(kernel, subject, steps, kind)
 }
 
 /// What some events have left: the number in the trace of the last one that was done, or 0 for setup, its lines, and

@@ -1,5 +1,5 @@
 use Rattle.std.proofs.Common.{IsTrue, rules}
-use Rattle.fmp_witness.proofs.finding.is_so.Goals as goal
+use Rattle.fmp_witness.proofs.finding.is_left.Goals as goal
 
 pub is_seen-requires : goal.is_seen-requires
 is_seen-requires c =
