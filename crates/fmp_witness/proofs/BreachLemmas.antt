@@ -6,7 +6,7 @@ use Rattle.fmp_base.specs.declared.events.Effect.TheVariants as effect
 use Rattle.fmp_base.specs.declared.events.Event.{Event}
 use Rattle.fmp_base.specs.declared.events.Line.{Line}
 use Rattle.fmp_base.specs.Meanings.{World}
-use Rattle.fmp_base.specs.Steps.{Done, Reaction, Nothing, Did, Kept, effect_of, step}
+use Rattle.fmp_base.specs.Steps.{Reaction, Nothing, Did, Kept, effect_of, step}
 use Rattle.fmp_drive.specs.Driving.{reaction as done_by}
 use Rattle.fmp_witness.specs.declared.finding.FindingKind.TheVariants as kind
 use Rattle.fmp_witness.specs.declared.finding.SentenceBreach.{SentenceBreach}

@@ -1,5 +1,7 @@
 -- What is left by events of which the last one is done.
 use Rattle.std.proofs.Common.{◌≡◌, ◌==◌, ℕ, true, List, [], ◌∷◌, ◌++◌, refl, sym, ap, ◌∙◌, inl, inr, length, subst}
+use Rattle.std.proofs.Common.{arith}
+use Rattle.std.proofs.lemmas.Bool.Decides.{nat_tests}
 use Rattle.fmp_base.specs.declared.events.Event.{Event}
 use Rattle.fmp_base.specs.Meanings.{World}
 use Rattle.fmp_base.specs.Steps.{Done, Reaction, Did, step}
@@ -19,7 +21,7 @@ Kernels = KernelView (List BodyTables) MachineContext
 
 none_of : (es : List Event) → true ≡ (length es == 0) → es ≡ []
 none_of [] h = refl
-none_of (e ∷ es) h = absurd (cc (h))
+none_of (e ∷ es) h = absurd (grind (arith, nat_tests))
 
 module _ (i : ImageTables) (n : ℕ) where
   -- there is no event
