@@ -1,3 +1,4 @@
+mod FormRules
 pub mod GivenWords
 pub mod Lines
 pub mod Members

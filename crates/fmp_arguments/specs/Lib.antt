@@ -1,3 +1,4 @@
+pub mod Forms
 pub mod Given
 pub mod Joined
 pub mod Places

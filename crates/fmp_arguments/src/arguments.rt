@@ -1,4 +1,8 @@
 //! The arguments of the commands, as the command line and its help have them.
+ghost use Rattle.std.specs.Prelude.{◌≡◌, IfOk, IsFalse, false};
+ghost use Rattle.clap.specs.Words.{app_of, new_app, rule_of};
+ghost use Rattle.fmp_arguments.specs.Forms.{app_of_form, flag, number, rule_by, rule_of_argument, text, valued};
+
 use clap::builder::ValueParser;
 use clap::{Arg, ArgAction, Command};
 use std::alloc::{AllocError, Global};
@@ -105,64 +109,133 @@ pub const NO_SETTINGS: Argument = Argument(
     "Leave out the options of the file fmp.toml that stands beside the system",
 );
 
-/// An option with a number in this range. A number below 0 is no option, but refused as its value.
-fn with_number<'a>(option: Arg<'a>, low: u64, high: u64) -> Arg<'a> {
-    option
-        .value_parser(ValueParser::unsigned(low, high))
-        .allow_negative_numbers(true)
+/// An option of this name with a text, which help calls so.
+fn text<'a>(alloc: Global, id: &'a str, name: &'a str) -> Arg<'a>
+    ensures rule { rule_of result ≡ text id.entry.now }
+    ensures local { IsFalse result.global }
+{
+    Arg::new(alloc, id).long(id).value_name(name)
+}
+
+/// An option of this name without a value.
+fn flag<'a>(alloc: Global, id: &'a str) -> Arg<'a>
+    ensures rule { rule_of result ≡ flag id.entry.now }
+    ensures local { IsFalse result.global }
+{
+    Arg::new(alloc, id).long(id).action(ArgAction::SetTrue)
+}
+
+/// An option with a number in this range.
+fn number<'a>(alloc: Global, id: &'a str, name: &'a str, low: u64, high: u64) -> Arg<'a>
+    ensures rule { rule_of result ≡ number low high id.entry.now }
+    ensures local { IsFalse result.global }
+{
+    text(alloc, id, name).value_parser(ValueParser::unsigned(low, high))
 }
 
 /// An option with a value of this kind.
-fn with_value<'a>(option: Arg<'a>, value: OptionValue) -> Arg<'a> {
+fn valued<'a>(alloc: Global, id: &'a str, name: &'a str, value: OptionValue) -> Arg<'a>
+    ensures rule { rule_of result ≡ valued value id.entry.now }
+    ensures local { IsFalse result.global }
+{
     match value {
-        OptionValue::Text => option,
-        OptionValue::OneOf(words, word) => option.value_parser(words).default_value(word),
-        OptionValue::Number(low, high) => with_number(option, low, high),
-        OptionValue::Default(low, high, number) => with_number(option, low, high).default_value(
-            number,
-        ),
+        OptionValue::Text => text(alloc, id, name),
+        OptionValue::OneOf(words, word) => {
+            text(alloc, id, name)
+                .value_parser(words)
+                .default_value(word)
+        }
+        OptionValue::Number(low, high) => number(alloc, id, name, low, high),
+        OptionValue::Default(low, high, default) => {
+            number(alloc, id, name, low, high).default_value(default)
+        }
     }
 }
 
-/// An argument as the command line has it.
-fn argument_of<'a>(alloc: Global, argument: &Argument) -> Result<Arg<'a>, AllocError> {
-    let Argument(id, kind, help) = *argument;
-    let made = Arg::new(alloc, id).help(help);
-    Ok(match kind {
-        ArgumentKind::Word => made.required(true),
-        ArgumentKind::MayBeWord => made,
-        ArgumentKind::WordOrNegative => made.required(true).allow_negative_numbers(true),
-        ArgumentKind::Flag => made.long(id).action(ArgAction::SetTrue),
-        ArgumentKind::FlagWithout(other) => made
-            .long(id)
-            .action(ArgAction::SetTrue)
-            .conflicts_with(other)?,
-        ArgumentKind::Option(name, value) => with_value(made.long(id).value_name(name), value),
-        ArgumentKind::TextWithout(name, other) => {
-            made.long(id).value_name(name).conflicts_with(other)?
+/// An argument that does not go with this other one.
+fn without<'a>(argument: Arg<'a>, other: &'a str) -> Result<Arg<'a>, AllocError>
+    ensures rule { IfOk result (λ made. rule_of made ≡ record (rule_of argument.entry) { is_free = false }) }
+    ensures local { IfOk result (λ made. made.global ≡ argument.entry.global) }
+{
+    argument.conflicts_with(other)
+}
+
+/// An argument of which it or this other one has to be given, and not both.
+fn unless<'a>(argument: Arg<'a>, other: &'a str) -> Result<Arg<'a>, AllocError>
+    ensures rule { IfOk result (λ made. rule_of made ≡ record (rule_of argument.entry) { is_free = false }) }
+    ensures local { IfOk result (λ made. made.global ≡ argument.entry.global) }
+{
+    without(argument.required_unless_present(other)?, other)
+}
+
+/// An argument of this name and kind, which is no number below 0.
+fn made_by<'a>(alloc: Global, id: &'a str, kind: ArgumentKind) -> Result<Arg<'a>, AllocError>
+    ensures rule { IfOk result (λ made. rule_of made ≡ rule_by kind id.entry.now) }
+    ensures local { IfOk result (λ made. IsFalse made.global) }
+{
+    match kind {
+        ArgumentKind::Word | ArgumentKind::WordOrNegative => {
+            Ok(Arg::new(alloc, id).required(true))
         }
-        ArgumentKind::Again(name) => made.long(id).value_name(name).action(ArgAction::Append),
-        ArgumentKind::Either(name, other) => made
-            .long(id)
-            .value_name(name)
-            .required_unless_present(other)?
-            .conflicts_with(other)?,
-        ArgumentKind::WordNoRecording => made
-            .required_unless_present("recording")?
-            .conflicts_with("recording")?,
-    })
+        ArgumentKind::MayBeWord => Ok(Arg::new(alloc, id)),
+        ArgumentKind::WordNoRecording => unless(Arg::new(alloc, id), "recording"),
+        ArgumentKind::Flag => Ok(flag(alloc, id)),
+        ArgumentKind::FlagWithout(other) => without(flag(alloc, id), other),
+        ArgumentKind::Option(name, value) => Ok(valued(alloc, id, name, value)),
+        ArgumentKind::TextWithout(name, other) => without(text(alloc, id, name), other),
+        ArgumentKind::Again(name) => Ok(text(alloc, id, name).action(ArgAction::Append)),
+        ArgumentKind::Either(name, other) => unless(text(alloc, id, name), other),
+    }
+}
+
+/// An argument with its help.
+fn argument_of<'a>(alloc: Global, argument: &Argument) -> Result<Arg<'a>, AllocError>
+    ensures rule { IfOk result (λ made. rule_of made ≡ rule_of_argument argument.now) }
+    ensures local { IfOk result (λ made. IsFalse made.global) }
+{
+    let Argument(id, kind, help) = *argument;
+    Ok(made_by(alloc, id, kind)?.help(help))
+}
+
+/// Whether an argument is a number.
+fn is_number(kind: ArgumentKind) -> bool {
+    matches!(
+        kind,
+        ArgumentKind::WordOrNegative
+            | ArgumentKind::Option(_, OptionValue::Number(..) | OptionValue::Default(..))
+    )
 }
 
 /// A command, where there was memory for it.
 pub type Made<'a> = Result<Command<'a>, AllocError>;
 
-/// A command of this form. `AllocError` if memory runs out.
-pub fn command_of<'a>(alloc: Global, form: &CommandForm) -> Made<'a> {
-    let mut command = Command::new(alloc, form.name)
+/// A command of this form with none of its arguments yet.
+fn bare<'a>(alloc: Global, form: &CommandForm) -> Command<'a>
+    ensures { app_of result ≡ new_app form.now.name.now }
+{
+    Command::new(alloc, form.name)
         .about(form.about)
-        .after_help(form.example);
+        .after_help(form.example)
+}
+
+/// A command of this form, which takes a number below 0 for an option. `AllocError` if memory runs out.
+pub fn plain_command_of<'a>(alloc: Global, form: &CommandForm) -> Made<'a>
+    ensures { IfOk result (λ command. app_of command ≡ app_of_form form.now) }
+{
+    let mut command = bare(alloc, form);
     for argument in form.arguments {
         command = command.arg(argument_of(alloc, argument)?)?;
+    }
+    Ok(command)
+}
+
+/// A command of this form, which takes a number below 0 for a number where one may stand. `AllocError` if memory runs
+/// out.
+pub fn command_of<'a>(alloc: Global, form: &CommandForm) -> Made<'a> {
+    let mut command = bare(alloc, form);
+    for argument in form.arguments {
+        let is_number = is_number(argument.1);
+        command = command.arg(argument_of(alloc, argument)?.allow_negative_numbers(is_number))?;
     }
     Ok(command)
 }

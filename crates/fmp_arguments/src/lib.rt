@@ -18,7 +18,7 @@ mod values;
 
 pub use arguments::{
     Argument, ArgumentKind, BOUND_MAX, BOUNDED, CFG, CommandForm, EVENTS_MAX, JSON, JUNIT, Made,
-    NO_SETTINGS, OptionValue, SRC, command_of,
+    NO_SETTINGS, OptionValue, SRC, command_of, plain_command_of,
 };
 pub use flaws::{flaw_text, flaw_words};
 pub use given::{
