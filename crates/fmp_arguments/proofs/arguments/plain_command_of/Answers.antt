@@ -1,4 +1,3 @@
-use Rattle.std.proofs.Common.{rules}
 use Rattle.fmp_arguments.proofs.FormRules.{one_more}
 use Rattle.fmp_arguments.proofs.arguments.plain_command_of.Goals as goal
 

@@ -1,4 +1,3 @@
-use Rattle.std.proofs.Common.{IfOk}
 use Rattle.std.proofs.lemmas.Result.{IfOk-weaker}
 use Rattle.fmp_arguments.proofs.FormRules.{rule_without}
 use Rattle.fmp_arguments.proofs.arguments.without.Goals as goal
