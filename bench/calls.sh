@@ -4,9 +4,9 @@
 #   bench/calls.sh [LIBRARY]     crates/fmp_c/out/libfmp_c.a where it is not given, as `rt lib` leaves it
 #
 # `pair` are calls of two tasks that hand a semaphore back and forth, and `sleep` those of two tasks that wake each
-# other and sleep: of both every second switches tasks. `same` are calls of one task that gives and takes a semaphore. The
-# first column counts them without a port, the second one those of C tasks in virtual time, and the third one those of
-# the least kernel in C that has them, bench/baseline.c.
+# other and sleep: every second call of both switches tasks. `same` are calls of one task that gives and takes a
+# semaphore. The first column counts them without a port, the second those of C tasks in virtual time, and the third
+# those of the least kernel in C that has them, bench/baseline.c.
 set -eu
 root=$(cd "$(dirname "$0")/.." && pwd)
 library=${1:-$root/crates/fmp_c/out/libfmp_c.a}

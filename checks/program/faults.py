@@ -14,6 +14,7 @@ import subprocess
 import sys
 import tempfile
 from pathlib import Path
+from typing import NamedTuple
 
 sys.dont_write_bytecode = True  # the folders of the checks stay as they are
 sys.path[0] = str(Path(__file__).resolve().parents[1])  # the folder `checks`, whose folders are packages
@@ -778,21 +779,35 @@ STEPS = [
 PICTURES = {byte: 0x2400 + byte for byte in range(32) if byte != 9} | {127: 0x2421}
 
 
-def report(name, text, line, column, width, code, sentence):
-    """What is printed of a fault: the head and the sentence, the line, and the marks under it, one for a character."""
-    whole = text.split("\n")[line - 1].removesuffix("\r")
+class Finding(NamedTuple):
+    """A fault or a warning: the file, its text, and what is said of it; `width` is that of the marks, in bytes."""
+
+    name: str
+    text: str
+    line: int
+    column: int
+    width: int
+    code: str
+    sentence: str
+
+
+def report(it):
+    """What is printed of a finding: the head and the sentence, the line, and the marks under it, one for a character."""
+    head = f"{it.name}:{it.line}:{it.column}: {it.code}: {it.sentence}\n"
+    whole = it.text.split("\n")[it.line - 1].removesuffix("\r")
     shown = whole.translate(PICTURES)
     if shown[:4] == "FMPI" and ord(shown[4:5] or " ") in PICTURES.values():  # an image has no lines
-        return f"{name}:{line}:{column}: {code}: {sentence}\n"
-    before = whole.encode()[:column - 1].decode()
-    token = whole.encode()[column - 1:column - 1 + width].decode(errors="ignore")
+        return head
+    first = it.column - 1
+    before = whole.encode()[:first].decode()
+    token = whole.encode()[first:first + it.width].decode(errors="ignore")
     marks = "".join("\t" if letter == "\t" else " " for letter in before) + "^" * max(1, len(token))
     if len(shown) > 100:
-        assert column <= 47 or column == 78  # worked out for these alone
-        begin = max(0, column - 1 - 47)
+        assert it.column <= 47 or it.column == 78  # worked out for these alone
+        begin = max(0, first - 47)
         marks = " " * (3 if begin else 0) + marks[begin:]
         shown = ("..." if begin else "") + shown[begin:begin + 94] + ("..." if begin + 94 < len(shown) else "")
-    return f"{name}:{line}:{column}: {code}: {sentence}\n    {shown}\n    {marks}\n"
+    return f"{head}    {shown}\n    {marks}\n"
 
 
 def findings():
@@ -823,9 +838,10 @@ def findings():
         ("t.steps", text, 2, 1, 5, "warning", "no handler is defined for interrupt 2: this line does nothing")]
 
 
-def described(name, text, line, column, width, code, sentence):
-    """What an object of JSON says of a fault."""
-    return {"file": name, "line": line, "column": column, "end": column + width, "code": code, "sentence": sentence}
+def described(it):
+    """What an object of JSON says of a finding."""
+    return {"file": it.name, "line": it.line, "column": it.column, "end": it.column + it.width, "code": it.code,
+            "sentence": it.sentence}
 
 
 def answered(program, room):
@@ -837,10 +853,10 @@ def answered(program, room):
         done = subprocess.run(words, cwd=room, capture_output=True)
         answer = done.returncode, done.stdout.decode(), done.stderr.decode()
         title = " ".join(repr(text[:200]) for text in texts)
-        yield title, answer, (status, "".join(report(*finding) for finding in found), "")
+        yield title, answer, (status, "".join(report(Finding(*it)) for it in found), "")
         done = subprocess.run([*words, "--json"], cwd=room, capture_output=True)
         answer = done.returncode, [json.loads(line) for line in done.stdout.splitlines()], done.stderr.decode()
-        yield title + " as JSON", answer, (status, [described(*finding) for finding in found], "")
+        yield title + " as JSON", answer, (status, [described(Finding(*it)) for it in found], "")
 
 
 def main():

@@ -319,7 +319,7 @@ def extended_information():
 
 # Stretches
 
-def stretch(name, statements, size, bound=None):
+def stretch(name, statements, size):
     """A body that ends after this many instructions, at that bound and at one less, where its second run ends it."""
     source = f"task m {{ var v; {statements} }}"
     done, nothing = "1 p1 T end\nT DORMANT p1 10\n", "T RUNNING p1 10\n"

@@ -111,9 +111,12 @@ class Editor:
         return self
 
     def open(self, name, text):
-        """Opens a text, and gives what the server publishes, as `published` does."""
         self.notify("textDocument/didOpen", {"textDocument": {"uri": FOLDER + name, "languageId": "fmp", "version": 1,
                                                                "text": text}})
+
+    def change(self, name, version, text):
+        self.notify("textDocument/didChange", {"textDocument": {"uri": FOLDER + name, "version": version},
+                                               "contentChanges": [{"text": text}]})
 
     def published(self, count):
         """The next notifications: the name of the file, and of each diagnostic its place, code and sentence."""
@@ -231,26 +234,20 @@ def diagnosed(program, tally):
     tally.verdict("the place of a warning", [(9, 5, 9, 10)], [it[0] for it in found["a.src"]])
     tally.verdict("a warning is one", [(2, None)], [it[1:3] for it in found["a.src"]])
     faulty = SRC.replace("act_tsk(OTHER)", "act_tsk(OTHRE)")
-    change = {"textDocument": {"uri": FOLDER + "a.src", "version": 2}, "contentChanges": [{"text": faulty}]}
-    editor.notify("textDocument/didChange", change)
+    editor.change("a.src", 2, faulty)
     found = editor.published(2)
     tally.verdict("after other characters in a comment", [((4, 23, 4, 28), 1, "B3")],
                   [it[:3] for it in found["a.src"]])
     tally.holds("what was meant", "did you mean `OTHER`?" in found["a.src"][0][3])
     tally.verdict("no fault in the other text", [], found["a.cfg"])
-    change = {"textDocument": {"uri": FOLDER + "a.src", "version": 3},
-              "contentChanges": [{"text": faulty.replace("sig_sem(SEM)", "sig_sem(SEN)").replace(
-                  "put(MAIN)", "put(OTHRE)").replace("isig_sem(SEN)", "isig_sem(SEM)")}]}
-    editor.notify("textDocument/didChange", change)
+    several = faulty.replace("sig_sem(SEM)", "sig_sem(SEN)").replace("put(MAIN)", "put(OTHRE)")
+    editor.change("a.src", 3, several.replace("isig_sem(SEN)", "isig_sem(SEM)"))
     found = editor.published(2)
     tally.verdict("all faults that do not follow from others", [((4, 23, 4, 28), 1, "B3"), ((9, 45, 9, 48), 1, "B3")],
                   [it[:3] for it in found["a.src"]])
-    change = {"textDocument": {"uri": FOLDER + "a.src", "version": 4}, "contentChanges": [{"text": faulty}]}
-    editor.notify("textDocument/didChange", change)
+    editor.change("a.src", 4, faulty)
     editor.published(2)
-    change = {"textDocument": {"uri": FOLDER + "a.cfg", "version": 2},
-              "contentChanges": [{"text": CFG.replace("TA_NULL, 7", "1, 7")}]}
-    editor.notify("textDocument/didChange", change)
+    editor.change("a.cfg", 2, CFG.replace("TA_NULL, 7", "1, 7"))
     found = editor.published(2)
     tally.verdict("a refused static API", [(1, "B4 E_RSATR")], [it[1:3] for it in found["a.cfg"]])
     tally.verdict("its place", [(6, 21, 6, 22)], [it[0] for it in found["a.cfg"]])
@@ -447,6 +444,25 @@ def as_fault_says(program, tally):
             as_fault_says_of(program, tally, path)
 
 
+def changed(text, dice):
+    """A message that is cut or changed in up to three places at random."""
+    text = bytearray(text)
+    for _ in range(dice.randrange(4)):
+        place = dice.randrange(len(text))
+        kind = dice.randrange(4)
+        if kind == 0:
+            del text[place:]
+        elif kind == 1:
+            text[place] = dice.randrange(256)
+        elif kind == 2:
+            del text[place:place + dice.randrange(20)]
+        else:
+            text[place:place] = dice.choice((b"{", b"}", b"[", b"null,", b"-1", b"\\u0000", b"\"", b"1e999"))
+        if not text:
+            text = bytearray(b" ")
+    return bytes(text)
+
+
 def at_random(program, tally, count, seed=1):
     """Messages that are cut or changed at random, and bytes that are none."""
     dice = random.Random(seed)
@@ -459,24 +475,7 @@ def at_random(program, tally, count, seed=1):
         ("textDocument/references", 1), ("textDocument/rename", 1), ("textDocument/documentSymbol", 1),
         ("initialize", 1), ("initialized", 0), ("$/cancelRequest", 0), ("nothing", 1))]
 
-    def changed(text):
-        text = bytearray(text)
-        for _ in range(dice.randrange(4)):
-            place = dice.randrange(len(text))
-            kind = dice.randrange(4)
-            if kind == 0:
-                del text[place:]
-            elif kind == 1:
-                text[place] = dice.randrange(256)
-            elif kind == 2:
-                del text[place:place + dice.randrange(20)]
-            else:
-                text[place:place] = dice.choice((b"{", b"}", b"[", b"null,", b"-1", b"\\u0000", b"\"", b"1e999"))
-            if not text:
-                text = bytearray(b" ")
-        return bytes(text)
-
-    data = [framed(changed(dice.choice(seeds))) for _ in range(count)]
+    data = [framed(changed(dice.choice(seeds), dice)) for _ in range(count)]
     editor = opened(program)
     last = framed({"jsonrpc": "2.0", "id": "last", "method": "shutdown"}) + framed({"method": "exit"})
     out, error = editor.process.communicate(b"".join(data) + last, timeout=600)

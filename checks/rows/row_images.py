@@ -1,7 +1,7 @@
 """Rows of images and steps: images byte for byte, what loading changed ones answers, and the faults of steps."""
 
 from images.image_samples import ONE_TASK, ONE_TASK_CONFIGURATION, ONE_TASK_SOURCE
-from rows.row_runs import AND, SETUP, alone, apart, idle, runs, task
+from rows.row_runs import AND, SETUP, alone, apart, runs, task
 
 NOTHING = bytes.fromhex("464d50490300010000000000000000000000")
 
