@@ -1,6 +1,7 @@
 /*
  * baseline.c: the least kernel in C for the calls that calls.c counts: two tasks that sleep, ready queues by
- * priorities, and semaphores. It has no handlers, time limits, other processors or suspension, and half of the tests of a call.
+ * priorities, and semaphores. It has no handlers, time limits, other processors or suspension, and half of the tests of
+ * a call.
  *
  *   baseline pair|sleep|same N     the calls of calls.c
  */

@@ -161,8 +161,8 @@ static int time_ticks(long tick, const char *busy)
     const struct fmp_body bodies[] = {
         { "urgent", urgent }, { "beat", beat }, { "busy", strcmp(busy, "polls") == 0 ? poll_often : call_often }
     };
-    took = calloc((size_t)most, sizeof *took);
-    if (took == NULL || most < 1) {
+    took = most > 0 ? calloc((size_t)most, sizeof *took) : NULL;
+    if (took == NULL) {
         return 2;
     }
     sprintf(configuration, "NUM_PRC(1);\nCLASS(TCL_1) { CRE_TSK(URGENT, { TA_ACT, 0, urgent, 1, 4096, NULL });\n"

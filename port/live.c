@@ -527,7 +527,7 @@ static void prepare(long nanoseconds, unsigned long ticks)
     ends_dormant = fmp_count(&system_kernel, FMP_CYCLICS) == 0 && fmp_count(&system_kernel, FMP_INTERRUPTS) == 0;
     tick_length = nanoseconds;
     ticks_left = ticks;
-    most_patience = sysconf(_SC_NPROCESSORS_ONLN) > (long)system_processors - 1 ? MOST_PATIENCE : 0;
+    most_patience = sysconf(_SC_NPROCESSORS_ONLN) >= (long)system_processors ? MOST_PATIENCE : 0;
     for (uint32_t at = 0; at < system_processors; at++) {
         struct processor *it = &processors[at];
         it->number = (uint8_t)(at + 1);
@@ -614,6 +614,7 @@ static void run(long nanoseconds, unsigned long ticks, FILE *messages)
     for (uint32_t at = 0; at < system_processors; at++) {
         pthread_cond_destroy(&processors[at].wake);
     }
+    sem_destroy(&clock_end);
     recording_flush();
 }
 

@@ -33,7 +33,6 @@ fmp_system system_kernel = FMP_BLANK;
 uint32_t system_processors;
 uint32_t system_steppable;
 atomic_bool system_runs;
-bool system_left_the_text;
 unsigned long system_polls;
 const struct driver *system_driver;
 
@@ -247,7 +246,6 @@ static inline uint32_t hand_in(struct flow *flow, struct event *event)
     } else if (answer == FMP_STILL_LONG) {
         count();
     } else if (answer == FMP_NOT_THE_TEXT) {
-        system_left_the_text = true;
         checked_complain(flow, message_file);
     }
     return answer;
@@ -463,7 +461,6 @@ enum fmp_opened fmp_open(const char *text, size_t length, const struct fmp_progr
     events_left = FMP_RESTART_AT;
     trace_file = trace;
     message_file = messages;
-    system_left_the_text = false;
     overflow_use(signal_stack);
     overflow_watch(recording_end);
     follow(UINT32_MAX);

@@ -44,7 +44,6 @@ extern fmp_system system_kernel;
 extern uint32_t system_processors;
 extern uint32_t system_steppable;               /* as many, or 0 once bodies were interrupted at any instruction */
 extern atomic_bool system_runs;                 /* in real time */
-extern bool system_left_the_text;               /* a body has not done what its text does next */
 extern unsigned long system_polls;              /* of the program */
 extern const struct driver *system_driver;      /* while bodies go on */
 

@@ -102,7 +102,10 @@ static void check_replay(void)
 {
     struct written again;
     FILE *lines = recording.length != 0 ? fmemopen(recording.text, recording.length, "r") : tmpfile();
-    bool all = lines != NULL && replay(configuration, configuration_length, lines, begin_writing(&again));
+    if (lines == NULL) {
+        exit(2);
+    }
+    bool all = replay(configuration, configuration_length, lines, begin_writing(&again));
     expect(all, "the recording is taken again");
     fflush(again.file);
     expect(again.length == trace.length && memcmp(again.text, trace.text, trace.length) == 0,

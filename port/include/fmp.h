@@ -93,7 +93,7 @@ typedef struct fmp_actor {
 
 /* What an event did. */
 typedef struct fmp_outcome {
-    fmp_actor acting;    /* on the processor of the event; nobody after a tick or an interrupt */
+    fmp_actor acting;       /* on the processor of the event; nobody after a tick or an interrupt */
     uint32_t changes;       /* bit p - 1: processor p runs another task or begins a handler, as a line says; and: */
 } fmp_outcome;
 

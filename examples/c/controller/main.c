@@ -15,6 +15,7 @@
 #include "plant.h"
 #include "virtual.h"
 
+#include <errno.h>
 #include <pthread.h>
 #include <signal.h>
 #include <stdatomic.h>
@@ -47,7 +48,8 @@ static void *run_plant(void *unused)
             due.tv_sec++;
             due.tv_nsec -= SECOND;
         }
-        clock_nanosleep(CLOCK_MONOTONIC, TIMER_ABSTIME, &due, NULL);
+        while (clock_nanosleep(CLOCK_MONOTONIC, TIMER_ABSTIME, &due, NULL) == EINTR) {
+        }
         fmp_raise(plant_step());        /* 0 is no interrupt */
     }
     return unused;
