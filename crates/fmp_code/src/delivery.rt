@@ -39,7 +39,7 @@ fn give_reply(
     }
 }
 
-// The instruction before a place.
+/// The instruction before a place.
 pub(crate) fn before(body: &BodyCode, pc: u16) -> Option<Instruction>
     ensures { result ≡ call_before body.now.instructions.items pc }
 {

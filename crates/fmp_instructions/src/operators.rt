@@ -14,8 +14,8 @@ fn fitted(exact: i64) -> Result<i32, Fault>
     }
 }
 
-// As `fitted`, by one comparison of what is exact and 2 ^ 31 more: after a sum it is the processor's own test for an
-// overflow.
+/// As `fitted`, by one comparison of what is exact and 2 ^ 31 more: after a sum it is the processor's own test for an
+/// overflow.
 #[inline(always)]
 #[tactic(auto, using(crate::proofs::Fitting::over, crate::proofs::Fitting::within))]
 fn fitted_sum(exact: i64, shifted: i64) -> Result<i32, Fault>
