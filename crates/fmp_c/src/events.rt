@@ -56,7 +56,8 @@ fn call_any(
     }
 }
 
-/// The same with this first argument, and 0 for any other: mostly one of the most frequent calls.
+/// The actor of a processor makes the call of a service with this first argument, and 0 for any other: mostly one of
+/// the most frequent calls.
 #[inline(never)]
 fn call_often(
     alloc: Global,

@@ -180,7 +180,7 @@ fn checked_machine(alloc: Global, image: Image, bound: u64) -> Result<Machine, L
     }
 }
 
-/// The same in a box.
+/// The system of an image, after setup, with its text, in a box. The fault is out of memory.
 #[tactic(auto, using(crate::proofs::Taken::first_boxed))]
 fn boxed_machine(alloc: Global, image: Image, bound: u64) -> Result<Box<Machine, Global>, LoadFault>
     ensures new { IfOk result (λ b. IsFirstOf image bound b.value) }
@@ -211,7 +211,7 @@ const NO_BOUND: u32 = 5;
 /// The greatest bound of a stretch.
 const LONGEST: u64 = 1 << 48;
 
-/// The same in a blank handle.
+/// Puts the system of the image that these bytes spell into a blank handle.
 fn load_into(
     alloc: Global,
     image: &[u8],

@@ -209,7 +209,7 @@ pub fn changes(lines: &[Line]) -> u32
     }
 }
 
-/// The same for a list that mostly has one line, or none.
+/// What lines say of who acts, where they mostly are one, or none.
 #[inline(always)]
 fn changes_of_few(lines: &[Line]) -> u32
     ensures { result ≡ spec.changes lines.now }
@@ -224,7 +224,7 @@ fn changes_of_few(lines: &[Line]) -> u32
     }
 }
 
-/// The same, line by line.
+/// What lines say of who acts, line by line.
 #[inline(never)]
 fn all_changes(lines: &[Line]) -> u32
     ensures { result ≡ spec.changes lines.now }

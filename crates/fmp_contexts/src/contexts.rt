@@ -343,7 +343,7 @@ fn stretch_task<B: Body>(
     }
 }
 
-/// The same of the body of a handler.
+/// `stretch_task` of the body of a handler.
 fn stretch_handler<B: Body>(
     body: &B,
     entry: u8,

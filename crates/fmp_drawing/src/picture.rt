@@ -214,7 +214,7 @@ pub fn draw(
     draw_timed(alloc, sys, run, name, page, &[])
 }
 
-/// The same with the real times of events, where they are known: these are those of setup and of the events, in
+/// The picture of `draw` with the real times of events, where they are known: those of setup and of the events, in
 /// microseconds. With no times it is the picture that `draw` makes.
 pub fn draw_timed(
     alloc: Global,

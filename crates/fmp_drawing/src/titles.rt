@@ -82,7 +82,7 @@ pub fn put_title<S>(
     put_title_with(scene, (head, values), Raw(""), stay, out);
 }
 
-/// The same, with this after its first line.
+/// `put_title`, with this after its first line.
 pub fn put_title_with<S>(
     scene: &Scene<'_>,
     (head, values): (&str, &[CanvasPiece<'_>]),

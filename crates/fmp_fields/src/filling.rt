@@ -119,8 +119,8 @@ fn fill_started(context: &mut Option<MachineContext>, room: Room, numbers: &[u32
     }
 }
 
-/// The same of the body at a place, where the contexts stand, if it goes on or awaits a reply. Else there is no
-/// context.
+/// Puts the numbers of the body at a place into its context among these, if it goes on or awaits a reply. Else it has
+/// no context.
 fn fill_at(
     contexts: &mut Vec<Option<MachineContext>>,
     place: u8,

@@ -229,8 +229,8 @@ impl<B: Body> Runner<B> {
         self.carry_out_stop(p, who, &stop)
     }
 
-    /// The same of an actor that may find one held. The context in which the stretch began is kept aside: an actor
-    /// that spins goes on from there.
+    /// `make_stretch` of an actor that may find a spin lock held. The context in which the stretch began is kept aside:
+    /// an actor that spins goes on from there.
     #[inline(never)]
     fn make_stretch_or_spin(&mut self, p: u8, who: Caller) -> Effect
         requires there { p < self.old.system.processors }

@@ -103,7 +103,7 @@ fn is_used_in(tokens: &Tokens<'_>, file: TextFile, name: Name, role: Role) -> bo
     false
 }
 
-/// The same of both texts.
+/// Whether a name stands in one of both texts for something that must have another name than what has this role.
 fn is_used(cut: &CutTexts<'_>, name: Name, role: Role) -> bool
     ensures { result ≡ spec.is_used cut.now name role }
 {

@@ -179,7 +179,7 @@ fn judged(
     Ok(hosted)
 }
 
-/// The same, of a board that is given up.
+/// What came of a board whose seats did this, as `judged` has it; the board is given up.
 fn judged_at_end(
     alloc: Global,
     ended: Result<SeatsDone, AllocError>,

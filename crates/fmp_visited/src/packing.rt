@@ -53,8 +53,8 @@ fn group_mask(first: &[u32], values: &[u32]) -> u8
     mask as u8
 }
 
-/// The same of eight values: the bits of those that do not differ are taken from a full mask, since so the compiler
-/// compares several values at once.
+/// The mask of a group of eight values: the bits of those that do not differ are taken from a full mask, since so the
+/// compiler compares several values at once.
 #[inline(always)]
 fn mask_of_eight(first: &[u32], values: &[u32]) -> u8
     requires first { length first.now ≡ 8 }
@@ -145,7 +145,7 @@ fn write_whole(row: &mut [u8], at: usize, first: &[u32], values: &[u32], start: 
     write_group(row, at, first, values, mask)
 }
 
-/// The same of the fields from a place on that have a mask together, of which there may be fewer than eight.
+/// `write_whole` of the fields from a place on that have a mask together, of which there may be fewer than eight.
 #[inline(never)]
 fn write_part(row: &mut [u8], at: usize, first: &[u32], values: &[u32], start: usize) -> usize
     requires { at + 41 ≤ length row.old }

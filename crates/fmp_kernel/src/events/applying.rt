@@ -141,7 +141,7 @@ impl<B: Body> Runner<B> {
         self.make_call(p, who, &made)
     }
 
-    /// The same, where a call that is made often is carried out inline.
+    /// As `call_apart`, but a call that is made often is carried out inline.
     #[inline(always)]
     fn call_from(&mut self, p: u8, t: u8, context: &B::Ctx, made: &Call) -> Effect
         requires there { p < self.old.system.processors }
@@ -204,8 +204,8 @@ impl<B: Body> Runner<B> {
         }
     }
 
-    /// The same of an actor that may find one held: an actor that spins goes on from the context from which it
-    /// came.
+    /// `apply_stretch` of an actor that may find a spin lock held: an actor that spins goes on from the context from
+    /// which it came.
     #[tactic(auto, using(crate::proofs::StopLemmas::ending_hands))]
     #[inline(never)]
     fn apply_stretch_or_spin(&mut self, p: u8, who: Caller, stretch: Stretch<B::Ctx>) -> Effect
