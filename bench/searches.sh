@@ -8,8 +8,7 @@
 #
 # It needs the program as `rt run` leaves it in crates/fmp_view/out, and builds it where it is not there. VIEW names
 # another one. A search may take MOST seconds of a processor, 300 where that is not given. GNU's command `time` tells
-# times and memory. For the columns of SPIN it needs spin and a C compiler: it installs spin by apt-get where it may,
-# and leaves the columns empty where there is none.
+# times and memory. The columns of SPIN need spin and a C compiler, and stay empty where there is none.
 #
 # A second table tells what threads give, in seconds of the clock: for each system that one of its rows names, and for
 # one, two and four jobs, where the machine has as many processors. Its last column is for as many searches with one job
@@ -123,8 +122,8 @@ modelled() {
         END { split(spent, at, " "); printf "%d|%s|%d\n", states, at[1], bytes * 1048576 / states }' out
 }
 
-if ! command -v spin > /dev/null && ! { apt-get install -y spin && command -v spin; } > installed 2>&1; then
-    echo 'bench/searches.sh: there is no spin, and apt-get installs none: its columns are empty' >&2
+if ! command -v spin > /dev/null; then
+    echo 'bench/searches.sh: there is no spin: its columns stay empty' >&2
 fi
 
 echo '| System | States | SPIN | Seconds | SPIN | Times SPIN | Bytes a state | SPIN |'
