@@ -181,14 +181,14 @@ impl<B: Body> Kernel<B> {
         self.runner.contexts.handler_body(p)
     }
 
-    /// An event has at most 519 lines.
+    /// A law: an event has at most 519 lines.
     pub fn lines_are_few(&self)
         ensures { length self.now.lines ≤ 519 }
     {
         let _ = self.runner.lines();
     }
 
-    /// No task is run by two processors.
+    /// A law: no task is run by two processors.
     pub fn no_task_runs_twice(&self)
         ensures { RunOnce self.now.world.state }
     {

@@ -142,8 +142,8 @@ impl<B: Body> Runner<B> {
         }
     }
 
-    /// The state has a block for each task and a flag for each cyclic handler, and the contexts have a place for the
-    /// handler of each processor.
+    /// A law: the state has a block for each task and a flag for each cyclic handler, and the contexts have a place for
+    /// the handler of each processor.
     pub fn world_is_whole(&self)
         ensures { IsWorldOf self.now.system self.now.world }
     {

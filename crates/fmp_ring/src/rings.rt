@@ -72,7 +72,7 @@ impl Rings {
         })
     }
 
-    /// No node stands in two lists.
+    /// A law: no node stands in two lists.
     pub fn lists_are_disjoint(&self)
         ensures { AreDisjoint self.now.lists }
     {
