@@ -29,6 +29,7 @@ PROGRAMS = {"fmp": "PROGRAM", "fmp_view": "VIEW"}  # with the word of the Makefi
 SPECS = ("fmp_base/specs/Codes.antt", "fmp_base/specs/Texts.antt", "fmp_diagnosis/specs/Topics.antt")  # they have codes
 REFERENCE = "share/doc/fmp/LANGUAGE.md"
 SECTIONS = ("Commands", "Arguments", "Options")
+NAMES_OF_FILES = ("FILE", "SRC", "DIR", "OUT", "NAME")  # what an option takes that is a file, a folder or its front
 
 
 def files(name):
@@ -83,8 +84,16 @@ class Item:
 
     def takes(self):
         """What an option takes, as `N`, or nothing."""
-        value = re.search(r"<([\w,]+)>", self.form)
+        value = re.search(r"<([^>]+)>", self.form)
         return value[1] if value else ""
+
+    def takes_file(self):
+        return self.takes() in NAMES_OF_FILES
+
+    def values(self):
+        """The words that an option takes, if help lists them."""
+        listed = re.search(r"\[possible values: (.*?)\]", self.text)
+        return listed[1].split(", ") if listed else []
 
 
 @dataclass
@@ -195,6 +204,19 @@ def made_for(shell, name):
     return f"# Completion of {name} for {shell}. Made by checks/program/manual.py from the program's help."
 
 
+def after_options(manual):
+    """What bash completes after an option that takes something: files, the words that help lists, or nothing."""
+    completed = {}
+    for option in (it for options in manual.options().values() for it in options if it.takes()):
+        done = "COMPREPLY=(); return"
+        if option.takes_file():
+            done = 'COMPREPLY=($(compgen -f -- "$word")); return'
+        elif option.values():
+            done = f'COMPREPLY=($(compgen -W "{" ".join(option.values())}" -- "$word")); return'
+        completed.setdefault(done, {}).update(dict.fromkeys(option.names()))
+    return [f"        {'|'.join(names)}) {done} ;;" for done, names in completed.items()]
+
+
 def bash(manual):
     cases = []
     for name, options in manual.options().items():
@@ -203,7 +225,6 @@ def bash(manual):
         if name == "code":
             given = f'COMPREPLY=($(compgen -W "{" ".join(codes())}" -- "$word")); return;'
             cases[-1] = f'        code) words="{words}"; [[ $word == -* ]] || {{ {given} }} ;;'
-    valued = "|".join(it.names()[-1] for options in manual.options().values() for it in options if it.takes())
     first = " ".join([*manual.commands, "help", *(it for item in manual.top.items["Options"] for it in item.names())])
     return "\n".join([
         made_for("bash", manual.name),
@@ -214,7 +235,9 @@ def bash(manual):
         f'        COMPREPLY=($(compgen -W "{first}" -- "$word"))',
         "        return",
         "    fi",
-        *([f'    case $before in {valued}) return ;; esac'] if valued else []),
+        "    case $before in",
+        *after_options(manual),
+        "    esac",
         "    case ${COMP_WORDS[1]} in",
         *cases,
         f'        help) COMPREPLY=($(compgen -W "{" ".join(manual.commands)}" -- "$word")); return ;;',
@@ -246,7 +269,8 @@ def zsh(manual):
         values = f"({' '.join(codes())})" if name == "code" else "_files"
         given = [f"'{place}:{quoted(word.takes())}:{values}'" for place, word in words]
         for option in command.items["Options"]:
-            value = f":{option.takes()}:" if option.takes() else ""
+            action = "_files" if option.takes_file() else f"({' '.join(option.values())})" if option.values() else ""
+            value = f":{named(option.takes())}:{action}" if option.takes() else ""
             given += [f"'{word}[{named(option.text)}]{value}'" for word in option.names()]
         lines += [f"        {name})", "            _arguments \\"]
         lines += [f"                {word} \\" for word in given[:-1]]
@@ -258,7 +282,8 @@ def zsh(manual):
 def fish(manual):
     def one(condition, item):
         words = [f"-s {it[1:]}" if not it.startswith("--") else f"-l {it[2:]}" for it in item.names()]
-        value = " -x" if item.takes() else ""
+        words_of = f" -a '{' '.join(item.values())}'" if item.values() else ""
+        value = " -r -F" if item.takes_file() else f" -x{words_of}" if item.takes() else ""
         return f"complete -c {manual.name} -n '{condition}' {' '.join(words)}{value} -d '{quoted(item.text)}'"
 
     lines = [made_for("fish", manual.name)]
@@ -288,6 +313,11 @@ def check_completion(tally, manual):
         tally.holds(f"bash completes {name}", name in completed(of, name[:2]))
         words = {word for option in options for word in option.names() if word.startswith("--")}
         tally.holds(f"bash completes the options of {name}", words <= set(completed(of, name, "--")))
+        for option in (it for it in options if it.takes()):
+            word = option.names()[-1]
+            wanted = ["LANGUAGE.md"] if option.takes_file() else option.values()
+            start = "LANG" if option.takes_file() else ""
+            tally.verdict(f"bash completes what {word} of {name} takes", wanted, completed(of, name, word, start))
         if name == "code":
             tally.holds("bash completes codes", completed(of, name, "E_P") == ["E_PAR"])
         else:

@@ -6,7 +6,9 @@ _fmp() {
         COMPREPLY=($(compgen -W "check build sim host help -h --help -V --version" -- "$word"))
         return
     fi
-    case $before in --bound|--turns|--ticks|--tick-us|--int|--bound) return ;; esac
+    case $before in
+        --bound|--turns|--ticks|--tick-us|--int) COMPREPLY=(); return ;;
+    esac
     case ${COMP_WORDS[1]} in
         check) words="-h --help" ;;
         build) words="-h --help" ;;

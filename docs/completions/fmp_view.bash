@@ -6,7 +6,12 @@ _fmp_view() {
         COMPREPLY=($(compgen -W "code fault run step lsp drive why explore diff expect test stats waves timeline export import help -h --help -V --version" -- "$word"))
         return
     fi
-    case $before in --recording|--lcov|--coverage|--events|--seed|--bound|--bound|--events|--seed|--bound|--recording|--bound|--at|--never|--alone|--rest|--expect|--ticks|--ints|--queued|--bound|--states|--time|--jobs|--out|--junit|--bound|--recording|--bound|--src|--junit|--expect|--seeds|--events|--every-tick|--bound|--jobs|--junit|--lcov|--coverage|--recording|--bound|--src|--recording|--bound|--format|--recording|--bound|--from|--to|--src|--c|--toppers|--out) return ;; esac
+    case $before in
+        --recording|--lcov|--coverage|--expect|--out|--junit|--src|--c|--toppers) COMPREPLY=($(compgen -f -- "$word")); return ;;
+        --events|--seed|--bound|--at|--never|--alone|--rest|--ints|--int|--gap|--queued|--states|--time|--jobs|--seeds|--every-tick|--from|--to|-D|--define) COMPREPLY=(); return ;;
+        --ticks) COMPREPLY=($(compgen -W "any idle" -- "$word")); return ;;
+        --format) COMPREPLY=($(compgen -W "vcd perfetto tlv res" -- "$word")); return ;;
+    esac
     case ${COMP_WORDS[1]} in
         code) words="-h --help"; [[ $word == -* ]] || { COMPREPLY=($(compgen -W "E_OK E_SYS E_NOSPT E_RSATR E_PAR E_ID E_CTX E_ILUSE E_OBJ E_QOVR E_RLWAI E_TMOUT F_OVF F_DIV F_IDX B1 B2 B3 B4 B5 B6 B7 B9 L1 L2 L3 L4 L5 L6 S1 S2 S3 H4 H5 R1 R2 R3" -- "$word")); return; } ;;
         fault) words="--json -h --help" ;;
