@@ -12,11 +12,13 @@
 # of memory each.
 #
 # `install` copies the proved programs, their manual pages, their completions and the reference below PREFIX, and says
-# where; and the library for C, its headers, its manual page and its pkg-config file, once `library` has made it.
-# `uninstall` removes these files. `install` builds nothing: each program stands in its crate's folder out once `rt run`
-# there, or the gate, has proved it. `install-c` is for the library alone. With QUICK=1 both copy what `quick` built.
+# where; and the library for C, its headers, its manual page and its pkg-config file, once `library` has made it. It
+# builds nothing: each program stands in its crate's folder out once `rt run` there, or the gate, has proved it.
+# `uninstall` removes these files. `install-c` copies the library alone. With QUICK=1 both copy what `quick` built.
 # PREFIX and DESTDIR may have blanks in them: `eval` then reads the flags that pkg-config prints, a bare
 # `$(pkg-config ..)` does not.
+#
+# `library` compiles the port by CC with CFLAGS (-O2), and puts it into one archive with the proved part.
 
 .PHONY: help
 help:
@@ -24,6 +26,7 @@ help:
 
 PREFIX ?= /usr/local
 JOBS ?= 2
+CFLAGS ?= -O2
 ifdef QUICK
 PROGRAM ?= quick/fmp
 VIEW ?= quick/fmp_view
@@ -117,7 +120,7 @@ library: $(ARCHIVE)
 
 $(C_ROOM)/%.o: port/%.c $(wildcard port/*.h port/include/*.h)
 	@mkdir -p $(C_ROOM)
-	@$(CC) -std=c11 -O2 -pthread -Iport/include -c $< -o $@
+	@$(CC) -std=c11 $(CFLAGS) -pthread -Iport/include -c $< -o $@
 
 $(ARCHIVE): $(LIBRARY) $(PORT)
 	@rm -f $@
