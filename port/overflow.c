@@ -5,6 +5,8 @@
 #include "system.h"
 
 #include <signal.h>
+#include <stdbool.h>
+#include <stdlib.h>
 #include <string.h>
 #include <unistd.h>
 
@@ -74,6 +76,19 @@ void overflow_ignore(void)
         }
     }
     say_last_words = NULL;
+}
+
+static void on_exit_of_program(void)
+{
+    if (say_last_words != NULL) {
+        say_last_words();
+    }
+}
+
+void overflow_watch_exit(void)
+{
+    static bool is_watched;
+    is_watched = is_watched || atexit(on_exit_of_program) == 0;
 }
 
 void overflow_use(unsigned char *stack)

@@ -11,6 +11,9 @@ enum { OVERFLOW_STACK = 32 << 10 };
 void overflow_watch(void (*last_words)(void));
 void overflow_ignore(void);
 
+/* From now on the last words are said too if the program exits while a system is open. */
+void overflow_watch_exit(void);
+
 /* The invoking thread has a stack of OVERFLOW_STACK bytes for that, unless it has one. */
 void overflow_use(unsigned char *stack);
 

@@ -1,6 +1,7 @@
 /* perform.c: a whole main program for C tasks in real time. */
 #include "files.h"
 #include "live.h"
+#include "overflow.h"
 #include "system.h"
 
 #include <stdlib.h>
@@ -71,6 +72,7 @@ static int perform(const char *text, size_t length, const struct wanted *it, con
         fmp_close();
         return 3;
     }
+    overflow_watch_exit();
     bool ran = run(it, recording);
     fmp_close();
     bool is_printed = files_flush_output();

@@ -277,13 +277,22 @@ __attribute__((noinline)) static uint32_t step(struct event *event, const struct
     return hand_in(flow, event);
 }
 
+/* What is answered where a processor cannot be stepped. */
+static uint32_t why_no_step(uint8_t at)
+{
+    if (running != NULL || atomic_load(&system_runs)) {
+        return FMP_NOTHING;
+    }
+    if (system_kernel.at == NULL) {
+        return FMP_NO_SYSTEM;
+    }
+    return at < system_processors ? FMP_NOTHING : FMP_NO_PROCESSOR;
+}
+
 uint32_t system_step(uint8_t p, const struct driver *driver, struct coroutine *outside)
 {
     uint8_t at = (uint8_t)(p - 1);
-    if (at >= system_steppable) {
-        return atomic_load(&system_runs) || system_kernel.at != NULL ? FMP_NOTHING : FMP_NO_SYSTEM;
-    }
-    return step(&last[at], driver, outside);
+    return at < system_steppable ? step(&last[at], driver, outside) : why_no_step(at);
 }
 
 static uint32_t finished(uint32_t answer, const fmp_outcome *outcome, uint32_t *changes)

@@ -2,6 +2,7 @@
 #include "virtual.h"
 
 #include "files.h"
+#include "overflow.h"
 #include "system.h"
 
 #include <stdlib.h>
@@ -108,19 +109,23 @@ static enum flaw read_step(const char *line, size_t length, struct step *step)
     return flaw;
 }
 
-/* Takes a step. Whether no body does what its text does not. */
-static bool take(const struct step *step)
+static uint32_t answer_to(const struct step *step)
 {
     switch (step->kind) {
     case RUN:
-        return fmp_step_run((uint8_t)step->number) != FMP_NOT_THE_TEXT;
+        return fmp_step_run((uint8_t)step->number);
     case TICK:
-        fmp_step_tick();
-        return true;
+        return fmp_step_tick();
     default:
-        fmp_step_int((uint8_t)step->number);
-        return true;
+        return fmp_step_int((uint8_t)step->number);
     }
+}
+
+/* Takes a step. Whether there is a system, and no body does what its text does not. */
+static bool take(const struct step *step)
+{
+    uint32_t answer = answer_to(step);
+    return answer != FMP_NOT_THE_TEXT && answer != FMP_NO_SYSTEM;
 }
 
 static unsigned long play(const char *steps, size_t length, enum flaw *flaw)
@@ -186,6 +191,7 @@ static int simulate(const struct files *files, const struct texts *texts, struct
         fmp_close();
         return 3;
     }
+    overflow_watch_exit();
     fmp_record(recording);
     int status = play_all(texts);
     fmp_close();

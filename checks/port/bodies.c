@@ -113,7 +113,8 @@ static void run_bodies(FILE *trace)
     steps(FMP_DONE, 4);
     CHECK(starts == 2 && !has_failed_only);
     steps(FMP_NOTHING, 1);
-    CHECK(fmp_step_run(0) == FMP_NOTHING && fmp_step_run(2) == FMP_NOTHING && fmp_step_int(33) == FMP_NO_INTERRUPT);
+    CHECK(fmp_step_run(0) == FMP_NO_PROCESSOR && fmp_step_run(2) == FMP_NO_PROCESSOR);
+    CHECK(fmp_step_int(33) == FMP_NO_INTERRUPT);
     CHECK(fmp_play("run 1\ntick\nint 3\nrun 01\ntick\n", 29) == 4);
     fmp_close();
 }
@@ -190,6 +191,7 @@ static void refusals(void)
     CHECK(said != NULL);
     CHECK(fmp_service(1, 0, 0, 0, 0, &value) == E_CTX && put(1) == E_CTX);
     CHECK(fmp_step_run(1) == FMP_NO_SYSTEM && fmp_step_tick() == FMP_NO_SYSTEM && fmp_step_int(1) == FMP_NO_SYSTEM);
+    CHECK(fmp_play("run 1", 5) == 1 && fmp_play("tick", 4) == 1 && fmp_play("int 1\n", 6) == 1);
     CHECK(fmp_open("NUM_PRC(1)", 10, &program, NULL, said) == FMP_CONFIGURATION_REFUSED);
     CHECK(fmp_open(other, strlen(other), &program, NULL, said) == FMP_BODY_MISSING);
     CHECK(fmp_open(one, strlen(one), &program, NULL, said) == FMP_OPENED);

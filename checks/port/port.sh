@@ -160,6 +160,7 @@ failures() {
         [ "$(cat last.calls)" = "run 1 put 1" ] || problem="$problem, it recorded: $(head -c 300 last.calls)"
     done
     verdict "a task that aborts" "$problem"
+    exits
     unread
     problem=
     plain/real limits > output 2>&1 || problem="status $?"
@@ -193,6 +194,21 @@ failures() {
     [ "$(cat errors)" = "fmp: FMP_PREEMPT is neither call nor signal: always" ] ||
         problem="$problem, it says: $(head -c 300 errors)"
     verdict "a preemption that there is not" "$problem"
+}
+
+# The recording of a program that a task ends by exit is whole.
+exits() {
+    problem=
+    echo 'NUM_PRC(1); CLASS(TCL_1) { CRE_TSK(T, { TA_ACT, 0, leave, 10, 256, NULL }); }' > exits.cfg
+    printf 'run 1\nrun 1\n' > exits.steps
+    for words in "exits.cfg exits.steps" "live exits.cfg 0 0" "live --last 1 exits.cfg 0 0"; do
+        status=0
+        # shellcheck disable=SC2086
+        plain/exits $words exits.calls > output 2>&1 || status=$?
+        [ $status = 7 ] || problem="$problem, status $status of $words"
+        [ "$(cat exits.calls)" = "run 1 put 1" ] || problem="$problem, $words recorded: $(head -c 300 exits.calls)"
+    done
+    verdict "a task that exits" "$problem"
 }
 
 # A run without end whose output nobody reads any more is over, unless the signal of that is ignored here.

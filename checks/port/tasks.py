@@ -22,7 +22,7 @@ from common.services import SERVICES  # noqa: E402
 from model.systems import Generator  # noqa: E402
 from model.versions import NEWEST  # noqa: E402
 from port.batches import compare  # noqa: E402
-from port.handed import DONE, FAULTS, NOTHING, Events, Handed  # noqa: E402
+from port.handed import DONE, FAULTS, NO_PROCESSOR, NOTHING, Events, Handed  # noqa: E402
 
 EVENTS = 80  # of a system
 KEPT = 2
@@ -43,8 +43,9 @@ class Bodies:
         if kind in ("tick", "int"):
             return self.give(event)
         processor = int(numbers[0])
-        there = 1 <= processor <= len(self.kernel.world.processors)
-        actor = self.kernel.world.processors[processor - 1].actor if there else None
+        if not 1 <= processor <= len(self.kernel.world.processors):
+            return [f"answer {NO_PROCESSOR}"]
+        actor = self.kernel.world.processors[processor - 1].actor
         if actor is None:
             return [f"answer {NOTHING}"]
         if actor.name in self.pending:

@@ -64,9 +64,9 @@ int64_t fmp_tick_due(void);
 
 /*
  * A whole main program: PROGRAM [--image IMAGE] [--times] [--last EVENTS] CFG NANOSECONDS TICKS [RECORDING] prints the
- * trace and the states at the end, and writes the recording: with times, or of the last events alone. With an image the
- * run is checked. The exit status is 0 if the run is over as it should be, 1 if the system cannot be opened, 2 if the
- * command line is wrong, else 3.
+ * trace and the states at the end, and writes the recording: with times, or of the last events alone. It is whole also
+ * if a body exits the program. With an image the run is checked. The exit status is 0 if the run is over as it should
+ * be, 1 if the system cannot be opened, 2 if the command line is wrong, else 3.
  */
 int fmp_perform(int argc, char **argv, const struct fmp_program *);
 

@@ -36,9 +36,9 @@ enum fmp_opened {
 };
 
 /*
- * The system of a configuration after setup. The trace goes to `trace`; NULL: none is printed. `messages` is told what
- * is wrong with the configuration, and each body that it names for which there is no function. One system is open at a
- * time.
+ * The system of a configuration after setup. The trace goes to `trace`; NULL: none is printed. `messages`, which is not
+ * NULL, is told what is wrong with the configuration, and each body that it names for which there is no function. One
+ * system is open at a time.
  *
  * A program with an image, as `fmp build` writes it, is checked: a call, an end or a fault of a body that is not what
  * its text does next is not done, and `messages` is told of it. So the trace is that of a run of the texts. An image
@@ -56,9 +56,9 @@ enum fmp_opened fmp_open(const char *text, size_t length, const struct fmp_progr
  * From now on each event that is done is written there, a line for each, with the call that was handed in; NULL: no
  * longer. After 2^30 events the counts and the clock of the kernel begin again, and the line `restart` says where. All
  * lines are written at the end of a run, at the next fmp_record, and at fmp_close; until then 4 KB at a time. A program
- * that is killed leaves the lines that were written. What stands after the last line feed, if anything, is no event:
- * whoever reads the file leaves it out. After a fault of the file, which ferror tells, nothing more is written. While
- * fmp_run goes on this does nothing.
+ * that is killed, or exits before that, leaves the lines that were written. What stands after the last line feed, if
+ * anything, is no event: whoever reads the file leaves it out. After a fault of the file, which ferror tells, nothing
+ * more is written. While fmp_run goes on this does nothing.
  */
 void fmp_record(FILE *recording);
 

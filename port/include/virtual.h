@@ -26,15 +26,16 @@ uint32_t fmp_step_int(uint8_t number);
 
 /*
  * The steps of a text. 0, or the first line, from 1, that is no step of the system, or in which a body does not do what
- * its text does; the steps before it were taken.
+ * its text does; the steps before it were taken. Where no system is open, no line is a step.
  */
 unsigned long fmp_play(const char *steps, size_t length);
 
 /*
  * A whole main program: PROGRAM [--image IMAGE] CFG STEPS [RECORDING] prints the trace and the states at the end, and
- * writes the recording. With an image the run is checked. The exit status is 0; 1 for a text that is refused, after the
- * steps before its line were taken, or a body that does not do what its text does; 2 for a wrong command line, such as
- * one that would write over a file that it reads; 3 for a file that cannot be read or written.
+ * writes the recording, which is whole also if a body exits the program. With an image the run is checked. The exit
+ * status is 0; 1 for a text that is refused, after the steps before its line were taken, or a body that does not do
+ * what its text does; 2 for a wrong command line, such as one that would write over a file that it reads; 3 for a file
+ * that cannot be read or written.
  */
 int fmp_simulate(int argc, char **argv, const struct fmp_program *);
 
