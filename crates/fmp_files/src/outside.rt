@@ -55,12 +55,14 @@ pub trait Outside {
         ensures ok { OnOk result (Does (done self.old) (printed bytes.now ∷ []) (done self.new)) }
         ensures err { OnErr result (Begins printed bytes.now (done self.old) (done self.new)) }
         ensures device { OnErr result (IsTrue (output_can_fail self.old)) }
-        ensures output { output_can_fail self.new ≡ output_can_fail self.old };
+        ensures output { output_can_fail self.new ≡ output_can_fail self.old }
+        ensures files { files self.new ≡ files self.old };
 
     /// Writes a text to standard error, as far as that works.
     fn say<D: Display + Drop>(&mut self, text: D)
         ensures said { Says (done self.old) (done self.new) }
-        ensures text { IfSome (D.output text) (λ bytes. Does (done self.old) (said bytes ∷ []) (done self.new)) };
+        ensures text { IfSome (D.output text) (λ bytes. Does (done self.old) (said bytes ∷ []) (done self.new)) }
+        ensures files { files self.new ≡ files self.old };
 
     /// Whether two names lead to one file. Equal names do, and of others it is what the system says.
     fn is_one_file(&self, name: &str, other: &str) -> bool
