@@ -4,7 +4,8 @@ use Rattle.fmp_base.specs.declared.systems.System.{System}
 use Rattle.fmp_cfgparse.specs.Configurations.{Describes}
 use Rattle.fmp_import.specs.declared.importing.Imported.{Imported}
 use Rattle.fmp_import.specs.declared.importing.ImportFault.{ImportFault}
-use Rattle.fmp_import.specs.Written.{ClassPlan, plan_text, span_text}
+use Rattle.fmp_import.specs.Words.{span_text}
+use Rattle.fmp_import.specs.Written.{ClassPlan, plan_text}
 
 -- a text begins as an image does
 abbrev pub is_image : List ℕ → Bool
@@ -14,7 +15,7 @@ is_image text = bytes_eq (span_text text (record { start = 0; end = 4 })) (codes
 abbrev pub IsConfiguration : List ℕ → Type 0
 IsConfiguration text = (system : System) × Describes text system
 
--- the text is that of some objects, whose names are words of the source
+-- the text is that of some objects, whose names are whole words of the source
 abbrev pub IsPlanned : (source text : List ℕ) → Type 0
 IsPlanned source text =
     (processors : ℕ) × (classes : List ClassPlan) × (text ≡ plan_text source processors classes)

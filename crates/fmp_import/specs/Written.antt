@@ -1,6 +1,6 @@
 -- What is written: the configuration, and the list of what was left out or changed.
 use Rattle.std.specs.Prelude.{ℕ, List, [], ◌∷◌, ◌++◌, ◌==◌, ◌||◌, nat_lt, if◌then◌else◌, Bool, true, false, codes}
-use Rattle.std.specs.Prelude.{decimal, length, map, min, slice_range, Option, Some, None}
+use Rattle.std.specs.Prelude.{decimal, map, Option, Some, None}
 use Rattle.std.specs.Fmt.{signed_decimal}
 use Rattle.fmp_base.specs.declared.words.Api.{Api}
 use Rattle.fmp_base.specs.declared.words.Constant.{Constant}
@@ -10,7 +10,7 @@ use Rattle.fmp_import.specs.declared.plan.SourceClass.{SourceClass}
 use Rattle.fmp_import.specs.declared.plan.PlanItem.{PlanItem}
 use Rattle.fmp_import.specs.declared.plan.PlanItem.TheVariants as item
 use Rattle.fmp_import.specs.declared.plan.Record as held
-use Rattle.fmp_import.specs.declared.plan.TextSpan.{TextSpan}
+use Rattle.fmp_import.specs.Words.{word_text}
 
 -- an object, and the objects of a class, as plain data
 pub record ObjectPlan : Type 0 where
@@ -29,19 +29,16 @@ record_view r = record { api = r.api; subject = r.subject; attribute = r.attribu
 abbrev pub block_view : declared.Block → ClassPlan
 block_view b = record { class = b.class; objects = map record_view b.records.items }
 
--- the bytes of a part of a text, as far as the text goes
-abbrev pub span_text : List ℕ → TextSpan → List ℕ
-span_text text s = let end = min s.end (length text) in slice_range text (min s.start end) end
-
 -- a further constant of an attribute
 abbrev pub or_text : Option Constant → List ℕ
 or_text None = []
 or_text (Some c) = codes " | " ++ constant_name c
 
--- what a static API is given at one place: a name is that of the source, and `_` where it is a word of this project
+-- what a static API is given at one place: a name is a whole word of the source, and `_` where it is a word of this
+-- project
 abbrev pub item_text : (source : List ℕ) → PlanItem → List ℕ
-item_text source (item.Name s) = span_text source s
-item_text source (item.Escaped s) = span_text source s ++ codes "_"
+item_text source (item.Name s) = word_text source s
+item_text source (item.Escaped s) = word_text source s ++ codes "_"
 item_text source (item.Number k) = signed_decimal k
 item_text source (item.Attribute a b c) = constant_name a ++ (or_text b ++ or_text c)
 item_text source item.Null = codes "NULL"

@@ -20,6 +20,7 @@ mod terms;
 mod text;
 mod values;
 mod walking;
+mod words;
 mod writing;
 
 pub use constants::Constants;

@@ -4,8 +4,8 @@ use crate::plan::{PlanItem, Record};
 use crate::reading::{SourceField, SourceReading};
 use crate::terms::NoValue;
 use crate::values::value_of;
-use fmp_base::Name;
-use fmp_base::words::{Api, Constant, find_api, find_constant, find_keyword, find_service};
+use crate::words::{is_name, is_reserved};
+use fmp_base::words::{Api, Constant};
 use std::alloc::{AllocError, Global};
 
 /// Why an object is left out.
@@ -98,19 +98,6 @@ fn set_in(bits: i64, constant: Constant) -> Option<Constant> {
     } else {
         Some(constant)
     }
-}
-
-/// Whether this is a word of this project, which names nothing.
-fn is_reserved(word: &[u8]) -> bool {
-    find_constant(word).is_some()
-        || find_api(word).is_some()
-        || find_service(word).is_some()
-        || find_keyword(word).is_some()
-}
-
-/// Whether the texts may give this name to an object or to a body.
-fn is_name(word: &[u8]) -> bool {
-    !word.is_empty() && word.is_ascii() && word.len() <= Name::MAX && !is_reserved(word)
 }
 
 impl Parameters<'_> {

@@ -11,7 +11,7 @@ pub struct TextSpan {
 /// What a static API is given at one place.
 #[derive(Clone, Copy)]
 pub enum PlanItem {
-    /// A name that stands here in the source.
+    /// A name: the whole word that stands here in the source.
     Name(TextSpan),
     /// The name of a body that is a word of this project in the source: that word, and `_` after it.
     Escaped(TextSpan),

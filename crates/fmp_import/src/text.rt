@@ -1,7 +1,8 @@
 //! Pieces of a text. If memory runs out, the text has an unfinished end.
 ghost use Rattle.std.specs.Prelude.{◌≡◌, ◌++◌, decimal, map, OnOk};
 ghost use Rattle.std.specs.Fmt.{signed_decimal};
-ghost use Rattle.fmp_import.specs.Written.{span_text, shown_byte};
+ghost use Rattle.fmp_import.specs.Words.{span_text};
+ghost use Rattle.fmp_import.specs.Written.{shown_byte};
 
 use crate::plan::TextSpan;
 use itoa::Buffer;

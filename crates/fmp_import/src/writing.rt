@@ -5,7 +5,8 @@ ghost use Rattle.fmp_import.specs.Written.{block_text, block_view, blocks_text, 
 ghost use Rattle.fmp_import.specs.Written.{more_text, or_text, plan_text, record_text, record_view, records_text};
 
 use crate::plan::{Block, PlanItem, Record, SourceClass};
-use crate::text::{append, append_count, append_signed, bytes_of};
+use crate::text::{append, append_count, append_signed};
+use crate::words::word_of;
 use fmp_base::words::Constant;
 use std::alloc::AllocError;
 
@@ -27,9 +28,9 @@ fn append_item(source: &[u8], item: PlanItem, out: &mut Vec<u8>) -> Result<(), A
     ensures { OnOk result (out.new.items ≡ out.old.items ++ item_text source.now item) }
 {
     match item {
-        PlanItem::Name(span) => append(bytes_of(source, span), out),
+        PlanItem::Name(span) => append(word_of(source, span), out),
         PlanItem::Escaped(span) => {
-            append(bytes_of(source, span), out)?;
+            append(word_of(source, span), out)?;
             append(b"_", out)
         }
         PlanItem::Number(number) => append_signed(number, out),
