@@ -7,6 +7,7 @@ mod beginning;
 mod crew;
 mod edges;
 mod entering;
+mod examining;
 mod exploring;
 mod finding;
 mod notes;

@@ -2,7 +2,7 @@ use Rattle.std.proofs.Common.{◌∙◌, refl, sym}
 use Rattle.fmp_base.specs.declared.events.Event.TheVariants as event
 use Rattle.fmp_explore.specs.Searching.{watched_in}
 use Rattle.fmp_explore.proofs.MarkLemmas.{few_more, few_still, interrupt_never, tick_never}
-use Rattle.fmp_explore.proofs.searching.may_try.Goals as goal
+use Rattle.fmp_explore.proofs.examining.may_try.Goals as goal
 use Rattle.fmp_witness.specs.Asked.{asked_of}
 
 pub returns-in-Run-clause-few : goal.returns-in-Run-clause-few
