@@ -407,9 +407,9 @@ static bool tick(int64_t due)
             end_run(FMP_TICKS_OVER);
         }
     }
-    bool goes_on = over == FMP_NOT_OVER;
+    bool continues = over == FMP_NOT_OVER;
     release_lock();
-    return goes_on;
+    return continues;
 }
 
 /* Sleeps until a time. Whether the run was not over before. */
@@ -450,8 +450,8 @@ static bool interrupt(void)
     if (atomic_load(&halted)) {
         end_run(FMP_HALTED);
     }
-    bool goes_on = over == FMP_NOT_OVER;
-    uint32_t bits = goes_on ? atomic_exchange(&requested, 0) : 0;
+    bool continues = over == FMP_NOT_OVER;
+    uint32_t bits = continues ? atomic_exchange(&requested, 0) : 0;
     for (uint8_t number = 1; number <= INTERRUPTS; number++) {
         uint32_t changes = 0;
         if (bits >> (number - 1) & 1) {
@@ -461,7 +461,7 @@ static bool interrupt(void)
         }
     }
     release_lock();
-    return goes_on;
+    return continues;
 }
 
 static void *run_interrupts(void *unused)
