@@ -9,7 +9,6 @@ use Rattle.fmp_base.specs.Meanings.{Meaning}
 use Rattle.fmp_base.specs.Runs.{run}
 use Rattle.fmp_base.specs.States.{KernelState}
 use Rattle.fmp_expect.proofs.Events.{same_told}
-use Rattle.fmp_expect.specs.declared.checker.BrokenExpectation.{BrokenExpectation}
 use Rattle.fmp_expect.specs.declared.expectation.Expected.{Expected}
 use Rattle.fmp_expect.specs.Meaning.{Told, breaks_at_end, broken_at, failure, if_broken, outcome, seen_in, with_lines}
 use Rattle.fmp_expect.specs.Parts.{or_else}
@@ -35,24 +34,24 @@ use Rattle.fmp_trials.specs.Verdicts.{states_in, verdict}
 abbrev monitor : Sentence → Standing → Monitor
 monitor e s = record { subject = subject.Sentence e; standing = s }
 
-or_false : (a : Bool) → (a || false) ≡ a
+pub or_false : (a : Bool) → (a || false) ≡ a
 or_false true = refl
 or_false false = refl
 
-or_assoc : (a b c : Bool) → (a || (b || c)) ≡ ((a || b) || c)
+pub or_assoc : (a b c : Bool) → (a || (b || c)) ≡ ((a || b) || c)
 or_assoc true b c = refl
 or_assoc false b c = refl
 
-some_or : (a b : Option ℕ) → is_some (or_else a b) ≡ (is_some a || is_some b)
+pub some_or : (a b : Option ℕ) → is_some (or_else a b) ≡ (is_some a || is_some b)
 some_or None b = refl
 some_or (Some n) b = refl
 
-some_if : (b : Bool) (n : ℕ) → is_some (if_broken b n) ≡ b
+pub some_if : (b : Bool) (n : ℕ) → is_some (if_broken b n) ≡ b
 some_if true n = refl
 some_if false n = refl
 
 -- one thing more that is shown
-fails_also : (e : Sentence) (n : ℕ) (x : Seen) (told : List Told)
+pub fails_also : (e : Sentence) (n : ℕ) (x : Seen) (told : List Told)
     → is_some (or_else (failure e told) (if_broken (breaks e (seen_in told) x) n))
     ≡ (is_some (failure e told) || breaks e (seen_in told) x)
 fails_also e n x told =
@@ -248,7 +247,7 @@ outcome_is e is told states n =
     ∙ ap (λ b. is_some (failure e told) || b) (some_if (breaks_at_end e states) n ∙ end_breaks e is states)
     ∙ or_false (is_some (failure e told))
 
-some_broken : (x : Expected) (o : Option ℕ) → is_some (broken_at x o None) ≡ is_some o
+pub some_broken : (x : Expected) (o : Option ℕ) → is_some (broken_at x o None) ≡ is_some o
 some_broken x None = refl
 some_broken x (Some n) = refl
 

@@ -1,6 +1,8 @@
 -- What a random run shows, one event more, and what its end adds.
 use Rattle.std.proofs.Common.{◌≡◌, ◌≢◌, ◌∙◌, ℕ, List, [], ◌∷◌, ◌++◌, Option, Some, None, Bool, true, false}
-use Rattle.std.proofs.Common.{ap, arith, refl, subst, sym}
+use Rattle.std.proofs.Common.{◌+◌, ◌-◌, ◌<◌, ◌≤◌, ◌^◌, ap, arith, inl, inr, length, min, refl, subst, sym, take}
+use Rattle.std.proofs.lemmas.Bool.{cases_order}
+use Rattle.std.proofs.lemmas.List.{length_push, take-append-le, take_all}
 use Rattle.std.specs.Prelude.{◌||◌, is_some}
 use Rattle.fmp_base.specs.declared.events.Event.{Event}
 use Rattle.fmp_base.specs.declared.events.Line.{Line}
@@ -21,8 +23,17 @@ use Rattle.fmp_kernel.specs.KernelViews.{KernelView, view_after}
 use Rattle.fmp_monitors.specs.declared.sentence.Sentence.{Sentence}
 use Rattle.fmp_monitors.specs.declared.sentence.Sentence.TheVariants as sentence
 use Rattle.fmp_trials.specs.declared.random_run.RandomRun.{RandomRun}
-use Rattle.fmp_trials.specs.Drawn.{HasMet, IsDrawn, any_of_end, broken_so_far, is_of_end}
+use Rattle.fmp_trials.specs.declared.choices.Choices.{Choices}
+use Rattle.fmp_trials.specs.declared.choices.RunPlan.{RunPlan}
+use Rattle.fmp_trials.specs.Choices.{AreDrawn, choices_of}
+use Rattle.fmp_trials.specs.Drawn.{AllHaveMet, HasMet, IsDrawn, IsRandomRun, any_of_end, broken_so_far, is_of_end}
 use Rattle.fmp_trials.specs.Taking.{TakesAll}
+use Rattle.fmp_trials.specs.declared.seeds.Seeds.{Seeds}
+use Rattle.fmp_trials.specs.declared.shortening.FailingRun.{FailingRun}
+use Rattle.fmp_trials.specs.declared.testing.FailedTrial.{FailedTrial}
+use Rattle.fmp_trials.specs.declared.testing.FailingSeed.{FailingSeed}
+use Rattle.fmp_trials.specs.Found.{IsFailingSeed, IsShortened}
+use Rattle.fmp_trials.specs.Shortening.{IsFailing}
 use Rattle.fmp_trials.specs.Trials.{Breaks, Subject, broken_by}
 use Rattle.fmp_trials.specs.Verdicts.{states_in, verdict}
 
@@ -126,17 +137,47 @@ module _ {B C : Type 0} (meaning : B → Meaning C) (start : KernelView B C) (xs
   none_broken es steps b same h is =
       ap (broken_so_far meaning start xs) same ∙ not_some (broken_so_far meaning start xs es) (sym is ∙ h)
 
-  pub some_broken : (events : ℕ) (es : List Event) (run : RandomRun) (b : Bool) → run.steps.items ≡ es
-      → TakesAll meaning start es → run.is_broken ≡ true → b ≡ true → b ≡ is_some (broken_so_far meaning start xs es)
-      → IsDrawn meaning start xs events run
-  some_broken events es run b same all broken broke is =
-      let so : is_some (broken_so_far meaning start xs run.steps.items) ≡ true =
-      ap (λ (ys : List Event). is_some (broken_so_far meaning start xs ys)) same ∙ sym is ∙ broke in
-      record {
-        taken = subst (λ (ys : List Event). TakesAll meaning start ys) (sym same) all;
-        broken = broken ∙ sym so;
-        whole = λ none. absurd (some_not_none (broken_so_far meaning start xs run.steps.items) so none);
-      }
+  -- no run before this number of events breaks an expectation, nor does one of this number
+  pub unbroken_more : (es : List Event) (e : Event)
+      → ((n : ℕ) → n < length es → broken_so_far meaning start xs (take n es) ≡ None)
+      → broken_so_far meaning start xs es ≡ None → (n : ℕ) → n < length (es ++ e ∷ [])
+      → broken_so_far meaning start xs (take n (es ++ e ∷ [])) ≡ None
+  unbroken_more es e before quiet n few =
+      let within : n ≤ length es = omega (arith, few, length_push es e) in
+      ap (broken_so_far meaning start xs) (take-append-le n es (e ∷ []) within)
+      ∙ elim (cases_order n (length es)) [
+        | inl same ↦ ap (λ (m : ℕ). broken_so_far meaning start xs (take m es)) same
+            ∙ ap (broken_so_far meaning start xs) (take_all (length es) es (omega arith)) ∙ quiet
+        | inr o ↦ elim o [ inl below ↦ before n below | inr above ↦ absurd (omega (arith, within, above)) ]
+      ]
+
+  module _ (c : Choices) (es : List Event) (run : RandomRun) (b : Bool) (same : run.steps.items ≡ es)
+      (drawn : AreDrawn meaning start c es) (taken : TakesAll meaning start es)
+      (few : length es ≤ min c.plan.events (2 ^ 20))
+      (unbroken : (n : ℕ) → n < length es → broken_so_far meaning start xs (take n es) ≡ None)
+      (is : b ≡ is_some (broken_so_far meaning start xs es)) where
+    made : (broken_so_far meaning start xs es ≡ None → length es ≡ min c.plan.events (2 ^ 20)) → run.is_broken ≡ b
+        → IsDrawn meaning start xs c run
+    made whole broken =
+        record {
+          is =
+              subst (λ (ys : List Event). IsRandomRun meaning start xs c ys) (sym same)
+              (record { drawn = drawn; taken = taken; few = few; unbroken = unbroken; whole = whole });
+          broken =
+              broken ∙ is ∙ ap (λ (ys : List Event). is_some (broken_so_far meaning start xs ys)) (sym same);
+        }
+
+    -- a run that breaks one
+    pub some_broken : run.is_broken ≡ true → b ≡ true → IsDrawn meaning start xs c run
+    some_broken broken broke =
+        made
+        (λ none. absurd (some_not_none (broken_so_far meaning start xs es) (sym is ∙ broke) none))
+        (broken ∙ sym broke)
+
+    -- one that is over
+    pub none_broken_yet : run.is_broken ≡ false → b ≡ false → length es ≡ min c.plan.events (2 ^ 20)
+        → IsDrawn meaning start xs c run
+    none_broken_yet broken broke whole = made (λ _. whole) (broken ∙ sym broke)
 
 or_first : (a b : Bool) → (a || b) ≡ false → a ≡ false
 or_first true b h = h
@@ -175,35 +216,87 @@ first_none : {A : Type 0} (a b : Option A) → or_else a b ≡ None → a ≡ No
 first_none None b h = refl
 first_none (Some x) b h = absurd (cc)
 
-module _ {B C J : Type 0} (meaning : B → Meaning C) (breaks : Breaks B C J) (s : Subject B C J) (events : ℕ)
-    (run : RandomRun) (drawn : IsDrawn meaning s.start s.expected events run) (endless : any_of_end s.expected ≡ false)
-  where
-    abbrev shown : Option BrokenExpectation
-    shown = verdict (reaction_of meaning) s.start run.steps.items s.expected
+module _ {B C J : Type 0} (meaning : B → Meaning C) (breaks : Breaks B C J) (s : Subject B C J) (plan : RunPlan)
+    (seed : ℕ) (run : RandomRun) (drawn : IsDrawn meaning s.start s.expected (choices_of plan seed) run)
+    (endless : any_of_end s.expected ≡ false) where
+  abbrev shown : Option BrokenExpectation
+  shown = verdict (reaction_of meaning) s.start run.steps.items s.expected
 
-    abbrev judged : Option BrokenExpectation
-    judged = broken_along (breaks s.judge) (reaction_of meaning) s.start run.steps.items
+  abbrev judged : Option BrokenExpectation
+  judged = broken_along (breaks s.judge) (reaction_of meaning) s.start run.steps.items
 
-    same_broken : broken_so_far meaning s.start s.expected run.steps.items ≡ shown
-    same_broken =
-        let last : KernelView B C = view_after_each (reaction_of meaning) s.start run.steps.items in
-        broken_at_end s.expected endless (run_told (reaction_of meaning) s.start run.steps.items) (states_in last)
-        last.done
+  same_broken : broken_so_far meaning s.start s.expected run.steps.items ≡ shown
+  same_broken =
+      let last : KernelView B C = view_after_each (reaction_of meaning) s.start run.steps.items in
+      broken_at_end s.expected endless (run_told (reaction_of meaning) s.start run.steps.items) (states_in last)
+      last.done
 
-    pub met_if_passed : broken_by meaning breaks s run.steps.items ≡ None → HasMet meaning breaks s events
-    met_if_passed passed =
-        record {
-          steps = run.steps.items;
-          whole = drawn.whole (same_broken ∙ first_none shown judged passed);
-          taken = drawn.taken;
-          met = passed;
-        }
+  pub met_if_passed : broken_by meaning breaks s run.steps.items ≡ None → HasMet meaning breaks s plan seed
+  met_if_passed passed =
+      record {
+        steps = run.steps.items;
+        run = drawn.is;
+        whole = drawn.is.whole (same_broken ∙ first_none shown judged passed);
+        met = passed;
+      }
 
-    pub met_if_quiet : run.is_broken ≡ false → ((k : KernelView B C) → (l : Line) → breaks s.judge k l ≡ None)
-        → HasMet meaning breaks s events
-    met_if_quiet quiet idle =
-        met_if_passed
-        (ap (λ (o : Option BrokenExpectation). or_else o judged)
-        (sym same_broken
-        ∙ not_some (broken_so_far meaning s.start s.expected run.steps.items) (sym drawn.broken ∙ quiet))
-        ∙ idle_along (breaks s.judge) idle (reaction_of meaning) s.start run.steps.items)
+  pub met_if_quiet : run.is_broken ≡ false → ((k : KernelView B C) → (l : Line) → breaks s.judge k l ≡ None)
+      → HasMet meaning breaks s plan seed
+  met_if_quiet quiet idle =
+      met_if_passed
+      (ap (λ (o : Option BrokenExpectation). or_else o judged)
+      (sym same_broken
+      ∙ not_some (broken_so_far meaning s.start s.expected run.steps.items) (sym drawn.broken ∙ quiet))
+      ∙ idle_along (breaks s.judge) idle (reaction_of meaning) s.start run.steps.items)
+
+-- the runs of seeds, and of one more
+module _ {B C J : Type 0} (meaning : B → Meaning C) (breaks : Breaks B C J) (s : Subject B C J) (plan : RunPlan) where
+  pub none_met : (before last : ℕ) → last ≤ before → AllHaveMet meaning breaks s plan before last
+  none_met before last none = λ seed after within. absurd (omega (arith, none, after, within))
+
+  pub one_more_met : (before last : ℕ) → AllHaveMet meaning breaks s plan before last
+      → HasMet meaning breaks s plan (last + 1) → AllHaveMet meaning breaks s plan before (last + 1)
+  one_more_met before last all one = λ seed after within. elim (cases_order seed (last + 1)) [
+    | inl same ↦ subst (λ (n : ℕ). HasMet meaning breaks s plan n) (sym same) one
+    | inr o ↦ elim o [
+      | inl below ↦ all seed after (omega (arith, below))
+      | inr above ↦ absurd (omega (arith, within, above))
+    ]
+  ]
+
+  one_before : (n : ℕ) → n ≡ n + 1 - 1
+  one_before n = omega arith
+
+  pub with_seed : (seeds : Seeds) (before : ℕ) (run : FailingRun) → seeds.before ≤ before → before < seeds.last
+      → IsFailing meaning breaks s run
+      → IsRandomRun meaning s.start s.expected (choices_of plan (before + 1)) run.steps.items
+      → (any_of_end s.expected ≡ false → AllHaveMet meaning breaks s plan seeds.before before)
+      → IsFailingSeed meaning breaks s plan seeds (record { seed = before + 1; run = run })
+  with_seed seeds before run low high fails is first =
+      record {
+        fails = fails;
+        run = is;
+        after = omega (arith, low);
+        last = omega (arith, high);
+        first = λ endless. subst (λ (n : ℕ). AllHaveMet meaning breaks s plan seeds.before n) (one_before before)
+            (first endless);
+      }
+
+-- the same on another bench
+module _ {B C J : Type 0} (meaning : B → Meaning C) (breaks : Breaks B C J) (s t : Subject B C J) (same : t ≡ s) where
+  pub fails_there : (run : FailingRun) → IsFailing meaning breaks t run → IsFailing meaning breaks s run
+  fails_there run h = subst (λ (x : Subject B C J). IsFailing meaning breaks x run) same h
+
+  pub fails_back : (run : FailingRun) → IsFailing meaning breaks s run → IsFailing meaning breaks t run
+  fails_back run h = subst (λ (x : Subject B C J). IsFailing meaning breaks x run) (sym same) h
+
+  pub shortened_there : (f : FailingSeed) (r : FailedTrial) → IsShortened meaning breaks t f r
+      → IsShortened meaning breaks s f r
+  shortened_there f r h = subst (λ (x : Subject B C J). IsShortened meaning breaks x f r) same h
+
+  pub met_there : (plan : RunPlan) (seed : ℕ) → HasMet meaning breaks t plan seed → HasMet meaning breaks s plan seed
+  met_there plan seed h = subst (λ (x : Subject B C J). HasMet meaning breaks x plan seed) same h
+
+  pub run_there : (c : Choices) (es : List Event) → IsRandomRun meaning t.start t.expected c es
+      → IsRandomRun meaning s.start s.expected c es
+  run_there c es h = subst (λ (x : Subject B C J). IsRandomRun meaning x.start x.expected c es) same h

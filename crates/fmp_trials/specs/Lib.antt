@@ -1,5 +1,6 @@
 pub mod Verdicts
 pub mod Taking
+pub mod Choices
 pub mod Trials
 pub mod Drawn
 pub mod Shortening

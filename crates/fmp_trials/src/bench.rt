@@ -133,7 +133,7 @@ impl<'a, B: Body, J: LineJudge<B>> Bench<'a, B, J> {
         choices: &mut Choices<'_>,
     ) -> Result<RandomRun, AllocError>
         ensures few { IfOk result (λ run. length run.steps.items ≤ 2 ^ 20) }
-        ensures drawn { IfOk result (IsDrawn B.meaning self.old.start self.old.expected choices.old.plan.events) }
+        ensures drawn { IfOk result (IsDrawn B.meaning self.old.start self.old.expected choices.old) }
         ensures same { self.new ≡ self.old }
     {
         let mut checker = Checker::new(alloc, self.expected)?;

@@ -1,5 +1,6 @@
 //! What comes in a random run, by chance.
-ghost use Rattle.std.specs.Prelude.{◌≡◌, ◌<◌};
+ghost use Rattle.std.specs.Prelude.{◌≡◌, ◌%◌, ◌<◌, max};
+ghost use Rattle.fmp_trials.specs.Choices as spec;
 
 use rand_core::SeedableRng;
 use rand_core::utils::NextWord;
@@ -40,7 +41,7 @@ impl<'a> Choices<'a> {
     /// The choices of the run of this seed. Most mistakes need few changes of processor at the right places, so these
     /// come once in 1, 4, 16 or 64 events, which is a choice too.
     pub fn new(plan: RunPlan<'a>, seed: u64) -> Choices<'a>
-        ensures { result.plan.events ≡ plan.entry.events }
+        ensures { result ≡ spec.choices_of plan.entry seed }
     {
         let mut random = Pcg32::seed_from_u64(seed);
         let change = match random.next_word() % 4 {
@@ -58,13 +59,19 @@ impl<'a> Choices<'a> {
     }
 
     /// Whether what comes once in this many events comes now; never at 0.
-    pub fn comes(&mut self, every: u32) -> bool {
+    pub fn comes(&mut self, every: u32) -> bool
+        ensures comes { result ≡ spec.comes self.old every }
+        ensures past { self.new ≡ spec.past self.old }
+    {
         let word = self.random.next_word();
         every > 0 && word % every == 0
     }
 
     /// The processor of these that is to go on.
-    pub fn processor(&mut self, processors: u8) -> u8 {
+    pub fn processor(&mut self, processors: u8) -> u8
+        ensures turn { result ≡ self.new.turn }
+        ensures turned { self.new ≡ spec.turned processors self.old }
+    {
         if self.comes(self.change) {
             self.turn = 1 + self.below(processors);
         }
@@ -73,16 +80,17 @@ impl<'a> Choices<'a> {
 
     /// A number below this one, or 0.
     fn below(&mut self, end: u8) -> u8
-        ensures { result < 255 }
+        ensures below { result ≡ spec.word self.old % max end 1 }
+        ensures past { self.new ≡ spec.past self.old }
+        ensures less { result < 255 }
     {
-        if end == 0 {
-            return 0;
-        }
-        (self.random.next_word() % u32::from(end)) as u8
+        (self.random.next_word() % u32::from(end.max(1))) as u8
     }
 
     /// This processor went on.
-    pub fn went_on(&mut self, processor: u8) {
+    pub fn went_on(&mut self, processor: u8)
+        ensures { self.new ≡ record self.old { turn = processor } }
+    {
         self.turn = processor;
     }
 }

@@ -12,7 +12,10 @@ mod verdict;
 
 pub use bench::Bench;
 pub use choices::{InterruptRate, RunPlan};
-pub use laws::{monitors_go_by_histories, runs_are_judged_as_searches_judge};
+pub use laws::{
+    a_seed_has_one_run, monitors_go_by_histories, runs_are_judged_as_searches_judge,
+    states_are_judged_as_searches_judge,
+};
 pub use seeds::{Seeds, first_of};
 pub use shortening::FailingRun;
 pub use testing::{

@@ -1,9 +1,9 @@
 //! Random runs one after the other, until one fails.
 ghost use Rattle.std.specs.Prelude.{◌≡◌, ◌<◌, ◌≤◌, ◌^◌, None, IfNone, IfOk, IfSome, false, length};
-ghost use Rattle.fmp_trials.specs.Drawn.{HasMet, IsWhole, any_of_end};
+ghost use Rattle.fmp_trials.specs.Choices.{choices_of};
+ghost use Rattle.fmp_trials.specs.Drawn.{AllHaveMet, HasMet, IsRandomRun, any_of_end};
 ghost use Rattle.fmp_trials.specs.Shortening.{IsFailing};
-ghost use Rattle.fmp_trials.specs.Found.{IsFound};
-ghost use Rattle.fmp_trials.specs.Taking.{TakesAll};
+ghost use Rattle.fmp_trials.specs.Found.{IsFailingSeed, IsFound, IsShortened};
 ghost use Rattle.fmp_trials.specs.Trials.{broken_by};
 
 use crate::bench::Bench;
@@ -48,6 +48,7 @@ fn failing<B: Body, J: LineJudge<B>>(
     requires { length steps.items ≤ 2 ^ 20 }
     ensures same { bench.new ≡ bench.old }
     ensures failing { IfOk result (λ found. IfSome found (IsFailing B.meaning J.breaks bench.new)) }
+    ensures steps { IfOk result (λ found. IfSome found (λ f. f.steps.items ≡ steps.items)) }
     ensures met { IfOk result (λ found. IfNone found (broken_by B.meaning J.breaks bench.old steps.items ≡ None)) }
 {
     match bench.verdict(alloc, &steps)? {
@@ -70,8 +71,10 @@ fn failing_run<B: Body, J: LineJudge<B>>(
 ) -> Result<Option<FailingRun>, AllocError>
     ensures same { bench.new ≡ bench.old }
     ensures failing { IfOk result (λ found. IfSome found (IsFailing B.meaning J.breaks bench.new)) }
+    ensures run { IfOk result (λ found. IfSome found (λ f.
+        IsRandomRun B.meaning bench.old.start bench.old.expected (choices_of plan.entry seed) f.steps.items)) }
     ensures met { any_of_end bench.old.expected ≡ false
-        → IfOk result (λ found. IfNone found (HasMet B.meaning J.breaks bench.old plan.entry.events)) }
+        → IfOk result (λ found. IfNone found (HasMet B.meaning J.breaks bench.old plan.entry seed)) }
 {
     let mut choices = Choices::new(plan, seed);
     let RandomRun { steps, is_broken } = bench.random_run(alloc, &mut choices)?;
@@ -81,9 +84,9 @@ fn failing_run<B: Body, J: LineJudge<B>>(
     failing(alloc, bench, steps)
 }
 
-/// The first of these seeds whose random run fails an expectation, and that run. Where there is none, though there are
-/// seeds and no expectation is of the end of a run, a run of as many events as are planned meets them all; nothing is
-/// said of other runs. `AllocError` if memory runs out.
+/// The first of these seeds whose random run fails an expectation, and that run. The runs of the seeds before it, or of
+/// all where there is none, meet all expectations, if none of these is of the end of a run. `AllocError` if memory runs
+/// out.
 pub fn first_failing<B: Body, J: LineJudge<B>>(
     alloc: Global,
     bench: &mut Bench<'_, B, J>,
@@ -91,11 +94,10 @@ pub fn first_failing<B: Body, J: LineJudge<B>>(
     seeds: Seeds,
 ) -> Result<Option<FailingSeed>, AllocError>
     ensures same { bench.new ≡ bench.old }
-    ensures failing { IfOk result (λ found. IfSome found (λ f. IsFailing B.meaning J.breaks bench.new f.run)) }
-    ensures after { IfOk result (λ found. IfSome found (λ f. seeds.before < f.seed)) }
-    ensures last { IfOk result (λ found. IfSome found (λ f. f.seed ≤ seeds.last)) }
-    ensures met { any_of_end bench.old.expected ≡ false → seeds.before < seeds.last
-        → IfOk result (λ found. IfNone found (HasMet B.meaning J.breaks bench.old plan.entry.events)) }
+    ensures failing { IfOk result (λ found. IfSome found
+        (IsFailingSeed B.meaning J.breaks bench.old plan.entry seeds)) }
+    ensures met { any_of_end bench.old.expected ≡ false → IfOk result (λ found. IfNone found
+        (AllHaveMet B.meaning J.breaks bench.old plan.entry seeds.before seeds.last)) }
 {
     for before in seeds.before..seeds.last {
         if let Some(run) = failing_run(alloc, bench, plan, before + 1)? {
@@ -116,11 +118,8 @@ pub fn shortened<B: Body, J: LineJudge<B>>(
 ) -> Result<FailedTrial, AllocError>
     requires { IsFailing B.meaning J.breaks bench.old found.run }
     ensures same { bench.new ≡ bench.old }
-    ensures seed { IfOk result (λ trial. trial.seed ≡ found.seed) }
-    ensures drawn { IfOk result (λ trial. trial.drawn ≡ length found.run.steps.items) }
-    ensures line { IfOk result (λ trial. trial.run.broken.line ≡ found.run.broken.line) }
+    ensures shortened { IfOk result (IsShortened B.meaning J.breaks bench.new found) }
     ensures ended { IfOk result (λ trial. trial.shortest ≡ false → trial.run.room ≡ 0) }
-    ensures found { IfOk result (IsFound B.meaning J.breaks bench.new) }
 {
     let FailingSeed { seed, mut run } = found;
     let drawn = run.steps.len();
@@ -143,17 +142,17 @@ pub fn random_steps<B: Body, J: LineJudge<B>>(
 ) -> Result<Vec<Event>, AllocError>
     ensures same { bench.new ≡ bench.old }
     ensures few { IfOk result (λ steps. length steps.items ≤ 2 ^ 20) }
-    ensures whole { IfOk result (λ steps.
-        IsWhole B.meaning bench.old.start bench.old.expected plan.entry.events steps.items) }
-    ensures taken { IfOk result (λ steps. TakesAll B.meaning bench.old.start steps.items) }
+    ensures run { IfOk result (λ steps.
+        IsRandomRun B.meaning bench.old.start bench.old.expected (choices_of plan.entry seed) steps.items) }
 {
     let mut choices = Choices::new(plan, seed);
     let run = bench.random_run(alloc, &mut choices)?;
     Ok(run.steps)
 }
 
-/// The first of the random runs of the seeds from 1 to this one that fails an expectation, made shorter. Where there is
-/// none, nothing is said of other runs. `AllocError` if memory runs out.
+/// The first of the random runs of the seeds from 1 to this one that fails an expectation, made shorter. The runs of the
+/// seeds before it, or of all where there is none, meet all expectations, if none of these is of the end of a run.
+/// `AllocError` if memory runs out.
 pub fn first_failed_trial<B: Body, J: LineJudge<B>>(
     alloc: Global,
     bench: &mut Bench<'_, B, J>,
@@ -161,10 +160,9 @@ pub fn first_failed_trial<B: Body, J: LineJudge<B>>(
     seeds: u64,
 ) -> Result<Option<FailedTrial>, AllocError>
     ensures same { bench.new ≡ bench.old }
-    ensures found { IfOk result (λ found. IfSome found (IsFound B.meaning J.breaks bench.new)) }
-    ensures seed { IfOk result (λ found. IfSome found (λ trial. (0 < trial.seed) × (trial.seed ≤ seeds))) }
-    ensures met { any_of_end bench.old.expected ≡ false → 0 < seeds
-        → IfOk result (λ found. IfNone found (HasMet B.meaning J.breaks bench.old plan.entry.events)) }
+    ensures found { IfOk result (λ found. IfSome found (IsFound B.meaning J.breaks bench.old plan.entry seeds)) }
+    ensures met { any_of_end bench.old.expected ≡ false
+        → IfOk result (λ found. IfNone found (AllHaveMet B.meaning J.breaks bench.old plan.entry 0 seeds)) }
 {
     let seeds = Seeds {
         before: 0,

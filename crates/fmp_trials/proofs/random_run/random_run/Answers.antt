@@ -1,5 +1,7 @@
-use Rattle.std.proofs.Common.{◌∙◌, ◌++◌, ◌∷◌, [], List, ap, arith, refl, subst, sym, true}
+use Rattle.std.proofs.Common.{◌≡◌, ◌∙◌, ℕ, ◌<◌, ◌≤◌, ◌^◌, ◌++◌, ◌∷◌, [], List, None, ap, arith, length, min, refl}
+use Rattle.std.proofs.Common.{subst, sym, take, true}
 use Rattle.std.specs.Prelude.{is_some}
+use Rattle.std.proofs.lemmas.List.{length_push}
 use Rattle.fmp_base.specs.declared.events.Event.{Event}
 use Rattle.fmp_expect.specs.Meaning.{Told}
 use Rattle.fmp_expect.specs.Runs.{run_told}
@@ -7,7 +9,11 @@ use Rattle.fmp_expect.specs.Watches.{AreTold}
 use Rattle.fmp_kernel.specs.Comings.{reaction_of, view_after_each}
 use Rattle.fmp_trials.specs.declared.random_run.RandomRun.{RandomRun}
 use Rattle.fmp_trials.proofs.Besides.{beside_after, beside_both, taken_after}
+use Rattle.fmp_trials.specs.Choices.{AreDrawn}
+use Rattle.fmp_trials.specs.Drawn.{broken_so_far}
+use Rattle.fmp_trials.proofs.Choosing.{choices_after, choices_more, drawn_more}
 use Rattle.fmp_trials.proofs.Drawn.{along_more, broken_more, none_broken, quiet_here, run_more, some_broken}
+use Rattle.fmp_trials.proofs.Drawn.{unbroken_more}
 use Rattle.fmp_trials.proofs.Taken.{all_more}
 use Rattle.fmp_trials.specs.Taking.{TakesAll}
 use Rattle.fmp_trials.proofs.random_run.random_run.Goals as goal
@@ -30,6 +36,20 @@ loop-turn-preserved g c =
       count = omega (arith, c.loop-turn.invariant.count, c.in_ok-push.ensures.len);
       beside = beside_both start k k' c.loop-turn.invariant.beside (beside_after k k' (reaction_of meaning k e) come);
       all_taken = subst (λ (xs : List Event). TakesAll meaning start xs) (sym items) more;
+      drawn =
+          subst (λ (xs : List Event). AreDrawn meaning start c.args.choices.now xs) (sym items)
+          (drawn_more meaning start k c.args.choices.now c.loop-turn.choices c.judged_next-e.new.choices es e along
+          c.loop-turn.invariant.choices c.judged_next-e.ensures.next c.loop-turn.invariant.drawn);
+      choices =
+          choices_more meaning start k c.args.choices.now c.loop-turn.choices c.judged_next-e.new.choices es e along
+          c.loop-turn.invariant.choices c.judged_next-e.ensures.next
+          ∙ ap (λ (xs : List Event). choices_after meaning start c.args.choices.now xs) (sym items);
+      unbroken = λ xs are.
+          subst
+          (λ (ys : List Event). (n : ℕ) → n < length ys → broken_so_far meaning start xs (take n ys) ≡ None)
+          (sym items)
+          (unbroken_more meaning start xs es e (c.loop-turn.invariant.unbroken xs are)
+          (c.loop-turn.invariant.quiet xs are));
       along =
           along_more meaning start k k' es e along come
           ∙ ap (λ (xs : List Event). view_after_each (reaction_of meaning) start xs) (sym items);
@@ -59,8 +79,29 @@ returns-then-broken-clause-drawn g c = λ xs are.
     let more = all_more meaning start k es e along c.loop-turn.invariant.all_taken c.judged_next-e.ensures.come.taken in
     let so_far = run_told (reaction_of meaning) start es in
     let run : RandomRun = record { steps = c.push.new.self; is_broken = true } in
-    some_broken meaning start xs c.args.choices.now.plan.events (es ++ e ∷ []) run
-    c.judged_next-e.result.1 c.in_ok-push.ensures.items more refl c.if-broken.true
+    let few : length (es ++ e ∷ []) ≤ min c.args.choices.now.plan.events (2 ^ 20) =
+    omega (arith, length_push es e, c.loop-turn.invariant.count, c.loop-turn-test.true, c.min-turn-end.ensures) in
+    some_broken meaning start xs c.args.choices.now (es ++ e ∷ []) run c.judged_next-e.result.1
+    c.in_ok-push.ensures.items
+    (drawn_more meaning start k c.args.choices.now c.loop-turn.choices c.judged_next-e.new.choices es e along
+    c.loop-turn.invariant.choices c.judged_next-e.ensures.next c.loop-turn.invariant.drawn)
+    more few
+    (unbroken_more meaning start xs es e (c.loop-turn.invariant.unbroken xs are) (c.loop-turn.invariant.quiet xs are))
     (c.judged_next-e.ensures.broken xs so_far (c.loop-turn.invariant.told xs are)
     (quiet_here meaning start k k' es e along come xs (c.loop-turn.invariant.quiet xs are))
     ∙ ap is_some (broken_more meaning start k k' es e along come xs))
+    refl c.if-broken.true
+
+pub returns-in_err-push-clause-beside : goal.returns-in_err-push-clause-beside
+returns-in_err-push-clause-beside g c =
+    let k = c.loop-turn.kernel in
+    beside_both c.args.kernel.now k c.judged_next-e.new.kernel c.loop-turn.invariant.beside
+    (beside_after k c.judged_next-e.new.kernel (reaction_of g.B.Body.meaning k c.judged_next-e.result.0)
+    c.judged_next-e.ensures.come.view)
+
+pub returns-then-broken-clause-beside : goal.returns-then-broken-clause-beside
+returns-then-broken-clause-beside g c =
+    let k = c.loop-turn.kernel in
+    beside_both c.args.kernel.now k c.judged_next-e.new.kernel c.loop-turn.invariant.beside
+    (beside_after k c.judged_next-e.new.kernel (reaction_of g.B.Body.meaning k c.judged_next-e.result.0)
+    c.judged_next-e.ensures.come.view)

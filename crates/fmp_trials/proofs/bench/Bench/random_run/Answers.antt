@@ -20,5 +20,5 @@ returns-clause-drawn g c =
     rw (← c.self.view_is)
     (subst
     (λ v. IfOk c.random_run.result
-    (IsDrawn g.B.Body.meaning v c.self.inside.expected.now c.args.choices.now.plan.events))
+    (IsDrawn g.B.Body.meaning v c.self.inside.expected.now c.args.choices.now))
     c.put_back.ensures (c.random_run.ensures.drawn c.self.inside.expected.now c.in_ok-checker.ensures))
