@@ -1,5 +1,5 @@
 -- What the first random run that fails comes to.
-use Rattle.std.specs.Prelude.{ℕ, ◌≡◌, ◌-◌, ◌<◌, ◌≤◌, true, false, length}
+use Rattle.std.specs.Prelude.{ℕ, ◌≡◌, ◌-◌, ◌<◌, ◌≤◌, Option, Some, None, true, false, length}
 use Rattle.fmp_base.specs.Meanings.{Meaning}
 use Rattle.fmp_trials.specs.declared.choices.RunPlan.{RunPlan}
 use Rattle.fmp_trials.specs.declared.seeds.Seeds.{Seeds}
@@ -19,6 +19,13 @@ pub record IsFailingSeed {B C J : Type 0} (meaning : B → Meaning C) (breaks : 
   pub after : seeds.before < f.seed
   pub last : f.seed ≤ seeds.last
   pub first : any_of_end s.expected ≡ false → AllHaveMet meaning breaks s plan seeds.before (f.seed - 1)
+
+-- what is found among seeds: the first whose run fails; where there is none, all meet all, if none is of the end
+abbrev pub IsFirstFailing : {B C J : Type 0} → (B → Meaning C) → Breaks B C J → Subject B C J → RunPlan → Seeds
+    → Option FailingSeed → Type 0
+IsFirstFailing meaning breaks s plan seeds None =
+    any_of_end s.expected ≡ false → AllHaveMet meaning breaks s plan seeds.before seeds.last
+IsFirstFailing meaning breaks s plan seeds (Some f) = IsFailingSeed meaning breaks s plan seeds f
 
 -- it was made shorter: it fails the same line; and if so is said, none of the steps that are left can be left out
 pub record IsShortened {B C J : Type 0} (meaning : B → Meaning C) (breaks : Breaks B C J) (s : Subject B C J)

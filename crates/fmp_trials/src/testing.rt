@@ -3,7 +3,7 @@ ghost use Rattle.std.specs.Prelude.{◌≡◌, ◌<◌, ◌≤◌, ◌^◌, None
 ghost use Rattle.fmp_trials.specs.Choices.{choices_of};
 ghost use Rattle.fmp_trials.specs.Drawn.{AllHaveMet, HasMet, IsRandomRun, any_of_end};
 ghost use Rattle.fmp_trials.specs.Shortening.{IsFailing};
-ghost use Rattle.fmp_trials.specs.Found.{IsFailingSeed, IsFound, IsShortened};
+ghost use Rattle.fmp_trials.specs.Found.{IsFirstFailing, IsFound, IsShortened};
 ghost use Rattle.fmp_trials.specs.Trials.{broken_by};
 
 use crate::bench::Bench;
@@ -94,10 +94,7 @@ pub fn first_failing<B: Body, J: LineJudge<B>>(
     seeds: Seeds,
 ) -> Result<Option<FailingSeed>, AllocError>
     ensures same { bench.new ≡ bench.old }
-    ensures failing { IfOk result (λ found. IfSome found
-        (IsFailingSeed B.meaning J.breaks bench.old plan.entry seeds)) }
-    ensures met { any_of_end bench.old.expected ≡ false → IfOk result (λ found. IfNone found
-        (AllHaveMet B.meaning J.breaks bench.old plan.entry seeds.before seeds.last)) }
+    ensures first { IfOk result (IsFirstFailing B.meaning J.breaks bench.old plan.entry seeds) }
 {
     for before in seeds.before..seeds.last {
         if let Some(run) = failing_run(alloc, bench, plan, before + 1)? {
