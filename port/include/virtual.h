@@ -15,10 +15,10 @@ extern "C" {
 #endif
 
 /*
- * One step: enum fmp_answer of fmp.h. A processor runs its actor up to its next call, end or fault. FMP_KEPT: it made
- * all its polls on the way there; its next step goes on from there. In a checked system it is FMP_STILL_LONG where the
- * text is within a long stretch: the next step goes on from there too. In a body, and while fmp_run goes on, a step is
- * FMP_NOTHING.
+ * One step: enum fmp_answer of fmp.h. A processor runs its actor up to its next call, end or fault. FMP_KEPT: it has
+ * made all polls of a step on the way there, and its next step goes on from where it is. In a checked system it is
+ * FMP_STILL_LONG while the text is within a long stretch: the next step goes on from there too. In a body, and while
+ * fmp_run goes on, a step is FMP_NOTHING.
  */
 uint32_t fmp_step_run(uint8_t p);
 uint32_t fmp_step_tick(void);
