@@ -1,10 +1,14 @@
 pub mod Bodies
 pub mod CountLemmas
 pub mod Differences
+pub mod DumpLaws
+pub mod DumpLemmas
+pub mod DumpedRuns
 pub mod EachLemmas
 pub mod FrameLemmas
 pub mod HeardLemmas
 pub mod MadeLemmas
+pub mod RefusalLaws
 pub mod SeenLemmas
 pub mod SiteLemmas
 pub mod ToldLemmas

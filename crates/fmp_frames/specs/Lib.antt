@@ -3,9 +3,14 @@ pub mod CallCounts
 pub mod CallPositions
 pub mod Compares
 pub mod Counting
+pub mod Declarations
+pub mod DumpLaws
+pub mod DumpedRuns
+pub mod Dumps
 pub mod Frames
 pub mod Made
 pub mod PlacedLines
+pub mod RefusalLaws
 pub mod RefusalLines
 pub mod Refusals
 pub mod Responses

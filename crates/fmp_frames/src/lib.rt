@@ -12,6 +12,7 @@ mod codes;
 mod columns;
 mod comparing;
 mod counting;
+mod declarations;
 mod dump;
 mod frame;
 mod head;
@@ -47,7 +48,10 @@ pub use comparing::{ToldRun, append_difference, first_difference, told_on};
 pub use counting::TaskTally;
 pub use dump::Waves;
 pub use frame::{Frame, last_frame};
-pub use laws::frames_are_of_the_run;
+pub use laws::{
+    dumps_are_of_their_frames, frames_are_of_the_run, identifiers_differ,
+    refused_calls_are_never_done,
+};
 pub use made::{CodePositions, event_position, positions_made};
 pub use placed_lines::{LineForm, append_placed};
 pub use refusal_lines::append_refused;

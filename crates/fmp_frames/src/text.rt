@@ -1,71 +1,69 @@
 //! Pieces of a dump at the end of a text. If memory runs out, the text has an unfinished end.
+ghost use Rattle.std.specs.Prelude.{◌≡◌, ◌++◌, ◌∷◌, [], ◌+◌, ◌/◌, ◌%◌, ◌^◌, ◌<◌, ◌≤◌, decimal, OnOk};
+ghost use Rattle.fmp_frames.specs.Dumps as spec;
+
 use itoa::Buffer;
 use std::alloc::AllocError;
 
-/// A text.
-pub fn append(text: &str, out: &mut Vec<u8>) -> Result<(), AllocError> {
+/// Appends a text.
+pub fn append(text: &str, out: &mut Vec<u8>) -> Result<(), AllocError>
+    ensures { OnOk result (out.new.items ≡ out.old.items ++ text.now) }
+{
     out.extend_from_slice(text.as_bytes())
 }
 
-/// Texts one after the other.
-pub fn append_texts(texts: &[&str], out: &mut Vec<u8>) -> Result<(), AllocError> {
-    for text in texts {
-        append(text, out)?;
-    }
-    Ok(())
+/// Appends bytes.
+pub fn append_bytes(bytes: &[u8], out: &mut Vec<u8>) -> Result<(), AllocError>
+    ensures { OnOk result (out.new.items ≡ out.old.items ++ bytes.now) }
+{
+    out.extend_from_slice(bytes)
 }
 
-/// A number in decimal digits.
-pub fn append_number(number: u32, out: &mut Vec<u8>) -> Result<(), AllocError> {
+/// Appends a number in decimal digits.
+pub fn append_number(number: u32, out: &mut Vec<u8>) -> Result<(), AllocError>
+    ensures { OnOk result (out.new.items ≡ out.old.items ++ decimal number) }
+{
     append(Buffer::new().format(number), out)
 }
 
-/// The identifier of the variable at this place: digits of base 94 from `!` on, the lowest first.
-pub fn append_identifier(place: usize, out: &mut Vec<u8>) -> Result<(), AllocError> {
+/// Appends the lowest digit of a number in base 94.
+fn append_digit(number: usize, out: &mut Vec<u8>) -> Result<(), AllocError>
+    ensures { OnOk result (out.new.items ≡ out.old.items ++ (spec.digit number ∷ [])) }
+{
+    out.push(b'!' + (number % 94) as u8)?;
+    Ok(())
+}
+
+/// Appends the identifier of the variable at this place, which is below 94^4.
+pub fn append_identifier(place: usize, out: &mut Vec<u8>) -> Result<(), AllocError>
+    ensures { OnOk result (out.new.items ≡ out.old.items ++ spec.identifier place) }
+{
     let mut rest = place;
-    for _digit in 0..4 {
-        out.push(b'!' + (rest % 94) as u8)?;
-        rest /= 94;
-        if rest == 0 {
-            break;
+    for _digit in 0..3_u8 {
+        append_digit(rest, out)?;
+        if rest < 94 {
+            return Ok(());
         }
+        rest /= 94;
     }
-    Ok(())
+    append_digit(rest, out)
 }
 
-/// The lowest bits of a number, the highest of them first.
-fn append_bits(number: u64, width: u8, out: &mut Vec<u8>) -> Result<(), AllocError> {
+/// The digit for a bit of a number: the lowest is at place 0.
+fn bit_digit(number: u64, place: u8) -> u8
+    requires { place < 32 }
+    ensures { result ≡ 48 + number / 2 ^ place % 2 }
+{
+    b'0' + ((number >> place) % 2) as u8
+}
+
+/// Appends the lowest bits of a number, the highest of them first.
+pub fn append_bits(number: u64, width: u8, out: &mut Vec<u8>) -> Result<(), AllocError>
+    requires { width ≤ 32 }
+    ensures { OnOk result (out.new.items ≡ out.old.items ++ spec.bits width number) }
+{
     for place in 0..width {
-        let bit = number
-            .checked_shr(u32::from(width - 1 - place))
-            .unwrap_or(0)
-            % 2;
-        out.push(b'0' + bit as u8)?;
+        out.push(bit_digit(number, width - 1 - place))?;
     }
     Ok(())
-}
-
-/// The value of the variable at this place, and a line feed.
-pub fn append_value(
-    place: usize,
-    width: u8,
-    value: u64,
-    out: &mut Vec<u8>,
-) -> Result<(), AllocError> {
-    if width == 1 {
-        append_bits(value, 1, out)?;
-    } else {
-        append("b", out)?;
-        append_bits(value, width, out)?;
-        append(" ", out)?;
-    }
-    append_identifier(place, out)?;
-    append("\n", out)
-}
-
-/// The time of an event.
-pub fn append_time(event: u32, out: &mut Vec<u8>) -> Result<(), AllocError> {
-    append("#", out)?;
-    append_number(event, out)?;
-    append("\n", out)
 }

@@ -1,4 +1,6 @@
 //! The variables of a dump.
+ghost use Rattle.std.specs.Prelude.{◌≡◌, ◌≤◌};
+ghost use Rattle.fmp_frames.specs.Dumps as spec;
 
 /// An object for which tasks can wait, by its place.
 #[derive(Clone, Copy)]
@@ -58,7 +60,10 @@ pub enum Variable {
 
 impl Variable {
     /// How many bits its values have.
-    pub fn width(self) -> u8 {
+    pub fn width(self) -> u8
+        ensures width { result ≡ spec.width self }
+        ensures narrow { result ≤ 32 }
+    {
         match self {
             Variable::Dispatch(_) | Variable::Running(_) => 1,
             Variable::Refused(_) | Variable::Cyclic(_) | Variable::Interrupt(_) => 2,
@@ -78,7 +83,9 @@ impl Variable {
     }
 
     /// The word for its kind.
-    pub fn kind(self) -> &'static str {
+    pub fn kind(self) -> &'static str
+        ensures { result.now ≡ spec.kind self }
+    {
         match self {
             Variable::Word(_) => "integer",
             _ => "wire",
@@ -86,7 +93,9 @@ impl Variable {
     }
 
     /// Its name in its scope.
-    pub fn name(self) -> &'static str {
+    pub fn name(self) -> &'static str
+        ensures { result.now ≡ spec.variable_name self }
+    {
         match self {
             Variable::Clock => "clock",
             Variable::Run(_) => "run",
