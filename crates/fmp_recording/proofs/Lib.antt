@@ -1,3 +1,4 @@
+pub mod Fronts
 pub mod Decimals
 pub mod Padding
 pub mod LineByLine

@@ -15,19 +15,19 @@ use Rattle.fmp_recording.specs.Recordings.{in_front, in_front_of, is_restart, li
 use Rattle.fmp_trace.proofs.LinesOf.{rest_whole}
 
 -- what is after others, or the fault
-abbrev pub behind_all : {A : Type 0} → List A → Result (List A) RecordingFault → Result (List A) RecordingFault
-behind_all xs (Ok ys) = Ok (xs ++ ys)
-behind_all xs (Err f) = Err f
+abbrev pub after_all : {A : Type 0} → List A → Result (List A) RecordingFault → Result (List A) RecordingFault
+after_all xs (Ok ys) = Ok (xs ++ ys)
+after_all xs (Err f) = Err f
 
 -- one more goes to the end of those in front
 pub one_more : (rs : List RecordedLine) (r : RecordedLine) (s : Result (List RecordedLine) RecordingFault)
-    → behind_all rs (in_front (Ok r) s) ≡ behind_all (rs ++ r ∷ []) s
+    → after_all rs (in_front (Ok r) s) ≡ after_all (rs ++ r ∷ []) s
 one_more rs r (Ok ss) = ap (λ xs. Ok xs) (sym (append_assoc rs (r ∷ []) ss))
 one_more rs r (Err f) = refl
 
 -- the same of what came
 pub one_more_came : (gs : List Given) (r : RecordedLine) (s : Result (List RecordedLine) RecordingFault)
-    → behind_all gs (all_came (in_front (Ok r) s)) ≡ behind_all (gs ++ came (r ∷ [])) (all_came s)
+    → after_all gs (all_came (in_front (Ok r) s)) ≡ after_all (gs ++ came (r ∷ [])) (all_came s)
 one_more_came gs (recorded.Came g) (Ok ss) = ap (λ (xs : List Given). Ok xs) (sym (append_assoc gs (g ∷ []) (came ss)))
 one_more_came gs recorded.Restart (Ok ss) = ap (λ (xs : List Given). Ok (xs ++ came ss)) (sym (append-nil gs))
 one_more_came gs r (Err f) = refl
@@ -43,12 +43,12 @@ one_more_time ts line lines = by_test (is_restart line) where
   by_test false = append_assoc ts (line_time line ∷ []) (line_times lines)
 
 -- numbers after others
-abbrev pub behind_numbers : List ℤ → Option (List ℤ) → Option (List ℤ)
-behind_numbers xs None = None
-behind_numbers xs (Some ys) = Some (xs ++ ys)
+abbrev pub after_numbers : List ℤ → Option (List ℤ) → Option (List ℤ)
+after_numbers xs None = None
+after_numbers xs (Some ys) = Some (xs ++ ys)
 
 pub one_more_number : (xs : List ℤ) (x : ℤ) (r : Option (List ℤ))
-    → behind_numbers xs (in_front_of (Some x) r) ≡ behind_numbers (xs ++ x ∷ []) r
+    → after_numbers xs (in_front_of (Some x) r) ≡ after_numbers (xs ++ x ∷ []) r
 one_more_number xs x (Some ys) = ap (λ (zs : List ℤ). Some zs) (sym (append_assoc xs (x ∷ []) ys))
 one_more_number xs x None = refl
 
@@ -92,26 +92,26 @@ a_call (b ∷ bs) word after o low w r e f h =
     ∙ ap (λ (t : List ℕ). act_by (record { word = t; rest = (cut bs).rest })) (sym word_is)
 
 pub no_number : (count i : ℕ) (xs : List ℤ) (rest : List ℕ) (whole : Option (List ℤ)) → i < count
-    → behind_numbers xs (arguments_in (count - i) rest) ≡ whole → ((n : ℕ) → arguments_in (suc n) rest ≡ None) → whole
+    → after_numbers xs (arguments_in (count - i) rest) ≡ whole → ((n : ℕ) → arguments_in (suc n) rest ≡ None) → whole
     ≡ None
 no_number count i xs rest whole lt e h =
     let k : count - i ≡ suc (count - (i + 1)) = omega (arith, lt) in
-    sym e ∙ ap (λ (m : ℕ). behind_numbers xs (arguments_in m rest)) k
-    ∙ ap (λ (r : Option (List ℤ)). behind_numbers xs r) (h (count - (i + 1)))
+    sym e ∙ ap (λ (m : ℕ). after_numbers xs (arguments_in m rest)) k
+    ∙ ap (λ (r : Option (List ℤ)). after_numbers xs r) (h (count - (i + 1)))
 
 pub next_number : (count i : ℕ) (numbers : List ℤ) (x : ℤ) (rest after : List ℕ) (whole : Option (List ℤ)) → i < count
-    → i < length numbers → behind_numbers (take i numbers) (arguments_in (count - i) rest) ≡ whole
+    → i < length numbers → after_numbers (take i numbers) (arguments_in (count - i) rest) ≡ whole
     → ((n : ℕ) → arguments_in (suc n) rest ≡ in_front_of (Some x) (arguments_in n after))
-    → behind_numbers (take (i + 1) (set numbers i x)) (arguments_in (count - (i + 1)) after) ≡ whole
+    → after_numbers (take (i + 1) (set numbers i x)) (arguments_in (count - (i + 1)) after) ≡ whole
 next_number count i numbers x rest after whole lt there e h =
     let k : count - i ≡ suc (count - (i + 1)) = omega (arith, lt) in
     let one : i + 1 ≡ suc i = omega arith in
     let front : take (i + 1) (set numbers i x) ≡ take i numbers ++ x ∷ [] =
     ap (λ (m : ℕ). take m (set numbers i x)) one ∙ take-suc-set numbers i x there in
-    ap (λ (xs : List ℤ). behind_numbers xs (arguments_in (count - (i + 1)) after)) front
+    ap (λ (xs : List ℤ). after_numbers xs (arguments_in (count - (i + 1)) after)) front
     ∙ sym (one_more_number (take i numbers) x (arguments_in (count - (i + 1)) after))
-    ∙ ap (λ (r : Option (List ℤ)). behind_numbers (take i numbers) r) (sym (h (count - (i + 1))))
-    ∙ ap (λ (m : ℕ). behind_numbers (take i numbers) (arguments_in m rest)) (sym k)
+    ∙ ap (λ (r : Option (List ℤ)). after_numbers (take i numbers) r) (sym (h (count - (i + 1))))
+    ∙ ap (λ (m : ℕ). after_numbers (take i numbers) (arguments_in m rest)) (sym k)
     ∙ e
 
 and_none : (xs : List ℤ) → xs ++ [] ≡ xs
@@ -119,12 +119,12 @@ and_none [] = refl
 and_none (x ∷ xs) = ap (λ (ys : List ℤ). x ∷ ys) (and_none xs)
 
 pub all_numbers : (count : ℕ) (numbers : List ℤ) (rest : List ℕ) (whole : Option (List ℤ)) → rest ≡ []
-    → behind_numbers (take count numbers) (arguments_in (count - count) rest) ≡ whole → whole
+    → after_numbers (take count numbers) (arguments_in (count - count) rest) ≡ whole → whole
     ≡ Some (take count numbers)
 all_numbers count numbers rest whole r e =
     let k : count - count ≡ 0 = omega arith in
-    sym e ∙ ap (λ (m : ℕ). behind_numbers (take count numbers) (arguments_in m rest)) k
-    ∙ ap (λ (t : List ℕ). behind_numbers (take count numbers) (arguments_in 0 t)) r
+    sym e ∙ ap (λ (m : ℕ). after_numbers (take count numbers) (arguments_in m rest)) k
+    ∙ ap (λ (t : List ℕ). after_numbers (take count numbers) (arguments_in 0 t)) r
     ∙ ap (λ (ys : List ℤ). Some ys) (and_none (take count numbers))
 
 left_over : (rest : List ℕ) → rest ≢ [] → arguments_in 0 rest ≡ None
@@ -132,8 +132,8 @@ left_over [] n = absurd (n refl)
 left_over (b ∷ bs) n = refl
 
 pub more_numbers : (count : ℕ) (numbers : List ℤ) (rest : List ℕ) (whole : Option (List ℤ)) → rest ≢ []
-    → behind_numbers (take count numbers) (arguments_in (count - count) rest) ≡ whole → whole ≡ None
+    → after_numbers (take count numbers) (arguments_in (count - count) rest) ≡ whole → whole ≡ None
 more_numbers count numbers rest whole r e =
     let k : count - count ≡ 0 = omega arith in
-    sym e ∙ ap (λ (m : ℕ). behind_numbers (take count numbers) (arguments_in m rest)) k
-    ∙ ap (λ (o : Option (List ℤ)). behind_numbers (take count numbers) o) (left_over rest r)
+    sym e ∙ ap (λ (m : ℕ). after_numbers (take count numbers) (arguments_in m rest)) k
+    ∙ ap (λ (o : Option (List ℤ)). after_numbers (take count numbers) o) (left_over rest r)

@@ -1,6 +1,8 @@
 -- A replay goes as the recorded run.
 use Rattle.std.proofs.Common.{◌≡◌, ◌∙◌, ◌+◌, ℕ, pos, List, [], ◌∷◌, ◌++◌, Option, Some, None, Result, Ok, Err, OnOk}
 use Rattle.std.proofs.Common.{IfErr, ap, append_assoc, append-nil, arith, length, map, refl, sym}
+use Rattle.std.proofs.Common.{◌⊎◌, inl, inr}
+use Rattle.std.proofs.lemmas.List.{map-append}
 use Rattle.fmp_base.specs.declared.events.Effect.TheVariants as effect
 use Rattle.fmp_base.specs.declared.events.TaskState.{TaskState}
 use Rattle.fmp_base.specs.declared.systems.System.{System}
@@ -19,6 +21,7 @@ use Rattle.fmp_foreign.specs.Foreign.{foreign_meaning}
 use Rattle.fmp_foreign.specs.Hosting.{ForeignKernel, after_unless, answer_unless, reaction, refused}
 use Rattle.fmp_foreign.specs.Hosting as hosting
 use Rattle.fmp_kernel.specs.KernelViews.{view_after}
+use Rattle.fmp_kernel.specs.Restarts.{counts_restarted}
 use Rattle.fmp_outside.specs.declared.given.Given.{Given}
 use Rattle.fmp_outside.specs.Outside.{outside_run}
 use Rattle.fmp_recording.specs.declared.replaying.ReplayFault.{ReplayFault}
@@ -26,8 +29,8 @@ use Rattle.fmp_recording.specs.declared.replaying.ReplayFault.TheVariants as fau
 use Rattle.fmp_recording.specs.declared.recorded.RecordedLine.{RecordedLine}
 use Rattle.fmp_recording.specs.declared.recorded.RecordedLine.TheVariants as recorded
 use Rattle.fmp_recording.specs.Recordings.{came_lines, recorded_lines_text, recorded_of, recording_text}
-use Rattle.fmp_recording.specs.Replaying.{HasDone, HasDoneAll, HasReplayed, HasTaken, IsReplayFault, IsWhyNotAll}
-use Rattle.fmp_recording.specs.Replaying.{IsWhyNotDone, IsWhyNotRun, IsWhyNotTaken, IsWhyStopped}
+use Rattle.fmp_recording.specs.Replaying.{HasBegunRun, HasDone, HasDoneAll, HasReplayed, HasTaken, IsCutOff}
+use Rattle.fmp_recording.specs.Replaying.{IsReplayFault, IsWhyNotAll, IsWhyNotDone, LeavesRun, LeavesTrace, IsWhyNotRun, IsWhyNotTaken, IsWhyStopped}
 use Rattle.fmp_recording.specs.Replaying.{RecordedLinesAreReplayed, RecordedRunsAreReplayed, WholeRunsAreReplayed}
 use Rattle.fmp_recording.specs.Replaying.{added_by, first_refusal, kernel_after, new_kernel, or_else, recorded_trace}
 use Rattle.fmp_recording.specs.Replaying.{refusal_in, run_of, text_after, text_of}
@@ -132,6 +135,67 @@ tables_by k Nothing = refl
 tables_by k (Did d) = refl
 tables_by k (Kept p w) = refl
 
+-- the lines so far, and one more
+kernel_more : (k : ForeignKernel) (rs : List RecordedLine) (r : RecordedLine)
+    → kernel_after k (rs ++ r ∷ []) ≡ kernel_after (kernel_after k rs) (r ∷ [])
+kernel_more k [] r = refl
+kernel_more k (recorded.Came g ∷ rs) r = kernel_more (view_after k (reaction k g)) rs r
+kernel_more k (recorded.Restart ∷ rs) r = kernel_more (counts_restarted k) rs r
+
+text_more : (k : ForeignKernel) (rs : List RecordedLine) (r : RecordedLine)
+    → text_after k (rs ++ r ∷ []) ≡ text_after k rs ++ text_after (kernel_after k rs) (r ∷ [])
+text_more k [] r = refl
+text_more k (recorded.Came g ∷ rs) r =
+    let x = reaction k g in
+    let j = view_after k x in
+    ap (λ (xs : List ℕ). added_by k x ++ xs) (text_more j rs r)
+    ∙ sym (append_assoc (added_by k x) (text_after j rs) (text_after (kernel_after j rs) (r ∷ [])))
+text_more k (recorded.Restart ∷ rs) r = text_more (counts_restarted k) rs r
+
+-- a replay has done the first of what it is given: these lines
+pub record Stands {A : Type 0} (lines : List A → List RecordedLine) (old h : HostedSystem) (all left : List A)
+    (before now : List ℕ) :
+    Type 0 where
+  pub done : List A
+  pub all_are : all ≡ done ++ left
+  pub kernel : h.kernel ≡ kernel_after old.kernel (lines done)
+  pub text : now ≡ before ++ text_after old.kernel (lines done)
+
+module _ (h new : HostedSystem) (text after : List ℕ) where
+  kernel_of_one : (r : RecordedLine) → HasDone h new r text after → new.kernel ≡ kernel_after h.kernel (r ∷ [])
+  kernel_of_one (recorded.Came g) t = t.kernel
+  kernel_of_one recorded.Restart t = ap (λ (j : HostedSystem). j.kernel) t.0
+
+  text_of_one : (r : RecordedLine) → HasDone h new r text after → after ≡ text ++ text_after h.kernel (r ∷ [])
+  text_of_one (recorded.Came g) t =
+      t.text ∙ ap (λ (xs : List ℕ). text ++ xs) (sym (append-nil (added_by h.kernel (reaction h.kernel g))))
+  text_of_one recorded.Restart t = t.1 ∙ sym (append-nil text)
+
+module _ {A : Type 0} (lines : List A → List RecordedLine) (old h : HostedSystem) (all left : List A)
+    (before text : List ℕ) (s : Stands lines old h all left before text) where
+  stands_on : (x : A) (r : RecordedLine) (rest : List A) (new : HostedSystem) (after : List ℕ)
+      → lines (s.done ++ x ∷ []) ≡ lines s.done ++ r ∷ [] → HasDone h new r text after → left ≡ x ∷ rest
+      → Stands lines old new all rest before after
+  stands_on x r rest new after more t split =
+      let k = old.kernel in
+      let done = lines s.done in
+      record {
+        done = s.done ++ x ∷ [];
+        all_are = s.all_are
+            ∙ ap (λ (xs : List A). s.done ++ xs) split
+            ∙ sym (append_assoc s.done (x ∷ []) rest);
+        kernel = kernel_of_one h new text after r t
+            ∙ ap (λ (j : ForeignKernel). kernel_after j (r ∷ [])) s.kernel
+            ∙ sym (kernel_more k done r)
+            ∙ ap (λ (rs : List RecordedLine). kernel_after k rs) (sym more);
+        text = text_of_one h new text after r t
+            ∙ ap (λ (j : ForeignKernel). text ++ text_after j (r ∷ [])) s.kernel
+            ∙ ap (λ (xs : List ℕ). xs ++ text_after (kernel_after k done) (r ∷ [])) s.text
+            ∙ append_assoc before (text_after k done) (text_after (kernel_after k done) (r ∷ []))
+            ∙ ap (λ (xs : List ℕ). before ++ xs) (sym (text_more k done r))
+            ∙ ap (λ (rs : List RecordedLine). before ++ text_after k rs) (sym more);
+      }
+
 -- a replay on its way: what is left leads to where all leads
 pub record Continues (old h : HostedSystem) (gs left : List Given) (before now : List ℕ) : Type 0 where
   pub refusal : refusal_in h.kernel left ≡ refusal_in old.kernel gs
@@ -194,6 +258,18 @@ module _ (old h : HostedSystem) (gs left : List Given) (before text : List ℕ)
         tables = c.tables;
         system = c.system;
       }
+
+pub came_first : (old : HostedSystem) (gs : List Given) (before : List ℕ)
+    → Stands came_lines old old gs gs before before
+came_first old gs before = record { done = []; all_are = refl; kernel = refl; text = sym (append-nil before) }
+
+pub came_more : (old h : HostedSystem) (gs left : List Given) (before text : List ℕ)
+    → Stands came_lines old h gs left before text → (g : Given) (rest : List Given) (new : HostedSystem)
+    (after : List ℕ)
+    → HasTaken h new g text after → left ≡ g ∷ rest → Stands came_lines old new gs rest before after
+came_more old h gs left before text s g rest new after t split =
+    stands_on came_lines old h gs left before text s g (recorded.Came g) rest new after
+    (map-append (λ (x : Given). recorded.Came x) s.done (g ∷ [])) t split
 
 -- a replay line by line on its way: what is left leads to where all leads
 pub record Leads (old h : HostedSystem) (rs left : List RecordedLine) (before now : List ℕ) : Type 0 where
@@ -273,6 +349,25 @@ module _ (old h : HostedSystem) (rs left : List RecordedLine) (before text : Lis
         system = c.system;
       }
 
+abbrev pub AreDone : (old h : HostedSystem) (rs left : List RecordedLine) (before now : List ℕ) → Type 0
+AreDone old h rs left before now = Stands (λ lines. lines) old h rs left before now
+
+pub done_first : (old : HostedSystem) (rs : List RecordedLine) (before : List ℕ) → AreDone old old rs rs before before
+done_first old rs before = record { done = []; all_are = refl; kernel = refl; text = sym (append-nil before) }
+
+pub done_more : (old h : HostedSystem) (rs left : List RecordedLine) (before text : List ℕ)
+    → AreDone old h rs left before text → (r : RecordedLine) (rest : List RecordedLine) (new : HostedSystem)
+    (after : List ℕ)
+    → HasDone h new r text after → left ≡ r ∷ rest → AreDone old new rs rest before after
+done_more old h rs left before text s r rest new after t split =
+    stands_on (λ lines. lines) old h rs left before text s r r rest new after refl t split
+
+-- where it stops, what was done is written
+pub cut_off : (old h : HostedSystem) (rs left : List RecordedLine) (before text after : List ℕ)
+    → AreDone old h rs left before text → after ≡ text → IsCutOff (text_after old.kernel) rs before after
+cut_off old h rs left before text after s same =
+    record { done = s.done; left = left; all_are = s.all_are; text = same ∙ s.text }
+
 -- the lines of setup, those of all events and the states at the end are the trace
 pub whole : (system : System) (k : ForeignKernel) (rs : List RecordedLine) (now : KernelState)
     (before first lines after : List ℕ) → k ≡ new_kernel (tables_of system)
@@ -302,6 +397,42 @@ came_text k (g ∷ gs) =
 came_world : (k : ForeignKernel) (gs : List Given) → (kernel_after k (came_lines gs)).world ≡ (run_of k gs).world
 came_world k [] = refl
 came_world k (g ∷ gs) = let r = reaction k g in came_world (view_after k r) gs ∙ sym (world_by k gs r)
+
+pub came_cut_off : (old h : HostedSystem) (gs left : List Given) (before text after : List ℕ)
+    → Stands came_lines old h gs left before text → after ≡ text → IsCutOff (text_of old.kernel) gs before after
+came_cut_off old h gs left before text after s same =
+    record {
+      done = s.done;
+      left = left;
+      all_are = s.all_are;
+      text = same ∙ s.text ∙ ap (λ (xs : List ℕ). before ++ xs) (came_text old.kernel s.done);
+    }
+
+-- the trace of a recorded run, up to where its replay stops
+pub begun_run : (system : System) (k : ForeignKernel) (recording : List ℕ) (rs : List RecordedLine)
+    (before first after : List ℕ) → k ≡ new_kernel (tables_of system) → recorded_of system.processors recording ≡ Ok rs
+    → first ≡ before ++ lines_text (tables_of system) 0 k.lines → IsCutOff (text_after k) rs first after
+    → HasBegunRun system recording before after
+begun_run system k recording rs before first after is_new recorded a cut =
+    let sys = tables_of system in
+    record {
+      lines = rs;
+      recorded = recorded;
+      trace = record {
+        done = cut.done;
+        left = cut.left;
+        all_are = cut.all_are;
+        text = cut.text
+            ∙ ap (λ (xs : List ℕ). xs ++ text_after k cut.done) a
+            ∙ append_assoc before (lines_text sys 0 k.lines) (text_after k cut.done)
+            ∙ ap (λ (j : ForeignKernel). before ++ (lines_text sys 0 j.lines ++ text_after j cut.done)) is_new;
+      };
+    }
+
+-- where all lines are done, nothing is left
+pub all_cut : (k : ForeignKernel) (rs : List RecordedLine) (before after : List ℕ) → after ≡ before ++ text_after k rs
+    → IsCutOff (text_after k) rs before after
+all_cut k rs before after e = record { done = rs; left = []; all_are = sym (append-nil rs); text = e }
 
 -- the listed states are those that a kernel has at the end
 pub listed : (sys : SystemTables) (now : KernelState) (xs : List TaskState)
@@ -352,6 +483,16 @@ of_described cfg recording system d (fault.Recording w) h = record { system = sy
 of_described cfg recording system d (fault.Refused w) h = h
 of_described cfg recording system d fault.Memory h = tt
 
+-- what it leaves of the trace then
+pub leaves_trace : (cfg recording : List ℕ) (system : System) (before after : List ℕ) → Describes cfg system
+    → (why : ReplayFault) → LeavesRun system recording before after why → LeavesTrace cfg recording before after why
+leaves_trace cfg recording system before after d (fault.Configuration w) h = absurd h
+leaves_trace cfg recording system before after d (fault.Recording w) h = h
+leaves_trace cfg recording system before after d (fault.Refused w) h = h
+leaves_trace cfg recording system before after d fault.Memory (inl h) = inl h
+leaves_trace cfg recording system before after d fault.Memory (inr h) =
+    inr (record { system = system; described = d; begun = h })
+
 -- why the replay of a recording stops
 pub not_run : (system : System) (recording : List ℕ) (k : ForeignKernel) (rs : List RecordedLine) (why : ReplayFault)
     → k ≡ new_kernel (tables_of system) → recorded_of system.processors recording ≡ Ok rs → IsWhyNotAll k rs why
@@ -363,3 +504,15 @@ not_run system recording k rs (fault.Refused w) is_new e h =
     ap (λ (j : ForeignKernel). first_refusal j rs) is_new ∙ never_refused system recording rs e in
     cc
 not_run system recording k rs fault.Memory is_new e h = tt
+
+-- what it leaves of the trace then
+pub left_by : (system : System) (recording : List ℕ) (k : ForeignKernel) (rs : List RecordedLine)
+    (before first after : List ℕ) (why : ReplayFault) → k ≡ new_kernel (tables_of system)
+    → recorded_of system.processors recording ≡ Ok rs → first ≡ before ++ lines_text (tables_of system) 0 k.lines
+    → IsWhyNotAll k rs why → IsCutOff (text_after k) rs first after → LeavesRun system recording before after why
+left_by system recording k rs before first after (fault.Configuration w) is_new e a h cut = absurd h
+left_by system recording k rs before first after (fault.Recording w) is_new e a h cut = absurd h
+left_by system recording k rs before first after (fault.Refused w) is_new e a h cut =
+    not_run system recording k rs (fault.Refused w) is_new e h
+left_by system recording k rs before first after fault.Memory is_new e a h cut =
+    inr (begun_run system k recording rs before first after is_new e a cut)

@@ -25,13 +25,13 @@ use Rattle.fmp_recording.specs.declared.faults.RecordingFault.TheVariants as rec
 use Rattle.fmp_recording.specs.declared.recorded.RecordedLine.{RecordedLine}
 use Rattle.fmp_recording.specs.declared.recorded.RecordedLine.TheVariants as recorded
 use Rattle.fmp_recording.specs.Recordings.{Cut, act_by, act_in, act_text, all_came, arguments_in, arguments_text}
-use Rattle.fmp_recording.specs.Recordings.{call_in, call_with, came, came_by, came_lines, cut, cut_at, behind_blank}
+use Rattle.fmp_recording.specs.Recordings.{call_in, call_with, came, came_by, came_lines, cut, cut_at, after_blank}
 use Rattle.fmp_recording.specs.Recordings.{fault_at, given_act, given_by, given_in, given_int, given_text, in_front}
 use Rattle.fmp_recording.specs.Recordings.{in_front_of, is_restart, line_meaning, line_time, line_times, number_of}
 use Rattle.fmp_recording.specs.Recordings.{number_up_to, positive, negative, recorded_at, recorded_from, recorded_in}
 use Rattle.fmp_recording.specs.Recordings.{recorded_lines_text, recorded_of, recorded_text, recording_of}
 use Rattle.fmp_recording.specs.Recordings.{recording_text, restart_text, said_before, signed_number, some_time}
-use Rattle.fmp_recording.specs.Recordings.{time_behind, time_number, time_or_none, time_place, time_text, timed_text}
+use Rattle.fmp_recording.specs.Recordings.{time_after, time_number, time_or_none, time_place, time_text, timed_text}
 use Rattle.fmp_recording.specs.Recordings.{times_of, with_time}
 use Rattle.fmp_recording.specs.RecordingLaws.{IsRecorded, IsRecordedLine, IsTime, IsWord, IsWritable}
 use Rattle.fmp_recording.specs.RecordingLaws.{PrintedLinesReadBack, PrintedRecordingsReadBack, TimedRecordingsReadBack}
@@ -71,13 +71,13 @@ line_append [] ys h k = k
 line_append (x ∷ xs) ys h k = (h.0, line_append xs ys h.1 k)
 
 -- the place of the first `@`
-sign_behind : (w rest : List ℕ) → Clear w
+sign_after : (w rest : List ℕ) → Clear w
     → position_or_len (λ b. nat_eq b 64) (w ++ rest) ≡ length w + position_or_len (λ b. nat_eq b 64) rest
-sign_behind [] rest h = omega arith
-sign_behind (b ∷ bs) rest h =
+sign_after [] rest h = omega arith
+sign_after (b ∷ bs) rest h =
     let p = clear_parts b (all_clear bs) h in
     ap (λ (t : Bool). cond (not t) (1 + prefix_len (λ c. not (nat_eq c 64)) (bs ++ rest)) 0) p.2
-    ∙ ap (λ (n : ℕ). 1 + n) (sign_behind bs rest p.3)
+    ∙ ap (λ (n : ℕ). 1 + n) (sign_after bs rest p.3)
     ∙ omega arith
 
 and_none : (xs : List ℕ) → xs ++ [] ≡ xs
@@ -88,22 +88,22 @@ and_none (x ∷ xs) = ap (λ (ys : List ℕ). x ∷ ys) (and_none xs)
 untimed : (w : List ℕ) → Clear w → time_place w ≡ None
 untimed w h =
     let n : position_or_len (λ b. nat_eq b 64) w ≡ length w =
-    ap (λ (x : List ℕ). position_or_len (λ b. nat_eq b 64) x) (sym (and_none w)) ∙ sign_behind w [] h ∙ omega arith in
+    ap (λ (x : List ℕ). position_or_len (λ b. nat_eq b 64) x) (sym (and_none w)) ∙ sign_after w [] h ∙ omega arith in
     let out : nat_lt (length w) (length w) ≡ false = grind (arith, nat_tests) in
-    ap (λ (k : ℕ). behind_blank w (cond (nat_lt k (length w)) (Some k) None)) n
-    ∙ ap (λ (t : Bool). behind_blank w (cond t (Some (length w)) None)) out
+    ap (λ (k : ℕ). after_blank w (cond (nat_lt k (length w)) (Some k) None)) n
+    ∙ ap (λ (t : Bool). after_blank w (cond t (Some (length w)) None)) out
 
 -- a time stands after such a line
 timed : (w rest : List ℕ) → Clear w → time_place (w ++ 32 ∷ 64 ∷ rest) ≡ Some (length w)
 timed w rest h =
     let text = w ++ 32 ∷ 64 ∷ rest in
-    let n : position_or_len (λ b. nat_eq b 64) text ≡ suc (length w) = sign_behind w (32 ∷ 64 ∷ rest) h ∙ omega arith in
+    let n : position_or_len (λ b. nat_eq b 64) text ≡ suc (length w) = sign_after w (32 ∷ 64 ∷ rest) h ∙ omega arith in
     let all : length text ≡ length w + length (32 ∷ 64 ∷ rest) = length-append w (32 ∷ 64 ∷ rest) in
     let before : suc (length w) - 1 ≡ length w = omega arith in
     let inside : nat_lt (suc (length w)) (length text) ≡ true = lt-ltb (suc (length w)) (length text)
     (omega (arith, all)) in
-    ap (λ (k : ℕ). behind_blank text (cond (nat_lt k (length text)) (Some k) None)) n
-    ∙ ap (λ (t : Bool). behind_blank text (cond t (Some (suc (length w))) None)) inside
+    ap (λ (k : ℕ). after_blank text (cond (nat_lt k (length text)) (Some k) None)) n
+    ∙ ap (λ (t : Bool). after_blank text (cond t (Some (suc (length w))) None)) inside
     ∙ ap (λ (t : Bool). cond (t && nat_eq (get_or text (suc (length w) - 1) 0) 32) (Some (suc (length w) - 1)) None)
     (le-leb 1 (suc (length w)) (omega arith))
     ∙ ap (λ (m : ℕ). cond (nat_eq (get_or text m 0) 32) (Some m) None) before
@@ -133,13 +133,13 @@ digits_plain (d ∷ ds) h =
     ap (λ (t : Bool). t && all_plain ds) p.0 ∙ digits_plain ds p.2
 
 -- the place of the first blank
-blank_behind : (w rest : List ℕ) → Plain w
+blank_after : (w rest : List ℕ) → Plain w
     → position_or_len (λ b. nat_eq b 32) (w ++ rest) ≡ length w + position_or_len (λ b. nat_eq b 32) rest
-blank_behind [] rest h = omega arith
-blank_behind (b ∷ bs) rest h =
+blank_after [] rest h = omega arith
+blank_after (b ∷ bs) rest h =
     let p = plain_parts b (all_plain bs) h in
     ap (λ (t : Bool). cond (not t) (1 + prefix_len (λ c. not (nat_eq c 32)) (bs ++ rest)) 0) p.0
-    ∙ ap (λ (n : ℕ). 1 + n) (blank_behind bs rest p.2)
+    ∙ ap (λ (n : ℕ). 1 + n) (blank_after bs rest p.2)
     ∙ omega arith
 
 longer : (w rest : List ℕ) → length w < length (w ++ 32 ∷ rest)
@@ -149,7 +149,7 @@ longer (b ∷ bs) rest = let h = longer bs rest in omega (arith, h)
 pub cut_word : (w rest : List ℕ) → Plain w → cut (w ++ 32 ∷ rest) ≡ record { word = w; rest = 32 ∷ rest }
 cut_word w rest h =
     let text = w ++ 32 ∷ rest in
-    let n : position_or_len (λ b. nat_eq b 32) text ≡ length w = blank_behind w (32 ∷ rest) h ∙ omega arith in
+    let n : position_or_len (λ b. nat_eq b 32) text ≡ length w = blank_after w (32 ∷ rest) h ∙ omega arith in
     let inside : nat_lt (length w) (length text) ≡ true = lt-ltb (length w) (length text) (longer w rest) in
     ap (λ (k : ℕ). cut_at (cond (nat_lt k (length text)) (Some k) None) text) n
     ∙ ap (λ (t : Bool). cut_at (cond t (Some (length w)) None) text) inside
@@ -159,7 +159,7 @@ cut_word w rest h =
 cut_end : (w : List ℕ) → Plain w → cut w ≡ record { word = w; rest = [] }
 cut_end w h =
     let n : position_or_len (λ b. nat_eq b 32) w ≡ length w =
-    ap (λ (x : List ℕ). position_or_len (λ b. nat_eq b 32) x) (sym (and_none w)) ∙ blank_behind w [] h ∙ omega arith in
+    ap (λ (x : List ℕ). position_or_len (λ b. nat_eq b 32) x) (sym (and_none w)) ∙ blank_after w [] h ∙ omega arith in
     let out : nat_lt (length w) (length w) ≡ false = grind (arith, nat_tests) in
     ap (λ (k : ℕ). cut_at (cond (nat_lt k (length w)) (Some k) None) w) n
     ∙ ap (λ (t : Bool). cut_at (cond t (Some (length w)) None) w) out
@@ -278,11 +278,11 @@ not_restart (given.Act p a) = refl
 not_restart given.Tick = refl
 not_restart (given.Int i) = refl
 
-not_restart_behind : (g : Given) (rest : List ℕ) → is_restart (given_text g ++ rest) ≡ false
-not_restart_behind (given.Act p a) rest = refl
-not_restart_behind given.Tick [] = refl
-not_restart_behind given.Tick (b ∷ bs) = refl
-not_restart_behind (given.Int i) rest = refl
+no_restart : (g : Given) (rest : List ℕ) → is_restart (given_text g ++ rest) ≡ false
+no_restart (given.Act p a) rest = refl
+no_restart given.Tick [] = refl
+no_restart given.Tick (b ∷ bs) = refl
+no_restart (given.Int i) rest = refl
 
 numbered : (processors n : ℕ) (line : List ℕ) (r : RecordedLine) → recorded_in processors line ≡ Ok r → n ≤ 2 ^ 31
     → recorded_at processors n line ≡ Ok r
@@ -304,7 +304,7 @@ line_again : (processors n : ℕ) (g : Given) → processors < 256 → IsRecorde
 line_again processors n g small h few =
     let w = given_text g in
     came_numbered processors n w g (not_restart g)
-    (ap (λ (o : Option ℕ). with_time (given_in processors (said_before o w)) (time_behind o w))
+    (ap (λ (o : Option ℕ). with_time (given_in processors (said_before o w)) (time_after o w))
     (untimed w (given_clear processors g small h))
     ∙ ap (λ (r : Result Given RecordingFlaw). with_time r (Ok None)) (given_again processors g small h)) few
 
@@ -371,13 +371,13 @@ digits_again zero h = ap (λ (ds : List ℕ). numeral_value ds) (decimal_digit 0
 digits_again (suc n) h = numeral_value-decimal (suc n) (omega arith) (omega (arith, h))
 
 time_again : (w : List ℕ) (t : Option ℕ) → Clear w → IsTime t
-    → time_behind (time_place (w ++ time_text t)) (w ++ time_text t) ≡ Ok t
+    → time_after (time_place (w ++ time_text t)) (w ++ time_text t) ≡ Ok t
 time_again w None h k =
-    ap (λ (x : List ℕ). time_behind (time_place x) x) (and_none w)
-    ∙ ap (λ (o : Option ℕ). time_behind o w) (untimed w h)
+    ap (λ (x : List ℕ). time_after (time_place x) x) (and_none w)
+    ∙ ap (λ (o : Option ℕ). time_after o w) (untimed w h)
 time_again w (Some n) h k =
     let text = w ++ 32 ∷ 64 ∷ decimal n in
-    ap (λ (o : Option ℕ). time_behind o text) (timed w (decimal n) h)
+    ap (λ (o : Option ℕ). time_after o text) (timed w (decimal n) h)
     ∙ ap (λ (x : List ℕ). some_time (time_number (numeral_value x))) (drop-append-add w (32 ∷ 64 ∷ decimal n) 2)
     ∙ ap (λ (o : Option ℕ). some_time (time_number o)) (digits_again n k)
     ∙ ap (λ (b : Bool). some_time (cond b (Ok n) (Err flaw.Range))) (le-leb n (2 ^ 53) k)
@@ -389,8 +389,8 @@ timed_line processors n g t small h k few =
     let w = given_text g in
     let line = w ++ time_text t in
     let clear = given_clear processors g small h in
-    came_numbered processors n line g (not_restart_behind g (time_text t))
-    (ap (λ (x : List ℕ). with_time (given_in processors x) (time_behind (time_place line) line)) (said_again w t clear)
+    came_numbered processors n line g (no_restart g (time_text t))
+    (ap (λ (x : List ℕ). with_time (given_in processors x) (time_after (time_place line) line)) (said_again w t clear)
     ∙ ap (λ (r : Result (Option ℕ) RecordingFlaw). with_time (given_in processors w) r) (time_again w t clear k)
     ∙ ap (λ (r : Result Given RecordingFlaw). with_time r (Ok t)) (given_again processors g small h)) few
 
@@ -436,7 +436,7 @@ read_times_again processors (g ∷ gs) (t ∷ ts) small h k e =
     let line = given_text g ++ time_text t in
     let rest = times_of (timed_text gs ts) in
     ap (λ ls. line_times ls) (first_timed processors g t (timed_text gs ts) small h.0 k.0)
-    ∙ ap (λ (b : Bool). cond b rest (line_time line ∷ rest)) (not_restart_behind g (time_text t))
+    ∙ ap (λ (b : Bool). cond b rest (line_time line ∷ rest)) (no_restart g (time_text t))
     ∙ ap (λ (r : Result (Option ℕ) RecordingFlaw). time_or_none r ∷ rest)
     (time_again (given_text g) t (given_clear processors g small h.0) k.0)
     ∙ ap (λ (us : List (Option ℕ)). t ∷ us) (read_times_again processors gs ts small h.1 k.1 (omega (arith, e)))

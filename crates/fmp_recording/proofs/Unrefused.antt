@@ -24,7 +24,7 @@ use Rattle.fmp_recording.specs.declared.faults.RecordingFault.TheVariants as rec
 use Rattle.fmp_recording.specs.declared.recorded.RecordedLine.{RecordedLine}
 use Rattle.fmp_recording.specs.declared.recorded.RecordedLine.TheVariants as recorded
 use Rattle.fmp_recording.specs.Recordings.{act_in, came_by, cut, fault_at, given_act, given_int, given_in, in_front}
-use Rattle.fmp_recording.specs.Recordings.{int_in, is_restart, line_meaning, said_before, time_behind, time_place}
+use Rattle.fmp_recording.specs.Recordings.{int_in, is_restart, line_meaning, said_before, time_after, time_place}
 use Rattle.fmp_recording.specs.Recordings.{with_time, number_of, number_up_to, recorded_at, recorded_from, recorded_in}
 use Rattle.fmp_recording.specs.Recordings.{recorded_of, run_in, tick_in}
 use Rattle.fmp_recording.specs.Replaying.{first_refusal, new_kernel, or_else}
@@ -60,27 +60,27 @@ int_fits processors (Err f) g h e = absurd cc
 int_fits processors (Ok i) g h e =
     let same : given.Int i ≡ g = cc in subst (λ (x : Given). Fits processors x) same (h i refl)
 
-behind_run : (processors : ℕ) (rest : List ℕ) (g : Given) → run_in processors rest ≡ Ok g → Fits processors g
-behind_run processors [] g e = absurd cc
-behind_run processors (b ∷ bs) g e =
+after_run : (processors : ℕ) (rest : List ℕ) (g : Given) → run_in processors rest ≡ Ok g → Fits processors g
+after_run processors [] g e = absurd cc
+after_run processors (b ∷ bs) g e =
     act_fits processors (number_up_to processors (number_of (cut bs).word)) (act_in (cut bs).rest) g
     (λ n h. number_fits processors (number_of (cut bs).word) n h) e
 
-behind_int : (processors : ℕ) (rest : List ℕ) (g : Given) → int_in rest ≡ Ok g → Fits processors g
-behind_int processors [] g e = absurd cc
-behind_int processors (b ∷ bs) g e =
+after_int : (processors : ℕ) (rest : List ℕ) (g : Given) → int_in rest ≡ Ok g → Fits processors g
+after_int processors [] g e = absurd cc
+after_int processors (b ∷ bs) g e =
     int_fits processors (number_up_to 32 (number_of bs)) g (λ n h. number_fits 32 (number_of bs) n h) e
 
-behind_tick : (processors : ℕ) (rest : List ℕ) (g : Given) → tick_in rest ≡ Ok g → Fits processors g
-behind_tick processors [] g e = let same : given.Tick ≡ g = cc in subst (λ (x : Given). Fits processors x) same tt
-behind_tick processors (b ∷ bs) g e = absurd cc
+after_tick : (processors : ℕ) (rest : List ℕ) (g : Given) → tick_in rest ≡ Ok g → Fits processors g
+after_tick processors [] g e = let same : given.Tick ≡ g = cc in subst (λ (x : Given). Fits processors x) same tt
+after_tick processors (b ∷ bs) g e = absurd cc
 
 by_word : (processors : ℕ) (rest : List ℕ) (g : Given) (run int tick : Bool)
     → cond run (run_in processors rest) (cond int (int_in rest) (cond tick (tick_in rest) (Err flaw.Form))) ≡ Ok g
     → Fits processors g
-by_word processors rest g true int tick e = behind_run processors rest g e
-by_word processors rest g false true tick e = behind_int processors rest g e
-by_word processors rest g false false true e = behind_tick processors rest g e
+by_word processors rest g true int tick e = after_run processors rest g e
+by_word processors rest g false true tick e = after_int processors rest g e
+by_word processors rest g false false true e = after_tick processors rest g e
 by_word processors rest g false false false e = absurd cc
 
 text_fits : (processors : ℕ) (line : List ℕ) (g : Given) → given_in processors line ≡ Ok g → Fits processors g
@@ -98,7 +98,7 @@ without_its_time (Ok h) (Ok t) g e = e
 line_fits : (processors : ℕ) (line : List ℕ) (g : Given) → line_meaning processors line ≡ Ok g → Fits processors g
 line_fits processors line g e =
     let said = said_before (time_place line) line in
-    text_fits processors said g (without_its_time (given_in processors said) (time_behind (time_place line) line) g e)
+    text_fits processors said g (without_its_time (given_in processors said) (time_after (time_place line) line) g e)
 
 abbrev LineFits : (processors : ℕ) → RecordedLine → Type 0
 LineFits processors (recorded.Came g) = Fits processors g

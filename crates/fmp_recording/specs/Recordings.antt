@@ -95,9 +95,9 @@ abbrev pub negative : Option ℕ → Option ℤ
 negative None = None
 negative (Some n) = if nat_le 1 n && nat_le n (2 ^ 31) then Some (negsuc (n - 1)) else None
 
-abbrev pub signed_number : (is_minus : Bool) → (behind text : List ℕ) → Option ℤ
-signed_number true behind text = negative (numeral_value behind)
-signed_number false behind text = positive (numeral_value text)
+abbrev pub signed_number : (is_minus : Bool) → (after_sign text : List ℕ) → Option ℤ
+signed_number true after_sign text = negative (numeral_value after_sign)
+signed_number false after_sign text = positive (numeral_value text)
 
 -- the number of 32 bits that a text spells, with `-` in front if it is below 0, without zeros in front
 abbrev pub number_of : List ℕ → Option ℤ
@@ -189,13 +189,13 @@ given_by processors c =
 abbrev pub given_in : (processors : ℕ) → List ℕ → Result Given RecordingFlaw
 given_in processors text = given_by processors (cut text)
 
-abbrev pub behind_blank : (line : List ℕ) → (at_sign : Option ℕ) → Option ℕ
-behind_blank line None = None
-behind_blank line (Some k) = if nat_le 1 k && nat_eq (get_or line (k - 1) 0) 32 then Some (k - 1) else None
+abbrev pub after_blank : (line : List ℕ) → (at_sign : Option ℕ) → Option ℕ
+after_blank line None = None
+after_blank line (Some k) = if nat_le 1 k && nat_eq (get_or line (k - 1) 0) 32 then Some (k - 1) else None
 
 -- where ` @` stands in a line, if its first `@` is after a blank
 abbrev pub time_place : List ℕ → Option ℕ
-time_place line = behind_blank line (position (λ b. nat_eq b 64) line)
+time_place line = after_blank line (position (λ b. nat_eq b 64) line)
 
 -- a time, in microseconds: from 0 to 2^53
 abbrev pub time_number : Option ℕ → Result ℕ RecordingFlaw
@@ -212,9 +212,9 @@ said_before None line = line
 said_before (Some k) line = take k line
 
 -- its time, if it has one
-abbrev pub time_behind : (place : Option ℕ) → List ℕ → Result (Option ℕ) RecordingFlaw
-time_behind None line = Ok None
-time_behind (Some k) line = some_time (time_number (numeral_value (drop (k + 2) line)))
+abbrev pub time_after : (place : Option ℕ) → List ℕ → Result (Option ℕ) RecordingFlaw
+time_after None line = Ok None
+time_after (Some k) line = some_time (time_number (numeral_value (drop (k + 2) line)))
 
 abbrev pub with_time : Result Given RecordingFlaw → Result (Option ℕ) RecordingFlaw → Result Given RecordingFlaw
 with_time (Err f) time = Err f
@@ -225,7 +225,7 @@ with_time (Ok g) (Ok time) = Ok g
 -- microseconds since the start. Of two flaws it has that of what comes.
 abbrev pub line_meaning : (processors : ℕ) → List ℕ → Result Given RecordingFlaw
 line_meaning processors line =
-    with_time (given_in processors (said_before (time_place line) line)) (time_behind (time_place line) line)
+    with_time (given_in processors (said_before (time_place line) line)) (time_after (time_place line) line)
 
 abbrev pub is_restart : List ℕ → Bool
 is_restart line = bytes_eq line restart_text
@@ -246,7 +246,7 @@ time_or_none (Ok time) = time
 
 -- when what a line says came, if the line says so
 abbrev pub line_time : List ℕ → Option ℕ
-line_time line = time_or_none (time_behind (time_place line) line)
+line_time line = time_or_none (time_after (time_place line) line)
 
 -- the times of the lines that say what comes
 abbrev pub line_times : List (List ℕ) → List (Option ℕ)

@@ -1,5 +1,5 @@
 -- The replay of a recording on a kernel whose bodies run outside.
-use Rattle.std.specs.Prelude.{◌≡◌, ◌+◌, ◌<◌, ◌≤◌, ◌^◌, ℕ, pos, List, [], ◌∷◌, ◌++◌, Option, Some, None, Ok, Err, length}
+use Rattle.std.specs.Prelude.{◌≡◌, ◌⊎◌, ◌+◌, ◌<◌, ◌≤◌, ◌^◌, ℕ, pos, List, [], ◌∷◌, ◌++◌, Option, Some, None, Ok, Err, length}
 use Rattle.std.specs.List.{AllByRecursion}
 use Rattle.fmp_base.specs.declared.systems.System.{System}
 use Rattle.fmp_base.specs.Runs.{Trace}
@@ -20,7 +20,6 @@ use Rattle.fmp_outside.specs.declared.given.Given.{Given}
 use Rattle.fmp_outside.specs.Outside.{outside_run}
 use Rattle.fmp_recording.specs.declared.faults.RecordingFault.{RecordingFault}
 use Rattle.fmp_recording.specs.declared.replaying.ReplayFault.{ReplayFault}
-use Rattle.fmp_recording.specs.declared.faults.RecordingFault.{RecordingFault}
 use Rattle.fmp_recording.specs.declared.replaying.ReplayFault.TheVariants as fault
 use Rattle.fmp_recording.specs.declared.recorded.RecordedLine.{RecordedLine}
 use Rattle.fmp_recording.specs.declared.recorded.RecordedLine.TheVariants as recorded
@@ -49,6 +48,13 @@ abbrev pub added_by : ForeignKernel → Reaction LastTold → List ℕ
 added_by k Nothing = []
 added_by k (Did d) = lines_text k.system (k.done + 1) d.lines
 added_by k (Kept p w) = []
+
+-- what stands for the first of these was appended, and no more
+pub record IsCutOff {A : Type 0} (text_for : List A → List ℕ) (all : List A) (before after : List ℕ) : Type 0 where
+  pub done : List A
+  pub left : List A
+  pub all_are : all ≡ done ++ left
+  pub text : after ≡ before ++ text_for done
 
 -- a kernel has taken what came, and the lines of its event are written
 pub record HasTaken (old new : HostedSystem) (g : Given) (before after : List ℕ) : Type 0 where
@@ -133,6 +139,10 @@ recorded_trace sys rs =
     let k = new_kernel sys in
     lines_text sys 0 k.lines ++ (text_after k rs ++ states_text sys (kernel_after k rs).world.state)
 
+-- the trace of a recorded run without the states at the end
+abbrev pub trace_so_far : SystemTables → List RecordedLine → List ℕ
+trace_so_far sys rs = let k = new_kernel sys in lines_text sys 0 k.lines ++ text_after k rs
+
 -- the whole trace of a recorded run of this system was appended
 pub record HasRun (system : System) (recording before after : List ℕ) : Type 0 where
   pub lines : List RecordedLine
@@ -146,11 +156,40 @@ IsWhyNotRun system recording (fault.Recording why) = IsFaultOf why (recorded_of 
 IsWhyNotRun system recording (fault.Refused why) = ⊥
 IsWhyNotRun system recording fault.Memory = Unit {0}
 
+-- the trace of a beginning of a recorded run of this system was appended
+pub record HasBegunRun (system : System) (recording before after : List ℕ) : Type 0 where
+  pub lines : List RecordedLine
+  pub recorded : recorded_of system.processors recording ≡ Ok lines
+  pub trace : IsCutOff (trace_so_far (tables_of system)) lines before after
+
+-- what an error leaves of the trace of a recorded run of this system: nothing of it is written, or its beginning if
+-- memory ran out
+abbrev pub LeavesRun : System → (recording before after : List ℕ) → ReplayFault → Type 0
+LeavesRun system recording before after (fault.Configuration why) = ⊥
+LeavesRun system recording before after (fault.Recording why) = after ≡ before
+LeavesRun system recording before after (fault.Refused why) = ⊥
+LeavesRun system recording before after fault.Memory =
+    (after ≡ before) ⊎ HasBegunRun system recording before after
+
 -- the trace of the recorded run of a system that this configuration describes was appended
 pub record IsReplay (cfg recording before after : List ℕ) : Type 0 where
   pub system : System
   pub described : Describes cfg system
   pub replayed : HasRun system recording before after
+
+-- the same of its beginning
+pub record HasBegunReplay (cfg recording before after : List ℕ) : Type 0 where
+  pub system : System
+  pub described : Describes cfg system
+  pub begun : HasBegunRun system recording before after
+
+-- what an error leaves of the trace of a replay
+abbrev pub LeavesTrace : (cfg recording before after : List ℕ) → ReplayFault → Type 0
+LeavesTrace cfg recording before after (fault.Configuration why) = after ≡ before
+LeavesTrace cfg recording before after (fault.Recording why) = after ≡ before
+LeavesTrace cfg recording before after (fault.Refused why) = ⊥
+LeavesTrace cfg recording before after fault.Memory =
+    (after ≡ before) ⊎ HasBegunReplay cfg recording before after
 
 pub record IsRecordingFault (cfg recording : List ℕ) (why : RecordingFault) : Type 0 where
   pub system : System

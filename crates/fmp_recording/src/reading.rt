@@ -32,10 +32,10 @@ fn next_argument(rest: &[u8]) -> Option<(i32, &[u8])>
     ensures { MatchOption result ((n : ℕ) → arguments_in (suc n) rest.now ≡ None)
         (λ next. (n : ℕ) → arguments_in (suc n) rest.now ≡ in_front_of (Some next.0) (arguments_in n next.1.now)) }
 {
-    let [_, behind @ ..] = rest else {
+    let [_, text @ ..] = rest else {
         return None;
     };
-    let (word, after) = first_word(behind);
+    let (word, after) = first_word(text);
     Some((number_in(word)?, after))
 }
 

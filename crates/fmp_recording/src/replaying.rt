@@ -1,13 +1,14 @@
 //! The replay of a recording on a new kernel: it prints what the recorded run has printed.
-ghost use Rattle.std.specs.Prelude.{◌≡◌, ◌++◌, IfErr, IfOk, OnOk, length, map};
+ghost use Rattle.std.specs.Prelude.{◌≡◌, ◌++◌, IfErr, IfOk, OnErr, OnOk, length, map};
 ghost use Rattle.fmp_base.specs.Runs.{task_state};
 ghost use Rattle.fmp_base.specs.States.{places_from};
 ghost use Rattle.fmp_base.specs.Systems.{tables_of};
 ghost use Rattle.fmp_base.specs.Texts.{states_text};
-ghost use Rattle.fmp_recording.specs.Replaying.{HasDone, HasDoneAll, HasReplayed, HasRun, HasTaken, IsReplay};
+ghost use Rattle.fmp_recording.specs.Replaying.{HasDone, HasDoneAll, HasReplayed, HasRun, HasTaken, IsCutOff, IsReplay};
 ghost use Rattle.fmp_recording.specs.Replaying.{IsReplayFault, IsWhyNotAll, IsWhyNotDone, IsWhyNotRun, IsWhyNotTaken};
-ghost use Rattle.fmp_recording.specs.Replaying.{IsWhyStopped, RecordedLinesAreReplayed, RecordedRunsAreReplayed};
-ghost use Rattle.fmp_recording.specs.Replaying.{WholeRunsAreReplayed, new_kernel};
+ghost use Rattle.fmp_recording.specs.Replaying.{IsWhyStopped, LeavesRun, LeavesTrace, RecordedLinesAreReplayed};
+ghost use Rattle.fmp_recording.specs.Replaying.{RecordedRunsAreReplayed, WholeRunsAreReplayed, new_kernel, text_after};
+ghost use Rattle.fmp_recording.specs.Replaying.{text_of};
 
 use crate::faults::RecordingFault;
 use crate::reading::read_lines;
@@ -45,6 +46,7 @@ fn take_one(hosted: &mut HostedSystem, given: Given, trace: &mut Vec<u8>) -> Res
     requires { hosted.old.kernel.system ≡ tables_of hosted.old.system }
     ensures ok { OnOk result (HasTaken hosted.old hosted.new given trace.old.items trace.new.items) }
     ensures err { IfErr result (IsWhyNotTaken hosted.old.kernel given) }
+    ensures kept { OnErr result (trace.new.items ≡ trace.old.items) }
 {
     match hosted.take(given) {
         Ok(Effect::Done) => {
@@ -65,7 +67,7 @@ fn take_one(hosted: &mut HostedSystem, given: Given, trace: &mut Vec<u8>) -> Res
 }
 
 /// Takes what was recorded, one after the other, and appends the lines of each event that is done. It stops at the
-/// first that is refused, and where memory runs out: the text then has an unfinished end.
+/// first that is refused, and where memory runs out: the text then ends with the lines of an event.
 pub fn replay(
     hosted: &mut HostedSystem,
     recording: &[Given],
@@ -74,6 +76,8 @@ pub fn replay(
     requires { hosted.old.kernel.system ≡ tables_of hosted.old.system }
     ensures ok { OnOk result (HasReplayed hosted.old hosted.new recording.now trace.old.items trace.new.items) }
     ensures err { IfErr result (IsWhyStopped hosted.old.kernel recording.now) }
+    ensures stopped { OnErr result
+        (IsCutOff (text_of hosted.old.kernel) recording.now trace.old.items trace.new.items) }
 {
     for given in recording {
         take_one(hosted, *given, trace)?;
@@ -90,6 +94,7 @@ fn do_line(
     requires { hosted.old.kernel.system ≡ tables_of hosted.old.system }
     ensures ok { OnOk result (HasDone hosted.old hosted.new line trace.old.items trace.new.items) }
     ensures err { IfErr result (IsWhyNotDone hosted.old.kernel line) }
+    ensures kept { OnErr result (trace.new.items ≡ trace.old.items) }
 {
     match line {
         RecordedLine::Came(given) => take_one(hosted, given, trace),
@@ -102,7 +107,7 @@ fn do_line(
 
 /// Does what the lines of a recording say, one after the other: takes what came, and has the counts begin again where
 /// they did. It appends the lines of each event that is done. It stops at the first that is refused, and where memory
-/// runs out: the text then has an unfinished end.
+/// runs out: the text then ends with the lines of an event.
 pub fn replay_lines(
     hosted: &mut HostedSystem,
     lines: &[RecordedLine],
@@ -111,6 +116,8 @@ pub fn replay_lines(
     requires { hosted.old.kernel.system ≡ tables_of hosted.old.system }
     ensures ok { OnOk result (HasDoneAll hosted.old hosted.new lines.now trace.old.items trace.new.items) }
     ensures err { IfErr result (IsWhyNotAll hosted.old.kernel lines.now) }
+    ensures stopped { OnErr result
+        (IsCutOff (text_after hosted.old.kernel) lines.now trace.old.items trace.new.items) }
 {
     for line in lines {
         do_line(hosted, *line, trace)?;
@@ -140,6 +147,7 @@ fn append_states(
     requires { hosted.now.kernel.system ≡ tables_of hosted.now.system }
     ensures ok { OnOk result (trace.new.items
         ≡ trace.old.items ++ states_text (tables_of hosted.now.system) hosted.now.kernel.world.state) }
+    ensures err { OnErr result (trace.new.items ≡ trace.old.items) }
 {
     let states = states_of(alloc, &hosted.kernel)?;
     print_states(&hosted.system, states.as_slice(), trace)
@@ -155,6 +163,7 @@ fn replay_text(
     requires { hosted.old.kernel ≡ new_kernel (tables_of hosted.old.system) }
     ensures ok { OnOk result (HasRun hosted.old.system recording.now trace.old.items trace.new.items) }
     ensures err { IfErr result (IsWhyNotRun hosted.old.system recording.now) }
+    ensures left { IfErr result (LeavesRun hosted.old.system recording.now trace.old.items trace.new.items) }
 {
     let lines = read_lines(alloc, recording, hosted.system.processors).map_err(
         ReplayFault::Recording,
@@ -171,8 +180,9 @@ fn replay_text(
 
 /// Appends the trace of a recorded run: the lines of setup, those of each event that is done, and the states of the
 /// tasks at the end. Where the recording says that the counts began again, they do so in the replay, and the numbers of
-/// events and of the clock begin again in the trace. The system is that of the configuration. On a fault the text has
-/// an unfinished end.
+/// events and of the clock begin again in the trace. The system is that of the configuration. A fault of the
+/// configuration or of the recording appends nothing; if memory runs out, the text ends with the lines of an event, or
+/// has nothing of the trace.
 pub fn replay_recording(
     alloc: Global,
     cfg: &[u8],
@@ -181,6 +191,7 @@ pub fn replay_recording(
 ) -> Result<(), ReplayFault>
     ensures ok { OnOk result (IsReplay cfg.now recording.now trace.old.items trace.new.items) }
     ensures err { IfErr result (IsReplayFault cfg.now recording.now) }
+    ensures left { IfErr result (LeavesTrace cfg.now recording.now trace.old.items trace.new.items) }
 {
     match HostedSystem::new(alloc, cfg) {
         Ok(mut hosted) => {

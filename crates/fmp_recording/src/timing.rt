@@ -1,6 +1,6 @@
 //! The time at the end of a line.
 ghost use Rattle.std.specs.Prelude.{◌≡◌, ◌+◌, ◌≤◌, IfSome, length, nat_eq, position};
-ghost use Rattle.fmp_recording.specs.Recordings.{line_time, said_before, time_behind, time_place as spec_place};
+ghost use Rattle.fmp_recording.specs.Recordings.{line_time, said_before, time_after, time_place as spec_place};
 
 use crate::faults::RecordingFlaw;
 use crate::numbers::time_in;
@@ -40,7 +40,7 @@ pub fn without_time(line: &[u8]) -> &[u8]
 
 /// The time of a line, if it has one.
 pub fn time_of(line: &[u8]) -> Result<Option<u64>, RecordingFlaw>
-    ensures { result ≡ time_behind (spec_place line.now) line.now }
+    ensures { result ≡ time_after (spec_place line.now) line.now }
 {
     match time_place(line) {
         Some(place) => match time_in(&line[place + 2..]) {

@@ -17,4 +17,5 @@ returns c =
           (λ h. h ∙ ap (λ (text : List ℕ). c.args.trace.now.items ++ text)
           (listed sys now c.as_slice.result.now states))
           c.print_states.ensures.ok;
+      err = c.print_states.ensures.err;
     }
