@@ -8,36 +8,37 @@ use Rattle.fmp_kernel.specs.Comings.{reaction_of}
 use Rattle.fmp_replay.specs.Replays.{kernel_after}
 use Rattle.fmp_trace.specs.Steps.{steps_text}
 use Rattle.fmp_trials.specs.declared.testing.FailedTrial.{FailedTrial}
-use Rattle.fmp_trials.specs.Drawn.{HasMet}
+use Rattle.fmp_trials.specs.declared.choices.RunPlan.{RunPlan}
+use Rattle.fmp_trials.specs.Drawn.{AllHaveMet}
 use Rattle.fmp_trials.specs.Found.{IsFound}
 use Rattle.fmp_looking.specs.declared.call_sentences.CallNever.{CallNever}
 use Rattle.fmp_looking.specs.declared.call_sentences.RunSentences.{RunSentences}
 use Rattle.fmp_looking.specs.declared.reporting.FailedTest.{FailedTest}
 use Rattle.fmp_looking.specs.CallSentences.{AreSentencesOf, breaks_by}
 use Rattle.fmp_looking.specs.Looks.{ShowsEvent}
-use Rattle.fmp_looking.specs.Tested.{HasMetText, IsFailedTest, subject_of}
+use Rattle.fmp_looking.specs.Tested.{HaveMetText, IsFailedTest, subject_of}
 
-pub is_failed : (i : ImageTables) (bound : ℕ) (src text : List ℕ) (sys : SystemTables) (sentences : RunSentences)
+pub is_failed : (i : ImageTables) (bound : ℕ) (plan : RunPlan) (seeds : ℕ) (src text : List ℕ) (sys : SystemTables) (sentences : RunSentences)
     (expected : List Expected) (nevers : List CallNever) (trial : FailedTrial) (t : FailedTest)
     → AreSentencesOf i sys src text sentences → expected ≡ sentences.expected.items → nevers ≡ sentences.nevers.items
-    → IsFound code_meaning breaks_by (subject_of i bound expected nevers) trial → t.trial ≡ trial
+    → IsFound code_meaning breaks_by (subject_of i bound expected nevers) plan seeds trial → t.trial ≡ trial
     → t.steps.items ≡ steps_text trial.run.steps.items
     → ShowsEvent (reaction_of code_meaning) (kernel_after i bound []) trial.run.steps.items trial.run.broken.event
     t.report.items
-    → IsFailedTest i sys bound src text t
-is_failed i bound src text sys sentences expected nevers trial t read alike same found is printed reported =
+    → IsFailedTest i sys bound plan seeds src text t
+is_failed i bound plan seeds src text sys sentences expected nevers trial t read alike same found is printed reported =
     record {
       sentences = sentences;
       read = read;
       found =
           subst
           (λ (x : FailedTrial). IsFound code_meaning breaks_by
-          (subject_of i bound sentences.expected.items sentences.nevers.items) x) (sym is)
+          (subject_of i bound sentences.expected.items sentences.nevers.items) plan seeds x) (sym is)
           (subst
           (λ (ns : List CallNever). IsFound code_meaning breaks_by (subject_of i bound sentences.expected.items ns)
-          trial)
+          plan seeds trial)
           same
-          (subst (λ (es : List Expected). IsFound code_meaning breaks_by (subject_of i bound es nevers) trial) alike
+          (subst (λ (es : List Expected). IsFound code_meaning breaks_by (subject_of i bound es nevers) plan seeds trial) alike
           found));
       printed = printed ∙ ap (λ (x : FailedTrial). steps_text x.run.steps.items) (sym is);
       reported =
@@ -46,20 +47,20 @@ is_failed i bound src text sys sentences expected nevers trial t read alike same
           x.run.broken.event t.report.items) (sym is) reported;
     }
 
-pub has_met : (i : ImageTables) (bound events : ℕ) (src text : List ℕ) (sys : SystemTables) (sentences : RunSentences)
+pub have_met : (i : ImageTables) (bound : ℕ) (plan : RunPlan) (seeds : ℕ) (src text : List ℕ) (sys : SystemTables) (sentences : RunSentences)
     (expected : List Expected) (nevers : List CallNever)
     → AreSentencesOf i sys src text sentences → expected ≡ sentences.expected.items → nevers ≡ sentences.nevers.items
-    → HasMet code_meaning breaks_by (subject_of i bound expected nevers) events
-    → HasMetText i sys bound events src text
-has_met i bound events src text sys sentences expected nevers read alike same met =
+    → AllHaveMet code_meaning breaks_by (subject_of i bound expected nevers) plan 0 seeds
+    → HaveMetText i sys bound plan seeds src text
+have_met i bound plan seeds src text sys sentences expected nevers read alike same met =
     record {
       sentences = sentences;
       read = read;
       met =
           subst
-          (λ (ns : List CallNever). HasMet code_meaning breaks_by (subject_of i bound sentences.expected.items ns)
-          events)
+          (λ (ns : List CallNever). AllHaveMet code_meaning breaks_by (subject_of i bound sentences.expected.items ns)
+          plan 0 seeds)
           same
-          (subst (λ (es : List Expected). HasMet code_meaning breaks_by (subject_of i bound es nevers) events) alike
+          (subst (λ (es : List Expected). AllHaveMet code_meaning breaks_by (subject_of i bound es nevers) plan 0 seeds) alike
           met);
     }

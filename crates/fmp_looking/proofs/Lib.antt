@@ -1,4 +1,5 @@
 mod BranchLemmas
+mod CallLaws
 pub mod CoveredLines
 pub mod Failed
 pub mod Fresh

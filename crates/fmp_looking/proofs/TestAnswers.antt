@@ -8,9 +8,12 @@ use Rattle.fmp_frames.specs.Answers.{answers_in}
 use Rattle.fmp_expect.specs.declared.expectation.Expected.{Expected}
 use Rattle.fmp_frames.specs.declared.placed_lines.LineForm.{LineForm}
 use Rattle.fmp_replay.specs.Replays.{kernel_after}
-use Rattle.fmp_trials.specs.Drawn.{IsWhole}
+use Rattle.fmp_trials.specs.declared.choices.RunPlan.{RunPlan}
+use Rattle.fmp_trials.specs.Choices.{choices_of}
+use Rattle.fmp_trials.specs.Drawn.{IsRandomRun}
 use Rattle.fmp_looking.specs.declared.wanted.ImageTest.{ImageTest}
 use Rattle.fmp_looking.specs.Covered.{IsTestRun}
+use Rattle.fmp_looking.specs.Tested.{plan_in}
 use Rattle.fmp_looking.specs.TestRefusals.{AreAnswersOf, AreRefusedLines, answers_after, with_answers}
 use Rattle.fmp_looking.proofs.TrialRuns.{all_and, one_longer}
 
@@ -49,18 +52,24 @@ module _ (P : List Event → Type 0) where
   as_many i n count all known is h =
       record { runs = h.runs; made = h.made; many = h.many ∙ is; answers = h.answers }
 
--- the runs of a test, by other names of what is expected and of how many events are asked for
+-- the runs of a test, by other names of what is expected and of their plan
 pub refused_of_test : (t : ImageTest) (form : LineForm) (file src : List ℕ) (count : ℕ) (out : List ℕ)
-    (xs ys : List Expected) (events : ℕ) → xs ≡ ys → events ≡ t.testing.events
-    → AreRefusedLines (λ es. IsWhole code_meaning (kernel_after t.image.now t.testing.bound []) xs events es) form file
+    (xs ys : List Expected) (plan : RunPlan) → xs ≡ ys → plan ≡ plan_in t
+    → AreRefusedLines
+    (λ es. (seed : ℕ)
+    × IsRandomRun code_meaning (kernel_after t.image.now t.testing.bound []) xs (choices_of plan seed) es) form file
     src t.image.now t.testing.bound count out
     → AreRefusedLines (IsTestRun t ys) form file src t.image.now t.testing.bound count out
-refused_of_test t form file src count out xs ys events is same h =
+refused_of_test t form file src count out xs ys plan is same h =
     subst
     (λ (zs : List Expected).
-    AreRefusedLines (λ es. IsWhole code_meaning (kernel_after t.image.now t.testing.bound []) zs t.testing.events es)
+    AreRefusedLines
+    (λ es. (seed : ℕ)
+    × IsRandomRun code_meaning (kernel_after t.image.now t.testing.bound []) zs (choices_of (plan_in t) seed) es)
     form file src t.image.now t.testing.bound count out) is
     (subst
-    (λ (k : ℕ).
-    AreRefusedLines (λ es. IsWhole code_meaning (kernel_after t.image.now t.testing.bound []) xs k es) form file src
+    (λ (p : RunPlan).
+    AreRefusedLines
+    (λ es. (seed : ℕ)
+    × IsRandomRun code_meaning (kernel_after t.image.now t.testing.bound []) xs (choices_of p seed) es) form file src
     t.image.now t.testing.bound count out) same h)

@@ -11,14 +11,16 @@ use Rattle.fmp_instructions.specs.declared.instructions.MachineContext.{MachineC
 use Rattle.fmp_instructions.specs.Instructions.{BodyTables}
 use Rattle.fmp_instructions.specs.Machine.{code_meaning}
 use Rattle.fmp_replay.specs.Replays.{kernel_after}
-use Rattle.fmp_trials.specs.Drawn.{IsWhole}
+use Rattle.fmp_trials.specs.declared.choices.RunPlan.{RunPlan}
+use Rattle.fmp_trials.specs.Choices.{choices_of}
+use Rattle.fmp_trials.specs.Drawn.{IsRandomRun}
 use Rattle.fmp_trials.specs.Trials.{Subject}
 use Rattle.fmp_looking.specs.declared.trying.Trials.{Trials}
 use Rattle.fmp_looking.specs.declared.wanted.ImageTest.{ImageTest}
 use Rattle.fmp_looking.specs.CallSentences.{JudgeTables}
 use Rattle.fmp_looking.specs.Covered.{AreRunsSeen, AreTrialsSeen, IsRunOf, IsTestRun, Seen, none_seen, with_run}
 use Rattle.fmp_looking.specs.Covered.{with_runs}
-use Rattle.fmp_looking.specs.Tested.{subject_in}
+use Rattle.fmp_looking.specs.Tested.{plan_in, subject_in}
 
 runs_and : (i : ImageTables) (n : ℕ) (s : Seen) (runs : List (List Event)) (es : List Event)
     → with_runs i n s (runs ++ es ∷ []) ≡ with_run i n (with_runs i n s runs) es
@@ -73,25 +75,34 @@ module _ (P : List Event → Type 0) where
       }
 
 -- a run from a subject of these trials
-pub run_of_trials : (t : Trials) (b : Subject (List BodyTables) MachineContext JudgeTables) (es : List Event)
-    → b ≡ subject_in t → IsWhole code_meaning b.start b.expected t.plan.events es → IsRunOf t es
-run_of_trials t b es is h =
-    subst
-    (λ (x : Subject (List BodyTables) MachineContext JudgeTables).
-    IsWhole code_meaning x.start x.expected t.plan.events es) is h
+pub run_of_trials : (t : Trials) (b : Subject (List BodyTables) MachineContext JudgeTables) (seed : ℕ)
+    (es : List Event) → b ≡ subject_in t
+    → IsRandomRun code_meaning b.start b.expected (choices_of t.plan seed) es → IsRunOf t es
+run_of_trials t b seed es is h = (
+  seed,
+  subst
+      (λ (x : Subject (List BodyTables) MachineContext JudgeTables).
+      IsRandomRun code_meaning x.start x.expected (choices_of t.plan seed) es) is h,
+)
 
--- the runs of a test, by other names of what is expected and of how many events are asked for
-pub seen_of_test : (t : ImageTest) (src : List ℕ) (count : ℕ) (s : Seen) (xs ys : List Expected) (events : ℕ) → xs ≡ ys
-    → events ≡ t.testing.events
-    → AreTrialsSeen (λ es. IsWhole code_meaning (kernel_after t.image.now t.testing.bound []) xs events es) src
+-- the runs of a test, by other names of what is expected and of their plan
+pub seen_of_test : (t : ImageTest) (src : List ℕ) (count : ℕ) (s : Seen) (xs ys : List Expected) (plan : RunPlan)
+    → xs ≡ ys → plan ≡ plan_in t
+    → AreTrialsSeen
+    (λ es. (seed : ℕ)
+    × IsRandomRun code_meaning (kernel_after t.image.now t.testing.bound []) xs (choices_of plan seed) es) src
     t.image.now t.testing.bound count s
     → AreTrialsSeen (IsTestRun t ys) src t.image.now t.testing.bound count s
-seen_of_test t src count s xs ys events is same h =
+seen_of_test t src count s xs ys plan is same h =
     subst
     (λ (zs : List Expected).
-    AreTrialsSeen (λ es. IsWhole code_meaning (kernel_after t.image.now t.testing.bound []) zs t.testing.events es) src
+    AreTrialsSeen
+    (λ es. (seed : ℕ)
+    × IsRandomRun code_meaning (kernel_after t.image.now t.testing.bound []) zs (choices_of (plan_in t) seed) es) src
     t.image.now t.testing.bound count s) is
     (subst
-    (λ (k : ℕ).
-    AreTrialsSeen (λ es. IsWhole code_meaning (kernel_after t.image.now t.testing.bound []) xs k es) src
+    (λ (p : RunPlan).
+    AreTrialsSeen
+    (λ es. (seed : ℕ)
+    × IsRandomRun code_meaning (kernel_after t.image.now t.testing.bound []) xs (choices_of p seed) es) src
     t.image.now t.testing.bound count s) same h)

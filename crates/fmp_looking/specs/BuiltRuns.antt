@@ -21,7 +21,7 @@ use Rattle.fmp_looking.specs.Traces.{AreShown, IsTrace}
 -- an image is driven, until as many events are done as a run is to have at most: by these events, and so it ends
 pub record IsDrive (i : ImageTables) (run : Running) (es : List Event) (ending : Option DriveEnding) : Type 0 where
   pub drive : Drive
-  pub driven : DrivesImage i run.bound (min run.events (2 ^ 20)) drive
+  pub driven : DrivesImage i run.bound (min run.events (2 ^ 20)) run.seed drive
   pub events : es ≡ drive.driven.steps.items
   pub ends : ending ≡ Some (ending_of i drive)
 

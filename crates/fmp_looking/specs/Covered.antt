@@ -12,6 +12,7 @@ use Rattle.fmp_looking.specs.Branches.{branch_steps}
 use Rattle.fmp_looking.specs.Marks.{AreMarksOf}
 use Rattle.fmp_looking.specs.Observed.{calls_seen}
 use Rattle.fmp_looking.specs.Tables.{branch_counts, table_text}
+use Rattle.fmp_looking.specs.Tested.{plan_in}
 use Rattle.fmp_frames.specs.declared.call_positions.CallPosition.{CallPosition}
 use Rattle.fmp_frames.specs.CallPositions.{AreCallsOf}
 use Rattle.fmp_frames.specs.Made.{positions_made}
@@ -21,7 +22,8 @@ use Rattle.fmp_replay.specs.Replays.{kernel_after}
 use Rattle.fmp_looking.specs.declared.covering.RunsSeen.{RunsSeen}
 use Rattle.fmp_looking.specs.declared.covering.Sightings.{Sightings}
 use Rattle.fmp_trials.specs.declared.seeds.Seeds.{Seeds}
-use Rattle.fmp_trials.specs.Drawn.{IsWhole}
+use Rattle.fmp_trials.specs.Choices.{choices_of}
+use Rattle.fmp_trials.specs.Drawn.{IsRandomRun}
 use Rattle.fmp_trials.specs.Parts.{edge}
 use Rattle.fmp_looking.specs.declared.trying.Trials.{Trials}
 use Rattle.fmp_looking.specs.declared.wanted.ImageTest.{ImageTest}
@@ -100,9 +102,12 @@ pub record IsSeen (src : List ℕ) (i : ImageTables) (n : ℕ) (runs : List (Lis
   pub none : IsNoneSeen src first
   pub seen : s ≡ with_runs i n first runs
 
--- a random run of trials: as many events as are planned, unless it breaks an expectation before
+-- a random run of trials: that of a seed
 abbrev pub IsRunOf : Trials → List Event → Type 0
-IsRunOf t es = IsWhole code_meaning (kernel_after t.opened.image.now t.opened.bound []) t.expected.now t.plan.events es
+IsRunOf t es =
+    (seed : ℕ)
+    × IsRandomRun code_meaning (kernel_after t.opened.image.now t.opened.bound []) t.expected.now
+    (choices_of t.plan seed) es
 
 -- this was seen of runs of an image, this many, each of which is made so
 pub record AreTrialsSeen (IsMade : List Event → Type 0) (src : List ℕ) (i : ImageTables) (n count : ℕ) (s : Seen)
@@ -112,10 +117,11 @@ pub record AreTrialsSeen (IsMade : List Event → Type 0) (src : List ℕ) (i : 
   pub many : length runs ≡ count
   pub seen : IsSeen src i n runs s
 
--- a random run of a test: as many events as are asked for, unless it breaks one of these expectations before
+-- a random run of a test, that of a seed: it goes up to the first event that breaks one of these expectations
 abbrev pub IsTestRun : ImageTest → List Expected → List Event → Type 0
 IsTestRun t expected es =
-    IsWhole code_meaning (kernel_after t.image.now t.testing.bound []) expected t.testing.events es
+    (seed : ℕ)
+    × IsRandomRun code_meaning (kernel_after t.image.now t.testing.bound []) expected (choices_of (plan_in t) seed) es
 
 -- this was seen of random runs of a test, this many, which go by the expectations of a text that are not about calls
 pub record IsTestSeen (t : ImageTest) (texts : TestTexts) (count : ℕ) (s : Seen) : Type 0 where

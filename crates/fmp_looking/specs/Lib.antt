@@ -3,6 +3,7 @@ pub mod BranchNumbers
 pub mod Branches
 pub mod BuiltRuns
 pub mod CallSentences
+pub mod CallLaws
 pub mod Called
 pub mod Coverage
 pub mod Covered

@@ -12,7 +12,7 @@ use Rattle.fmp_looking.specs.declared.wanted.Testing.{Testing}
 use Rattle.fmp_looking.specs.Covered.{IsTable, IsTestSeen, IsTracefile, Seen}
 use Rattle.fmp_looking.specs.FilesWritten.{file_written}
 use Rattle.fmp_looking.specs.Judgements.{IsTestReport}
-use Rattle.fmp_looking.specs.Tested.{HasMetText, IsFailedTest}
+use Rattle.fmp_looking.specs.Tested.{HaveMetText, IsFailedTest, plan_in}
 use Rattle.fmp_looking.specs.TestFiles.{AreApart}
 use Rattle.fmp_looking.specs.TestRecords.{test_record}
 use Rattle.fmp_looking.specs.TestRefusals.{AreTestRefusals}
@@ -26,17 +26,17 @@ pub record IsRead (files : Files) (r : ReadTest) : Type 0 where
   pub src : IsTextOf files r.test.now.testing.src.now r.texts.src.now
   pub expectations : IsTextOf files r.test.now.expect.now r.texts.expectations.now
 
--- a run fails what is expected
+-- this is the first run that fails what is expected
 abbrev pub FailsTest : ReadTest → FailedTest → Type 0
 FailsTest r f =
-    IsFailedTest r.test.now.image.now (tables_of r.test.now.configured.now) r.test.now.testing.bound r.texts.src.now
-    r.texts.expectations.now f
+    IsFailedTest r.test.now.image.now (tables_of r.test.now.configured.now) r.test.now.testing.bound
+    (plan_in r.test.now) r.test.now.testing.seeds r.texts.src.now r.texts.expectations.now f
 
--- a run of as many events as are asked for meets all that is expected
+-- all runs meet what is expected
 abbrev pub MeetsTest : ReadTest → Type 0
 MeetsTest r =
-    HasMetText r.test.now.image.now (tables_of r.test.now.configured.now) r.test.now.testing.bound
-    r.test.now.testing.events r.texts.src.now r.texts.expectations.now
+    HaveMetText r.test.now.image.now (tables_of r.test.now.configured.now) r.test.now.testing.bound
+    (plan_in r.test.now) r.test.now.testing.seeds r.texts.src.now r.texts.expectations.now
 
 -- the status of a test that is made: 0 where no run fails, and 4 where one does
 abbrev pub verdict_status : Option FailedTest → ℕ
@@ -110,13 +110,12 @@ pub record HasTested (r : ReadTest) (found : Option FailedTest) (before after : 
   pub are : AreTestRefusals r.test.now r.texts (runs_made r found) refused
   pub refuses : TellsLines r.test.now.testing.json refused told after
 
--- a test was made, of whose runs this one fails, if one does: its files expect that none does, and where none does, one
--- meets all that they expect
+-- a test was made, of whose runs this is the first that fails what its files expect; where there is none, all meet it
 pub record IsTested (r : ReadTest) (before after : Option (List Deed)) (status : ℕ) : Type 0 where
   pub apart : AreApart r.test.now
   pub found : Option FailedTest
   pub fails : IfSome found (FailsTest r)
-  pub meets : 0 < r.test.now.testing.seeds → found ≡ None → MeetsTest r
+  pub meets : found ≡ None → MeetsTest r
   pub verdict : status ≡ verdict_status found
   pub has : HasTested r found before after
 

@@ -1,8 +1,7 @@
 //! Steps of an image that is driven.
 ghost use Rattle.std.specs.Prelude.{◌≡◌, ◌+◌, ◌≤◌, ◌^◌, [], IfOk, length};
-ghost use Rattle.fmp_drive.specs.Driving.{IsDriven};
 ghost use Rattle.fmp_replay.specs.Replays.{kernel_after};
-ghost use Rattle.fmp_looking.specs.Drives.{DrivesImage};
+ghost use Rattle.fmp_looking.specs.Drives.{DrivesImage, IsDrivenAnew};
 
 use crate::open_image::OpenImage;
 use fmp_base::System;
@@ -32,8 +31,9 @@ fn driven_on<B: Body>(
     requires few { kernel.old.taken + events ≤ 2 ^ 20 }
     requires one { 1 ≤ sys.now.processors }
     requires eight { sys.now.processors ≤ 8 }
-    ensures { IfOk result
-        (λ d. IsDriven B.meaning kernel.old kernel.new sys.now.processors events d.steps.items d.stop) }
+    requires tasks { length sys.now.tasks.items ≡ length kernel.old.system.tasks }
+    ensures { IfOk result (IsDrivenAnew B.meaning kernel.old kernel.new sys.now.processors
+        (length kernel.old.system.tasks) events seed) }
 {
     let mut plan = Plan::new(alloc, sys, seed)?;
     let tasks = task_count(kernel);
@@ -61,7 +61,7 @@ fn drive_on<'a>(
 ) -> Result<Drive, AllocError>
     requires kernel { kernel.old ≡ kernel_after opened.image.now opened.bound [] }
     requires few { events ≤ 2 ^ 20 }
-    ensures { IfOk result (λ d. DrivesImage opened.entry.image.now opened.entry.bound events d) }
+    ensures { IfOk result (DrivesImage opened.entry.image.now opened.entry.bound events seed) }
 {
     let driven = driven_on(alloc, kernel, opened.image.system(), events, seed)?;
     let next = next_runs(kernel);
@@ -78,7 +78,7 @@ pub fn driven(
     n: u64,
 ) -> Result<Drive, AllocError>
     requires few { events ≤ 2 ^ 20 }
-    ensures { IfOk result (λ d. DrivesImage image.now n events d) }
+    ensures { IfOk result (DrivesImage image.now n events seed) }
 {
     let mut kernel = kernel_of(alloc, image, n)?;
     let opened = OpenImage { image, bound: n };

@@ -1,15 +1,15 @@
 //! Random runs of an image that are judged by a text of expectations, and what is printed of the first that fails.
-ghost use Rattle.std.specs.Prelude.{◌≡◌, ◌<◌, ◌≤◌, ◌^◌, [], IfNone, IfOk, IfSome, OnOk, false, length};
+ghost use Rattle.std.specs.Prelude.{◌≡◌, ◌≤◌, ◌^◌, [], IfNone, IfOk, IfSome, OnOk, false, length};
 ghost use Rattle.fmp_base.specs.Systems.{tables_of};
 ghost use Rattle.fmp_instructions.specs.Machine.{code_meaning};
 ghost use Rattle.fmp_kernel.specs.Comings.{reaction_of};
 ghost use Rattle.fmp_replay.specs.Replays.{kernel_after};
 ghost use Rattle.fmp_trace.specs.Steps.{steps_text};
-ghost use Rattle.fmp_trials.specs.Drawn.{HasMet, any_of_end, is_of_end};
+ghost use Rattle.fmp_trials.specs.Drawn.{AllHaveMet, any_of_end, is_of_end};
 ghost use Rattle.fmp_trials.specs.Found.{IsFound};
 ghost use Rattle.fmp_looking.specs.CallSentences.{breaks_by};
 ghost use Rattle.fmp_looking.specs.Looks.{ShowsEvent};
-ghost use Rattle.fmp_looking.specs.Tested.{HasMetText, IsFailedTest, subject_in, subject_of};
+ghost use Rattle.fmp_looking.specs.Tested.{HaveMetText, IsFailedTest, plan_in, subject_in, subject_of};
 
 use crate::call_sentences::{CallJudge, CallNever, sentences_of};
 use crate::commands::printed_steps;
@@ -121,7 +121,7 @@ fn failed_test(
 
 /// How the random runs of a test go.
 pub fn plan_of<'a>(test: &ImageTest<'a>) -> RunPlan<'a>
-    ensures { result.events ≡ test.now.testing.events }
+    ensures { result ≡ plan_in test.now }
 {
     RunPlan {
         events: test.testing.events,
@@ -138,9 +138,10 @@ fn found_by<R: Threads + Sync>(
     trials: &Trials<'_>,
     seeds: u32,
 ) -> Result<Option<FailedTrial>, AllocError>
-    ensures found { IfOk result (λ found. IfSome found (IsFound code_meaning breaks_by (subject_in trials.now))) }
-    ensures met { any_of_end trials.now.expected.now ≡ false → 0 < seeds → IfOk result (λ found. IfNone found
-        (HasMet code_meaning breaks_by (subject_in trials.now) trials.now.plan.events)) }
+    ensures found { IfOk result (λ found. IfSome found
+        (IsFound code_meaning breaks_by (subject_in trials.now) trials.now.plan seeds)) }
+    ensures met { any_of_end trials.now.expected.now ≡ false → IfOk result (λ found. IfNone found
+        (AllHaveMet code_meaning breaks_by (subject_in trials.now) trials.now.plan 0 seeds)) }
 {
     if jobs <= 1 {
         return failed_trial_of(alloc, trials, seeds);
@@ -157,10 +158,11 @@ fn first_failed<R: Threads + Sync>(
     nevers: &[CallNever],
 ) -> Result<Option<FailedTrial>, ViewExit>
     ensures found { IfOk result (λ found. IfSome found (IsFound code_meaning breaks_by
-        (subject_of test.now.image.now test.now.testing.bound expected.now nevers.now))) }
-    ensures met { any_of_end expected.now ≡ false → 0 < test.now.testing.seeds → IfOk result
-        (λ found. IfNone found (HasMet code_meaning breaks_by
-        (subject_of test.now.image.now test.now.testing.bound expected.now nevers.now) test.now.testing.events)) }
+        (subject_of test.now.image.now test.now.testing.bound expected.now nevers.now) (plan_in test.now)
+        test.now.testing.seeds)) }
+    ensures met { any_of_end expected.now ≡ false → IfOk result (λ found. IfNone found (AllHaveMet code_meaning
+        breaks_by (subject_of test.now.image.now test.now.testing.bound expected.now nevers.now)
+        (plan_in test.now) 0 test.now.testing.seeds)) }
 {
     let judge = CallJudge::new(test.image, nevers);
     let trials = Trials {
@@ -177,8 +179,8 @@ fn first_failed<R: Threads + Sync>(
     ))
 }
 
-/// Makes the random runs of a test: the first that fails one of the expectations of a text. Where none does, a run of
-/// as many events as are planned meets them all; nothing is said of other runs. The bodies of the image have this text.
+/// Makes the random runs of a test: the first that fails one of the expectations of a text. Where none does, all runs
+/// meet them; nothing is said of other runs. The bodies of the image have this text.
 /// The reasons to make none are a fault of the text of expectations, a line of it that begins with `end`, or is about a
 /// line without a call, and that memory runs out.
 pub fn tested<R: Threads + Sync>(
@@ -189,11 +191,11 @@ pub fn tested<R: Threads + Sync>(
     expectations: &Expectations<'_>,
 ) -> Result<Option<FailedTest>, ViewExit>
     ensures failed { IfOk result (λ found. IfSome found
-        (IsFailedTest test.now.image.now (tables_of test.now.configured.now) test.now.testing.bound src.now
-        expectations.now.text.now)) }
-    ensures met { 0 < test.now.testing.seeds → IfOk result (λ found. IfNone found
-        (HasMetText test.now.image.now (tables_of test.now.configured.now) test.now.testing.bound
-        test.now.testing.events src.now expectations.now.text.now)) }
+        (IsFailedTest test.now.image.now (tables_of test.now.configured.now) test.now.testing.bound
+        (plan_in test.now) test.now.testing.seeds src.now expectations.now.text.now)) }
+    ensures met { IfOk result (λ found. IfNone found
+        (HaveMetText test.now.image.now (tables_of test.now.configured.now) test.now.testing.bound
+        (plan_in test.now) test.now.testing.seeds src.now expectations.now.text.now)) }
 {
     let sentences = sentences_of(alloc, test.image, test.configured, src, expectations.text)?;
     refuse_ends(alloc, &sentences.expected)?;

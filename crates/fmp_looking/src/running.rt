@@ -402,7 +402,7 @@ fn found_by<R: Threads + Sync>(
     read: &ReadTest<'_>,
 ) -> Result<Option<FailedTest>, ViewExit>
     ensures fails { IfOk result (λ found. IfSome found (FailsTest read.now)) }
-    ensures meets { 0 < read.now.test.now.testing.seeds → IfOk result (λ found. IfNone found (MeetsTest read.now)) }
+    ensures meets { IfOk result (λ found. IfNone found (MeetsTest read.now)) }
 {
     let ReadTest { test, texts } = *read;
     let expectations = expectations_of(test.expect, texts.expectations);

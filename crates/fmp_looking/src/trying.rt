@@ -1,12 +1,12 @@
 //! Random runs of an image.
-ghost use Rattle.std.specs.Prelude.{◌≡◌, ◌-◌, ◌<◌, IfNone, IfOk, IfSome, false};
+ghost use Rattle.std.specs.Prelude.{◌≡◌, ◌-◌, IfNone, IfOk, IfSome, false};
 ghost use Rattle.fmp_instructions.specs.Machine.{code_meaning};
-ghost use Rattle.fmp_trials.specs.Drawn.{HasMet, any_of_end};
-ghost use Rattle.fmp_trials.specs.Found.{IsFound};
+ghost use Rattle.fmp_trials.specs.Drawn.{AllHaveMet, any_of_end};
+ghost use Rattle.fmp_trials.specs.Found.{IsFound, IsShortened};
 ghost use Rattle.fmp_trials.specs.Shortening.{IsFailing};
 ghost use Rattle.fmp_looking.specs.Covered.{AreRunsSeen, IsRunOf, seen_at};
 ghost use Rattle.fmp_looking.specs.CallSentences.{breaks_by};
-ghost use Rattle.fmp_looking.specs.Tested.{subject_in};
+ghost use Rattle.fmp_looking.specs.Tested.{IsFirstOf, subject_in};
 
 use crate::call_sentences::CallJudge;
 use crate::covering::Sightings;
@@ -43,16 +43,17 @@ pub fn bench_of<'a>(alloc: Global, trials: &Trials<'a>) -> Result<ImageBench<'a>
     Ok(Bench::new(start, kernel, trials.expected, trials.judge))
 }
 
-/// The first of the random runs of an image that fails what is expected, made shorter. Where there is none, a run of as
-/// many events as are planned meets that; nothing is said of other runs. `AllocError` if memory runs out.
+/// The first of the random runs of the seeds from 1 to this one, of an image, that fails what is expected, made shorter.
+/// The runs of the seeds before it, or of all where there is none, meet that. `AllocError` if memory runs out.
 pub fn failed_trial_of(
     alloc: Global,
     trials: &Trials<'_>,
     seeds: u32,
 ) -> Result<Option<FailedTrial>, AllocError>
-    ensures found { IfOk result (λ found. IfSome found (IsFound code_meaning breaks_by (subject_in trials.now))) }
-    ensures met { any_of_end trials.now.expected.now ≡ false → 0 < seeds → IfOk result (λ found. IfNone found
-        (HasMet code_meaning breaks_by (subject_in trials.now) trials.now.plan.events)) }
+    ensures found { IfOk result (λ found. IfSome found
+        (IsFound code_meaning breaks_by (subject_in trials.now) trials.now.plan seeds)) }
+    ensures met { any_of_end trials.now.expected.now ≡ false → IfOk result (λ found. IfNone found
+        (AllHaveMet code_meaning breaks_by (subject_in trials.now) trials.now.plan 0 seeds)) }
 {
     let mut bench = bench_of(alloc, trials)?;
     let found = first_failed_trial(alloc, &mut bench, trials.plan, u64::from(seeds));
@@ -60,17 +61,14 @@ pub fn failed_trial_of(
     found
 }
 
-/// The first of these seeds whose random run of an image fails what is expected, and that run. Where there is none, a
-/// run of as many events as are planned meets that; nothing is said of other runs. `AllocError` if memory runs out.
+/// The first of these seeds whose random run of an image fails what is expected, and that run. The runs of the seeds
+/// before it, or of all where there is none, meet that. `AllocError` if memory runs out.
 pub fn failing_seed_of(
     alloc: Global,
     trials: &Trials<'_>,
     seeds: Seeds,
 ) -> Result<Option<FailingSeed>, AllocError>
-    ensures failing { IfOk result (λ found. IfSome found
-        (λ f. IsFailing code_meaning breaks_by (subject_in trials.now) f.run)) }
-    ensures met { any_of_end trials.now.expected.now ≡ false → seeds.before < seeds.last → IfOk result
-        (λ found. IfNone found (HasMet code_meaning breaks_by (subject_in trials.now) trials.now.plan.events)) }
+    ensures { IfOk result (IsFirstOf trials.now seeds.before seeds.last) }
 {
     let mut bench = bench_of(alloc, trials)?;
     let found = first_failing(alloc, &mut bench, trials.plan, seeds);
@@ -85,7 +83,7 @@ pub fn shortened_trial_of(
     found: FailingSeed,
 ) -> Result<FailedTrial, AllocError>
     requires { IsFailing code_meaning breaks_by (subject_in trials.now) found.run }
-    ensures { IfOk result (IsFound code_meaning breaks_by (subject_in trials.now)) }
+    ensures { IfOk result (IsShortened code_meaning breaks_by (subject_in trials.now) found) }
 {
     let mut bench = bench_of(alloc, trials)?;
     let trial = shortened(alloc, &mut bench, found);

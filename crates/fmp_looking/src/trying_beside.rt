@@ -1,20 +1,18 @@
 //! Random runs of an image that several threads make. Each makes those of a part of the seeds, and what comes of the
 //! parts is taken in order.
-ghost use Rattle.std.specs.Prelude.{ℕ, ◌≡◌, ◌+◌, ◌-◌, ◌<◌, All, IfNone, IfOk, IfSome, List, false};
+ghost use Rattle.std.specs.Prelude.{ℕ, ◌≡◌, ◌+◌, ◌-◌, ◌<◌, ◌≤◌, IfNone, IfOk, IfSome, List, false};
 ghost use Rattle.fmp_frames.specs.declared.call_positions.CallPosition.{CallPosition};
 ghost use Rattle.fmp_image_bytes.specs.Images.{ImageTables};
 ghost use Rattle.fmp_instructions.specs.Machine.{code_meaning};
 ghost use Rattle.fmp_trials.specs.declared.seeds.Seeds.{Seeds};
-ghost use Rattle.fmp_trials.specs.Drawn.{HasMet, any_of_end};
+ghost use Rattle.fmp_trials.specs.Drawn.{AllHaveMet, any_of_end};
 ghost use Rattle.fmp_trials.specs.Found.{IsFound};
-ghost use Rattle.fmp_trials.specs.Parts as part_spec;
 ghost use Rattle.fmp_trials.specs.Parts.{edge};
-ghost use Rattle.fmp_trials.specs.Shortening.{IsFailing};
 ghost use Rattle.fmp_looking.specs.declared.trying.Trials.{Trials};
 ghost use Rattle.fmp_looking.specs.Covered.{ArePartsSeen, AreRunsSeen, AreTrialsSeen, IsRunOf, IsWithPart, seen_at};
 ghost use Rattle.fmp_looking.specs.Covered.{seen_of};
 ghost use Rattle.fmp_looking.specs.CallSentences.{breaks_by};
-ghost use Rattle.fmp_looking.specs.Tested.{subject_in};
+ghost use Rattle.fmp_looking.specs.Tested.{AreFirstOf, IsFirstOf, subject_in};
 
 use crate::covering::{RunsSeen, Sightings};
 use crate::trying::{Trials, failing_seed_of, shortened_trial_of, sightings_of};
@@ -37,21 +35,14 @@ fn failing_parts<R: Threads + Sync>(
     seeds: Seeds,
 ) -> Result<Vec<Result<Option<FailingSeed>, AllocError>>, AllocError>
     requires { 0 < jobs }
-    ensures failing { IfOk result (λ parts. All (λ part. IfOk part (λ found. IfSome found
-        (λ f. IsFailing code_meaning breaks_by (subject_in trials.now) f.run))) parts.items) }
-    ensures met { any_of_end trials.now.expected.now ≡ false → seeds.before < seeds.last → IfOk result
-        (λ parts. IfOk (part_spec.first_of parts.items) (λ found. IfNone found
-        (HasMet code_meaning breaks_by (subject_in trials.now) trials.now.plan.events))) }
+    ensures { IfOk result (λ parts. AreFirstOf trials.now seeds jobs parts.items) }
 {
     let look = |k: usize| -> Result<Option<FailingSeed>, AllocError>
         requires { k < jobs }
-        ensures failing { IfOk result (λ found. IfSome found
-            (λ f. IsFailing code_meaning breaks_by (subject_in trials.entry.now) f.run)) }
-        ensures met { any_of_end trials.entry.now.expected.now ≡ false
-            → edge seeds jobs k < edge seeds jobs (k + 1) → IfOk result (λ found. IfNone found
-            (HasMet code_meaning breaks_by (subject_in trials.entry.now) trials.entry.now.plan.events)) }
+        ensures { IfOk result (IsFirstOf trials.entry.now (edge seeds jobs k) (edge seeds jobs (k + 1))) }
     { failing_seed_of(alloc, trials, seeds.part(u64::from(jobs), k as u64)) };
-    thread::map_indices(rt, alloc, jobs as usize, &look)
+    let parts = thread::map_indices(rt, alloc, jobs as usize, &look)?;
+    Ok(parts)
 }
 
 /// The first of these seeds whose random run of an image fails what is expected, and that run. Each of this many
@@ -64,10 +55,7 @@ fn failing_seed_beside<R: Threads + Sync>(
     seeds: Seeds,
 ) -> Result<Option<FailingSeed>, AllocError>
     requires { 0 < jobs }
-    ensures failing { IfOk result (λ found. IfSome found
-        (λ f. IsFailing code_meaning breaks_by (subject_in trials.now) f.run)) }
-    ensures met { any_of_end trials.now.expected.now ≡ false → seeds.before < seeds.last → IfOk result
-        (λ found. IfNone found (HasMet code_meaning breaks_by (subject_in trials.now) trials.now.plan.events)) }
+    ensures { IfOk result (IsFirstOf trials.now seeds.before seeds.last) }
 {
     let parts = failing_parts(alloc, rt, jobs, trials, seeds)?;
     first_of(parts)
@@ -89,6 +77,7 @@ impl Round {
     fn seeds(self, last: u64) -> Seeds
         ensures before { result.before ≡ self.before }
         ensures last { self.before < last → 0 < self.each → 0 < self.jobs → self.before < result.last }
+        ensures most { result.last ≤ last }
     {
         let count = self.each.saturating_mul(u64::from(self.jobs));
         Seeds {
@@ -100,6 +89,8 @@ impl Round {
     /// The round after the one that ends with this seed.
     fn after(self, last: u64) -> Round
         ensures before { result.before ≡ last }
+        ensures each { 0 < self.each → 0 < result.each }
+        ensures jobs { result.jobs ≡ self.jobs }
     {
         Round {
             each: self.each.saturating_mul(2).min(ROUND_MOST),
@@ -119,10 +110,7 @@ fn first_failing_beside<R: Threads + Sync>(
     last: u64,
 ) -> Result<Option<FailingSeed>, AllocError>
     requires { 0 < jobs }
-    ensures failing { IfOk result (λ found. IfSome found
-        (λ f. IsFailing code_meaning breaks_by (subject_in trials.now) f.run)) }
-    ensures met { any_of_end trials.now.expected.now ≡ false → 0 < last → IfOk result
-        (λ found. IfNone found (HasMet code_meaning breaks_by (subject_in trials.now) trials.now.plan.events)) }
+    ensures { IfOk result (IsFirstOf trials.now 0 last) }
 {
     let mut round = Round {
         jobs,
@@ -134,16 +122,16 @@ fn first_failing_beside<R: Threads + Sync>(
         if seeds.count() == 0 {
             return Ok(None);
         }
-        if let Some(found) = failing_seed_beside(alloc, rt, jobs, trials, seeds)? {
-            return Ok(Some(found));
+        match failing_seed_beside(alloc, rt, jobs, trials, seeds)? {
+            Some(found) => return Ok(Some(found)),
+            None => round = round.after(seeds.last),
         }
-        round = round.after(seeds.last);
     }
     Ok(None)
 }
 
-/// The first of the random runs of an image that fails what is expected, made shorter, where this many threads make
-/// them. Where there is none, a run of as many events as are planned meets that; nothing is said of other runs.
+/// The first of the random runs of the seeds from 1 to this one, of an image, that fails what is expected, made shorter,
+/// where this many threads make them. The runs of the seeds before it, or of all where there is none, meet that.
 /// `AllocError` if memory runs out.
 pub fn failed_trial_beside<R: Threads + Sync>(
     alloc: Global,
@@ -153,9 +141,10 @@ pub fn failed_trial_beside<R: Threads + Sync>(
     seeds: u32,
 ) -> Result<Option<FailedTrial>, AllocError>
     requires { 0 < jobs }
-    ensures found { IfOk result (λ found. IfSome found (IsFound code_meaning breaks_by (subject_in trials.now))) }
-    ensures met { any_of_end trials.now.expected.now ≡ false → 0 < seeds → IfOk result (λ found. IfNone found
-        (HasMet code_meaning breaks_by (subject_in trials.now) trials.now.plan.events)) }
+    ensures found { IfOk result (λ found. IfSome found
+        (IsFound code_meaning breaks_by (subject_in trials.now) trials.now.plan seeds)) }
+    ensures met { any_of_end trials.now.expected.now ≡ false → IfOk result (λ found. IfNone found
+        (AllHaveMet code_meaning breaks_by (subject_in trials.now) trials.now.plan 0 seeds)) }
 {
     match first_failing_beside(alloc, rt, jobs, trials, u64::from(seeds))? {
         Some(found) => Ok(Some(shortened_trial_of(alloc, trials, found)?)),

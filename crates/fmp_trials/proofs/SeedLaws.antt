@@ -1,6 +1,6 @@
 -- Choices make one random run.
-use Rattle.std.proofs.Common.{◌≡◌, ◌∙◌, ℕ, ◌+◌, ◌<◌, ◌≤◌, ◌^◌, ◌⊎◌, List, [], ◌∷◌, ◌++◌, None, ap, arith, inl, inr}
-use Rattle.std.proofs.Common.{length, min, refl, subst, suc, sym, take, zero}
+use Rattle.std.proofs.Common.{◌≡◌, ◌∙◌, ℕ, ◌<◌, ◌≤◌, ◌^◌, List, [], ◌∷◌, None, ap, arith, inl, inr}
+use Rattle.std.proofs.Common.{length, min, refl, subst, sym, take}
 use Rattle.std.proofs.lemmas.Bool.{cases_order}
 use Rattle.fmp_base.specs.declared.events.Event.{Event}
 use Rattle.fmp_base.specs.Meanings.{Meaning}

@@ -1,5 +1,5 @@
 -- A sentence by the states between events.
-use Rattle.std.proofs.Common.{◌≡◌, ◌∙◌, ℕ, ◌+◌, List, [], ◌∷◌, Option, Some, None, Bool, true, false, ap, refl, sym}
+use Rattle.std.proofs.Common.{◌≡◌, ◌∙◌, ℕ, ◌+◌, List, [], ◌∷◌, Bool, true, false, ap, refl, sym}
 use Rattle.std.specs.Prelude.{◌||◌, is_some}
 use Rattle.std.specs.List.{list_any}
 use Rattle.fmp_base.specs.declared.events.Event.{Event}
@@ -16,7 +16,6 @@ use Rattle.fmp_kernel.specs.KernelViews.{KernelView, view_after}
 use Rattle.fmp_monitors.specs.declared.sentence.Sentence.{Sentence}
 use Rattle.fmp_monitors.specs.declared.sentence.Sentence.TheVariants as sentence
 use Rattle.fmp_monitors.specs.Meaning.{Seen, OfLine, OfState, breaks}
-use Rattle.fmp_monitors.specs.Monitors.{breaks_in_state}
 use Rattle.fmp_schedules.specs.Monitors.{at_open, is_broken_in}
 use Rattle.fmp_trials.specs.Lines.{goes_by_states, states_after, with_state_after}
 use Rattle.fmp_trials.specs.Verdicts.{states_in, verdict}

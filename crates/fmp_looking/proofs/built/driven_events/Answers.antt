@@ -21,11 +21,11 @@ returns-clause-drive c =
     record {
       drive = drive;
       driven =
-          subst (λ (most : ℕ). DrivesImage c.args.image.now c.args.run.bound most drive) c.kept_events.ensures.kept
+          subst (λ (most : ℕ). DrivesImage c.args.image.now c.args.run.bound most c.args.run.seed drive) c.kept_events.ensures.kept
           c.in_ok-drive.ensures;
       events = refl;
       ends = ap (λ (e : DriveEnding). Some e) c.ending_of-ending.ensures;
     }
 
 pub returns-clause-few : goal.returns-clause-few
-returns-clause-few c = omega (arith, c.in_ok-drive.ensures.driven.few, c.kept_events.ensures.few)
+returns-clause-few c = omega (arith, c.in_ok-drive.ensures.driven.driven.few, c.kept_events.ensures.few)

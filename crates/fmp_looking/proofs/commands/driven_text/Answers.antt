@@ -10,7 +10,7 @@ driven-requires c = record { few = c.kept_events.ensures.few }
 
 pub why_of-requires : goal.why_of-requires
 why_of-requires c =
-    rw c.deref-2.ensures.value (omega (arith, c.in_ok-drive.ensures.driven.few, c.kept_events.ensures.few))
+    rw c.deref-2.ensures.value (omega (arith, c.in_ok-drive.ensures.driven.driven.few, c.kept_events.ensures.few))
 
 pub returns-in_err-drive : goal.returns-in_err-drive
 returns-in_err-drive c = rw ((err_from_is_err_and c.from_residual.result c.from_residual.ensures.1).1) tt
@@ -29,7 +29,7 @@ returns c =
     record {
       drive = drive;
       driven =
-          subst (λ (most : ℕ). DrivesImage c.args.image.now c.args.driving.bound most drive) c.kept_events.ensures.kept
+          subst (λ (most : ℕ). DrivesImage c.args.image.now c.args.driving.bound most c.args.driving.seed drive) c.kept_events.ensures.kept
           c.in_ok-drive.ensures;
       steps = c.in_ok-steps.ensures ∙ ap (λ (es : List Event). steps_text es) c.deref.ensures.value;
       ends = c.ending_of-ending.ensures;

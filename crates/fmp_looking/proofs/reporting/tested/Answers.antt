@@ -6,19 +6,21 @@ use Rattle.fmp_kernel.specs.Comings.{reaction_of}
 use Rattle.fmp_replay.specs.Replays.{kernel_after}
 use Rattle.fmp_trials.specs.Drawn.{any_of_end}
 use Rattle.fmp_looking.specs.Looks.{ShowsEvent}
-use Rattle.fmp_looking.proofs.Failed.{has_met, is_failed}
+use Rattle.fmp_looking.specs.Tested.{plan_in}
+use Rattle.fmp_looking.proofs.Failed.{have_met, is_failed}
 use Rattle.fmp_looking.proofs.reporting.tested.Goals as goal
 
 pub failed_test-requires : goal.failed_test-requires
 failed_test-requires g c =
     let found = rw c.in-Some.is at c.in_ok-found.ensures.found in
-    found.fails.few
+    found.shortened.fails.few
 
 pub returns-in-Some-clause-failed : goal.returns-in-Some-clause-failed
 returns-in-Some-clause-failed g c =
     let run = c.in-Some.trial.run in
     let report = c.in_ok-failed-in-Some.failed.report.items in
-    is_failed c.args.test.now.image.now c.args.test.now.testing.bound c.args.src.now c.args.expectations.now.text.now _
+    is_failed c.args.test.now.image.now c.args.test.now.testing.bound (plan_in c.args.test.now)
+    c.args.test.now.testing.seeds c.args.src.now c.args.expectations.now.text.now _
     c.in_ok-sentences.sentences c.deref-2.result.now c.deref-3.result.now c.in-Some.trial
     c.in_ok-failed-in-Some.failed c.in_ok-sentences.ensures c.deref-2.ensures.value c.deref-3.ensures.value
     (rw c.in-Some.is at c.in_ok-found.ensures.found) c.in_ok-failed-in-Some.ensures.trial
@@ -31,11 +33,12 @@ returns-in-Some-clause-failed g c =
     run.steps.items run.broken.event report) c.new-opened.ensures.bound c.in_ok-failed-in-Some.ensures.report))
 
 pub returns-clause-met : goal.returns-clause-met
-returns-clause-met g c = λ some.
+returns-clause-met g c =
     let none =
     ap (λ (xs : List Expected). any_of_end xs) (c.deref-2.ensures.value ∙ sym c.deref.ensures.value)
     ∙ c.in_ok-refuse_ends.ensures in
-    has_met c.args.test.now.image.now c.args.test.now.testing.bound c.args.test.now.testing.events c.args.src.now
+    have_met c.args.test.now.image.now c.args.test.now.testing.bound (plan_in c.args.test.now)
+    c.args.test.now.testing.seeds c.args.src.now
     c.args.expectations.now.text.now _ c.in_ok-sentences.sentences c.deref-2.result.now c.deref-3.result.now
     c.in_ok-sentences.ensures c.deref-2.ensures.value c.deref-3.ensures.value
-    (rw c.in-None.is at (c.in_ok-found.ensures.met none some))
+    (rw c.in-None.is at (c.in_ok-found.ensures.met none))

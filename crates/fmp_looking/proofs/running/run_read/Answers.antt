@@ -7,7 +7,7 @@ returns-in-Ok g c = λ done.
       apart = c.requires;
       found = c.in-Ok.found;
       fails = c.in-Ok.ensures.fails;
-      meets = λ some is. if_none _ c.in-Ok.found (c.in-Ok.ensures.meets some) is;
+      meets = λ is. if_none _ c.in-Ok.found c.in-Ok.ensures.meets is;
       verdict = rw c.as_ref.ensures.value at (c.ended.ensures.status done);
       has = rw c.as_ref.ensures.value at (c.ended.ensures.tested done);
     }
