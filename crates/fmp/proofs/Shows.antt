@@ -1,16 +1,18 @@
 -- How a run ends of a command that writes no file.
 use Rattle.std.proofs.Common.{◌≡◌, ℕ, refl, sym, subst, ◌∙◌, append-nil, Bool, IsTrue, List, [], Option, None, IfSome}
+use Rattle.std.specs.Prelude.{codes}
 use Rattle.fmp.specs.declared.asking.Cmd.{Cmd}
 use Rattle.fmp.specs.declared.asking.Cmd.TheVariants as command
-use Rattle.fmp_files.specs.Deeds.{Deed, Does, Says}
+use Rattle.fmp_files.specs.Deeds.{Deed, Does}
 use Rattle.fmp_files.specs.declared.failure.Failure.{Failure}
-use Rattle.fmp_files.specs.Endings.{IsFailureOf, all_printed, some_printed}
+use Rattle.fmp_files.specs.Endings.{IsFailureOf, SaysFailure, all_printed, some_printed}
 use Rattle.fmp_files.specs.Outside.{Files}
 use Rattle.fmp_files.specs.Prints.{Prints}
 use Rattle.fmp_files.specs.PrintsLaws.{does_nothing}
 use Rattle.fmp.specs.Commands.{inputs_of, output_of}
 use Rattle.fmp.specs.declared.perform.Exit.{Exit}
 use Rattle.fmp.specs.declared.perform.Exit.TheVariants.{Failed}
+use Rattle.fmp.specs.Messages.{SaysExit}
 use Rattle.fmp.specs.Performed.{IsWhyNot, status_of}
 use Rattle.fmp.specs.Printing.{PrintsFront}
 use Rattle.fmp.specs.Runs.{AreInputs, CarriedOut, EndsCommand, IsNoneOf, KeepsInputs, done, failed, faulty, unread}
@@ -51,7 +53,7 @@ module _ (files : Files) (can_fail : Bool) (before : Option (List Deed)) (cmd : 
 
     -- standard output has failed
     pub ends_cut : (between after : Option (List Deed)) (left : List ℕ) (status : ℕ) → IsTrue can_fail
-        → PrintsFront cmd inputs before between left → Says between after → status ≡ 3
+        → PrintsFront cmd inputs before between left → SaysFailure (codes "-") between after → status ≡ 3
         → EndsCommand files can_fail cmd before after status
     ends_cut between after left status fails p said three =
         done p.text before after kept (carried between left p) (some_printed fails p.front left p.text_is between
@@ -59,7 +61,7 @@ module _ (files : Files) (can_fail : Bool) (before : Option (List Deed)) (cmd : 
 
     -- it is not carried out
     pub ends_refused : (exit : Exit) (between after : Option (List Deed)) (status : ℕ) → IsWhyNot cmd inputs exit
-        → Does before [] between → Says between after → status ≡ status_of exit
+        → Does before [] between → SaysExit exit between after → status ≡ status_of exit
         → EndsCommand files can_fail cmd before after status
     ends_refused exit between after status why nothing said same = failed exit between kept
         (faulty inputs read why nothing) said same
@@ -67,6 +69,6 @@ module _ (files : Files) (can_fail : Bool) (before : Option (List Deed)) (cmd : 
   -- a file could not be read, or memory ran out
   pub ends_failed : (failure : Failure) (after : Option (List Deed)) (status : ℕ)
       → IsFailureOf files (inputs_of cmd) failure
-      → Says before after → status ≡ 3 → EndsCommand files can_fail cmd before after status
+      → SaysExit (Failed failure) before after → status ≡ 3 → EndsCommand files can_fail cmd before after status
   ends_failed failure after status of said same =
       failed (Failed failure) before kept (unread of (does_nothing before)) said same

@@ -3,6 +3,7 @@ pub mod CommandRanges
 pub mod Commands
 pub mod Form
 pub mod Giving
+pub mod Messages
 pub mod Performed
 pub mod Printing
 pub mod Runs

@@ -4,16 +4,18 @@ use Rattle.std.specs.Prelude.{IfSome, IsSomeAnd, MatchBool, is_some, ⊤}
 use Rattle.fmp.specs.Asked.{AsksFor, IsRefused}
 use Rattle.fmp.specs.declared.asking.Cmd.{Cmd}
 use Rattle.fmp.specs.declared.asking.Cmd.TheVariants as command
-use Rattle.fmp_files.specs.Deeds.{Begins, Deed, Does, Says, wrote}
+use Rattle.fmp_files.specs.Deeds.{Begins, Deed, Does, Says, said, wrote}
 use Rattle.fmp_files.specs.declared.failure.Failure.{Failure}
-use Rattle.fmp_files.specs.Endings.{EndsPrinting, EndsRefused, IsFailureAt, IsFailureOf}
+use Rattle.fmp_files.specs.Endings.{EndsPrinting, EndsRefused, IsFailureAt, IsFailureOf, SaysMemory}
 use Rattle.fmp_files.specs.Files.{front}
 use Rattle.fmp_files.specs.Outside.{Files}
 use Rattle.clap.specs.declared.error.kind.ErrorKind.{ErrorKind}
 use Rattle.fmp.specs.Commands.{inputs_of, limit_of, output_of}
+use Rattle.fmp.specs.Messages.{SaysExit, arrivals_line}
 use Rattle.fmp.specs.Performed.{CarriesOut, IsWhyNot, status_of}
 use Rattle.fmp.specs.declared.perform.Exit.{Exit}
 use Rattle.fmp.specs.declared.perform.Exit.TheVariants.{Build, Sim, Host, Failed}
+use Rattle.fmp.specs.declared.progress.Arrivals.{Arrivals}
 
 -- each text is the front of the file of its name, as far as a reading under this limit goes
 abbrev pub AreFronts : Files → (limit : Option ℕ) → (names texts : List (List ℕ)) → Type 0
@@ -103,7 +105,9 @@ tells command.Stored = false
 
 -- what came of a command is said if it tells that, and else nothing is said
 abbrev pub SaysWhatCame : Cmd → (before after : Option (List Deed)) → Type 0
-SaysWhatCame cmd before after = MatchBool (tells cmd) (Says before after) (after ≡ before)
+SaysWhatCame cmd before after =
+    MatchBool (tells cmd) ((arrivals : Arrivals) × Does before (said (arrivals_line arrivals) ∷ []) after)
+    (after ≡ before)
 
 -- how a run of a command ends, given whether standard output can fail
 pub data EndsCommand (files : Files) (can_fail : Bool) (cmd : Cmd) (before after : Option (List Deed)) (status : ℕ)
@@ -114,9 +118,10 @@ pub data EndsCommand (files : Files) (can_fail : Bool) (cmd : Cmd) (before after
       → SaysWhatCame cmd printed after → EndsCommand files can_fail cmd before after status
   -- it was not carried out, and why is said
   failed : (exit : Exit) (between : Option (List Deed)) → KeepsInputs files cmd → Fails files cmd before between exit
-      → Says between after → status ≡ status_of exit → EndsCommand files can_fail cmd before after status
+      → SaysExit exit between after → status ≡ status_of exit → EndsCommand files can_fail cmd before after status
   -- its file would replace one that it reads
-  over_input : CanBeOver files cmd → Says before after → (status ≡ 2) ⊎ (status ≡ 3)
+  over_input : CanBeOver files cmd
+      → (Says before after × (status ≡ 2)) ⊎ (SaysMemory before after × (status ≡ 3))
       → EndsCommand files can_fail cmd before after status
 
 -- how a run ends, by the words of its command line
@@ -126,7 +131,7 @@ pub data Ends (files : Files) (can_fail : Bool) (words : List (List ℕ)) (befor
   refused : (kind : ErrorKind) → IsRefused words kind → EndsRefused kind can_fail before after status
       → Ends files can_fail words before after status
   -- memory ran out before they were read
-  no_room : Says before after → status ≡ 3 → Ends files can_fail words before after status
+  no_room : SaysMemory before after → status ≡ 3 → Ends files can_fail words before after status
   -- they ask for a command
   ran : (cmd : Cmd) → AsksFor words cmd → EndsCommand files can_fail cmd before after status
       → Ends files can_fail words before after status

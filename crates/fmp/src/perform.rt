@@ -19,9 +19,10 @@ use fmp_files::{Failure, Reason};
 use fmp_hostrun::Pace;
 use fmp_lex::BuildFault;
 use std::alloc::{AllocError, Global};
+use std::error::Error;
+use std::fmt::{self, Display, Formatter, Write};
 use std::sync::Wait;
 use std::thread::Threads;
-use thiserror::Error;
 
 /// The configuration of the run that the program holds.
 pub const STORED_CONFIG: &str =
@@ -40,21 +41,36 @@ pub const STORED_BOUND: u64 = 100_000;
 pub const INTERRUPTS_MAX: u32 = 65_536;
 
 /// Why the program ends with nothing printed: its message is one line.
-#[derive(Debug, Drop, Error)]
+#[derive(Debug, Drop)]
 pub enum Exit {
     /// The texts build no image.
-    #[error("{0}")]
     Build(BuildFault),
     /// The image is not run.
-    #[error("{0}")]
     Sim(SimFault),
     /// The image is not run by threads.
-    #[error("{0}")]
     Host(HostFault),
     /// A file could not be read or written, or memory ran out.
-    #[error("{0}")]
     Failed(Failure),
 }
+
+impl Display for Exit {
+    ghost use Rattle.std.specs.Prelude.{Some};
+    ghost use Rattle.fmp.specs.Messages.{exit_message};
+
+    ghost output = { λ exit. Some (exit_message exit) };
+
+    /// The message of the fault or the failure.
+    fn fmt<W: Write>(&self, f: &mut Formatter<W>) -> fmt::Result {
+        match self {
+            Exit::Build(fault) => write!(f, "{fault}"),
+            Exit::Sim(fault) => write!(f, "{fault}"),
+            Exit::Host(fault) => write!(f, "{fault}"),
+            Exit::Failed(failure) => write!(f, "{failure}"),
+        }
+    }
+}
+
+impl Error for Exit {}
 
 impl From<Failure> for Exit {
     ghost from_gives = { λ failure exit. exit ≡ Failed failure };

@@ -27,6 +27,12 @@ impl Arrivals {
 }
 
 impl fmt::Display for Arrivals {
+    ghost use Rattle.std.specs.Prelude.{Some};
+    ghost use Rattle.fmp.specs.Messages.{arrivals_line};
+
+    ghost output = { λ arrivals. Some (arrivals_line arrivals) };
+
+    /// What came, in one line.
     fn fmt<W: fmt::Write>(&self, f: &mut fmt::Formatter<W>) -> fmt::Result {
         let Arrivals {
             ticks,

@@ -2,6 +2,7 @@
 ghost use Rattle.std.specs.Prelude.{◌≡◌, ◌≢◌, ◌⊎◌, IsTrue, IsFalse, IfOk, None, length, map, string_bytes};
 ghost use Rattle.fmp.specs.CommandRanges.{KeepsRanges};
 ghost use Rattle.fmp_files.specs.Deeds.{Says};
+ghost use Rattle.fmp_files.specs.Endings.{SaysMemory};
 ghost use Rattle.fmp.specs.Commands.{input_count, output_of};
 ghost use Rattle.fmp.specs.Runs.{AreInputs, CanBeOver, Ends, EndsCommand, KeepsInputs, SaysWhatCame, tells};
 
@@ -37,8 +38,8 @@ fn is_over_input<O: Outside>(outside: &O, cmd: &Cmd) -> bool
 
 /// Says that the file that a command writes would replace one that it reads.
 fn refuse_over_input<O: Outside>(alloc: Global, outside: &mut O, cmd: &Cmd) -> u8
-    ensures said { Says (O.done outside.old) (O.done outside.new) }
-    ensures status { (result ≡ 2) ⊎ (result ≡ 3) }
+    ensures { (Says (O.done outside.old) (O.done outside.new) × (result ≡ 2))
+        ⊎ (SaysMemory (O.done outside.old) (O.done outside.new) × (result ≡ 3)) }
 {
     let mistake = match cmd {
         Cmd::Host { .. } => journal_over_image(alloc),

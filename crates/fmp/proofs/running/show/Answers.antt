@@ -7,7 +7,7 @@ use Rattle.fmp.proofs.running.show.Goals as goal
 
 pub returns-in-Err : goal.returns-in-Err
 returns-in-Err g c =
-    ends_failed _ _ _ c.args.cmd.now c.requires.fileless (Memory c.in-Err.error) _ _ tt c.end.ensures.said
+    ends_failed _ _ _ c.args.cmd.now c.requires.fileless (Memory c.in-Err.error) _ _ tt c.end.ensures.line
     c.end.ensures.status
 
 pub returns-in-Ok-print_performed : goal.returns-in-Ok-print_performed
@@ -31,7 +31,7 @@ returns-in-Err-Refused g c =
     let refused =
     subst (λ (inputs : List (List ℕ)). IsWhyNot c.args.cmd.now inputs c.in-Err-Refused.exit) same why.0 in
     ends_refused _ _ _ c.args.cmd.now c.requires.fileless texts c.requires.read c.in-Err-Refused.exit
-    (g.O.Outside.done c.print_performed.new.outside) _ _ refused why.1 c.end-in-Err-Refused.ensures.said
+    (g.O.Outside.done c.print_performed.new.outside) _ _ refused why.1 c.end-in-Err-Refused.ensures.line
     c.end-in-Err-Refused.ensures.status
 
 pub returns : goal.returns
@@ -45,4 +45,5 @@ returns g c =
     let printed = subst (λ (inputs : List (List ℕ)). PrintsFront c.args.cmd.now inputs before between why.1.0) same
     why.1.1 in
     ends_cut _ _ _ c.args.cmd.now c.requires.fileless texts c.requires.read between _ why.1.0 _ why.0 printed
-    c.end-in-Err-Stopped.ensures.said c.end-in-Err-Stopped.ensures.status
+    (c.failed.result, c.failed.ensures, c.end-in-Err-Stopped.ensures.line)
+    c.end-in-Err-Stopped.ensures.status

@@ -9,7 +9,7 @@ use Rattle.fmp.proofs.running.write_and_print.Goals as goal
 pub returns-in-Err : goal.returns-in-Err
 returns-in-Err g c =
     let before = g.O.Outside.done c.args.outside.now in
-    failed (Failed (Memory c.in-Err.error)) before c.requires.kept (unread tt (does_nothing before)) c.end.ensures.said
+    failed (Failed (Memory c.in-Err.error)) before c.requires.kept (unread tt (does_nothing before)) c.end.ensures.line
     c.end.ensures.status
 
 pub returns-in-Ok-carry_out : goal.returns-in-Ok-carry_out
@@ -27,4 +27,4 @@ returns-in-Ok-carry_out g c =
 pub returns : goal.returns
 returns g c =
     failed c.in-Err-carry_out.exit (g.O.Outside.done c.carry_out.new.outside) c.requires.kept
-    c.in-Err-carry_out.ensures.err c.end-in-Err-carry_out.ensures.said c.end-in-Err-carry_out.ensures.status
+    c.in-Err-carry_out.ensures.err c.end-in-Err-carry_out.ensures.line c.end-in-Err-carry_out.ensures.status
