@@ -589,7 +589,7 @@ static void write_last_words(void)
 {
     for (int attempt = 0; attempt < FLUSH_ATTEMPTS; attempt++) {
         if (pthread_mutex_trylock(&lock) == 0) {
-            recording_end();
+            recording_save();
             return;
         }
     }
@@ -608,7 +608,7 @@ static void run(long nanoseconds, unsigned long ticks, FILE *messages)
     signals_give_back();
     system_steppable = steppable;
     by_signals = false;
-    overflow_watch(recording_end);
+    overflow_watch(recording_save);
     atomic_store(&takes_requests, false);
     atomic_store(&halted, false);
     for (uint32_t at = 0; at < system_processors; at++) {

@@ -4,13 +4,15 @@
 
 #include "system.h"
 
+#include <errno.h>
 #include <stdlib.h>
 #include <string.h>
 #include <time.h>
+#include <unistd.h>
 
 enum { LINE_ROOM = 96, PIECE = 4 << 10, MICROSECONDS = 1000000 };
 
-static const char RESTART[] = "restart\n";
+static const char RESTART[] = "restart\n", DROPPED[] = "dropped ", RESTARTS[] = " restarts ";
 
 /* A line, which is kept. */
 struct line {
@@ -20,6 +22,7 @@ struct line {
 
 FILE *recording_file;
 
+static int descriptor = -1;         /* of the file, if it has one */
 static bool has_times;
 static int64_t began;               /* in microseconds */
 static uint8_t piece[PIECE];        /* whole lines that are not written yet */
@@ -113,25 +116,71 @@ void recording_flush(void)
     piece_length = 0;
 }
 
-static void write_last(void)
+/* Writes the piece with no memory and no lock of the C library. */
+static void save_piece(void)
+{
+    const uint8_t *at = piece, *end = piece + piece_length;
+    while (at < end) {
+        ssize_t written = write(descriptor, at, (size_t)(end - at));
+        if (written > 0) {
+            at += written;
+        } else if (written == 0 || errno != EINTR) {
+            break;
+        }
+    }
+    piece_length = 0;
+}
+
+/* The line that says what was dropped before the last events. How many bytes. */
+static size_t write_dropped(size_t first, uint8_t *out)
+{
+    size_t length = sizeof DROPPED - 1;
+    memcpy(out, DROPPED, length);
+    length += write_number(first - dropped_restarts, out + length);
+    if (dropped_restarts > 0) {
+        memcpy(out + length, RESTARTS, sizeof RESTARTS - 1);
+        length += sizeof RESTARTS - 1;
+        length += write_number(dropped_restarts, out + length);
+    }
+    out[length++] = '\n';
+    return length;
+}
+
+/* Puts the last events into the piece, which is empty, and flushes it whenever it is full. */
+static void put_last(void (*flush)(void))
 {
     size_t first = added > most_last ? added - most_last : 0;
     if (first > 0) {
-        fprintf(recording_file, "dropped %zu", first - dropped_restarts);
-        fprintf(recording_file, dropped_restarts > 0 ? " restarts %zu\n" : "\n", dropped_restarts);
+        piece_length = write_dropped(first, piece);
     }
     for (size_t at = first; at < added; at++) {
-        fwrite(last[at % most_last].text, 1, last[at % most_last].length, recording_file);
+        const struct line *line = &last[at % most_last];
+        if (piece_length + line->length > sizeof piece) {
+            flush();
+        }
+        memcpy(piece + piece_length, line->text, line->length);
+        piece_length += line->length;
     }
-    fflush(recording_file);
+    flush();
+    added = dropped_restarts = 0;
 }
 
 void recording_end(void)
 {
     recording_flush();
     if (last != NULL && recording_file != NULL) {
-        write_last();
-        added = dropped_restarts = 0;
+        put_last(recording_flush);
+    }
+}
+
+void recording_save(void)
+{
+    if (recording_file == NULL || descriptor < 0) {
+        return;
+    }
+    save_piece();
+    if (last != NULL) {
+        put_last(save_piece);
     }
 }
 
@@ -151,6 +200,11 @@ bool fmp_record_as(FILE *recording, const struct fmp_recording *how)
     has_times = how->has_times;
     began = now();
     recording_file = recording;
+    descriptor = -1;
+    if (recording != NULL) {
+        fflush(recording);          /* what was written before comes first */
+        descriptor = fileno(recording);
+    }
     return true;
 }
 

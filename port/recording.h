@@ -18,4 +18,10 @@ void recording_flush(void);
 /* Writes all that is recorded. */
 void recording_end(void);
 
+/*
+ * The same where the program ends: by the descriptor of the file, since a fault may have come while the C library held
+ * a lock of its memory. A file without a descriptor gets nothing.
+ */
+void recording_save(void);
+
 #endif

@@ -471,7 +471,7 @@ enum fmp_opened fmp_open(const char *text, size_t length, const struct fmp_progr
     trace_file = trace;
     message_file = messages;
     overflow_use(signal_stack);
-    overflow_watch(recording_end);
+    overflow_watch(recording_save);
     follow(UINT32_MAX);
     return FMP_OPENED;
 }

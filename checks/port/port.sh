@@ -196,7 +196,7 @@ failures() {
     verdict "a preemption that there is not" "$problem"
 }
 
-# The recording of a program that a task ends by exit is whole.
+# The recording of a program that a task ends by exit, or by a fault that malloc finds, is whole.
 exits() {
     problem=
     echo 'NUM_PRC(1); CLASS(TCL_1) { CRE_TSK(T, { TA_ACT, 0, leave, 10, 256, NULL }); }' > exits.cfg
@@ -209,6 +209,12 @@ exits() {
         [ "$(cat exits.calls)" = "run 1 put 1" ] || problem="$problem, $words recorded: $(head -c 300 exits.calls)"
     done
     verdict "a task that exits" "$problem"
+    problem=
+    status=0
+    (ulimit -c 0 && timeout -s KILL 60 plain/exits corrupt exits.cfg 0 0 exits.calls || exit $?) > output 2>&1 || status=$?
+    [ $status = 134 ] || problem="status $status: $(head -c 300 output)"
+    [ "$(cat exits.calls)" = "run 1 put 1" ] || problem="$problem, it recorded: $(head -c 300 exits.calls)"
+    verdict "a task that breaks the memory of the C library" "$problem"
 }
 
 # A run without end whose output nobody reads any more is over, unless the signal of that is ignored here.
