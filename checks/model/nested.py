@@ -9,6 +9,7 @@ VALUES = "exinf", "i", "x", "y"
 GROUPS = "cpu", "delays", "flags", "locks", "mailboxes", "queues", "semaphores", "sleeps", "tasks", "words"
 LIMITS = "0", "1", "2", "TMO_FEVR"
 INTERRUPT = 3
+OBJECTS = "S", "Q", "B"  # those that count what they hold
 PUTS_FOR_EVER = "PUTS"  # the task that does
 
 # Calls by group. What stands in braces is chosen: T a task or the caller, O a task, P a priority, N a processor, M a

@@ -5,10 +5,11 @@
 
 A session of `fmp_view step --json` goes through them, an event forward or back, and knows of no state that two of them
 reach. So `fmp_view explore` must find the faults, deadlocks and stuck tasks that come, the first after as few steps, or
-nothing; and with `--all` say what each call was ever answered, which calls were never made, and which tasks never ran.
-The steps to a stuck task are followed, and whatever comes after them it does nothing. The bodies nest what those of the
-other scripts do not. Ticks come at any time or where nobody can do anything, few interrupts come, or some ticks apart,
-and some tasks may rest. COUNT is the number of systems that were compared: those of more than MOST nodes are left out.
+nothing; and with `--all` say what each call was ever answered, which calls were never made, which tasks never ran, and
+how full the objects ever were. The steps to a stuck task are followed, and whatever comes after them it does nothing.
+The bodies nest what those of the other scripts do not. Ticks come at any time or where nobody can do anything, few
+interrupts come, or some ticks apart, and some tasks may rest. COUNT is the number of systems that were compared: those
+of more than MOST nodes are left out.
 """
 
 import json
@@ -24,10 +25,11 @@ sys.dont_write_bytecode = True  # the folders of the checks stay as they are
 sys.path[0] = str(Path(__file__).resolve().parents[1])  # the folder `checks`, whose folders are packages
 
 from model.harness import SECONDS, expect, main  # noqa: E402
-from model.nested import INTERRUPT, PUTS_FOR_EVER, Nested  # noqa: E402
+from model.nested import INTERRUPT, OBJECTS, PUTS_FOR_EVER, Nested  # noqa: E402
 
 MOST, DEEPEST = 3_000, 150
 CODES = "E_CTX", "E_ID", "E_ILUSE", "E_OBJ", "E_PAR", "E_QOVR", "E_RLWAI", "E_TMOUT"
+GREATEST = "greatest_count", "greatest_length"
 
 
 class TooMany(Exception):
@@ -106,6 +108,7 @@ class Tree:
         self.session, self.question = session, question
         self.nodes = 0
         self.answers, self.ran = {}, set()  # by the position of the call; tasks
+        self.greatest = Counter()  # counts of semaphores, lengths of queues and mailboxes
         self.codes, self.faults, self.deadlocks, self.stuck = {}, {}, {}, {}  # each with the least number of events
 
     def grow(self):
@@ -171,6 +174,8 @@ class Tree:
         if self.nodes > MOST or place.depth > DEEPEST:
             raise TooMany
         states = self.session.say("state")
+        for name in OBJECTS:
+            self.greatest[name] = max(self.greatest[name], self.session.say(f"state {name}")[0]["value"])
         runs = [self.run(number, place) for number in range(1, self.question.processor_count + 1)]
         is_idle = all(acted is None for acted in runs)
         acted = set().union(*filter(None, runs), self.interrupt(place))
@@ -228,6 +233,8 @@ def compare_whole(trial, names, question, tree):
     expect(not never_made & set(answers), f"these calls are made: {never_made & set(answers)}")
     never_run = {line["name"] for line in told.get("never_run", ())}
     expect(never_run == names - tree.ran, f"it is said that {never_run} never run, not {names - tree.ran}")
+    greatest = {line["name"]: line["value"] for kind in GREATEST for line in told.get(kind, ())}
+    expect(greatest == tree.greatest, f"the greatest are {greatest}, not {tree.greatest}")
     for kind, found in (("fault", tree.faults), ("deadlock", tree.deadlocks)):
         expect(least(told, kind) == min(found.values(), default=None), f"{kind}: {told.get(kind)}, not {found}")
     stuck = {name_of(finding) for finding in told.get("stuck", ())}
