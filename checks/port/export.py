@@ -54,9 +54,9 @@ ODD = ("-Wno-unknown-warning-option", *(f"-Wno-{warning}" for warning in (
     "tautological-compare", "bool-compare", "int-in-bool-context", "bool-operation", "self-assign",
     "constant-logical-operand", "xor-used-as-pow")))
 # Names that C, its headers and the port have too, and comments that C reads otherwise than the task language.
-NAMES = """ER ER_UINT FLGPTN ID MODE PRI RELTIM TMO E_RSFN EOF FILE stdin printf remove strcmp memcpy index signal
-bodies image program live argc argv main int asm linux bool size_t x_t x_MAX x_body fmp_add fmp_turns fmp_image put_
-x_""".split()
+NAMES = """ER ER_UINT FLGPTN ID MODE PRI RELTIM TMO BODIES_H E_RSFN EOF FILE fileno va_list stdin printf remove strcmp
+memcpy index signal bodies image program live argc argv main int asm linux bool size_t x_t x_MAX x_body fmp_add
+fmp_turns fmp_image put_ x_""".split()
 LOCALS = "case register double string v_t v_MIN fmp_exinf fmp_first fmp_sub T_MAX FLG_ stderr puts OK set_".split()
 ODD_TASKS = "".join(f"CRE_SHR({name},{{{at}}});\n" for at, name in enumerate(NAMES))
 ODD_CFG = f"NUM_PRC(1);\nCLASS(TCL_1) {{\nCRE_TSK(void,{{TA_ACT,3,while_,5,512,NULL}});\n{ODD_TASKS}}}\n"
