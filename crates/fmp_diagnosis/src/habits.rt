@@ -60,7 +60,7 @@ static IN_CONFIGURATIONS: [Habit; 10] = [
 ];
 
 /// Habits in task texts.
-static IN_TASK_TEXTS: [Habit; 17] = [
+static IN_TASK_TEXTS: [Habit; 23] = [
     Habit(
         "`task` or",
         &["NUM_PRC"],
@@ -134,6 +134,28 @@ static IN_TASK_TEXTS: [Habit; 17] = [
         ],
         "; only `=` changes a variable, as in `x = x + 1`",
     ),
+    Habit(
+        "an expression or",
+        &["&"],
+        "; `&` stands before a variable that gets a value",
+    ),
+    Habit(
+        "an expression or",
+        &["{"],
+        "; a statement gives a value to each element of an array",
+    ),
+    Habit(
+        "an operator or `;`",
+        &[","],
+        "; each assignment is a statement of its own",
+    ),
+    Habit(
+        "`)`, since",
+        &["["],
+        "; `&` stands before a variable, not an element",
+    ),
+    Habit("`;`", &["["], "; an array has one dimension"),
+    Habit("`=`", &["["], "; an array has one dimension"),
     Habit("", &["*", "->"], "; there are no pointers"),
 ];
 

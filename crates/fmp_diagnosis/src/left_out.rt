@@ -100,7 +100,16 @@ static WORDS: [&[&str]; 22] = [
     &[
         "syslog", "printf", "fprintf", "print", "println", "puts", "putchar",
     ],
-    &["sleep", "usleep", "msleep", "nanosleep", "vTaskDelay"],
+    &[
+        "sleep",
+        "usleep",
+        "msleep",
+        "nanosleep",
+        "vTaskDelay",
+        "osDelay",
+        "k_sleep",
+        "k_msleep",
+    ],
     &["for", "foreach", "do", "loop", "until", "repeat"],
     &["switch", "case", "elif", "elseif", "elsif"],
     &["goto"],
