@@ -85,6 +85,8 @@ pub struct NamedObjects {
     pub list: Vec<NamedObject>,
     /// Of each static API, in order, the uses by calls that may be of any object that it makes.
     unnamed: [Uses; 10],
+    /// Of each static API, in order, whether a call computes which of its objects it takes.
+    are_computed: [bool; 10],
 }
 
 /// The object of this name that the static API at a place makes, as it is at first.
@@ -107,6 +109,7 @@ impl NamedObjects {
             names: IndexSet::new(alloc),
             list: Vec::new(alloc),
             unnamed: [Uses::none(); 10],
+            are_computed: [false; 10],
         };
         for at in 0..tokens.len() {
             if let (Some(api), Some(name)) = (api_at(tokens, at), object_name(tokens, at)) {
@@ -157,6 +160,16 @@ impl NamedObjects {
     /// A call has something else as its first argument, which may stand for any object of a static API.
     pub fn note_any(&mut self, service: Service, api: Api) {
         self.unnamed[api as usize] = self.unnamed[api as usize].with(service);
+    }
+
+    /// A call computes which object it takes of those that this static API makes.
+    pub fn note_computed(&mut self, api: Api) {
+        self.are_computed[api as usize] = true;
+    }
+
+    /// Whether a call may take an object without its name.
+    pub fn is_computed(&self, object: &NamedObject) -> bool {
+        self.are_computed[object.api as usize]
     }
 
     /// A call sets these bits of the eventflag of this name; any bits where they are not known.

@@ -132,6 +132,19 @@ impl Warnings {
         }
     }
 
+    /// Notes the argument, if it is an object that a variable or an expression gives.
+    fn note_computed(&mut self, tokens: &Tokens<'_>, argument: WalkedArgument) {
+        let is_computed = match lone_argument(tokens, argument.at) {
+            None => true,
+            Some(Lone::Name(name)) => self.objects.api_of(name).is_none(),
+            Some(_) => false,
+        };
+        match argument.wanted {
+            WantedArgument::Object(api) if is_computed => self.objects.note_computed(api),
+            _ => {}
+        }
+    }
+
     /// Looks at the argument that begins after a token.
     fn look_at_argument(
         &mut self,
@@ -141,6 +154,7 @@ impl Warnings {
         found: &mut FoundWarnings<'_>,
     ) -> Result<(), AllocError> {
         note_bits(&mut self.objects, tokens, argument);
+        self.note_computed(tokens, argument);
         match self.wrong(tokens, argument) {
             Some(wrong) => {
                 let mistake = Mistake::Argument(argument, wrong);
@@ -267,7 +281,7 @@ fn unnamed(cfg: &Tokens<'_>, object: &NamedObject) -> Option<&'static str> {
 impl Warnings {
     /// What is said of an object that is not used as it should be.
     fn neglect(&self, cfg: &Tokens<'_>, object: &NamedObject) -> Option<&'static str> {
-        if !object.is_named {
+        if !object.is_named && !self.objects.is_computed(object) {
             return unnamed(cfg, object);
         }
         let uses = self.objects.uses_of(object);
