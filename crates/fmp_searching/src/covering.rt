@@ -11,15 +11,13 @@ ghost use Rattle.fmp_searching.specs.Sources.{source_tables};
 use crate::answers::{Answered, append_answers};
 use crate::claiming::append_number;
 use crate::made::{SeenCalls, seen_calls};
-use crate::naming::is_queue;
 use crate::refused::say_refused;
 use crate::sources::{ExploredSources, say, say_call};
 use crate::unsaid::is_whole;
-use crate::varied::append_varied;
 use fmp_base::{
     CyclicConfig, DataQueueConfig, MailboxConfig, Name, SemaphoreConfig, System, TaskConfig,
 };
-use fmp_explore::{CallSite, Report, Varied, Variety};
+use fmp_explore::{CallSite, Report};
 use fmp_frames::SiteAnswer;
 use std::alloc::{AllocError, Global};
 
@@ -432,85 +430,4 @@ pub fn coverage_text(
     let mut out = Vec::new(alloc);
     say_coverage(alloc, &mut out, sources, report, &calls)?;
     Ok(out)
-}
-
-/// What is said of how a field gets fewer values.
-fn hint_of(what: Varied) -> &'static str
-    ensures { result.now ≡ spec.hint what }
-{
-    match what {
-        Varied::Field(what) if is_queue(what) => " (fewer with --queued)",
-        Varied::Field(_) | Varied::Standing(_) => "",
-    }
-}
-
-/// How many values the most varied field has.
-pub fn most_values(varieties: &[Variety]) -> usize
-    ensures { result ≡ spec.most_values varieties.now }
-{
-    let mut most = 0;
-    for variety in varieties {
-        most = variety.values.max(most);
-    }
-    most
-}
-
-/// Whether a field is one of the most varied ones, of which the first has this many values.
-pub fn is_varied(most: usize, variety: &Variety) -> bool
-    ensures { result ≡ spec.is_varied most variety.now }
-{
-    variety.values > 1 && variety.values >= most / 2
-}
-
-/// Appends how many values a field has, in a line.
-#[tactic(auto, unfolding(crate::specs::Extent::values_line))]
-fn say_values(
-    alloc: Global,
-    out: &mut Vec<u8>,
-    sources: &ExploredSources<'_>,
-    variety: &Variety,
-) -> Result<(), AllocError>
-    ensures { OnOk result (out.new.items
-        ≡ out.old.items ++ spec.values_line (source_tables sources.now) variety.now) }
-{
-    append_number(variety.values as u64, out)?;
-    say(out, " values: ")?;
-    append_varied(alloc, sources, variety.what, out)?;
-    say(out, hint_of(variety.what))?;
-    say(out, "\n")
-}
-
-/// Appends the same, if it is one of the most varied ones.
-fn say_variety(
-    alloc: Global,
-    out: &mut Vec<u8>,
-    sources: &ExploredSources<'_>,
-    most: usize,
-    variety: &Variety,
-) -> Result<(), AllocError>
-    ensures { OnOk result (out.new.items
-        ≡ out.old.items ++ spec.varied_line (source_tables sources.now) most variety.now) }
-{
-    if is_varied(most, variety) {
-        say_values(alloc, out, sources, variety)
-    } else {
-        Ok(())
-    }
-}
-
-/// Appends how many values the most varied fields have, where the search stopped at a limit.
-pub fn say_varieties(
-    alloc: Global,
-    out: &mut Vec<u8>,
-    sources: &ExploredSources<'_>,
-    varieties: &[Variety],
-) -> Result<(), AllocError>
-    ensures { OnOk result (out.new.items
-        ≡ out.old.items ++ spec.values_text (source_tables sources.now) varieties.now) }
-{
-    let most = most_values(varieties);
-    for variety in varieties {
-        say_variety(alloc, out, sources, most, variety)?;
-    }
-    Ok(())
 }

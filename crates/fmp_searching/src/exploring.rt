@@ -12,7 +12,7 @@ ghost use Rattle.fmp_searching.specs.Sources.{source_tables};
 ghost use Rattle.fmp_searching.specs.Tests.{IsTestReport};
 
 use crate::coverage_records::coverage_records;
-use crate::covering::{coverage_text, say_extent, say_varieties};
+use crate::covering::{coverage_text, say_extent};
 use crate::end_records::end_record;
 use crate::ending::{append_ending, status_of};
 use crate::finding::say_finding;
@@ -22,6 +22,7 @@ use crate::seen::{Seen, all_seen};
 use crate::sources::{Claim, ExploredSources};
 use crate::test_reports::search_report;
 use crate::unsaid::{counts_unsaid, say_all_unsaid};
+use crate::varieties::say_varieties;
 use fmp_explore::{Finding, Report, SearchWatcher, explore, explore_beside};
 use fmp_trace::print_steps;
 use fmp_warnings::Form;

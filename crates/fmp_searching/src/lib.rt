@@ -4,10 +4,12 @@
 #![tactic(auto)]
 
 mod answers;
+mod asked_question;
 mod asking;
 mod at_calls;
 mod call_sentences;
 mod claiming;
+mod condition_words;
 mod coverage_records;
 mod covering;
 mod end_records;
@@ -25,6 +27,7 @@ mod lists;
 mod made;
 mod naming;
 mod parts;
+mod peak_records;
 mod reading;
 mod records;
 mod refused;
@@ -43,6 +46,7 @@ mod test_reports;
 mod unhandled;
 mod unsaid;
 mod varied;
+mod varieties;
 mod words;
 
 pub use answers::Answered;

@@ -18,7 +18,8 @@ ghost use Rattle.fmp_searching.specs.Files.{report_written};
 ghost use Rattle.fmp_searching.specs.Mistakes.{is_of_sentence};
 ghost use Rattle.fmp_searching.specs.Sources.{source_tables};
 
-use crate::asking::{CommandMistake, ExploreChoices, question_by, wanted_by};
+use crate::asked_question::question_by;
+use crate::asking::{CommandMistake, ExploreChoices, wanted_by};
 use crate::at_calls::nevers_at_of;
 use crate::exploration::{
     no_question, no_question_of, report_over_input, report_over_steps, steps_over_input,

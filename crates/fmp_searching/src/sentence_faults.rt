@@ -4,7 +4,8 @@ ghost use Rattle.fmp_base.specs.Systems.{tables_of};
 ghost use Rattle.fmp_expect.specs.CallSentences.{other_sentences_of};
 ghost use Rattle.fmp_searching.specs.Mistakes.{is_of_sentence};
 
-use crate::asking::{CommandMistake, is_end};
+use crate::asked_question::is_end;
+use crate::asking::CommandMistake;
 use crate::sites::CallLines;
 use fmp_arguments::flaw_text;
 use fmp_base::System;
