@@ -6,7 +6,7 @@ use Rattle.fmp_files.specs.Deeds.{Begins, Deed, Does, Says, removal, removed, sa
 use Rattle.fmp_files.specs.Endings.{EndsPrinting, all_printed, some_printed}
 use Rattle.fmp_files.specs.Prints.{Prints}
 use Rattle.fmp_files.specs.PrintsLaws.{does_nothing}
-use Rattle.fmp_searching.specs.Claimed.{PrintsNothing, is_print}
+use Rattle.fmp_searching.specs.Claimed.{PrintsNothing, PrintsOnly, is_print}
 
 -- printing that ends with status 0 has printed all
 pub printed_all : (bytes : List ℕ) (can_fail : Bool) (before after : Option (List Deed)) (status : ℕ)
@@ -69,6 +69,12 @@ pub quiet_removed : {E : Type 0} (name : List ℕ) (result : Result Bool E) (bef
 quiet_removed name (Ok true) before after h = record { deeds = removed name ∷ []; none = refl; done = h }
 quiet_removed name (Ok false) before after h = record { deeds = []; none = refl; done = h }
 quiet_removed name (Err e) before after h = record { deeds = []; none = refl; done = h }
+
+-- what was printed, as far as that worked, and nothing more
+pub printing_only : (text : List ℕ) (can_fail : Bool) (before after : Option (List Deed)) (status : ℕ)
+    → EndsPrinting text can_fail before after status → PrintsOnly text before after
+printing_only text can_fail before after status h =
+    record { between = after; can_fail = can_fail; status = status; printed = h; then = quiet_none after }
 
 -- ---- what is refused
 

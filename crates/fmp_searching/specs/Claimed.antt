@@ -111,11 +111,12 @@ pub record PrintsAll (text : List ℕ) (before after : Option (List Deed)) : Typ
   pub printed : Prints before text between
   pub then : PrintsNothing between after
 
--- what was printed last is what a search came to, whatever that is
-pub record HasShown (s : SourceTables) (done : Option (List Deed)) : Type 0 where
+-- nothing was printed but what a search came to, whatever that is, as far as that works
+pub record HasShown (s : SourceTables) (begun done : Option (List Deed)) : Type 0 where
   pub explored : Explored
   pub is : IsExplored s explored
   pub before : Option (List Deed)
+  pub quiet : PrintsNothing begun before
   pub prints : PrintsOnly explored.text.items before done
 
 -- what was printed last is all of what a search came to

@@ -1,6 +1,7 @@
 pub mod Answers
 pub mod Claimed
 pub mod Claims
+pub mod Deeds
 pub mod Explored
 pub mod Extent
 pub mod ExtentRecords
@@ -20,6 +21,7 @@ pub mod Records
 pub mod Said
 pub mod Seen
 pub mod Sentences
+pub mod Shown
 pub mod Sites
 pub mod Sources
 pub mod Stuck

@@ -1,46 +1,38 @@
 //! The command `explore`: it explores the schedules of two texts, and writes the steps of what it finds.
-ghost use Rattle.std.specs.Prelude.{◌≡◌, ◌⊎◌, ◌+◌, ◌<◌, ◌^◌, [], IfNone, IfOk, Ok, if◌then◌else◌, false, length, map};
-ghost use Rattle.std.specs.Prelude.{nat_eq};
-ghost use Rattle.std.specs.Prelude.{option_map, string_bytes, true};
-ghost use Rattle.std.specs.List.{AllByRecursion};
+ghost use Rattle.std.specs.Prelude.{◌≡◌, ◌⊎◌, ◌+◌, ◌<◌, ◌^◌, IfNone, IfOk, Ok, OnErr, false, length, true};
 ghost use Rattle.fmp_base.specs.Systems.{tables_of};
 ghost use Rattle.fmp_cfgparse.specs.Configurations.{Describes};
-ghost use Rattle.fmp_files.specs.Deeds.{Does};
-ghost use Rattle.fmp_files.specs.Prints.{Prints};
-ghost use Rattle.fmp_searching.specs.Questions.{IsWanted};
-ghost use Rattle.fmp_searching.specs.Claims.{claim_tables};
-ghost use Rattle.fmp_searching.specs.Claimed.{EndsOfFiles, Gives, HasClaimed, HasEnded, HasShown, HasShownAll};
-ghost use Rattle.fmp_searching.specs.Claimed.{HoldsOfFiles, OfFiles, PrintsAll};
 ghost use Rattle.fmp_frames.specs.CallPositions.{AreCallsOf};
-ghost use Rattle.fmp_searching.specs.Claimed.{OfImage, OfQuestion, OfTexts, PrintsNothing, PrintsOnly, sources_of};
-ghost use Rattle.fmp_searching.specs.Files.{IsApart, IsReportApart, RemovesSteps, files_written, is_refusal};
-ghost use Rattle.fmp_searching.specs.Files.{report_written};
+ghost use Rattle.fmp_searching.specs.Claims.{claim_tables};
+ghost use Rattle.fmp_searching.specs.Claimed.{EndsOfFiles, HasClaimed, HasEnded, HasShown, HasShownAll};
+ghost use Rattle.fmp_searching.specs.Claimed.{HoldsOfFiles, OfFiles, OfImage, OfQuestion, OfTexts, PrintsNothing};
+ghost use Rattle.fmp_searching.specs.Claimed.{sources_of};
+ghost use Rattle.fmp_searching.specs.Deeds.{DoesOnly, KeepsFiles, MayDo, SaysOnly, TellsOnly};
+ghost use Rattle.fmp_searching.specs.Files.{IsReportApart, is_refusal};
 ghost use Rattle.fmp_searching.specs.Mistakes.{is_of_sentence};
+ghost use Rattle.fmp_searching.specs.Questions.{IsWanted};
+ghost use Rattle.fmp_searching.specs.Shown.{PrintsOfFiles, PrintsOfTexts, ShowsFault};
 ghost use Rattle.fmp_searching.specs.Sources.{source_tables};
 
 use crate::asked_question::question_by;
 use crate::asking::{CommandMistake, ExploreChoices, wanted_by};
 use crate::at_calls::nevers_at_of;
-use crate::exploration::{
-    no_question, no_question_of, report_over_input, report_over_steps, steps_over_input,
-};
-use crate::exploring::{Explored, explored_image};
+use crate::exploration::{no_question, no_question_of, report_over_input, report_over_steps};
+use crate::giving::{give, remove_after, status_after, write_report};
 use crate::naming::LocalNames;
 use crate::reading::read_texts;
 use crate::reporting::print_fault;
 use crate::sentence_faults::{expected_in, fault_of_sentences};
 use crate::sites::CallLines;
 use crate::sources::{Claim, ExploredSources, Exploring, Named, Sentences};
-use crate::steps_files::{
-    is_over_input, is_read, is_report_of_steps, out_name, remove_earlier, steps_names, write_steps,
-};
+use crate::steps_files::{is_read, is_report_of_steps, out_name};
+use crate::telling::explored_aloud;
 use crate::unhandled::say_unhandled;
 use clap::Error;
 use fmp_base::System;
 use fmp_cfgparse::read_cfg;
 use fmp_expect::read_call_sentences;
-use fmp_explore::SearchWatcher;
-use fmp_files::{Failure, Outside, end, print, refuse_mistake, write_file};
+use fmp_files::{Failure, Outside, end, refuse_mistake};
 use fmp_frames::CallPositions;
 use fmp_image::build;
 use fmp_image_bytes::Image;
@@ -48,7 +40,7 @@ use fmp_lex::BuildFault;
 use fmp_warnings::{FileNames, Form};
 use std::alloc::{AllocError, Global};
 use std::thread::Threads;
-use std::time::{Clock, Duration, Instant};
+use std::time::Clock;
 
 /// An exploration whose words and files are read.
 #[derive(Clone, Copy)]
@@ -63,147 +55,6 @@ struct Opened<'a> {
     said: &'a [u8],
 }
 
-/// What an exploration tells on standard error while it goes on, and when it has had its time.
-#[derive(Drop)]
-struct Telling<'o, O: Outside, C: Clock> {
-    outside: &'o mut O,
-    clock: &'o C,
-    /// When its time is over, if it is limited and the clock can be read.
-    end: Option<Instant>,
-}
-
-impl<O: Outside, C: Clock> SearchWatcher for Telling<'_, O, C> {
-    fn grown(&mut self, states: usize, examined: usize, depth: u32) {
-        self.outside.say(format_args!(
-            "{states} states, {examined} of them examined, {depth} deep\n"
-        ));
-    }
-
-    fn is_over(&mut self) -> bool {
-        match self.end {
-            Some(end) => is_past(self.clock, end),
-            None => false,
-        }
-    }
-}
-
-/// Whether a moment is past; not if the clock cannot be read.
-fn is_past<C: Clock>(clock: &C, end: Instant) -> bool {
-    match Instant::now(clock) {
-        Ok(now) => now >= end,
-        Err(_) => false,
-    }
-}
-
-/// The moment after these seconds from now; none where no seconds are given, or the clock cannot be read.
-fn end_after<C: Clock>(clock: &C, seconds: Option<u32>) -> Option<Instant> {
-    let duration = Duration::from_secs(u64::from(seconds?));
-    let now = Instant::now(clock).ok()?;
-    now.checked_add(duration)
-}
-
-/// Writes the steps texts of an exploration to the files of these names, and gives its status, or that of what went
-/// wrong. None is written if one of the files is read.
-fn give_steps<O: Outside>(
-    alloc: Global,
-    outside: &mut O,
-    names: &[String],
-    exploring: &Exploring<'_>,
-    explored: &Explored,
-) -> u8
-    ensures status { result ≡ 0 → explored.now.status ≡ 0 }
-    ensures quiet { PrintsNothing (O.done outside.old) (O.done outside.new) }
-    ensures written { is_refusal result ≡ false → (result ≡ explored.now.status)
-        × AllByRecursion (IsApart exploring.now) (map string_bytes names.now)
-        × Does (O.done outside.old) (files_written (map string_bytes names.now)
-        (map (λ text. text.items) explored.now.steps.items)) (O.done outside.new) }
-{
-    if is_over_input(outside, names, exploring) {
-        return refuse_mistake(outside, steps_over_input(alloc));
-    }
-    match write_steps(alloc, outside, names, &explored.steps) {
-        Ok(()) => explored.status,
-        Err(failure) => end(outside, &failure),
-    }
-}
-
-/// Writes the report of tests of an exploration to its file, if there are both, and gives the status.
-fn write_report<O: Outside>(
-    alloc: Global,
-    outside: &mut O,
-    junit: Option<&str>,
-    explored: &Explored,
-) -> u8
-    ensures status { (result ≡ 0) ⊎ (result ≡ 3) }
-    ensures written { result ≡ 0 → Does (O.done outside.old)
-        (report_written (option_map (λ name. name.now) junit.entry)
-        (option_map (λ out. out.items) explored.now.report)) (O.done outside.new) }
-{
-    let Some(name) = junit else {
-        return 0;
-    };
-    let Some(report) = &explored.report else {
-        return 0;
-    };
-    match write_file(alloc, outside, name, report) {
-        Ok(()) => 0,
-        Err(failure) => end(outside, &failure),
-    }
-}
-
-/// The status of what was done after a file was written with another status.
-fn status_after(written: u8, status: u8) -> u8
-    ensures value { result ≡ (if nat_eq written 0 then status else written) }
-    ensures zero { result ≡ 0 → status ≡ 0 }
-{
-    if written == 0 { status } else { written }
-}
-
-/// Prints what an exploration came to, and then writes its steps texts. The status is that of the exploration, or of
-/// what went wrong first.
-fn give<O: Outside>(
-    alloc: Global,
-    outside: &mut O,
-    out: &str,
-    exploring: &Exploring<'_>,
-    explored: &Explored,
-) -> u8
-    ensures status { result ≡ 0 → explored.now.status ≡ 0 }
-    ensures text { PrintsOnly explored.now.text.items (O.done outside.old) (O.done outside.new) }
-    ensures printed { result ≡ 0 → explored.now.steps.items ≡ [] →
-        Prints (O.done outside.old) explored.now.text.items (O.done outside.new) }
-    ensures mistaken { result ≡ 2 →
-        PrintsAll explored.now.text.items (O.done outside.old) (O.done outside.new) }
-    ensures given { is_refusal result ≡ false → (result ≡ explored.now.status)
-        × Gives exploring.now out.now explored.now (O.done outside.old) (O.done outside.new) }
-{
-    match print(alloc, outside, &explored.text) {
-        0 => {}
-        status => return status,
-    }
-    if explored.steps.is_empty() {
-        return explored.status;
-    }
-    match steps_names(alloc, out, explored.steps.len()) {
-        Ok(names) => give_steps(alloc, outside, &names, exploring, explored),
-        Err(error) => end(outside, &Failure::Memory(error)),
-    }
-}
-
-/// Removes the files of steps of an earlier search whose numbers come after those of these steps texts.
-fn remove_after<O: Outside>(
-    alloc: Global,
-    outside: &mut O,
-    out: &str,
-    steps: &[Vec<u8>],
-    exploring: &Exploring<'_>,
-    processors: u8,
-) -> Result<(), AllocError>
-    ensures { RemovesSteps exploring.now out.now (length steps.now) (O.done outside.old) (O.done outside.new) }
-{
-    remove_earlier(alloc, outside, out, steps.len(), exploring, processors)
-}
-
 /// Explores what the report of an exploration speaks of, and prints what the search comes to of what it can claim.
 fn explore_sources<O: Outside, R: Clock + Threads + Sync>(
     alloc: Global,
@@ -213,30 +64,21 @@ fn explore_sources<O: Outside, R: Clock + Threads + Sync>(
     sources: &ExploredSources<'_>,
 ) -> Result<u8, AllocError>
     requires { sources.now.sentences.sections + length sources.now.sentences.expected.now < 2 ^ 64 }
-    ensures shown { IfOk result (λ _. HasShown (source_tables sources.now) (O.done outside.new)) }
+    ensures shown { IfOk result (λ _. HasShown (source_tables sources.now) (O.done outside.old) (O.done outside.new)) }
     ensures mistaken { IfOk result (λ status. status ≡ 2 →
         HasShownAll (source_tables sources.now) (O.done outside.new)) }
     ensures claimed { IfOk result (λ status. status ≡ 0 →
         HasClaimed (source_tables sources.now) (O.done outside.new)) }
     ensures ended { IfOk result (λ status. is_refusal status ≡ false →
         HasEnded exploring.now (source_tables sources.now) status (O.done outside.new)) }
+    ensures quiet { OnErr result (PrintsNothing (O.done outside.old) (O.done outside.new)) }
+    ensures keeps { IsReportApart exploring.now →
+        DoesOnly (MayDo exploring.now sources.now.named.out.now) (O.done outside.old) (O.done outside.new) }
 {
-    let claim = &sources.claim;
-    let end = end_after(rt, claim.question.seconds);
-    let explored = explored_image(
-        alloc,
-        rt,
-        exploring.jobs,
-        sources,
-        &mut Telling {
-            outside,
-            clock: rt,
-            end,
-        },
-    )?;
-    let (out, processors) = (sources.named.out, claim.image.system().processors);
+    let explored = explored_aloud(alloc, outside, rt, exploring.jobs, sources)?;
+    let (out, processors) = (sources.named.out, sources.claim.image.system().processors);
     remove_after(alloc, outside, out, &explored.steps, exploring, processors)?;
-    let written = write_report(alloc, outside, exploring.junit, &explored);
+    let written = write_report(alloc, outside, exploring, &explored);
     let status = give(alloc, outside, out, exploring, &explored);
     Ok(status_after(written, status))
 }
@@ -254,7 +96,7 @@ fn explore_told<O: Outside, R: Clock + Threads + Sync>(
     requires same { source_tables sources.now ≡ sources_of (claim_tables sources.now.claim) sources.now.positions.now
         sources.now.names.now opened.now.said.now opened.now.exploring.now }
     ensures shown { IfOk result (λ _. OfQuestion (claim_tables sources.now.claim) opened.now.src.now
-        opened.now.said.now opened.now.exploring.now (λ s. HasShown s (O.done outside.new))) }
+        opened.now.said.now opened.now.exploring.now (λ s. HasShown s (O.done outside.old) (O.done outside.new))) }
     ensures mistaken { IfOk result (λ status. status ≡ 2 → OfQuestion (claim_tables sources.now.claim)
         opened.now.src.now opened.now.said.now opened.now.exploring.now (λ s. HasShownAll s (O.done outside.new))) }
     ensures claimed { IfOk result (λ status. status ≡ 0 → OfQuestion (claim_tables sources.now.claim)
@@ -262,11 +104,15 @@ fn explore_told<O: Outside, R: Clock + Threads + Sync>(
     ensures ended { IfOk result (λ status. is_refusal status ≡ false → OfQuestion (claim_tables sources.now.claim)
         opened.now.src.now opened.now.said.now opened.now.exploring.now
         (λ s. HasEnded opened.now.exploring.now s status (O.done outside.new))) }
+    ensures quiet { OnErr result (PrintsNothing (O.done outside.old) (O.done outside.new)) }
+    ensures keeps { IsReportApart opened.now.exploring.now →
+        KeepsFiles opened.now.exploring.now (O.done outside.old) (O.done outside.new) }
 {
     explore_sources(alloc, outside, rt, opened.exploring, sources)
 }
 
 /// Explores an image, and prints what the search comes to of what it can claim.
+#[tactic(auto, using(crate::proofs::Doing::only_none, crate::proofs::Printing::quiet_none))]
 fn explore_question<O: Outside, R: Clock + Threads + Sync>(
     alloc: Global,
     outside: &mut O,
@@ -276,7 +122,7 @@ fn explore_question<O: Outside, R: Clock + Threads + Sync>(
 ) -> Result<u8, AllocError>
     requires { IsWanted opened.now.exploring.now.asked (Ok opened.now.wanted.now) }
     ensures shown { IfOk result (λ _. OfQuestion (claim_tables claim.now) opened.now.src.now opened.now.said.now
-        opened.now.exploring.now (λ s. HasShown s (O.done outside.new))) }
+        opened.now.exploring.now (λ s. HasShown s (O.done outside.old) (O.done outside.new))) }
     ensures mistaken { IfOk result (λ status. status ≡ 2 → OfQuestion (claim_tables claim.now) opened.now.src.now
         opened.now.said.now opened.now.exploring.now (λ s. HasShownAll s (O.done outside.new))) }
     ensures claimed { IfOk result (λ status. status ≡ 0 → OfQuestion (claim_tables claim.now) opened.now.src.now
@@ -284,6 +130,9 @@ fn explore_question<O: Outside, R: Clock + Threads + Sync>(
     ensures ended { IfOk result (λ status. is_refusal status ≡ false → OfQuestion (claim_tables claim.now)
         opened.now.src.now opened.now.said.now opened.now.exploring.now
         (λ s. HasEnded opened.now.exploring.now s status (O.done outside.new))) }
+    ensures quiet { OnErr result (PrintsNothing (O.done outside.old) (O.done outside.new)) }
+    ensures keeps { IsReportApart opened.now.exploring.now →
+        KeepsFiles opened.now.exploring.now (O.done outside.old) (O.done outside.new) }
 {
     let exploring = opened.exploring;
     let names = LocalNames::new(alloc, opened.src)?;
@@ -321,6 +170,7 @@ fn explore_question<O: Outside, R: Clock + Threads + Sync>(
 fn refuse_sentence<O: Outside>(outside: &mut O, text: &str) -> u8
     ensures status { result ≡ 1 }
     ensures quiet { PrintsNothing (O.done outside.old) (O.done outside.new) }
+    ensures says { SaysOnly (O.done outside.old) (O.done outside.new) }
 {
     outside.say(format_args!("{text}\n"));
     1
@@ -328,6 +178,7 @@ fn refuse_sentence<O: Outside>(outside: &mut O, text: &str) -> u8
 
 /// Says what is mistaken in the words or the sentences of an exploration, which ask for no question about an image,
 /// whose bodies' calls stand in these lines. The status is 1 for a sentence, and 2 for words.
+#[tactic(auto, using(crate::proofs::Doing::only_none, crate::proofs::Doing::says_one))]
 fn refuse_question<O: Outside>(
     alloc: Global,
     outside: &mut O,
@@ -340,6 +191,7 @@ fn refuse_question<O: Outside>(
     ensures quiet { IfOk result (λ _. PrintsNothing (O.done outside.old) (O.done outside.new)) }
     ensures sentence { is_of_sentence mistake ≡ true → IfOk result (λ status. status ≡ 1) }
     ensures words { is_of_sentence mistake ≡ false → IfOk result (λ status. (status ≡ 2) ⊎ (status ≡ 3)) }
+    ensures says { SaysOnly (O.done outside.old) (O.done outside.new) }
 {
     match fault_of_sentences(alloc, configured, opened.said, of, mistake)? {
         Some(text) => Ok(refuse_sentence(outside, &text)),
@@ -351,6 +203,7 @@ fn refuse_question<O: Outside>(
 }
 
 /// Explores an image that the texts of an exploration build, whose configuration describes this system.
+#[tactic(auto, using(crate::proofs::Doing::only_none, crate::proofs::Printing::quiet_none))]
 fn explore_image<O: Outside, R: Clock + Threads + Sync>(
     alloc: Global,
     outside: &mut O,
@@ -368,6 +221,12 @@ fn explore_image<O: Outside, R: Clock + Threads + Sync>(
     ensures ended { IfOk result (λ status. is_refusal status ≡ false → OfImage image.now (tables_of configured.now)
         opened.now.src.now opened.now.said.now opened.now.exploring.now
         (λ s. HasEnded opened.now.exploring.now s status (O.done outside.new))) }
+    ensures shown { IfOk result (λ _. PrintsNothing (O.done outside.old) (O.done outside.new)
+        ⊎ OfImage image.now (tables_of configured.now) opened.now.src.now opened.now.said.now
+        opened.now.exploring.now (λ s. HasShown s (O.done outside.old) (O.done outside.new))) }
+    ensures quiet { OnErr result (PrintsNothing (O.done outside.old) (O.done outside.new)) }
+    ensures keeps { IsReportApart opened.now.exploring.now →
+        KeepsFiles opened.now.exploring.now (O.done outside.old) (O.done outside.new) }
 {
     let lines = CallLines::new(alloc, opened.src)?;
     match question_by(alloc, opened.wanted, opened.said, configured, image, &lines)? {
@@ -405,6 +264,11 @@ fn explore_status<O: Outside, R: Clock + Threads + Sync>(
     ensures ended { is_refusal result ≡ false → OfImage image.now (tables_of configured.now) opened.now.src.now
         opened.now.said.now opened.now.exploring.now
         (λ s. HasEnded opened.now.exploring.now s result (O.done outside.new)) }
+    ensures shown { PrintsNothing (O.done outside.old) (O.done outside.new)
+        ⊎ OfImage image.now (tables_of configured.now) opened.now.src.now opened.now.said.now
+        opened.now.exploring.now (λ s. HasShown s (O.done outside.old) (O.done outside.new)) }
+    ensures keeps { IsReportApart opened.now.exploring.now →
+        KeepsFiles opened.now.exploring.now (O.done outside.old) (O.done outside.new) }
 {
     say_unhandled(outside, image.system(), &opened.wanted.limits);
     match explore_image(alloc, outside, rt, image, configured, opened) {
@@ -421,7 +285,10 @@ fn refuse_texts<O: Outside>(
     exploring: &Exploring<'_>,
     fault: &BuildFault,
 ) -> u8
-    ensures { (result ≡ 1) ⊎ (result ≡ 3) }
+    ensures status { (result ≡ 1) ⊎ (result ≡ 3) }
+    ensures shown { PrintsNothing (O.done outside.old) (O.done outside.new)
+        ⊎ ShowsFault (O.files outside.old) exploring.now (O.done outside.old) (O.done outside.new) }
+    ensures tells { TellsOnly (O.done outside.old) (O.done outside.new) }
 {
     let names = FileNames {
         cfg: exploring.cfg,
@@ -452,6 +319,10 @@ fn explore_system<O: Outside, R: Clock + Threads + Sync>(
         (λ s. HasShownAll s (O.done outside.new)) }
     ensures ended { is_refusal result ≡ false → OfTexts opened.now.cfg.now opened.now.src.now opened.now.said.now
         opened.now.exploring.now (λ s. HasEnded opened.now.exploring.now s result (O.done outside.new)) }
+    ensures shown { PrintsOfTexts (O.files outside.old) opened.now.cfg.now opened.now.src.now opened.now.said.now
+        opened.now.exploring.now (O.done outside.old) (O.done outside.new) }
+    ensures keeps { IsReportApart opened.now.exploring.now →
+        KeepsFiles opened.now.exploring.now (O.done outside.old) (O.done outside.new) }
 {
     match build(alloc, opened.cfg, opened.src) {
         Ok(image) => {
@@ -478,6 +349,10 @@ fn explore_texts<O: Outside, R: Clock + Threads + Sync>(
         (λ s. HasShownAll s (O.done outside.new)) }
     ensures ended { is_refusal result ≡ false → OfTexts opened.now.cfg.now opened.now.src.now opened.now.said.now
         opened.now.exploring.now (λ s. HasEnded opened.now.exploring.now s result (O.done outside.new)) }
+    ensures shown { PrintsOfTexts (O.files outside.old) opened.now.cfg.now opened.now.src.now opened.now.said.now
+        opened.now.exploring.now (O.done outside.old) (O.done outside.new) }
+    ensures keeps { IsReportApart opened.now.exploring.now →
+        KeepsFiles opened.now.exploring.now (O.done outside.old) (O.done outside.new) }
 {
     match read_cfg(alloc, opened.cfg) {
         Ok(configured) => {
@@ -503,6 +378,8 @@ fn explore_files<O: Outside, R: Clock + Threads + Sync>(
         ⊎ OfFiles (O.files outside.old) exploring.now (λ s. HasShownAll s (O.done outside.new)) }
     ensures ended { is_refusal result ≡ false →
         EndsOfFiles (O.files outside.old) exploring.now result (O.done outside.new) }
+    ensures shown { PrintsOfFiles (O.files outside.old) exploring.now (O.done outside.old) (O.done outside.new) }
+    ensures keeps { IsReportApart exploring.now → KeepsFiles exploring.now (O.done outside.old) (O.done outside.new) }
 {
     match read_texts(alloc, outside, exploring) {
         Ok((cfg, src, said)) => {
@@ -549,8 +426,10 @@ fn report_mistake<O: Outside>(
 
 /// Explores the schedules of the texts of two files, or prints their first fault, with status 1. The status is 2 where
 /// the words are mistaken, or a file that is read would be written, and 3 after a failure. With status 2 nothing was
-/// printed, or all that a search came to. This clock tells how long the search takes.
-#[tactic(auto, using(crate::proofs::Printing::quietly_refused))]
+/// printed, or all that a search came to. Whatever the status, no file was written or removed but those of steps and of
+/// the report, and none of these is read; and nothing was printed but what a search came to, or the fault. This clock
+/// tells how long the search takes.
+#[tactic(auto, using(crate::proofs::Doing::refusal_may, crate::proofs::Printing::quietly_refused))]
 pub fn run_explore<O: Outside, R: Clock + Threads + Sync>(
     alloc: Global,
     outside: &mut O,
@@ -563,6 +442,8 @@ pub fn run_explore<O: Outside, R: Clock + Threads + Sync>(
     ensures ended { is_refusal result ≡ false →
         EndsOfFiles (O.files outside.old) exploring.now result (O.done outside.new) }
     ensures apart { is_refusal result ≡ false → IsReportApart exploring.now }
+    ensures shown { PrintsOfFiles (O.files outside.old) exploring.now (O.done outside.old) (O.done outside.new) }
+    ensures keeps { KeepsFiles exploring.now (O.done outside.old) (O.done outside.new) }
 {
     if let Some(mistake) = report_mistake(alloc, outside, exploring) {
         return refuse_mistake(outside, mistake);

@@ -4,6 +4,7 @@ ghost use Rattle.std.specs.Prelude.{[], ◌∷◌, option_map, slice_get, string
 ghost use Rattle.std.specs.List.{AllByRecursion};
 ghost use Rattle.fmp_files.specs.Deeds.{Does, wrote};
 ghost use Rattle.fmp_searching.specs.Claimed.{PrintsNothing};
+ghost use Rattle.fmp_searching.specs.Deeds.{DoesOnly, IsWriteOf};
 ghost use Rattle.fmp_searching.specs.Files as spec;
 ghost use Rattle.fmp_searching.specs.Sources.{steps_name};
 
@@ -153,6 +154,7 @@ fn write_at<O: Outside>(
     requires names { place < length names.now }
     requires texts { place < length texts.now }
     ensures quiet { PrintsNothing (O.done outside.old) (O.done outside.new) }
+    ensures only { DoesOnly (IsWriteOf (map string_bytes names.now)) (O.done outside.old) (O.done outside.new) }
     ensures written { OnOk result (IfSome (slice_get names.now place) (λ name. IfSome (slice_get texts.now place)
         (λ text. Does (O.done outside.old) (wrote (string_bytes name) text.items ∷ []) (O.done outside.new)))) }
 {
@@ -167,6 +169,7 @@ pub fn write_steps<O: Outside>(
     texts: &[Vec<u8>],
 ) -> Result<(), Failure>
     ensures quiet { PrintsNothing (O.done outside.old) (O.done outside.new) }
+    ensures only { DoesOnly (IsWriteOf (map string_bytes names.now)) (O.done outside.old) (O.done outside.new) }
     ensures written { OnOk result (Does (O.done outside.old)
         (spec.files_written (map string_bytes names.now) (map (λ text. text.items) texts.now)) (O.done outside.new)) }
 {

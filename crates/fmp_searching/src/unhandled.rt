@@ -1,7 +1,7 @@
 //! Limits of interrupts that have no handler, which leave nothing out of a search.
 ghost use Rattle.std.specs.Prelude.{◌≡◌, nat_eq};
 ghost use Rattle.std.specs.List.{list_any};
-ghost use Rattle.fmp_searching.specs.Claimed.{PrintsNothing};
+ghost use Rattle.fmp_searching.specs.Deeds.{SaysOnly};
 
 use fmp_base::System;
 use fmp_files::Outside;
@@ -16,7 +16,7 @@ fn is_handled(sys: &System, number: u8) -> bool
 
 /// Says of which interrupt without a handler a word of `--int` or `--gap` speaks.
 fn say_option<O: Outside>(outside: &mut O, option: &'static str, interrupt: u8, number: u32)
-    ensures { PrintsNothing (O.done outside.old) (O.done outside.new) }
+    ensures { SaysOnly (O.done outside.old) (O.done outside.new) }
 {
     outside.say(format_args!(
         "{option} {interrupt}:{number}: no handler is defined for interrupt {interrupt}\n"
@@ -24,9 +24,9 @@ fn say_option<O: Outside>(outside: &mut O, option: &'static str, interrupt: u8, 
 }
 
 /// Says that a limit is of an interrupt without a handler, if it is.
-#[tactic(auto, using(crate::proofs::Printing::quiet_none))]
+#[tactic(auto, using(crate::proofs::Doing::only_none))]
 fn say_limit<O: Outside>(outside: &mut O, sys: &System, limit: InterruptLimit)
-    ensures { PrintsNothing (O.done outside.old) (O.done outside.new) }
+    ensures { SaysOnly (O.done outside.old) (O.done outside.new) }
 {
     let interrupt = limit.interrupt().saturating_add(1);
     if is_handled(sys, interrupt) {
@@ -40,7 +40,7 @@ fn say_limit<O: Outside>(outside: &mut O, sys: &System, limit: InterruptLimit)
 
 /// Says which of these limits are of interrupts without handlers: no event is left out by them that does something.
 pub fn say_unhandled<O: Outside>(outside: &mut O, sys: &System, limits: &[InterruptLimit])
-    ensures { PrintsNothing (O.done outside.old) (O.done outside.new) }
+    ensures { SaysOnly (O.done outside.old) (O.done outside.new) }
 {
     for limit in limits {
         say_limit(outside, sys, *limit);

@@ -1,7 +1,8 @@
-use Rattle.std.proofs.Common.{Ok, inr, subst, sym}
+use Rattle.std.proofs.Common.{Ok, inl, inr, subst, sym}
 use Rattle.std.proofs.lemmas.Result.{IfOk-weaker}
 use Rattle.fmp_searching.specs.declared.asking.ExploreWords.{ExploreWords}
 use Rattle.fmp_searching.specs.Questions.{IsWanted}
+use Rattle.fmp_searching.proofs.Doing.{on_err, says_may, says_quiet}
 use Rattle.fmp_searching.proofs.searching.explore_image.Goals as goal
 
 pub question_by-requires : goal.question_by-requires
@@ -46,3 +47,32 @@ returns-in-Ok-clause-mistaken g c =
       asks = asks;
       holds = shown two;
     })) c.explore_question.ensures.mistaken
+
+pub returns-in-Ok-clause-shown : goal.returns-in-Ok-clause-shown
+returns-in-Ok-clause-shown g c =
+    let asked = rw c.in-Ok.is at c.in_ok-question.ensures in
+    let asks = rw c.requires.0 at asked.1 in
+    IfOk-weaker c.explore_question.result _ _
+    (λ status shown. inr (record {
+      bodies = c.in_ok-lines.lines;
+      are = c.in_ok-lines.ensures;
+      question = c.in-Ok.question;
+      asks = asks;
+      holds = shown;
+    })) c.explore_question.ensures.shown
+
+pub returns-in-Err-clause-shown : goal.returns-in-Err-clause-shown
+returns-in-Err-clause-shown g c =
+    IfOk-weaker c.refuse_question.result _ _ (λ status quiet. inl quiet) c.refuse_question.ensures.quiet
+
+pub returns-in-Err-clause-quiet : goal.returns-in-Err-clause-quiet
+returns-in-Err-clause-quiet g c =
+    let done = g.O.Outside.done in
+    on_err c.refuse_question.result
+    (says_quiet (done c.args.outside.now) (done c.refuse_question.new.outside) c.refuse_question.ensures.says)
+
+pub returns-in-Err-clause-keeps : goal.returns-in-Err-clause-keeps
+returns-in-Err-clause-keeps g c = λ apart.
+    let done = g.O.Outside.done in
+    says_may c.args.opened.now.exploring.now _ (done c.args.outside.now) (done c.refuse_question.new.outside)
+    c.refuse_question.ensures.says

@@ -1,22 +1,71 @@
 use Rattle.std.proofs.Common.{◌≡◌, ◌∙◌, ℕ, ap, false, map, subst}
 use Rattle.fmp_searching.specs.Claimed.{text_of}
 use Rattle.fmp_searching.specs.Files.{is_refusal}
+use Rattle.fmp_searching.proofs.Doing.{only_then, removes_may, removes_quiet, says_may, says_quiet}
 use Rattle.fmp_searching.proofs.Endings.{told_after, two_after}
-use Rattle.fmp_searching.proofs.Printing.{no_image}
+use Rattle.fmp_searching.proofs.Printing.{no_image, quiet_then}
 use Rattle.fmp_searching.proofs.searching.explore_sources.Goals as goal
 
 pub returns-clause-shown : goal.returns-clause-shown
 returns-clause-shown g c =
+    let done = g.O.Outside.done in
+    let e = c.args.exploring.now in
     record {
       explored = c.in_ok-explored.explored;
-      is = c.in_ok-explored.ensures;
-      before = _;
+      is = c.in_ok-explored.ensures.explored;
+      before = done c.write_report-written.new.outside;
+      quiet =
+          quiet_then _ _ _
+          (says_quiet (done c.args.outside.now) (done c.explored_aloud.new.outside) c.explored_aloud.ensures.says)
+          (quiet_then _ _ _
+          (removes_quiet e _ _ (done c.explored_aloud.new.outside) (done c.remove_after.new.outside)
+          c.remove_after.ensures)
+          c.write_report-written.ensures.quiet);
       prints = c.give-status.ensures.text;
     }
 
+pub returns-clause-keeps : goal.returns-clause-keeps
+returns-clause-keeps g c = λ apart.
+    let done = g.O.Outside.done in
+    let e = c.args.exploring.now in
+    let out = c.args.sources.now.named.out.now in
+    only_then _ _ _
+    (says_may e out (done c.args.outside.now) (done c.explored_aloud.new.outside) c.explored_aloud.ensures.says)
+    (only_then _ _ _
+    (removes_may e out _ (done c.explored_aloud.new.outside) (done c.remove_after.new.outside) c.remove_after.ensures)
+    (only_then _ _ _ (c.write_report-written.ensures.keeps out apart) c.give-status.ensures.keeps))
+
+pub returns-in_err-explored-clause-quiet : goal.returns-in_err-explored-clause-quiet
+returns-in_err-explored-clause-quiet g c =
+    let done = g.O.Outside.done in
+    says_quiet (done c.args.outside.now) (done c.explored_aloud.new.outside) c.explored_aloud.ensures.says
+
+pub returns-in_err-explored-clause-keeps : goal.returns-in_err-explored-clause-keeps
+returns-in_err-explored-clause-keeps g c = λ apart.
+    let done = g.O.Outside.done in
+    says_may c.args.exploring.now c.args.sources.now.named.out.now (done c.args.outside.now)
+    (done c.explored_aloud.new.outside) c.explored_aloud.ensures.says
+
+pub returns-in_err-remove_after-clause-quiet : goal.returns-in_err-remove_after-clause-quiet
+returns-in_err-remove_after-clause-quiet g c =
+    let done = g.O.Outside.done in
+    quiet_then _ _ _
+    (says_quiet (done c.args.outside.now) (done c.explored_aloud.new.outside) c.explored_aloud.ensures.says)
+    (removes_quiet c.args.exploring.now _ _ (done c.explored_aloud.new.outside) (done c.remove_after.new.outside)
+    c.remove_after.ensures)
+
+pub returns-in_err-remove_after-clause-keeps : goal.returns-in_err-remove_after-clause-keeps
+returns-in_err-remove_after-clause-keeps g c = λ apart.
+    let done = g.O.Outside.done in
+    let e = c.args.exploring.now in
+    let out = c.args.sources.now.named.out.now in
+    only_then _ _ _
+    (says_may e out (done c.args.outside.now) (done c.explored_aloud.new.outside) c.explored_aloud.ensures.says)
+    (removes_may e out _ (done c.explored_aloud.new.outside) (done c.remove_after.new.outside) c.remove_after.ensures)
+
 pub returns-clause-claimed : goal.returns-clause-claimed
 returns-clause-claimed g c = λ zero.
-    let explored = c.in_ok-explored.ensures in
+    let explored = c.in_ok-explored.ensures.explored in
     let clean = explored.tells.clean (c.give-status.ensures.status (c.status_after.ensures.zero zero)) in
     let steps = c.in_ok-explored.explored.steps.items in
     let no_steps = no_image (λ text. text.items) steps (explored.tells.steps ∙ ap (map text_of) clean.none) in
@@ -38,7 +87,7 @@ returns-clause-ended g c = λ told.
     let given = c.give-status.ensures.given (subst (λ (r : ℕ). is_refusal r ≡ false) after.1 told) in
     record {
       explored = c.in_ok-explored.explored;
-      is = c.in_ok-explored.ensures;
+      is = c.in_ok-explored.ensures.explored;
       status_is = after.1 ∙ given.0;
       searched = _;
       cleared = _;
@@ -53,7 +102,7 @@ pub returns-clause-mistaken : goal.returns-clause-mistaken
 returns-clause-mistaken g c = λ two.
     record {
       explored = c.in_ok-explored.explored;
-      is = c.in_ok-explored.ensures;
+      is = c.in_ok-explored.ensures.explored;
       before = _;
       prints =
           c.give-status.ensures.mistaken

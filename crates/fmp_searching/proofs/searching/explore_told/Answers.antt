@@ -1,6 +1,7 @@
 use Rattle.std.proofs.Common.{subst}
 use Rattle.std.proofs.lemmas.Result.{IfOk-weaker}
 use Rattle.fmp_searching.specs.Claimed.{HasClaimed, HasEnded, HasShown, HasShownAll}
+use Rattle.fmp_searching.specs.Deeds.{DoesOnly, MayDo}
 use Rattle.fmp_searching.specs.Sources.{SourceTables}
 use Rattle.fmp_searching.proofs.searching.explore_told.Goals as goal
 
@@ -11,7 +12,11 @@ returns-clause-shown g c =
       positions = c.args.sources.now.positions.now;
       stand = c.requires.stand;
       names = c.args.sources.now.names.now;
-      so = subst (λ (s : SourceTables). HasShown s (g.O.Outside.done c.explore_sources.new.outside)) c.requires.same h;
+      so =
+          subst
+          (λ (s : SourceTables). HasShown s (g.O.Outside.done c.args.outside.now)
+          (g.O.Outside.done c.explore_sources.new.outside))
+          c.requires.same h;
     }) c.explore_sources.ensures.shown
 
 pub returns-clause-claimed : goal.returns-clause-claimed
@@ -51,3 +56,11 @@ returns-clause-mistaken g c =
           subst (λ (s : SourceTables). HasShownAll s (g.O.Outside.done c.explore_sources.new.outside)) c.requires.same
           (h is);
     }) c.explore_sources.ensures.mistaken
+
+pub returns-clause-keeps : goal.returns-clause-keeps
+returns-clause-keeps g c = λ apart.
+    let done = g.O.Outside.done in
+    subst
+    (λ (s : SourceTables). DoesOnly (MayDo c.args.opened.now.exploring.now s.out) (done c.args.outside.now)
+    (done c.explore_sources.new.outside))
+    c.requires.same (c.explore_sources.ensures.keeps apart)

@@ -13,4 +13,4 @@ returns-in-Err g c =
     (removes_removed c.args.exploring.now c.args.out.now c.args.name.now c.args.count c.args.number c.remove.result _ _
     c.requires.later c.requires.name c.requires.apart c.remove.ensures.done)
     (removes_said c.args.exploring.now c.args.out.now c.args.count (done c.remove.new.self) (done c.say.new.self)
-    c.say.ensures)
+    c.say.ensures.said)

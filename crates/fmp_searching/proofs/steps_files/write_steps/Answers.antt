@@ -1,5 +1,6 @@
 use Rattle.std.proofs.Common.{List, arith, string_bytes, subst}
 use Rattle.fmp_files.specs.Deeds.{Deed, Does}
+use Rattle.fmp_searching.proofs.Doing.{only_then}
 use Rattle.fmp_searching.proofs.Endings.{written_all, written_step}
 use Rattle.fmp_searching.proofs.Printing.{quiet_then}
 use Rattle.fmp_searching.proofs.steps_files.write_steps.Goals as goal
@@ -9,6 +10,7 @@ loop-i-preserved g c =
     let done = g.O.Outside.done in
     record {
       quiet = quiet_then _ _ _ c.loop-i.invariant.quiet c.write_at.ensures.quiet;
+      only = only_then _ _ _ c.loop-i.invariant.only c.write_at.ensures.only;
       written =
           written_step string_bytes (λ text. text.items) c.args.names.now c.args.texts.now c.loop-i.i
           (done c.args.outside.now) (done c.loop-i.outside) (done c.write_at.new.outside)
@@ -20,6 +22,12 @@ loop-i-preserved g c =
 pub returns-in_err-write_at-clause-quiet : goal.returns-in_err-write_at-clause-quiet
 returns-in_err-write_at-clause-quiet g c =
     quiet_then _ _ _ c.loop-i.invariant.quiet c.write_at.ensures.quiet
+
+pub returns-in_err-write_at-clause-only : goal.returns-in_err-write_at-clause-only
+returns-in_err-write_at-clause-only g c = only_then _ _ _ c.loop-i.invariant.only c.write_at.ensures.only
+
+pub returns-clause-only : goal.returns-clause-only
+returns-clause-only g c = c.loop-i.invariant.only
 
 pub returns-clause-written : goal.returns-clause-written
 returns-clause-written g c =

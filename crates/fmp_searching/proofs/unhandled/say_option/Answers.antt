@@ -1,5 +1,5 @@
-use Rattle.fmp_searching.proofs.Printing.{quiet_said}
+use Rattle.fmp_searching.proofs.Doing.{says_one}
 use Rattle.fmp_searching.proofs.unhandled.say_option.Goals as goal
 
 pub returns : goal.returns
-returns g c = quiet_said _ _ c.say.ensures
+returns g c = says_one _ _ c.say.ensures.said

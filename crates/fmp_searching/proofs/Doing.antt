@@ -1,0 +1,186 @@
+-- What is done outside, deed by deed.
+use Rattle.std.proofs.Common.{◌≡◌, ◌∙◌, ◌⊎◌, ◌++◌, ◌+◌, ◌<◌, ℕ, suc, zero, Bool, false, List, [], ◌∷◌, Option}
+use Rattle.std.proofs.Common.{Global, Result, Ok, Err, String, ap, arith, get_or, inl, inr, length, map, option_map}
+use Rattle.std.proofs.Common.{refl, string_bytes}
+use Rattle.std.proofs.Common.{subst, sym, take}
+use Rattle.std.specs.Prelude.{OnErr, OnOk}
+use Rattle.std.specs.List.{AllByRecursion, list_any, range_with_len}
+use Rattle.fmp_files.specs.Deeds.{Begins, Deed, Does, Says, printed, removed, said, wrote}
+use Rattle.fmp_files.specs.Endings.{EndsPrinting, IsOneOf, all_printed, some_printed}
+use Rattle.fmp_files.specs.Messages.{failure_line}
+use Rattle.fmp_files.specs.Prints.{Prints}
+use Rattle.fmp_files.specs.PrintsLaws.{does_nothing}
+use Rattle.fmp_searching.specs.Claimed.{PrintsNothing, is_print}
+use Rattle.fmp_searching.specs.Deeds.{DoesOnly, IsReportFile, IsSaying, IsStepsFile, IsTelling, IsWriteOf, MayDo}
+use Rattle.fmp_searching.specs.Deeds.{SaysOnly, TellsOnly}
+use Rattle.fmp_searching.specs.Files.{IsApart, IsRemoval, RemovesSteps, steps_names}
+use Rattle.fmp_searching.specs.Sources.{steps_name}
+use Rattle.fmp_searching.specs.declared.sources.Exploring.{Exploring}
+use Rattle.fmp_searching.proofs.Endings.{all_then}
+use Rattle.fmp_searching.proofs.Printing.{does_then}
+
+pub only_none : {P : Deed → Type 0} (done : Option (List Deed)) → DoesOnly P done done
+only_none done = record { deeds = []; each = tt; done = does_nothing done }
+
+pub only_then : {P : Deed → Type 0} (a b c : Option (List Deed)) → DoesOnly P a b → DoesOnly P b c → DoesOnly P a c
+only_then {P} a b c h k =
+    record {
+      deeds = h.deeds ++ k.deeds;
+      each = all_then P h.deeds k.deeds h.each k.each;
+      done = does_then a b c h.deeds k.deeds h.done k.done;
+    }
+
+each_weaker : {P Q : Deed → Type 0} (ds : List Deed) → ((d : Deed) → P d → Q d) → AllByRecursion P ds
+    → AllByRecursion Q ds
+each_weaker [] f h = tt
+each_weaker (d ∷ ds) f h = (f d h.0, each_weaker ds f h.1)
+
+pub only_weaker : {P Q : Deed → Type 0} (a b : Option (List Deed)) → ((d : Deed) → P d → Q d) → DoesOnly P a b
+    → DoesOnly Q a b
+only_weaker a b f h = record { deeds = h.deeds; each = each_weaker h.deeds f h.each; done = h.done }
+
+pub says_one : (a b : Option (List Deed)) → Says a b → SaysOnly a b
+says_one a b h = record { deeds = said h.0 ∷ []; each = (tt, tt); done = h.1 }
+
+-- ---- what is said and printed
+
+saying_tells : (d : Deed) → IsSaying d → IsTelling d
+saying_tells (wrote name bytes) h = h
+saying_tells (removed name) h = h
+saying_tells (printed bytes) h = tt
+saying_tells (said text) h = tt
+
+pub says_tell : (a b : Option (List Deed)) → SaysOnly a b → TellsOnly a b
+says_tell a b h = only_weaker a b saying_tells h
+
+said_quiet : (ds : List Deed) → AllByRecursion IsSaying ds → list_any is_print ds ≡ false
+said_quiet [] h = refl
+said_quiet (wrote name bytes ∷ ds) h = absurd h.0
+said_quiet (removed name ∷ ds) h = absurd h.0
+said_quiet (printed bytes ∷ ds) h = absurd h.0
+said_quiet (said text ∷ ds) h = said_quiet ds h.1
+
+pub says_quiet : (a b : Option (List Deed)) → SaysOnly a b → PrintsNothing a b
+says_quiet a b h = record { deeds = h.deeds; none = said_quiet h.deeds h.each; done = h.done }
+
+removal_quiet : (e : Exploring) (out : List ℕ) (count : ℕ) (ds : List Deed)
+    → AllByRecursion (IsRemoval e out count) ds → list_any is_print ds ≡ false
+removal_quiet e out count [] h = refl
+removal_quiet e out count (wrote name bytes ∷ ds) h = absurd h.0
+removal_quiet e out count (removed name ∷ ds) h = removal_quiet e out count ds h.1
+removal_quiet e out count (printed bytes ∷ ds) h = absurd h.0
+removal_quiet e out count (said text ∷ ds) h = removal_quiet e out count ds h.1
+
+pub removes_quiet : (e : Exploring) (out : List ℕ) (count : ℕ) (a b : Option (List Deed)) → RemovesSteps e out count a b
+    → PrintsNothing a b
+removes_quiet e out count a b h =
+    record { deeds = h.deeds; none = removal_quiet e out count h.deeds h.each; done = h.done }
+
+pub on_err : {A E P : Type 0} (result : Result A E) → P → OnErr result P
+on_err (Ok x) p = tt
+on_err (Err e) p = p
+
+pieces_tell : (pieces : List (List ℕ)) → AllByRecursion IsTelling (map printed pieces)
+pieces_tell [] = tt
+pieces_tell (piece ∷ pieces) = (tt, pieces_tell pieces)
+
+pub prints_tell : (a b : Option (List Deed)) (bytes : List ℕ) → Prints a bytes b → TellsOnly a b
+prints_tell a b bytes h = record { deeds = map printed h.pieces; each = pieces_tell h.pieces; done = h.done }
+
+pub printing_tells : (bytes : List ℕ) (can_fail : Bool) (a b : Option (List Deed)) (status : ℕ)
+    → EndsPrinting bytes can_fail a b status → TellsOnly a b
+printing_tells bytes can_fail a b status (all_printed prints none) = prints_tell a b bytes prints
+printing_tells bytes can_fail a b status (some_printed can front left whole between prints says three) =
+    only_then a between b (prints_tell a between front prints)
+    (says_tell between b (says_one between b (failure_line says.0, says.2)))
+
+-- ---- what an exploration may do
+
+module _ (e : Exploring) (out : List ℕ) where
+  telling_may : (d : Deed) → IsTelling d → MayDo e out d
+  telling_may (wrote name bytes) h = absurd h
+  telling_may (removed name) h = absurd h
+  telling_may (printed bytes) h = tt
+  telling_may (said text) h = tt
+
+  pub tells_may : (a b : Option (List Deed)) → TellsOnly a b → DoesOnly (MayDo e out) a b
+  tells_may a b h = only_weaker a b telling_may h
+
+  pub says_may : (a b : Option (List Deed)) → SaysOnly a b → DoesOnly (MayDo e out) a b
+  says_may a b h = tells_may a b (says_tell a b h)
+
+  pub refusal_may : (a b : Option (List Deed)) → Says a b → DoesOnly (MayDo e out) a b
+  refusal_may a b h = says_may a b (says_one a b h)
+
+  removal_may : (count : ℕ) (d : Deed) → IsRemoval e out count d → MayDo e out d
+  removal_may count (wrote name bytes) h = absurd h
+  removal_may count (removed name) h = (h.1, (h.0.0, h.0.1.1))
+  removal_may count (printed bytes) h = tt
+  removal_may count (said text) h = tt
+
+  pub removes_may : (count : ℕ) (a b : Option (List Deed)) → RemovesSteps e out count a b → DoesOnly (MayDo e out) a b
+  removes_may count a b h =
+      record { deeds = h.deeds; each = each_weaker h.deeds (removal_may count) h.each; done = h.done }
+
+  one_of : (P : List ℕ → Type 0) (names : List (List ℕ)) (name : List ℕ) → AllByRecursion P names
+      → IsOneOf names name → P name
+  one_of P [] name h is = absurd is
+  one_of P (first ∷ names) name h is = elim is [
+    | inl same ↦ subst (λ (n : List ℕ). P n) (sym same) h.0
+    | inr later ↦ one_of P names name h.1 later
+  ]
+
+  steps_from : (start count : ℕ)
+      → AllByRecursion (IsStepsFile out) (map (λ number. steps_name out number) (range_with_len start count))
+  steps_from start zero = tt
+  steps_from start (suc count) = ((start, refl), steps_from (start + 1) count)
+
+  write_may : (names : List (List ℕ)) → AllByRecursion (IsApart e) names → AllByRecursion (IsStepsFile out) names
+      → (d : Deed) → IsWriteOf names d → MayDo e out d
+  write_may names apart steps (wrote name bytes) h = (
+    one_of (IsApart e) names name apart h,
+    inl (one_of (IsStepsFile out) names name steps h),
+  )
+  write_may names apart steps (removed name) h = absurd h
+  write_may names apart steps (printed bytes) h = tt
+  write_may names apart steps (said text) h = tt
+
+  -- steps texts are written to files that are not read
+  pub steps_may : (count : ℕ) (names : List (List ℕ)) (a b : Option (List Deed)) → names ≡ steps_names out count
+      → AllByRecursion (IsApart e) names → DoesOnly (IsWriteOf names) a b → DoesOnly (MayDo e out) a b
+  steps_may count names a b is apart h =
+      only_weaker a b
+      (write_may names apart
+      (subst (λ (ns : List (List ℕ)). AllByRecursion (IsStepsFile out) ns) (sym is) (steps_from 1 count))) h
+
+  -- a report is written to its file, or a front of it
+  pub report_may : (name bytes : List ℕ) (a b : Option (List Deed)) → IsApart e name → IsReportFile e name
+      → Does a (wrote name bytes ∷ []) b → DoesOnly (MayDo e out) a b
+  report_may name bytes a b apart is h =
+      record { deeds = wrote name bytes ∷ []; each = ((apart, inr is), tt); done = h }
+
+  pub report_begun : (name bytes : List ℕ) (a b : Option (List Deed)) → IsApart e name → IsReportFile e name
+      → Begins (wrote name) bytes a b → DoesOnly (MayDo e out) a b
+  report_begun name bytes a b apart is h = elim h [
+    | inl none ↦ record { deeds = []; each = tt; done = none }
+    | inr some ↦ report_may name (take some.0 bytes) a b apart is some.1
+  ]
+
+-- ---- files that are written
+
+pub one_at : (names : List (String Global)) (place : ℕ) (name : String Global) → place < length names
+    → name ≡ get_or names place name → IsOneOf (map string_bytes names) (string_bytes name)
+one_at [] place name low is = absurd (omega (arith, low))
+one_at (first ∷ names) zero name low is = inl (ap (λ (n : String Global). string_bytes n) is)
+one_at (first ∷ names) (suc place) name low is = inr (one_at names place name (omega (arith, low)) is)
+
+-- a file was written, or a front of it
+pub writes_one : {A E : Type 0} (names : List (List ℕ)) (name bytes : List ℕ) (result : Result A E)
+    (a b : Option (List Deed)) → IsOneOf names name → OnOk result (Does a (wrote name bytes ∷ []) b)
+    → OnErr result (Begins (wrote name) bytes a b) → DoesOnly (IsWriteOf names) a b
+writes_one names name bytes (Ok x) a b one ok err =
+    record { deeds = wrote name bytes ∷ []; each = (one, tt); done = ok }
+writes_one names name bytes (Err x) a b one ok err = elim err [
+  | inl none ↦ record { deeds = []; each = tt; done = none }
+  | inr some ↦ record { deeds = wrote name (take some.0 bytes) ∷ []; each = (one, tt); done = some.1 }
+]
