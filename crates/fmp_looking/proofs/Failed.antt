@@ -15,18 +15,18 @@ use Rattle.fmp_looking.specs.declared.call_sentences.CallNever.{CallNever}
 use Rattle.fmp_looking.specs.declared.call_sentences.RunSentences.{RunSentences}
 use Rattle.fmp_looking.specs.declared.reporting.FailedTest.{FailedTest}
 use Rattle.fmp_looking.specs.CallSentences.{AreSentencesOf, breaks_by}
-use Rattle.fmp_looking.specs.Looks.{ShowsEvent}
+use Rattle.fmp_looking.specs.Looks.{ShowsBroken}
 use Rattle.fmp_looking.specs.Tested.{HaveMetText, IsFailedTest, subject_of}
 
-pub is_failed : (i : ImageTables) (bound : ℕ) (plan : RunPlan) (seeds : ℕ) (src text : List ℕ) (sys : SystemTables) (sentences : RunSentences)
+pub is_failed : (i : ImageTables) (bound : ℕ) (plan : RunPlan) (seeds : ℕ) (src name text : List ℕ) (sys : SystemTables) (sentences : RunSentences)
     (expected : List Expected) (nevers : List CallNever) (trial : FailedTrial) (t : FailedTest)
     → AreSentencesOf i sys src text sentences → expected ≡ sentences.expected.items → nevers ≡ sentences.nevers.items
     → IsFound code_meaning breaks_by (subject_of i bound expected nevers) plan seeds trial → t.trial ≡ trial
     → t.steps.items ≡ steps_text trial.run.steps.items
-    → ShowsEvent (reaction_of code_meaning) (kernel_after i bound []) trial.run.steps.items trial.run.broken.event
+    → ShowsBroken (reaction_of code_meaning) (kernel_after i bound []) trial.run.steps.items name text trial.run.broken
     t.report.items
-    → IsFailedTest i sys bound plan seeds src text t
-is_failed i bound plan seeds src text sys sentences expected nevers trial t read alike same found is printed reported =
+    → IsFailedTest i sys bound plan seeds src name text t
+is_failed i bound plan seeds src name text sys sentences expected nevers trial t read alike same found is printed reported =
     record {
       sentences = sentences;
       read = read;
@@ -43,8 +43,8 @@ is_failed i bound plan seeds src text sys sentences expected nevers trial t read
       printed = printed ∙ ap (λ (x : FailedTrial). steps_text x.run.steps.items) (sym is);
       reported =
           subst
-          (λ (x : FailedTrial). ShowsEvent (reaction_of code_meaning) (kernel_after i bound []) x.run.steps.items
-          x.run.broken.event t.report.items) (sym is) reported;
+          (λ (x : FailedTrial). ShowsBroken (reaction_of code_meaning) (kernel_after i bound []) x.run.steps.items
+          name text x.run.broken t.report.items) (sym is) reported;
     }
 
 pub have_met : (i : ImageTables) (bound : ℕ) (plan : RunPlan) (seeds : ℕ) (src text : List ℕ) (sys : SystemTables) (sentences : RunSentences)

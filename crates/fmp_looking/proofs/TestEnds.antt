@@ -1,7 +1,8 @@
 -- How a test ends: its statuses, and texts that are said one after the other.
 use Rattle.std.proofs.Common.{◌≡◌, ◌++◌, ◌⊎◌, ℕ, List, [], ◌∷◌, Option, None, Some, Bool, true, false, arith, map}
 use Rattle.std.proofs.Common.{IfNone, IfSome, Result, Ok, Err, inl, inr, length, option_map, subst, sym}
-use Rattle.std.specs.Prelude.{MatchResult}
+use Rattle.std.specs.Prelude.{◌<◌, MatchResult}
+use Rattle.std.specs.Str.Lossy.{utf8_lossy}
 use denote.Ref.{Bor}
 use Rattle.std.proofs.lemmas.List.{map-append}
 use Rattle.fmp_base.specs.Systems.{tables_of}
@@ -131,7 +132,18 @@ pub lines_none : (json : Bool) (lines : List ℕ) (deeds : Option (List Deed)) �
     → TellsLines json lines deeds deeds
 lines_none true [] deeds is = prints_nothing deeds
 lines_none true (b ∷ bs) deeds is = cc
-lines_none false lines deeds is = says_none deeds
+lines_none false [] deeds is = does_nothing deeds
+lines_none false (b ∷ bs) deeds is = cc
+
+pub lines_some : (lines : List ℕ) (before after : Option (List Deed)) → 0 < length lines
+    → Does before (said (utf8_lossy lines) ∷ []) after → TellsLines false lines before after
+lines_some [] before after some h = absurd (omega (arith, some))
+lines_some (b ∷ bs) before after some h = h
+
+-- two texts that are said one after the other
+pub says_both : (a b c : Option (List Deed)) (x y : List ℕ) → Does a (said x ∷ []) b → Does b (said y ∷ []) c
+    → Does a (said x ∷ said y ∷ []) c
+says_both a b c x y h k = does_then a b c (said x ∷ []) (said y ∷ []) h k
 
 -- a report of a run that is borrowed
 pub report_of_borrowed : (r : ReadTest) (failed : Option (Bor FailedTest)) (report : List ℕ)

@@ -27,6 +27,7 @@ pub mod SourceVerdicts
 pub mod Tables
 pub mod TestDeeds
 pub mod TestFiles
+pub mod TestLines
 pub mod TestRecords
 pub mod TestRefusals
 pub mod Tested

@@ -1,8 +1,10 @@
 -- What a run that is looked at is: of an image over a steps text, or of the system of a configuration in a recording.
-use Rattle.std.specs.Prelude.{◌≡◌, ◌≤◌, ◌++◌, ℕ, List, Option, Some, None, Ok, length}
+use Rattle.std.specs.Prelude.{◌≡◌, ◌≤◌, ◌++◌, ℕ, List, Option, Some, None, Ok, codes, decimal, length}
 use Rattle.fmp_base.specs.declared.events.Event.{Event}
 use Rattle.fmp_base.specs.Steps.{Reaction}
 use Rattle.fmp_base.specs.Systems.{SystemTables}
+use Rattle.fmp_expect.specs.declared.checker.BrokenExpectation.{BrokenExpectation}
+use Rattle.fmp_expect.specs.Words.{line_at}
 use Rattle.fmp_frames.specs.Watches.{LeadUp, after_first}
 use Rattle.fmp_image_bytes.specs.Images.{ImageTables, image_at}
 use Rattle.fmp_kernel.specs.KernelViews.{KernelView}
@@ -51,10 +53,16 @@ pub record IsEventText {B C X : Type 0} (reaction : KernelView B C → X → Rea
   pub leads : LeadUp reaction k xs number count
   pub text : out ≡ named_lines k.system number (after_first reaction k xs count).lines
 
--- a report of what is broken in the event of a number: after its own lines, those of the event
-pub record ShowsEvent {B C X : Type 0} (reaction : KernelView B C → X → Reaction C) (k : KernelView B C) (xs : List X)
-    (number : ℕ) (out : List ℕ) : Type 0 where
-  pub head : List ℕ
+-- what is said of an expectation that fails, in a file of this name that has this text: its line and the event
+abbrev pub broken_head : (name text : List ℕ) → BrokenExpectation → List ℕ
+broken_head name text b =
+    name
+    ++ (codes ":"
+    ++ (decimal b.line ++ (codes ": event " ++ (decimal b.event ++ (codes ": " ++ (line_at text b.line ++ codes "\n"))))))
+
+-- the same, and then the lines of that event
+pub record ShowsBroken {B C X : Type 0} (reaction : KernelView B C → X → Reaction C) (k : KernelView B C) (xs : List X)
+    (name text : List ℕ) (b : BrokenExpectation) (out : List ℕ) : Type 0 where
   pub event : List ℕ
-  pub shown : IsEventText reaction k xs number event
-  pub whole : out ≡ head ++ event
+  pub shown : IsEventText reaction k xs b.event event
+  pub whole : out ≡ broken_head name text b ++ event

@@ -1,6 +1,7 @@
 -- What a test does outside of the program, and how it ends.
 use Rattle.std.specs.Prelude.{ℕ, ◌≡◌, ◌⊎◌, ◌++◌, ◌<◌, ◌≤◌, Bool, true, false, IfSome, List, Option, Some, None, map}
-use Rattle.std.specs.Prelude.{option_map}
+use Rattle.std.specs.Prelude.{[], ◌∷◌, option_map}
+use Rattle.std.specs.Str.Lossy.{utf8_lossy}
 use Rattle.fmp_base.specs.Systems.{tables_of}
 use Rattle.fmp_files.specs.Deeds.{Deed, Does, Says, said, wrote}
 use Rattle.fmp_files.specs.Outside.{Files}
@@ -14,6 +15,7 @@ use Rattle.fmp_looking.specs.FilesWritten.{file_written}
 use Rattle.fmp_looking.specs.Judgements.{IsTestReport}
 use Rattle.fmp_looking.specs.Tested.{HaveMetText, IsFailedTest, plan_in}
 use Rattle.fmp_looking.specs.TestFiles.{AreApart}
+use Rattle.fmp_looking.specs.TestLines.{lines_said, none_line, seed_line}
 use Rattle.fmp_looking.specs.TestRecords.{test_record}
 use Rattle.fmp_looking.specs.TestRefusals.{AreTestRefusals}
 
@@ -30,7 +32,7 @@ pub record IsRead (files : Files) (r : ReadTest) : Type 0 where
 abbrev pub FailsTest : ReadTest → FailedTest → Type 0
 FailsTest r f =
     IsFailedTest r.test.now.image.now (tables_of r.test.now.configured.now) r.test.now.testing.bound
-    (plan_in r.test.now) r.test.now.testing.seeds r.texts.src.now r.texts.expectations.now f
+    (plan_in r.test.now) r.test.now.testing.seeds r.texts.src.now r.test.now.expect.now r.texts.expectations.now f
 
 -- all runs meet what is expected
 abbrev pub MeetsTest : ReadTest → Type 0
@@ -83,19 +85,22 @@ pub record Reports (r : ReadTest) (found : Option FailedTest) (before after : Op
       r.texts.expectations.now (option_map (λ f. f.trial.run.broken) found) report)
   pub done : Does before (file_written (option_map (λ n. n.now) r.test.now.testing.junit) report) after
 
--- what came of runs was told: as an object of JSON; or it was said, and the steps of the run that fails were printed
+-- what came of runs was told: as an object of JSON; or the seed of the run that fails and its report were said, and its
+-- steps printed
 abbrev pub TellsFound : (json : Bool) → ReadTest → Option FailedTest → (before after : Option (List Deed)) → Type 0
 TellsFound true r found before after =
     Prints before
     (test_record r.test.now.expect.now r.texts.expectations.now r.test.now.testing.seeds found) after
-TellsFound false r None before after = SaysSome before after
+TellsFound false r None before after = Does before (said (none_line r.test.now.testing.seeds) ∷ []) after
 TellsFound false r (Some f) before after =
-    (between : Option (List Deed)) × SaysSome before between × Prints between f.steps.items after
+    (between : Option (List Deed))
+    × Does before (said (seed_line f.trial) ∷ said (utf8_lossy f.report.items) ∷ []) between
+    × Prints between f.steps.items after
 
 -- lines were told, if there are some: objects of JSON are printed, and lines for readers said
 abbrev pub TellsLines : (json : Bool) → (lines : List ℕ) → (before after : Option (List Deed)) → Type 0
 TellsLines true lines before after = Prints before lines after
-TellsLines false lines before after = SaysSome before after
+TellsLines false lines before after = Does before (lines_said lines) after
 
 -- runs were made, of which this one fails, if one does: their coverage and their report were written, to files that are
 -- not read, and it was told what came of them, and which calls were refused in them

@@ -22,7 +22,7 @@ use Rattle.fmp_looking.specs.declared.reporting.FailedTest.{FailedTest}
 use Rattle.fmp_looking.specs.declared.trying.Trials.{Trials}
 use Rattle.fmp_looking.specs.declared.wanted.ImageTest.{ImageTest}
 use Rattle.fmp_looking.specs.CallSentences.{AreSentencesOf, JudgeTables, breaks_by, judge_of}
-use Rattle.fmp_looking.specs.Looks.{ShowsEvent}
+use Rattle.fmp_looking.specs.Looks.{ShowsBroken}
 
 -- runs of an image from setup, which are to meet these expectations and these sentences about calls
 abbrev pub subject_of : ImageTables → (bound : ℕ) → List Expected → List CallNever
@@ -56,9 +56,9 @@ AreFirstOf {E} t seeds parts found =
     → IfOk (slice_index_or found k d) (IsFirstOf t (edge seeds parts k) (edge seeds parts (k + 1))))
 
 -- the first of the random runs of this many seeds, of an image whose bodies have this text, that fails a sentence of a
--- text: its steps are printed, and its report shows the event in which it does
+-- text in a file of this name: its steps are printed, and its report shows the sentence and the event
 pub record IsFailedTest (i : ImageTables) (configured : SystemTables) (bound : ℕ) (plan : RunPlan) (seeds : ℕ)
-    (src text : List ℕ) (t : FailedTest) : Type 0 where
+    (src name text : List ℕ) (t : FailedTest) : Type 0 where
   pub sentences : RunSentences
   pub read : AreSentencesOf i configured src text sentences
   pub found :
@@ -66,8 +66,8 @@ pub record IsFailedTest (i : ImageTables) (configured : SystemTables) (bound : �
       seeds t.trial
   pub printed : t.steps.items ≡ steps_text t.trial.run.steps.items
   pub reported :
-      ShowsEvent (reaction_of code_meaning) (kernel_after i bound []) t.trial.run.steps.items
-      t.trial.run.broken.event t.report.items
+      ShowsBroken (reaction_of code_meaning) (kernel_after i bound []) t.trial.run.steps.items name text
+      t.trial.run.broken t.report.items
 
 -- the random runs of this many seeds meet all sentences of a text
 pub record HaveMetText (i : ImageTables) (configured : SystemTables) (bound : ℕ) (plan : RunPlan) (seeds : ℕ)

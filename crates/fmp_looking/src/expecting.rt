@@ -1,12 +1,12 @@
 //! Whether a run meets a text of expectations.
-ghost use Rattle.std.specs.Prelude.{ℕ, ◌≡◌, ◌+◌, ◌++◌, ◌==◌, ◌≤◌, ◌^◌, IfOk, List, Ok, is_some, length, not};
+ghost use Rattle.std.specs.Prelude.{◌≡◌, ◌+◌, ◌++◌, ◌==◌, ◌≤◌, ◌^◌, IfOk, Ok, codes, decimal, is_some, length, not};
 ghost use Rattle.fmp_base.specs.Systems.{tables_of};
 ghost use Rattle.fmp_expect.specs.Grammar.{expectations_of};
 ghost use Rattle.fmp_expect.specs.CallSentences.{other_sentences_of};
 ghost use Rattle.fmp_named.specs.Lines.{named_lines};
 ghost use Rattle.fmp_trials.specs.Verdicts.{verdict};
 ghost use Rattle.fmp_looking.specs.Expects.{empty_claims, fails_text};
-ghost use Rattle.fmp_looking.specs.Looks.{IsEventText, ShowsEvent};
+ghost use Rattle.fmp_looking.specs.Looks.{IsEventText, ShowsBroken, broken_head};
 
 use crate::exit::{ViewExit, memory};
 use crate::looking::RunLook;
@@ -102,6 +102,30 @@ pub fn event_text<O: Opened, T: Coming<O::Bodies>>(
     text
 }
 
+/// Where an expectation stands that fails, and in which event it does.
+fn place_text(alloc: Global, name: &str, broken: BrokenExpectation) -> Result<Vec<u8>, AllocError>
+    ensures { IfOk result (λ out. out.items ≡ name.now ++ (codes ":" ++ (decimal broken.line ++ (codes ": event "
+        ++ (decimal broken.event ++ codes ": "))))) }
+{
+    let place = format!(in alloc; "{name}:{}: event {}: ", broken.line, broken.event)?;
+    Ok(place.into_bytes())
+}
+
+/// The same, and its line.
+fn broken_line(
+    alloc: Global,
+    name: &str,
+    text: &[u8],
+    broken: BrokenExpectation,
+) -> Result<Vec<u8>, AllocError>
+    ensures { IfOk result (λ out. out.items ≡ broken_head name.now text.now broken) }
+{
+    let mut out = place_text(alloc, name, broken)?;
+    out.extend_from_slice(line_at(text, broken.line))?;
+    out.push(b'\n')?;
+    Ok(out)
+}
+
 /// What is printed of an expectation that fails: its line, the event, and what the event told.
 fn broken_text(
     alloc: Global,
@@ -110,12 +134,9 @@ fn broken_text(
     broken: BrokenExpectation,
     event: &[u8],
 ) -> Result<Vec<u8>, AllocError>
-    ensures { IfOk result (λ out. (head : List ℕ) × (out.items ≡ head ++ event.now)) }
+    ensures { IfOk result (λ out. out.items ≡ broken_head name.now text.now broken ++ event.now) }
 {
-    let head = format!(in alloc; "{name}:{}: event {}: ", broken.line, broken.event)?;
-    let mut out = head.into_bytes();
-    out.extend_from_slice(line_at(text, broken.line))?;
-    out.push(b'\n')?;
+    let mut out = broken_line(alloc, name, text, broken)?;
     out.extend_from_slice(event)?;
     Ok(out)
 }
@@ -130,7 +151,8 @@ pub fn report_of<O: Opened, T: Coming<O::Bodies>>(
     broken: BrokenExpectation,
 ) -> Result<Vec<u8>, AllocError>
     requires { length events.now ≤ 2 ^ 31 }
-    ensures { IfOk result (λ out. ShowsEvent T.reaction (O.start opened.now) events.now broken.event out.items) }
+    ensures { IfOk result (λ out.
+        ShowsBroken T.reaction (O.start opened.now) events.now name.now text.now broken out.items) }
 {
     let event = event_text(alloc, opened, events, broken.event)?;
     broken_text(alloc, name, text, broken, &event)

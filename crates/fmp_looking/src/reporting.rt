@@ -8,7 +8,7 @@ ghost use Rattle.fmp_trace.specs.Steps.{steps_text};
 ghost use Rattle.fmp_trials.specs.Drawn.{AllHaveMet, any_of_end, is_of_end};
 ghost use Rattle.fmp_trials.specs.Found.{IsFound};
 ghost use Rattle.fmp_looking.specs.CallSentences.{breaks_by};
-ghost use Rattle.fmp_looking.specs.Looks.{ShowsEvent};
+ghost use Rattle.fmp_looking.specs.Looks.{ShowsBroken};
 ghost use Rattle.fmp_looking.specs.Tested.{HaveMetText, IsFailedTest, plan_in, subject_in, subject_of};
 
 use crate::call_sentences::{CallJudge, CallNever, sentences_of};
@@ -78,9 +78,9 @@ fn printed_test(
     requires { length trial.run.steps.items ≤ 2 ^ 20 }
     ensures trial { IfOk result (λ test. test.trial ≡ trial) }
     ensures steps { IfOk result (λ test. test.steps.items ≡ steps_text trial.run.steps.items) }
-    ensures report { IfOk result (λ test. ShowsEvent (reaction_of code_meaning)
-        (kernel_after opened.now.image.now opened.now.bound []) trial.run.steps.items trial.run.broken.event
-        test.report.items) }
+    ensures report { IfOk result (λ test. ShowsBroken (reaction_of code_meaning)
+        (kernel_after opened.now.image.now opened.now.bound []) trial.run.steps.items expectations.now.name.now
+        expectations.now.text.now trial.run.broken test.report.items) }
 {
     let Expectations { name, text, .. } = *expectations;
     let steps = printed_steps(alloc, &trial.run.steps)?;
@@ -109,9 +109,9 @@ fn failed_test(
     requires { length trial.run.steps.items ≤ 2 ^ 20 }
     ensures trial { IfOk result (λ test. test.trial ≡ trial) }
     ensures steps { IfOk result (λ test. test.steps.items ≡ steps_text trial.run.steps.items) }
-    ensures report { IfOk result (λ test. ShowsEvent (reaction_of code_meaning)
-        (kernel_after opened.now.image.now opened.now.bound []) trial.run.steps.items trial.run.broken.event
-        test.report.items) }
+    ensures report { IfOk result (λ test. ShowsBroken (reaction_of code_meaning)
+        (kernel_after opened.now.image.now opened.now.bound []) trial.run.steps.items expectations.now.name.now
+        expectations.now.text.now trial.run.broken test.report.items) }
 {
     match printed_test(alloc, opened, expectations, trial) {
         Ok(test) => Ok(test),
@@ -192,7 +192,7 @@ pub fn tested<R: Threads + Sync>(
 ) -> Result<Option<FailedTest>, ViewExit>
     ensures failed { IfOk result (λ found. IfSome found
         (IsFailedTest test.now.image.now (tables_of test.now.configured.now) test.now.testing.bound
-        (plan_in test.now) test.now.testing.seeds src.now expectations.now.text.now)) }
+        (plan_in test.now) test.now.testing.seeds src.now expectations.now.name.now expectations.now.text.now)) }
     ensures met { IfOk result (λ found. IfNone found
         (HaveMetText test.now.image.now (tables_of test.now.configured.now) test.now.testing.bound
         (plan_in test.now) test.now.testing.seeds src.now expectations.now.text.now)) }

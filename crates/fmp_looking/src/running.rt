@@ -1,8 +1,9 @@
 //! The command `test` of a system: random runs, and the steps of the first that fails an expectation.
 ghost use Rattle.std.specs.Prelude.{ℕ, ◌≡◌, ◌∷◌, ◌<◌, [], IfErr, IfNone, IfOk, IfSome, IsOkAnd, IsTrue, List, None};
 ghost use Rattle.std.specs.Prelude.{OnOk, Option, false, option_map, true};
+ghost use Rattle.std.specs.Str.Lossy.{utf8_lossy};
 ghost use Rattle.fmp_base.specs.Systems.{tables_of};
-ghost use Rattle.fmp_files.specs.Deeds.{Deed, Does, Says, wrote};
+ghost use Rattle.fmp_files.specs.Deeds.{Deed, Does, said, wrote};
 ghost use Rattle.fmp_files.specs.Prints.{Prints};
 ghost use Rattle.fmp_looking.specs.declared.wanted.ReadTest.{ReadTest};
 ghost use Rattle.fmp_looking.specs.Judgements.{IsTestReport};
@@ -10,6 +11,8 @@ ghost use Rattle.fmp_looking.specs.TestDeeds as spec;
 ghost use Rattle.fmp_looking.specs.TestDeeds.{EndsTest, FailsTest, HasTested, IsDone, IsRefusal, IsTested};
 ghost use Rattle.fmp_looking.specs.TestDeeds.{IsTextOf, MeetsTest, Reports, SaysSome, TellsFound, TellsLines};
 ghost use Rattle.fmp_looking.specs.TestFiles.{AreApart};
+ghost use Rattle.fmp_looking.specs.TestLines as spec_lines;
+ghost use Rattle.fmp_looking.specs.TestLines.{none_line, seed_line};
 ghost use Rattle.fmp_looking.specs.TestRefusals.{AreTestRefusals};
 
 use crate::asking::{TestMistake, test_mistake};
@@ -70,7 +73,7 @@ fn refuse_test<O: Outside>(alloc: Global, outside: &mut O, mistake: TestMistake)
 
 /// Says a text.
 fn say_text<O: Outside>(alloc: Global, outside: &mut O, text: &[u8]) -> Result<(), u8>
-    ensures ok { OnOk result (Says (O.done outside.old) (O.done outside.new)) }
+    ensures ok { OnOk result (Does (O.done outside.old) (said (utf8_lossy text.now) ∷ []) (O.done outside.new)) }
     ensures err { IfErr result IsRefusal }
 {
     match String::from_utf8_lossy(alloc, text) {
@@ -82,16 +85,23 @@ fn say_text<O: Outside>(alloc: Global, outside: &mut O, text: &[u8]) -> Result<(
     }
 }
 
-/// Says which run fails, and how much shorter it became.
-fn say_seed<O: Outside>(outside: &mut O, trial: &FailedTrial)
-    ensures { Says (O.done outside.old) (O.done outside.new) }
+/// What is said of a run that may get shorter, or may not.
+fn shorter_still(shortest: bool) -> &'static str
+    ensures { result.now ≡ spec_lines.shorter_still shortest }
 {
-    let left = trial.run.steps.len();
-    let end = if trial.shortest {
+    if shortest {
         ""
     } else {
         "; it may get shorter still"
-    };
+    }
+}
+
+/// Says which run fails, and how much shorter it became.
+fn say_seed<O: Outside>(outside: &mut O, trial: &FailedTrial)
+    ensures { Does (O.done outside.old) (said (seed_line trial.now) ∷ []) (O.done outside.new) }
+{
+    let left = trial.run.steps.len();
+    let end = shorter_still(trial.shortest);
     outside.say(format_args!(
         "seed {}: {} events, made shorter to {left}{end}\n",
         trial.seed, trial.drawn
@@ -99,9 +109,9 @@ fn say_seed<O: Outside>(outside: &mut O, trial: &FailedTrial)
 }
 
 /// Says which run fails, and what `expect` says of it.
-#[tactic(auto, using(crate::proofs::TestEnds::says_one, crate::proofs::TestEnds::says_two))]
 fn say_failed<O: Outside>(alloc: Global, outside: &mut O, failed: &FailedTest) -> Result<(), u8>
-    ensures ok { OnOk result (SaysSome (O.done outside.old) (O.done outside.new)) }
+    ensures ok { OnOk result (Does (O.done outside.old)
+        (said (seed_line failed.now.trial) ∷ said (utf8_lossy failed.now.report.items) ∷ []) (O.done outside.new)) }
     ensures err { IfErr result IsRefusal }
 {
     say_seed(outside, &failed.trial);
@@ -110,7 +120,8 @@ fn say_failed<O: Outside>(alloc: Global, outside: &mut O, failed: &FailedTest) -
 
 /// Says which run fails, and prints its steps.
 fn print_failed<O: Outside>(alloc: Global, outside: &mut O, failed: &FailedTest) -> Result<(), u8>
-    ensures ok { OnOk result ((between : Option (List Deed)) × SaysSome (O.done outside.old) between
+    ensures ok { OnOk result ((between : Option (List Deed)) × Does (O.done outside.old)
+        (said (seed_line failed.now.trial) ∷ said (utf8_lossy failed.now.report.items) ∷ []) between
         × Prints between failed.now.steps.items (O.done outside.new)) }
     ensures err { IfErr result IsRefusal }
 {
@@ -120,7 +131,7 @@ fn print_failed<O: Outside>(alloc: Global, outside: &mut O, failed: &FailedTest)
 
 /// Says that no run failed, which says nothing of other runs.
 fn say_none<O: Outside>(outside: &mut O, seeds: u32)
-    ensures { Says (O.done outside.old) (O.done outside.new) }
+    ensures { Does (O.done outside.old) (said (none_line seeds) ∷ []) (O.done outside.new) }
 {
     outside.say(format_args!("none of {seeds} runs fails; nothing is claimed of other runs\n"));
 }
@@ -268,7 +279,6 @@ fn runs_made(read: &ReadTest<'_>, found: Option<&FailedTest>) -> u64
 }
 
 /// Says what came of random runs, and prints the steps of the one that fails, if one does.
-#[tactic(auto, using(crate::proofs::TestEnds::says_one))]
 fn print_found<O: Outside>(
     alloc: Global,
     outside: &mut O,
@@ -309,7 +319,7 @@ fn tell_found<O: Outside>(
 }
 
 /// Says lines, or prints objects of JSON, if there are some.
-#[tactic(auto, using(crate::proofs::TestEnds::lines_none, crate::proofs::TestEnds::says_one))]
+#[tactic(auto, using(crate::proofs::TestEnds::lines_none, crate::proofs::TestEnds::lines_some))]
 fn tell_lines<O: Outside>(
     alloc: Global,
     outside: &mut O,

@@ -5,7 +5,7 @@ use Rattle.fmp_instructions.specs.Machine.{code_meaning}
 use Rattle.fmp_kernel.specs.Comings.{reaction_of}
 use Rattle.fmp_replay.specs.Replays.{kernel_after}
 use Rattle.fmp_trials.specs.Drawn.{any_of_end}
-use Rattle.fmp_looking.specs.Looks.{ShowsEvent}
+use Rattle.fmp_looking.specs.Looks.{ShowsBroken}
 use Rattle.fmp_looking.specs.Tested.{plan_in}
 use Rattle.fmp_looking.proofs.Failed.{have_met, is_failed}
 use Rattle.fmp_looking.proofs.reporting.tested.Goals as goal
@@ -20,17 +20,17 @@ returns-in-Some-clause-failed g c =
     let run = c.in-Some.trial.run in
     let report = c.in_ok-failed-in-Some.failed.report.items in
     is_failed c.args.test.now.image.now c.args.test.now.testing.bound (plan_in c.args.test.now)
-    c.args.test.now.testing.seeds c.args.src.now c.args.expectations.now.text.now _
+    c.args.test.now.testing.seeds c.args.src.now c.args.expectations.now.name.now c.args.expectations.now.text.now _
     c.in_ok-sentences.sentences c.deref-2.result.now c.deref-3.result.now c.in-Some.trial
     c.in_ok-failed-in-Some.failed c.in_ok-sentences.ensures c.deref-2.ensures.value c.deref-3.ensures.value
     (rw c.in-Some.is at c.in_ok-found.ensures.found) c.in_ok-failed-in-Some.ensures.trial
     c.in_ok-failed-in-Some.ensures.steps
     (subst
-    (λ (i : ImageTables). ShowsEvent (reaction_of code_meaning) (kernel_after i c.args.test.now.testing.bound [])
-    run.steps.items run.broken.event report) c.new-opened.ensures.image
+    (λ (i : ImageTables). ShowsBroken (reaction_of code_meaning) (kernel_after i c.args.test.now.testing.bound [])
+    run.steps.items c.args.expectations.now.name.now c.args.expectations.now.text.now run.broken report) c.new-opened.ensures.image
     (subst
-    (λ (n : ℕ). ShowsEvent (reaction_of code_meaning) (kernel_after c.new-opened.result.image.now n [])
-    run.steps.items run.broken.event report) c.new-opened.ensures.bound c.in_ok-failed-in-Some.ensures.report))
+    (λ (n : ℕ). ShowsBroken (reaction_of code_meaning) (kernel_after c.new-opened.result.image.now n [])
+    run.steps.items c.args.expectations.now.name.now c.args.expectations.now.text.now run.broken report) c.new-opened.ensures.bound c.in_ok-failed-in-Some.ensures.report))
 
 pub returns-clause-met : goal.returns-clause-met
 returns-clause-met g c =

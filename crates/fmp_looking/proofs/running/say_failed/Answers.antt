@@ -1,7 +1,9 @@
 use Rattle.std.proofs.lemmas.Result.{on_ok_weaker}
-use Rattle.fmp_looking.proofs.TestEnds.{says_two}
+use Rattle.fmp_looking.proofs.TestEnds.{says_both}
 use Rattle.fmp_looking.proofs.running.say_failed.Goals as goal
 
 pub returns-clause-ok : goal.returns-clause-ok
 returns-clause-ok g c =
-    on_ok_weaker c.say_text.result (λ h. says_two _ _ _ c.say_seed.ensures h) c.say_text.ensures.ok
+    on_ok_weaker c.say_text.result
+    (λ h. says_both _ _ _ _ c.args.failed.now.report.items c.say_seed.ensures (rw c.deref.ensures.value at h))
+    c.say_text.ensures.ok
