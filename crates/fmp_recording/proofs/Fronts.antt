@@ -4,9 +4,10 @@ use Rattle.std.proofs.Common.{sym, take}
 use Rattle.std.proofs.Math.Seq.{take-append_seam}
 use Rattle.fmp_trace.specs.Fronts.{Begins}
 
-pub begins_if : {before more after : List ℕ} (b : Bool) → after ≡ cond b (before ++ more) before → Begins before after
-begins_if {more = more} true e = record { rest = more; whole_is = e }
-begins_if {before = before} false e = record { rest = []; whole_is = e ∙ sym (append-nil before) }
+pub begins_if : {before after : List ℕ} (more : List ℕ) (b : Bool) → after ≡ cond b (before ++ more) before
+    → Begins before after
+begins_if more true e = record { rest = more; whole_is = e }
+begins_if {before = before} more false e = record { rest = []; whole_is = e ∙ sym (append-nil before) }
 
 pub begins_on : {front middle whole : List ℕ} → Begins front middle → Begins middle whole → Begins front whole
 begins_on {front = front} a b =

@@ -67,7 +67,7 @@ fn take_one(hosted: &mut HostedSystem, given: Given, trace: &mut Vec<u8>) -> Res
 }
 
 /// Takes what was recorded, one after the other, and appends the lines of each event that is done. It stops at the
-/// first that is refused, and where memory runs out: the text then ends with the lines of an event.
+/// first that is refused, and where memory runs out: the text then has the lines of the events before that one.
 pub fn replay(
     hosted: &mut HostedSystem,
     recording: &[Given],
@@ -107,7 +107,7 @@ fn do_line(
 
 /// Does what the lines of a recording say, one after the other: takes what came, and has the counts begin again where
 /// they did. It appends the lines of each event that is done. It stops at the first that is refused, and where memory
-/// runs out: the text then ends with the lines of an event.
+/// runs out: the text then has the lines of the events before that one.
 pub fn replay_lines(
     hosted: &mut HostedSystem,
     lines: &[RecordedLine],
@@ -181,8 +181,8 @@ fn replay_text(
 /// Appends the trace of a recorded run: the lines of setup, those of each event that is done, and the states of the
 /// tasks at the end. Where the recording says that the counts began again, they do so in the replay, and the numbers of
 /// events and of the clock begin again in the trace. The system is that of the configuration. A fault of the
-/// configuration or of the recording appends nothing; if memory runs out, the text ends with the lines of an event, or
-/// has nothing of the trace.
+/// configuration or of the recording appends nothing. If memory runs out, nothing of the trace is appended, or its
+/// beginning up to the lines of some event.
 pub fn replay_recording(
     alloc: Global,
     cfg: &[u8],
