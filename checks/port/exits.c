@@ -2,12 +2,14 @@
  * exits.c: a program whose task exits after a call, in virtual time, or with `live` as its first word in real time.
  * With `corrupt` it breaks the memory of the C library in real time, so that malloc aborts with a lock held.
  */
+#define _DEFAULT_SOURCE
 #include "kernel.h"
 #include "live.h"
 #include "virtual.h"
 
 #include <stdlib.h>
 #include <string.h>
+#include <sys/resource.h>
 
 enum { STATUS = 7 };
 
@@ -22,7 +24,9 @@ static void put_and_corrupt(intptr_t exinf)
 {
     char *volatile block = malloc(24);
     volatile size_t length = 32;
+    const struct rlimit no_core = { 0, 0 };
     (void)exinf;
+    setrlimit(RLIMIT_CORE, &no_core);
     put(1);
     memset(block, 0xFF, length);        /* over what malloc keeps after it */
     for (int made = 0; made < 40; made++) {

@@ -211,10 +211,7 @@ exits() {
     verdict "a task that exits" "$problem"
     problem=
     status=0
-    (
-        ulimit -c 0
-        timeout -s KILL 60 plain/exits corrupt exits.cfg 0 0 exits.calls || exit $?
-    ) > output 2>&1 || status=$?
+    (timeout -s KILL 60 plain/exits corrupt exits.cfg 0 0 exits.calls || exit $?) > output 2>&1 || status=$?
     [ $status = 134 ] || problem="status $status: $(head -c 300 output)"
     [ "$(cat exits.calls)" = "run 1 put 1" ] || problem="$problem, it recorded: $(head -c 300 exits.calls)"
     verdict "a task that breaks the memory of the C library" "$problem"
