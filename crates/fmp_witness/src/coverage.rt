@@ -313,6 +313,11 @@ impl Coverage {
             Line::Call { caller, .. } | Line::End { caller, .. } | Line::Fault { caller, .. } => {
                 self.runs.note(*caller);
             }
+            Line::Runs {
+                task: Some(task),
+                ..
+            } => self.runs.note(Caller::Task(*task)),
+            Line::Begins { handler, .. } => self.runs.note_handler(*handler),
             _ => {}
         }
     }
